@@ -1,0 +1,4 @@
+pub mod Examples
+pub mod Giving
+pub mod Moving
+pub mod Taking

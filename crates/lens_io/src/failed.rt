@@ -1,0 +1,42 @@
+//! The faults of devices and of the calls over them.
+ghost use Rattle.std.specs.Prelude.{◌≡◌};
+
+use std::alloc::AllocError;
+use thiserror::Error;
+
+/// The answer of a device's call that failed. Such a call has moved no byte.
+#[derive(Clone, Copy, Debug, PartialEq, Eq)]
+pub struct Failed;
+
+/// Why not all bytes were given.
+#[derive(Clone, Copy, Debug, PartialEq, Eq, Error)]
+pub enum GiveFault {
+    /// The sink failed, or took 0 bytes of a piece that is not empty.
+    #[error("the sink failed or took nothing")]
+    SinkFault,
+}
+
+/// Why not all bytes were taken.
+#[derive(Clone, Copy, Debug, PartialEq, Eq, Error)]
+pub enum TakeFault {
+    /// The source failed.
+    #[error("the source failed")]
+    SourceFault,
+    /// There are more bytes than the limit allows.
+    #[error("the input is too long")]
+    TooLong,
+    /// There is no memory for the bytes.
+    #[error("out of memory")]
+    NoMemory,
+}
+
+impl From<AllocError> for TakeFault {
+    ghost use Rattle.std.specs.Prelude.{◌≡◌};
+    ghost use Rattle.lens_io.specs.declared.failed.TakeFault.TheVariants.{NoMemory};
+
+    ghost from_gives = { λ _ fault. fault ≡ NoMemory };
+
+    fn from(_: AllocError) -> Self {
+        TakeFault::NoMemory
+    }
+}
