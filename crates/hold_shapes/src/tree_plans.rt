@@ -1,0 +1,225 @@
+//! Plans of trees. A subtree is a block of the depths and of the origins, and moves as one.
+ghost use Rattle.std.specs.Prelude.{◌≡◌, ℕ, List, Ok, IfOk, MatchResult, ◌≤◌, ◌<◌, length, ◌+◌, ◌-◌};
+ghost use Rattle.hold_shapes.specs.declared.shape.Shape.TheVariants.{Tree as TreeOf};
+ghost use Rattle.hold_shapes.specs.declared.edit.ShapeEdit.TheVariants.{Graft, Prune, Shift, Hang};
+ghost use Rattle.hold_shapes.specs.Trees.{child};
+ghost use Rattle.hold_shapes.specs.Plans.{plan_tree, IsRefusal, without, put_in, moved, slot, deepened};
+
+use crate::lists::old_places;
+use crate::origins::{Origin, Origins};
+use crate::path::Path;
+use crate::plan::{Plan, PlanFault};
+use crate::shape::TreeShape;
+use crate::trees::{child, children, end, node};
+use std::alloc::{AllocError, Global};
+
+// A list without a part.
+fn without<T: Copy>(
+    alloc: Global,
+    items: &[T],
+    from: usize,
+    to: usize,
+) -> Result<Vec<T>, AllocError>
+    requires order { from ≤ to }
+    requires within { to ≤ length items.now }
+    ensures { IfOk result (λ v. v.items ≡ without from to items.now) }
+{
+    let mut left = Vec::from_slice(alloc, &items[..from])?;
+    left.extend_from_slice(&items[to..])?;
+    Ok(left)
+}
+
+// A list with a part put in.
+fn put_in<T: Copy>(alloc: Global, at: usize, part: &[T], items: &[T]) -> Result<Vec<T>, AllocError>
+    requires { at ≤ length items.now }
+    ensures { IfOk result (λ v. v.items ≡ put_in at part.now items.now) }
+{
+    let mut all = Vec::from_slice(alloc, &items[..at])?;
+    all.extend_from_slice(part)?;
+    all.extend_from_slice(&items[at..])?;
+    Ok(all)
+}
+
+// A fresh node as the last child of a node.
+#[tactic(auto, using(crate::proofs::Valid::valid_rules, crate::proofs::Olds::old_rules))]
+pub(crate) fn graft(
+    alloc: Global,
+    tree: &TreeShape,
+    path: &Path,
+) -> Result<Plan<TreeShape>, PlanFault>
+    ensures { MatchResult result
+        (λ p. plan_tree tree.now (Graft path.now) ≡ Ok (TreeOf p.shape, p.from))
+        (λ fault. IsRefusal (plan_tree tree.now (Graft path.now)) fault) }
+{
+    let depths = tree.valid();
+    let Some(at) = node(depths, path.as_slice()) else {
+        return Err(PlanFault::Place);
+    };
+    let depth = depths[at];
+    if depth >= 15 {
+        return Err(PlanFault::Deep);
+    }
+    let to = end(depths, at);
+    let mut from = old_places(alloc, depths.len() as u64)?;
+    from.insert(to, Origin::Fresh)?;
+    let mut grown = Vec::from_slice(alloc, depths)?;
+    grown.insert(to, depth + 1)?;
+    Ok(Plan {
+        shape: TreeShape::of_valid(grown),
+        from: Origins::from_vec(from),
+    })
+}
+
+// The last child of a node goes with its subtree.
+#[tactic(auto, using(crate::proofs::Valid::valid_rules, crate::proofs::Olds::old_rules))]
+pub(crate) fn prune(
+    alloc: Global,
+    tree: &TreeShape,
+    path: &Path,
+) -> Result<Plan<TreeShape>, PlanFault>
+    ensures { MatchResult result
+        (λ p. plan_tree tree.now (Prune path.now) ≡ Ok (TreeOf p.shape, p.from))
+        (λ fault. IsRefusal (plan_tree tree.now (Prune path.now)) fault) }
+{
+    let depths = tree.valid();
+    let Some(at) = node(depths, path.as_slice()) else {
+        return Err(PlanFault::Place);
+    };
+    let count = children(depths, at) as u64;
+    if count == 0 {
+        return Err(PlanFault::Range);
+    }
+    let Some(last) = child(depths, at, count - 1) else {
+        return Err(PlanFault::Range);
+    };
+    let to = end(depths, last);
+    let from = old_places(alloc, depths.len() as u64)?;
+    let from = without(alloc, from.as_slice(), last, to)?;
+    let left = without(alloc, depths, last, to)?;
+    Ok(Plan {
+        shape: TreeShape::of_valid(left),
+        from: Origins::from_vec(from),
+    })
+}
+
+// A list with a part moved.
+fn moved<T: Copy>(
+    alloc: Global,
+    items: &[T],
+    from: usize,
+    to: usize,
+    at: usize,
+) -> Result<Vec<T>, AllocError>
+    requires order { from ≤ to }
+    requires within { to ≤ length items.now }
+    requires place { at + (to - from) ≤ length items.now }
+    ensures { IfOk result (λ v. v.items ≡ moved from to at items.now) }
+{
+    let rest = without(alloc, items, from, to)?;
+    put_in(alloc, at, &items[from..to], rest.as_slice())
+}
+
+// Where a child stands among the nodes, or would stand as the last one.
+#[tactic(auto, using(crate::proofs::Slots::slot_rules))]
+fn slot(depths: &[u64], at: usize, number: u64) -> usize
+    requires { at < length depths.now }
+    ensures value { result ≡ slot depths.now at (child depths.now at number) }
+    ensures above { at < result }
+    ensures within { result ≤ length depths.now }
+{
+    match child(depths, at, number) {
+        Some(place) => place,
+        None => end(depths, at),
+    }
+}
+
+// A child of a node becomes its child of another number.
+#[tactic(auto, using(crate::proofs::Slots::slot_rules, crate::proofs::Olds::old_rules))]
+pub(crate) fn shift(
+    alloc: Global,
+    tree: &TreeShape,
+    path: &Path,
+    number: u64,
+    to: u64,
+) -> Result<Plan<TreeShape>, PlanFault>
+    ensures { MatchResult result
+        (λ p. plan_tree tree.now (Shift path.now number to) ≡ Ok (TreeOf p.shape, p.from))
+        (λ fault. IsRefusal (plan_tree tree.now (Shift path.now number to)) fault) }
+{
+    let depths = tree.valid();
+    let Some(at) = node(depths, path.as_slice()) else {
+        return Err(PlanFault::Place);
+    };
+    let count = children(depths, at) as u64;
+    if number >= count || to >= count {
+        return Err(PlanFault::Range);
+    }
+    let Some(place) = child(depths, at, number) else {
+        return Err(PlanFault::Range);
+    };
+    let after = end(depths, place);
+    let rest = without(alloc, depths, place, after)?;
+    let target = slot(rest.as_slice(), at, to);
+    let from = old_places(alloc, depths.len() as u64)?;
+    let from = moved(alloc, from.as_slice(), place, after, target)?;
+    let shifted = moved(alloc, depths, place, after, target)?;
+    Ok(Plan {
+        shape: TreeShape::of_valid(shifted),
+        from: Origins::from_vec(from),
+    })
+}
+
+// A subtree below another node.
+fn hung(alloc: Global, part: &[u64], top: u64, depth: u64) -> Result<Vec<u64>, PlanFault>
+    ensures { MatchResult result
+        (λ v. deepened top depth part.now ≡ Ok v.items)
+        (λ fault. IsRefusal (deepened top depth part.now) fault) }
+{
+    let mut all = Vec::new(alloc);
+    for item in part {
+        let below = (*item).saturating_sub(top);
+        if below >= 15 {
+            return Err(PlanFault::Deep);
+        }
+        if depth >= 15 - below {
+            return Err(PlanFault::Deep);
+        }
+        all.push(below + (depth + 1))?;
+    }
+    Ok(all)
+}
+
+// A subtree becomes the last child of a node of the tree that remains without it.
+#[tactic(auto, using(crate::proofs::Hung::hung_rules, crate::proofs::Olds::old_rules))]
+pub(crate) fn hang(
+    alloc: Global,
+    tree: &TreeShape,
+    part: &Path,
+    below: &Path,
+) -> Result<Plan<TreeShape>, PlanFault>
+    ensures { MatchResult result
+        (λ p. plan_tree tree.now (Hang part.now below.now) ≡ Ok (TreeOf p.shape, p.from))
+        (λ fault. IsRefusal (plan_tree tree.now (Hang part.now below.now)) fault) }
+{
+    let depths = tree.valid();
+    let Some(top) = node(depths, part.as_slice()) else {
+        return Err(PlanFault::Place);
+    };
+    if top == 0 {
+        return Err(PlanFault::Place);
+    }
+    let after = end(depths, top);
+    let rest = without(alloc, depths, top, after)?;
+    let Some(at) = node(rest.as_slice(), below.as_slice()) else {
+        return Err(PlanFault::Place);
+    };
+    let block = hung(alloc, &depths[top..after], depths[top], rest[at])?;
+    let target = end(rest.as_slice(), at);
+    let from = old_places(alloc, depths.len() as u64)?;
+    let from = moved(alloc, from.as_slice(), top, after, target)?;
+    let grown = put_in(alloc, target, block.as_slice(), rest.as_slice())?;
+    Ok(Plan {
+        shape: TreeShape::of_valid(grown),
+        from: Origins::from_vec(from),
+    })
+}
