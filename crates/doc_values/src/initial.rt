@@ -1,0 +1,111 @@
+//! The initial document of a type.
+
+ghost use Rattle.std.specs.Prelude.{◌≡◌, true, IfOk, [], ◌∷◌};
+ghost use Rattle.hold_shapes.specs.declared.shape.Shape.TheVariants.{Tree as TreeOf};
+ghost use Rattle.doc_values.specs.Documents.{doc_tree, docs_tree, hold, more_docs, no_docs};
+ghost use Rattle.doc_values.specs.Types.{ty_tree, fields_tree, is_well_formed};
+ghost use Rattle.doc_values.specs.Typing.{has};
+ghost use Rattle.doc_values.specs.Initial.{initial, initial_fields, initial_tag, first_name};
+
+use crate::doc::{Doc, Docs};
+use crate::ty::{Fields, Ty};
+use hold_shapes::{Depths, KeyedShape, ListShape, Name, Names, Shape, Str, TreeShape, Twin};
+use std::alloc::{AllocError, Global};
+
+/// The initial document of a type: null, false, 0, the empty text, the first member of an enum, a record of initial
+/// documents, the first tag with its initial document, an empty list, an empty keyed map, a tree of one node with
+/// the initial content.
+///
+/// The type is well formed, so there is a first member and a first tag, and the document has the type. Only memory
+/// can fail it. See docs/MEANING.md.
+#[tactic(auto, using(crate::proofs::Typed::has_initial))]
+pub fn init(alloc: Global, ty: &Ty) -> Result<Doc, AllocError>
+    requires { is_well_formed (ty_tree ty.now) ≡ true }
+    ensures value { IfOk result (λ d. doc_tree d ≡ initial (ty_tree ty.now)) }
+    ensures typed { IfOk result (λ d. has (ty_tree ty.now) (doc_tree d) ≡ true) }
+{
+    initial_doc(alloc, ty)
+}
+
+#[cycle(initial_doc)]
+fn initial_doc(alloc: Global, ty: &Ty) -> Result<Doc, AllocError>
+    ensures { IfOk result (λ d. doc_tree d ≡ initial (ty_tree ty.now)) }
+{
+    match ty {
+        Ty::Unit => Ok(Doc::Unit),
+        Ty::Bool => Ok(Doc::Bool(false)),
+        Ty::Int => Ok(Doc::Int(0)),
+        Ty::Text => Ok(Doc::Text(Str::empty(alloc))),
+        Ty::Enum(members) => Ok(Doc::Pick(first_name(alloc, members)?)),
+        Ty::Rec(fields) => Ok(Doc::Rec(initial_fields(alloc, fields)?)),
+        Ty::Alt(fields) => initial_tag(alloc, fields),
+        Ty::List(_) => Ok(Doc::Hold(
+            Shape::List(ListShape { count: 0 }),
+            Docs::from_vec(Vec::new(alloc)),
+        )),
+        Ty::Keyed(_) => Ok(Doc::Hold(
+            Shape::Keyed(no_keys(alloc)),
+            Docs::from_vec(Vec::new(alloc)),
+        )),
+        Ty::Tree(inner) => one_node(alloc, initial_doc(alloc, inner)?),
+    }
+}
+
+#[cycle(initial_doc)]
+#[tactic(auto, using(crate::proofs::Rules::initial_rules))]
+fn initial_fields(alloc: Global, fields: &Fields) -> Result<Docs, AllocError>
+    ensures { IfOk result (λ ds. docs_tree ds ≡ initial_fields (fields_tree fields.now)) }
+{
+    let mut items = Vec::new(alloc);
+    for field in &fields.items {
+        items.push(initial_doc(alloc, &field.1)?)?;
+    }
+    Ok(Docs::from_vec(items))
+}
+
+#[cycle(initial_doc)]
+fn initial_tag(alloc: Global, fields: &Fields) -> Result<Doc, AllocError>
+    ensures { IfOk result (λ d. doc_tree d ≡ initial_tag (fields_tree fields.now)) }
+{
+    if fields.items.is_empty() {
+        return Ok(Doc::Unit);
+    }
+    let tag = fields.items[0].0.twin(alloc)?;
+    Ok(Doc::Alt(
+        tag,
+        Box::new(alloc, initial_doc(alloc, &fields.items[0].1)?)?,
+    ))
+}
+
+// The first name, or the empty one.
+fn first_name(alloc: Global, names: &Names) -> Result<Name, AllocError>
+    ensures { IfOk result (λ n. n ≡ first_name names.now) }
+{
+    if names.len() == 0 {
+        return Ok(Name::from_string(String::new(alloc)));
+    }
+    names.as_slice()[0].twin(alloc)
+}
+
+// A keyed map's shape with no key.
+fn no_keys(alloc: Global) -> KeyedShape
+    ensures { result ≡ [] }
+{
+    match KeyedShape::from_names(Names::from_vec(Vec::new(alloc))) {
+        Some(keys) => keys,
+        None => unreachable!(),
+    }
+}
+
+// A tree of one node with a content.
+#[tactic(auto, using(crate::proofs::Rules::initial_rules))]
+fn one_node(alloc: Global, content: Doc) -> Result<Doc, AllocError>
+    ensures { IfOk result (λ d. doc_tree d ≡ hold (TreeOf (0 ∷ [])) (more_docs (doc_tree content) no_docs)) }
+{
+    let shape = match TreeShape::from_depths(Depths::from_vec(vec![in alloc; 0]?)) {
+        Some(shape) => shape,
+        None => unreachable!(),
+    };
+    let items = Docs::from_vec(vec![in alloc; content]?);
+    Ok(Doc::Hold(Shape::Tree(shape), items))
+}

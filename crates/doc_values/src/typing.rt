@@ -1,0 +1,100 @@
+//! When a document has a type.
+
+ghost use Rattle.std.specs.Prelude.{◌≡◌};
+ghost use Rattle.doc_values.specs.Documents.{doc_tree, docs_tree};
+ghost use Rattle.doc_values.specs.Types.{ty_tree, fields_tree};
+ghost use Rattle.doc_values.specs.Typing.{has, has_fields, has_each, is_list_of, is_keyed_of, is_tree_of};
+
+use crate::doc::{Doc, Docs};
+use crate::ty::{Fields, Ty};
+use hold_shapes::Shape;
+
+#[cycle(fits)]
+#[tactic(auto, using(crate::proofs::Rules::typing_rules))]
+pub(crate) fn fits(ty: &Ty, doc: &Doc) -> bool
+    ensures { result ≡ has (ty_tree ty.now) (doc_tree doc.now) }
+{
+    match (ty, doc) {
+        (Ty::Unit, Doc::Unit) => true,
+        (Ty::Bool, Doc::Bool(_)) => true,
+        (Ty::Int, Doc::Int(_)) => true,
+        (Ty::Text, Doc::Text(_)) => true,
+        (Ty::Enum(members), Doc::Pick(name)) => members.has(name),
+        (Ty::Rec(fields), Doc::Rec(docs)) => fit_fields(fields, docs),
+        (Ty::Alt(fields), Doc::Alt(tag, content)) => match fields.position(tag) {
+            Some(at) => fits(&fields.items[at].1, content),
+            None => false,
+        },
+        (Ty::List(inner), Doc::Hold(shape, docs)) => {
+            is_list_of(shape, docs.len()) && fit_each(inner, docs)
+        }
+        (Ty::Keyed(inner), Doc::Hold(shape, docs)) => {
+            is_keyed_of(shape, docs.len()) && fit_each(inner, docs)
+        }
+        (Ty::Tree(inner), Doc::Hold(shape, docs)) => {
+            is_tree_of(shape, docs.len()) && fit_each(inner, docs)
+        }
+        _ => false,
+    }
+}
+
+#[cycle(fits)]
+#[tactic(auto, using(crate::proofs::Rules::typing_rules))]
+fn fit_fields(fields: &Fields, docs: &Docs) -> bool
+    ensures { result ≡ has_fields (fields_tree fields.now) (docs_tree docs.now) }
+{
+    if fields.items.len() != docs.items.len() {
+        return false;
+    }
+    for i in 0..docs.items.len() {
+        if !fits(&fields.items[i].1, &docs.items[i]) {
+            return false;
+        }
+    }
+    true
+}
+
+#[cycle(fits)]
+#[tactic(auto, using(crate::proofs::Rules::typing_rules))]
+fn fit_each(ty: &Ty, docs: &Docs) -> bool
+    ensures { result ≡ has_each (ty_tree ty.now) (docs_tree docs.now) }
+{
+    for doc in &docs.items {
+        if !fits(ty, doc) {
+            return false;
+        }
+    }
+    true
+}
+
+fn is_list_of(shape: &Shape, count: usize) -> bool
+    ensures { result ≡ is_list_of shape.now count }
+{
+    match shape {
+        Shape::List(list) => list.count == count as u64,
+        Shape::Keyed(_) => false,
+        Shape::Tree(_) => false,
+    }
+}
+
+// The names of a keyed shape are strictly rising by its type.
+fn is_keyed_of(shape: &Shape, count: usize) -> bool
+    ensures { result ≡ is_keyed_of shape.now count }
+{
+    match shape {
+        Shape::List(_) => false,
+        Shape::Keyed(keyed) => keyed.names().len() == count,
+        Shape::Tree(_) => false,
+    }
+}
+
+// The depths of a tree shape are those of a tree by its type.
+fn is_tree_of(shape: &Shape, count: usize) -> bool
+    ensures { result ≡ is_tree_of shape.now count }
+{
+    match shape {
+        Shape::List(_) => false,
+        Shape::Keyed(_) => false,
+        Shape::Tree(tree) => tree.depths().as_slice().len() == count,
+    }
+}
