@@ -113,7 +113,8 @@ impl KeyedShape {
 
     /// The names of the keys, in byte order.
     pub fn names(&self) -> &Names
-        ensures { result.now ≡ self.now }
+        ensures value { result.now ≡ self.now }
+        ensures rising { is_rising self.now ≡ true }
     {
         &self.names
     }
@@ -155,7 +156,8 @@ impl TreeShape {
 
     /// The depths of the nodes, in preorder.
     pub fn depths(&self) -> &Depths
-        ensures { result.now ≡ self.now }
+        ensures value { result.now ≡ self.now }
+        ensures valid { is_valid self.now ≡ true }
     {
         &self.depths
     }
