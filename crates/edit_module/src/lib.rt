@@ -1,0 +1,23 @@
+//! Edits of documents: words of primitives, and their action.
+#![tactic(auto)]
+
+pub mod action;
+pub mod atom;
+pub mod entry;
+pub mod fault;
+pub mod laws;
+mod leaves;
+mod reshape;
+pub mod side;
+pub mod word;
+
+pub use crate::action::act;
+pub use crate::atom::Atom;
+pub use crate::entry::Entry;
+pub use crate::fault::{ActFault, Cause};
+pub use crate::laws::{action_keeps_types, joined_acts_in_turn};
+pub use crate::side::Side;
+pub use crate::word::{Primitive as Prim, Word};
+
+#[cfg(test)]
+mod tests;
