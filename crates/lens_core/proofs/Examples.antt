@@ -1,0 +1,105 @@
+-- The definitions on small cases.
+use Rattle.std.proofs.Common.{◌≡◌, ℕ, true, List, [], ◌∷◌, None, Some, refl}
+use Rattle.std.specs.Prelude.{pos}
+use Rattle.doc_values.specs.Documents.{DocTree, int, rec, no_docs, more_docs}
+use Rattle.doc_values.specs.Types.{ty_int, ty_bool, ty_rec, no_fields, field}
+use Rattle.edit_module.specs.Words.{WordTree, set, at, done, then}
+use Rattle.edit_module.specs.declared.atom.Atom.TheVariants.{Truth, Number}
+use Rattle.edit_module.specs.declared.side.Side.TheVariants.{Left, Right}
+use Rattle.lens_core.specs.Forms.{FormTree, form_id, form_rec, no_rows, both, left_type, right_type, paired_int}
+use Rattle.lens_core.specs.Complements.{CompTree, nil, rec_comp, no_comps, more_comps, missing}
+use Rattle.lens_core.specs.Consistency.{IsConsistent}
+use Rattle.lens_core.specs.Translation.{translate}
+
+-- the names "a", "b", "c" and "d"
+abbrev a : List ℕ
+a = 97 ∷ []
+
+abbrev b : List ℕ
+b = 98 ∷ []
+
+abbrev c : List ℕ
+c = 99 ∷ []
+
+abbrev d : List ℕ
+d = 100 ∷ []
+
+-- a ~ b: id int, and a record of b ~ d: id int and a ~ c: id bool
+abbrev one_row : FormTree
+one_row = paired_int a b
+
+abbrev two_rows : FormTree
+two_rows = form_rec (both b d (form_id ty_int) (both a c (form_id ty_bool) no_rows))
+
+abbrev start : CompTree
+start = rec_comp (more_comps nil no_comps)
+
+-- set n, and a word of it in a field
+abbrev set_to : ℕ → WordTree
+set_to n = then (set (Number (pos n))) done
+
+abbrev in_field : List ℕ → WordTree → WordTree
+in_field f w = then (at f w) done
+
+-- ---- types and complements
+
+fields_are_sorted : left_type two_rows ≡ ty_rec (field a ty_bool (field b ty_int no_fields))
+fields_are_sorted = refl
+
+sides_are_apart : right_type two_rows ≡ ty_rec (field c ty_bool (field d ty_int no_fields))
+sides_are_apart = refl
+
+one_for_each_row : missing two_rows ≡ rec_comp (more_comps nil (more_comps nil no_comps))
+one_for_each_row = refl
+
+-- ---- translation
+
+set_from_the_left : translate one_row Left start (in_field a (set_to 5)) ≡ Some (in_field b (set_to 5), start)
+set_from_the_left = refl
+
+set_from_the_right : translate one_row Right start (in_field b (set_to 5)) ≡ Some (in_field a (set_to 5), start)
+set_from_the_right = refl
+
+far_field : translate one_row Left start (in_field b (set_to 5)) ≡ None
+far_field = refl
+
+empty_inner_word : translate one_row Left start (in_field a done) ≡ Some (done, start)
+empty_inner_word = refl
+
+of_the_identity : translate (form_id ty_int) Left nil (in_field a done) ≡ Some (in_field a done, nil)
+of_the_identity = refl
+
+empty_word : translate one_row Left nil done ≡ Some (done, nil)
+empty_word = refl
+
+one_after_another : translate one_row Left start (then (at a (set_to 5)) (in_field a (set_to 6))) ≡ Some (then (at b (set_to 5)) (in_field b (set_to 6)), start)
+one_after_another = refl
+
+second_is_none : translate one_row Left start (then (at a (set_to 5)) (set_to 6)) ≡ None
+second_is_none = refl
+
+second_row : translate two_rows Right (missing two_rows) (in_field c (then (set (Truth true)) done)) ≡ Some (in_field a (then (set (Truth true)) done), missing two_rows)
+second_row = refl
+
+other_variant : translate one_row Left nil (in_field a (set_to 5)) ≡ None
+other_variant = refl
+
+too_many_parts : translate one_row Left (missing two_rows) (in_field a done) ≡ None
+too_many_parts = refl
+
+parts_are_not_looked_at : translate one_row Left (rec_comp (more_comps start no_comps)) (in_field a done) ≡ Some (done, rec_comp (more_comps start no_comps))
+parts_are_not_looked_at = refl
+
+-- ---- the relation
+
+abbrev record_of : ℕ → DocTree
+record_of n = rec (more_docs (int (pos n)) no_docs)
+
+equal_ints : IsConsistent one_row (record_of 5) start (record_of 5)
+equal_ints = (
+  record { left_has = refl; comp_fits = (tt, tt); right_has = refl },
+  ((int (pos 5), int (pos 5), refl, refl, (record { left_has = refl; comp_fits = tt; right_has = refl }, refl)), tt),
+)
+
+other_complement : IsConsistent one_row (record_of 5) nil (record_of 5) → ⊥
+other_complement h = h

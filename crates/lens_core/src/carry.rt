@@ -1,0 +1,173 @@
+//! Carrying a word from one side to the other.
+
+ghost use Rattle.std.specs.Prelude.{◌≡◌, IsTrue, MatchResult, MatchOption, IfOk, Some, None};
+ghost use Rattle.edit_module.specs.Views.{primitive_tree, word_tree};
+ghost use Rattle.lens_core.specs.Complements.{comp_tree, rec_comp, more_comps, no_comps};
+ghost use Rattle.lens_core.specs.Forms.{form_tree, is_paired_int, paired_int};
+ghost use Rattle.lens_core.specs.Translation.{near, far, at_word, translate_one, translate, carried_tree, IsCarryFault};
+ghost use Rattle.lens_core.specs.Parts.{only_part, passes};
+
+use crate::comp::Comp;
+use crate::form::{Form, FormRow};
+use edit_module::word::Primitive;
+use edit_module::{Side, Word};
+use hold_shapes::{Name, Twin};
+use std::alloc::{AllocError, AllocFailed, Global};
+
+/// What a word is carried to.
+#[derive(Drop)]
+pub struct Carried {
+    /// The word of the other side.
+    pub word: Word,
+    /// The complement after it.
+    pub comp: Comp,
+}
+
+/// Why a word is not carried.
+#[derive(Clone, Copy, Debug, PartialEq, Eq)]
+pub enum CarryFault {
+    /// The translation has no value: the complement is none of the form's, or a primitive is none of the side's type.
+    Unfit,
+    /// There was not enough memory.
+    NoMemory,
+}
+
+impl From<AllocError> for CarryFault {
+    ghost use Rattle.std.specs.Prelude.{◌≡◌};
+    ghost use Rattle.lens_core.specs.declared.carry.CarryFault.TheVariants.{NoMemory};
+
+    ghost from_gives = { λ _ fault. fault ≡ NoMemory };
+
+    fn from(_: AllocError) -> CarryFault {
+        CarryFault::NoMemory
+    }
+}
+
+impl<T: Drop> From<AllocFailed<T>> for CarryFault {
+    ghost use Rattle.std.specs.Prelude.{◌≡◌};
+    ghost use Rattle.lens_core.specs.declared.carry.CarryFault.TheVariants.{NoMemory};
+
+    ghost from_gives = { λ _ fault. fault ≡ NoMemory };
+
+    fn from(_: AllocFailed<T>) -> CarryFault {
+        CarryFault::NoMemory
+    }
+}
+
+/// What a word of a side is carried to from a complement, by the record of one paired row with `id int`.
+///
+/// The answer is the translation of the word (docs/FORMATS.md): each primitive in turn, the complement handed along.
+/// `Unfit` comes exactly where the translation has no value, `NoMemory` besides. What is passed in stays as it is.
+pub fn record_carry(
+    alloc: Global,
+    form: &Form,
+    side: Side,
+    comp: &Comp,
+    word: &Word,
+) -> Result<Carried, CarryFault>
+    requires { IsTrue (is_paired_int (form_tree form.now)) }
+    ensures { MatchResult result
+        (λ r. translate (form_tree form.now) side (comp_tree comp.now) (word_tree word.now) ≡ Some (carried_tree r))
+        (IsCarryFault (translate (form_tree form.now) side (comp_tree comp.now) (word_tree word.now))) }
+{
+    let mut carried = Word::from_vec(Vec::new(alloc));
+    for primitive in word.as_slice() {
+        let next = carry_one(alloc, form, side, comp, primitive)?;
+        carried = carried.joined(next)?;
+    }
+    Ok(Carried {
+        word: carried,
+        comp: comp.twin(alloc)?,
+    })
+}
+
+// What one primitive is carried to. The complement stays.
+#[tactic(auto, using(crate::proofs::Carries::one_rules))]
+fn carry_one(
+    alloc: Global,
+    form: &Form,
+    side: Side,
+    comp: &Comp,
+    primitive: &Primitive,
+) -> Result<Word, CarryFault>
+    requires { IsTrue (is_paired_int (form_tree form.now)) }
+    ensures { MatchResult result
+        (λ w. translate_one (form_tree form.now) side (comp_tree comp.now) (primitive_tree primitive.now) ≡ Some (word_tree w, comp_tree comp.now))
+        (IsCarryFault (translate_one (form_tree form.now) side (comp_tree comp.now) (primitive_tree primitive.now))) }
+{
+    let (left, right) = paired_fields(form);
+    let Primitive::At(field, inner) = primitive else {
+        return Err(CarryFault::Unfit);
+    };
+    let Some(part) = only_part(comp) else {
+        return Err(CarryFault::Unfit);
+    };
+    let (near, far) = ends(side, left, right);
+    if !near.is_same(field) || !is_passed(part, inner) {
+        return Err(CarryFault::Unfit);
+    }
+    Ok(in_field(alloc, far, inner)?)
+}
+
+// Whether the identity passes on a word: at a complement other than Nil the empty one alone.
+#[tactic(auto, using(crate::proofs::Carries::word_rules))]
+fn is_passed(part: &Comp, inner: &Word) -> bool
+    ensures { result ≡ passes (comp_tree part.now) (word_tree inner.now) }
+{
+    match part {
+        Comp::Nil => true,
+        Comp::Rec(_) => inner.as_slice().is_empty(),
+    }
+}
+
+// An At of a field with a word inside, left out where that word is empty.
+#[tactic(auto, using(crate::proofs::Carries::word_rules))]
+fn in_field(alloc: Global, field: &Name, inner: &Word) -> Result<Word, AllocError>
+    ensures { IfOk result (λ w. word_tree w ≡ at_word field.now (word_tree inner.now)) }
+{
+    if inner.as_slice().is_empty() {
+        return Ok(Word::from_vec(Vec::new(alloc)));
+    }
+    let primitive = Primitive::At(field.twin(alloc)?, inner.twin(alloc)?);
+    Ok(Word::from_vec(vec![in alloc; primitive]?))
+}
+
+// The left and the right field of the row.
+fn paired_fields(form: &Form) -> (&Name, &Name)
+    requires { IsTrue (is_paired_int (form_tree form.now)) }
+    ensures { form_tree form.now ≡ paired_int result.0.now result.1.now }
+{
+    match form {
+        Form::Rec(rows) => match &rows.items[0] {
+            FormRow::Both(left, right, _) => (left, right),
+        },
+        Form::Id(_) => unreachable!(),
+    }
+}
+
+// The field of the edited side and that of the other.
+fn ends<'a>(side: Side, left: &'a Name, right: &'a Name) -> (&'a Name, &'a Name)
+    ensures near_is { result.0.now ≡ near side left.now right.now }
+    ensures far_is { result.1.now ≡ far side left.now right.now }
+{
+    match side {
+        Side::Left => (left, right),
+        Side::Right => (right, left),
+    }
+}
+
+// The part of a record's complement, where it has one and no more.
+#[tactic(auto, using(crate::proofs::Carries::part_rules))]
+fn only_part(comp: &Comp) -> Option<&Comp>
+    ensures { MatchOption result
+        (only_part (comp_tree comp.now) ≡ None)
+        (λ part. comp_tree comp.now ≡ rec_comp (more_comps (comp_tree part.now) no_comps)) }
+{
+    let Comp::Rec(comps) = comp else {
+        return None;
+    };
+    if comps.items.len() != 1 {
+        return None;
+    }
+    Some(&comps.items[0])
+}

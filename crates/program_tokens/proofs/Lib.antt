@@ -1,0 +1,4 @@
+pub mod Ascii
+mod Examples
+pub mod Steps
+pub mod Texts
