@@ -3,7 +3,7 @@
 //! Words: the number of items of the list, the number of primitives of the word, and how often it is applied.
 #![tactic(auto)]
 
-use anyhow::{Context, bail};
+use anyhow::bail;
 use doc_values::{Doc, Docs, Ty};
 use edit_module::{Prim, Word, act};
 use hold_shapes::{ListShape, Place, Shape};
@@ -33,10 +33,7 @@ fn zeros(alloc: Global, count: u64) -> Result<Doc, AllocError> {
     for _ in 0..count {
         items.push(Doc::Int(0))?;
     }
-    Ok(Doc::Hold(
-        Shape::List(ListShape { count }),
-        Docs::from_vec(items),
-    ))
+    Ok(Doc::Hold(Shape::List(ListShape { count }), Docs::from_vec(items)))
 }
 
 // A word that adds 1 to so many items, each at a place 7 further, from the front again at the end.
@@ -46,7 +43,11 @@ fn steps(alloc: Global, items: u64, primitives: u64) -> Result<Word, AllocError>
     for _ in 0..primitives {
         let sum = Word::from_vec(vec![in alloc; Prim::Add(1)]?);
         all.push(Prim::Mod(Place::Index(place), sum))?;
-        place = if place < items.saturating_sub(7) { place + 7 } else { 0 };
+        place = if place < items.saturating_sub(7) {
+            place + 7
+        } else {
+            0
+        };
     }
     Ok(Word::from_vec(all))
 }
