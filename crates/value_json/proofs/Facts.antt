@@ -1,0 +1,52 @@
+-- Small facts about tests and options.
+use Rattle.std.proofs.Common.{◌≡◌, ℕ, Bool, true, false, ◌&&◌, List, Option, Some, None, option_map, option_and_then, refl, not, bytes_eq, cond, sym, ◌∙◌, arith}
+use Rattle.std.specs.Prelude.{nat_eq}
+use Rattle.std.proofs.lemmas.Bool.Decides.{nat_tests}
+use Rattle.std.proofs.lemmas.Slice.Eq.{bytes_eq-Decides}
+
+pub both : (x y : Bool) → x ≡ true → y ≡ true → (x && y) ≡ true
+both x y h k = rw (h, k) refl
+
+pub left : (x y : Bool) → (x && y) ≡ true → x ≡ true
+left true y h = refl
+left false y h = h
+
+pub right : (x y : Bool) → (x && y) ≡ true → y ≡ true
+right true y h = h
+right false y h = cc
+
+pub same_bytes : (s : List ℕ) → bytes_eq s s ≡ true
+same_bytes s = (bytes_eq-Decides s s).1 refl
+
+pub equal_bytes : (s t : List ℕ) → bytes_eq s t ≡ true → s ≡ t
+equal_bytes s t h = (bytes_eq-Decides s t).0 h
+
+pub equal : (a b : ℕ) → nat_eq a b ≡ true → a ≡ b
+equal a b h = grind (arith, nat_tests)
+
+pub equal_tests : (a b : ℕ) → a ≡ b → nat_eq a b ≡ true
+equal_tests a b h = grind (arith, nat_tests)
+
+pub bind_some : {X Y : Type 0} (f : X → Option Y) (o : Option X) (y : Y) → option_and_then f o ≡ Some y → (x : X) × (o ≡ Some x) × (f x ≡ Some y)
+bind_some f None y h = cc
+bind_some f (Some x) y h = (x, refl, h)
+
+pub map_some : {X Y : Type 0} (f : X → Y) (o : Option X) (y : Y) → option_map f o ≡ Some y → (x : X) × (o ≡ Some x) × (f x ≡ y)
+map_some f None y h = cc
+map_some f (Some x) y h = (x, refl, let e : f x ≡ y = cc in e)
+
+pub if_some : {X : Type 0} (b : Bool) (x y : X) → cond b (Some x) None ≡ Some y → (b ≡ true) × (x ≡ y)
+if_some true x y h = (refl, let e : x ≡ y = cc in e)
+if_some false x y h = cc
+
+pub if_then : {X : Type 0} (b : Bool) (o : Option X) (y : X) → cond b o None ≡ Some y → (b ≡ true) × (o ≡ Some y)
+if_then true o y h = (refl, h)
+if_then false o y h = cc
+
+not_differing : (b : Bool) → false ≡ not b → b ≡ true
+not_differing true h = refl
+not_differing false h = cc
+
+-- two texts whose `!=` answered no
+pub same_texts : (r : Bool) (x y a b : List ℕ) → r ≡ false → r ≡ not (bytes_eq x y) → x ≡ a → y ≡ b → bytes_eq a b ≡ true
+same_texts r x y a b unequal is first second = rw (← first, ← second) (not_differing (bytes_eq x y) (sym unequal ∙ is))

@@ -1,0 +1,5 @@
+use Rattle.value_json.proofs.Apart.{apart}
+use Rattle.value_json.proofs.laws.trees_differ.Goals as goal
+
+pub returns : goal.returns
+returns c = apart

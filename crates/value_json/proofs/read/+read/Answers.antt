@@ -1,0 +1,102 @@
+use Rattle.std.proofs.Common.{◌≡◌, true, map, option_map, Some, ap, ap₂, sym, ◌∙◌, arith, drop, bytes_eq, string_bytes, length}
+use Rattle.std.proofs.lemmas.List.{map-append}
+use Rattle.std.proofs.lemmas.Result.{err_from_is_err_and}
+use Rattle.value_json.proofs.Levels.{doc_tree-Hold, doc_tree-Alt, refused_with}
+use Rattle.serde_json.specs.View.{view, items_view, members_view}
+use Rattle.doc_values.specs.Documents.{alt, doc_tree, docs_tree, doc_list}
+use Rattle.doc_values.specs.Types.{ty_tree, fields_tree, fields_of, field_tree, highest}
+use Rattle.hold_shapes.specs.Trees.{is_valid}
+use Rattle.value_json.specs.Numbers.{counts_of}
+use Rattle.value_json.specs.DocumentJson.{item_documents, member_documents, field_documents}
+use Rattle.value_json.proofs.Facts.{same_texts}
+use Rattle.value_json.proofs.Loops.{next_item, items_done, next_entry, entries_done, next_field, fields_done, field_height, spot_height, then_docs}
+use Rattle.value_json.proofs.ByParts.{ordered_of, ordered_by, ordered_found, alt_of, tagged_by, tag_none, tag_refused, tag_found}
+use Rattle.value_json.proofs.read.+read.Goals as goal
+
+pub read_fields-read-requires : goal.read_fields-read-requires
+read_fields-read-requires t c =
+    let low = field_height c.as_slice-field-items.result.now c.loop-field.field-index c.field-item.result c.loop-field-test.true c.field-item.is in
+    let same = ap highest c.as_slice-field-items.ensures in
+    (omega (arith, low, same), tt)
+
+pub read_fields-loop-field-preserved : goal.read_fields-loop-field-preserved
+read_fields-loop-field-preserved t c =
+    let l = c.loop-field in
+    let fields = c.as_slice-field-items.result.now in
+    let name = string_bytes c.in-Some.name.now in
+    let same : bytes_eq c.field-item.result.0 name ≡ true = same_texts c.ne.result _ _ _ _ c.if-ne.false c.ne.ensures c.as_str.ensures c.as_str-in-loop-field.ensures.value in
+    let next = ap (λ es. option_map (then_docs (map doc_tree l.docs.items)) (field_documents (fields_of (map field_tree (drop l.field-index fields))) (members_view es))) c.in-Some.ensures.steps in
+    rw (c.in_ok-push.ensures.items, map-append)
+    (l.invariant ∙ next ∙ next_field fields l.field-index c.field-item.result name (view c.in-Some.content.now) (members_view c.next.new.self) (map doc_tree l.docs.items) _ c.loop-field-test.true c.field-item.is same c.in_ok-read.ensures)
+
+pub read_fields-returns-in-None : goal.read_fields-returns-in-None
+read_fields-returns-in-None t c =
+    let l = c.loop-field in
+    let fields = c.as_slice-field-items.result.now in
+    let last = ap (λ es. option_map (then_docs (map doc_tree l.docs.items)) (field_documents (fields_of (map field_tree (drop l.field-index fields))) (members_view es))) c.in-None.ensures.steps.0 in
+    l.invariant ∙ last ∙ fields_done fields l.field-index (map doc_tree l.docs.items) c.loop-field-test.false ∙ ap Some (sym c.from_vec.ensures)
+
+pub read_items-loop-item-preserved : goal.read_items-loop-item-preserved
+read_items-loop-item-preserved t c =
+    let l = c.loop-item in
+    rw (c.in_ok-push.ensures.items, map-append) (l.invariant ∙ next_item (ty_tree c.args.inner.now) c.args.items.now l.item-index c.item-item.result (map doc_tree l.docs.items) _ c.loop-item-test.true c.item-item.is c.in_ok-read.ensures)
+
+pub read_items-returns : goal.read_items-returns
+read_items-returns t c =
+    let l = c.loop-item in
+    l.invariant ∙ items_done (ty_tree c.args.inner.now) c.args.items.now l.item-index (map doc_tree l.docs.items) c.loop-item-test.false ∙ ap Some (sym c.from_vec.ensures)
+
+pub read_members-loop-content-preserved : goal.read_members-loop-content-preserved
+read_members-loop-content-preserved t c =
+    let l = c.loop-content in
+    let inner = ty_tree c.args.inner.now in
+    let next = ap (λ es. option_map (then_docs (map doc_tree l.docs.items)) (member_documents inner (members_view es))) c.in-Some.ensures.steps in
+    rw (c.in_ok-push.ensures.items, map-append)
+    (l.invariant ∙ next ∙ next_entry inner (string_bytes c.in-Some.field-0-0.now) (view c.in-Some.content.now) (members_view c.next.new.self) (map doc_tree l.docs.items) _ c.in_ok-read.ensures)
+
+pub read_members-returns : goal.read_members-returns
+read_members-returns t c =
+    let l = c.loop-content in
+    let inner = ty_tree c.args.inner.now in
+    let last = ap (λ es. option_map (then_docs (map doc_tree l.docs.items)) (member_documents inner (members_view es))) c.in-None.ensures.steps.0 in
+    l.invariant ∙ last ∙ entries_done inner (map doc_tree l.docs.items) ∙ ap Some (sym c.from_vec.ensures)
+
+pub read_ordered-returns-in-Some-from_depths : goal.read_ordered-returns-in-Some-from_depths
+read_ordered-returns-in-Some-from_depths t c =
+    let inner = ty_tree c.args.inner.now in
+    let depths = c.in-Some-2.depths.items in
+    let docs = docs_tree c.in_ok-docs.docs in
+    let numbers : counts_of (items_view c.in-Some.depths.now.items) ≡ Some depths =
+    ap (λ vs. counts_of (items_view vs)) (sym c.deref.ensures.value) ∙ sym c.in_ok-depths.ensures ∙ ap (option_map (λ v. v.items)) c.in-Some-2.is in
+    let contents : item_documents inner (items_view c.in-Some.items.now.items) ≡ Some docs = ap (λ vs. item_documents inner (items_view vs)) (sym c.deref-2.ensures.value) ∙ c.in_ok-docs.ensures in
+    let many : length depths ≡ length (doc_list docs) = sym c.in-Some-2.depths.ok.0 ∙ sym c.len.ensures ∙ c.if-len.false ∙ c.len-2.ensures in
+    ordered_of inner (view c.args.tree.now) ∙ sym (ap (ordered_by inner) c.in-Some.ensures)
+    ∙ ordered_found inner (items_view c.in-Some.depths.now.items) (items_view c.in-Some.items.now.items) depths c.in-Some-from_depths.nodes docs numbers contents (sym (ap is_valid c.from_vec.ensures) ∙ c.in-Some-from_depths.ensures.0) many (c.in-Some-from_depths.ensures.1 ∙ c.from_vec.ensures)
+    ∙ ap Some (sym (doc_tree-Hold _ c.in_ok-docs.docs))
+
+pub read_tagged-returns-in_default-find : goal.read_tagged-returns-in_default-find
+read_tagged-returns-in_default-find t c =
+    let tags = fields_tree c.args.tags.now in
+    alt_of tags (view c.args.tree.now) ∙ sym (ap (tagged_by tags) c.in-Some.ensures)
+    ∙ tag_none tags _ c.from_string-tag.result _ (c.from_string-tag.ensures ∙ c.in_ok-from_str.ensures.ok) (sym c.in_default-find.ensures)
+
+pub read_tagged-read-requires : goal.read_tagged-read-requires
+read_tagged-read-requires t c =
+    let low = spot_height (fields_tree c.args.tags.now) c.from_string-tag.result _ (sym c.in-Some-find.ensures) in
+    (omega (arith, low), tt)
+
+pub read_tagged-returns-in_err-content : goal.read_tagged-returns-in_err-content
+read_tagged-returns-in_err-content t c =
+    let p = err_from_is_err_and c.from_residual-in_err-content.result c.from_residual-in_err-content.ensures.1 in
+    let tags = fields_tree c.args.tags.now in
+    rw (p.1, p.2) (refused_with c.in_err-content.field-0.0 _ _
+    (λ none. alt_of tags (view c.args.tree.now) ∙ sym (ap (tagged_by tags) c.in-Some.ensures)
+    ∙ tag_refused tags _ c.from_string-tag.result _ _ (c.from_string-tag.ensures ∙ c.in_ok-from_str.ensures.ok) (sym c.in-Some-find.ensures) none)
+    c.in_err-content.ensures)
+
+pub read_tagged-returns : goal.read_tagged-returns
+read_tagged-returns t c =
+    let tags = fields_tree c.args.tags.now in
+    alt_of tags (view c.args.tree.now) ∙ sym (ap (tagged_by tags) c.in-Some.ensures)
+    ∙ tag_found tags _ c.from_string-tag.result _ _ _ (c.from_string-tag.ensures ∙ c.in_ok-from_str.ensures.ok) (sym c.in-Some-find.ensures) c.in_ok-content.ensures
+    ∙ ap Some (sym (doc_tree-Alt _ c.in_ok-new.field-0 ∙ ap₂ alt c.tag.view_is (ap doc_tree c.in_ok-new.ensures.ok)))

@@ -1,0 +1,39 @@
+use Rattle.std.proofs.Common.{◌≡◌, ◌+◌, ◌*◌, true, take, map}
+use Rattle.serde_json.specs.View.{view, members_view}
+use Rattle.doc_values.specs.Documents.{doc_tree, docs_of}
+use Rattle.doc_values.specs.Types.{ty_tree, fields_tree, fields_of, field_tree, height, highest}
+use Rattle.value_json.specs.DocumentJson.{tree_of_document, field_members, key_members, all_hold_i64s}
+use Rattle.value_json.proofs.write.+write.Given as goal
+
+abbrev pub decreases-write : goal.decreases-write
+decreases-write l = 3 * height (ty_tree l.ty.now)
+
+abbrev pub decreases-write_record : goal.decreases-write_record
+decreases-write_record l = 3 * highest (fields_tree l.fields.now) + 1
+
+abbrev pub decreases-write_tagged : goal.decreases-write_tagged
+decreases-write_tagged l = 3 * highest (fields_tree l.tags.now) + 1
+
+abbrev pub decreases-write_list : goal.decreases-write_list
+decreases-write_list l = 3 * height (ty_tree l.inner.now) + 1
+
+abbrev pub decreases-write_keyed : goal.decreases-write_keyed
+decreases-write_keyed l = 3 * height (ty_tree l.inner.now) + 1
+
+abbrev pub decreases-write_ordered : goal.decreases-write_ordered
+decreases-write_ordered l = 3 * height (ty_tree l.inner.now) + 2
+
+abbrev pub invariant-write_record-loop-i : goal.invariant-write_record-loop-i
+invariant-write_record-loop-i l =
+    (members_view l.members.entries ≡ field_members (fields_of (map field_tree (take l.i l.field-items))) (docs_of (map doc_tree (take l.i l.contents))))
+    × (all_hold_i64s (docs_of (map doc_tree (take l.i l.contents))) ≡ true)
+
+abbrev pub invariant-write_list-loop-content : goal.invariant-write_list-loop-content
+invariant-write_list-loop-content l =
+    (map view l.items.items ≡ map (λ d. tree_of_document (ty_tree l.inner) (doc_tree d)) (take l.content-index l.contents))
+    × (all_hold_i64s (docs_of (map doc_tree (take l.content-index l.contents))) ≡ true)
+
+abbrev pub invariant-write_keyed-loop-i : goal.invariant-write_keyed-loop-i
+invariant-write_keyed-loop-i l =
+    (members_view l.members.entries ≡ key_members (ty_tree l.inner) (take l.i l.keys) (docs_of (map doc_tree (take l.i l.contents))))
+    × (all_hold_i64s (docs_of (map doc_tree (take l.i l.contents))) ≡ true)
