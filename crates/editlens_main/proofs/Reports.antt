@@ -1,0 +1,105 @@
+-- The report in the form of the code is the report.
+use Rattle.std.proofs.Common.{◌≡◌, ℕ, ℤ, codes, zero, suc, ◌+◌, List, [], ◌∷◌, ◌++◌, Bool, true, false, not, ◌||◌, cond, Option, Some, None, option_map, option_and_then, map, filter, refl, sym, ap, ap₂, ◌∙◌, append_assoc}
+use Rattle.lens_core.specs.Forms.{FormTree, paired_int}
+use Rattle.editlens_main.specs.Lines.{cut, bare, is_blank, journal_of, lines_behind, program_part}
+use Rattle.editlens_main.specs.Program.{names_of}
+use Rattle.editlens_main.specs.Entries.{entry_at}
+use Rattle.editlens_main.specs.Step.{TripleTree, first, AnswerTree}
+use Rattle.editlens_main.specs.Run.{Item, take_item, run, last, is_refused, any_refused}
+use Rattle.editlens_main.specs.Report.{answer_line, answer_lines, state_lines, ending, run_report, form_of, items_of, report_with, report}
+use Rattle.editlens_main.specs.Running.{items_among, report_from, behind_text, report_at}
+use Rattle.editlens_main.specs.Views.{triple_tree}
+use Rattle.editlens_main.specs.declared.status.Status.{Status}
+use Rattle.editlens_main.specs.declared.report.Running.{Running}
+
+-- the items among the lines are those of the journal
+pub items_among-bare : (lines : List (List ℕ)) → items_among (map bare lines) ≡ map entry_at (journal_of lines)
+items_among-bare [] = refl
+items_among-bare (l ∷ ls) =
+    elim (is_blank (bare l)) as (λ b. cond b (items_among (map bare ls)) (entry_at (bare l) ∷ items_among (map bare ls))
+    ≡ map entry_at (cond (not b) (bare l ∷ journal_of ls) (journal_of ls))) [
+      | true ↦ items_among-bare ls
+      | false ↦ ap (λ items. entry_at (bare l) ∷ items) (items_among-bare ls)
+    ]
+
+or_assoc : (a b c : Bool) → (a || (b || c)) ≡ ((a || b) || c)
+or_assoc true b c = refl
+or_assoc false b c = refl
+
+or_false : (a : Bool) → (a || false) ≡ a
+or_false true = refl
+or_false false = refl
+
+-- what is written for these steps, and then the state lines of the last triple
+abbrev rest_of : FormTree → TripleTree → ℕ → Bool → List (TripleTree × AnswerTree) → Option (List ℕ × Status)
+rest_of form t n refused steps = option_map (λ state. (answer_lines n steps ++ state, ending (refused || any_refused steps))) (state_lines form (last t steps))
+
+with_state : (n : ℕ) (refused : Bool) (t : TripleTree) (a : AnswerTree) (steps : List (TripleTree × AnswerTree)) (o : Option (List ℕ))
+    → option_map (λ state. (answer_lines n ((t, a) ∷ steps) ++ state, ending (refused || any_refused ((t, a) ∷ steps)))) o
+    ≡ option_map (behind_text (answer_line n a)) (option_map (λ state. (answer_lines (n + 1) steps ++ state, ending ((refused || is_refused a) || any_refused steps))) o)
+with_state n refused t a steps None = refl
+with_state n refused t a steps (Some state) =
+    ap₂ (λ text b. Some (text, ending b)) (append_assoc (answer_line n a) (answer_lines (n + 1) steps) state) (or_assoc refused (is_refused a) (any_refused steps))
+
+with_steps : (form : FormTree) (t t' : TripleTree) (n : ℕ) (refused : Bool) (a : AnswerTree) (o : Option (List (TripleTree × AnswerTree)))
+    → option_and_then (rest_of form t n refused) (option_map (λ steps. (t', a) ∷ steps) o)
+    ≡ option_map (behind_text (answer_line n a)) (option_and_then (rest_of form t' (n + 1) (refused || is_refused a)) o)
+with_steps form t t' n refused a None = refl
+with_steps form t t' n refused a (Some steps) = with_state n refused t' a steps (state_lines form (last t' steps))
+
+-- an item is answered in front of the rest
+item_first : (form : FormTree) (t t' : TripleTree) (n : ℕ) (refused : Bool) (a : AnswerTree) (item : Item) (items : List Item) → take_item form t item ≡ Some (t', a)
+    → report_from form t n refused (item ∷ items) ≡ option_map (behind_text (answer_line n a)) (report_from form t' (n + 1) (refused || is_refused a) items)
+item_first form t t' n refused a item items h =
+    ap (λ o. option_and_then (rest_of form t n refused) (option_and_then (λ (s : TripleTree × AnswerTree). option_map (λ steps. s ∷ steps) (run form s.0 items)) o)) h
+    ∙ with_steps form t t' n refused a (run form t' items)
+
+two_texts : (text line : List ℕ) (o : Option (List ℕ × Status)) → option_map (behind_text text) (option_map (behind_text line) o) ≡ option_map (behind_text (text ++ line)) o
+two_texts text line None = refl
+two_texts text line (Some r) = ap (λ x. Some (x, r.1)) (sym (append_assoc text line r.0))
+
+-- a line that is taken as an item
+pub line_taken : (form : FormTree) (old new : Running) (line : List ℕ) (a : AnswerTree) (lines : List (List ℕ)) → is_blank line ≡ false
+    → take_item form (triple_tree old.triple) (entry_at line) ≡ Some (triple_tree new.triple, a) → new.number ≡ old.number + 1
+    → new.refused ≡ (old.refused || is_refused a) → new.text.items ≡ old.text.items ++ answer_line new.number a
+    → report_at form old (items_among (line ∷ lines)) ≡ report_at form new (items_among lines)
+line_taken form old new line a lines full taken number refused text =
+    ap (λ b. report_at form old (cond b (items_among lines) (entry_at line ∷ items_among lines))) full
+    ∙ ap (option_map (behind_text old.text.items)) (item_first form (triple_tree old.triple) (triple_tree new.triple) (old.number + 1) old.refused a (entry_at line) (items_among lines) taken)
+    ∙ two_texts old.text.items (answer_line (old.number + 1) a) (report_from form (triple_tree new.triple) (old.number + 1 + 1) (old.refused || is_refused a) (items_among lines))
+    ∙ ap (λ n. option_map (behind_text (old.text.items ++ answer_line n a)) (report_from form (triple_tree new.triple) (n + 1) (old.refused || is_refused a) (items_among lines))) (sym number)
+    ∙ ap₂ (λ x b. option_map (behind_text x) (report_from form (triple_tree new.triple) (new.number + 1) b (items_among lines))) (sym text) (sym refused)
+
+-- a blank line is passed over
+pub line_passed : (form : FormTree) (r : Running) (line : List ℕ) (lines : List (List ℕ)) → is_blank line ≡ true
+    → report_at form r (items_among (line ∷ lines)) ≡ report_at form r (items_among lines)
+line_passed form r line lines blank = ap (λ b. report_at form r (cond b (items_among lines) (entry_at line ∷ items_among lines))) blank
+
+-- behind the last line the state lines follow
+pub at_end : (form : FormTree) (r : Running) (state : List ℕ) → state_lines form (triple_tree r.triple) ≡ Some state
+    → report_at form r [] ≡ Some (r.text.items ++ state, ending r.refused)
+at_end form r state h =
+    ap (λ o. option_map (behind_text r.text.items) (option_map (λ s. ([] ++ s, ending (r.refused || false))) o)) h
+    ∙ ap (λ b. Some (r.text.items ++ state, ending b)) (or_false r.refused)
+
+none_in_front : (o : Option (List ℕ × Status)) → option_map (behind_text []) o ≡ o
+none_in_front None = refl
+none_in_front (Some r) = refl
+
+-- the first triple, with nothing written
+pub at_start : (form : FormTree) (r : Running) (items : List Item) → triple_tree r.triple ≡ first form → r.number ≡ 0 → r.refused ≡ false → r.text.items ≡ []
+    → report_at form r items ≡ run_report form items
+at_start form r items triple number refused text =
+    ap₂ (λ x n. option_map (behind_text x) (report_from form (triple_tree r.triple) (n + 1) r.refused items)) text number
+    ∙ none_in_front (report_from form (triple_tree r.triple) (0 + 1) r.refused items)
+    ∙ ap₂ (λ t b. report_from form t 1 b items) triple refused
+
+-- the report of the items among the lines behind the separator is that of the whole input
+pub of_parts : (bytes program lines : List ℕ) (form : FormTree) (a b : List ℕ) (answer : List ℕ × Status) → program ≡ program_part bytes → names_of program ≡ Some (a, b) → form ≡ paired_int a b
+    → cut lines ≡ lines_behind (cut bytes) → run_report form (items_among (map bare (cut lines))) ≡ Some answer → report bytes ≡ Some answer
+of_parts bytes program lines form a b answer is names made behind run =
+    let accepted : form_of (program_part bytes) ≡ Some form =
+    ap form_of (sym is) ∙ ap (option_map (λ (p : List ℕ × List ℕ). paired_int p.0 p.1)) names ∙ ap Some (sym made) in
+    let items : items_of bytes ≡ items_among (map bare (cut lines)) =
+    sym (items_among-bare (lines_behind (cut bytes))) ∙ ap (λ ls. items_among (map bare ls)) (sym behind) in
+    ap₂ report_with accepted items ∙ run

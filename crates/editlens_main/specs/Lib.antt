@@ -1,0 +1,17 @@
+pub mod ComplementJson
+pub mod DocumentJson
+pub mod Ends
+pub mod Entries
+pub mod Gives
+pub mod Lens
+pub mod Lines
+pub mod Program
+pub mod Report
+pub mod Run
+pub mod Running
+pub mod Status
+pub mod Step
+pub mod Taking
+pub mod WordJson
+pub mod Views
+pub mod Words

@@ -1,0 +1,47 @@
+-- The lines of a script: its program part, and the lines of its journal.
+use Rattle.std.specs.Prelude.{ℕ, ◌==◌, List, [], ◌∷◌, ◌++◌, Bool, true, not, ◌||◌, if◌then◌else◌, bytes_eq, codes, filter, map}
+use Rattle.std.specs.List.{onto_first, concat, list_all}
+
+-- The bytes cut behind each LF, which stays at the end of its line. What follows the last LF is a line where it is not empty.
+abbrev pub cut : List ℕ → List (List ℕ)
+cut [] = []
+cut (byte ∷ bytes) = if byte == 10 then (byte ∷ []) ∷ cut bytes else onto_first byte (cut bytes)
+
+-- a line without its LF
+abbrev pub bare : List ℕ → List ℕ
+bare [] = []
+bare (byte ∷ bytes) = if byte == 10 then [] else byte ∷ bare bytes
+
+-- the line is `---`, with or without a CR at its end
+abbrev pub is_separator : List ℕ → Bool
+is_separator line = bytes_eq line (codes "---") || bytes_eq line (codes "---" ++ 13 ∷ [])
+
+-- the lines before the first separator, or all where there is none
+abbrev pub lines_before : List (List ℕ) → List (List ℕ)
+lines_before [] = []
+lines_before (line ∷ lines) = if is_separator (bare line) then [] else line ∷ lines_before lines
+
+-- the lines behind the first separator, or none where there is none
+abbrev pub lines_behind : List (List ℕ) → List (List ℕ)
+lines_behind [] = []
+lines_behind (line ∷ lines) = if is_separator (bare line) then lines else lines_behind lines
+
+-- all bytes before the separator line
+abbrev pub program_part : List ℕ → List ℕ
+program_part bytes = concat (lines_before (cut bytes))
+
+-- a byte is a space, a tab or a CR
+abbrev pub is_space : ℕ → Bool
+is_space byte = byte == 32 || byte == 9 || byte == 13
+
+-- the line has spaces, tabs and CR alone
+abbrev pub is_blank : List ℕ → Bool
+is_blank line = list_all is_space line
+
+-- the lines without their LF, but for those that are blank
+abbrev pub journal_of : List (List ℕ) → List (List ℕ)
+journal_of lines = filter (λ line. not (is_blank line)) (map bare lines)
+
+-- the lines of the journal: those behind the separator that are not blank
+abbrev pub journal : List ℕ → List (List ℕ)
+journal bytes = journal_of (lines_behind (cut bytes))

@@ -1,0 +1,39 @@
+-- A run: the items of a journal, taken in turn.
+use Rattle.std.specs.Prelude.{ℕ, List, [], ◌∷◌, Bool, true, false, Option, Some, None, option_map, option_and_then, map}
+use Rattle.std.specs.List.{list_any}
+use Rattle.edit_module.specs.Words.{WordTree}
+use Rattle.edit_module.specs.declared.side.Side.{Side}
+use Rattle.lens_core.specs.Forms.{FormTree}
+use Rattle.editlens_main.specs.Step.{TripleTree, first, AnswerTree, carried, no_apply, not_built, step}
+
+-- an item is an entry, or a line that is none
+abbrev pub Item : Type 0
+Item = Option (Side × WordTree)
+
+-- an entry steps the triple; a line that is no entry leaves it
+abbrev pub take_item : FormTree → TripleTree → Item → Option (TripleTree × AnswerTree)
+take_item form t (Some entry) = step form t entry.0 entry.1
+take_item form t None = Some (t, not_built)
+
+-- for each item in order, the triple after it and the answer to it
+abbrev pub run : FormTree → TripleTree → List Item → Option (List (TripleTree × AnswerTree))
+run form t [] = Some []
+run form t (item ∷ items) = option_and_then (λ s. option_map (λ steps. s ∷ steps) (run form s.0 items)) (take_item form t item)
+
+-- the triple after the last item
+abbrev pub last : TripleTree → List (TripleTree × AnswerTree) → TripleTree
+last t [] = t
+last t (s ∷ steps) = last s.0 steps
+
+-- every triple of the run from the first one, that one and those after refused items included
+abbrev pub triples : FormTree → List Item → Option (List TripleTree)
+triples form items = option_map (λ steps. first form ∷ map (λ s. s.0) steps) (run form (first form) items)
+
+-- the item was refused
+abbrev pub is_refused : AnswerTree → Bool
+is_refused (carried side w) = false
+is_refused (no_apply at cause) = true
+is_refused not_built = true
+
+abbrev pub any_refused : List (TripleTree × AnswerTree) → Bool
+any_refused steps = list_any (λ s. is_refused s.1) steps

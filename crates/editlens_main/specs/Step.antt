@@ -1,0 +1,57 @@
+-- One step: what an entry makes of a left document, a complement and a right document.
+use Rattle.std.specs.Prelude.{ℕ, Option, Some, None, option_and_then, Result, Ok, Err}
+use Rattle.doc_values.specs.Documents.{DocTree}
+use Rattle.doc_values.specs.Initial.{initial}
+use Rattle.edit_module.specs.Words.{WordTree}
+use Rattle.edit_module.specs.Action.{act, Why}
+use Rattle.edit_module.specs.declared.side.Side.{Side}
+use Rattle.edit_module.specs.declared.side.Side.TheVariants.{Left, Right}
+use Rattle.edit_module.specs.declared.fault.Cause.{Cause}
+use Rattle.lens_core.specs.Forms.{FormTree, left_type, right_type}
+use Rattle.lens_core.specs.Complements.{CompTree, missing}
+use Rattle.lens_core.specs.Consistency.{IsConsistent}
+use Rattle.lens_core.specs.Translation.{translate, Translated}
+
+pub record TripleTree : Type 0 where
+  pub left : DocTree
+  pub comp : CompTree
+  pub right : DocTree
+
+-- the first triple of a lens: the initial documents of its two types, and its missing complement
+abbrev pub first : FormTree → TripleTree
+first form = record { left = initial (left_type form); comp = missing form; right = initial (right_type form) }
+
+-- the triple is in the lens's consistency relation
+abbrev pub IsInStep : FormTree → TripleTree → Type 0
+IsInStep form t = IsConsistent form t.left t.comp t.right
+
+-- an edit is carried to a word of the other side, which is named; or it does not apply, with the number of the first primitive that
+-- fails and its cause; or the line is no entry that is built
+pub data AnswerTree : Type 0 where
+  carried : Side → WordTree → AnswerTree
+  no_apply : ℕ → Cause → AnswerTree
+  not_built : AnswerTree
+
+-- An edit of the left side acts on the left document. Where it has no value there, the triple stays. Where it has, it is translated, and
+-- the carried word acts on the right document. Where there is no translation, or the carried word does not act, there is no step.
+abbrev pub left_done : DocTree → Translated → Result DocTree Why → Option (TripleTree × AnswerTree)
+left_done x r (Ok y) = Some (record { left = x; comp = r.1; right = y }, carried Right r.0)
+left_done x r (Err why) = None
+
+abbrev pub left_acted : FormTree → TripleTree → WordTree → Result DocTree Why → Option (TripleTree × AnswerTree)
+left_acted form t w (Ok x) = option_and_then (λ r. left_done x r (act (right_type form) r.0 t.right)) (translate form Left t.comp w)
+left_acted form t w (Err why) = Some (t, no_apply why.0 why.1)
+
+-- an edit of the right side, likewise
+abbrev pub right_done : DocTree → Translated → Result DocTree Why → Option (TripleTree × AnswerTree)
+right_done y r (Ok x) = Some (record { left = x; comp = r.1; right = y }, carried Left r.0)
+right_done y r (Err why) = None
+
+abbrev pub right_acted : FormTree → TripleTree → WordTree → Result DocTree Why → Option (TripleTree × AnswerTree)
+right_acted form t w (Ok y) = option_and_then (λ r. right_done y r (act (left_type form) r.0 t.left)) (translate form Right t.comp w)
+right_acted form t w (Err why) = Some (t, no_apply why.0 why.1)
+
+-- the triple after an entry, and the answer to it
+abbrev pub step : FormTree → TripleTree → Side → WordTree → Option (TripleTree × AnswerTree)
+step form t Left w = left_acted form t w (act (left_type form) w t.left)
+step form t Right w = right_acted form t w (act (right_type form) w t.right)

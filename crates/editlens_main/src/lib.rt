@@ -1,0 +1,29 @@
+//! The top call: what the program does with its words, its input and its output.
+//!
+//! [`editlens`] is the whole program but for its real streams, and its contract is the main theorem: what is written is the
+//! report of what was read, and every triple of the run is in the lens's consistency relation. The report stands in
+//! specs/Report.antt over a run (specs/Run.antt) of steps (specs/Step.antt), and what stands after every status in
+//! specs/Ends.antt.
+#![tactic(auto)]
+
+mod answers;
+mod documents;
+mod entries;
+mod lens;
+mod lines;
+mod program;
+mod report;
+mod status;
+mod step;
+mod sure;
+mod top;
+mod trees;
+mod words;
+mod writing;
+
+pub use status::Status;
+pub use sure::run_sure;
+pub use top::editlens;
+
+#[cfg(test)]
+mod tests;
