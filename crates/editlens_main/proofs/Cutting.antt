@@ -1,5 +1,5 @@
 -- Where the first line ends.
-use Rattle.std.proofs.Common.{◌≡◌, ℕ, suc, ◌+◌, ◌<◌, ◌≤◌, List, [], ◌∷◌, ◌==◌, Option, Some, None, Bool, true, false, not, cond, nat_lt, refl, sym, ap, ◌∙◌, length, take, drop, arith, add-one}
+use Rattle.std.proofs.Common.{◌≡◌, ℕ, suc, ◌+◌, ◌<◌, ◌≤◌, List, [], ◌∷◌, ◌==◌, Some, None, Bool, true, false, not, cond, nat_lt, refl, ap, ◌∙◌, length, take, drop, arith, add-one}
 use Rattle.std.proofs.lemmas.List.{take_all}
 use borrow.Author.Tests.{ltb-true}
 use Rattle.std.specs.List.{position, position_or_len, onto_first}

@@ -1,5 +1,5 @@
 -- The names of a program part, taken token by token, are its names.
-use Rattle.std.proofs.Common.{◌≡◌, ℕ, List, [], ◌∷◌, Bool, true, false, ◌&&◌, cond, Option, Some, None, option_and_then, map, codes, refl, sym, ap, ◌∙◌}
+use Rattle.std.proofs.Common.{◌≡◌, List, [], ◌∷◌, Bool, true, false, ◌&&◌, cond, Option, Some, None, option_and_then, codes, refl}
 use Rattle.program_tokens.specs.declared.token.Token.{Token}
 use Rattle.program_tokens.specs.declared.token.Token.TheVariants.{Keyword, Name, Text, Mark, Bad, End}
 use Rattle.program_tokens.specs.declared.token.PlacedToken.{PlacedToken}

@@ -1,5 +1,5 @@
 -- What is written has no float, so its text is told.
-use Rattle.std.proofs.Common.{◌≡◌, ℕ, ℤ, pos, negsuc, List, [], ◌∷◌, Bool, false, refl}
+use Rattle.std.proofs.Common.{◌≡◌, ℕ, ℤ, pos, negsuc, List, [], ◌∷◌, false, refl}
 use Rattle.serde_json.specs.Written.{has_float, items_have_float}
 use Rattle.hold_shapes.specs.declared.edit.Place.{Place}
 use Rattle.hold_shapes.specs.declared.edit.Place.TheVariants as places

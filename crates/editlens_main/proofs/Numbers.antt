@@ -1,5 +1,5 @@
 -- Which numbers of a tree are an i64.
-use Rattle.std.proofs.Common.{◌≡◌, ℕ, suc, ℤ, pos, negsuc, ◌^◌, ◌<◌, true, false, Option, Some, None, refl, sym, ap, ◌∙◌, arith, nat_lt, lt-ltb, FitsSigned, w64}
+use Rattle.std.proofs.Common.{◌≡◌, ℕ, suc, ℤ, pos, negsuc, ◌^◌, true, Some, None, refl, arith, nat_lt, lt-ltb, FitsSigned, w64}
 use borrow.Author.Tests.{leb-true}
 use Rattle.std.proofs.lemmas.Int.{ints}
 use Rattle.serde_json.specs.View.{number_view}

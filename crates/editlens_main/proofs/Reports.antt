@@ -1,5 +1,5 @@
 -- The report in the form of the code is the report.
-use Rattle.std.proofs.Common.{◌≡◌, ℕ, ℤ, codes, zero, suc, ◌+◌, List, [], ◌∷◌, ◌++◌, Bool, true, false, not, ◌||◌, cond, Option, Some, None, option_map, option_and_then, map, filter, refl, sym, ap, ap₂, ◌∙◌, append_assoc}
+use Rattle.std.proofs.Common.{◌≡◌, ℕ, ◌+◌, List, [], ◌∷◌, ◌++◌, Bool, true, false, not, ◌||◌, cond, Option, Some, None, option_map, option_and_then, map, refl, sym, ap, ap₂, ◌∙◌, append_assoc}
 use Rattle.lens_core.specs.Forms.{FormTree, paired_int}
 use Rattle.editlens_main.specs.Lines.{cut, bare, is_blank, journal_of, lines_behind, program_part}
 use Rattle.editlens_main.specs.Program.{names_of}

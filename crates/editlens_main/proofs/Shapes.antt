@@ -1,5 +1,5 @@
 -- Trees of other shapes have none of the parts.
-use Rattle.std.proofs.Common.{◌≡◌, ◌≢◌, ℕ, ◌-◌, ◌&&◌, List, [], ◌∷◌, length, get_or, slice_get, Option, Some, None, Bool, true, false, not, ◌||◌, cond, bytes_eq, String, Global, string_bytes, sym, ap, ap₂, ◌∙◌, refl, arith}
+use Rattle.std.proofs.Common.{◌≡◌, ◌≢◌, ℕ, ◌-◌, List, [], ◌∷◌, length, get_or, slice_get, Option, Some, None, Bool, true, false, not, cond, bytes_eq, String, Global, string_bytes, sym, ap, ap₂, ◌∙◌, refl, arith}
 use Rattle.serde_json.specs.Data.{Data, null, boolean, number, string, array, object, Items, Members}
 use Rattle.serde_json.specs.Find.{as_array, as_object}
 use Rattle.serde_json.specs.View.{view, items_view, members_view}

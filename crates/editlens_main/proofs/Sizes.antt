@@ -1,5 +1,5 @@
 -- How large words and complements are, for the recursion over them.
-use Rattle.std.proofs.Common.{◌≡◌, ℕ, zero, suc, ◌+◌, ◌<◌, List, [], ◌∷◌, map, length, get_or, arith}
+use Rattle.std.proofs.Common.{ℕ, zero, suc, ◌+◌, ◌<◌, List, [], ◌∷◌, map, length, get_or, arith}
 use Rattle.edit_module.specs.Words.{PrimitiveTree, set, add, splice, at, stay, switch, modify, shape, WordTree, done, then, word_of}
 use Rattle.edit_module.specs.Views.{primitive_tree}
 use Rattle.edit_module.specs.declared.word.Primitive.{Primitive}

@@ -1,5 +1,5 @@
 -- The state lines of a triple that is in step.
-use Rattle.std.proofs.Common.{◌≡◌, ℕ, List, ◌++◌, codes, Option, Some, IsTrue, refl, sym, ap, subst, ◌∙◌}
+use Rattle.std.proofs.Common.{◌≡◌, ℕ, List, ◌++◌, codes, Some, IsTrue, refl, ap, subst, ◌∙◌}
 use Rattle.doc_values.specs.Documents.{DocTree, unit, truth, int, text, pick, rec, alt, hold, more_docs, no_docs}
 use Rattle.doc_values.specs.Types.{ty_rec, ty_int, field, no_fields}
 use Rattle.doc_values.specs.Typing.{has}

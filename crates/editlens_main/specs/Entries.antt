@@ -1,8 +1,8 @@
 -- What a line of the journal is: an entry in the part of the format that is built, or none. A line is read as the tree that the JSON
 -- reader gives; the members of an object stand there in byte order, each name once.
-use Rattle.std.specs.Prelude.{ℕ, ℤ, pos, negsuc, ◌^◌, ◌&&◌, List, Bool, Option, Some, None, option_map, option_and_then, codes, if◌then◌else◌, nat_lt, bytes_eq}
+use Rattle.std.specs.Prelude.{ℕ, ℤ, pos, negsuc, ◌^◌, ◌&&◌, List, Option, Some, None, option_map, option_and_then, codes, if◌then◌else◌, nat_lt, bytes_eq}
 use Rattle.std.specs.Str.{is_utf8}
-use Rattle.serde_json.specs.Data.{Num, unsigned, negative, float, Data, null, boolean, number, string, array, object, Items, no_items, item, Members, no_members, member}
+use Rattle.serde_json.specs.Data.{Num, unsigned, negative, float, Data, boolean, number, array, object, Items, no_items, item, no_members, member}
 use Rattle.serde_json.specs.Find.{as_array, as_str}
 use Rattle.serde_json.specs.Read.{read}
 use Rattle.edit_module.specs.Words.{PrimitiveTree, set, at, WordTree, done, then}

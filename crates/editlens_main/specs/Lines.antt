@@ -1,5 +1,5 @@
 -- The lines of a script: its program part, and the lines of its journal.
-use Rattle.std.specs.Prelude.{ℕ, ◌==◌, List, [], ◌∷◌, ◌++◌, Bool, true, not, ◌||◌, if◌then◌else◌, bytes_eq, codes, filter, map}
+use Rattle.std.specs.Prelude.{ℕ, ◌==◌, List, [], ◌∷◌, ◌++◌, Bool, not, ◌||◌, if◌then◌else◌, bytes_eq, codes, filter, map}
 use Rattle.std.specs.List.{onto_first, concat, list_all}
 
 -- The bytes cut behind each LF, which stays at the end of its line. What follows the last LF is a line where it is not empty.

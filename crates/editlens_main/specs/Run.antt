@@ -1,5 +1,5 @@
 -- A run: the items of a journal, taken in turn.
-use Rattle.std.specs.Prelude.{ℕ, List, [], ◌∷◌, Bool, true, false, Option, Some, None, option_map, option_and_then, map}
+use Rattle.std.specs.Prelude.{List, [], ◌∷◌, Bool, true, false, Option, Some, None, option_map, option_and_then, map}
 use Rattle.std.specs.List.{list_any}
 use Rattle.edit_module.specs.Words.{WordTree}
 use Rattle.edit_module.specs.declared.side.Side.{Side}

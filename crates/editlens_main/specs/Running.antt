@@ -1,6 +1,6 @@
 -- The report once more, in the form of the code: what a run has written, and what it will write for the items that are left.
 -- proofs/Reports.antt shows that it is the report.
-use Rattle.std.specs.Prelude.{ℕ, ℤ, pos, ◌+◌, List, [], ◌∷◌, ◌++◌, Bool, ◌||◌, Option, Some, None, option_map, option_and_then, if◌then◌else◌}
+use Rattle.std.specs.Prelude.{ℕ, ℤ, pos, ◌+◌, List, [], ◌∷◌, ◌++◌, Bool, ◌||◌, Option, option_map, option_and_then, if◌then◌else◌}
 use Rattle.doc_values.specs.Documents.{DocTree, rec, int, more_docs}
 use Rattle.lens_core.specs.Forms.{FormTree}
 use Rattle.editlens_main.specs.WordJson.{one, int_json}
