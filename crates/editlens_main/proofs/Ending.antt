@@ -1,5 +1,5 @@
 -- What stands at each end of a run.
-use Rattle.std.proofs.Common.{◌≡◌, ◌⊎◌, inl, inr, ℕ, ◌^◌, ◌<◌, ◌≤◌, List, ◌++◌, length, Bool, true, false, Option, Some, None, option_map, option_and_then, Result, Ok, Err, IsTrue, IfSome, refl, sym, ap, subst, ◌∙◌, append-nil, length-append, arith}
+use Rattle.std.proofs.Common.{◌≡◌, ◌⊎◌, inl, inr, ℕ, ◌+◌, ◌^◌, ◌<◌, ◌≤◌, List, [], ◌∷◌, ◌++◌, length, Bool, true, false, Option, Some, None, option_map, Result, Ok, Err, IsTrue, IfSome, refl, sym, ap, subst, ◌∙◌, append-nil, length-append, arith}
 use Rattle.std.specs.Io.KnownBytes.{Appends, Consumes, IsAtEnd}
 use Rattle.std.proofs.KnownBytes.{Appends-nil}
 use Rattle.lens_io.specs.Causes.{Rose}
@@ -27,10 +27,6 @@ finished : (b : Bool) → IsFinished (ending b)
 finished true = inr refl
 finished false = inl refl
 
-some_of : {X Y : Type 0} (f : X → Option Y) (o : Option X) (y : Y) → option_and_then f o ≡ Some y → (x : X) × (o ≡ Some x) × (f x ≡ Some y)
-some_of f None y h = cc
-some_of f (Some x) y h = (x, refl, h)
-
 mapped : {X Y : Type 0} (f : X → Y) (o : Option X) (y : Y) → option_map f o ≡ Some y → (x : X) × (o ≡ Some x) × (f x ≡ y)
 mapped f None y h = cc
 mapped f (Some x) y h = (x, refl, let e : f x ≡ y = cc in e)
@@ -39,11 +35,10 @@ mapped f (Some x) y h = (x, refl, let e : f x ≡ y = cc in e)
 pub ended : (form : Option FormTree) (items : List Item) (text : List ℕ) (status : Status) → report_with form items ≡ Some (text, status)
     → ((f : FormTree) × (form ≡ Some f) × IsFinished status) ⊎ ((form ≡ None) × (text ≡ refusal_line) × (status ≡ ProgramRefused))
 ended (Some form) items text status h =
-    let ends : List (TripleTree × AnswerTree) → Option (List ℕ × Status) =
-    λ steps. option_map (λ state. (answer_lines 1 steps ++ state, ending (any_refused steps))) (state_lines form (last (first form) steps)) in
-    let steps = some_of ends (run form (first form) items) (text, status) h in
-    let state = mapped (λ (state : List ℕ). (answer_lines 1 steps.0 ++ state, ending (any_refused steps.0))) (state_lines form (last (first form) steps.0)) (text, status) steps.2 in
-    inl (form, refl, subst IsFinished (ap (λ (r : List ℕ × Status). r.1) state.2) (finished (any_refused steps.0)))
+    let answer : List (TripleTree × AnswerTree) → List ℕ × Status =
+    λ steps. (answer_lines 1 steps ++ state_lines form (last (first form) steps), ending (any_refused steps)) in
+    let steps = mapped answer (run form (first form) items) (text, status) h in
+    inl (form, refl, subst IsFinished (ap (λ (r : List ℕ × Status). r.1) steps.2) (finished (any_refused steps.0)))
 ended None items text status h =
     let same : (refusal_line, ProgramRefused) ≡ (text, status) = cc in
     inr (refl, sym (ap (λ (r : List ℕ × Status). r.0) same), sym (ap (λ (r : List ℕ × Status). r.1) same))

@@ -1,6 +1,6 @@
 -- The definitions, tried on small examples.
-use Rattle.std.proofs.Common.{◌≡◌, ℕ, pos, negsuc, [], ◌∷◌, ◌++◌, true, false, Some, None, codes, refl}
-use Rattle.serde_json.specs.Data.{number, string, array, object, unsigned, negative, no_items, no_members, member}
+use Rattle.std.proofs.Common.{◌≡◌, ℕ, pos, negsuc, List, [], ◌∷◌, ◌++◌, true, false, Option, Some, None, codes, refl}
+use Rattle.serde_json.specs.Data.{Data, boolean, number, string, array, object, unsigned, negative, no_items, item, no_members, member}
 use Rattle.doc_values.specs.Documents.{rec, int, more_docs, no_docs}
 use Rattle.edit_module.specs.Words.{set, at, done, then}
 use Rattle.edit_module.specs.declared.atom.Atom.TheVariants.{Truth, Number}
@@ -12,13 +12,13 @@ use Rattle.std.specs.Fmt.{digits}
 use Rattle.serde_json.proofs.OnLiterals.{serde_json_on_literals}
 use Rattle.program_tokens.specs.Words.{is_space, begins_word, in_word, keyword_of, mark_of}
 use Rattle.program_tokens.specs.Tokens.{piece_of, tokens_from}
-use Rattle.editlens_main.specs.Lines.{cut, is_separator, program_part, journal}
+use Rattle.editlens_main.specs.Lines.{cut, bare, is_separator, is_blank, program_part, journal}
 use Rattle.editlens_main.specs.Program.{names_of}
 use Rattle.editlens_main.specs.Entries.{set_of, entry_of}
 use Rattle.editlens_main.specs.Step.{TripleTree, first, carried, no_apply, not_built, step}
-use Rattle.editlens_main.specs.Run.{run}
-use Rattle.editlens_main.specs.Report.{answer_line, state_lines, report}
-use Rattle.editlens_main.specs.declared.status.Status.TheVariants.{Done, ProgramRefused}
+use Rattle.editlens_main.specs.Run.{run, any_refused}
+use Rattle.editlens_main.specs.Report.{answer_line, state_lines, run_report, report, refusal_line}
+use Rattle.editlens_main.specs.declared.status.Status.TheVariants.{Done, SomeRefused, ProgramRefused}
 
 -- lines keep their LF when a text is cut; what follows the last one is a line where it is not empty
 cut_twice : cut (codes "ab" ++ 10 ∷ 10 ∷ codes "c") ≡ (codes "ab" ++ 10 ∷ []) ∷ (10 ∷ []) ∷ codes "c" ∷ []
@@ -94,7 +94,7 @@ line_of_a_refusal : answer_line 3 (no_apply 0 Place) ≡ codes "refused 3 no-app
 unfolding digits serde_json_on_literals
 line_of_a_refusal = refl
 
-start_lines : state_lines ab (first ab) ≡ Some (codes "left {\"a\":0}" ++ 10 ∷ codes "right {\"b\":0}" ++ 10 ∷ codes "complement {\"rec\":[null]}" ++ 10 ∷ [])
+start_lines : state_lines ab (first ab) ≡ codes "left {\"a\":0}" ++ 10 ∷ codes "right {\"b\":0}" ++ 10 ∷ codes "complement {\"rec\":[null]}" ++ 10 ∷ []
 unfolding digits serde_json_on_literals
 start_lines = refl
 

@@ -1,16 +1,20 @@
 -- Every run from the first triple goes on to its end, and all its triples are in step.
-use Rattle.std.proofs.Common.{◌≡◌, ℕ, List, [], ◌∷◌, Option, Some, None, Result, Ok, Err, map, IsTrue, refl, sym, ap, subst}
+use Rattle.std.proofs.Common.{◌≡◌, ℕ, List, [], ◌∷◌, Option, Some, None, option_map, option_and_then, Result, Ok, Err, map, IsTrue, refl, sym, ap, subst, ◌∙◌}
 use Rattle.std.specs.List.{All, AllByRecursion}
 use Rattle.std.proofs.lemmas.List.Elements.{All-from_recursion}
 use Rattle.doc_values.specs.Documents.{DocTree}
+use Rattle.doc_values.specs.Types.{TyTree}
+use Rattle.doc_values.specs.Typing.{has}
 use Rattle.edit_module.specs.Words.{WordTree}
 use Rattle.edit_module.specs.Action.{act, Why}
+use Rattle.edit_module.specs.declared.side.Side.{Side}
 use Rattle.edit_module.specs.declared.side.Side.TheVariants.{Left, Right}
-use Rattle.lens_core.specs.Forms.{FormTree, left_type, right_type, paired_int, is_paired_int}
+use Rattle.lens_core.specs.Forms.{FormTree, left_type, right_type, is_paired_int}
 use Rattle.lens_core.specs.Complements.{CompTree}
 use Rattle.lens_core.specs.Translation.{translate}
-use Rattle.lens_core.proofs.Lawful.{starts_consistent, left_edits_carry, right_edits_carry}
-use Rattle.editlens_main.specs.Step.{TripleTree, first, IsInStep, AnswerTree, carried, left_acted, right_acted}
+use Rattle.lens_core.specs.Laws.{IsCarriedRight, IsCarriedLeft}
+use Rattle.lens_core.proofs.Lawful.{starts_consistent, consistent_is_typed, left_edits_carry, right_edits_carry}
+use Rattle.editlens_main.specs.Step.{TripleTree, first, IsInStep, AnswerTree, carried, left_done, left_acted, right_done, right_acted, step}
 use Rattle.editlens_main.specs.Run.{Item, take_item, run, triples}
 
 -- a step has a value, and its triple is in step
@@ -85,7 +89,12 @@ module _ (form : FormTree) (built : IsTrue (is_paired_int form)) where
       (first form ∷ map (λ s. s.0) r.0, rw r.1 refl, All-from_recursion (IsInStep form) (first form ∷ map (λ s. s.0) r.0) (h, r.2))
 
 -- the first triple is in step
-pub paired_first : (form : FormTree) (a b : List ℕ) (t : TripleTree) → form ≡ paired_int a b → t ≡ first form → IsInStep form t
-paired_first form a b t is start =
-    let built : IsTrue (is_paired_int form) = subst (λ f. IsTrue (is_paired_int f)) (sym is) refl in
-    subst (IsInStep form) (sym start) (starts_consistent form built)
+pub first_in_step : (form : FormTree) (t : TripleTree) → IsTrue (is_paired_int form) → t ≡ first form → IsInStep form t
+first_in_step form t built start = subst (IsInStep form) (sym start) (starts_consistent form built)
+
+-- the documents of a triple that is in step have their types
+pub left_typed : (form : FormTree) (t : TripleTree) (type : TyTree) → IsInStep form t → type ≡ left_type form → IsTrue (has type t.left)
+left_typed form t type h is = subst (λ u. IsTrue (has u t.left)) (sym is) (consistent_is_typed form t.left t.comp t.right h).left_has
+
+pub right_typed : (form : FormTree) (t : TripleTree) (type : TyTree) → IsInStep form t → type ≡ right_type form → IsTrue (has type t.right)
+right_typed form t type h is = subst (λ u. IsTrue (has u t.right)) (sym is) (consistent_is_typed form t.left t.comp t.right h).right_has

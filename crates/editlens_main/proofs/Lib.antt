@@ -11,5 +11,4 @@ pub mod Reading
 pub mod Reports
 pub mod Shapes
 pub mod Sizes
-pub mod States
 pub mod Written

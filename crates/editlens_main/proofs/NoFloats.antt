@@ -1,5 +1,5 @@
 -- What is written has no float, so its text is told.
-use Rattle.std.proofs.Common.{◌≡◌, ℕ, ℤ, pos, negsuc, List, [], ◌∷◌, false, refl}
+use Rattle.std.proofs.Common.{◌≡◌, ℕ, ℤ, pos, negsuc, List, [], ◌∷◌, Bool, false, refl}
 use Rattle.serde_json.specs.Written.{has_float, items_have_float}
 use Rattle.hold_shapes.specs.declared.edit.Place.{Place}
 use Rattle.hold_shapes.specs.declared.edit.Place.TheVariants as places
@@ -12,7 +12,7 @@ use Rattle.lens_core.specs.Complements.{CompTree, nil, rec_comp, CompTrees, no_c
 use Rattle.editlens_main.specs.ComplementJson.{complement_json, complement_items}
 use Rattle.editlens_main.specs.WordJson.{one, int_json, counts_items, atom_json, place_json, shape_json, primitive_json, word_items, word_json}
 
-pub int_whole : (n : ℤ) → has_float (int_json n) ≡ false
+int_whole : (n : ℤ) → has_float (int_json n) ≡ false
 int_whole (pos n) = refl
 int_whole (negsuc n) = refl
 
@@ -69,7 +69,3 @@ mutual
   parts_whole : (cs : CompTrees) → items_have_float (complement_items cs) ≡ false
   parts_whole no_comps = refl
   parts_whole (more_comps c cs) = rw (complement_whole c, parts_whole cs) refl
-
--- a record of one number
-pub record_whole : (name : List ℕ) (n : ℤ) → has_float (one name (int_json n)) ≡ false
-record_whole name n = rw (int_whole n) refl

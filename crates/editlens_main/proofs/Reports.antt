@@ -31,27 +31,21 @@ or_false true = refl
 or_false false = refl
 
 -- what is written for these steps, and then the state lines of the last triple
-abbrev rest_of : FormTree → TripleTree → ℕ → Bool → List (TripleTree × AnswerTree) → Option (List ℕ × Status)
-rest_of form t n refused steps = option_map (λ state. (answer_lines n steps ++ state, ending (refused || any_refused steps))) (state_lines form (last t steps))
-
-with_state : (n : ℕ) (refused : Bool) (t : TripleTree) (a : AnswerTree) (steps : List (TripleTree × AnswerTree)) (o : Option (List ℕ))
-    → option_map (λ state. (answer_lines n ((t, a) ∷ steps) ++ state, ending (refused || any_refused ((t, a) ∷ steps)))) o
-    ≡ option_map (behind_text (answer_line n a)) (option_map (λ state. (answer_lines (n + 1) steps ++ state, ending ((refused || is_refused a) || any_refused steps))) o)
-with_state n refused t a steps None = refl
-with_state n refused t a steps (Some state) =
-    ap₂ (λ text b. Some (text, ending b)) (append_assoc (answer_line n a) (answer_lines (n + 1) steps) state) (or_assoc refused (is_refused a) (any_refused steps))
+abbrev rest_of : FormTree → TripleTree → ℕ → Bool → List (TripleTree × AnswerTree) → List ℕ × Status
+rest_of form t n refused steps = (answer_lines n steps ++ state_lines form (last t steps), ending (refused || any_refused steps))
 
 with_steps : (form : FormTree) (t t' : TripleTree) (n : ℕ) (refused : Bool) (a : AnswerTree) (o : Option (List (TripleTree × AnswerTree)))
-    → option_and_then (rest_of form t n refused) (option_map (λ steps. (t', a) ∷ steps) o)
-    ≡ option_map (behind_text (answer_line n a)) (option_and_then (rest_of form t' (n + 1) (refused || is_refused a)) o)
+    → option_map (rest_of form t n refused) (option_map (λ steps. (t', a) ∷ steps) o)
+    ≡ option_map (behind_text (answer_line n a)) (option_map (rest_of form t' (n + 1) (refused || is_refused a)) o)
 with_steps form t t' n refused a None = refl
-with_steps form t t' n refused a (Some steps) = with_state n refused t' a steps (state_lines form (last t' steps))
+with_steps form t t' n refused a (Some steps) =
+    ap₂ (λ text b. Some (text, ending b)) (append_assoc (answer_line n a) (answer_lines (n + 1) steps) (state_lines form (last t' steps))) (or_assoc refused (is_refused a) (any_refused steps))
 
 -- an item is answered in front of the rest
 item_first : (form : FormTree) (t t' : TripleTree) (n : ℕ) (refused : Bool) (a : AnswerTree) (item : Item) (items : List Item) → take_item form t item ≡ Some (t', a)
     → report_from form t n refused (item ∷ items) ≡ option_map (behind_text (answer_line n a)) (report_from form t' (n + 1) (refused || is_refused a) items)
 item_first form t t' n refused a item items h =
-    ap (λ o. option_and_then (rest_of form t n refused) (option_and_then (λ (s : TripleTree × AnswerTree). option_map (λ steps. s ∷ steps) (run form s.0 items)) o)) h
+    ap (λ o. option_map (rest_of form t n refused) (option_and_then (λ (s : TripleTree × AnswerTree). option_map (λ steps. s ∷ steps) (run form s.0 items)) o)) h
     ∙ with_steps form t t' n refused a (run form t' items)
 
 two_texts : (text line : List ℕ) (o : Option (List ℕ × Status)) → option_map (behind_text text) (option_map (behind_text line) o) ≡ option_map (behind_text (text ++ line)) o
@@ -76,11 +70,8 @@ pub line_passed : (form : FormTree) (r : Running) (line : List ℕ) (lines : Lis
 line_passed form r line lines blank = ap (λ b. report_at form r (cond b (items_among lines) (entry_at line ∷ items_among lines))) blank
 
 -- behind the last line the state lines follow
-pub at_end : (form : FormTree) (r : Running) (state : List ℕ) → state_lines form (triple_tree r.triple) ≡ Some state
-    → report_at form r [] ≡ Some (r.text.items ++ state, ending r.refused)
-at_end form r state h =
-    ap (λ o. option_map (behind_text r.text.items) (option_map (λ s. ([] ++ s, ending (r.refused || false))) o)) h
-    ∙ ap (λ b. Some (r.text.items ++ state, ending b)) (or_false r.refused)
+pub at_end : (form : FormTree) (r : Running) → report_at form r [] ≡ Some (r.text.items ++ state_lines form (triple_tree r.triple), ending r.refused)
+at_end form r = ap (λ b. Some (r.text.items ++ state_lines form (triple_tree r.triple), ending b)) (or_false r.refused)
 
 none_in_front : (o : Option (List ℕ × Status)) → option_map (behind_text []) o ≡ o
 none_in_front None = refl

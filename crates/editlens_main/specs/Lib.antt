@@ -1,9 +1,7 @@
 pub mod ComplementJson
-pub mod DocumentJson
 pub mod Ends
 pub mod Entries
 pub mod Gives
-pub mod Lens
 pub mod Lines
 pub mod Program
 pub mod Report

@@ -1,5 +1,5 @@
 -- The report of a whole input: all that `run` writes for it, and how it ends.
-use Rattle.std.specs.Prelude.{ℕ, ◌+◌, List, [], ◌∷◌, ◌++◌, Bool, true, false, Option, Some, None, option_map, option_and_then, map, codes, decimal}
+use Rattle.std.specs.Prelude.{ℕ, ◌+◌, List, [], ◌∷◌, ◌++◌, Bool, true, false, Option, Some, None, option_map, map, codes, decimal, if◌then◌else◌}
 use Rattle.serde_json.specs.Data.{Data}
 use Rattle.serde_json.specs.Written.{compact_text}
 use Rattle.edit_module.specs.declared.side.Side.{Side}
@@ -7,13 +7,13 @@ use Rattle.edit_module.specs.declared.side.Side.TheVariants.{Left, Right}
 use Rattle.edit_module.specs.declared.fault.Cause.{Cause}
 use Rattle.edit_module.specs.declared.fault.Cause.TheVariants.{Kind, Place, Tag, Range, Overflow, Value, Present, Length, Deep}
 use Rattle.lens_core.specs.Forms.{FormTree, left_type, right_type, paired_int}
+use Rattle.value_json.specs.DocumentJson.{tree_of_document}
 use Rattle.editlens_main.specs.Lines.{program_part, journal}
 use Rattle.editlens_main.specs.Program.{names_of}
 use Rattle.editlens_main.specs.Entries.{entry_at}
 use Rattle.editlens_main.specs.Step.{TripleTree, first, AnswerTree, carried, no_apply, not_built}
 use Rattle.editlens_main.specs.Run.{Item, run, last, any_refused}
 use Rattle.editlens_main.specs.WordJson.{word_json}
-use Rattle.editlens_main.specs.DocumentJson.{document_json}
 use Rattle.editlens_main.specs.ComplementJson.{complement_json}
 use Rattle.editlens_main.specs.declared.status.Status.{Status}
 use Rattle.editlens_main.specs.declared.status.Status.TheVariants.{Done, SomeRefused, ProgramRefused}
@@ -49,11 +49,11 @@ answer_lines n (s ∷ steps) = answer_line n s.1 ++ answer_lines (n + 1) steps
 abbrev pub tree_line : List ℕ → Data → List ℕ
 tree_line label tree = label ++ codes " " ++ compact_text tree ++ 10 ∷ []
 
-abbrev pub state_lines : FormTree → TripleTree → Option (List ℕ)
+abbrev pub state_lines : FormTree → TripleTree → List ℕ
 state_lines form t =
-    option_and_then (λ left. option_map (λ right.
-    tree_line (codes "left") left ++ tree_line (codes "right") right ++ tree_line (codes "complement") (complement_json t.comp))
-    (document_json (right_type form) t.right)) (document_json (left_type form) t.left)
+    tree_line (codes "left") (tree_of_document (left_type form) t.left)
+    ++ tree_line (codes "right") (tree_of_document (right_type form) t.right)
+    ++ tree_line (codes "complement") (complement_json t.comp)
 
 -- how a run ends that nothing stopped
 abbrev pub ending : Bool → Status
@@ -63,8 +63,8 @@ ending false = Done
 -- the answer lines of the run of these items, then the state lines of its last triple
 abbrev pub run_report : FormTree → List Item → Option (List ℕ × Status)
 run_report form items =
-    option_and_then (λ steps. option_map (λ state. (answer_lines 1 steps ++ state, ending (any_refused steps)))
-    (state_lines form (last (first form) steps))) (run form (first form) items)
+    option_map (λ steps. (answer_lines 1 steps ++ state_lines form (last (first form) steps), ending (any_refused steps)))
+    (run form (first form) items)
 
 -- the lens of a program part, where it is accepted
 abbrev pub form_of : List ℕ → Option FormTree

@@ -1,14 +1,12 @@
 -- The report once more, in the form of the code: what a run has written, and what it will write for the items that are left.
 -- proofs/Reports.antt shows that it is the report.
-use Rattle.std.specs.Prelude.{ℕ, ℤ, pos, ◌+◌, List, [], ◌∷◌, ◌++◌, Bool, ◌||◌, Option, option_map, option_and_then, if◌then◌else◌}
-use Rattle.doc_values.specs.Documents.{DocTree, rec, int, more_docs}
+use Rattle.std.specs.Prelude.{ℕ, ◌+◌, List, [], ◌∷◌, ◌++◌, Bool, ◌||◌, Option, option_map, if◌then◌else◌}
 use Rattle.lens_core.specs.Forms.{FormTree}
-use Rattle.editlens_main.specs.WordJson.{one, int_json}
 use Rattle.editlens_main.specs.Lines.{is_blank}
 use Rattle.editlens_main.specs.Entries.{entry_at}
 use Rattle.editlens_main.specs.Step.{TripleTree}
 use Rattle.editlens_main.specs.Run.{Item, run, last, any_refused}
-use Rattle.editlens_main.specs.Report.{answer_lines, tree_line, state_lines, ending}
+use Rattle.editlens_main.specs.Report.{answer_lines, state_lines, ending}
 use Rattle.editlens_main.specs.Views.{triple_tree}
 use Rattle.editlens_main.specs.declared.status.Status.{Status}
 use Rattle.editlens_main.specs.declared.report.Running.{Running}
@@ -21,8 +19,8 @@ items_among (line ∷ lines) = if is_blank line then items_among lines else entr
 -- what is written from a triple on, where the next item has this number and some item before may have been refused
 abbrev pub report_from : FormTree → TripleTree → ℕ → Bool → List Item → Option (List ℕ × Status)
 report_from form t n refused items =
-    option_and_then (λ steps. option_map (λ state. (answer_lines n steps ++ state, ending (refused || any_refused steps)))
-    (state_lines form (last t steps))) (run form t items)
+    option_map (λ steps. (answer_lines n steps ++ state_lines form (last t steps), ending (refused || any_refused steps)))
+    (run form t items)
 
 -- a text in front of a report
 abbrev pub behind_text : List ℕ → List ℕ × Status → List ℕ × Status
@@ -31,11 +29,3 @@ behind_text text r = (text ++ r.0, r.1)
 -- what a run has written and what it will write for the items that are left
 abbrev pub report_at : FormTree → Running → List Item → Option (List ℕ × Status)
 report_at form r items = option_map (behind_text r.text.items) (report_from form (triple_tree r.triple) (r.number + 1) r.refused items)
-
--- the line of a record of one int field
-abbrev pub number_of : DocTree → ℤ
-number_of (rec (more_docs (int n) ds)) = n
-number_of _ = pos 0
-
-abbrev pub record_of : List ℕ → List ℕ → DocTree → List ℕ
-record_of label name doc = tree_line label (one name (int_json (number_of doc)))

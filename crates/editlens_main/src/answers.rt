@@ -1,31 +1,26 @@
 //! The lines that a run writes.
-ghost use Rattle.std.specs.Prelude.{◌≡◌, ◌++◌, false, codes, IsTrue, IfOk, Some, string_bytes};
-ghost use Rattle.serde_json.specs.View.{view};
-ghost use Rattle.serde_json.specs.Written.{has_float, compact_text};
+ghost use Rattle.std.specs.Prelude.{◌≡◌, ◌++◌, false, codes, IsTrue, IfOk, string_bytes};
 ghost use Rattle.doc_values.specs.Documents.{doc_tree};
-ghost use Rattle.doc_values.specs.Types.{ty_rec, ty_int, field, no_fields};
+ghost use Rattle.doc_values.specs.Types.{ty_tree, is_well_formed};
 ghost use Rattle.doc_values.specs.Typing.{has};
 ghost use Rattle.lens_core.specs.Complements.{comp_tree};
 ghost use Rattle.lens_core.specs.Forms.{form_tree};
+ghost use Rattle.value_json.specs.DocumentJson.{tree_of_document};
 ghost use Rattle.editlens_main.specs.ComplementJson.{complement_json};
-ghost use Rattle.editlens_main.specs.Running.{record_of};
-ghost use Rattle.editlens_main.specs.Lens.{HasItsNames};
 ghost use Rattle.editlens_main.specs.Report.{side_text, cause_text, answer_line, tree_line, state_lines};
 ghost use Rattle.editlens_main.specs.Run.{is_refused};
 ghost use Rattle.editlens_main.specs.Step.{IsInStep, carried, no_apply, not_built};
 ghost use Rattle.edit_module.specs.Views.{word_tree};
 ghost use Rattle.editlens_main.specs.Views.{triple_tree, answer_tree};
 
-use crate::documents::{only_number, write_complement, write_record};
-use crate::lens::Lens;
+use crate::complements::write_complement;
 use crate::step::{Answer, Triple};
 use crate::writing::word_text;
-use doc_values::Doc;
+use doc_values::{Doc, Ty};
 use edit_module::{Cause, Side, Word};
-use hold_shapes::Name;
-use lens_core::Comp;
-use serde_json::Value;
+use lens_core::{Comp, Typed};
 use std::alloc::{AllocError, Global};
+use value_json::{write_compact, write_doc_text};
 
 impl Answer {
     /// Whether the item was refused.
@@ -101,27 +96,26 @@ fn cause_text(cause: Cause) -> &'static str
 }
 
 /// The state lines of a triple.
-#[tactic(auto, using(crate::proofs::States::left_typed, crate::proofs::States::right_typed))]
-pub fn state_lines(alloc: Global, lens: &Lens, triple: &Triple) -> Result<String, AllocError>
-    requires names { HasItsNames lens.now }
-    requires in_step { IsInStep (form_tree lens.now.typed) (triple_tree triple.now) }
-    ensures { IfOk result (λ text. state_lines (form_tree lens.now.typed) (triple_tree triple.now) ≡ Some (string_bytes text)) }
+pub fn state_lines(alloc: Global, lens: &Typed, triple: &Triple) -> Result<String, AllocError>
+    requires { IsInStep (form_tree lens.now) (triple_tree triple.now) }
+    ensures { IfOk result (λ text. string_bytes text ≡ state_lines (form_tree lens.now) (triple_tree triple.now)) }
 {
-    let left = record_line(alloc, "left", &lens.left, &triple.left)?;
-    let right = record_line(alloc, "right", &lens.right, &triple.right)?;
+    let left = document_line(alloc, "left", lens.left(), &triple.left)?;
+    let right = document_line(alloc, "right", lens.right(), &triple.right)?;
     let comp = complement_line(alloc, &triple.comp)?;
     let text = three_lines(left, right.as_str(), comp.as_str())?;
     Ok(text)
 }
 
-// A label, and a record of one int field.
-#[tactic(auto, using(crate::proofs::NoFloats::record_whole))]
-fn record_line(alloc: Global, label: &str, name: &Name, doc: &Doc) -> Result<String, AllocError>
-    requires { IsTrue (has (ty_rec (field name.now ty_int no_fields)) (doc_tree doc.now)) }
-    ensures { IfOk result (λ line. string_bytes line ≡ record_of label.now name.now (doc_tree doc.now)) }
+// A label, and the compact text of a document.
+fn document_line(alloc: Global, label: &str, ty: &Ty, doc: &Doc) -> Result<String, AllocError>
+    requires well_formed { IsTrue (is_well_formed (ty_tree ty.now)) }
+    requires typed { IsTrue (has (ty_tree ty.now) (doc_tree doc.now)) }
+    ensures { IfOk result (λ line. string_bytes line ≡ tree_line label.now (tree_of_document (ty_tree ty.now) (doc_tree doc.now))) }
 {
-    let tree = write_record(alloc, name, only_number(name, doc))?;
-    tree_line(alloc, label, &tree)
+    let json = write_doc_text(alloc, ty, doc)?;
+    let line = format!(in alloc; "{label} {json}\n")?;
+    Ok(line)
 }
 
 #[tactic(auto, using(crate::proofs::NoFloats::complement_whole))]
@@ -129,7 +123,9 @@ fn complement_line(alloc: Global, comp: &Comp) -> Result<String, AllocError>
     ensures { IfOk result (λ line. string_bytes line ≡ tree_line (codes "complement") (complement_json (comp_tree comp.now))) }
 {
     let tree = write_complement(alloc, comp)?;
-    tree_line(alloc, "complement", &tree)
+    let json = write_compact(alloc, &tree)?;
+    let line = format!(in alloc; "complement {json}\n")?;
+    Ok(line)
 }
 
 fn three_lines(first: String, second: &str, third: &str) -> Result<String, AllocError>
@@ -139,14 +135,4 @@ fn three_lines(first: String, second: &str, third: &str) -> Result<String, Alloc
     text.push_str(second)?;
     text.push_str(third)?;
     Ok(text)
-}
-
-// A label, and the compact text of a tree.
-fn tree_line(alloc: Global, label: &str, tree: &Value) -> Result<String, AllocError>
-    requires { has_float (view tree.now) ≡ false }
-    ensures { IfOk result (λ line. string_bytes line ≡ tree_line label.now (view tree.now)) }
-{
-    let json = tree.to_string(alloc)?;
-    let line = format!(in alloc; "{label} {json}\n")?;
-    Ok(line)
 }

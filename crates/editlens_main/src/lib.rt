@@ -7,9 +7,8 @@
 #![tactic(auto)]
 
 mod answers;
-mod documents;
+mod complements;
 mod entries;
-mod lens;
 mod lines;
 mod program;
 mod report;

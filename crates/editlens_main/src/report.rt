@@ -2,7 +2,6 @@
 ghost use Rattle.std.specs.Prelude.{◌≡◌, ◌+◌, ◌^◌, ◌<◌, List, ℕ, ◌∷◌, false, ◌||◌, IsTrue, IfOk, Some, map, ◌≤◌};
 ghost use Rattle.lens_core.specs.Forms.{form_tree, is_paired_int};
 ghost use Rattle.editlens_main.specs.Entries.{entry_at};
-ghost use Rattle.editlens_main.specs.Lens.{HasItsNames};
 ghost use Rattle.editlens_main.specs.Lines.{cut, bare, is_blank};
 ghost use Rattle.editlens_main.specs.Report.{ending, report, run_report};
 ghost use Rattle.editlens_main.specs.Run.{take_item};
@@ -13,7 +12,6 @@ ghost use Rattle.editlens_main.specs.Views.{triple_tree, answer_tree};
 use crate::Status;
 use crate::answers::{answer_line, state_lines};
 use crate::entries::{EntryFault, read_entry};
-use crate::lens::Lens;
 use crate::lines::{first_line, is_blank, part_script, without_end};
 use crate::program::read_program;
 use crate::step::{Answer, Triple, step};
@@ -47,7 +45,7 @@ pub fn make_report(alloc: Global, bytes: &[u8]) -> Result<Report, AllocError>
     let script = part_script(bytes);
     match read_program(alloc, script.program)? {
         Some((left, right)) => {
-            let lens = Lens::new(alloc, left, right)?;
+            let lens = Typed::paired_int(alloc, left, right)?;
             let report = run_journal(alloc, &lens, script.journal)?;
             Ok(report)
         }
@@ -59,20 +57,20 @@ pub fn make_report(alloc: Global, bytes: &[u8]) -> Result<Report, AllocError>
 }
 
 // The report of the items among the lines of a journal.
-fn run_journal(alloc: Global, lens: &Lens, journal: &[u8]) -> Result<Report, AllocError>
-    requires { HasItsNames lens.now }
-    ensures { IfOk result (λ r. run_report (form_tree lens.now.typed) (items_among (map bare (cut journal.now))) ≡ Some (r.text.items, r.status)) }
+fn run_journal(alloc: Global, lens: &Typed, journal: &[u8]) -> Result<Report, AllocError>
+    requires { IsTrue (is_paired_int (form_tree lens.now)) }
+    ensures { IfOk result (λ r. run_report (form_tree lens.now) (items_among (map bare (cut journal.now))) ≡ Some (r.text.items, r.status)) }
 {
     let most = journal.len() as u64;
     let mut running = Running {
-        triple: first_triple(alloc, &lens.typed)?,
+        triple: first_triple(alloc, lens)?,
         number: 0,
         refused: false,
         text: Vec::new(alloc),
     };
     let mut rest = journal;
     'lines: while let Some((line, behind)) = first_line(rest) {
-        running = take_line(alloc, &lens.typed, running, without_end(line))?;
+        running = take_line(alloc, lens, running, without_end(line))?;
         rest = behind;
     }
     let state = state_lines(alloc, lens, &running.triple)?;

@@ -13,13 +13,15 @@ use edit_module::{Atom, Word};
 use hold_shapes::{Name, Path, Place, ShapeEdit};
 use serde_json::{Map, Value};
 use std::alloc::{AllocError, Global};
+use value_json::write_compact;
 
 /// The compact text of a word.
 #[tactic(auto, using(crate::proofs::NoFloats::word_whole))]
 pub fn word_text(alloc: Global, word: &Word) -> Result<String, AllocError>
     ensures { IfOk result (λ text. string_bytes text ≡ compact_text (word_json (word_tree word.now))) }
 {
-    write_word(alloc, word)?.to_string(alloc)
+    let tree = write_word(alloc, word)?;
+    write_compact(alloc, &tree)
 }
 
 /// An object with one member.

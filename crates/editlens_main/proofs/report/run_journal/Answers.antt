@@ -4,7 +4,7 @@ use Rattle.editlens_main.specs.Lines.{cut, bare}
 use Rattle.editlens_main.specs.Running.{items_among, report_at}
 use Rattle.editlens_main.specs.Views.{triple_tree}
 use Rattle.editlens_main.specs.declared.report.Running.{Running}
-use Rattle.editlens_main.proofs.InStep.{paired_first}
+use Rattle.editlens_main.proofs.InStep.{first_in_step}
 use Rattle.editlens_main.proofs.Reports.{at_start, at_end}
 use Rattle.editlens_main.proofs.report.run_journal.Goals as goal
 
@@ -12,14 +12,14 @@ pub lines-init : goal.lines-init
 lines-init c =
     let start : Running = record { triple = c.in_ok-first_triple.field-0; number = 0; refused = false; text = c.new.result } in
     record {
-      reports = at_start (form_tree c.args.lens.now.typed) start (items_among (map bare (cut c.args.journal.now))) c.in_ok-first_triple.ensures refl refl c.new.ensures.items;
-      in_step = paired_first (form_tree c.args.lens.now.typed) c.args.lens.now.left c.args.lens.now.right (triple_tree c.in_ok-first_triple.field-0) c.requires c.in_ok-first_triple.ensures;
+      reports = at_start (form_tree c.args.lens.now) start (items_among (map bare (cut c.args.journal.now))) c.in_ok-first_triple.ensures refl refl c.new.ensures.items;
+      in_step = first_in_step (form_tree c.args.lens.now) (triple_tree c.in_ok-first_triple.field-0) c.requires c.in_ok-first_triple.ensures;
       number = omega arith;
     }
 
 pub lines-preserved : goal.lines-preserved
 lines-preserved c =
-    let form = form_tree c.args.lens.now.typed in
+    let form = form_tree c.args.lens.now in
     let later = map bare (cut c.in-Some.behind.now) in
     let parts = c.in-Some.ensures in
     let taken = c.in_ok-running.ensures in
@@ -34,10 +34,10 @@ lines-preserved c =
 
 pub returns : goal.returns
 returns c =
-    let form = form_tree c.args.lens.now.typed in
+    let form = form_tree c.args.lens.now in
     let running = c.lines.running in
-    let text = c.in_ok-extend_from_slice.ensures.items ∙ ap (λ x. running.text.items ++ x) c.as_bytes.ensures.value in
+    let text = c.in_ok-extend_from_slice.ensures.items ∙ ap (λ x. running.text.items ++ x) (c.as_bytes.ensures.value ∙ c.in_ok-state.ensures) in
     sym c.lines.invariant.reports
     ∙ ap (λ lines. report_at form running (items_among (map bare lines))) c.in_default.ensures
-    ∙ at_end form running _ c.in_ok-state.ensures
+    ∙ at_end form running
     ∙ ap₂ (λ x s. Some (x, s)) (sym text) (sym c.ending-status.ensures)

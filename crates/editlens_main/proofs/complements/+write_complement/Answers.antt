@@ -6,7 +6,7 @@ use Rattle.lens_core.specs.Complements.{comp_tree}
 use Rattle.editlens_main.specs.ComplementJson.{complement_items}
 use Rattle.editlens_main.proofs.Sizes.{comp_size, comps_size, part_size}
 use Rattle.editlens_main.proofs.Written.{items_of_parts}
-use Rattle.editlens_main.proofs.documents.+write_complement.Goals as goal
+use Rattle.editlens_main.proofs.complements.+write_complement.Goals as goal
 
 pub write_parts-write_complement-requires : goal.write_parts-write_complement-requires
 write_parts-write_complement-requires t c =
