@@ -1,0 +1,75 @@
+-- The definitions on small cases.
+use Rattle.std.proofs.Common.{◌≡◌, pos, negsuc, true, false, [], ◌∷◌, Some, None, Ok, Err, codes, refl}
+use Rattle.std.specs.Str.{is_utf8, chars}
+use lib.Utf8.{encode}
+use Rattle.serde_json.specs.Data.{null, string, array, object, no_items, item, no_members, member}
+use Rattle.serde_json.proofs.OnLiterals.{serde_json_on_literals}
+use Rattle.value_json.specs.Numbers.{count_tree, int_tree}
+use Rattle.edit_module.specs.Words.{add, done, then}
+use Rattle.edit_module.specs.declared.side.Side.TheVariants.{Left, Right}
+use Rattle.edit_json.specs.WordJson.{primitive_of}
+use Rattle.edit_journal.specs.Lines.{line_of, is_blank}
+use Rattle.edit_journal.specs.EntryJson.{tree_of_entry, parts_of, entry_of_tree, tree_of_line, entry_of_line}
+use Rattle.edit_journal.specs.declared.line.Line.TheVariants.{Text, TooLong}
+use Rattle.edit_journal.specs.declared.fault.EntryFault.TheVariants.{LineTooLong, NotJson, NotAnEntry, NotAnEdit}
+
+-- ---- lines
+
+short : line_of (codes "ab") ≡ Text (codes "ab")
+short = refl
+
+-- a space, a tab and a CR; and a vertical tab, which is none of these
+blank : is_blank (Text (32 ∷ 9 ∷ 13 ∷ [])) ≡ true
+blank = refl
+
+not_blank : is_blank (Text (32 ∷ 11 ∷ [])) ≡ false
+not_blank = refl
+
+-- ---- trees
+
+-- {"edit":[{"add":-1}],"side":"right"}
+written : tree_of_entry (Right, then (add (negsuc 0)) done)
+    ≡ object (member (codes "edit") (array (item (object (member (codes "add") (int_tree (negsuc 0)) no_members)) no_items)) (member (codes "side") (string (codes "right")) no_members))
+written = refl
+
+read_back : entry_of_tree (tree_of_entry (Right, then (add (negsuc 0)) done)) ≡ Ok (Right, then (add (negsuc 0)) done)
+unfolding primitive_of
+read_back = refl
+
+-- what the edit is does not count for the form of an entry: {"edit":null,"side":"left"}
+any_edit : parts_of (object (member (codes "edit") null (member (codes "side") (string (codes "left")) no_members))) ≡ Some (Left, null)
+any_edit = refl
+
+-- {"edit":[],"note":null,"side":"left"}
+extra_member : parts_of (object (member (codes "edit") (array no_items) (member (codes "note") null (member (codes "side") (string (codes "left")) no_members)))) ≡ None
+extra_member = refl
+
+-- {"edit":[],"side":1}
+number_for_a_side : parts_of (object (member (codes "edit") (array no_items) (member (codes "side") (count_tree 1) no_members))) ≡ None
+number_for_a_side = refl
+
+-- ---- lines as entries, and the four refusals
+
+entry : entry_of_line (line_of (codes "{\"side\":\"left\",\"edit\":[{\"add\":7}]}")) ≡ Ok (Left, then (add (pos 7)) done)
+unfolding primitive_of is_utf8 chars encode serde_json_on_literals
+entry = refl
+
+too_long : entry_of_line TooLong ≡ Err LineTooLong
+too_long = refl
+
+not_json : entry_of_line (line_of (codes "{")) ≡ Err NotJson
+unfolding is_utf8 chars encode serde_json_on_literals
+not_json = refl
+
+-- a byte that is no text
+not_utf8 : tree_of_line (34 ∷ 255 ∷ 34 ∷ []) ≡ None
+unfolding is_utf8 chars encode
+not_utf8 = refl
+
+not_an_entry : entry_of_line (line_of (codes "{\"side\":\"up\",\"edit\":0}")) ≡ Err NotAnEntry
+unfolding is_utf8 chars encode serde_json_on_literals
+not_an_entry = refl
+
+not_an_edit : entry_of_line (line_of (codes "{\"side\":\"left\",\"edit\":[{\"ins\":0}]}")) ≡ Err NotAnEdit
+unfolding primitive_of is_utf8 chars encode serde_json_on_literals
+not_an_edit = refl

@@ -1,0 +1,4 @@
+mod Examples
+pub mod Texts
+pub mod Entries
+pub mod Apart

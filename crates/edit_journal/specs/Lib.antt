@@ -1,0 +1,3 @@
+pub mod Lines
+pub mod EntryJson
+pub mod Reading

@@ -1,0 +1,40 @@
+//! Why a line was not read.
+
+use std::alloc::{AllocError, AllocFailed};
+
+/// Why a line was not read as an entry. A line is tested in the order of these variants.
+#[derive(Clone, Copy, Debug, PartialEq, Eq, Drop)]
+pub enum EntryFault {
+    /// The line is too long.
+    LineTooLong,
+    /// The text of the line is no JSON.
+    NotJson,
+    /// The tree of the line is not the form of an entry.
+    NotAnEntry,
+    /// The tree is the form of an entry, and its edit is no word.
+    NotAnEdit,
+    /// Memory ran out, which says nothing of the line.
+    NoMemory,
+}
+
+impl From<AllocError> for EntryFault {
+    ghost use Rattle.std.specs.Prelude.{◌≡◌};
+    ghost use Rattle.edit_journal.specs.declared.fault.EntryFault.TheVariants.{NoMemory};
+
+    ghost from_gives = { λ _ fault. fault ≡ NoMemory };
+
+    fn from(_: AllocError) -> EntryFault {
+        EntryFault::NoMemory
+    }
+}
+
+impl<T: Drop> From<AllocFailed<T>> for EntryFault {
+    ghost use Rattle.std.specs.Prelude.{◌≡◌};
+    ghost use Rattle.edit_journal.specs.declared.fault.EntryFault.TheVariants.{NoMemory};
+
+    ghost from_gives = { λ _ fault. fault ≡ NoMemory };
+
+    fn from(_: AllocFailed<T>) -> EntryFault {
+        EntryFault::NoMemory
+    }
+}

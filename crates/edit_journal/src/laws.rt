@@ -1,0 +1,41 @@
+//! Laws of entries and their trees.
+//!
+//! Each function here does nothing: its clauses are the laws, for other crates to rest on.
+
+ghost use Rattle.std.specs.Prelude.{◌≡◌, ◌≤◌, ◌*◌, ◌+◌, true, false, Some, Ok};
+ghost use Rattle.serde_json.specs.Data.{Data, depth};
+ghost use Rattle.serde_json.specs.Written.{has_float};
+ghost use Rattle.edit_module.specs.declared.side.Side.{Side};
+ghost use Rattle.edit_module.specs.Words.{WordTree};
+ghost use Rattle.edit_json.specs.WordJson.{tree_of_word, counts_fit, numbers_fit};
+ghost use Rattle.edit_json.specs.Depths.{word_depth};
+ghost use Rattle.edit_journal.specs.EntryJson.{tree_of_entry, parts_of, entry_of_tree};
+
+/// Two entries never have the same tree, whatever their counts and numbers are.
+pub fn trees_differ()
+    ensures { (one other : Side × WordTree)
+        → tree_of_entry one ≡ tree_of_entry other → one ≡ other }
+{}
+
+/// Reading a tree and writing it are inverse.
+pub fn reading_inverts_writing()
+    // An entry whose counts and numbers fit is what its tree reads as.
+    ensures again { (entry : Side × WordTree) → counts_fit entry.1 ≡ true
+        → numbers_fit entry.1 ≡ true → entry_of_tree (tree_of_entry entry) ≡ Ok entry }
+
+    // What a tree reads as has counts and numbers that fit, and has this tree.
+    ensures taken { (tree : Data) (entry : Side × WordTree) → entry_of_tree tree ≡ Ok entry
+        → (counts_fit entry.1 ≡ true) × (numbers_fit entry.1 ≡ true)
+        × (tree_of_entry entry ≡ tree) }
+
+    // The parts of a tree are those of the entries that have it.
+    ensures parts { (entry : Side × WordTree)
+        → parts_of (tree_of_entry entry) ≡ Some (entry.0, tree_of_word entry.1) }
+{}
+
+/// The tree of an entry has no float, and nests one deeper than the tree of a word may.
+pub fn trees_are_shallow()
+    ensures no_float { (entry : Side × WordTree) → has_float (tree_of_entry entry) ≡ false }
+    ensures nests { (entry : Side × WordTree)
+        → depth (tree_of_entry entry) ≤ 3 * word_depth entry.1 + 2 }
+{}

@@ -1,0 +1,31 @@
+-- The counts of a word, primitive by primitive.
+use Rattle.std.proofs.Math.Seq.{drop-cons}
+use Rattle.std.proofs.lemmas.List.{drop_all}
+use Rattle.std.proofs.Common.{◌≡◌, ℕ, suc, ◌+◌, add-one, ◌<◌, ◌≤◌, Bool, true, false, ◌&&◌, List, ◌∷◌, map, drop, length, get_or, refl, sym, ap, ◌∙◌}
+use Rattle.edit_module.specs.Words as words
+use Rattle.edit_module.specs.Views.{primitive_tree}
+use Rattle.edit_module.specs.declared.word.Primitive.{Primitive}
+use Rattle.edit_json.specs.WordJson.{primitive_counts_fit, counts_fit}
+
+-- what is left begins with the primitive at the index
+left_primitives : (ps : List Primitive) (i : ℕ) (p : Primitive) → i < length ps → p ≡ get_or ps i p → drop i ps ≡ p ∷ drop (i + 1) ps
+left_primitives ps i p within is = rw (add-one, drop-cons ps i p within) (ap (λ x. x ∷ drop (suc i) ps) (sym is))
+
+fits_first : (p b : Bool) → p ≡ true → (p && b) ≡ b
+fits_first p b h = rw h refl
+
+fails_first : (p b : Bool) → p ≡ false → (p && b) ≡ false
+fails_first p b h = rw h refl
+
+pub next_fits : (ps : List Primitive) (i : ℕ) (p : Primitive) → i < length ps → p ≡ get_or ps i p → primitive_counts_fit (primitive_tree p) ≡ true
+    → counts_fit (words.word_of (map primitive_tree (drop i ps))) ≡ counts_fit (words.word_of (map primitive_tree (drop (i + 1) ps)))
+next_fits ps i p within is h = ap (λ qs. counts_fit (words.word_of (map primitive_tree qs))) (left_primitives ps i p within is) ∙ fits_first _ _ h
+
+pub next_fails : (ps : List Primitive) (i : ℕ) (p : Primitive) → i < length ps → p ≡ get_or ps i p → primitive_counts_fit (primitive_tree p) ≡ false
+    → counts_fit (words.word_of (map primitive_tree (drop i ps))) ≡ false
+next_fails ps i p within is h = ap (λ qs. counts_fit (words.word_of (map primitive_tree qs))) (left_primitives ps i p within is) ∙ fails_first _ _ h
+
+pub all_fit : (ps : List Primitive) (i : ℕ) → length ps ≤ i → counts_fit (words.word_of (map primitive_tree (drop i ps))) ≡ true
+all_fit ps i past = ap (λ qs. counts_fit (words.word_of (map primitive_tree qs))) (drop_all i ps past)
+
+pub ruleset count_rules = (next_fits, next_fails, all_fit)

@@ -1,0 +1,6 @@
+pub mod Parts
+pub mod Kinds
+pub mod Values
+pub mod WordJson
+pub mod Depths
+pub mod Reading
