@@ -1,6 +1,5 @@
 -- The definitions, tried on small examples.
-use Rattle.std.proofs.Common.{◌≡◌, ℕ, pos, negsuc, List, [], ◌∷◌, ◌++◌, true, false, Option, Some, None, codes, refl}
-use Rattle.serde_json.specs.Data.{Data, boolean, number, string, array, object, unsigned, negative, no_items, item, no_members, member}
+use Rattle.std.proofs.Common.{◌≡◌, ℕ, pos, negsuc, List, [], ◌∷◌, ◌++◌, true, false, Option, Some, None, Ok, Err, codes, refl}
 use Rattle.doc_values.specs.Documents.{rec, int, more_docs, no_docs}
 use Rattle.edit_module.specs.Words.{set, at, done, then}
 use Rattle.edit_module.specs.declared.atom.Atom.TheVariants.{Truth, Number}
@@ -12,10 +11,11 @@ use Rattle.std.specs.Fmt.{digits}
 use Rattle.serde_json.proofs.OnLiterals.{serde_json_on_literals}
 use Rattle.program_tokens.specs.Words.{is_space, begins_word, in_word, keyword_of, mark_of}
 use Rattle.program_tokens.specs.Tokens.{piece_of, tokens_from}
-use Rattle.editlens_main.specs.Lines.{cut, bare, is_separator, is_blank, program_part, journal}
+use Rattle.edit_journal.specs.declared.fault.EntryFault.TheVariants.{NotAnEdit}
+use Rattle.edit_journal.specs.declared.line.Line.TheVariants.{Text}
+use Rattle.editlens_main.specs.Lines.{cut, bare, is_separator, program_part, journal}
 use Rattle.editlens_main.specs.Program.{names_of}
-use Rattle.editlens_main.specs.Entries.{set_of, entry_of}
-use Rattle.editlens_main.specs.Step.{TripleTree, first, carried, no_apply, not_built, step}
+use Rattle.editlens_main.specs.Step.{TripleTree, first, carried, no_apply, no_entry, step}
 use Rattle.editlens_main.specs.Run.{run, any_refused}
 use Rattle.editlens_main.specs.Report.{answer_line, state_lines, run_report, report, refusal_line}
 use Rattle.editlens_main.specs.declared.status.Status.TheVariants.{Done, SomeRefused, ProgramRefused}
@@ -38,7 +38,7 @@ separator_with_space = refl
 parts : program_part (codes "p" ++ 10 ∷ codes "---" ++ 10 ∷ 32 ∷ 13 ∷ 10 ∷ codes "---") ≡ codes "p" ++ 10 ∷ []
 parts = refl
 
-items : journal (codes "p" ++ 10 ∷ codes "---" ++ 10 ∷ 32 ∷ 13 ∷ 10 ∷ codes "---") ≡ codes "---" ∷ []
+items : journal (codes "p" ++ 10 ∷ codes "---" ++ 10 ∷ 32 ∷ 13 ∷ 10 ∷ codes "---") ≡ Text (codes "---") ∷ []
 items = refl
 
 no_separator : journal (codes "p" ++ 10 ∷ codes "q") ≡ []
@@ -51,17 +51,6 @@ names = refl
 keyword_for_a_name : names_of (codes "main {a ~ left: id int}") ≡ None
 unfolding piece_of tokens_from is_space begins_word in_word keyword_of mark_of digits serde_json_on_literals
 keyword_for_a_name = refl
-
--- `{"edit":[],"side":"right"}`
-empty_edit : entry_of (object (member (codes "edit") (array no_items) (member (codes "side") (string (codes "right")) no_members))) ≡ Some (Right, done)
-empty_edit = refl
-
--- `{"set":-7}`, and `{"set":9223372036854775808}`, which is no i64
-set_negative : set_of (object (member (codes "set") (number (negative (negsuc 6))) no_members)) ≡ Some (set (Number (negsuc 6)))
-set_negative = refl
-
-set_too_large : set_of (object (member (codes "set") (number (unsigned 9223372036854775808)) no_members)) ≡ None
-set_too_large = refl
 
 abbrev ab : FormTree
 ab = paired_int (codes "a") (codes "b")
@@ -82,8 +71,8 @@ no_truth : step ab (both 3) Left (then (at (codes "a") (then (set (Truth true)) 
 no_truth = refl
 
 -- the run of a line that is no entry, and of an edit
-run_of_two : run ab (first ab) (None ∷ Some (Right, then (at (codes "b") (then (set (Number (pos 1))) done)) done) ∷ [])
-    ≡ Some ((first ab, not_built) ∷ (both 1, carried Left (then (at (codes "a") (then (set (Number (pos 1))) done)) done)) ∷ [])
+run_of_two : run ab (first ab) (Err NotAnEdit ∷ Ok (Right, then (at (codes "b") (then (set (Number (pos 1))) done)) done) ∷ [])
+    ≡ Some ((first ab, no_entry NotAnEdit) ∷ (both 1, carried Left (then (at (codes "a") (then (set (Number (pos 1))) done)) done)) ∷ [])
 run_of_two = refl
 
 line_of_an_edit : answer_line 12 (carried Right (then (at (codes "b") (then (set (Number (negsuc 0))) done)) done)) ≡ codes "ok 12 right [{\"at\":[\"b\",[{\"set\":-1}]]}]" ++ 10 ∷ []
@@ -93,6 +82,10 @@ line_of_an_edit = refl
 line_of_a_refusal : answer_line 3 (no_apply 0 Place) ≡ codes "refused 3 no-apply 0 place" ++ 10 ∷ []
 unfolding digits serde_json_on_literals
 line_of_a_refusal = refl
+
+line_of_a_fault : answer_line 4 (no_entry NotAnEdit) ≡ codes "refused 4 not-an-edit" ++ 10 ∷ []
+unfolding digits serde_json_on_literals
+line_of_a_fault = refl
 
 start_lines : state_lines ab (first ab) ≡ codes "left {\"a\":0}" ++ 10 ∷ codes "right {\"b\":0}" ++ 10 ∷ codes "complement {\"rec\":[null]}" ++ 10 ∷ []
 unfolding digits serde_json_on_literals

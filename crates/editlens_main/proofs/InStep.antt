@@ -63,9 +63,9 @@ module _ (form : FormTree) (built : IsTrue (is_paired_int form)) where
   right_steps t w h (Err why) is = ((t, _), refl, h)
 
   pub item_steps : (t : TripleTree) (item : Item) → IsInStep form t → (s : TripleTree × AnswerTree) × (take_item form t item ≡ Some s) × IsInStep form s.0
-  item_steps t (Some (Left, w)) h = left_steps t w h _ refl
-  item_steps t (Some (Right, w)) h = right_steps t w h _ refl
-  item_steps t None h = ((t, _), refl, h)
+  item_steps t (Ok (Left, w)) h = left_steps t w h _ refl
+  item_steps t (Ok (Right, w)) h = right_steps t w h _ refl
+  item_steps t (Err fault) h = ((t, _), refl, h)
 
   -- so the triple after an item is in step
   pub item_in_step : (t : TripleTree) (item : Item) (s : TripleTree × AnswerTree) → IsInStep form t → take_item form t item ≡ Some s → IsInStep form s.0

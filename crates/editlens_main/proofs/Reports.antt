@@ -1,9 +1,10 @@
 -- The report in the form of the code is the report.
 use Rattle.std.proofs.Common.{◌≡◌, ℕ, ◌+◌, List, [], ◌∷◌, ◌++◌, Bool, true, false, not, ◌||◌, cond, Option, Some, None, option_map, option_and_then, map, refl, sym, ap, ap₂, ◌∙◌, append_assoc}
 use Rattle.lens_core.specs.Forms.{FormTree, paired_int}
-use Rattle.editlens_main.specs.Lines.{cut, bare, is_blank, journal_of, lines_behind, program_part}
+use Rattle.edit_journal.specs.Lines.{line_of, is_blank}
+use Rattle.edit_journal.specs.EntryJson.{entry_of_line}
+use Rattle.editlens_main.specs.Lines.{cut, bare, journal_of, lines_behind, program_part}
 use Rattle.editlens_main.specs.Program.{names_of}
-use Rattle.editlens_main.specs.Entries.{entry_at}
 use Rattle.editlens_main.specs.Step.{TripleTree, first, AnswerTree}
 use Rattle.editlens_main.specs.Run.{Item, take_item, run, last, is_refused, any_refused}
 use Rattle.editlens_main.specs.Report.{answer_line, answer_lines, state_lines, ending, run_report, form_of, items_of, report_with, report}
@@ -13,13 +14,13 @@ use Rattle.editlens_main.specs.declared.status.Status.{Status}
 use Rattle.editlens_main.specs.declared.report.Running.{Running}
 
 -- the items among the lines are those of the journal
-pub items_among-bare : (lines : List (List ℕ)) → items_among (map bare lines) ≡ map entry_at (journal_of lines)
+pub items_among-bare : (lines : List (List ℕ)) → items_among (map bare lines) ≡ map entry_of_line (journal_of lines)
 items_among-bare [] = refl
 items_among-bare (l ∷ ls) =
-    elim (is_blank (bare l)) as (λ b. cond b (items_among (map bare ls)) (entry_at (bare l) ∷ items_among (map bare ls))
-    ≡ map entry_at (cond (not b) (bare l ∷ journal_of ls) (journal_of ls))) [
+    elim (is_blank (line_of (bare l))) as (λ b. cond b (items_among (map bare ls)) (entry_of_line (line_of (bare l)) ∷ items_among (map bare ls))
+    ≡ map entry_of_line (cond (not b) (line_of (bare l) ∷ journal_of ls) (journal_of ls))) [
       | true ↦ items_among-bare ls
-      | false ↦ ap (λ items. entry_at (bare l) ∷ items) (items_among-bare ls)
+      | false ↦ ap (λ items. entry_of_line (line_of (bare l)) ∷ items) (items_among-bare ls)
     ]
 
 or_assoc : (a b c : Bool) → (a || (b || c)) ≡ ((a || b) || c)
@@ -52,22 +53,27 @@ two_texts : (text line : List ℕ) (o : Option (List ℕ × Status)) → option_
 two_texts text line None = refl
 two_texts text line (Some r) = ap (λ x. Some (x, r.1)) (sym (append_assoc text line r.0))
 
--- a line that is taken as an item
-pub line_taken : (form : FormTree) (old new : Running) (line : List ℕ) (a : AnswerTree) (lines : List (List ℕ)) → is_blank line ≡ false
-    → take_item form (triple_tree old.triple) (entry_at line) ≡ Some (triple_tree new.triple, a) → new.number ≡ old.number + 1
+-- an item that is taken
+pub item_taken : (form : FormTree) (old new : Running) (item : Item) (a : AnswerTree) (items : List Item)
+    → take_item form (triple_tree old.triple) item ≡ Some (triple_tree new.triple, a) → new.number ≡ old.number + 1
     → new.refused ≡ (old.refused || is_refused a) → new.text.items ≡ old.text.items ++ answer_line new.number a
-    → report_at form old (items_among (line ∷ lines)) ≡ report_at form new (items_among lines)
-line_taken form old new line a lines full taken number refused text =
-    ap (λ b. report_at form old (cond b (items_among lines) (entry_at line ∷ items_among lines))) full
-    ∙ ap (option_map (behind_text old.text.items)) (item_first form (triple_tree old.triple) (triple_tree new.triple) (old.number + 1) old.refused a (entry_at line) (items_among lines) taken)
-    ∙ two_texts old.text.items (answer_line (old.number + 1) a) (report_from form (triple_tree new.triple) (old.number + 1 + 1) (old.refused || is_refused a) (items_among lines))
-    ∙ ap (λ n. option_map (behind_text (old.text.items ++ answer_line n a)) (report_from form (triple_tree new.triple) (n + 1) (old.refused || is_refused a) (items_among lines))) (sym number)
-    ∙ ap₂ (λ x b. option_map (behind_text x) (report_from form (triple_tree new.triple) (new.number + 1) b (items_among lines))) (sym text) (sym refused)
+    → report_at form old (item ∷ items) ≡ report_at form new items
+item_taken form old new item a items taken number refused text =
+    ap (option_map (behind_text old.text.items)) (item_first form (triple_tree old.triple) (triple_tree new.triple) (old.number + 1) old.refused a item items taken)
+    ∙ two_texts old.text.items (answer_line (old.number + 1) a) (report_from form (triple_tree new.triple) (old.number + 1 + 1) (old.refused || is_refused a) items)
+    ∙ ap (λ n. option_map (behind_text (old.text.items ++ answer_line n a)) (report_from form (triple_tree new.triple) (n + 1) (old.refused || is_refused a) items)) (sym number)
+    ∙ ap₂ (λ x b. option_map (behind_text x) (report_from form (triple_tree new.triple) (new.number + 1) b items)) (sym text) (sym refused)
 
--- a blank line is passed over
-pub line_passed : (form : FormTree) (r : Running) (line : List ℕ) (lines : List (List ℕ)) → is_blank line ≡ true
+-- a blank line is passed over, and any other is an item
+pub line_passed : (form : FormTree) (r : Running) (line : List ℕ) (lines : List (List ℕ)) → is_blank (line_of line) ≡ true
     → report_at form r (items_among (line ∷ lines)) ≡ report_at form r (items_among lines)
-line_passed form r line lines blank = ap (λ b. report_at form r (cond b (items_among lines) (entry_at line ∷ items_among lines))) blank
+line_passed form r line lines blank = ap (λ b. report_at form r (cond b (items_among lines) (entry_of_line (line_of line) ∷ items_among lines))) blank
+
+pub line_taken : (form : FormTree) (old new : Running) (line : List ℕ) (lines : List (List ℕ)) → is_blank (line_of line) ≡ false
+    → report_at form old (entry_of_line (line_of line) ∷ items_among lines) ≡ report_at form new (items_among lines)
+    → report_at form old (items_among (line ∷ lines)) ≡ report_at form new (items_among lines)
+line_taken form old new line lines full taken =
+    ap (λ b. report_at form old (cond b (items_among lines) (entry_of_line (line_of line) ∷ items_among lines))) full ∙ taken
 
 -- behind the last line the state lines follow
 pub at_end : (form : FormTree) (r : Running) → report_at form r [] ≡ Some (r.text.items ++ state_lines form (triple_tree r.triple), ending r.refused)

@@ -1,7 +1,5 @@
 pub mod ComplementJson
 pub mod Ends
-pub mod Entries
-pub mod Gives
 pub mod Lines
 pub mod Program
 pub mod Report
@@ -10,6 +8,6 @@ pub mod Running
 pub mod Status
 pub mod Step
 pub mod Taking
-pub mod WordJson
+pub mod Telling
 pub mod Views
 pub mod Words

@@ -1,6 +1,8 @@
 -- The lines of a script: its program part, and the lines of its journal.
 use Rattle.std.specs.Prelude.{ℕ, ◌==◌, List, [], ◌∷◌, ◌++◌, Bool, not, ◌||◌, if◌then◌else◌, bytes_eq, codes, filter, map}
-use Rattle.std.specs.List.{onto_first, concat, list_all}
+use Rattle.std.specs.List.{onto_first, concat}
+use Rattle.edit_journal.specs.Lines.{line_of, is_blank}
+use Rattle.edit_journal.specs.declared.line.Line.{Line}
 
 -- The bytes cut behind each LF, which stays at the end of its line. What follows the last LF is a line where it is not empty.
 abbrev pub cut : List ℕ → List (List ℕ)
@@ -30,18 +32,10 @@ lines_behind (line ∷ lines) = if is_separator (bare line) then lines else line
 abbrev pub program_part : List ℕ → List ℕ
 program_part bytes = concat (lines_before (cut bytes))
 
--- a byte is a space, a tab or a CR
-abbrev pub is_space : ℕ → Bool
-is_space byte = byte == 32 || byte == 9 || byte == 13
-
--- the line has spaces, tabs and CR alone
-abbrev pub is_blank : List ℕ → Bool
-is_blank line = list_all is_space line
-
 -- the lines without their LF, but for those that are blank
-abbrev pub journal_of : List (List ℕ) → List (List ℕ)
-journal_of lines = filter (λ line. not (is_blank line)) (map bare lines)
+abbrev pub journal_of : List (List ℕ) → List Line
+journal_of lines = filter (λ line. not (is_blank line)) (map (λ line. line_of (bare line)) lines)
 
 -- the lines of the journal: those behind the separator that are not blank
-abbrev pub journal : List ℕ → List (List ℕ)
+abbrev pub journal : List ℕ → List Line
 journal bytes = journal_of (lines_behind (cut bytes))

@@ -10,10 +10,12 @@ use Rattle.lens_core.specs.Forms.{FormTree, left_type, right_type, paired_int}
 use Rattle.value_json.specs.DocumentJson.{tree_of_document}
 use Rattle.editlens_main.specs.Lines.{program_part, journal}
 use Rattle.editlens_main.specs.Program.{names_of}
-use Rattle.editlens_main.specs.Entries.{entry_at}
-use Rattle.editlens_main.specs.Step.{TripleTree, first, AnswerTree, carried, no_apply, not_built}
+use Rattle.edit_json.specs.WordJson.{tree_of_word}
+use Rattle.edit_journal.specs.EntryJson.{entry_of_line}
+use Rattle.edit_journal.specs.declared.fault.EntryFault.{EntryFault}
+use Rattle.edit_journal.specs.declared.fault.EntryFault.TheVariants as faults
+use Rattle.editlens_main.specs.Step.{TripleTree, first, AnswerTree, carried, no_apply, no_entry}
 use Rattle.editlens_main.specs.Run.{Item, run, last, any_refused}
-use Rattle.editlens_main.specs.WordJson.{word_json}
 use Rattle.editlens_main.specs.ComplementJson.{complement_json}
 use Rattle.editlens_main.specs.declared.status.Status.{Status}
 use Rattle.editlens_main.specs.declared.status.Status.TheVariants.{Done, SomeRefused, ProgramRefused}
@@ -33,12 +35,20 @@ cause_text Present = codes "present"
 cause_text Length = codes "length"
 cause_text Deep = codes "deep"
 
+-- why a line is no entry; want of memory is no answer
+abbrev pub fault_text : EntryFault → List ℕ
+fault_text faults.LineTooLong = codes "line-too-long"
+fault_text faults.NotJson = codes "not-json"
+fault_text faults.NotAnEntry = codes "not-an-entry"
+fault_text faults.NotAnEdit = codes "not-an-edit"
+fault_text faults.NoMemory = []
+
 -- the answer to the item with this number, with the LF at its end:
--- `ok N SIDE WORD`, `refused N no-apply AT CAUSE` or `refused N not-built`
+-- `ok N SIDE WORD`, `refused N no-apply AT CAUSE` or `refused N FAULT`
 abbrev pub answer_line : ℕ → AnswerTree → List ℕ
-answer_line n (carried side w) = codes "ok " ++ decimal n ++ codes " " ++ side_text side ++ codes " " ++ compact_text (word_json w) ++ 10 ∷ []
+answer_line n (carried side w) = codes "ok " ++ decimal n ++ codes " " ++ side_text side ++ codes " " ++ compact_text (tree_of_word w) ++ 10 ∷ []
 answer_line n (no_apply at cause) = codes "refused " ++ decimal n ++ codes " no-apply " ++ decimal at ++ codes " " ++ cause_text cause ++ 10 ∷ []
-answer_line n not_built = codes "refused " ++ decimal n ++ codes " not-built" ++ 10 ∷ []
+answer_line n (no_entry fault) = codes "refused " ++ decimal n ++ codes " " ++ fault_text fault ++ 10 ∷ []
 
 -- the answers in order, numbered on from this number
 abbrev pub answer_lines : ℕ → List (TripleTree × AnswerTree) → List ℕ
@@ -76,7 +86,7 @@ refusal_line = codes "program refused: not-built" ++ 10 ∷ []
 
 -- the items of the journal: each line that is not blank
 abbrev pub items_of : List ℕ → List Item
-items_of bytes = map entry_at (journal bytes)
+items_of bytes = map entry_of_line (journal bytes)
 
 -- what is written for these bytes, and the status
 abbrev pub report_with : Option FormTree → List Item → Option (List ℕ × Status)

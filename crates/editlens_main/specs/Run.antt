@@ -1,19 +1,20 @@
 -- A run: the items of a journal, taken in turn.
-use Rattle.std.specs.Prelude.{List, [], ◌∷◌, Bool, true, false, Option, Some, None, option_map, option_and_then, map}
+use Rattle.std.specs.Prelude.{List, [], ◌∷◌, Bool, true, false, Option, Some, option_map, option_and_then, Result, Ok, Err, map}
 use Rattle.std.specs.List.{list_any}
 use Rattle.edit_module.specs.Words.{WordTree}
 use Rattle.edit_module.specs.declared.side.Side.{Side}
 use Rattle.lens_core.specs.Forms.{FormTree}
-use Rattle.editlens_main.specs.Step.{TripleTree, first, AnswerTree, carried, no_apply, not_built, step}
+use Rattle.edit_journal.specs.declared.fault.EntryFault.{EntryFault}
+use Rattle.editlens_main.specs.Step.{TripleTree, first, AnswerTree, carried, no_apply, no_entry, step}
 
--- an item is an entry, or a line that is none
+-- an item is an entry, or the fault of a line that is none
 abbrev pub Item : Type 0
-Item = Option (Side × WordTree)
+Item = Result (Side × WordTree) EntryFault
 
 -- an entry steps the triple; a line that is no entry leaves it
 abbrev pub take_item : FormTree → TripleTree → Item → Option (TripleTree × AnswerTree)
-take_item form t (Some entry) = step form t entry.0 entry.1
-take_item form t None = Some (t, not_built)
+take_item form t (Ok entry) = step form t entry.0 entry.1
+take_item form t (Err fault) = Some (t, no_entry fault)
 
 -- for each item in order, the triple after it and the answer to it
 abbrev pub run : FormTree → TripleTree → List Item → Option (List (TripleTree × AnswerTree))
@@ -33,7 +34,7 @@ triples form items = option_map (λ steps. first form ∷ map (λ s. s.0) steps)
 abbrev pub is_refused : AnswerTree → Bool
 is_refused (carried side w) = false
 is_refused (no_apply at cause) = true
-is_refused not_built = true
+is_refused (no_entry fault) = true
 
 abbrev pub any_refused : List (TripleTree × AnswerTree) → Bool
 any_refused steps = list_any (λ s. is_refused s.1) steps

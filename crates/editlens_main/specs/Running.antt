@@ -2,8 +2,8 @@
 -- proofs/Reports.antt shows that it is the report.
 use Rattle.std.specs.Prelude.{ℕ, ◌+◌, List, [], ◌∷◌, ◌++◌, Bool, ◌||◌, Option, option_map, if◌then◌else◌}
 use Rattle.lens_core.specs.Forms.{FormTree}
-use Rattle.editlens_main.specs.Lines.{is_blank}
-use Rattle.editlens_main.specs.Entries.{entry_at}
+use Rattle.edit_journal.specs.Lines.{line_of, is_blank}
+use Rattle.edit_journal.specs.EntryJson.{entry_of_line}
 use Rattle.editlens_main.specs.Step.{TripleTree}
 use Rattle.editlens_main.specs.Run.{Item, run, last, any_refused}
 use Rattle.editlens_main.specs.Report.{answer_lines, state_lines, ending}
@@ -14,7 +14,7 @@ use Rattle.editlens_main.specs.declared.report.Running.{Running}
 -- the items among some lines
 abbrev pub items_among : List (List ℕ) → List Item
 items_among [] = []
-items_among (line ∷ lines) = if is_blank line then items_among lines else entry_at line ∷ items_among lines
+items_among (line ∷ lines) = if is_blank (line_of line) then items_among lines else entry_of_line (line_of line) ∷ items_among lines
 
 -- what is written from a triple on, where the next item has this number and some item before may have been refused
 abbrev pub report_from : FormTree → TripleTree → ℕ → Bool → List Item → Option (List ℕ × Status)

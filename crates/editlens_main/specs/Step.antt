@@ -7,6 +7,7 @@ use Rattle.edit_module.specs.Action.{act, Why}
 use Rattle.edit_module.specs.declared.side.Side.{Side}
 use Rattle.edit_module.specs.declared.side.Side.TheVariants.{Left, Right}
 use Rattle.edit_module.specs.declared.fault.Cause.{Cause}
+use Rattle.edit_journal.specs.declared.fault.EntryFault.{EntryFault}
 use Rattle.lens_core.specs.Forms.{FormTree, left_type, right_type}
 use Rattle.lens_core.specs.Complements.{CompTree, missing}
 use Rattle.lens_core.specs.Consistency.{IsConsistent}
@@ -26,11 +27,11 @@ abbrev pub IsInStep : FormTree → TripleTree → Type 0
 IsInStep form t = IsConsistent form t.left t.comp t.right
 
 -- an edit is carried to a word of the other side, which is named; or it does not apply, with the number of the first primitive that
--- fails and its cause; or the line is no entry that is built
+-- fails and its cause; or the line is no entry, for this fault
 pub data AnswerTree : Type 0 where
   carried : Side → WordTree → AnswerTree
   no_apply : ℕ → Cause → AnswerTree
-  not_built : AnswerTree
+  no_entry : EntryFault → AnswerTree
 
 -- An edit of the left side acts on the left document. Where it has no value there, the triple stays. Where it has, it is translated, and
 -- the carried word acts on the right document. Where there is no translation, or the carried word does not act, there is no step.

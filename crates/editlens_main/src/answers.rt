@@ -1,5 +1,5 @@
 //! The lines that a run writes.
-ghost use Rattle.std.specs.Prelude.{◌≡◌, ◌++◌, false, codes, IsTrue, IfOk, string_bytes};
+ghost use Rattle.std.specs.Prelude.{◌≡◌, ◌++◌, true, false, codes, IsTrue, IfOk, string_bytes};
 ghost use Rattle.doc_values.specs.Documents.{doc_tree};
 ghost use Rattle.doc_values.specs.Types.{ty_tree, is_well_formed};
 ghost use Rattle.doc_values.specs.Typing.{has};
@@ -7,16 +7,19 @@ ghost use Rattle.lens_core.specs.Complements.{comp_tree};
 ghost use Rattle.lens_core.specs.Forms.{form_tree};
 ghost use Rattle.value_json.specs.DocumentJson.{tree_of_document};
 ghost use Rattle.editlens_main.specs.ComplementJson.{complement_json};
-ghost use Rattle.editlens_main.specs.Report.{side_text, cause_text, answer_line, tree_line, state_lines};
+ghost use Rattle.editlens_main.specs.Report.{side_text, cause_text, fault_text, answer_line, tree_line, state_lines};
 ghost use Rattle.editlens_main.specs.Run.{is_refused};
-ghost use Rattle.editlens_main.specs.Step.{IsInStep, carried, no_apply, not_built};
+ghost use Rattle.editlens_main.specs.Step.{IsInStep, carried, no_apply, no_entry};
+ghost use Rattle.editlens_main.specs.Telling.{CanBeTold};
+ghost use Rattle.edit_json.specs.WordJson.{counts_fit};
 ghost use Rattle.edit_module.specs.Views.{word_tree};
 ghost use Rattle.editlens_main.specs.Views.{triple_tree, answer_tree};
 
 use crate::complements::write_complement;
 use crate::step::{Answer, Triple};
-use crate::writing::word_text;
 use doc_values::{Doc, Ty};
+use edit_journal::EntryFault;
+use edit_json::write_word_text;
 use edit_module::{Cause, Side, Word};
 use lens_core::{Comp, Typed};
 use std::alloc::{AllocError, Global};
@@ -30,27 +33,29 @@ impl Answer {
         match self {
             Answer::Carried(_, _) => false,
             Answer::NoApply { .. } => true,
-            Answer::NotBuilt => true,
+            Answer::NoEntry(_) => true,
         }
     }
 }
 
-/// The answer line of the item with this number.
+/// The answer line of the item with this number. Only want of memory is an error.
 pub fn answer_line(alloc: Global, number: u64, answer: &Answer) -> Result<String, AllocError>
+    requires { CanBeTold (answer_tree answer.now) }
     ensures { IfOk result (λ line. string_bytes line ≡ answer_line number (answer_tree answer.now)) }
 {
     match answer {
         Answer::Carried(side, word) => ok_line(alloc, number, *side, word),
         Answer::NoApply { at, cause } => no_apply_line(alloc, number, *at, *cause),
-        Answer::NotBuilt => not_built_line(alloc, number),
+        Answer::NoEntry(fault) => fault_line(alloc, number, *fault),
     }
 }
 
 fn ok_line(alloc: Global, number: u64, side: Side, word: &Word) -> Result<String, AllocError>
+    requires { counts_fit (word_tree word.now) ≡ true }
     ensures { IfOk result (λ line. string_bytes line ≡ answer_line number (carried side (word_tree word.now))) }
 {
     let side = side_text(side);
-    let word = word_text(alloc, word)?;
+    let word = write_word_text(alloc, word)?;
     let line = format!(in alloc; "ok {number} {side} {word}\n")?;
     Ok(line)
 }
@@ -63,11 +68,27 @@ fn no_apply_line(alloc: Global, number: u64, at: u64, cause: Cause) -> Result<St
     Ok(line)
 }
 
-fn not_built_line(alloc: Global, number: u64) -> Result<String, AllocError>
-    ensures { IfOk result (λ line. string_bytes line ≡ answer_line number not_built) }
+fn fault_line(alloc: Global, number: u64, fault: EntryFault) -> Result<String, AllocError>
+    requires { CanBeTold (no_entry fault) }
+    ensures { IfOk result (λ line. string_bytes line ≡ answer_line number (no_entry fault)) }
 {
-    let line = format!(in alloc; "refused {number} not-built\n")?;
+    let fault = fault_text(fault);
+    let line = format!(in alloc; "refused {number} {fault}\n")?;
     Ok(line)
+}
+
+// The text of a fault of a line.
+fn fault_text(fault: EntryFault) -> &'static str
+    requires { CanBeTold (no_entry fault) }
+    ensures { result.now ≡ fault_text fault }
+{
+    match fault {
+        EntryFault::LineTooLong => "line-too-long",
+        EntryFault::NotJson => "not-json",
+        EntryFault::NotAnEntry => "not-an-entry",
+        EntryFault::NotAnEdit => "not-an-edit",
+        EntryFault::NoMemory => unreachable!(),
+    }
 }
 
 fn side_text(side: Side) -> &'static str

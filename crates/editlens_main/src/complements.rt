@@ -1,13 +1,12 @@
 //! Complements as JSON trees.
-ghost use Rattle.std.specs.Prelude.{◌≡◌, IfOk};
-ghost use Rattle.serde_json.specs.Data.{array};
+ghost use Rattle.std.specs.Prelude.{◌≡◌, IfOk, codes};
+ghost use Rattle.serde_json.specs.Data.{array, object, member, no_members};
 ghost use Rattle.serde_json.specs.View.{view};
 ghost use Rattle.lens_core.specs.Complements.{comp_tree, comps_tree};
 ghost use Rattle.editlens_main.specs.ComplementJson.{complement_json, complement_items};
 
-use crate::writing::write_one;
 use lens_core::{Comp, Comps};
-use serde_json::Value;
+use serde_json::{Map, Value, put};
 use std::alloc::{AllocError, Global};
 
 /// A complement.
@@ -17,8 +16,20 @@ pub fn write_complement(alloc: Global, comp: &Comp) -> Result<Value, AllocError>
 {
     match comp {
         Comp::Nil => Ok(Value::Null),
-        Comp::Rec(comps) => write_one(alloc, "rec", write_parts(alloc, comps)?),
+        Comp::Rec(comps) => {
+            let parts = write_parts(alloc, comps)?;
+            write_rec(alloc, parts)
+        }
     }
+}
+
+// An object with the one member `rec`.
+fn write_rec(alloc: Global, parts: Value) -> Result<Value, AllocError>
+    ensures { IfOk result (λ tree. view tree ≡ object (member (codes "rec") (view parts) no_members)) }
+{
+    let mut members = Map::new(alloc);
+    put(&mut members, alloc, "rec", parts)?;
+    Ok(Value::Object(members))
 }
 
 #[cycle(write_complement)]

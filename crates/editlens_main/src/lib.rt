@@ -8,7 +8,6 @@
 
 mod answers;
 mod complements;
-mod entries;
 mod lines;
 mod program;
 mod report;
@@ -16,9 +15,7 @@ mod status;
 mod step;
 mod sure;
 mod top;
-mod trees;
 mod words;
-mod writing;
 
 pub use status::Status;
 pub use sure::run_sure;

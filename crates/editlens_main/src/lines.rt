@@ -1,6 +1,6 @@
 // The lines of a script, and its parts before and behind the separator.
 ghost use Rattle.std.specs.Prelude.{◌≡◌, ◌<◌, ◌∷◌, ◌++◌, ◌==◌, [], length, MatchOption, IfSome, position};
-ghost use Rattle.editlens_main.specs.Lines.{cut, bare, is_separator, is_blank, program_part, journal_of, lines_behind};
+ghost use Rattle.editlens_main.specs.Lines.{cut, bare, is_separator, program_part, lines_behind};
 
 /// A script's program part, and the bytes behind its separator line.
 #[derive(Clone, Copy)]
@@ -69,12 +69,4 @@ fn is_separator(line: &[u8]) -> bool
     ensures { result ≡ is_separator line.now }
 {
     line == b"---".as_slice() || line == b"---\r".as_slice()
-}
-
-/// Whether the line has spaces, tabs and CR alone.
-pub fn is_blank(line: &[u8]) -> bool
-    ensures { result ≡ is_blank line.now }
-{
-    line.iter()
-        .all(|byte| matches!(*byte, b' ' | b'\t' | b'\r'))
 }

@@ -1,21 +1,23 @@
 //! The report of a whole input.
 ghost use Rattle.std.specs.Prelude.{◌≡◌, ◌+◌, ◌^◌, ◌<◌, List, ℕ, ◌∷◌, false, ◌||◌, IsTrue, IfOk, Some, map, ◌≤◌};
 ghost use Rattle.lens_core.specs.Forms.{form_tree, is_paired_int};
-ghost use Rattle.editlens_main.specs.Entries.{entry_at};
-ghost use Rattle.editlens_main.specs.Lines.{cut, bare, is_blank};
+ghost use Rattle.edit_journal.specs.Lines.{line_of, is_blank};
+ghost use Rattle.edit_journal.specs.EntryJson.{entry_of_line};
+ghost use Rattle.editlens_main.specs.Lines.{cut, bare};
 ghost use Rattle.editlens_main.specs.Report.{ending, report, run_report};
-ghost use Rattle.editlens_main.specs.Run.{take_item};
+ghost use Rattle.editlens_main.specs.Run.{Item, take_item};
 ghost use Rattle.editlens_main.specs.Running.{items_among, report_at};
 ghost use Rattle.editlens_main.specs.Step.{IsInStep, first};
+ghost use Rattle.editlens_main.specs.Telling.{CanBeTold};
 ghost use Rattle.editlens_main.specs.Views.{triple_tree, answer_tree};
 
 use crate::Status;
 use crate::answers::{answer_line, state_lines};
-use crate::entries::{EntryFault, read_entry};
-use crate::lines::{first_line, is_blank, part_script, without_end};
+use crate::lines::{first_line, part_script, without_end};
 use crate::program::read_program;
 use crate::step::{Answer, Triple, step};
 use doc_values::init;
+use edit_journal::{EntryFault, Line, is_blank, read_entry};
 use lens_core::{Typed, missing};
 use std::alloc::{AllocError, Global};
 
@@ -103,7 +105,7 @@ fn first_triple(alloc: Global, lens: &Typed) -> Result<Triple, AllocError>
 }
 
 // Takes a line without its LF: a blank one is passed over, any other is an item.
-#[tactic(auto, using(crate::proofs::Reports::line_passed))]
+#[tactic(auto, using(crate::proofs::Reports::line_passed, crate::proofs::Reports::line_taken))]
 fn take_line(
     alloc: Global,
     lens: &Typed,
@@ -118,10 +120,11 @@ fn take_line(
     ensures in_step { IfOk result (λ next. IsInStep (form_tree lens.now) (triple_tree next.triple)) }
     ensures number { IfOk result (λ next. next.number ≤ running.number + 1) }
 {
-    if is_blank(line) {
+    let line = Line::from_slice(alloc, line)?;
+    if is_blank(&line) {
         return Ok(running);
     }
-    take_item(alloc, lens, running, line)
+    take_item(alloc, lens, running, &line)
 }
 
 // Takes a line that is not blank.
@@ -129,14 +132,13 @@ fn take_item(
     alloc: Global,
     lens: &Typed,
     running: Running,
-    line: &[u8],
+    line: &Line,
 ) -> Result<Running, AllocError>
-    requires full { is_blank line.now ≡ false }
     requires built { IsTrue (is_paired_int (form_tree lens.now)) }
     requires in_step { IsInStep (form_tree lens.now) (triple_tree running.triple) }
     requires fits { running.number + 1 < 2 ^ 64 }
-    ensures reports { IfOk result (λ next. (lines : List (List ℕ)) → report_at (form_tree lens.now) running (items_among (line.now ∷ lines))
-        ≡ report_at (form_tree lens.now) next (items_among lines)) }
+    ensures reports { IfOk result (λ next. (items : List Item) → report_at (form_tree lens.now) running (entry_of_line line.now ∷ items)
+        ≡ report_at (form_tree lens.now) next items) }
     ensures in_step { IfOk result (λ next. IsInStep (form_tree lens.now) (triple_tree next.triple)) }
     ensures number { IfOk result (λ next. next.number ≡ running.number + 1) }
 {
@@ -166,15 +168,17 @@ fn answer_to(
     alloc: Global,
     lens: &Typed,
     triple: &mut Triple,
-    line: &[u8],
+    line: &Line,
 ) -> Result<Answer, AllocError>
     requires built { IsTrue (is_paired_int (form_tree lens.now)) }
     requires in_step { IsInStep (form_tree lens.now) (triple_tree triple.old) }
-    ensures { IfOk result (λ answer. take_item (form_tree lens.now) (triple_tree triple.old) (entry_at line.now) ≡ Some (triple_tree triple.new, answer_tree answer)) }
+    ensures answer { IfOk result (λ answer. take_item (form_tree lens.now) (triple_tree triple.old) (entry_of_line line.now)
+        ≡ Some (triple_tree triple.new, answer_tree answer)) }
+    ensures told { IfOk result (λ answer. CanBeTold (answer_tree answer)) }
 {
     match read_entry(alloc, line) {
         Ok(entry) => step(alloc, lens, triple, &entry),
-        Err(EntryFault::NotBuilt) => Ok(Answer::NotBuilt),
         Err(EntryFault::NoMemory) => Err(AllocError),
+        Err(fault) => Ok(Answer::NoEntry(fault)),
     }
 }

@@ -1,11 +1,14 @@
 //! One step of a run.
-ghost use Rattle.std.specs.Prelude.{◌≡◌, IsTrue, IfOk, OnErr, Some};
+ghost use Rattle.std.specs.Prelude.{◌≡◌, true, IsTrue, IfOk, OnErr, Some};
+ghost use Rattle.edit_json.specs.WordJson.{counts_fit};
 ghost use Rattle.edit_module.specs.Views.{word_tree};
 ghost use Rattle.lens_core.specs.Forms.{form_tree, is_paired_int};
 ghost use Rattle.editlens_main.specs.Step.{IsInStep, step, left_acted};
+ghost use Rattle.editlens_main.specs.Telling.{CanBeTold};
 ghost use Rattle.editlens_main.specs.Views.{triple_tree, answer_tree};
 
 use doc_values::Doc;
+use edit_journal::EntryFault;
 use edit_module::{ActFault, Cause, Entry, Side, Word, act};
 use lens_core::{Carried, CarryFault, Comp, Typed, record_carry};
 use std::alloc::{AllocError, Global};
@@ -25,8 +28,8 @@ pub enum Answer {
     Carried(Side, Word),
     /// The edit does not apply: the number of the first primitive that fails, and its cause.
     NoApply { at: u64, cause: Cause },
-    /// The line is no entry that is built.
-    NotBuilt,
+    /// The line is no entry, for this fault, which is not want of memory.
+    NoEntry(EntryFault),
 }
 
 /// Takes an entry, and answers to it. Only want of memory is an error, which leaves the triple as it was.
@@ -38,8 +41,10 @@ pub fn step(
 ) -> Result<Answer, AllocError>
     requires built { IsTrue (is_paired_int (form_tree lens.now)) }
     requires in_step { IsInStep (form_tree lens.now) (triple_tree triple.old) }
+    requires fits { counts_fit (word_tree entry.now.word) ≡ true }
     ensures steps { IfOk result (λ answer. step (form_tree lens.now) (triple_tree triple.old) entry.now.side (word_tree entry.now.word)
         ≡ Some (triple_tree triple.new, answer_tree answer)) }
+    ensures told { IfOk result (λ answer. CanBeTold (answer_tree answer)) }
     ensures err { OnErr result (triple.new ≡ triple.old) }
 {
     match entry.side {
@@ -57,8 +62,10 @@ fn step_left(
 ) -> Result<Answer, AllocError>
     requires built { IsTrue (is_paired_int (form_tree lens.now)) }
     requires in_step { IsInStep (form_tree lens.now) (triple_tree triple.old) }
+    requires fits { counts_fit (word_tree word.now) ≡ true }
     ensures steps { IfOk result (λ answer. step (form_tree lens.now) (triple_tree triple.old) Side.Left (word_tree word.now)
         ≡ Some (triple_tree triple.new, answer_tree answer)) }
+    ensures told { IfOk result (λ answer. CanBeTold (answer_tree answer)) }
     ensures err { OnErr result (triple.new ≡ triple.old) }
 {
     let left = match act(alloc, lens.left(), word, &triple.left) {
@@ -95,8 +102,10 @@ fn step_right(
 ) -> Result<Answer, AllocError>
     requires built { IsTrue (is_paired_int (form_tree lens.now)) }
     requires in_step { IsInStep (form_tree lens.now) (triple_tree triple.old) }
+    requires fits { counts_fit (word_tree word.now) ≡ true }
     ensures steps { IfOk result (λ answer. step (form_tree lens.now) (triple_tree triple.old) Side.Right (word_tree word.now)
         ≡ Some (triple_tree triple.new, answer_tree answer)) }
+    ensures told { IfOk result (λ answer. CanBeTold (answer_tree answer)) }
     ensures err { OnErr result (triple.new ≡ triple.old) }
 {
     let right = match act(alloc, lens.right(), word, &triple.right) {

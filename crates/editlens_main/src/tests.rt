@@ -61,7 +61,7 @@ fn refused_edits(rt: HostRuntime) -> Result<(), Fail> {
     let alloc = rt.alloc();
     let words = run_words(alloc)?;
     // a journal, and the answers, before the state lines of the first triple
-    let cases: [(&[u8], &[u8]); 8] = [
+    let cases: [(&[u8], &[u8]); 7] = [
         (
             b"{\"side\":\"left\",\"edit\":[{\"at\":[\"zz\",[]]}]}",
             b"refused 1 no-apply 0 place\n",
@@ -71,28 +71,21 @@ fn refused_edits(rt: HostRuntime) -> Result<(), Fail> {
             b"refused 1 no-apply 0 kind\n",
         ),
         (
-            b"{\"side\":\"left\",\"edit\":[{\"at\":[\"a\",[{\"add\":1}]]}]}",
-            b"refused 1 not-built\n",
-        ),
-        (
             b"{\"side\":\"left\",\"edit\":[{\"at\":[\"a\",[{\"set\":1}]]},{\"at\":[\"b\",[]]}]}",
             b"refused 1 no-apply 1 place\n",
         ),
         (
             b"{\"side\":\"left\",\"edit\":[{\"at\":[\"a\",[{\"set\":1.0}]]}]}",
-            b"refused 1 not-built\n",
+            b"refused 1 not-an-edit\n",
         ),
         (
-            b"{\"side\":\"up\",\"edit\":[]}\n{\"side\":\"left\"}",
-            b"refused 1 not-built\nrefused 2 not-built\n",
+            b"{\n[]\n{\"side\":\"up\",\"edit\":[]}\n{\"side\":\"left\",\"edit\":[{\"ins\":0}]}",
+            b"refused 1 not-json\nrefused 2 not-an-entry\nrefused 3 not-an-entry\nrefused 4 not-an-edit\n",
         ),
+        (b"[\n\n\xff\n", b"refused 1 not-json\nrefused 2 not-json\n"),
         (
-            b"[\n\n\xff\n",
-            b"refused 1 not-built\nrefused 2 not-built\n",
-        ),
-        (
-            b"{\"side\":\"left\",\"edit\":[{\"at\":[\"a\",[{\"set\":9223372036854775808}]]}]}",
-            b"refused 1 not-built\n",
+            b"{\"side\":\"left\",\"edit\":[{\"mod\":[0,[{\"set\":1}]]},{\"del\":65536}]}",
+            b"refused 1 no-apply 0 kind\n",
         ),
     ];
     for (journal, answers) in cases {
@@ -103,6 +96,52 @@ fn refused_edits(rt: HostRuntime) -> Result<(), Fail> {
         let given = with_start(alloc, answers)?;
         assert_eq!(rt; sink.bytes(), given.as_slice());
     }
+    Ok(())
+}
+
+// An edit that overflows is refused, and the next one acts on the document as it was.
+#[test]
+fn refused_and_carried(rt: HostRuntime) -> Result<(), Fail> {
+    let alloc = rt.alloc();
+    let words = run_words(alloc)?;
+    let journal =
+        b"{\"side\":\"left\",\"edit\":[{\"at\":[\"a\",[{\"set\":9223372036854775807},{\"add\":1}]]}]}\n{\"side\":\"left\",\"edit\":[{\"at\":[\"a\",[{\"add\":3}]]}]}\n".as_slice();
+    let given =
+        b"refused 1 no-apply 0 overflow\nok 2 right [{\"at\":[\"b\",[{\"add\":3}]]}]\nleft {\"a\":3}\nright {\"b\":3}\ncomplement {\"rec\":[null]}\n".as_slice();
+    let mut source = MemSource::new(script(alloc, journal)?, Vec::new(alloc), Vec::new(alloc));
+    let mut sink = MemSink::new(alloc, Vec::new(alloc), Vec::new(alloc));
+    let status = editlens(alloc, &words, &mut source, &mut sink);
+    assert_eq!(rt; status, Status::SomeRefused);
+    assert_eq!(rt; sink.bytes(), given);
+    Ok(())
+}
+
+// The empty edit of the left side, filled up with spaces to this many bytes, and an LF.
+fn long_line(alloc: Global, bytes: usize) -> Result<Vec<u8>, AllocError> {
+    let mut line = Vec::from_slice(alloc, b"{\"side\":\"left\",\"edit\":[]}".as_slice())?;
+    for _ in line.len()..bytes {
+        line.push(b' ')?;
+    }
+    line.push(b'\n')?;
+    Ok(line)
+}
+
+#[test]
+fn long_lines(rt: HostRuntime) -> Result<(), Fail> {
+    let alloc = rt.alloc();
+    let words = run_words(alloc)?;
+    let mut journal = long_line(alloc, 1_048_577)?;
+    journal.extend_from_slice(&long_line(alloc, 1_048_576)?)?;
+    journal.extend_from_slice(b"  \n".as_slice())?;
+    let mut source = MemSource::new(script(alloc, &journal)?, Vec::new(alloc), Vec::new(alloc));
+    let mut sink = MemSink::new(alloc, Vec::new(alloc), Vec::new(alloc));
+    let status = editlens(alloc, &words, &mut source, &mut sink);
+    assert_eq!(rt; status, Status::SomeRefused);
+    let given = with_start(
+        alloc,
+        b"refused 1 line-too-long\nok 2 right []\n".as_slice(),
+    )?;
+    assert_eq!(rt; sink.bytes(), given.as_slice());
     Ok(())
 }
 

@@ -1,0 +1,15 @@
+-- Which answers can be told in a line.
+use Rattle.std.specs.Prelude.{◌≡◌, true}
+use Rattle.edit_json.specs.WordJson.{counts_fit}
+use Rattle.edit_journal.specs.declared.fault.EntryFault.TheVariants.{LineTooLong, NotJson, NotAnEntry, NotAnEdit, NoMemory}
+use Rattle.editlens_main.specs.Step.{AnswerTree, carried, no_apply, no_entry}
+
+-- a word that is told has a tree: its counts fit; want of memory is no fault of a line
+abbrev pub CanBeTold : AnswerTree → Type 0
+CanBeTold (carried side w) = counts_fit w ≡ true
+CanBeTold (no_apply at cause) = Unit {0}
+CanBeTold (no_entry LineTooLong) = Unit {0}
+CanBeTold (no_entry NotJson) = Unit {0}
+CanBeTold (no_entry NotAnEntry) = Unit {0}
+CanBeTold (no_entry NotAnEdit) = Unit {0}
+CanBeTold (no_entry NoMemory) = ⊥
