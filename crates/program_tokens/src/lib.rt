@@ -2,7 +2,7 @@
 //!
 //! A lens program is a text, and its grammar speaks of tokens: keywords, names, strings and marks,
 //! each with the offset of its first byte. `tokens` gives the tokens of any bytes, and its contract
-//! says exactly which. docs/PROGRAMS.md has the rule.
+//! says exactly which. docs/LANGUAGE.md has the rule.
 #![tactic(auto)]
 
 pub mod keyword;
