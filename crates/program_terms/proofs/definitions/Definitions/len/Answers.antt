@@ -1,0 +1,5 @@
+use Rattle.program_terms.proofs.Distinct.{keys_distinct}
+use Rattle.program_terms.proofs.definitions.Definitions.len.Goals as goal
+
+pub returns-clause-distinct : goal.returns-clause-distinct
+returns-clause-distinct c = keys_distinct c.args.self.now.entries.entries c.len.ensures.unique

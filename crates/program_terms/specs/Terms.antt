@@ -1,0 +1,114 @@
+-- Types, lenses, definitions and programs as plain trees.
+use Rattle.std.specs.Prelude.{ℕ, Bool, true, ◌&&◌, not, bytes_eq, is_some, Option, Some, None, if◌then◌else◌, List, [], ◌∷◌}
+
+-- an enum has its members in written order; a record and alternatives have names with types; a list, a keyed map and an
+-- ordered tree have the type of their contents; a name stands for the type that is defined by it
+mutual
+  pub data TypeTree : Type 0 where
+    unit : TypeTree
+    bool : TypeTree
+    int : TypeTree
+    text : TypeTree
+    enum_of : List (List ℕ) → TypeTree
+    record_of : FieldTrees → TypeTree
+    one_of : FieldTrees → TypeTree
+    list : TypeTree → TypeTree
+    keyed : TypeTree → TypeTree
+    tree : TypeTree → TypeTree
+    named : List ℕ → TypeTree
+
+  pub data FieldTrees : Type 0 where
+    no_fields : FieldTrees
+    more_fields : List ℕ → TypeTree → FieldTrees → FieldTrees
+
+-- a list of names with types as fields, and back
+abbrev pub fields_of : List (List ℕ × TypeTree) → FieldTrees
+fields_of [] = no_fields
+fields_of (f ∷ fs) = more_fields f.0 f.1 (fields_of fs)
+
+abbrev pub field_list : FieldTrees → List (List ℕ × TypeTree)
+field_list no_fields = []
+field_list (more_fields n t fs) = (n, t) ∷ field_list fs
+
+-- the lenses in the order of the grammar; a row of a record is paired, or stands on one side alone; an arm of
+-- alternatives has its left tag, its right tag and its lens; a name stands for the lens that is defined by it
+mutual
+  pub data LensTree : Type 0 where
+    id_of : TypeTree → LensTree
+    bij_of : List (List ℕ × List ℕ) → LensTree
+    disc_of : TypeTree → TypeTree → LensTree
+    then_of : LensTree → LensTree → LensTree
+    rec_lens : RowTrees → LensTree
+    alt_lens : ArmTrees → LensTree
+    each_of : LensTree → LensTree
+    keyed_each : LensTree → LensTree
+    tree_each : LensTree → LensTree
+    part_of : FieldTrees → LensTree
+    inv_of : LensTree → LensTree
+    named_lens : List ℕ → LensTree
+
+  pub data RowTrees : Type 0 where
+    no_rows : RowTrees
+    both : List ℕ → List ℕ → LensTree → RowTrees → RowTrees
+    only_left : List ℕ → TypeTree → RowTrees → RowTrees
+    only_right : List ℕ → TypeTree → RowTrees → RowTrees
+
+  pub data ArmTrees : Type 0 where
+    no_arms : ArmTrees
+    more_arms : List ℕ → List ℕ → LensTree → ArmTrees → ArmTrees
+
+-- one row
+pub data RowTree : Type 0 where
+  row_both : List ℕ → List ℕ → LensTree → RowTree
+  row_left : List ℕ → TypeTree → RowTree
+  row_right : List ℕ → TypeTree → RowTree
+
+-- a row before others
+abbrev pub with_row : RowTree → RowTrees → RowTrees
+with_row (row_both a b l) rows = both a b l rows
+with_row (row_left a t) rows = only_left a t rows
+with_row (row_right a t) rows = only_right a t rows
+
+-- a list of rows as rows, and back
+abbrev pub rows_of : List RowTree → RowTrees
+rows_of [] = no_rows
+rows_of (r ∷ rs) = with_row r (rows_of rs)
+
+abbrev pub row_list : RowTrees → List RowTree
+row_list no_rows = []
+row_list (both a b l rows) = row_both a b l ∷ row_list rows
+row_list (only_left a t rows) = row_left a t ∷ row_list rows
+row_list (only_right a t rows) = row_right a t ∷ row_list rows
+
+-- a list of two tags with a lens as arms, and back
+abbrev pub arms_of : List (List ℕ × List ℕ × LensTree) → ArmTrees
+arms_of [] = no_arms
+arms_of (a ∷ others) = more_arms a.0 a.1 a.2 (arms_of others)
+
+abbrev pub arm_list : ArmTrees → List (List ℕ × List ℕ × LensTree)
+arm_list no_arms = []
+arm_list (more_arms a b l others) = (a, b, l) ∷ arm_list others
+
+-- what a name is defined as
+pub data DefTree : Type 0 where
+  type_def : TypeTree → DefTree
+  lens_def : LensTree → DefTree
+
+-- a program: its definitions in written order, each with its name, and the main lens
+pub record ProgramTree : Type 0 where
+  pub definitions : List (List ℕ × DefTree)
+  pub main : LensTree
+
+-- the first definition with this name
+abbrev pub def_named : List ℕ → List (List ℕ × DefTree) → Option DefTree
+def_named name [] = None
+def_named name (d ∷ ds) = if bytes_eq name d.0 then Some d.1 else def_named name ds
+
+-- whether a definition has this name
+abbrev pub is_defined : List ℕ → List (List ℕ × DefTree) → Bool
+is_defined name ds = is_some (def_named name ds)
+
+-- no two definitions have the same name
+abbrev pub are_distinct : List (List ℕ × DefTree) → Bool
+are_distinct [] = true
+are_distinct (d ∷ ds) = not (is_defined d.0 ds) && are_distinct ds
