@@ -1,0 +1,125 @@
+-- The grammar of programs: symbols, productions, and the fronts of what they derive. docs/LANGUAGE.md has it in prose.
+use Rattle.std.specs.Prelude.{◌≡◌, ℕ, zero, suc, List, [], ◌∷◌, ◌++◌, ◌⊎◌}
+use Rattle.program_tokens.specs.declared.keyword.Keyword.{Keyword}
+use Rattle.program_tokens.specs.declared.keyword.Keyword.TheVariants as words
+use Rattle.program_tokens.specs.declared.mark.Mark.{Mark}
+use Rattle.program_tokens.specs.declared.mark.Mark.TheVariants.{Equals, Semicolon, OpenBrace, CloseBrace, Less, Greater, OpenBracket, CloseBracket, OpenParen, CloseParen, Colon, Comma, Tilde}
+use Rattle.program_tokens.specs.declared.token.Token.{Token}
+use Rattle.program_tokens.specs.declared.token.Token.TheVariants as tokens
+
+-- The rules. A type, a lens and a row are numbered by how many types and lenses may still stand one inside the other, itself among
+-- them: a type with the number 0 is inside 100 others, and has no alternative.
+pub data Rule : Type 0 where
+  program : Rule
+  field : Rule
+  type : ℕ → Rule
+  lens : ℕ → Rule
+  row : ℕ → Rule
+
+-- what a rule has in braces, which may come again, or in brackets, which may be missing
+pub data Part : Type 0 where
+  definitions : Part
+  other_members : Part
+  other_pairs : Part
+  fields : ℕ → Part
+  other_fields : ℕ → Part
+  rows : ℕ → Part
+  other_rows : ℕ → Part
+  other_arms : ℕ → Part
+
+-- the symbol of a token, a rule's name, a part in brackets or a part in braces
+pub data Symbol : Type 0 where
+  mark : Mark → Symbol
+  word : Keyword → Symbol
+  a_name : Symbol
+  a_string : Symbol
+  the_end : Symbol
+  rule : Rule → Symbol
+  perhaps : Part → Symbol
+  repeated : Part → Symbol
+
+-- `field ":" type`, and `field "~" field ":" lens`
+abbrev pub a_field : ℕ → List Symbol
+a_field n = rule field ∷ mark Colon ∷ rule (type n) ∷ []
+
+abbrev pub an_arm : ℕ → List Symbol
+an_arm n = rule field ∷ mark Tilde ∷ rule field ∷ mark Colon ∷ rule (lens n) ∷ []
+
+-- `STRING "=" STRING`
+abbrev pub a_pair : List Symbol
+a_pair = a_string ∷ mark Equals ∷ a_string ∷ []
+
+-- the contents of a part, any one of which may stand there
+abbrev pub contents : Part → List (List Symbol)
+contents definitions =
+    (word words.Type ∷ a_name ∷ mark Equals ∷ rule (type 100) ∷ mark Semicolon ∷ [])
+    ∷ (word words.Lens ∷ a_name ∷ mark Equals ∷ rule (lens 100) ∷ mark Semicolon ∷ [])
+    ∷ []
+contents other_members = (mark Comma ∷ a_string ∷ []) ∷ []
+contents other_pairs = (mark Comma ∷ a_pair) ∷ []
+contents (fields n) = (a_field n ++ repeated (other_fields n) ∷ []) ∷ []
+contents (other_fields n) = (mark Comma ∷ a_field n) ∷ []
+contents (rows n) = (rule (row n) ∷ repeated (other_rows n) ∷ []) ∷ []
+contents (other_rows n) = (mark Comma ∷ rule (row n) ∷ []) ∷ []
+contents (other_arms n) = (mark Comma ∷ an_arm n) ∷ []
+
+-- the alternatives of a rule
+abbrev pub alternatives : Rule → List (List Symbol)
+alternatives program = (repeated definitions ∷ word words.Main ∷ rule (lens 100) ∷ []) ∷ []
+alternatives field = (a_name ∷ []) ∷ (a_string ∷ []) ∷ []
+alternatives (type zero) = []
+alternatives (type (suc n)) =
+    (word words.Unit ∷ [])
+    ∷ (word words.Bool ∷ [])
+    ∷ (word words.Int ∷ [])
+    ∷ (word words.Text ∷ [])
+    ∷ (word words.Enum ∷ mark OpenBracket ∷ a_string ∷ repeated other_members ∷ mark CloseBracket ∷ [])
+    ∷ (mark OpenBrace ∷ perhaps (fields n) ∷ mark CloseBrace ∷ [])
+    ∷ (mark Less ∷ a_field n ++ repeated (other_fields n) ∷ mark Greater ∷ [])
+    ∷ (word words.List ∷ rule (type n) ∷ [])
+    ∷ (word words.Keyed ∷ rule (type n) ∷ [])
+    ∷ (word words.Tree ∷ rule (type n) ∷ [])
+    ∷ (a_name ∷ [])
+    ∷ []
+alternatives (lens zero) = []
+alternatives (lens (suc n)) =
+    (word words.Id ∷ rule (type n) ∷ [])
+    ∷ (word words.Disc ∷ rule (type n) ∷ rule (type n) ∷ [])
+    ∷ (word words.Bij ∷ mark OpenBracket ∷ a_pair ++ repeated other_pairs ∷ mark CloseBracket ∷ [])
+    ∷ (word words.Then ∷ mark OpenParen ∷ rule (lens n) ∷ mark Comma ∷ rule (lens n) ∷ mark CloseParen ∷ [])
+    ∷ (mark OpenBrace ∷ perhaps (rows n) ∷ mark CloseBrace ∷ [])
+    ∷ (mark Less ∷ an_arm n ++ repeated (other_arms n) ∷ mark Greater ∷ [])
+    ∷ (word words.Each ∷ rule (lens n) ∷ [])
+    ∷ (word words.Keyed ∷ rule (lens n) ∷ [])
+    ∷ (word words.Tree ∷ rule (lens n) ∷ [])
+    ∷ (word words.Part ∷ mark Less ∷ a_field n ++ repeated (other_fields n) ∷ mark Greater ∷ [])
+    ∷ (word words.Inv ∷ rule (lens n) ∷ [])
+    ∷ (a_name ∷ [])
+    ∷ []
+alternatives (row n) =
+    an_arm n
+    ∷ (word words.Left ∷ a_field n)
+    ∷ (word words.Right ∷ a_field n)
+    ∷ []
+
+-- a program followed by the end
+abbrev pub whole : List Symbol
+whole = rule program ∷ the_end ∷ []
+
+abbrev pub IsAmong : List Symbol → List (List Symbol) → Type 0
+IsAmong a [] = ⊥
+IsAmong a (b ∷ bs) = (a ≡ b) ⊎ IsAmong a bs
+
+-- The tokens are a front of the symbols: they begin something that the symbols derive.
+pub data Front : List Symbol → List Token → Type 0 where
+  nothing : (s : List Symbol) → Front s []
+  a_mark : (m : Mark) (s : List Symbol) (ts : List Token) → Front s ts → Front (mark m ∷ s) (tokens.Mark m ∷ ts)
+  a_word : (k : Keyword) (s : List Symbol) (ts : List Token) → Front s ts → Front (word k ∷ s) (tokens.Keyword k ∷ ts)
+  the_name : (n : List ℕ) (s : List Symbol) (ts : List Token) → Front s ts → Front (a_name ∷ s) (tokens.Name n ∷ ts)
+  the_string : (n : List ℕ) (s : List Symbol) (ts : List Token) → Front s ts → Front (a_string ∷ s) (tokens.Text n ∷ ts)
+  it_ends : (s : List Symbol) (ts : List Token) → Front s ts → Front (the_end ∷ s) (tokens.End ∷ ts)
+  a_rule : (r : Rule) (a : List Symbol) (s : List Symbol) (ts : List Token) → IsAmong a (alternatives r) → Front (a ++ s) ts → Front (rule r ∷ s) ts
+  there : (p : Part) (a : List Symbol) (s : List Symbol) (ts : List Token) → IsAmong a (contents p) → Front (a ++ s) ts → Front (perhaps p ∷ s) ts
+  not_there : (p : Part) (s : List Symbol) (ts : List Token) → Front s ts → Front (perhaps p ∷ s) ts
+  again : (p : Part) (a : List Symbol) (s : List Symbol) (ts : List Token) → IsAmong a (contents p) → Front (a ++ (repeated p ∷ s)) ts → Front (repeated p ∷ s) ts
+  no_more : (p : Part) (s : List Symbol) (ts : List Token) → Front s ts → Front (repeated p ∷ s) ts

@@ -1,0 +1,33 @@
+-- What a text says besides its terms: the names that are mentioned, with their offsets.
+use Rattle.std.specs.Prelude.{ℕ, List, [], ◌∷◌, ◌++◌, map}
+use Rattle.program_tokens.specs.declared.token.PlacedToken.{PlacedToken}
+use Rattle.program_terms.specs.Terms.{DefTree, LensTree, ProgramTree}
+use Rattle.program_grammar.specs.declared.mention.Sort.{Sort}
+use Rattle.program_grammar.specs.declared.mention.Mention.{Mention}
+
+abbrev pub mention : Sort → List ℕ → ℕ → Mention
+mention sort name at = record { sort = sort; name = name; at = at }
+
+-- A point of a text: the names mentioned since its definition began, and the tokens that are left.
+abbrev pub Point : Type 0
+Point = List Mention × List PlacedToken
+
+-- a definition: its name, where that is written, what it stands for, and the names that it mentions, in written order
+pub record Noted : Type 0 where
+  pub name : List ℕ
+  pub at : ℕ
+  pub def : DefTree
+  pub mentions : List Mention
+
+-- a program with these notes: its definitions in written order, its main lens, and the names that this one mentions
+pub record NotedProgram : Type 0 where
+  pub definitions : List Noted
+  pub main : LensTree
+  pub mentions : List Mention
+
+-- the program without its notes
+abbrev pub bare_definition : Noted → List ℕ × DefTree
+bare_definition d = (d.name, d.def)
+
+abbrev pub bare : NotedProgram → ProgramTree
+bare p = record { definitions = map bare_definition p.definitions; main = p.main }

@@ -1,0 +1,10 @@
+//! The grammar of lens programs.
+//!
+//! The productions and their fronts (specs/Grammar.antt), how a program is spelled (specs/Spelling.antt), the names that
+//! it mentions and their faults (specs/Names.antt), and reading from left to right (specs/Reading.antt), on which the
+//! laws and the reader in the crates above stand. docs/LANGUAGE.md has the rules in prose.
+#![tactic(auto)]
+
+pub mod mention;
+
+pub use crate::mention::{Mention, NameFault, Sort};
