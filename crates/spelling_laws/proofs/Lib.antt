@@ -1,0 +1,9 @@
+pub mod Steps
+pub mod Marks
+pub mod Lists
+pub mod Types
+pub mod Rows
+pub mod Lenses
+pub mod Definitions
+pub mod Programs
+mod Examples
