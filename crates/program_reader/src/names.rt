@@ -1,0 +1,84 @@
+//! Checking the names of a program.
+ghost use Rattle.std.specs.Prelude.{◌≡◌, ◌∷◌, ◌++◌, [], OnOk};
+ghost use Rattle.program_grammar.specs.Mentions.{bare, bare_definition};
+ghost use Rattle.program_reader.specs.Answers.{IsAnswer, unless};
+ghost use Rattle.program_reader.specs.Known.{is_known_among, first_unknown_among, definition_fault, first_fault_among, or_fault};
+ghost use Rattle.program_reader.specs.Programs.{noted, noted_program};
+ghost use Rattle.program_terms.specs.Views.{definitions_tree, program_tree};
+
+use crate::fault::ProgramReadFault;
+use crate::programs::{ReadDefinition, ReadProgram};
+use program_grammar::{Mention, NameFault, Sort};
+use program_terms::{AddFault, Def, Definitions, Program};
+use std::alloc::Global;
+
+/// The program without its notes, or the first fault of its names in written order.
+pub(crate) fn with_known_names(
+    alloc: Global,
+    program: ReadProgram,
+) -> Result<Program, ProgramReadFault>
+    ensures { let p = noted_program program in
+        IsAnswer program_tree result (unless (first_fault_among [] p.definitions p.mentions) (bare p)) }
+{
+    let ReadProgram {
+        mut definitions,
+        main,
+        mentions,
+    } = program;
+    let mut known = Definitions::new(alloc);
+    'definitions: while let Some(definition) = definitions.pop_front() {
+        add_definition(&mut known, definition)?;
+    }
+    all_known(&known, &mentions)?;
+    Ok(Program::from_parts(known, main))
+}
+
+/// Adds a definition behind the earlier ones, or answers its first fault.
+fn add_definition(
+    known: &mut Definitions,
+    definition: ReadDefinition,
+) -> Result<(), ProgramReadFault>
+    ensures answer { IsAnswer (λ u. u) result
+        (unless (definition_fault (definitions_tree known.old) (noted definition)) tt) }
+    ensures added { OnOk result
+        (definitions_tree known.new ≡ definitions_tree known.old ++ bare_definition (noted definition) ∷ []) }
+{
+    let ReadDefinition {
+        name,
+        at,
+        def,
+        mentions,
+    } = definition;
+    // Before it is added: a definition is not known in what it stands for.
+    let mentioned = all_known(known, &mentions);
+    match known.add(name, def) {
+        Ok(()) => {}
+        Err(AddFault::Repeated) => return Err(ProgramReadFault::RepeatedName { at }),
+        Err(AddFault::NoMemory) => return Err(ProgramReadFault::NoMemory),
+    }
+    mentioned?;
+    Ok(())
+}
+
+/// Whether all names mentioned are known, or which is the first that is not.
+fn all_known(known: &Definitions, mentions: &[Mention]) -> Result<(), NameFault>
+    ensures { result ≡ or_fault (first_unknown_among (definitions_tree known.now) mentions.now) }
+{
+    for mention in mentions {
+        if !is_known(known, mention) {
+            return Err(NameFault::Unknown { at: mention.at });
+        }
+    }
+    Ok(())
+}
+
+/// Whether the definition with the name that is mentioned is of the wanted sort.
+fn is_known(known: &Definitions, mention: &Mention) -> bool
+    ensures { result ≡ is_known_among (definitions_tree known.now) mention.now }
+{
+    match known.find(&mention.name) {
+        Some(Def::OfType(_)) => matches!(mention.sort, Sort::Type),
+        Some(Def::OfLens(_)) => matches!(mention.sort, Sort::Lens),
+        None => false,
+    }
+}
