@@ -1,0 +1,5 @@
+use Rattle.program_writing.proofs.Faults.{still_faultless}
+use Rattle.program_writing.proofs.laws.names_stay_good.Goals as goal
+
+pub returns : goal.returns
+returns c = record { known = still_faultless }

@@ -1,0 +1,113 @@
+-- What the grammar can say: the programs and types that have a text.
+use Rattle.std.specs.Prelude.{◌≡◌, ℕ, zero, suc, true, List, [], ◌∷◌}
+use Rattle.program_tokens.specs.Words.{is_name, is_text}
+use Rattle.program_terms.specs.Terms.{TypeTree, FieldTrees, unit, bool, int, text, enum_of, record_of, one_of, list, keyed, tree, named, no_fields, more_fields, LensTree, id_of, bij_of, disc_of, then_of, rec_lens, alt_lens, each_of, keyed_each, tree_each, part_of, inv_of, named_lens, RowTrees, no_rows, both, only_left, only_right, ArmTrees, no_arms, more_arms, DefTree, type_def, lens_def, ProgramTree}
+use Rattle.doc_values.specs.Types.{TyTree, ty_unit, ty_bool, ty_int, ty_text, ty_enum, ty_rec, ty_alt, ty_list, ty_keyed, ty_ordered}
+use Rattle.doc_values.specs.Types as of_documents
+
+-- it is a name; it may stand in a string
+abbrev pub IsName : List ℕ → Type 0
+IsName n = is_name n ≡ true
+
+abbrev pub IsText : List ℕ → Type 0
+IsText s = is_text s ≡ true
+
+abbrev pub AreTexts : List (List ℕ) → Type 0
+AreTexts [] = Unit {0}
+AreTexts (s ∷ ss) = IsText s × AreTexts ss
+
+abbrev pub ArePairsOfTexts : List (List ℕ × List ℕ) → Type 0
+ArePairsOfTexts [] = Unit {0}
+ArePairsOfTexts (p ∷ ps) = IsText p.0 × IsText p.1 × ArePairsOfTexts ps
+
+-- at least one
+abbrev pub IsNotEmpty : {A : Type 0} → List A → Type 0
+IsNotEmpty [] = ⊥
+IsNotEmpty (x ∷ xs) = Unit {0}
+
+abbrev pub HasFields : FieldTrees → Type 0
+HasFields no_fields = ⊥
+HasFields (more_fields f t fs) = Unit {0}
+
+abbrev pub HasArms : ArmTrees → Type 0
+HasArms no_arms = ⊥
+HasArms (more_arms f g l arms) = Unit {0}
+
+-- a type with so many types and lenses one inside the other at most, itself among them: members, fields and tags may stand in
+-- strings, a name is one, and an enum and alternatives are not empty
+abbrev mutual
+  pub IsWritableType : ℕ → TypeTree → Type 0
+  IsWritableType zero t = ⊥
+  IsWritableType (suc n) unit = Unit {0}
+  IsWritableType (suc n) bool = Unit {0}
+  IsWritableType (suc n) int = Unit {0}
+  IsWritableType (suc n) text = Unit {0}
+  IsWritableType (suc n) (enum_of ms) = IsNotEmpty ms × AreTexts ms
+  IsWritableType (suc n) (record_of fs) = AreWritableFields n fs
+  IsWritableType (suc n) (one_of fs) = HasFields fs × AreWritableFields n fs
+  IsWritableType (suc n) (list t) = IsWritableType n t
+  IsWritableType (suc n) (keyed t) = IsWritableType n t
+  IsWritableType (suc n) (tree t) = IsWritableType n t
+  IsWritableType (suc n) (named m) = IsName m
+
+  pub AreWritableFields : ℕ → FieldTrees → Type 0
+  AreWritableFields n no_fields = Unit {0}
+  AreWritableFields n (more_fields f t fs) = IsText f × IsWritableType n t × AreWritableFields n fs
+
+-- a lens likewise
+abbrev mutual
+  pub IsWritableLens : ℕ → LensTree → Type 0
+  IsWritableLens zero l = ⊥
+  IsWritableLens (suc n) (id_of t) = IsWritableType n t
+  IsWritableLens (suc n) (disc_of t u) = IsWritableType n t × IsWritableType n u
+  IsWritableLens (suc n) (bij_of ps) = IsNotEmpty ps × ArePairsOfTexts ps
+  IsWritableLens (suc n) (then_of l k) = IsWritableLens n l × IsWritableLens n k
+  IsWritableLens (suc n) (rec_lens rows) = AreWritableRows n rows
+  IsWritableLens (suc n) (alt_lens arms) = HasArms arms × AreWritableArms n arms
+  IsWritableLens (suc n) (each_of l) = IsWritableLens n l
+  IsWritableLens (suc n) (keyed_each l) = IsWritableLens n l
+  IsWritableLens (suc n) (tree_each l) = IsWritableLens n l
+  IsWritableLens (suc n) (part_of fs) = HasFields fs × AreWritableFields n fs
+  IsWritableLens (suc n) (inv_of l) = IsWritableLens n l
+  IsWritableLens (suc n) (named_lens m) = IsName m
+
+  pub AreWritableRows : ℕ → RowTrees → Type 0
+  AreWritableRows n no_rows = Unit {0}
+  AreWritableRows n (both f g l rows) = IsText f × IsText g × IsWritableLens n l × AreWritableRows n rows
+  AreWritableRows n (only_left f t rows) = IsText f × IsWritableType n t × AreWritableRows n rows
+  AreWritableRows n (only_right f t rows) = IsText f × IsWritableType n t × AreWritableRows n rows
+
+  pub AreWritableArms : ℕ → ArmTrees → Type 0
+  AreWritableArms n no_arms = Unit {0}
+  AreWritableArms n (more_arms f g l arms) = IsText f × IsText g × IsWritableLens n l × AreWritableArms n arms
+
+-- a definition: 100 types and lenses may stand one inside the other
+abbrev pub IsWritableTerm : DefTree → Type 0
+IsWritableTerm (type_def t) = IsWritableType 100 t
+IsWritableTerm (lens_def l) = IsWritableLens 100 l
+
+abbrev pub AreWritableDefinitions : List (List ℕ × DefTree) → Type 0
+AreWritableDefinitions [] = Unit {0}
+AreWritableDefinitions (d ∷ ds) = IsName d.0 × IsWritableTerm d.1 × AreWritableDefinitions ds
+
+-- a program: each name that is defined is one, and each term is writable
+abbrev pub IsWritable : ProgramTree → Type 0
+IsWritable p = AreWritableDefinitions p.definitions × IsWritableLens 100 p.main
+
+-- a type of documents in which each member, field and tag may stand in a string
+abbrev mutual
+  pub IsSpeakable : TyTree → Type 0
+  IsSpeakable ty_unit = Unit {0}
+  IsSpeakable ty_bool = Unit {0}
+  IsSpeakable ty_int = Unit {0}
+  IsSpeakable ty_text = Unit {0}
+  IsSpeakable (ty_enum ms) = AreTexts ms
+  IsSpeakable (ty_rec fs) = AreSpeakable fs
+  IsSpeakable (ty_alt fs) = AreSpeakable fs
+  IsSpeakable (ty_list t) = IsSpeakable t
+  IsSpeakable (ty_keyed t) = IsSpeakable t
+  IsSpeakable (ty_ordered t) = IsSpeakable t
+
+  pub AreSpeakable : of_documents.FieldTrees → Type 0
+  AreSpeakable of_documents.no_fields = Unit {0}
+  AreSpeakable (of_documents.field f t fs) = IsText f × IsSpeakable t × AreSpeakable fs

@@ -1,0 +1,20 @@
+//! The canonical text of programs, of types and of names.
+//!
+//! `write_program` gives the one text that stands for a program, `write_type` a type of documents as a program
+//! writes it, and `write_name` a name as a field is written. Any program that was read is written so that it is read
+//! again as the same: the laws of the module `laws` say so. docs/LANGUAGE.md has the rule.
+#![tactic(auto)]
+
+pub mod laws;
+mod lens_text;
+mod name_text;
+mod program_text;
+mod ty_text;
+mod type_text;
+
+pub use crate::name_text::write_name;
+pub use crate::program_text::write_program;
+pub use crate::ty_text::write_type;
+
+#[cfg(test)]
+mod tests;
