@@ -1,0 +1,56 @@
+//! From a text to its program.
+
+ghost use Rattle.std.specs.Prelude.{◌≡◌, ◌↔◌, ◌<◌, ◌≤◌, IsErrOf, length};
+ghost use Rattle.program_terms.specs.Views.{program_tree};
+ghost use Rattle.lens_syntax.specs.Programs.{Gives, Tells, bounded, seen, unbounded};
+ghost use Rattle.lens_syntax.specs.declared.fault.ProgramFault;
+
+use crate::fault::ProgramFault;
+use program_reader::{ProgramReadFault, read_tokens};
+use program_terms::Program;
+use program_tokens::tokens;
+use std::alloc::Global;
+
+/// The most bytes of a text that `read_program` reads.
+pub const LONGEST: usize = 65_536;
+
+/// The program of a text of at most 65,536 bytes.
+///
+/// The refusals, in this order; docs/LANGUAGE.md has the rules:
+/// - `ProgramTooLong` exactly where the text has more bytes.
+/// - `NotAProgram` exactly where the grammar does not have the text, with the offset of the first token that does not
+///   fit: the tokens before it begin some program and its end, and with it they do not.
+/// - `UnknownName` and `RepeatedName`, the first of either in written order, with the offset of the name.
+/// - `NoMemory` where memory is wanting, in place of any other answer but `ProgramTooLong`.
+pub fn read_program(alloc: Global, text: &[u8]) -> Result<Program, ProgramFault>
+    ensures answer { Gives program_tree result (bounded text.now) }
+    ensures too_long { IsErrOf result ProgramFault.ProgramTooLong ↔ 65536 < length text.now }
+
+    // What the answer says of the text, in the words of the grammar.
+    ensures tells { length text.now ≤ 65536 → Tells text.now (seen program_tree result) }
+{
+    if text.len() > LONGEST {
+        return Err(ProgramFault::ProgramTooLong);
+    }
+    read_unbounded(alloc, text)
+}
+
+/// The program of a text of any length, as canonical text may be longer than the text that was read.
+///
+/// The refusals are those of `read_program` but for `ProgramTooLong`, which never comes.
+pub fn read_unbounded(alloc: Global, text: &[u8]) -> Result<Program, ProgramFault>
+    ensures answer { Gives program_tree result (unbounded text.now) }
+
+    // What the answer says of the text, in the words of the grammar; so it is never `ProgramTooLong`.
+    ensures tells { Tells text.now (seen program_tree result) }
+{
+    let tokens = tokens(alloc, text)?;
+    match read_tokens(alloc, tokens) {
+        Ok(program) => Ok(program),
+        Err(ProgramReadFault::NotAProgram { at }) => Err(ProgramFault::NotAProgram { at }),
+        Err(ProgramReadFault::UnknownName { at }) => Err(ProgramFault::UnknownName { at }),
+        Err(ProgramReadFault::RepeatedName { at }) => Err(ProgramFault::RepeatedName { at }),
+        Err(ProgramReadFault::NoMemory) => Err(ProgramFault::NoMemory),
+        Err(ProgramReadFault::Ended) => unreachable!(),
+    }
+}
