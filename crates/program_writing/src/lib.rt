@@ -1,8 +1,8 @@
 //! The canonical text of programs, of types and of names.
 //!
 //! `write_program` gives the one text that stands for a program, `write_type` a type of documents as a program
-//! writes it, and `write_name` a name as a field is written. Any program that was read is written so that it is read
-//! again as the same: the laws of the module `laws` say so. docs/LANGUAGE.md has the rule.
+//! writes it, and `write_name` a name as a field is written. A program that some text spells is spelled by its
+//! canonical text too: the laws of the module `laws` say so. docs/LANGUAGE.md has the rule.
 #![tactic(auto)]
 
 pub mod laws;

@@ -106,14 +106,15 @@ fn right(alloc: Global, field: &str, ty: TyExpr) -> Made<Row> {
     Ok(Row::OnlyRight(name(alloc, field)?, ty))
 }
 
-fn row(alloc: Global, one: Made<Row>) -> Made<Lens> {
-    Ok(Lens::Rec(Rows::from_vec(vec![in alloc; one?]?)))
+// Rows, and one behind them.
+fn behind(rows: Made<Vec<Row>>, row: Made<Row>) -> Made<Vec<Row>> {
+    let mut all = rows?;
+    all.push(row?)?;
+    Ok(all)
 }
 
-fn rows(alloc: Global, one: Made<Row>, two: Made<Row>, three: Made<Row>) -> Made<Lens> {
-    let one = one?;
-    let two = two?;
-    Ok(Lens::Rec(Rows::from_vec(vec![in alloc; one, two, three?]?)))
+fn record_lens(rows: Made<Vec<Row>>) -> Made<Lens> {
+    Ok(Lens::Rec(Rows::from_vec(rows?)))
 }
 
 fn arms(alloc: Global, one: Made<Lens>, two: Made<Lens>) -> Made<Lens> {
@@ -230,7 +231,27 @@ fn containers(rt: HostRuntime) {
 }
 
 #[test]
-fn pairs_rows_and_arms(rt: HostRuntime) {
+fn records(rt: HostRuntime) {
+    let alloc = rt.alloc();
+    let one = behind(
+        Ok(Vec::new(alloc)),
+        both(alloc, "a", "b", id(Ok(TyExpr::Int))),
+    );
+    writes(&rt, alloc, record_lens(one), "main {a ~ b: id int}");
+    let paired = both(alloc, "name", "text", id(Ok(TyExpr::Text)));
+    let one = behind(Ok(Vec::new(alloc)), paired);
+    let two = behind(one, left(alloc, "age", TyExpr::Int));
+    let three = behind(two, right(alloc, "left", TyExpr::Unit));
+    writes(
+        &rt,
+        alloc,
+        record_lens(three),
+        "main {name ~ \"text\": id text, left age: int, right \"left\": unit}",
+    );
+}
+
+#[test]
+fn pairs_and_arms(rt: HostRuntime) {
     let alloc = rt.alloc();
     let members = bij(alloc, pairs(alloc, "on", "yes"), pairs(alloc, "off", "no"));
     writes(
@@ -238,20 +259,6 @@ fn pairs_rows_and_arms(rt: HostRuntime) {
         alloc,
         members,
         "main bij[\"on\"=\"yes\", \"off\"=\"no\"]",
-    );
-    let one = row(alloc, both(alloc, "a", "b", id(Ok(TyExpr::Int))));
-    writes(&rt, alloc, one, "main {a ~ b: id int}");
-    let three = rows(
-        alloc,
-        both(alloc, "name", "text", id(Ok(TyExpr::Text))),
-        left(alloc, "age", TyExpr::Int),
-        right(alloc, "left", TyExpr::Unit),
-    );
-    writes(
-        &rt,
-        alloc,
-        three,
-        "main {name ~ \"text\": id text, left age: int, right \"left\": unit}",
     );
     let two = arms(alloc, id(Ok(TyExpr::Int)), named_lens(alloc, "l"));
     writes(&rt, alloc, two, "main <p ~ \"main\": id int, o ~ q: l>");
