@@ -1,5 +1,5 @@
 -- What stands at each end of a run.
-use Rattle.std.proofs.Common.{◌≡◌, ◌⊎◌, inl, inr, ℕ, ◌+◌, ◌^◌, ◌<◌, ◌≤◌, List, [], ◌∷◌, ◌++◌, length, Bool, true, false, Option, Some, None, option_map, Result, Ok, Err, IsTrue, IfSome, refl, sym, ap, subst, ◌∙◌, append-nil, length-append, arith}
+use Rattle.std.proofs.Common.{◌≡◌, ◌⊎◌, inl, inr, ℕ, ◌+◌, ◌^◌, ◌<◌, ◌≤◌, List, [], ◌∷◌, ◌++◌, length, Bool, true, false, cond, Option, Some, None, option_map, Result, Ok, Err, IsTrue, IfSome, refl, sym, ap, subst, ◌∙◌, append-nil, length-append, arith}
 use Rattle.std.specs.Io.KnownBytes.{Appends, Consumes, IsAtEnd}
 use Rattle.std.proofs.KnownBytes.{Appends-nil}
 use Rattle.lens_io.specs.Causes.{Rose}
@@ -7,21 +7,43 @@ use Rattle.lens_io.specs.Content.{AppendsFront}
 use Rattle.lens_io.specs.Takes.{Takes}
 use Rattle.lens_io.specs.declared.failed.TakeFault.{TakeFault}
 use Rattle.lens_io.specs.declared.failed.TakeFault.TheVariants as taking
-use Rattle.lens_core.specs.Forms.{FormTree, is_paired_int, paired_int}
+use Rattle.lens_types.specs.Forms.{FormTree}
+use Rattle.lens_core.specs.Built.{is_paired_int}
 use Rattle.editlens_main.specs.Lines.{program_part}
-use Rattle.editlens_main.specs.Program.{names_of}
+use Rattle.program_terms.specs.Terms.{ProgramTree}
+use Rattle.lens_syntax.specs.Programs.{bounded}
+use Rattle.lens_syntax.specs.declared.fault.ProgramFault.{ProgramFault}
+use Rattle.lens_types.specs.Checking.{Failure, first_failure}
+use Rattle.lens_types.specs.Earlier.{main_form}
+use Rattle.editlens_main.specs.Program.{Refusal, not_built, typed, checked, lens_of}
 use Rattle.editlens_main.specs.Step.{TripleTree, first, AnswerTree}
-use Rattle.editlens_main.specs.Report.{form_of, items_of, answer_lines, state_lines, ending, report_with, report, refusal_line}
+use Rattle.editlens_main.specs.Report.{items_of, answer_lines, state_lines, type_lines, ending, report_with, report, refusal_line}
 use Rattle.editlens_main.specs.Run.{Item, run, last, any_refused}
-use Rattle.editlens_main.specs.Ends.{IsFinished, Reports, IsCleanStop, Stops, IsComplete}
+use Rattle.editlens_main.specs.Ends.{IsFinished, StaysInStep, Reports, IsCleanStop, Stops, IsComplete}
 use Rattle.editlens_main.proofs.InStep.{triples_in_step}
+use Rattle.editlens_main.specs.declared.words.Command.{Command}
+use Rattle.editlens_main.specs.declared.words.Command.TheVariants.{Run, Check}
 use Rattle.editlens_main.specs.declared.status.Status.{Status}
 use Rattle.editlens_main.specs.declared.status.Status.TheVariants.{Done, SomeRefused, Usage, ProgramRefused, SourceFault, SinkFault, InputTooLong, NoMemory}
 
--- an accepted program part is of the form that is built
-pub built : (names : Option (List ℕ × List ℕ)) (form : FormTree) → option_map (λ (p : List ℕ × List ℕ). paired_int p.0 p.1) names ≡ Some form → IsTrue (is_paired_int form)
-built None form h = cc
-built (Some p) form h = let same : paired_int p.0 p.1 ≡ form = cc in subst (λ f. IsTrue (is_paired_int f)) same refl
+-- the lens of a run is one that is carried today
+abbrev given : FormTree → Result FormTree Refusal
+given f = Ok f
+
+built_run : (form f : FormTree) (b : Bool) → is_paired_int form ≡ b → cond b (Ok form) (Err not_built) ≡ given f → IsTrue (is_paired_int f)
+built_run form f true is h = let same : form ≡ f = cc in subst (λ g. IsTrue (is_paired_int g)) same is
+built_run form f false is h = absurd cc
+
+typed_run : (program : ProgramTree) (o : Option Failure) (f : FormTree) → typed Run program o ≡ Ok f → IsTrue (is_paired_int f)
+typed_run program None f h = built_run (main_form program) f (is_paired_int (main_form program)) refl h
+typed_run program (Some failure) f h = absurd cc
+
+checked_run : (r : Result ProgramTree ProgramFault) (f : FormTree) → checked Run r ≡ Ok f → IsTrue (is_paired_int f)
+checked_run (Ok program) f h = typed_run program (first_failure program) f h
+checked_run (Err fault) f h = absurd cc
+
+pub built : (text : List ℕ) (f : FormTree) → lens_of Run text ≡ Ok f → IsTrue (is_paired_int f)
+built text f h = checked_run (bounded text) f h
 
 finished : (b : Bool) → IsFinished (ending b)
 finished true = inr refl
@@ -31,26 +53,35 @@ mapped : {X Y : Type 0} (f : X → Y) (o : Option X) (y : Y) → option_map f o 
 mapped f None y h = cc
 mapped f (Some x) y h = (x, refl, let e : f x ≡ y = cc in e)
 
--- the report of a run ends with `Done` or `SomeRefused`, any other is the refusal line
-pub ended : (form : Option FormTree) (items : List Item) (text : List ℕ) (status : Status) → report_with form items ≡ Some (text, status)
-    → ((f : FormTree) × (form ≡ Some f) × IsFinished status) ⊎ ((form ≡ None) × (text ≡ refusal_line) × (status ≡ ProgramRefused))
-ended (Some form) items text status h =
+-- A report of an accepted program part ends with `Done` or `SomeRefused`; any other is the line of a refusal.
+abbrev pub Accepted : Result FormTree Refusal → Status → Type 0
+Accepted found status = (f : FormTree) × (found ≡ Ok f) × IsFinished status
+
+abbrev pub Refuses : Result FormTree Refusal → List ℕ → Status → Type 0
+Refuses found text status = (r : Refusal) × (found ≡ Err r) × (text ≡ refusal_line r) × (status ≡ ProgramRefused)
+
+pub ended : (command : Command) (found : Result FormTree Refusal) (items : List Item) (text : List ℕ) (status : Status) → report_with command found items ≡ Some (text, status)
+    → Accepted found status ⊎ Refuses found text status
+ended Run (Ok form) items text status h =
     let answer : List (TripleTree × AnswerTree) → List ℕ × Status =
     λ steps. (answer_lines 1 steps ++ state_lines form (last (first form) steps), ending (any_refused steps)) in
     let steps = mapped answer (run form (first form) items) (text, status) h in
     inl (form, refl, subst IsFinished (ap (λ (r : List ℕ × Status). r.1) steps.2) (finished (any_refused steps.0)))
-ended None items text status h =
-    let same : (refusal_line, ProgramRefused) ≡ (text, status) = cc in
-    inr (refl, sym (ap (λ (r : List ℕ × Status). r.0) same), sym (ap (λ (r : List ℕ × Status). r.1) same))
+ended Check (Ok form) items text status h =
+    let same : (type_lines form, Done) ≡ (text, status) = cc in
+    inl (form, refl, inl (sym (ap (λ (r : List ℕ × Status). r.1) same)))
+ended command (Err refusal) items text status h =
+    let same : (refusal_line refusal, ProgramRefused) ≡ (text, status) = cc in
+    inr (refusal, refl, sym (ap (λ (r : List ℕ × Status). r.0) same), sym (ap (λ (r : List ℕ × Status). r.1) same))
 
 -- no report ends with a fault of a device
-pub no_fault : (bytes text : List ℕ) (status : Status) → report bytes ≡ Some (text, status) → (status ≡ SourceFault → ⊥) × (status ≡ SinkFault → ⊥)
-no_fault bytes text status h = by_end (ended (form_of (program_part bytes)) (items_of bytes) text status h) where
-  by_end : ((f : FormTree) × (form_of (program_part bytes) ≡ Some f) × IsFinished status) ⊎ ((form_of (program_part bytes) ≡ None) × (text ≡ refusal_line) × (status ≡ ProgramRefused))
+pub no_fault : (command : Command) (bytes text : List ℕ) (status : Status) → report command bytes ≡ Some (text, status) → (status ≡ SourceFault → ⊥) × (status ≡ SinkFault → ⊥)
+no_fault command bytes text status h = by_end (ended command (lens_of command (program_part bytes)) (items_of bytes) text status h) where
+  by_end : Accepted (lens_of command (program_part bytes)) status ⊎ Refuses (lens_of command (program_part bytes)) text status
       → (status ≡ SourceFault → ⊥) × (status ≡ SinkFault → ⊥)
   by_end (inl (f, some, inl done)) = ((λ e. cc), (λ e. cc))
   by_end (inl (f, some, inr refused)) = ((λ e. cc), (λ e. cc))
-  by_end (inr (none, line, refused)) = ((λ e. cc), (λ e. cc))
+  by_end (inr (r, none, line, refused)) = ((λ e. cc), (λ e. cc))
 
 -- all that the source had was taken
 all_taken : (bytes : List ℕ) (left' : Option (List ℕ)) (taken : List ℕ) → Consumes (Some bytes) left' taken → IsAtEnd left' → bytes ≡ taken
@@ -61,9 +92,9 @@ few_taken : (bytes : List ℕ) (left' : Option (List ℕ)) (taken : List ℕ) �
 few_taken bytes None taken h = absurd h
 few_taken bytes (Some rest) taken h = omega (arith, ap length h, length-append taken rest)
 
-module _ (left left' held held' : Option (List ℕ)) where
+module _ (command : Command) (left left' held held' : Option (List ℕ)) where
   stops : (r : Result (List ℕ) TakeFault) (status : Status) (t : Takes (2 ^ 30) left left' r) → (r ≡ Err taking.TooLong → ⊥) → (status ≡ InputTooLong → ⊥)
-      → IsCleanStop left left' held held' t.bytes status → Stops left left' held held' status
+      → IsCleanStop command left left' held held' t.bytes status → Stops command left left' held held' status
   stops r status t whole other clean = record {
     bytes = t.bytes;
     taken = t.taken;
@@ -72,37 +103,42 @@ module _ (left left' held held' : Option (List ℕ)) where
     clean = clean;
   }
 
-  clean_end : (form : Option FormTree) (bytes text : List ℕ) (status : Status) → IsAtEnd left' → Appends held held' text → form_of (program_part bytes) ≡ form
-      → ((f : FormTree) × (form ≡ Some f) × IsFinished status) ⊎ ((form ≡ None) × (text ≡ refusal_line) × (status ≡ ProgramRefused)) → IsCleanStop left left' held held' bytes status
-  clean_end form bytes text status end given is (inl (f, some, inl done)) = subst (IsCleanStop left left' held held' bytes) (sym done) tt
-  clean_end form bytes text status end given is (inl (f, some, inr refused)) = subst (IsCleanStop left left' held held' bytes) (sym refused) tt
-  clean_end form bytes text status end given is (inr (none, line, refused)) =
-      subst (IsCleanStop left left' held held' bytes) (sym refused) (end, is ∙ none, subst (Appends held held') line given)
+  clean_end : (bytes text : List ℕ) (status : Status) → IsAtEnd left' → Appends held held' text
+      → Accepted (lens_of command (program_part bytes)) status ⊎ Refuses (lens_of command (program_part bytes)) text status → IsCleanStop command left left' held held' bytes status
+  clean_end bytes text status end given (inl (f, some, inl done)) = subst (IsCleanStop command left left' held held' bytes) (sym done) tt
+  clean_end bytes text status end given (inl (f, some, inr refused)) = subst (IsCleanStop command left left' held held' bytes) (sym refused) tt
+  clean_end bytes text status end given (inr (r, none, line, refused)) =
+      subst (IsCleanStop command left left' held held' bytes) (sym refused) (end, (r, none, subst (Appends held held') line given))
 
-  not_too_long : (form : Option FormTree) (text : List ℕ) (status : Status)
-      → ((f : FormTree) × (form ≡ Some f) × IsFinished status) ⊎ ((form ≡ None) × (text ≡ refusal_line) × (status ≡ ProgramRefused)) → status ≡ InputTooLong → ⊥
-  not_too_long form text status (inl (f, some, inl done)) e = cc
-  not_too_long form text status (inl (f, some, inr refused)) e = cc
-  not_too_long form text status (inr (none, line, refused)) e = cc
+  not_too_long : (bytes text : List ℕ) (status : Status)
+      → Accepted (lens_of command (program_part bytes)) status ⊎ Refuses (lens_of command (program_part bytes)) text status → status ≡ InputTooLong → ⊥
+  not_too_long bytes text status (inl (f, some, inl done)) e = cc
+  not_too_long bytes text status (inl (f, some, inr refused)) e = cc
+  not_too_long bytes text status (inr (r, none, line, refused)) e = cc
 
   -- the report of what was taken
-  reported : (answer : List ℕ) (t : Takes (2 ^ 30) left left' (Ok answer)) (text : List ℕ) (status : Status) → report answer ≡ Some (text, status) → report t.bytes ≡ Some (text, status)
-  reported answer t text status h = subst (λ bytes. report bytes ≡ Some (text, status)) t.all.0 h
+  reported : (answer : List ℕ) (t : Takes (2 ^ 30) left left' (Ok answer)) (text : List ℕ) (status : Status) → report command answer ≡ Some (text, status) → report command t.bytes ≡ Some (text, status)
+  reported answer t text status h = subst (λ bytes. report command bytes ≡ Some (text, status)) t.all.0 h
 
-  pub stops_given : (answer : List ℕ) (text : List ℕ) (status : Status) → Takes (2 ^ 30) left left' (Ok answer) → report answer ≡ Some (text, status) → Appends held held' text
-      → Stops left left' held held' status
+  pub stops_given : (answer : List ℕ) (text : List ℕ) (status : Status) → Takes (2 ^ 30) left left' (Ok answer) → report command answer ≡ Some (text, status) → Appends held held' text
+      → Stops command left left' held held' status
   stops_given answer text status t h given =
-      let kind = ended (form_of (program_part t.bytes)) (items_of t.bytes) text status (reported answer t text status h) in
-      stops (Ok answer) status t (λ e. cc) (not_too_long _ text status kind) (clean_end _ t.bytes text status t.all.1 given refl kind)
+      let kind = ended command (lens_of command (program_part t.bytes)) (items_of t.bytes) text status (reported answer t text status h) in
+      stops (Ok answer) status t (λ e. cc) (not_too_long t.bytes text status kind) (clean_end t.bytes text status t.all.1 given kind)
 
-  pub stops_sink : (answer : List ℕ) (text : List ℕ) (status : Status) → Takes (2 ^ 30) left left' (Ok answer) → report answer ≡ Some (text, status) → AppendsFront held held' text
-      → Stops left left' held held' SinkFault
+  pub stops_sink : (answer : List ℕ) (text : List ℕ) (status : Status) → Takes (2 ^ 30) left left' (Ok answer) → report command answer ≡ Some (text, status) → AppendsFront held held' text
+      → Stops command left left' held held' SinkFault
   stops_sink answer text status t h front = stops (Ok answer) SinkFault t (λ e. cc) (λ e. cc) (t.all.1, (text, status, reported answer t text status h, front))
 
-  reports_kind : (t : (bytes : List ℕ) × Consumes left left' bytes × IsAtEnd left' × (length bytes ≤ 2 ^ 30)) (text : List ℕ) (status : Status) → report t.0 ≡ Some (text, status) → Appends held held' text → IsFinished status
-      → ((f : FormTree) × (form_of (program_part t.0) ≡ Some f) × IsFinished status) ⊎ ((form_of (program_part t.0) ≡ None) × (text ≡ refusal_line) × (status ≡ ProgramRefused)) → Reports left left' held held' status
+-- every triple of a run stays in step
+stays : (command : Command) (text : List ℕ) (f : FormTree) (items : List Item) → lens_of command text ≡ Ok f → StaysInStep command f items
+stays Run text f items h = triples_in_step f (built text f h) items
+stays Check text f items h = tt
+
+module _ (command : Command) (left left' held held' : Option (List ℕ)) where
+  reports_kind : (t : (bytes : List ℕ) × Consumes left left' bytes × IsAtEnd left' × (length bytes ≤ 2 ^ 30)) (text : List ℕ) (status : Status) → report command t.0 ≡ Some (text, status) → Appends held held' text → IsFinished status
+      → Accepted (lens_of command (program_part t.0)) status ⊎ Refuses (lens_of command (program_part t.0)) text status → Reports command left left' held held' status
   reports_kind t text status h given fin (inl (f, some, is)) =
-      let all = triples_in_step f (built (names_of (program_part t.0)) f some) (items_of t.0) in
       record {
         bytes = t.0;
         taken = t.1;
@@ -113,33 +149,31 @@ module _ (left left' held held' : Option (List ℕ)) where
         given = given;
         form = f;
         accepted = some;
-        all = all.0;
-        run = all.1;
-        in_step = all.2;
+        in_step = stays command (program_part t.0) f (items_of t.0) some;
       }
-  reports_kind t text status h given (inl done) (inr (none, line, refused)) = cc
-  reports_kind t text status h given (inr some) (inr (none, line, refused)) = cc
+  reports_kind t text status h given (inl done) (inr (r, none, line, refused)) = cc
+  reports_kind t text status h given (inr some) (inr (r, none, line, refused)) = cc
 
-  pub reports_given : (answer : List ℕ) (text : List ℕ) (status : Status) → Takes (2 ^ 30) left left' (Ok answer) → report answer ≡ Some (text, status) → Appends held held' text
-      → IsFinished status → Reports left left' held held' status
+  pub reports_given : (answer : List ℕ) (text : List ℕ) (status : Status) → Takes (2 ^ 30) left left' (Ok answer) → report command answer ≡ Some (text, status) → Appends held held' text
+      → IsFinished status → Reports command left left' held held' status
   reports_given answer text status t h given fin =
       let few : 2 ^ 30 < length t.bytes → ⊥ = λ more. (let bad = t.too_long.1 more in cc) in
       let within : length t.bytes ≤ 2 ^ 30 = omega (arith, few) in
-      let is = reported answer t text status h in
-      reports_kind (t.bytes, t.taken, t.all.1, within) text status is given fin (ended (form_of (program_part t.bytes)) (items_of t.bytes) text status is)
+      let is = subst (λ bytes. report command bytes ≡ Some (text, status)) t.all.0 h in
+      reports_kind (t.bytes, t.taken, t.all.1, within) text status is given fin (ended command (lens_of command (program_part t.bytes)) (items_of t.bytes) text status is)
 
 -- before anything is given
-module _ (left left' held : Option (List ℕ)) where
-  pub stops_source : Takes (2 ^ 30) left left' (Err taking.SourceFault) → Stops left left' held held SourceFault
-  stops_source t = stops left left' held held (Err taking.SourceFault) SourceFault t (λ e. cc) (λ e. cc) (Appends-nil held)
+module _ (command : Command) (left left' held : Option (List ℕ)) where
+  pub stops_source : Takes (2 ^ 30) left left' (Err taking.SourceFault) → Stops command left left' held held SourceFault
+  stops_source t = stops command left left' held held (Err taking.SourceFault) SourceFault t (λ e. cc) (λ e. cc) (Appends-nil held)
 
-  pub stops_memory : Takes (2 ^ 30) left left' (Err taking.NoMemory) → Stops left left' held held NoMemory
-  stops_memory t = stops left left' held held (Err taking.NoMemory) NoMemory t (λ e. cc) (λ e. cc) (Appends-nil held)
+  pub stops_memory : Takes (2 ^ 30) left left' (Err taking.NoMemory) → Stops command left left' held held NoMemory
+  stops_memory t = stops command left left' held held (Err taking.NoMemory) NoMemory t (λ e. cc) (λ e. cc) (Appends-nil held)
 
-  pub stops_memory_later : (answer : List ℕ) → Takes (2 ^ 30) left left' (Ok answer) → Stops left left' held held NoMemory
-  stops_memory_later answer t = stops left left' held held (Ok answer) NoMemory t (λ e. cc) (λ e. cc) (Appends-nil held)
+  pub stops_memory_later : (answer : List ℕ) → Takes (2 ^ 30) left left' (Ok answer) → Stops command left left' held held NoMemory
+  stops_memory_later answer t = stops command left left' held held (Ok answer) NoMemory t (λ e. cc) (λ e. cc) (Appends-nil held)
 
-  pub stops_too_long : Takes (2 ^ 30) left left' (Err taking.TooLong) → Stops left left' held held InputTooLong
+  pub stops_too_long : Takes (2 ^ 30) left left' (Err taking.TooLong) → Stops command left left' held held InputTooLong
   stops_too_long t = record {
     bytes = t.bytes;
     taken = t.taken;
@@ -148,36 +182,30 @@ module _ (left left' held : Option (List ℕ)) where
     clean = Appends-nil held;
   }
 
--- A run that met no fault is complete. R says that the source failed, F that the sink did.
-pub complete : (left left' held held' : Option (List ℕ)) (status : Status) (R F : Type 0) → Stops left left' held held' status
-    → (IsFinished status → Reports left left' held held' status) → (status ≡ SourceFault → R) → (status ≡ SinkFault → F)
-    → IfSome left (λ bytes. length bytes ≤ 2 ^ 30 → (R → ⊥) → (F → ⊥) → IsComplete bytes status)
-complete None left' held held' status R F s r source sink = tt
-complete (Some bytes) left' held held' Done R F s r source sink =
-    λ few no_source no_sink. ((λ form is. inl (inl refl)), λ none. let e = r (inl refl) in let same = ap (λ b. form_of (program_part b)) (all_taken bytes left' e.bytes e.taken e.whole) in let some = e.accepted in cc)
-complete (Some bytes) left' held held' SomeRefused R F s r source sink =
-    λ few no_source no_sink. ((λ form is. inl (inr refl)), λ none. let e = r (inr refl) in let same = ap (λ b. form_of (program_part b)) (all_taken bytes left' e.bytes e.taken e.whole) in let some = e.accepted in cc)
-complete (Some bytes) left' held held' Usage R F s r source sink = λ few no_source no_sink. absurd s.clean
-complete (Some bytes) left' held held' ProgramRefused R F s r source sink =
-    λ few no_source no_sink. ((λ form is. let same = ap (λ b. form_of (program_part b)) (all_taken bytes left' s.bytes s.taken s.clean.0) in let none = s.clean.1 in cc), λ none. inl refl)
-complete (Some bytes) left' held held' SourceFault R F s r source sink = λ few no_source no_sink. absurd (no_source (source refl))
-complete (Some bytes) left' held held' SinkFault R F s r source sink = λ few no_source no_sink. absurd (no_sink (sink refl))
-complete (Some bytes) left' held held' InputTooLong R F s r source sink =
+-- A command that met no fault is complete. R says that the source failed, F that the sink did.
+pub complete : (command : Command) (left left' held held' : Option (List ℕ)) (status : Status) (R F : Type 0) → Stops command left left' held held' status
+    → (IsFinished status → Reports command left left' held held' status) → (status ≡ SourceFault → R) → (status ≡ SinkFault → F)
+    → IfSome left (λ bytes. length bytes ≤ 2 ^ 30 → (R → ⊥) → (F → ⊥) → IsComplete command bytes status)
+complete command None left' held held' status R F s r source sink = tt
+complete command (Some bytes) left' held held' Done R F s r source sink =
+    λ few no_source no_sink. ((λ form is. inl (inl refl)), λ x none. let e = r (inl refl) in let same = ap (λ b. lens_of command (program_part b)) (all_taken bytes left' e.bytes e.taken e.whole) in let some = e.accepted in cc)
+complete command (Some bytes) left' held held' SomeRefused R F s r source sink =
+    λ few no_source no_sink. ((λ form is. inl (inr refl)), λ x none. let e = r (inr refl) in let same = ap (λ b. lens_of command (program_part b)) (all_taken bytes left' e.bytes e.taken e.whole) in let some = e.accepted in cc)
+complete command (Some bytes) left' held held' Usage R F s r source sink = λ few no_source no_sink. absurd s.clean
+complete command (Some bytes) left' held held' ProgramRefused R F s r source sink =
+    λ few no_source no_sink. ((λ form is. let same = ap (λ b. lens_of command (program_part b)) (all_taken bytes left' s.bytes s.taken s.clean.0) in let none = s.clean.1.1 in cc), λ x none. inl refl)
+complete command (Some bytes) left' held held' SourceFault R F s r source sink = λ few no_source no_sink. absurd (no_source (source refl))
+complete command (Some bytes) left' held held' SinkFault R F s r source sink = λ few no_source no_sink. absurd (no_sink (sink refl))
+complete command (Some bytes) left' held held' InputTooLong R F s r source sink =
     λ few no_source no_sink. absurd (omega (arith, s.too_long.0 refl, few_taken bytes left' s.bytes s.taken))
-complete (Some bytes) left' held held' NoMemory R F s r source sink = λ few no_source no_sink. ((λ form is. inr refl), λ none. inr refl)
+complete command (Some bytes) left' held held' NoMemory R F s r source sink = λ few no_source no_sink. ((λ form is. inr refl), λ x none. inr refl)
 
--- Where the source does not fail, a run is complete, or it ends with the sink's fault and what that says.
-pub sure : (bytes : List ℕ) (left' held held' : Option (List ℕ)) (status : Status) (R F : Type 0) → Stops (Some bytes) left' held held' status
-    → (IsFinished status → Reports (Some bytes) left' held held' status) → (status ≡ SourceFault → R) → (status ≡ SinkFault → F) → (R → ⊥) → length bytes ≤ 2 ^ 30
-    → IsComplete bytes status ⊎ ((status ≡ SinkFault) × F)
-sure bytes left' held held' SinkFault R F s r source sink no_source few = inr (refl, sink refl)
-sure bytes left' held held' Done R F s r source sink no_source few = inl (complete (Some bytes) left' held held' Done R ⊥ s r source (λ e. cc) few no_source (λ f. f))
-sure bytes left' held held' SomeRefused R F s r source sink no_source few = inl (complete (Some bytes) left' held held' SomeRefused R ⊥ s r source (λ e. cc) few no_source (λ f. f))
-sure bytes left' held held' Usage R F s r source sink no_source few = inl (complete (Some bytes) left' held held' Usage R ⊥ s r source (λ e. cc) few no_source (λ f. f))
-sure bytes left' held held' ProgramRefused R F s r source sink no_source few = inl (complete (Some bytes) left' held held' ProgramRefused R ⊥ s r source (λ e. cc) few no_source (λ f. f))
-sure bytes left' held held' SourceFault R F s r source sink no_source few = inl (complete (Some bytes) left' held held' SourceFault R ⊥ s r source (λ e. cc) few no_source (λ f. f))
-sure bytes left' held held' InputTooLong R F s r source sink no_source few = inl (complete (Some bytes) left' held held' InputTooLong R ⊥ s r source (λ e. cc) few no_source (λ f. f))
-sure bytes left' held held' NoMemory R F s r source sink no_source few = inl (complete (Some bytes) left' held held' NoMemory R ⊥ s r source (λ e. cc) few no_source (λ f. f))
+-- Where the source does not fail, a command is complete, or it ends with the sink's fault and what that says.
+pub sure : (command : Command) (bytes : List ℕ) (left' held held' : Option (List ℕ)) (status : Status) (R F : Type 0) → Stops command (Some bytes) left' held held' status
+    → (IsFinished status → Reports command (Some bytes) left' held held' status) → (status ≡ SourceFault → R) → (status ≡ SinkFault → F) → (R → ⊥) → length bytes ≤ 2 ^ 30
+    → IsComplete command bytes status ⊎ ((status ≡ SinkFault) × F)
+sure command bytes left' held held' SinkFault R F s r source sink no_source few = inr (refl, sink refl)
+sure command bytes left' held held' status R F s r source sink no_source few = inl (complete command (Some bytes) left' held held' status R ⊥ s r source (λ e. cc) few no_source (λ f. f))
 
 -- a count that stays 0 did not rise
 pub never : Rose 0 0 → ⊥
@@ -186,3 +214,20 @@ never h = omega (arith, h)
 pub by_room : {A F : Type 0} → Rose 0 0 ⊎ A × F → F
 by_room (inl h) = absurd (never h)
 by_room (inr p) = p.1
+
+-- the sink's fault shows that the sink failed
+pub complete_sink : (left : Option (List ℕ)) (A B : Type 0) (D : List ℕ → Type 0) → B → IfSome left (λ bytes. length bytes ≤ 2 ^ 30 → (A → ⊥) → (B → ⊥) → D bytes)
+complete_sink None A B D b = tt
+complete_sink (Some bytes) A B D b = λ few a no. absurd (no b)
+
+-- what is complete for the command that was named is so for the one that is wanted
+pub complete_for : (left : Option (List ℕ)) (A B : Type 0) (status : Status) (command wanted : Command) → Some command ≡ Some wanted
+    → IfSome left (λ bytes. length bytes ≤ 2 ^ 30 → (A → ⊥) → (B → ⊥) → IsComplete command bytes status) → IfSome left (λ bytes. length bytes ≤ 2 ^ 30 → (A → ⊥) → (B → ⊥) → IsComplete wanted bytes status)
+complete_for left A B status command wanted e h =
+    let same : command ≡ wanted = cc in subst (λ k. IfSome left (λ bytes. length bytes ≤ 2 ^ 30 → (A → ⊥) → (B → ⊥) → IsComplete k bytes status)) same h
+
+pub reports_for : (left left' held held' : Option (List ℕ)) (status : Status) (o : Option Command) (command : Command) → o ≡ Some command
+    → (o ≡ Some Run → IsFinished status → Reports Run left left' held held' status) → (o ≡ Some Check → IsFinished status → Reports Check left left' held held' status)
+    → IsFinished status → Reports command left left' held held' status
+reports_for left left' held held' status o Run e of_run of_check = of_run e
+reports_for left left' held held' status o Check e of_run of_check = of_check e

@@ -5,16 +5,14 @@ use Rattle.edit_module.specs.Words.{set, at, done, then}
 use Rattle.edit_module.specs.declared.atom.Atom.TheVariants.{Truth, Number}
 use Rattle.edit_module.specs.declared.side.Side.TheVariants.{Left, Right}
 use Rattle.edit_module.specs.declared.fault.Cause.TheVariants.{Kind, Place}
-use Rattle.lens_core.specs.Forms.{FormTree, paired_int}
+use Rattle.lens_types.specs.Forms.{FormTree}
+use Rattle.lens_core.specs.Built.{paired_int}
 use Rattle.lens_core.specs.Complements.{nil, rec_comp, more_comps, no_comps}
 use Rattle.std.specs.Fmt.{digits}
 use Rattle.serde_json.proofs.OnLiterals.{serde_json_on_literals}
-use Rattle.program_tokens.specs.Words.{is_space, begins_word, in_word, keyword_of, mark_of}
-use Rattle.program_tokens.specs.Tokens.{piece_of, tokens_from}
 use Rattle.edit_journal.specs.declared.fault.EntryFault.TheVariants.{NotAnEdit}
 use Rattle.edit_journal.specs.declared.line.Line.TheVariants.{Text}
 use Rattle.editlens_main.specs.Lines.{cut, bare, is_separator, program_part, journal}
-use Rattle.editlens_main.specs.Program.{names_of}
 use Rattle.editlens_main.specs.Step.{TripleTree, first, carried, no_apply, no_entry, step}
 use Rattle.editlens_main.specs.Run.{run, any_refused}
 use Rattle.editlens_main.specs.Report.{answer_line, state_lines, run_report, report, refusal_line}
@@ -43,14 +41,6 @@ items = refl
 
 no_separator : journal (codes "p" ++ 10 ∷ codes "q") ≡ []
 no_separator = refl
-
-names : names_of (codes "main{a~ b :id int}# c") ≡ Some (codes "a", codes "b")
-unfolding piece_of tokens_from is_space begins_word in_word keyword_of mark_of digits serde_json_on_literals
-names = refl
-
-keyword_for_a_name : names_of (codes "main {a ~ left: id int}") ≡ None
-unfolding piece_of tokens_from is_space begins_word in_word keyword_of mark_of digits serde_json_on_literals
-keyword_for_a_name = refl
 
 abbrev ab : FormTree
 ab = paired_int (codes "a") (codes "b")
@@ -90,12 +80,3 @@ line_of_a_fault = refl
 start_lines : state_lines ab (first ab) ≡ codes "left {\"a\":0}" ++ 10 ∷ codes "right {\"b\":0}" ++ 10 ∷ codes "complement {\"rec\":[null]}" ++ 10 ∷ []
 unfolding digits serde_json_on_literals
 start_lines = refl
-
--- a program alone, and a program part that is not built
-report_of_a_program : report (codes "main {a ~ b: id int}") ≡ Some (codes "left {\"a\":0}" ++ 10 ∷ codes "right {\"b\":0}" ++ 10 ∷ codes "complement {\"rec\":[null]}" ++ 10 ∷ [], Done)
-unfolding piece_of tokens_from is_space begins_word in_word keyword_of mark_of digits serde_json_on_literals
-report_of_a_program = refl
-
-report_of_a_refusal : report (codes "main id int") ≡ Some (codes "program refused: not-built" ++ 10 ∷ [], ProgramRefused)
-unfolding piece_of tokens_from is_space begins_word in_word keyword_of mark_of digits serde_json_on_literals
-report_of_a_refusal = refl

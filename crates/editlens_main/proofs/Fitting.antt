@@ -5,7 +5,8 @@ use Rattle.doc_values.specs.Types.{TyTree, ty_int}
 use Rattle.edit_module.specs.Words.{PrimitiveTree, at, WordTree, done, then, joined}
 use Rattle.edit_module.specs.declared.side.Side.{Side}
 use Rattle.edit_json.specs.WordJson.{counts_fit, primitive_counts_fit}
-use Rattle.lens_core.specs.Forms.{FormTree, form_id, paired_int, is_paired_int}
+use Rattle.lens_types.specs.Forms.{FormTree, form_id}
+use Rattle.lens_core.specs.Built.{paired_int, is_paired_int}
 use Rattle.lens_core.specs.Complements.{CompTree, nil, rec_comp, CompTrees, no_comps, more_comps}
 use Rattle.lens_core.specs.Translation.{Translated, at_word, behind, in_turn, in_row, past_row, in_record, translate_one, translate}
 use Rattle.lens_core.proofs.Lawful.{paired_fields}

@@ -9,7 +9,8 @@ use Rattle.edit_module.specs.Words.{WordTree}
 use Rattle.edit_module.specs.Action.{act, Why}
 use Rattle.edit_module.specs.declared.side.Side.{Side}
 use Rattle.edit_module.specs.declared.side.Side.TheVariants.{Left, Right}
-use Rattle.lens_core.specs.Forms.{FormTree, left_type, right_type, is_paired_int}
+use Rattle.lens_types.specs.Forms.{FormTree, left_type, right_type}
+use Rattle.lens_core.specs.Built.{is_paired_int}
 use Rattle.lens_core.specs.Complements.{CompTree}
 use Rattle.lens_core.specs.Translation.{translate}
 use Rattle.lens_core.specs.Laws.{IsCarriedRight, IsCarriedLeft}

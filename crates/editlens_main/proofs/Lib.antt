@@ -3,7 +3,6 @@ pub mod Ending
 mod Examples
 pub mod Fitting
 pub mod InStep
-pub mod Names
 pub mod NoFloats
 pub mod Parting
 pub mod Reports

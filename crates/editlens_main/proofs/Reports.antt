@@ -1,16 +1,23 @@
 -- The report in the form of the code is the report.
-use Rattle.std.proofs.Common.{◌≡◌, ℕ, ◌+◌, List, [], ◌∷◌, ◌++◌, Bool, true, false, not, ◌||◌, cond, Option, Some, None, option_map, option_and_then, map, refl, sym, ap, ap₂, ◌∙◌, append_assoc}
-use Rattle.lens_core.specs.Forms.{FormTree, paired_int}
+use Rattle.std.proofs.Common.{◌≡◌, ℕ, ◌+◌, List, [], ◌∷◌, ◌++◌, Bool, true, false, not, ◌||◌, cond, Option, Some, None, option_map, option_and_then, Result, Ok, Err, map, refl, sym, ap, ap₂, ◌∙◌, append_assoc}
+use Rattle.lens_types.specs.Forms.{FormTree}
 use Rattle.edit_journal.specs.Lines.{line_of, is_blank}
 use Rattle.edit_journal.specs.EntryJson.{entry_of_line}
 use Rattle.editlens_main.specs.Lines.{cut, bare, journal_of, lines_behind, program_part}
-use Rattle.editlens_main.specs.Program.{names_of}
+use Rattle.std.specs.Prelude.{IfOk}
+use Rattle.editlens_main.specs.Program.{Refusal, lens_of}
+use Rattle.editlens_main.specs.Refused.{IsRefusal, IsKnown}
+use Rattle.editlens_main.specs.declared.program.Refused.{Refused}
+use Rattle.editlens_main.specs.declared.program.Refused.TheVariants.{Syntax, Typing, NotBuilt, NoMemory}
 use Rattle.editlens_main.specs.Step.{TripleTree, first, AnswerTree}
 use Rattle.editlens_main.specs.Run.{Item, take_item, run, last, is_refused, any_refused}
-use Rattle.editlens_main.specs.Report.{answer_line, answer_lines, state_lines, ending, run_report, form_of, items_of, report_with, report}
+use Rattle.editlens_main.specs.Report.{answer_line, answer_lines, state_lines, ending, run_report, items_of, report_with, refusal_line, report}
 use Rattle.editlens_main.specs.Running.{items_among, report_from, behind_text, report_at}
 use Rattle.editlens_main.specs.Views.{triple_tree}
+use Rattle.editlens_main.specs.declared.words.Command.{Command}
+use Rattle.editlens_main.specs.declared.words.Command.TheVariants.{Run, Check}
 use Rattle.editlens_main.specs.declared.status.Status.{Status}
+use Rattle.editlens_main.specs.declared.status.Status.TheVariants.{ProgramRefused}
 use Rattle.editlens_main.specs.declared.report.Running.{Running}
 
 -- the items among the lines are those of the journal
@@ -92,11 +99,36 @@ at_start form r items triple number refused text =
     ∙ ap₂ (λ t b. report_from form t 1 b items) triple refused
 
 -- the report of the items among the lines behind the separator is that of the whole input
-pub of_parts : (bytes program lines : List ℕ) (form : FormTree) (a b : List ℕ) (answer : List ℕ × Status) → program ≡ program_part bytes → names_of program ≡ Some (a, b) → form ≡ paired_int a b
-    → cut lines ≡ lines_behind (cut bytes) → run_report form (items_among (map bare (cut lines))) ≡ Some answer → report bytes ≡ Some answer
-of_parts bytes program lines form a b answer is names made behind run =
-    let accepted : form_of (program_part bytes) ≡ Some form =
-    ap form_of (sym is) ∙ ap (option_map (λ (p : List ℕ × List ℕ). paired_int p.0 p.1)) names ∙ ap Some (sym made) in
+pub of_parts : (command : Command) (bytes program lines : List ℕ) (found : Result FormTree Refusal) (answer : List ℕ × Status) → program ≡ program_part bytes → lens_of command program ≡ found
+    → cut lines ≡ lines_behind (cut bytes) → report_with command found (items_among (map bare (cut lines))) ≡ Some answer → report command bytes ≡ Some answer
+of_parts command bytes program lines found answer is lens behind run =
     let items : items_of bytes ≡ items_among (map bare (cut lines)) =
     sym (items_among-bare (lines_behind (cut bytes))) ∙ ap (λ ls. items_among (map bare ls)) (sym behind) in
-    ap₂ report_with accepted items ∙ run
+    ap₂ (report_with command) (ap (lens_of command) (sym is) ∙ lens) items ∙ run
+
+-- the line of a refusal is the report, whatever the items
+pub refused_parts : (command : Command) (bytes program lines : List ℕ) (answer : List ℕ × Status) → program ≡ program_part bytes → cut lines ≡ lines_behind (cut bytes)
+    → report_with command (lens_of command program) (items_among (map bare (cut lines))) ≡ Some answer → report command bytes ≡ Some answer
+refused_parts command bytes program lines answer is behind run = of_parts command bytes program lines (lens_of command program) answer is refl behind run
+
+-- the report of a program part that is refused is the line of the refusal
+
+refused_is : (command : Command) (r : Refusal) (items : List Item) → report_with command (Err r) items ≡ Some (refusal_line r, ProgramRefused)
+refused_is Run r items = refl
+refused_is Check r items = refl
+
+pub refused_report : (command : Command) (found : Result FormTree Refusal) (items : List Item) (r : Refusal) (text : List ℕ) (status : Status) → found ≡ Err r → text ≡ refusal_line r → status ≡ ProgramRefused
+    → report_with command found items ≡ Some (text, status)
+refused_report command found items r text status is line ends =
+    ap (λ f. report_with command f items) is ∙ refused_is command r items ∙ ap₂ (λ x s. Some (x, s)) (sym line) (sym ends)
+
+pub known : (found : Result FormTree Refusal) (refused : Refused) → IsRefusal found refused → IsKnown refused
+known found (Syntax fault) h = h.1
+known found (Typing fault) h = h.known
+known found NotBuilt h = tt
+known found NoMemory h = tt
+
+-- what holds of a value holds of another
+pub if_ok : {A E : Type 0} (r : Result A E) (P Q : A → Type 0) → ((a : A) → P a → Q a) → IfOk r P → IfOk r Q
+if_ok (Ok a) P Q f h = f a h
+if_ok (Err e) P Q f h = tt

@@ -1,16 +1,19 @@
 -- How a call ends, and what stands then: the clauses of the top call.
-use Rattle.std.specs.Prelude.{◌≡◌, ◌⊎◌, ◌↔◌, ℕ, ◌+◌, ◌^◌, ◌<◌, ◌≤◌, List, [], length, Some, None}
+use Rattle.std.specs.Prelude.{◌≡◌, ◌⊎◌, ◌↔◌, ℕ, ◌+◌, ◌^◌, ◌<◌, ◌≤◌, List, [], length, Some, Ok, Err}
 use Rattle.std.specs.List.{All}
 use Rattle.std.specs.declared.option.Option.{Option}
 use Rattle.std.specs.Io.KnownBytes.{Appends, Consumes, IsAtEnd}
 use Rattle.lens_io.specs.Causes.{Rose}
 use Rattle.lens_io.specs.Content.{IsFull, AppendsFront}
-use Rattle.lens_core.specs.Forms.{FormTree}
+use Rattle.lens_types.specs.Forms.{FormTree}
 use Rattle.editlens_main.specs.Lines.{program_part}
-use Rattle.editlens_main.specs.Report.{form_of, items_of, report, refusal_line}
-use Rattle.editlens_main.specs.Run.{triples}
+use Rattle.editlens_main.specs.Program.{Refusal, lens_of}
+use Rattle.editlens_main.specs.Report.{items_of, report, refusal_line}
+use Rattle.editlens_main.specs.Run.{Item, triples}
 use Rattle.editlens_main.specs.Step.{TripleTree, IsInStep}
 use Rattle.editlens_main.specs.Words.{usage_line}
+use Rattle.editlens_main.specs.declared.words.Command.{Command}
+use Rattle.editlens_main.specs.declared.words.Command.TheVariants.{Run, Check}
 use Rattle.editlens_main.specs.declared.status.Status.{Status}
 use Rattle.editlens_main.specs.declared.status.Status.TheVariants.{Done, SomeRefused, Usage, ProgramRefused, SourceFault, SinkFault, InputTooLong, NoMemory}
 
@@ -18,44 +21,48 @@ use Rattle.editlens_main.specs.declared.status.Status.TheVariants.{Done, SomeRef
 abbrev pub IsFinished : Status → Type 0
 IsFinished status = (status ≡ Done) ⊎ (status ≡ SomeRefused)
 
+-- Every triple of a run is in the lens's consistency relation. To check a lens makes no triple.
+abbrev pub StaysInStep : Command → FormTree → List Item → Type 0
+StaysInStep Run form items = (all : List TripleTree) × (triples form items ≡ Some all) × All (IsInStep form) all
+StaysInStep Check form items = Unit {0}
+
 -- The source was read to its end and gave these bytes. The sink was given their report, which has this status. The program part is
--- accepted, and every triple of the run is in the lens's consistency relation.
-pub record Reports (left left' held held' : Option (List ℕ)) (status : Status) : Type 0 where
+-- accepted, and every triple stays in step.
+pub record Reports (command : Command) (left left' held held' : Option (List ℕ)) (status : Status) : Type 0 where
   pub bytes : List ℕ
   pub taken : Consumes left left' bytes
   pub whole : IsAtEnd left'
   pub within : length bytes ≤ 2 ^ 30
   pub text : List ℕ
-  pub reported : report bytes ≡ Some (text, status)
+  pub reported : report command bytes ≡ Some (text, status)
   pub given : Appends held held' text
   pub form : FormTree
-  pub accepted : form_of (program_part bytes) ≡ Some form
-  pub all : List TripleTree
-  pub run : triples form (items_of bytes) ≡ Some all
-  pub in_step : All (IsInStep form) all
+  pub accepted : lens_of command (program_part bytes) ≡ Ok form
+  pub in_step : StaysInStep command form (items_of bytes)
 
--- What stands after each status of a run that is not finished. The source gave some bytes.
--- ProgramRefused: it was read to its end, its program part is not of the form, and the sink was given the refusal line.
+-- What stands after each status of a call that is not finished. The source gave some bytes.
+-- ProgramRefused: it was read to its end, its program part is refused, and the sink was given the line of that refusal.
 -- SourceFault, InputTooLong, NoMemory: the sink was given nothing.
 -- SinkFault: the source was read to its end, and the sink took a front of the report, and not all of it.
-abbrev pub IsCleanStop : Option (List ℕ) → Option (List ℕ) → Option (List ℕ) → Option (List ℕ) → List ℕ → Status → Type 0
-IsCleanStop left left' held held' bytes Done = Unit {0}
-IsCleanStop left left' held held' bytes SomeRefused = Unit {0}
-IsCleanStop left left' held held' bytes Usage = ⊥
-IsCleanStop left left' held held' bytes ProgramRefused = IsAtEnd left' × (form_of (program_part bytes) ≡ None) × Appends held held' refusal_line
-IsCleanStop left left' held held' bytes SourceFault = Appends held held' []
-IsCleanStop left left' held held' bytes SinkFault =
-    IsAtEnd left' × ((text : List ℕ) × (status : Status) × (report bytes ≡ Some (text, status)) × AppendsFront held held' text)
-IsCleanStop left left' held held' bytes InputTooLong = Appends held held' []
-IsCleanStop left left' held held' bytes NoMemory = Appends held held' []
+abbrev pub IsCleanStop : Command → Option (List ℕ) → Option (List ℕ) → Option (List ℕ) → Option (List ℕ) → List ℕ → Status → Type 0
+IsCleanStop command left left' held held' bytes Done = Unit {0}
+IsCleanStop command left left' held held' bytes SomeRefused = Unit {0}
+IsCleanStop command left left' held held' bytes Usage = ⊥
+IsCleanStop command left left' held held' bytes ProgramRefused =
+    IsAtEnd left' × ((refusal : Refusal) × (lens_of command (program_part bytes) ≡ Err refusal) × Appends held held' (refusal_line refusal))
+IsCleanStop command left left' held held' bytes SourceFault = Appends held held' []
+IsCleanStop command left left' held held' bytes SinkFault =
+    IsAtEnd left' × ((text : List ℕ) × (status : Status) × (report command bytes ≡ Some (text, status)) × AppendsFront held held' text)
+IsCleanStop command left left' held held' bytes InputTooLong = Appends held held' []
+IsCleanStop command left left' held held' bytes NoMemory = Appends held held' []
 
 -- These bytes were taken, at most 2^30 + 1, and InputTooLong comes exactly where they are more than 2^30.
-pub record Stops (left left' held held' : Option (List ℕ)) (status : Status) : Type 0 where
+pub record Stops (command : Command) (left left' held held' : Option (List ℕ)) (status : Status) : Type 0 where
   pub bytes : List ℕ
   pub taken : Consumes left left' bytes
   pub at_most : length bytes ≤ 2 ^ 30 + 1
   pub too_long : (status ≡ InputTooLong) ↔ (2 ^ 30 < length bytes)
-  pub clean : IsCleanStop left left' held held' bytes status
+  pub clean : IsCleanStop command left left' held held' bytes status
 
 -- the sink failed, or took 0 bytes of a piece that is not empty: then a sink that tells its room is full
 abbrev pub SinkFailed : {K : Type 0} (faults empty_takes : K → ℕ) (room : K → Option ℕ) (held : K → Option (List ℕ)) → K → K → Type 0
@@ -65,8 +72,8 @@ SinkFailed faults empty_takes room held old new = Rose (faults old) (faults new)
 abbrev pub GivesUsage : Option (List ℕ) → Option (List ℕ) → Status → Type 0
 GivesUsage held held' status = (status ≡ Usage) × Appends held held' usage_line ⊎ (status ≡ SinkFault) × AppendsFront held held' usage_line
 
--- a run of these bytes that met no fault comes to its end, or is refused where the program part is not of the form, or memory ran out
-abbrev pub IsComplete : List ℕ → Status → Type 0
-IsComplete bytes status =
-    (((form : FormTree) → form_of (program_part bytes) ≡ Some form → IsFinished status ⊎ (status ≡ NoMemory))
-    × (form_of (program_part bytes) ≡ None → (status ≡ ProgramRefused) ⊎ (status ≡ NoMemory)))
+-- a command over these bytes that met no fault comes to its end, or is refused where the program part is refused, or memory ran out
+abbrev pub IsComplete : Command → List ℕ → Status → Type 0
+IsComplete command bytes status =
+    (((form : FormTree) → lens_of command (program_part bytes) ≡ Ok form → IsFinished status ⊎ (status ≡ NoMemory))
+    × ((refusal : Refusal) → lens_of command (program_part bytes) ≡ Err refusal → (status ≡ ProgramRefused) ⊎ (status ≡ NoMemory)))

@@ -2,12 +2,12 @@ pub mod ComplementJson
 pub mod Ends
 pub mod Lines
 pub mod Program
+pub mod Refused
 pub mod Report
 pub mod Run
 pub mod Running
 pub mod Status
 pub mod Step
-pub mod Taking
 pub mod Telling
 pub mod Views
 pub mod Words

@@ -1,27 +1,35 @@
--- The program that is built: a record of one paired row with the identity of the ints.
-use Rattle.std.specs.Prelude.{ℕ, List, [], ◌∷◌, Bool, false, ◌&&◌, Option, Some, None, map, length, nat_le, codes, bytes_eq, if◌then◌else◌}
-use Rattle.program_tokens.specs.Words.{keyword_text, mark_byte}
-use Rattle.program_tokens.specs.Tokens.{tokens_of}
-use Rattle.program_tokens.specs.declared.token.Token.{Token}
-use Rattle.program_tokens.specs.declared.token.Token.TheVariants.{Keyword, Name, Text, Mark, Bad, End}
-use Rattle.program_tokens.specs.declared.token.PlacedToken.{PlacedToken}
+-- The lens of a program part, or why it is refused.
+use Rattle.std.specs.Prelude.{ℕ, List, Option, Some, None, Result, Ok, Err, if◌then◌else◌}
+use Rattle.program_terms.specs.Terms.{ProgramTree}
+use Rattle.lens_syntax.specs.Programs.{bounded}
+use Rattle.lens_syntax.specs.declared.fault.ProgramFault.{ProgramFault}
+use Rattle.lens_types.specs.Forms.{FormTree}
+use Rattle.lens_types.specs.Checking.{Failure, first_failure}
+use Rattle.lens_types.specs.Earlier.{main_form}
+use Rattle.lens_core.specs.Built.{is_paired_int}
+use Rattle.editlens_main.specs.declared.words.Command.{Command}
+use Rattle.editlens_main.specs.declared.words.Command.TheVariants.{Run, Check}
 
--- the token is the keyword or the mark that is written so
-abbrev pub spells : List ℕ → Token → Bool
-spells text (Keyword k) = bytes_eq (keyword_text k) text
-spells text (Mark m) = bytes_eq (mark_byte m ∷ []) text
-spells text (Name n) = false
-spells text (Text s) = false
-spells text Bad = false
-spells text End = false
+-- the text is no program; the program has no type; its lens is none that is carried today
+pub data Refusal : Type 0 where
+  syntax : ProgramFault → Refusal
+  typing : Failure → Refusal
+  not_built : Refusal
 
--- the left and the right name of `main { NAME ~ NAME : id int }`, where these are the tokens
-abbrev pub names_in : List Token → Option (List ℕ × List ℕ)
-names_in (t0 ∷ t1 ∷ Name left ∷ t3 ∷ Name right ∷ t5 ∷ t6 ∷ t7 ∷ t8 ∷ End ∷ []) =
-    if spells (codes "main") t0 && spells (codes "{") t1 && spells (codes "~") t3 && spells (codes ":") t5
-    && spells (codes "id") t6 && spells (codes "int") t7 && spells (codes "}") t8 then Some (left, right) else None
-names_in _ = None
+-- a run carries edits, so its lens is one that is carried today; any lens can be checked
+abbrev pub built : Command → FormTree → Result FormTree Refusal
+built Run form = if is_paired_int form then Ok form else Err not_built
+built Check form = Ok form
 
--- the names of a program part, of at most 65,536 bytes
-abbrev pub names_of : List ℕ → Option (List ℕ × List ℕ)
-names_of text = if nat_le (length text) 65536 then names_in (map (λ (t : PlacedToken). t.token) (tokens_of text)) else None
+-- the main lens with its names put in, where the program has no failure
+abbrev pub typed : Command → ProgramTree → Option Failure → Result FormTree Refusal
+typed command program None = built command (main_form program)
+typed command program (Some failure) = Err (typing failure)
+
+abbrev pub checked : Command → Result ProgramTree ProgramFault → Result FormTree Refusal
+checked command (Ok program) = typed command program (first_failure program)
+checked command (Err fault) = Err (syntax fault)
+
+-- the lens of a text, as a command wants it
+abbrev pub lens_of : Command → List ℕ → Result FormTree Refusal
+lens_of command text = checked command (bounded text)

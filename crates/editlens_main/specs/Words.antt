@@ -1,13 +1,18 @@
 -- The words of the command line, the program's name first.
-use Rattle.std.specs.Prelude.{◌≡◌, ℕ, List, [], ◌∷◌, ◌++◌, String, string_bytes, codes}
+use Rattle.std.specs.Prelude.{ℕ, List, [], ◌∷◌, ◌++◌, Option, Some, None, String, string_bytes, codes, bytes_eq, if◌then◌else◌}
 use Rattle.std.specs.declared.alloc.Global.{Global}
+use Rattle.editlens_main.specs.declared.words.Command.{Command}
+use Rattle.editlens_main.specs.declared.words.Command.TheVariants.{Run, Check}
 
--- any name, then `run`, and no further word
-abbrev pub IsRun : List (String Global) → Type 0
-IsRun [] = ⊥
-IsRun (name ∷ []) = ⊥
-IsRun (name ∷ word ∷ []) = string_bytes word ≡ codes "run"
-IsRun (name ∷ word ∷ another ∷ words) = ⊥
+abbrev pub named : List ℕ → Option Command
+named word = if bytes_eq word (codes "run") then Some Run else if bytes_eq word (codes "check") then Some Check else None
+
+-- any name, then the word of a command, and no further word
+abbrev pub command_of : List (String Global) → Option Command
+command_of [] = None
+command_of (name ∷ []) = None
+command_of (name ∷ word ∷ []) = named (string_bytes word)
+command_of (name ∷ word ∷ another ∷ words) = None
 
 -- the line that is written for all other words
 abbrev pub usage_line : List ℕ

@@ -1,92 +1,83 @@
-//! The program part, in the one form that is built.
-ghost use Rattle.std.specs.Prelude.{◌≡◌, ◌∷◌, IfOk, map, option_map};
-ghost use Rattle.program_tokens.specs.declared.token.Token;
-ghost use Rattle.editlens_main.specs.Program.{spells, names_in, names_of};
-ghost use Rattle.editlens_main.specs.Taking.{tokens_in, take_text, take_name, take_end};
+//! The lens of a program part.
+ghost use Rattle.std.specs.Prelude.{◌≡◌, MatchResult, IfOk, IsTrue, Ok};
+ghost use Rattle.lens_core.specs.Built.{is_paired_int};
+ghost use Rattle.lens_types.specs.Forms.{form_tree};
+ghost use Rattle.program_terms.specs.Views.{program_tree};
+ghost use Rattle.editlens_main.specs.Program.{built, checked, lens_of};
+ghost use Rattle.editlens_main.specs.Refused.{IsRefusal};
+ghost use Rattle.editlens_main.specs.declared.words.Command;
 
-use hold_shapes::Name;
-use program_tokens::{Token, Tokens, tokens};
-use std::alloc::{AllocError, Global};
+use crate::words::Command;
+use lens_core::is_built;
+use lens_syntax::{Program, ProgramFault, read_program};
+use lens_types::{TypeFault, Typed, check};
+use std::alloc::Global;
 
-// The most bytes of a program part.
-const MOST: usize = 65536;
-
-/// The left and the right name of a program part `main { NAME ~ NAME : id int }`, or `None` where it is of another form or has
-/// more than 65,536 bytes. Only want of memory is an error.
-pub fn read_program(alloc: Global, text: &[u8]) -> Result<Option<(Name, Name)>, AllocError>
-    ensures { IfOk result (λ names. names ≡ names_of text.now) }
-{
-    if text.len() > MOST {
-        return Ok(None);
-    }
-    let mut tokens = tokens(alloc, text)?;
-    Ok(read_names(&mut tokens))
+/// Why there is no lens.
+#[derive(Drop)]
+pub enum Refused {
+    /// The text is no program, for this cause, which is not want of memory.
+    Syntax(ProgramFault),
+    /// The program has no type, for this cause, which is not want of memory.
+    Typing(TypeFault),
+    /// The lens is none that is carried today.
+    NotBuilt,
+    /// Memory ran out.
+    NoMemory,
 }
 
-#[tactic(auto, using(crate::proofs::Names::names_by_parts))]
-fn read_names(tokens: &mut Tokens) -> Option<(Name, Name)>
-    ensures { result ≡ names_in (tokens_in tokens.old) }
+/// The lens of a program part, as the command wants it: a run, one that is carried today.
+pub fn read_lens(alloc: Global, command: Command, text: &[u8]) -> Result<Typed, Refused>
+    ensures lens { MatchResult result
+        (λ lens. lens_of command text.now ≡ Ok (form_tree lens)) (λ refused. IsRefusal (lens_of command text.now) refused) }
+    ensures built { IfOk result (λ lens. command ≡ Command.Run → IsTrue (is_paired_int (form_tree lens))) }
 {
-    take(tokens, "main")?;
-    take(tokens, "{")?;
-    let left = take_name(tokens)?;
-    take(tokens, "~")?;
-    let right = take_name(tokens)?;
-    take(tokens, ":")?;
-    take(tokens, "id")?;
-    take(tokens, "int")?;
-    take(tokens, "}")?;
-    take_end(tokens)?;
-    Some((left, right))
-}
-
-// Takes a keyword or a mark that is written so.
-fn take(tokens: &mut Tokens, text: &str) -> Option<()>
-    ensures { option_map (λ _. tokens_in tokens.new) result ≡ take_text text.now (tokens_in tokens.old) }
-{
-    let token = tokens.pop()?;
-    if spells(&token.token, text) {
-        Some(())
-    } else {
-        None
+    match read_program(alloc, text) {
+        Ok(program) => {
+            let lens = check_lens(alloc, command, &program);
+            drop(program);
+            lens
+        }
+        Err(ProgramFault::NoMemory) => Err(Refused::NoMemory),
+        Err(fault) => Err(Refused::Syntax(fault)),
     }
 }
 
-// The token is the keyword or the mark that is written so.
-fn spells(token: &Token, text: &str) -> bool
-    ensures { result ≡ spells text.now token.now }
+// The lens of a program.
+fn check_lens(alloc: Global, command: Command, program: &Program) -> Result<Typed, Refused>
+    ensures lens { MatchResult result
+        (λ lens. checked command (Ok (program_tree program.now)) ≡ Ok (form_tree lens))
+        (λ refused. IsRefusal (checked command (Ok (program_tree program.now))) refused) }
+    ensures built { IfOk result (λ lens. command ≡ Command.Run → IsTrue (is_paired_int (form_tree lens))) }
 {
-    match token {
-        Token::Keyword(keyword) => keyword.text() == text,
-        Token::Mark(mark) => [mark.byte()].as_slice() == text.as_bytes(),
-        _ => false,
+    match check(alloc, program) {
+        Ok(lens) => built_lens(command, lens),
+        Err(TypeFault::NoMemory) => Err(Refused::NoMemory),
+        Err(fault) => Err(Refused::Typing(fault)),
     }
 }
 
-// Takes a name.
-fn take_name(tokens: &mut Tokens) -> Option<Name>
-    ensures { option_map (λ name. (name, tokens_in tokens.new)) result ≡ take_name (tokens_in tokens.old) }
+// A lens that is typed, where the command can use it.
+fn built_lens(command: Command, lens: Typed) -> Result<Typed, Refused>
+    ensures lens { MatchResult result
+        (λ lens'. built command (form_tree lens) ≡ Ok (form_tree lens')) (λ refused. IsRefusal (built command (form_tree lens)) refused) }
+    ensures built { IfOk result (λ lens'. command ≡ Command.Run → IsTrue (is_paired_int (form_tree lens'))) }
 {
-    match tokens.pop()?.token {
-        Token::Name(name) => Some(name),
-        _ => None,
+    match command {
+        Command::Run => carried_lens(lens),
+        Command::Check => Ok(lens),
     }
 }
 
-// Takes the end of the text.
-fn take_end(tokens: &mut Tokens) -> Option<()>
-    ensures { option_map (λ _. tokens_in tokens.new) result ≡ take_end (tokens_in tokens.old) }
+// A lens that is carried today.
+fn carried_lens(lens: Typed) -> Result<Typed, Refused>
+    ensures lens { MatchResult result
+        (λ lens'. built Command.Run (form_tree lens) ≡ Ok (form_tree lens')) (λ refused. IsRefusal (built Command.Run (form_tree lens)) refused) }
+    ensures built { IfOk result (λ lens'. IsTrue (is_paired_int (form_tree lens'))) }
 {
-    match tokens.pop()?.token {
-        Token::End => none_left(tokens),
-        _ => None,
+    if is_built(lens.form()) {
+        return Ok(lens);
     }
-}
-
-// Whether no token is left.
-#[tactic(auto, using(crate::proofs::Names::some_left))]
-fn none_left(tokens: &Tokens) -> Option<()>
-    ensures { option_map (λ _. tokens_in tokens.now) result ≡ take_end (Token.End ∷ tokens_in tokens.now) }
-{
-    if tokens.is_empty() { Some(()) } else { None }
+    drop(lens);
+    Err(Refused::NotBuilt)
 }

@@ -1,10 +1,13 @@
 //! The report of a whole input.
-ghost use Rattle.std.specs.Prelude.{◌≡◌, ◌+◌, ◌^◌, ◌<◌, List, ℕ, ◌∷◌, false, ◌||◌, IsTrue, IfOk, Some, map, ◌≤◌};
-ghost use Rattle.lens_core.specs.Forms.{form_tree, is_paired_int};
+ghost use Rattle.std.specs.Prelude.{◌≡◌, ◌+◌, ◌^◌, ◌<◌, List, ℕ, ◌∷◌, false, ◌||◌, IsTrue, IfOk, Some, Result, Ok, map, ◌≤◌};
+ghost use Rattle.lens_types.specs.Forms.{FormTree, form_tree};
+ghost use Rattle.lens_core.specs.Built.{is_paired_int};
 ghost use Rattle.edit_journal.specs.Lines.{line_of, is_blank};
 ghost use Rattle.edit_journal.specs.EntryJson.{entry_of_line};
 ghost use Rattle.editlens_main.specs.Lines.{cut, bare};
-ghost use Rattle.editlens_main.specs.Report.{ending, report, run_report};
+ghost use Rattle.editlens_main.specs.Program.{Refusal, not_built};
+ghost use Rattle.editlens_main.specs.Refused.{IsKnown, IsRefusal};
+ghost use Rattle.editlens_main.specs.Report.{ending, report, refusal_line, report_with, run_report, type_lines};
 ghost use Rattle.editlens_main.specs.Run.{Item, take_item};
 ghost use Rattle.editlens_main.specs.Running.{items_among, report_at};
 ghost use Rattle.editlens_main.specs.Step.{IsInStep, first};
@@ -14,15 +17,20 @@ ghost use Rattle.editlens_main.specs.Views.{triple_tree, answer_tree};
 use crate::Status;
 use crate::answers::{answer_line, state_lines};
 use crate::lines::{first_line, part_script, without_end};
-use crate::program::read_program;
+use crate::program::{Refused, read_lens};
 use crate::step::{Answer, Triple, step};
+use crate::words::Command;
+use answer_text::{syntax_line, type_line, typing_line};
 use doc_values::init;
 use edit_journal::{EntryFault, Line, is_blank, read_entry};
-use lens_core::{Typed, missing};
+use edit_module::Side;
+use lens_core::missing;
+use lens_io::Bytes;
+use lens_types::Typed;
 use std::alloc::{AllocError, Global};
 
-/// What is written where the program part is refused.
-const REFUSAL: &str = "program refused: not-built\n";
+/// What is written where the lens is none that is carried today.
+const NOT_BUILT: &str = "program refused: not-built\n";
 
 /// What is written for an input, and how the run ends.
 #[derive(Drop)]
@@ -40,22 +48,88 @@ pub struct Running {
     pub text: Vec<u8>,
 }
 
-/// The report of an input. Only want of memory is an error.
-pub fn make_report(alloc: Global, bytes: &[u8]) -> Result<Report, AllocError>
-    ensures { IfOk result (λ r. report bytes.now ≡ Some (r.text.items, r.status)) }
+/// The report of an input, as the command wants it. Only want of memory is an error.
+pub fn make_report(alloc: Global, command: Command, bytes: &[u8]) -> Result<Report, AllocError>
+    ensures { IfOk result (λ r. report command bytes.now ≡ Some (r.text.items, r.status)) }
 {
     let script = part_script(bytes);
-    match read_program(alloc, script.program)? {
-        Some((left, right)) => {
-            let lens = Typed::paired_int(alloc, left, right)?;
-            let report = run_journal(alloc, &lens, script.journal)?;
-            Ok(report)
+    match read_lens(alloc, command, script.program) {
+        Ok(lens) => {
+            let report = lens_report(alloc, command, &lens, script.journal);
+            drop(lens);
+            report
         }
-        None => Ok(Report {
-            text: Vec::from_slice(alloc, REFUSAL.as_bytes())?,
-            status: Status::ProgramRefused,
-        }),
+        Err(refused) => {
+            let report = refusal_report(alloc, &refused);
+            drop(refused);
+            report
+        }
     }
+}
+
+// The report where there is a lens.
+fn lens_report(
+    alloc: Global,
+    command: Command,
+    lens: &Typed,
+    journal: &[u8],
+) -> Result<Report, AllocError>
+    requires { command ≡ Command.Run → IsTrue (is_paired_int (form_tree lens.now)) }
+    ensures { IfOk result (λ r. report_with command (Ok (form_tree lens.now)) (items_among (map bare (cut journal.now))) ≡ Some (r.text.items, r.status)) }
+{
+    match command {
+        Command::Run => run_journal(alloc, lens, journal),
+        Command::Check => type_report(alloc, lens),
+    }
+}
+
+// The two types of a lens.
+fn type_report(alloc: Global, lens: &Typed) -> Result<Report, AllocError>
+    ensures { IfOk result (λ r. (r.text.items ≡ type_lines (form_tree lens.now)) × (r.status ≡ Status.Done)) }
+{
+    let left = type_line(alloc, Side::Left, lens.left())?;
+    let right = type_line(alloc, Side::Right, lens.right())?;
+    let mut text = left.into_vec();
+    text.extend_from_slice(right.as_slice())?;
+    Ok(Report {
+        text,
+        status: Status::Done,
+    })
+}
+
+// The report where the program part is refused. Want of memory is no refusal.
+fn refusal_report(alloc: Global, refused: &Refused) -> Result<Report, AllocError>
+    requires { IsKnown refused.now }
+    ensures { IfOk result (λ r. (found : Result FormTree Refusal) (command : Command) (items : List Item) → IsRefusal found refused.now
+        → report_with command found items ≡ Some (r.text.items, r.status)) }
+{
+    match refused {
+        Refused::Syntax(fault) => Ok(refused_with(syntax_line(alloc, fault)?)),
+        Refused::Typing(fault) => Ok(refused_with(typing_line(alloc, fault)?)),
+        Refused::NotBuilt => not_built_report(alloc),
+        Refused::NoMemory => Err(AllocError),
+    }
+}
+
+// The report that is a line of refusal alone.
+fn refused_with(line: Bytes) -> Report
+    ensures text { result.text.items ≡ line }
+    ensures status { result.status ≡ Status.ProgramRefused }
+{
+    Report {
+        text: line.into_vec(),
+        status: Status::ProgramRefused,
+    }
+}
+
+// The report where the lens is none that is carried today.
+fn not_built_report(alloc: Global) -> Result<Report, AllocError>
+    ensures { IfOk result (λ r. (r.text.items ≡ refusal_line not_built) × (r.status ≡ Status.ProgramRefused)) }
+{
+    Ok(Report {
+        text: Vec::from_slice(alloc, NOT_BUILT.as_bytes())?,
+        status: Status::ProgramRefused,
+    })
 }
 
 // The report of the items among the lines of a journal.
@@ -77,7 +151,7 @@ fn run_journal(alloc: Global, lens: &Typed, journal: &[u8]) -> Result<Report, Al
     }
     let state = state_lines(alloc, lens, &running.triple)?;
     let mut text = running.text;
-    text.extend_from_slice(state.as_bytes())?;
+    text.extend_from_slice(&state)?;
     let status = ending(running.refused);
     Ok(Report { text, status })
 }
@@ -147,7 +221,7 @@ fn take_item(
     let number = running.number + 1;
     let said = answer_line(alloc, number, &answer)?;
     let mut text = running.text;
-    text.extend_from_slice(said.as_bytes())?;
+    text.extend_from_slice(said.as_slice())?;
     let refused = either(running.refused, answer.is_refused());
     Ok(Running {
         triple,

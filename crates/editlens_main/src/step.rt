@@ -2,7 +2,8 @@
 ghost use Rattle.std.specs.Prelude.{◌≡◌, true, IsTrue, IfOk, OnErr, Some};
 ghost use Rattle.edit_json.specs.WordJson.{counts_fit};
 ghost use Rattle.edit_module.specs.Views.{word_tree};
-ghost use Rattle.lens_core.specs.Forms.{form_tree, is_paired_int};
+ghost use Rattle.lens_types.specs.Forms.{form_tree};
+ghost use Rattle.lens_core.specs.Built.{is_paired_int};
 ghost use Rattle.editlens_main.specs.Step.{IsInStep, step, left_acted};
 ghost use Rattle.editlens_main.specs.Telling.{CanBeTold};
 ghost use Rattle.editlens_main.specs.Views.{triple_tree, answer_tree};
@@ -10,7 +11,8 @@ ghost use Rattle.editlens_main.specs.Views.{triple_tree, answer_tree};
 use doc_values::Doc;
 use edit_journal::EntryFault;
 use edit_module::{ActFault, Cause, Entry, Side, Word, act};
-use lens_core::{Carried, CarryFault, Comp, Typed, record_carry};
+use lens_core::{Carried, CarryFault, Comp, record_carry};
+use lens_types::Typed;
 use std::alloc::{AllocError, Global};
 
 /// A left document, a complement and a right document.

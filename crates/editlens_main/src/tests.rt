@@ -151,26 +151,39 @@ fn program_parts(rt: HostRuntime) -> Result<(), Fail> {
     let words = run_words(alloc)?;
     let refused = b"program refused: not-built\n".as_slice();
     // an input, what is written, and the status
-    let cases: [(&[u8], &[u8], Status); 7] = [
+    let cases: [(&[u8], &[u8], Status); 8] = [
         (b"main {a ~ b: id int}", START, Status::Done),
         (
-            b"main{a~b:id int}# a comment \xff\r\n---\r\n",
+            b"lens l = id int; main{a~b:l}# a comment \xff\r\n---\r\n",
             START,
             Status::Done,
         ),
         (b"main id int", refused, Status::ProgramRefused),
-        (b"main {a ~ left: id int}", refused, Status::ProgramRefused),
         (
             b"main {a ~ b: id int, c ~ d: id int}",
             refused,
             Status::ProgramRefused,
         ),
         (
-            b"main {a ~ b: id int}\n ---\n",
-            refused,
+            b"main id",
+            b"program refused: not-a-program 7\n",
             Status::ProgramRefused,
         ),
-        (b"", refused, Status::ProgramRefused),
+        (
+            b"main id t",
+            b"program refused: unknown-name 8\n",
+            Status::ProgramRefused,
+        ),
+        (
+            b"type t = int; type t = int; main id t",
+            b"program refused: repeated-name 19\n",
+            Status::ProgramRefused,
+        ),
+        (
+            b"main {a ~ b: id int}\n ---\n",
+            b"program refused: not-a-program 22\n",
+            Status::ProgramRefused,
+        ),
     ];
     for (input, given, status) in cases {
         let bytes = Bytes::from_vec(Vec::from_slice(alloc, input)?);
@@ -179,6 +192,99 @@ fn program_parts(rt: HostRuntime) -> Result<(), Fail> {
         let ended = editlens(alloc, &words, &mut source, &mut sink);
         assert_eq!(rt; ended, status);
         assert_eq!(rt; sink.bytes(), given);
+    }
+    Ok(())
+}
+
+// What `check` writes for a program, and its status.
+fn checked(alloc: Global, input: &[u8], given: &[u8], status: Status) -> Result<bool, AllocError> {
+    let mut words = Vec::new(alloc);
+    words.push(String::from_str(alloc, "editlens")?)?;
+    words.push(String::from_str(alloc, "check")?)?;
+    let bytes = Bytes::from_vec(Vec::from_slice(alloc, input)?);
+    let mut source = MemSource::new(bytes, Vec::new(alloc), Vec::new(alloc));
+    let mut sink = MemSink::new(alloc, Vec::new(alloc), Vec::new(alloc));
+    let ended = editlens(alloc, &words, &mut source, &mut sink);
+    Ok(ended == status && sink.bytes() == given)
+}
+
+#[test]
+fn checked_types(rt: HostRuntime) -> Result<(), Fail> {
+    let alloc = rt.alloc();
+    let cases: [(&[u8], &[u8]); 5] = [
+        (b"main {}", b"left {}\nright {}\n"),
+        (
+            b"main {name ~ label: id text, left age: int, right note: text}\n---\n[\n",
+            b"left {age: int, name: text}\nright {label: text, note: text}\n",
+        ),
+        (
+            b"lens l = part <p: text, \"o o\": int>; main inv l",
+            b"left {\"o o\": list int, p: list text}\nright list <p: text, \"o o\": int>\n",
+        ),
+        (b"main id int", b"left int\nright int\n"),
+        (
+            b"main bij[\"on\"=\"yes\", \"off\"=\"no\"]",
+            b"left enum[\"on\", \"off\"]\nright enum[\"yes\", \"no\"]\n",
+        ),
+    ];
+    for (input, given) in cases {
+        assert!(rt; checked(alloc, input, given, Status::Done)?);
+    }
+    Ok(())
+}
+
+#[test]
+fn refused_types(rt: HostRuntime) -> Result<(), Fail> {
+    let alloc = rt.alloc();
+    let cases: [(&[u8], &[u8]); 5] = [
+        (
+            b"main then(id <p: text, o: int>, id <o: int, p: text>)",
+            b"program refused: middle-differs <p: text, o: int> <o: int, p: text>\n",
+        ),
+        (
+            b"main {a ~ b: id int, left a: int}",
+            b"program refused: repeated-field a\n",
+        ),
+        (
+            b"main <a ~ b: id int, a ~ c: id int>",
+            b"program refused: repeated-tag a\n",
+        ),
+        (
+            b"main bij[\"x\"=\"y\",\"z\"=\"y\"]",
+            b"program refused: repeated-member y\n",
+        ),
+        (
+            b"main id {\"left\": int, \"left\": int}",
+            b"program refused: repeated-field \"left\"\n",
+        ),
+    ];
+    for (input, given) in cases {
+        assert!(rt; checked(alloc, input, given, Status::ProgramRefused)?);
+    }
+    Ok(())
+}
+
+// `main`, so many times `each`, and `id int`.
+fn nested(alloc: Global, times: u64) -> Result<Vec<u8>, AllocError> {
+    let mut text = Vec::from_slice(alloc, b"main ".as_slice())?;
+    for _ in 0..times {
+        text.extend_from_slice(b"each ".as_slice())?;
+    }
+    text.extend_from_slice(b"id int".as_slice())?;
+    Ok(text)
+}
+
+#[test]
+fn deep_programs(rt: HostRuntime) -> Result<(), Fail> {
+    let alloc = rt.alloc();
+    let cases: [(u64, &[u8]); 3] = [
+        (33, b"program refused: too-deep\n"),
+        (98, b"program refused: too-deep\n"),
+        (101, b"program refused: not-a-program 505\n"),
+    ];
+    for (times, given) in cases {
+        let text = nested(alloc, times)?;
+        assert!(rt; checked(alloc, &text, given, Status::ProgramRefused)?);
     }
     Ok(())
 }
@@ -210,7 +316,7 @@ fn faults_and_pieces(rt: HostRuntime) -> Result<(), Fail> {
 fn other_words(rt: HostRuntime) -> Result<(), Fail> {
     let alloc = rt.alloc();
     let usage = b"usage: editlens run|check|init|apply|show|verify|pack|gen N SEED\n".as_slice();
-    for other in ["", "help", "RUN", "--"] {
+    for other in ["", "frob", "RUN", "--"] {
         let mut words = Vec::new(alloc);
         words.push(String::from_str(alloc, "editlens")?)?;
         words.push(String::from_str(alloc, other)?)?;

@@ -1,16 +1,35 @@
 // The command line.
-ghost use Rattle.std.specs.Prelude.{◌↔◌, IsTrue};
-ghost use Rattle.editlens_main.specs.Words.{IsRun};
+ghost use Rattle.std.specs.Prelude.{◌≡◌};
+ghost use Rattle.editlens_main.specs.Words.{command_of, named};
 
 /// What is written where the words name no command.
 pub const USAGE: &str = "usage: editlens run|check|init|apply|show|verify|pack|gen N SEED\n";
 
-/// Whether the words are the program's name and `run`, and no more.
-pub fn is_run(words: &[String]) -> bool
-    ensures { IsTrue result ↔ IsRun words.now }
+/// What the program is asked to do.
+#[derive(Clone, Copy, Debug, PartialEq, Eq)]
+pub enum Command {
+    /// Carry the entries of a journal.
+    Run,
+    /// Show the two types of a lens.
+    Check,
+}
+
+/// The command that the words name: the program's name, one word, and no more. None where they name none.
+pub fn read_command(words: &[String]) -> Option<Command>
+    ensures { result ≡ command_of words.now }
 {
     match words {
-        [_, word] => word.as_str() == "run",
-        _ => false,
+        [_, word] => named(word.as_str()),
+        _ => None,
+    }
+}
+
+fn named(word: &str) -> Option<Command>
+    ensures { result ≡ named word.now }
+{
+    match word {
+        "run" => Some(Command::Run),
+        "check" => Some(Command::Check),
+        _ => None,
     }
 }

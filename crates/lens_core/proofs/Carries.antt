@@ -8,7 +8,8 @@ use Rattle.edit_module.specs.Words.{PrimitiveTree, at, WordTree, done, then, wor
 use Rattle.edit_module.specs.Views.{primitive_tree}
 use Rattle.edit_module.specs.declared.side.Side.{Side}
 use Rattle.edit_module.specs.declared.word.Primitive.{Primitive}
-use Rattle.lens_core.specs.Forms.{FormTree, form_id, paired_int}
+use Rattle.lens_types.specs.Forms.{FormTree, form_id}
+use Rattle.lens_core.specs.Built.{paired_int}
 use Rattle.lens_core.specs.Complements.{CompTree, nil, rec_comp, CompTrees, no_comps, more_comps, count, comps_of, comp_tree}
 use Rattle.lens_core.specs.Parts.{only_part, passes}
 use Rattle.lens_core.specs.Translation.{near, far, at_word, behind, in_turn, translate_one, translate}

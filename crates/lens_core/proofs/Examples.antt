@@ -1,12 +1,13 @@
 -- The definitions on small cases.
 use Rattle.std.proofs.Common.{◌≡◌, ℕ, true, List, [], ◌∷◌, None, Some, refl}
 use Rattle.std.specs.Prelude.{pos}
-use Rattle.doc_values.specs.Documents.{DocTree, int, rec, no_docs, more_docs}
-use Rattle.doc_values.specs.Types.{ty_int, ty_bool, ty_rec, no_fields, field}
+use Rattle.doc_values.specs.Documents.{DocTree, truth, int, rec, no_docs, more_docs}
+use Rattle.doc_values.specs.Types.{ty_int, ty_bool}
 use Rattle.edit_module.specs.Words.{WordTree, set, at, done, then}
 use Rattle.edit_module.specs.declared.atom.Atom.TheVariants.{Truth, Number}
 use Rattle.edit_module.specs.declared.side.Side.TheVariants.{Left, Right}
-use Rattle.lens_core.specs.Forms.{FormTree, form_id, form_rec, no_rows, both, left_type, right_type, paired_int}
+use Rattle.lens_types.specs.Forms.{FormTree, form_id, form_disc, form_rec, no_rows, both, only_left, only_right}
+use Rattle.lens_core.specs.Built.{paired_int}
 use Rattle.lens_core.specs.Complements.{CompTree, nil, rec_comp, no_comps, more_comps, missing}
 use Rattle.lens_core.specs.Consistency.{IsConsistent}
 use Rattle.lens_core.specs.Translation.{translate}
@@ -31,6 +32,10 @@ one_row = paired_int a b
 abbrev two_rows : FormTree
 two_rows = form_rec (both b d (form_id ty_int) (both a c (form_id ty_bool) no_rows))
 
+-- the same row as one_row, between a left field c and a right field d
+abbrev mixed : FormTree
+mixed = form_rec (only_left c ty_int (both a b (form_id ty_int) (only_right d ty_bool no_rows)))
+
 abbrev start : CompTree
 start = rec_comp (more_comps nil no_comps)
 
@@ -41,16 +46,13 @@ set_to n = then (set (Number (pos n))) done
 abbrev in_field : List ℕ → WordTree → WordTree
 in_field f w = then (at f w) done
 
--- ---- types and complements
-
-fields_are_sorted : left_type two_rows ≡ ty_rec (field a ty_bool (field b ty_int no_fields))
-fields_are_sorted = refl
-
-sides_are_apart : right_type two_rows ≡ ty_rec (field c ty_bool (field d ty_int no_fields))
-sides_are_apart = refl
+-- ---- complements
 
 one_for_each_row : missing two_rows ≡ rec_comp (more_comps nil (more_comps nil no_comps))
 one_for_each_row = refl
+
+one_side_has_none : missing mixed ≡ start
+one_side_has_none = refl
 
 -- ---- translation
 
@@ -81,6 +83,15 @@ second_is_none = refl
 second_row : translate two_rows Right (missing two_rows) (in_field c (then (set (Truth true)) done)) ≡ Some (in_field a (then (set (Truth true)) done), missing two_rows)
 second_row = refl
 
+behind_one_side : translate mixed Right start (in_field b (set_to 5)) ≡ Some (in_field a (set_to 5), start)
+behind_one_side = refl
+
+one_side_alone : translate mixed Left start (in_field c (set_to 5)) ≡ Some (done, start)
+one_side_alone = refl
+
+not_on_the_other : translate mixed Right start (in_field c (set_to 5)) ≡ None
+not_on_the_other = refl
+
 other_variant : translate one_row Left nil (in_field a (set_to 5)) ≡ None
 other_variant = refl
 
@@ -101,5 +112,25 @@ equal_ints = (
   ((int (pos 5), int (pos 5), refl, refl, (record { left_has = refl; comp_fits = tt; right_has = refl }, refl)), tt),
 )
 
+one_side_is_free : IsConsistent mixed (rec (more_docs (int (pos 5)) (more_docs (int (pos 7)) no_docs))) start (rec (more_docs (int (pos 5)) (more_docs (truth true) no_docs)))
+one_side_is_free = (
+  record { left_has = refl; comp_fits = (tt, tt); right_has = refl },
+  ((int (pos 5), int (pos 5), refl, refl, (record { left_has = refl; comp_fits = tt; right_has = refl }, refl)), tt),
+)
+
 other_complement : IsConsistent one_row (record_of 5) nil (record_of 5) → ⊥
 other_complement h = h
+
+-- ---- forms that are not carried yet
+
+abbrev apart : FormTree
+apart = form_disc ty_int ty_int
+
+nothing_is_kept : missing apart ≡ nil
+nothing_is_kept = refl
+
+nothing_is_carried : translate apart Left nil (set_to 5) ≡ None
+nothing_is_carried = refl
+
+none_consistent : IsConsistent apart (int (pos 5)) nil (int (pos 5)) → ⊥
+none_consistent h = h

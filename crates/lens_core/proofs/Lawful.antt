@@ -1,24 +1,15 @@
 -- The laws, as callers cite them.
-use Rattle.std.proofs.Common.{◌≡◌, ℕ, List, refl, sym, subst}
+use Rattle.std.proofs.Common.{refl, sym, subst}
 use Rattle.std.specs.Prelude.{IsTrue}
 use Rattle.doc_values.specs.Documents.{rec}
-use Rattle.doc_values.specs.Types.{ty_int}
-use Rattle.lens_core.specs.Forms.{FormTree, form_id, form_rec, no_rows, both, paired_int, is_paired_int}
+use Rattle.lens_types.specs.Forms.{FormTree, form_id, form_rec}
+use Rattle.lens_core.specs.Built.{is_paired_int}
 use Rattle.lens_core.specs.Complements.{nil, rec_comp}
 use Rattle.lens_core.specs.Translation.{translate_one}
 use Rattle.lens_core.specs.Laws.{StartsConsistent, ConsistentIsTyped, LeftEditsCarry, RightEditsCarry, EmptyStays, WordsCompose}
 use Rattle.lens_core.proofs.Paired.{paired_starts, paired_left_edits, paired_right_edits}
 use Rattle.lens_core.proofs.Turns.{in_turn-joined}
-
--- the fields of the record of one paired row with `id int`
-pub record IsPairedInt (form : FormTree) : Type 0 where
-  pub left : List ℕ
-  pub right : List ℕ
-  pub is : form ≡ paired_int left right
-
-pub paired_fields : (form : FormTree) → IsTrue (is_paired_int form) → IsPairedInt form
-paired_fields (form_rec (both a b (form_id ty_int) no_rows)) h = record { left = a; right = b; is = refl }
-paired_fields form h = cc
+pub use Rattle.lens_core.proofs.BuiltForms.{IsPairedInt, paired_fields}
 
 pub starts_consistent : (form : FormTree) → IsTrue (is_paired_int form) → StartsConsistent form
 starts_consistent form h = let p = paired_fields form h in subst StartsConsistent (sym p.is) (paired_starts p.left p.right)

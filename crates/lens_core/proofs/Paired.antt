@@ -12,7 +12,8 @@ use Rattle.edit_module.specs.declared.atom.Atom.TheVariants.{Number}
 use Rattle.edit_module.specs.declared.fault.Cause.{Cause}
 use Rattle.edit_module.specs.declared.side.Side.{Side}
 use Rattle.edit_module.specs.declared.side.Side.TheVariants.{Left, Right}
-use Rattle.lens_core.specs.Forms.{form_id, no_rows, both, paired_int}
+use Rattle.lens_types.specs.Forms.{form_id, no_rows, both}
+use Rattle.lens_core.specs.Built.{paired_int}
 use Rattle.lens_core.specs.Complements.{CompTree, nil, rec_comp, CompTrees, no_comps, more_comps}
 use Rattle.lens_core.specs.Consistency.{IsConsistent, AreConsistent, content}
 use Rattle.lens_core.specs.Translation.{near, far, at_word, in_turn, translate_one, translate}

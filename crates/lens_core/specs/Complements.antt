@@ -1,6 +1,6 @@
 -- Complements as plain trees, which of them fit a form, and the missing one.
 use Rattle.std.specs.Prelude.{ℕ, ◌+◌, List, [], ◌∷◌}
-use Rattle.lens_core.specs.Forms.{FormTree, form_id, form_rec, RowTrees, no_rows, both}
+use Rattle.lens_types.specs.Forms.{FormTree, form_id, form_rec, RowTrees, no_rows, both, only_left, only_right}
 use Rattle.lens_core.specs.declared.comp.Comp.{Comp, fold-Comp}
 use Rattle.lens_core.specs.declared.comp.Comps.{Comps, fold-Comps}
 use Rattle.lens_core.specs.declared.comp.Comp.TheOpen.{Comp-F, Comps-F}
@@ -20,7 +20,8 @@ abbrev pub count : CompTrees → ℕ
 count no_comps = 0
 count (more_comps c cs) = count cs + 1
 
--- the complements of a form: Nil for the identity; for a record one that fits for each paired row
+-- The complements of a form: Nil for the identity; for a record one that fits for each paired row.
+-- The other forms are not carried yet: no complement fits them.
 abbrev mutual
   pub Fits : FormTree → CompTree → Type 0
   Fits (form_id t) nil = Unit {0}
@@ -30,17 +31,22 @@ abbrev mutual
   pub FitRows : RowTrees → CompTrees → Type 0
   FitRows no_rows no_comps = Unit {0}
   FitRows (both a b l rows) (more_comps c cs) = Fits l c × FitRows rows cs
+  FitRows (only_left a t rows) cs = FitRows rows cs
+  FitRows (only_right b t rows) cs = FitRows rows cs
   FitRows _ _ = ⊥
 
--- the first complement of a form
+-- the first complement of a form; of the forms that are not carried yet it is Nil
 abbrev mutual
   pub missing : FormTree → CompTree
   missing (form_id t) = nil
   missing (form_rec rows) = rec_comp (missing_rows rows)
+  missing _ = nil
 
   pub missing_rows : RowTrees → CompTrees
   missing_rows no_rows = no_comps
   missing_rows (both a b l rows) = more_comps (missing l) (missing_rows rows)
+  missing_rows (only_left a t rows) = missing_rows rows
+  missing_rows (only_right b t rows) = missing_rows rows
 
 -- a list of complements as trees, and back
 abbrev pub comps_of : List CompTree → CompTrees

@@ -3,7 +3,7 @@ use Rattle.std.specs.Prelude.{◌≡◌, ℕ, IsTrue, bytes_eq, if◌then◌else
 use Rattle.doc_values.specs.Documents.{DocTree, rec, DocTrees, more_docs}
 use Rattle.doc_values.specs.Types.{FieldTrees, field}
 use Rattle.doc_values.specs.Typing.{has}
-use Rattle.lens_core.specs.Forms.{FormTree, form_id, form_rec, RowTrees, no_rows, both, left_type, left_fields, right_type, right_fields}
+use Rattle.lens_types.specs.Forms.{FormTree, form_id, form_rec, RowTrees, no_rows, both, only_left, only_right, left_type, left_fields, right_type, right_fields}
 use Rattle.lens_core.specs.Complements.{CompTree, nil, rec_comp, CompTrees, no_comps, more_comps, Fits}
 
 -- the left document has the left type, the complement fits, and the right document has the right type
@@ -19,7 +19,9 @@ content _ _ n = None
 
 -- The relation holds only where the documents have their types and the complement fits. Beyond that, by the form:
 -- of the identity the two documents are equal;
--- of a record, for each paired row, the left field, its complement and the right field are in the relation of the row's lens.
+-- of a record, for each paired row, the left field, its complement and the right field are in the relation of the row's lens;
+-- fields of one side alone are free.
+-- The other forms are not carried yet: the relation holds nowhere.
 abbrev mutual
   pub IsConsistent : FormTree → DocTree → CompTree → DocTree → Type 0
   IsConsistent (form_id t) x nil y = AreTyped (form_id t) x nil y × (x ≡ y)
@@ -33,4 +35,6 @@ abbrev mutual
   AreConsistent (both a b l rows) ls xs (more_comps c cs) rs ys =
       ((x : DocTree) × (y : DocTree) × (content ls xs a ≡ Some x) × (content rs ys b ≡ Some y) × IsConsistent l x c y)
       × AreConsistent rows ls xs cs rs ys
+  AreConsistent (only_left a t rows) ls xs cs rs ys = AreConsistent rows ls xs cs rs ys
+  AreConsistent (only_right b t rows) ls xs cs rs ys = AreConsistent rows ls xs cs rs ys
   AreConsistent _ _ _ _ _ _ = ⊥

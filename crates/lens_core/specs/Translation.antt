@@ -4,7 +4,7 @@ use Rattle.edit_module.specs.Views.{word_tree}
 use Rattle.edit_module.specs.Words.{PrimitiveTree, at, WordTree, done, then, joined}
 use Rattle.edit_module.specs.declared.side.Side.{Side}
 use Rattle.edit_module.specs.declared.side.Side.TheVariants.{Left, Right}
-use Rattle.lens_core.specs.Forms.{FormTree, form_id, form_rec, RowTrees, both, paired_rows}
+use Rattle.lens_types.specs.Forms.{FormTree, form_id, form_rec, RowTrees, both, only_left, only_right, paired_rows}
 use Rattle.lens_core.specs.Complements.{CompTree, nil, rec_comp, CompTrees, more_comps, count, comp_tree}
 use Rattle.lens_core.specs.declared.carry.Carried.{Carried}
 use Rattle.lens_core.specs.declared.carry.CarryFault.{CarryFault}
@@ -50,7 +50,7 @@ abbrev pub in_record : WordTree × CompTrees → Translated
 in_record r = (r.0, rec_comp r.1)
 
 -- One primitive of a side. None where the complement does not have the outermost form of this constructor,
--- and where the primitive fits no line.
+-- where the primitive fits no line, and for the forms that are not carried yet.
 abbrev mutual
   pub translate_one : FormTree → Side → CompTree → PrimitiveTree → Option Translated
   -- the identity passes on its primitive as it is
@@ -60,12 +60,17 @@ abbrev mutual
       cond (nat_eq (count cs) (paired_rows rows)) (option_map in_record (translate_at rows side f u cs)) None
   translate_one _ _ _ _ = None
 
-  -- a word in a field: it is carried in the row whose near field this is, with its complement; none where there is no such row
+  -- a word in a field: it is carried in the row whose near field this is, with its complement; in a field of the near side
+  -- alone it is carried to nothing, and the complements stay; none where there is no such row
   pub translate_at : RowTrees → Side → List ℕ → WordTree → CompTrees → Option (WordTree × CompTrees)
   translate_at (both a b l rows) side f u (more_comps c cs) =
       cond (bytes_eq (near side a b) f)
       (option_map (in_row (far side a b) cs) (in_turn (λ d p. translate_one l side d p) c u))
       (option_map (past_row c) (translate_at rows side f u cs))
+  translate_at (only_left a t rows) Left f u cs = cond (bytes_eq a f) (Some (done, cs)) (translate_at rows Left f u cs)
+  translate_at (only_left a t rows) Right f u cs = translate_at rows Right f u cs
+  translate_at (only_right b t rows) Left f u cs = translate_at rows Left f u cs
+  translate_at (only_right b t rows) Right f u cs = cond (bytes_eq b f) (Some (done, cs)) (translate_at rows Right f u cs)
   translate_at _ _ _ _ _ = None
 
 -- a whole word of a side

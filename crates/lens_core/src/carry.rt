@@ -3,15 +3,17 @@
 ghost use Rattle.std.specs.Prelude.{◌≡◌, IsTrue, MatchResult, MatchOption, IfOk, Some, None};
 ghost use Rattle.edit_module.specs.Views.{primitive_tree, word_tree};
 ghost use Rattle.lens_core.specs.Complements.{comp_tree, rec_comp, more_comps, no_comps};
-ghost use Rattle.lens_core.specs.Forms.{form_tree, is_paired_int, paired_int};
+ghost use Rattle.lens_types.specs.Forms.{form_tree};
+ghost use Rattle.lens_core.specs.Built.{is_paired_int};
 ghost use Rattle.lens_core.specs.Translation.{near, far, at_word, translate_one, translate, carried_tree, IsCarryFault};
 ghost use Rattle.lens_core.specs.Parts.{only_part, passes};
 
+use crate::built::paired_fields;
 use crate::comp::Comp;
-use crate::form::{Form, FormRow};
 use edit_module::word::Primitive;
 use edit_module::{Side, Word};
 use hold_shapes::{Name, Twin};
+use lens_types::Form;
 use std::alloc::{AllocError, AllocFailed, Global};
 
 /// What a word is carried to.
@@ -54,9 +56,10 @@ impl<T: Drop> From<AllocFailed<T>> for CarryFault {
     }
 }
 
-/// What a word of a side is carried to from a complement, by the record of one paired row with `id int`.
+/// What a word of a side is carried to from a complement, by the record of one paired row with `id int`; a caller tests
+/// with [`is_built`](crate::is_built) that the form is one.
 ///
-/// The answer is the translation of the word (docs/FORMATS.md): each primitive in turn, the complement handed along.
+/// The answer is the translation of the word (docs/MEANING.md): each primitive in turn, the complement handed along.
 /// `Unfit` comes exactly where the translation has no value, `NoMemory` besides. What is passed in stays as it is.
 pub fn record_carry(
     alloc: Global,
@@ -95,7 +98,9 @@ fn carry_one(
         (λ w. translate_one (form_tree form.now) side (comp_tree comp.now) (primitive_tree primitive.now) ≡ Some (word_tree w, comp_tree comp.now))
         (IsCarryFault (translate_one (form_tree form.now) side (comp_tree comp.now) (primitive_tree primitive.now))) }
 {
-    let (left, right) = paired_fields(form);
+    let Some((left, right)) = paired_fields(form) else {
+        unreachable!();
+    };
     let Primitive::At(field, inner) = primitive else {
         return Err(CarryFault::Unfit);
     };
@@ -130,19 +135,6 @@ fn in_field(alloc: Global, field: &Name, inner: &Word) -> Result<Word, AllocErro
     }
     let primitive = Primitive::At(field.twin(alloc)?, inner.twin(alloc)?);
     Ok(Word::from_vec(vec![in alloc; primitive]?))
-}
-
-// The left and the right field of the row.
-fn paired_fields(form: &Form) -> (&Name, &Name)
-    requires { IsTrue (is_paired_int (form_tree form.now)) }
-    ensures { form_tree form.now ≡ paired_int result.0.now result.1.now }
-{
-    match form {
-        Form::Rec(rows) => match &rows.items[0] {
-            FormRow::Both(left, right, _) => (left, right),
-        },
-        Form::Id(_) => unreachable!(),
-    }
 }
 
 // The field of the edited side and that of the other.

@@ -2,10 +2,10 @@
 
 ghost use Rattle.std.specs.Prelude.{◌≡◌, map, IfOk};
 ghost use Rattle.lens_core.specs.Complements.{comp_tree, comps_tree, comps_of, missing, missing_rows};
-ghost use Rattle.lens_core.specs.Forms.{form_tree, rows_tree};
+ghost use Rattle.lens_types.specs.Forms.{form_tree, rows_tree};
 
-use crate::form::{Form, FormRow, FormRows};
 use hold_shapes::Twin;
+use lens_types::{Form, FormRow, FormRows};
 use std::alloc::{AllocError, Global};
 
 /// A complement. docs/FORMATS.md says which complements a form has.
@@ -93,14 +93,16 @@ impl Twin for Comps {
     }
 }
 
-/// The first complement of a form. It is refused for want of memory alone.
+/// The first complement of a form: Nil of the identity, for a record the first one of each paired row, in written order.
+///
+/// Of the forms that are not carried yet it is Nil. It is refused for want of memory alone. See docs/MEANING.md.
 #[cycle(missing)]
 pub fn missing(alloc: Global, form: &Form) -> Result<Comp, AllocError>
     ensures { IfOk result (λ c. comp_tree c ≡ missing (form_tree form.now)) }
 {
     match form {
-        Form::Id(_) => Ok(Comp::Nil),
         Form::Rec(rows) => Ok(Comp::Rec(missing_rows(alloc, rows)?)),
+        _ => Ok(Comp::Nil),
     }
 }
 
@@ -109,9 +111,12 @@ fn missing_rows(alloc: Global, rows: &FormRows) -> Result<Comps, AllocError>
     ensures { IfOk result (λ cs. comps_tree cs ≡ missing_rows (rows_tree rows.now)) }
 {
     let mut items = Vec::new(alloc);
-    for row in &rows.items {
-        let FormRow::Both(_, _, form) = row;
-        items.push(missing(alloc, form)?)?;
+    for row in rows.as_slice() {
+        match row {
+            FormRow::Both(_, _, form) => items.push(missing(alloc, form)?)?,
+            FormRow::OnlyLeft(_, _) => {}
+            FormRow::OnlyRight(_, _) => {}
+        }
     }
     Ok(Comps::from_vec(items))
 }

@@ -2,7 +2,8 @@
 //! calls it, or cites the lemma of the same name in proofs/.
 
 ghost use Rattle.std.specs.Prelude.{IsTrue};
-ghost use Rattle.lens_core.specs.Forms.{FormTree, is_paired_int};
+ghost use Rattle.lens_types.specs.Forms.{FormTree};
+ghost use Rattle.lens_core.specs.Built.{is_paired_int};
 ghost use Rattle.lens_core.specs.Laws.{StartsConsistent, ConsistentIsTyped, LeftEditsCarry, RightEditsCarry, EmptyStays, WordsCompose};
 
 /// The initial documents of the two types are consistent with the missing complement.

@@ -1,26 +1,34 @@
-// What words are carried to by the record of `a` and `b`, told as text, and the values that the other calls make.
-ghost use Rattle.std.specs.Prelude.{IsTrue, IfOk};
-ghost use Rattle.lens_core.specs.Forms.{form_tree, is_paired_int};
-
+// What words are carried to by the record of `a` and `b`, told as text; which forms are built, and their first complements.
+use crate::built::is_built;
 use crate::carry::{CarryFault, record_carry};
 use crate::comp::{Comp, Comps, missing};
-use crate::form::{Form, FormRow};
-use crate::typed::Typed;
-use doc_values::{Fields, Ty};
+use doc_values::Ty;
 use edit_module::word::Primitive;
 use edit_module::{Atom, Side, Word};
 use hold_shapes::{Name, Twin};
+use lens_types::{Form, FormRow, FormRows};
 use std::alloc::{AllocError, Global};
+use std::process::Abort;
 use std::test::Fail;
 
 fn name(alloc: Global, text: &str) -> Result<Name, AllocError> {
     Ok(Name::from_string(String::from_str(alloc, text)?))
 }
 
-fn a_and_b(alloc: Global) -> Result<Typed, AllocError>
-    ensures { IfOk result (λ t. IsTrue (is_paired_int (form_tree t))) }
-{
-    Typed::paired_int(alloc, name(alloc, "a")?, name(alloc, "b")?)
+fn paired(alloc: Global, inner: Result<Form, AllocError>) -> Result<FormRow, AllocError> {
+    let inner = inner?;
+    let left = name(alloc, "a")?;
+    Ok(FormRow::Both(left, name(alloc, "b")?, inner))
+}
+
+// The record of `a` and `b` with this form between them.
+fn record(alloc: Global, inner: Result<Form, AllocError>) -> Result<Form, AllocError> {
+    let rows = vec![in alloc; paired(alloc, inner)?]?;
+    Ok(Form::Rec(FormRows::from_vec(rows)))
+}
+
+fn a_and_b(alloc: Global) -> Result<Form, AllocError> {
+    record(alloc, Ok(Form::Id(Ty::Int)))
 }
 
 // A word of a few fields, each with a number that is set in it, or with nothing inside where that is below 0. A field
@@ -95,8 +103,11 @@ fn told_comp(comp: &Comp) -> &'static str {
 
 // What the word is carried to, and the complement, as text.
 fn told(alloc: Global, side: Side, comp: &Comp, word: &Word) -> Result<String, AllocError> {
-    let typed = a_and_b(alloc)?;
-    match record_carry(alloc, typed.form(), side, comp, word) {
+    let form = a_and_b(alloc)?;
+    if !is_built(&form) {
+        return String::from_str(alloc, "not built");
+    }
+    match record_carry(alloc, &form, side, comp, word) {
         Ok(carried) => {
             let mut text = told_word(alloc, &carried.word)?;
             text.push_str(told_comp(&carried.comp))?;
@@ -165,36 +176,58 @@ fn parts_and_sets(rt: HostRuntime) -> Result<(), Fail> {
     Ok(())
 }
 
-// The form and the types of a record, told as text.
-fn told_form(alloc: Global, form: &Form) -> Result<String, AllocError> {
-    let mut text = String::new(alloc);
-    if let Form::Rec(rows) = form {
-        for FormRow::Both(left, right, inner) in rows.as_slice() {
-            text.push_str(left.as_str())?;
-            text.push_str(right.as_str())?;
-            text.push_str(if matches!(inner, Form::Id(Ty::Int)) {
-                " int"
-            } else {
-                ""
-            })?;
-        }
-    }
-    Ok(text)
+// The record of a left field alone, and that of `a` and `b` between a left and a right field alone.
+fn alone(alloc: Global) -> Result<Form, AllocError> {
+    let row = FormRow::OnlyLeft(name(alloc, "l")?, Ty::Int);
+    Ok(Form::Rec(FormRows::from_vec(vec![in alloc; row]?)))
 }
 
-fn record_of(alloc: Global, field: &str) -> Result<Ty, AllocError> {
-    let field = (name(alloc, field)?, Ty::Int);
-    Ok(Ty::Rec(Fields::from_vec(vec![in alloc; field]?)))
+fn between(alloc: Global) -> Result<Form, AllocError> {
+    let left = FormRow::OnlyLeft(name(alloc, "l")?, Ty::Text);
+    let right = FormRow::OnlyRight(name(alloc, "r")?, Ty::Bool);
+    let row = paired(alloc, Ok(Form::Id(Ty::Int)))?;
+    Ok(Form::Rec(FormRows::from_vec(vec![in alloc; left, row, right]?)))
+}
+
+fn exchanged(alloc: Global, inner: Result<Form, AllocError>) -> Result<Form, AllocError> {
+    Ok(Form::Inv(Box::new(alloc, inner?)?))
+}
+
+// Whether the form is built, and its first complement.
+fn form_is(
+    rt: &impl Abort,
+    alloc: Global,
+    form: Result<Form, AllocError>,
+    built: bool,
+    first: &str,
+) {
+    let form = form.expect(rt, "memory for the form");
+    assert_eq!(rt; is_built(&form), built);
+    let start = missing(alloc, &form).expect(rt, "memory for the complement");
+    let start = start.twin(alloc).expect(rt, "memory for its copy");
+    assert_eq!(rt; told_comp(&start), first);
 }
 
 #[test]
-fn typed_forms(rt: HostRuntime) -> Result<(), Fail> {
+fn records(rt: HostRuntime) {
     let alloc = rt.alloc();
-    let typed = a_and_b(alloc)?.twin(alloc)?;
-    assert!(rt; typed.left().is_same(&record_of(alloc, "a")?));
-    assert!(rt; typed.right().is_same(&record_of(alloc, "b")?));
-    assert_eq!(rt; told_form(alloc, typed.form())?.as_str(), "ab int");
-    let start = missing(alloc, typed.form())?.twin(alloc)?;
-    assert_eq!(rt; told_comp(&start), "rec nil");
-    Ok(())
+    form_is(&rt, alloc, a_and_b(alloc), true, "rec nil");
+    form_is(&rt, alloc, record(alloc, a_and_b(alloc)), false, "rec rec");
+    form_is(&rt, alloc, between(alloc), false, "rec nil");
+    form_is(&rt, alloc, alone(alloc), false, "rec");
+}
+
+#[test]
+fn other_forms(rt: HostRuntime) {
+    let alloc = rt.alloc();
+    form_is(&rt, alloc, Ok(Form::Id(Ty::Int)), false, "nil");
+    form_is(
+        &rt,
+        alloc,
+        record(alloc, Ok(Form::Id(Ty::Bool))),
+        false,
+        "rec nil",
+    );
+    form_is(&rt, alloc, Ok(Form::Disc(Ty::Int, Ty::Text)), false, "nil");
+    form_is(&rt, alloc, exchanged(alloc, a_and_b(alloc)), false, "nil");
 }

@@ -1,8 +1,8 @@
 use Rattle.std.proofs.Common.{◌++◌, codes, ap, ap₂, ◌∙◌}
 use Rattle.doc_values.specs.Documents.{doc_tree}
-use Rattle.lens_core.specs.Forms.{form_tree}
+use Rattle.lens_types.specs.Forms.{form_tree}
 use Rattle.value_json.specs.DocumentJson.{tree_of_document}
-use Rattle.editlens_main.specs.Report.{tree_line}
+use Rattle.answer_text.specs.Lines.{tree_line}
 use Rattle.editlens_main.specs.Views.{triple_tree}
 use Rattle.editlens_main.proofs.InStep.{left_typed, right_typed}
 use Rattle.editlens_main.proofs.answers.state_lines.Goals as goal
@@ -15,7 +15,8 @@ document_line-requires-2-clause-typed c = right_typed (form_tree c.args.lens.now
 
 pub returns : goal.returns
 returns c =
-    let left = c.in_ok-left.ensures ∙ ap (λ t. tree_line (codes "left") (tree_of_document t (doc_tree c.args.triple.now.left))) c.left.ensures.left in
-    let right = c.in_ok-right.ensures ∙ ap (λ t. tree_line (codes "right") (tree_of_document t (doc_tree c.args.triple.now.right))) c.right.ensures.right in
-    let comp = c.as_str-2.ensures.value ∙ c.in_ok-comp.ensures in
-    c.in_ok-text.ensures ∙ ap₂ (λ x y. x ++ y) (ap₂ (λ x y. x ++ y) left (c.as_str.ensures.value ∙ right)) comp
+    let t = triple_tree c.args.triple.now in
+    let left = c.in_ok-left.ensures ∙ ap (λ ty. tree_line (codes "left") (tree_of_document ty t.left)) c.left.ensures.left in
+    let right = c.in_ok-right.ensures ∙ ap (λ ty. tree_line (codes "right") (tree_of_document ty t.right)) c.right.ensures.right in
+    c.in_ok-extend_from_slice-2.ensures.items
+    ∙ ap₂ (λ x y. x ++ y) (c.in_ok-extend_from_slice.ensures.items ∙ ap₂ (λ x y. x ++ y) (c.into_vec-text.ensures ∙ left) (c.as_slice.ensures ∙ right)) (c.as_slice-2.ensures ∙ c.in_ok-comp.ensures)

@@ -1,5 +1,5 @@
 use Rattle.std.proofs.Common.{◌++◌, ◌∷◌, false, Some, map, length, refl, sym, ap, ap₂, ◌∙◌, length-append, arith}
-use Rattle.lens_core.specs.Forms.{form_tree}
+use Rattle.lens_types.specs.Forms.{form_tree}
 use Rattle.editlens_main.specs.Lines.{cut, bare}
 use Rattle.editlens_main.specs.Running.{items_among, report_at}
 use Rattle.editlens_main.specs.Views.{triple_tree}
@@ -36,7 +36,7 @@ pub returns : goal.returns
 returns c =
     let form = form_tree c.args.lens.now in
     let running = c.lines.running in
-    let text = c.in_ok-extend_from_slice.ensures.items ∙ ap (λ x. running.text.items ++ x) (c.as_bytes.ensures.value ∙ c.in_ok-state.ensures) in
+    let text = c.in_ok-extend_from_slice.ensures.items ∙ ap (λ x. running.text.items ++ x) (c.deref.ensures.value ∙ c.in_ok-state.ensures) in
     sym c.lines.invariant.reports
     ∙ ap (λ lines. report_at form running (items_among (map bare lines))) c.in_default.ensures
     ∙ at_end form running

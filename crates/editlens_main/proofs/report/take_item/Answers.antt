@@ -1,5 +1,5 @@
 use Rattle.std.proofs.Common.{◌+◌, ◌++◌, ◌||◌, refl, ap, ◌∙◌}
-use Rattle.lens_core.specs.Forms.{form_tree}
+use Rattle.lens_types.specs.Forms.{form_tree}
 use Rattle.edit_journal.specs.EntryJson.{entry_of_line}
 use Rattle.editlens_main.specs.Views.{triple_tree, answer_tree}
 use Rattle.editlens_main.specs.declared.report.Running.{Running}
@@ -17,4 +17,4 @@ returns-clause-reports c = λ items.
     let next : Running = record { triple = c.answer_to.new.triple; number = c.args.running.number + 1; refused = c.either-refused.result; text = c.extend_from_slice.new.self } in
     item_taken (form_tree c.args.lens.now) c.args.running next (entry_of_line c.args.line.now) (answer_tree c.in_ok-answer.answer) items c.in_ok-answer.ensures.answer refl
     (c.either-refused.ensures ∙ ap (λ b. c.args.running.refused || b) c.is_refused.ensures)
-    (c.in_ok-extend_from_slice.ensures.items ∙ ap (λ x. c.args.running.text.items ++ x) (c.as_bytes.ensures.value ∙ c.in_ok-said.ensures))
+    (c.in_ok-extend_from_slice.ensures.items ∙ ap (λ x. c.args.running.text.items ++ x) (c.as_slice.ensures ∙ c.in_ok-said.ensures))

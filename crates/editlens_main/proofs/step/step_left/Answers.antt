@@ -1,6 +1,6 @@
 use Rattle.doc_values.specs.Documents.{doc_tree}
 use Rattle.edit_module.specs.Views.{word_tree}
-use Rattle.lens_core.specs.Forms.{form_tree}
+use Rattle.lens_types.specs.Forms.{form_tree}
 use Rattle.lens_core.specs.Complements.{comp_tree}
 use Rattle.editlens_main.specs.Views.{triple_tree}
 use Rattle.edit_module.specs.declared.side.Side.TheVariants.{Left}
@@ -11,19 +11,19 @@ use Rattle.editlens_main.proofs.step.step_left.Goals as goal
 pub unreachable-requires : goal.unreachable-requires
 unreachable-requires c =
     let acts = rw c.left.ensures.left at c.in-Ok.ensures.exact in
-    let none = rw (c.form.ensures, c.in-Err-Unfit.field-0-is) at c.in-Err-Unfit.ensures in
+    let none = rw (c.form.ensures.is, c.in-Err-Unfit.field-0-is) at c.in-Err-Unfit.ensures in
     left_unfit (form_tree c.args.lens.now) c.requires.built (triple_tree c.args.triple.now) (word_tree c.args.word.now) (doc_tree c.in-Ok.left) c.requires.in_step acts none
 
 pub unreachable-requires-in-Err-NoApply-act : goal.unreachable-requires-in-Err-NoApply-act
 unreachable-requires-in-Err-NoApply-act c =
     let acts = rw c.left.ensures.left at c.in-Ok.ensures.exact in
-    let some = rw c.form.ensures at c.in-Ok-record_carry.ensures in
+    let some = rw c.form.ensures.is at c.in-Ok-record_carry.ensures in
     let refused = rw (c.right.ensures.right, c.in-Err-NoApply-act.field-0-is) at c.in-Err-NoApply-act.ensures.exact in
     left_refused (form_tree c.args.lens.now) c.requires.built (triple_tree c.args.triple.now) (word_tree c.args.word.now) (doc_tree c.in-Ok.left)
     (word_tree c.in-Ok-record_carry.carried.word) (comp_tree c.in-Ok-record_carry.carried.comp) _ c.requires.in_step acts some refused
 
 pub returns-clause-told : goal.returns-clause-told
 returns-clause-told c =
-    let some = rw c.form.ensures at c.in-Ok-record_carry.ensures in
+    let some = rw c.form.ensures.is at c.in-Ok-record_carry.ensures in
     carried_fits (form_tree c.args.lens.now) Left (triple_tree c.args.triple.now).comp (word_tree c.args.word.now)
     (word_tree c.in-Ok-record_carry.carried.word, comp_tree c.in-Ok-record_carry.carried.comp) c.requires.built c.requires.fits some

@@ -1,7 +1,14 @@
 use Rattle.std.proofs.Common.{◌≡◌, ◌++◌, map, drop}
+use Rattle.lens_types.specs.Forms.{form_tree, row_tree, rows_of, rows_tree}
 use Rattle.lens_core.specs.Complements.{comp_tree, comp_list, missing_rows}
-use Rattle.lens_core.specs.Forms.{row_tree, rows_of}
+use Rattle.lens_core.proofs.Sizes.{form_size, rows_size}
 use Rattle.lens_core.proofs.comp.+missing.Given as goal
+
+abbrev pub decreases-missing : goal.decreases-missing
+decreases-missing l = form_size (form_tree l.form.now)
+
+abbrev pub decreases-missing_rows : goal.decreases-missing_rows
+decreases-missing_rows l = rows_size (rows_tree l.rows.now)
 
 abbrev pub invariant-missing_rows-loop-row : goal.invariant-missing_rows-loop-row
 invariant-missing_rows-loop-row l =

@@ -1,0 +1,46 @@
+-- The lines that the program writes, each with the line feed at its end.
+use Rattle.std.specs.Prelude.{ℕ, List, ◌++◌, codes, decimal}
+use Rattle.serde_json.specs.Data.{Data}
+use Rattle.serde_json.specs.Written.{compact_text}
+use Rattle.doc_values.specs.Types.{TyTree}
+use Rattle.edit_module.specs.declared.side.Side.{Side}
+use Rattle.edit_module.specs.declared.fault.Cause.{Cause}
+use Rattle.edit_module.specs.Words.{WordTree}
+use Rattle.edit_json.specs.WordJson.{tree_of_word}
+use Rattle.edit_journal.specs.declared.fault.EntryFault.{EntryFault}
+use Rattle.lens_syntax.specs.declared.fault.ProgramFault.{ProgramFault}
+use Rattle.lens_types.specs.Checking.{Failure}
+use Rattle.program_writing.specs.Canonical.{canonical_type}
+use Rattle.answer_text.specs.Reasons.{side_text, cause_text, fault_text, syntax_reason, typing_reason}
+
+-- `ok N SIDE WORD`: an entry was accepted, and this word was carried to this side
+abbrev pub ok_line : ℕ → Side → WordTree → List ℕ
+ok_line number side word = codes "ok " ++ decimal number ++ codes " " ++ side_text side ++ codes " " ++ compact_text (tree_of_word word) ++ codes "\n"
+
+-- `refused N no-apply AT CAUSE`: the primitive with the number AT, from 0, is the first of the edit that does not apply
+abbrev pub no_apply_line : ℕ → ℕ → Cause → List ℕ
+no_apply_line number at cause = codes "refused " ++ decimal number ++ codes " no-apply " ++ decimal at ++ codes " " ++ cause_text cause ++ codes "\n"
+
+-- `refused N FAULT`: the line is no entry
+abbrev pub fault_line : ℕ → EntryFault → List ℕ
+fault_line number fault = codes "refused " ++ decimal number ++ codes " " ++ fault_text fault ++ codes "\n"
+
+-- `program refused: REASON`
+abbrev pub refusal_line : List ℕ → List ℕ
+refusal_line reason = codes "program refused: " ++ reason ++ codes "\n"
+
+-- the text is no program
+abbrev pub syntax_line : ProgramFault → List ℕ
+syntax_line fault = refusal_line (syntax_reason fault)
+
+-- the program has no type
+abbrev pub typing_line : Failure → List ℕ
+typing_line failure = refusal_line (typing_reason failure)
+
+-- `left TYPE` or `right TYPE`, the type in canonical text
+abbrev pub type_line : Side → TyTree → List ℕ
+type_line side ty = side_text side ++ codes " " ++ canonical_type ty ++ codes "\n"
+
+-- `LABEL JSON`, the tree in compact text
+abbrev pub tree_line : List ℕ → Data → List ℕ
+tree_line label tree = label ++ codes " " ++ compact_text tree ++ codes "\n"

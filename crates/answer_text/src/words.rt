@@ -1,0 +1,52 @@
+//! The words for sides, causes and faults, and the bytes of a text.
+ghost use Rattle.std.specs.Prelude.{◌≡◌, ◌≢◌, string_bytes};
+ghost use Rattle.answer_text.specs.Reasons.{side_text, cause_text, fault_text};
+
+use edit_journal::EntryFault;
+use edit_module::{Cause, Side};
+use lens_io::Bytes;
+
+pub(crate) fn side_text(side: Side) -> &'static str
+    ensures { result.now ≡ side_text side }
+{
+    match side {
+        Side::Left => "left",
+        Side::Right => "right",
+    }
+}
+
+pub(crate) fn cause_text(cause: Cause) -> &'static str
+    ensures { result.now ≡ cause_text cause }
+{
+    match cause {
+        Cause::Kind => "kind",
+        Cause::Place => "place",
+        Cause::Tag => "tag",
+        Cause::Range => "range",
+        Cause::Overflow => "overflow",
+        Cause::Value => "value",
+        Cause::Present => "present",
+        Cause::Length => "length",
+        Cause::Deep => "deep",
+    }
+}
+
+pub(crate) fn fault_text(fault: EntryFault) -> &'static str
+    requires { fault ≢ EntryFault.NoMemory }
+    ensures { result.now ≡ fault_text fault }
+{
+    match fault {
+        EntryFault::LineTooLong => "line-too-long",
+        EntryFault::NotJson => "not-json",
+        EntryFault::NotAnEntry => "not-an-entry",
+        EntryFault::NotAnEdit => "not-an-edit",
+        EntryFault::NoMemory => unreachable!(),
+    }
+}
+
+// The bytes of a text. It takes no memory.
+pub(crate) fn bytes_of(text: String) -> Bytes
+    ensures { result ≡ string_bytes text }
+{
+    Bytes::from_vec(text.into_bytes())
+}

@@ -1,0 +1,75 @@
+-- Heights and bounds on them.
+use Rattle.std.proofs.Common.{◌≡◌, ℕ, ◌+◌, false, List, [], ◌∷◌, refl, ap, ◌∙◌, arith}
+use Rattle.std.specs.Prelude.{nat_le, max, if◌then◌else◌, true}
+use Rattle.std.proofs.lemmas.Bool.Decides.{nat_tests}
+use Rattle.hold_shapes.specs.Keys.{is_before}
+use Rattle.doc_values.specs.Types.{TyTree, ty_rec, FieldTrees, no_fields, field, height, highest}
+use Rattle.doc_values.proofs.Heights.{nat_le-max, nat_le-next, height-positive}
+use Rattle.lens_types.specs.Forms.{FormTree, form_id, form_bij, form_disc, form_then, form_rec, form_alt, form_each, form_keyed, form_ordered, form_part, form_inv, no_rows, both, ArmTrees, no_arms, more_arms, insert_field, sorted}
+use Rattle.lens_types.specs.Measures.{form_height, highest_row, highest_arm}
+use Rattle.lens_types.specs.Earlier.{enum_type, alternatives_type, bijection, alternatives, partition}
+use Rattle.lens_types.proofs.Lists.{rows_tree-out, arms_tree-out}
+
+more_than_none : (a : ℕ) → nat_le (a + 1) 0 ≡ false
+more_than_none a = grind (arith, nat_tests)
+
+pub form_height-positive : (f : FormTree) → nat_le (form_height f) 0 ≡ false
+form_height-positive (form_id t) = refl
+form_height-positive (form_bij ps) = refl
+form_height-positive (form_disc t u) = refl
+form_height-positive (form_then l k) = more_than_none (max (form_height l) (form_height k))
+form_height-positive (form_rec rows) = more_than_none (highest_row rows)
+form_height-positive (form_alt arms) = more_than_none (highest_arm arms)
+form_height-positive (form_each l) = more_than_none (form_height l)
+form_height-positive (form_keyed l) = more_than_none (form_height l)
+form_height-positive (form_ordered l) = more_than_none (form_height l)
+form_height-positive (form_part fs) = refl
+form_height-positive (form_inv l) = more_than_none (form_height l)
+
+-- ---- a record is as high in written order as sorted
+
+max_swap : (a b c : ℕ) → max a (max b c) ≡ max b (max a c)
+max_swap a b c = omega arith
+
+pub highest-insert : (n : List ℕ) (t : TyTree) (fs : FieldTrees) → highest (insert_field n t fs) ≡ max (height t) (highest fs)
+highest-insert n t no_fields = refl
+highest-insert n t (field m u fs) =
+    elim (is_before m n) as (λ b. highest (if b then field m u (insert_field n t fs) else field n t (field m u fs)) ≡ max (height t) (max (height u) (highest fs)))
+    [ true ↦ ap (max (height u)) (highest-insert n t fs) ∙ max_swap (height u) (height t) (highest fs) | false ↦ refl ]
+
+pub highest-sorted : (fs : FieldTrees) → highest (sorted fs) ≡ highest fs
+highest-sorted no_fields = refl
+highest-sorted (field n t fs) = highest-insert n t (sorted fs) ∙ ap (max (height t)) (highest-sorted fs)
+
+pub height-record : (fs : FieldTrees) → height (ty_rec (sorted fs)) ≡ highest fs + 1
+height-record fs = ap (λ k. k + 1) (highest-sorted fs)
+
+-- ---- what stands for nothing is as high as it would be
+
+pub height-enum_type : (ms : List (List ℕ)) → height (enum_type ms) ≡ 1
+height-enum_type [] = refl
+height-enum_type (m ∷ ms) = refl
+
+pub height-alternatives_type : (fs : FieldTrees) → height (alternatives_type fs) ≡ highest fs + 1
+height-alternatives_type no_fields = refl
+height-alternatives_type (field n t fs) = refl
+
+pub height-bijection : (ps : List (List ℕ × List ℕ)) → form_height (bijection ps) ≡ 1
+height-bijection [] = refl
+height-bijection (p ∷ ps) = refl
+
+pub height-alternatives : (arms : ArmTrees) → form_height (alternatives arms) ≡ highest_arm arms + 1
+height-alternatives no_arms = refl
+height-alternatives (more_arms a b l arms) = refl
+
+pub height-partition : (fs : FieldTrees) → form_height (partition fs) ≡ 1
+height-partition no_fields = refl
+height-partition (field n t fs) = refl
+
+pub ruleset form_height_rules = (rows_tree-out, arms_tree-out, nat_le-max, nat_le-next, form_height-positive)
+
+pub ruleset type_height_rules = (nat_le-max, nat_le-next, height-positive, height-record, height-enum_type, height-alternatives_type)
+
+pub ruleset lens_height_rules = (nat_le-max, nat_le-next, form_height-positive, height-bijection, height-alternatives, height-partition)
+
+pub ruleset written_rules = (nat_le-max)

@@ -1,0 +1,15 @@
+use Rattle.std.proofs.Common.{ap, arith}
+use Rattle.lens_types.proofs.Sizes.{arm_smaller, arms_size, row_smaller, rows_size}
+use Rattle.lens_types.proofs.heights.+is_lens_within.Goals as goal
+
+pub are_lens_rows_within-is_lens_row_within-requires : goal.are_lens_rows_within-is_lens_row_within-requires
+are_lens_rows_within-is_lens_row_within-requires t c =
+    let low = row_smaller c.as_slice-row-items.result.now c.loop-row.row-index c.row-item.result c.loop-row-test.true c.row-item.is in
+    let same = ap rows_size c.as_slice-row-items.ensures in
+    (omega (arith, low, same), tt)
+
+pub are_lens_arms_within-is_lens_within-requires : goal.are_lens_arms_within-is_lens_within-requires
+are_lens_arms_within-is_lens_within-requires t c =
+    let low = arm_smaller c.as_slice-arm-items.result.now c.loop-arm.arm-index c.arm-item.result c.loop-arm-test.true c.arm-item.is in
+    let same = ap arms_size c.as_slice-arm-items.ensures in
+    (omega (arith, low, same), tt)

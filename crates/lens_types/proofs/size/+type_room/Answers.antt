@@ -1,0 +1,9 @@
+use Rattle.std.proofs.Common.{ap, arith}
+use Rattle.lens_types.proofs.Sizes.{field_smaller, fields_size}
+use Rattle.lens_types.proofs.size.+type_room.Goals as goal
+
+pub fields_room-type_room-requires : goal.fields_room-type_room-requires
+fields_room-type_room-requires t c =
+    let low = field_smaller c.as_slice-field-items.result.now c.loop-field.field-index c.field-item.result c.loop-field-test.true c.field-item.is in
+    let same = ap fields_size c.as_slice-field-items.ensures in
+    (omega (arith, low, same), tt)

@@ -1,0 +1,117 @@
+-- Names put in: what a type and a lens stand for, where earlier definitions say what their names stand for.
+use Rattle.std.specs.Prelude.{ℕ, bytes_eq, if◌then◌else◌, List, [], ◌∷◌, ◌++◌, Option, Some, None}
+use Rattle.doc_values.specs.Types.{TyTree, ty_unit, ty_bool, ty_int, ty_text, ty_enum, ty_rec, ty_alt, ty_list, ty_keyed, ty_ordered, FieldTrees, no_fields, field}
+use Rattle.program_terms.specs.Terms as Term
+use Rattle.lens_types.specs.Forms.{FormTree, form_id, form_bij, form_disc, form_then, form_rec, form_alt, form_each, form_keyed, form_ordered, form_part, form_inv, RowTrees, no_rows, both, only_left, only_right, ArmTrees, no_arms, more_arms, sorted}
+
+-- what a definition stands for: a type, or a form
+pub data KnownTree : Type 0 where
+  known_type : TyTree → KnownTree
+  known_lens : FormTree → KnownTree
+
+-- definitions by name, in written order, each with what it stands for
+abbrev pub Definitions : Type 0
+Definitions = List (List ℕ × KnownTree)
+
+-- what the first definition of a name stands for
+abbrev pub known : Definitions → List ℕ → Option KnownTree
+known [] n = None
+known (d ∷ ds) n = if bytes_eq n d.0 then Some d.1 else known ds n
+
+-- The type and the form that a name stands for. A name that is not defined as such, which no program that was read has,
+-- stands for `unit` and for `id unit`.
+abbrev pub type_of_known : Option KnownTree → TyTree
+type_of_known (Some (known_type t)) = t
+type_of_known _ = ty_unit
+
+abbrev pub form_of_known : Option KnownTree → FormTree
+form_of_known (Some (known_lens f)) = f
+form_of_known _ = form_id ty_unit
+
+abbrev pub type_named : Definitions → List ℕ → TyTree
+type_named ds n = type_of_known (known ds n)
+
+abbrev pub form_named : Definitions → List ℕ → FormTree
+form_named ds n = form_of_known (known ds n)
+
+-- An enum, alternatives, a bijection or a partition of nothing, which no program that was read has, stands for the
+-- record of nothing, `{}`.
+abbrev pub enum_type : List (List ℕ) → TyTree
+enum_type [] = ty_rec no_fields
+enum_type (m ∷ ms) = ty_enum (m ∷ ms)
+
+abbrev pub alternatives_type : FieldTrees → TyTree
+alternatives_type no_fields = ty_rec no_fields
+alternatives_type (field n t fs) = ty_alt (field n t fs)
+
+abbrev pub bijection : List (List ℕ × List ℕ) → FormTree
+bijection [] = form_rec no_rows
+bijection (p ∷ ps) = form_bij (p ∷ ps)
+
+abbrev pub alternatives : ArmTrees → FormTree
+alternatives no_arms = form_rec no_rows
+alternatives (more_arms a b l arms) = form_alt (more_arms a b l arms)
+
+abbrev pub partition : FieldTrees → FormTree
+partition no_fields = form_rec no_rows
+partition (field n t fs) = form_part (field n t fs)
+
+-- a type with its names put in; the fields of a record are sorted by bytes
+abbrev mutual
+  pub type_of : Definitions → Term.TypeTree → TyTree
+  type_of ds Term.unit = ty_unit
+  type_of ds Term.bool = ty_bool
+  type_of ds Term.int = ty_int
+  type_of ds Term.text = ty_text
+  type_of ds (Term.enum_of ms) = enum_type ms
+  type_of ds (Term.record_of fs) = ty_rec (sorted (fields_of ds fs))
+  type_of ds (Term.one_of fs) = alternatives_type (fields_of ds fs)
+  type_of ds (Term.list t) = ty_list (type_of ds t)
+  type_of ds (Term.keyed t) = ty_keyed (type_of ds t)
+  type_of ds (Term.tree t) = ty_ordered (type_of ds t)
+  type_of ds (Term.named n) = type_named ds n
+
+  -- fields, or tags, in written order
+  pub fields_of : Definitions → Term.FieldTrees → FieldTrees
+  fields_of ds Term.no_fields = no_fields
+  fields_of ds (Term.more_fields n t fs) = field n (type_of ds t) (fields_of ds fs)
+
+-- a lens with its names put in
+abbrev mutual
+  pub form_of : Definitions → Term.LensTree → FormTree
+  form_of ds (Term.id_of t) = form_id (type_of ds t)
+  form_of ds (Term.bij_of ps) = bijection ps
+  form_of ds (Term.disc_of t u) = form_disc (type_of ds t) (type_of ds u)
+  form_of ds (Term.then_of l k) = form_then (form_of ds l) (form_of ds k)
+  form_of ds (Term.rec_lens rows) = form_rec (rows_of ds rows)
+  form_of ds (Term.alt_lens arms) = alternatives (arms_of ds arms)
+  form_of ds (Term.each_of l) = form_each (form_of ds l)
+  form_of ds (Term.keyed_each l) = form_keyed (form_of ds l)
+  form_of ds (Term.tree_each l) = form_ordered (form_of ds l)
+  form_of ds (Term.part_of fs) = partition (fields_of ds fs)
+  form_of ds (Term.inv_of l) = form_inv (form_of ds l)
+  form_of ds (Term.named_lens n) = form_named ds n
+
+  pub rows_of : Definitions → Term.RowTrees → RowTrees
+  rows_of ds Term.no_rows = no_rows
+  rows_of ds (Term.both a b l rows) = both a b (form_of ds l) (rows_of ds rows)
+  rows_of ds (Term.only_left a t rows) = only_left a (type_of ds t) (rows_of ds rows)
+  rows_of ds (Term.only_right b t rows) = only_right b (type_of ds t) (rows_of ds rows)
+
+  pub arms_of : Definitions → Term.ArmTrees → ArmTrees
+  arms_of ds Term.no_arms = no_arms
+  arms_of ds (Term.more_arms a b l arms) = more_arms a b (form_of ds l) (arms_of ds arms)
+
+-- what a definition stands for, with the names of the earlier ones put in
+abbrev pub known_of : Definitions → Term.DefTree → KnownTree
+known_of ds (Term.type_def t) = known_type (type_of ds t)
+known_of ds (Term.lens_def l) = known_lens (form_of ds l)
+
+-- the earlier definitions, and then those that a program goes on with, each with the names of those before it put in
+abbrev pub all_known : Definitions → List (List ℕ × Term.DefTree) → Definitions
+all_known ds [] = ds
+all_known ds (d ∷ rest) = all_known (ds ++ (d.0, known_of ds d.1) ∷ []) rest
+
+-- the form of a program: its main lens with all names put in
+abbrev pub main_form : Term.ProgramTree → FormTree
+main_form p = form_of (all_known [] p.definitions) p.main

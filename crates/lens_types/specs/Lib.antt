@@ -1,0 +1,11 @@
+pub mod Checking
+pub mod Earlier
+pub mod Faults
+pub mod Forms
+pub mod Inserts
+pub mod Measures
+pub mod Repeats
+pub mod SidedNames
+pub mod Sound
+pub mod Typing
+pub mod Walks

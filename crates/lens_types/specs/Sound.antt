@@ -1,0 +1,20 @@
+-- What every form that was checked keeps.
+use Rattle.std.specs.Prelude.{◌≡◌, IsTrue, Bool, ◌&&◌, nat_le}
+use Rattle.doc_values.specs.Types.{TyTree, height, is_well_formed}
+use Rattle.lens_types.specs.Forms.{FormTree, left_type, right_type}
+use Rattle.lens_types.specs.Measures.{form_parts, form_height, most_parts, greatest_height}
+use Rattle.lens_types.specs.Typing.{is_typed}
+
+-- it is typed, it has at most so many parts, and it and the types of its sides are at most so high
+abbrev pub is_sound : FormTree → Bool
+is_sound f =
+    is_typed f && (nat_le (form_parts f) most_parts && (nat_le (form_height f) greatest_height
+    && (nat_le (height (left_type f)) greatest_height && nat_le (height (right_type f)) greatest_height)))
+
+-- a sound form with its two types, which are well formed
+pub record IsSoundWith (form : FormTree) (left : TyTree) (right : TyTree) : Type 0 where
+  pub left_is : left ≡ left_type form
+  pub right_is : right ≡ right_type form
+  pub left_well_formed : IsTrue (is_well_formed left)
+  pub right_well_formed : IsTrue (is_well_formed right)
+  pub sound : IsTrue (is_sound form)

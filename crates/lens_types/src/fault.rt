@@ -1,0 +1,60 @@
+//! Why a program is refused.
+
+use doc_values::Ty;
+use hold_shapes::Name;
+use std::alloc::{AllocError, AllocFailed};
+
+/// Why a program is refused. docs/TYPING.md has the condition of each, with an example, and their order.
+#[derive(Drop)]
+pub enum TypeFault {
+    /// The right type of the first lens of a composition is not the left type of the second.
+    MiddleDiffers {
+        /// The right type of the first lens.
+        left: Ty,
+        /// The left type of the second lens.
+        right: Ty,
+    },
+    /// A field of a record stands twice on one side.
+    RepeatedField {
+        /// The first field, in written order, that equals an earlier one of its side.
+        name: Name,
+    },
+    /// A tag of alternatives or of a partition stands twice on one side.
+    RepeatedTag {
+        /// The first tag, in written order, that equals an earlier one of its side.
+        name: Name,
+    },
+    /// A member of an enum or of a bijection stands twice on one side.
+    RepeatedMember {
+        /// The first member, in written order, that equals an earlier one of its side.
+        name: Name,
+    },
+    /// A definition has more than 4,096 parts, names put in.
+    TooLarge,
+    /// A lens, a type written in it, or the type of a side is higher than 32.
+    TooDeep,
+    /// There was not enough memory.
+    NoMemory,
+}
+
+impl From<AllocError> for TypeFault {
+    ghost use Rattle.std.specs.Prelude.{◌≡◌};
+    ghost use Rattle.lens_types.specs.declared.fault.TypeFault.TheVariants.{NoMemory};
+
+    ghost from_gives = { λ _ fault. fault ≡ NoMemory };
+
+    fn from(_: AllocError) -> TypeFault {
+        TypeFault::NoMemory
+    }
+}
+
+impl<T: Drop> From<AllocFailed<T>> for TypeFault {
+    ghost use Rattle.std.specs.Prelude.{◌≡◌};
+    ghost use Rattle.lens_types.specs.declared.fault.TypeFault.TheVariants.{NoMemory};
+
+    ghost from_gives = { λ _ fault. fault ≡ NoMemory };
+
+    fn from(_: AllocFailed<T>) -> TypeFault {
+        TypeFault::NoMemory
+    }
+}

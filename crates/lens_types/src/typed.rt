@@ -1,0 +1,104 @@
+//! A form with its two types.
+
+ghost use Rattle.std.specs.Prelude.{◌≡◌, ◌≤◌, IsTrue, IfOk};
+ghost use Rattle.doc_values.specs.Types.{ty_tree, height, is_well_formed};
+ghost use Rattle.lens_types.specs.Forms.{form_tree, left_type, right_type};
+ghost use Rattle.lens_types.specs.Measures.{form_parts, form_height, most_parts, greatest_height};
+ghost use Rattle.lens_types.specs.Typing.{IsTyped, is_typed};
+ghost use Rattle.lens_types.specs.Sound.{is_sound};
+
+use crate::form::Form;
+use crate::names::End;
+use crate::sides::type_on;
+use doc_values::Ty;
+use hold_shapes::Twin;
+use std::alloc::{AllocError, Global};
+use std::marker::Model;
+
+/// A form that is typed, with its two types. Contracts see it as its form.
+///
+/// [`check`](crate::check) makes it. The form and its types keep the limits of docs/TYPING.md.
+#[derive(Drop)]
+pub struct Typed {
+    form: Form,
+    left: Ty,
+    right: Ty,
+}
+
+impl Model for Typed {
+    ghost use Rattle.std.specs.Coded.{codes};
+    ghost use Rattle.doc_values.specs.Types.{ty_tree};
+    ghost use Rattle.lens_types.specs.declared.form.Form.{Form};
+    ghost use Rattle.lens_types.specs.contracts.form.Form as form_type;
+    ghost use Rattle.lens_types.specs.Forms.{form_tree};
+    ghost use Rattle.lens_types.specs.Sound.{IsSoundWith};
+
+    ghost Value = { Form };
+
+    ghost coded = { Prim.hlevel (codes, form_type.the_row.coded) };
+
+    ghost view = { λ t. t.form };
+
+    ghost invariant = { λ t. IsSoundWith (form_tree t.form) (ty_tree t.left) (ty_tree t.right) };
+}
+
+impl Typed {
+    // A sound form with its two types.
+    pub(crate) fn new(alloc: Global, form: Form) -> Result<Typed, AllocError>
+        requires { IsTrue (is_sound (form_tree form)) }
+        ensures { IfOk result (λ t. form_tree t ≡ form_tree form) }
+    {
+        let left = type_on(alloc, End::Left, &form)?;
+        let right = type_on(alloc, End::Right, &form)?;
+        Ok(Typed { form, left, right })
+    }
+
+    /// The form.
+    ///
+    /// It is typed, with [`left`](Typed::left) and [`right`](Typed::right): in all its parts names are distinct on each
+    /// side, and a bijection, alternatives and a partition have at least one. It has at most 4,096 parts, so no list in
+    /// it is longer, and its height is at most 32.
+    pub fn form(&self) -> &Form
+        ensures is { result.now ≡ self.now }
+        ensures typed { IsTyped (form_tree result.now) (left_type (form_tree result.now)) (right_type (form_tree result.now)) }
+        ensures tested { IsTrue (is_typed (form_tree result.now)) }
+        ensures small { form_parts (form_tree result.now) ≤ most_parts }
+        ensures low { form_height (form_tree result.now) ≤ greatest_height }
+    {
+        &self.form
+    }
+
+    /// The left type. It keeps the condition on types, and its height is at most 32.
+    pub fn left(&self) -> &Ty
+        ensures left { ty_tree result.now ≡ left_type (form_tree self.now) }
+        ensures well_formed { IsTrue (is_well_formed (ty_tree result.now)) }
+        ensures low { height (ty_tree result.now) ≤ greatest_height }
+    {
+        &self.left
+    }
+
+    /// The right type. It keeps the condition on types, and its height is at most 32.
+    pub fn right(&self) -> &Ty
+        ensures right { ty_tree result.now ≡ right_type (form_tree self.now) }
+        ensures well_formed { IsTrue (is_well_formed (ty_tree result.now)) }
+        ensures low { height (ty_tree result.now) ≤ greatest_height }
+    {
+        &self.right
+    }
+}
+
+impl Twin for Typed {
+    ghost use Rattle.lens_types.specs.Forms.{FormTree, form_tree};
+
+    ghost Meaning = { FormTree };
+
+    ghost meaning = { form_tree };
+
+    fn twin(&self, alloc: Global) -> Result<Self, AllocError> {
+        Ok(Typed {
+            form: self.form.twin(alloc)?,
+            left: self.left.twin(alloc)?,
+            right: self.right.twin(alloc)?,
+        })
+    }
+}
