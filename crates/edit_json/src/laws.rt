@@ -9,7 +9,7 @@ ghost use Rattle.edit_module.specs.Words.{WordTree};
 ghost use Rattle.edit_json.specs.WordJson.{tree_of_word, word_of, counts_fit, numbers_fit};
 ghost use Rattle.edit_json.specs.Depths.{word_depth};
 
-/// Two words never have the same tree.
+/// Two different words whose counts and numbers fit never have the same tree.
 pub fn trees_differ()
     ensures { (one other : WordTree)
         → counts_fit one ≡ true → numbers_fit one ≡ true

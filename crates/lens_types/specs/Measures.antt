@@ -1,7 +1,7 @@
 -- How large and how high types and forms are, all names put in.
 use Rattle.std.specs.Prelude.{ℕ, ◌+◌, List, length, max}
-use Rattle.doc_values.specs.Types.{TyTree, ty_unit, ty_bool, ty_int, ty_text, ty_enum, ty_rec, ty_alt, ty_list, ty_keyed, ty_ordered, FieldTrees, no_fields, field}
-use Rattle.lens_types.specs.Forms.{FormTree, form_id, form_bij, form_disc, form_then, form_rec, form_alt, form_each, form_keyed, form_ordered, form_part, form_inv, RowTrees, no_rows, both, only_left, only_right, ArmTrees, no_arms, more_arms}
+use Rattle.doc_values.specs.Types.{TyTree, ty_unit, ty_bool, ty_int, ty_text, ty_enum, ty_rec, ty_alt, ty_list, ty_keyed, ty_ordered, FieldTrees, no_fields, field, names_of}
+use Rattle.lens_types.specs.Forms.{FormTree, form_id, form_bij, form_disc, form_then, form_rec, form_alt, form_each, form_keyed, form_ordered, form_part, form_inv, RowTrees, no_rows, both, only_left, only_right, row_list, ArmTrees, no_arms, more_arms, arm_list}
 
 -- the counted parts of a type: one for each constructor, and one for each field, tag and member
 abbrev mutual
@@ -71,6 +71,49 @@ abbrev mutual
   pub highest_arm : ArmTrees → ℕ
   highest_arm no_arms = 0
   highest_arm (more_arms a b l arms) = max (form_height l) (highest_arm arms)
+
+-- the length of the longest list in a type: of members, of fields or of tags
+abbrev mutual
+  pub longest_in_type : TyTree → ℕ
+  longest_in_type ty_unit = 0
+  longest_in_type ty_bool = 0
+  longest_in_type ty_int = 0
+  longest_in_type ty_text = 0
+  longest_in_type (ty_enum ms) = length ms
+  longest_in_type (ty_rec fs) = max (length (names_of fs)) (longest_in_fields fs)
+  longest_in_type (ty_alt fs) = max (length (names_of fs)) (longest_in_fields fs)
+  longest_in_type (ty_list t) = longest_in_type t
+  longest_in_type (ty_keyed t) = longest_in_type t
+  longest_in_type (ty_ordered t) = longest_in_type t
+
+  pub longest_in_fields : FieldTrees → ℕ
+  longest_in_fields no_fields = 0
+  longest_in_fields (field n t fs) = max (longest_in_type t) (longest_in_fields fs)
+
+-- the length of the longest list in a form: of pairs, of rows, of arms or of tags, or of a list in a type of the form
+abbrev mutual
+  pub longest_list : FormTree → ℕ
+  longest_list (form_id t) = longest_in_type t
+  longest_list (form_bij ps) = length ps
+  longest_list (form_disc t u) = max (longest_in_type t) (longest_in_type u)
+  longest_list (form_then l k) = max (longest_list l) (longest_list k)
+  longest_list (form_rec rows) = max (length (row_list rows)) (longest_in_rows rows)
+  longest_list (form_alt arms) = max (length (arm_list arms)) (longest_in_arms arms)
+  longest_list (form_each l) = longest_list l
+  longest_list (form_keyed l) = longest_list l
+  longest_list (form_ordered l) = longest_list l
+  longest_list (form_part fs) = max (length (names_of fs)) (longest_in_fields fs)
+  longest_list (form_inv l) = longest_list l
+
+  pub longest_in_rows : RowTrees → ℕ
+  longest_in_rows no_rows = 0
+  longest_in_rows (both a b l rows) = max (longest_list l) (longest_in_rows rows)
+  longest_in_rows (only_left a t rows) = max (longest_in_type t) (longest_in_rows rows)
+  longest_in_rows (only_right b t rows) = max (longest_in_type t) (longest_in_rows rows)
+
+  pub longest_in_arms : ArmTrees → ℕ
+  longest_in_arms no_arms = 0
+  longest_in_arms (more_arms a b l arms) = max (longest_list l) (longest_in_arms arms)
 
 -- the most parts that a definition may have, and the greatest height of a lens, of a type and of a side
 abbrev pub most_parts : ℕ

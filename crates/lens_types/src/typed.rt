@@ -3,7 +3,7 @@
 ghost use Rattle.std.specs.Prelude.{◌≡◌, ◌≤◌, IsTrue, IfOk};
 ghost use Rattle.doc_values.specs.Types.{ty_tree, height, is_well_formed};
 ghost use Rattle.lens_types.specs.Forms.{form_tree, left_type, right_type};
-ghost use Rattle.lens_types.specs.Measures.{form_parts, form_height, most_parts, greatest_height};
+ghost use Rattle.lens_types.specs.Measures.{form_parts, form_height, longest_list, most_parts, greatest_height};
 ghost use Rattle.lens_types.specs.Typing.{IsTyped, is_typed};
 ghost use Rattle.lens_types.specs.Sound.{is_sound};
 
@@ -56,13 +56,14 @@ impl Typed {
     /// The form.
     ///
     /// It is typed, with [`left`](Typed::left) and [`right`](Typed::right): in all its parts names are distinct on each
-    /// side, and a bijection, alternatives and a partition have at least one. It has at most 4,096 parts, so no list in
-    /// it is longer, and its height is at most 32.
+    /// side, and a bijection, alternatives and a partition have at least one. It has at most 4,096 parts, no list in it
+    /// or in its types has more than 4,096 names, and its height is at most 32.
     pub fn form(&self) -> &Form
         ensures is { result.now ≡ self.now }
         ensures typed { IsTyped (form_tree result.now) (left_type (form_tree result.now)) (right_type (form_tree result.now)) }
         ensures tested { IsTrue (is_typed (form_tree result.now)) }
         ensures small { form_parts (form_tree result.now) ≤ most_parts }
+        ensures short { longest_list (form_tree result.now) ≤ most_parts }
         ensures low { form_height (form_tree result.now) ≤ greatest_height }
     {
         &self.form

@@ -1,6 +1,11 @@
+use Rattle.std.proofs.Common.{arith}
+use Rattle.std.specs.Prelude.{nat_le}
+use Rattle.std.proofs.lemmas.Bool.Decides.{nat_tests}
 use Rattle.lens_types.specs.Forms.{form_tree}
 use Rattle.lens_types.specs.Typing.{is_typed}
-use Rattle.doc_values.proofs.Typed.{first_and}
+use Rattle.lens_types.specs.Measures.{form_parts, most_parts}
+use Rattle.doc_values.proofs.Typed.{first_and, second_and}
+use Rattle.lens_types.proofs.Lengths.{form_longest}
 use Rattle.lens_types.proofs.Typings.{typed_is}
 use Rattle.lens_types.proofs.typed.Typed.form.Goals as goal
 
@@ -8,3 +13,9 @@ pub returns-clause-typed : goal.returns-clause-typed
 returns-clause-typed c =
     let f = form_tree c.self.inside.form in
     typed_is f (first_and (is_typed f) _ c.self.invariant.sound)
+
+pub returns-clause-short : goal.returns-clause-short
+returns-clause-short c =
+    let f = form_tree c.self.inside.form in
+    let small = first_and (nat_le (form_parts f) most_parts) _ (second_and (is_typed f) _ c.self.invariant.sound) in
+    grind (arith, nat_tests, small, form_longest f)
