@@ -3,7 +3,7 @@ ghost use Rattle.std.specs.Prelude.{◌≡◌, ◌⊎◌, ◌^◌, ◌≤◌, So
 ghost use Rattle.editlens_main.specs.Ends.{IsFinished, Reports, IsComplete};
 ghost use Rattle.editlens_main.specs.Words.{command_of};
 ghost use Rattle.editlens_main.specs.declared.words.Command.{Command};
-ghost use Rattle.editlens_main.specs.declared.words.Command.TheVariants.{Run};
+ghost use Rattle.editlens_main.specs.declared.words.Command.TheVariants.{Run, Check};
 
 use crate::{Status, editlens};
 use lens_io::{SureSink, SureSource};
@@ -11,8 +11,9 @@ use std::alloc::Global;
 
 /// A command over devices that do not fail is complete, unless the sink is full.
 ///
-/// With at most 2^30 bytes and an accepted program part the status is `Done` or `SomeRefused`, with one that is
-/// refused it is `ProgramRefused`; in place of either stands `NoMemory` where memory ran out, and `SinkFault` where the sink's room is full.
+/// With at most 2^30 bytes and an accepted program part the status is `Done` or `SomeRefused`, with one that is refused it
+/// is `ProgramRefused`; in place of either stands `NoMemory` where memory ran out, and `SinkFault` where the sink's room is
+/// full. After `Done` and `SomeRefused` the sink holds what [`editlens`] says.
 pub fn run_sure(
     alloc: Global,
     words: &[String],
@@ -24,6 +25,8 @@ pub fn run_sure(
         → IsComplete command source.old result ⊎ ((result ≡ Status.SinkFault) × (length sink.new.held ≡ sink.new.room)) }
     ensures run_reports { command_of words.now ≡ Some Run → IsFinished result
         → Reports Run (Some source.old) (Some source.new) (Some sink.old.held) (Some sink.new.held) result }
+    ensures check_types { command_of words.now ≡ Some Check → IsFinished result
+        → Reports Check (Some source.old) (Some source.new) (Some sink.old.held) (Some sink.new.held) result }
 {
     editlens(alloc, words, source, sink)
 }

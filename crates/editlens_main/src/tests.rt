@@ -196,7 +196,21 @@ fn program_parts(rt: HostRuntime) -> Result<(), Fail> {
     Ok(())
 }
 
-// What `check` writes for a program, and its status.
+const ADDRESS_BOOK: &[u8] = b"type person = {name: text, phone: text};
+type firm = {name: text, vat: text};
+lens contact = <person ~ person: {name ~ name: id text, phone ~ phone: id text, left birthday: text},
+                firm ~ firm: {name ~ name: id text, vat ~ vat: id text}>;
+main then(each contact, then(part <person: person, firm: firm>,
+  {person ~ people: each {name ~ name: id text, phone ~ phone: id text, right note: text},
+   firm ~ firms: each id firm}))
+";
+
+const ADDRESS_BOOK_TYPES: &[u8] =
+    b"left list <person: {birthday: text, name: text, phone: text}, firm: {name: text, vat: text}>
+right {firms: list {name: text, vat: text}, people: list {name: text, note: text, phone: text}}
+";
+
+// Whether `check` writes this for a program, with this status.
 fn checked(alloc: Global, input: &[u8], given: &[u8], status: Status) -> Result<bool, AllocError> {
     let mut words = Vec::new(alloc);
     words.push(String::from_str(alloc, "editlens")?)?;
@@ -211,7 +225,8 @@ fn checked(alloc: Global, input: &[u8], given: &[u8], status: Status) -> Result<
 #[test]
 fn checked_types(rt: HostRuntime) -> Result<(), Fail> {
     let alloc = rt.alloc();
-    let cases: [(&[u8], &[u8]); 5] = [
+    let cases: [(&[u8], &[u8]); 6] = [
+        (ADDRESS_BOOK, ADDRESS_BOOK_TYPES),
         (b"main {}", b"left {}\nright {}\n"),
         (
             b"main {name ~ label: id text, left age: int, right note: text}\n---\n[\n",
