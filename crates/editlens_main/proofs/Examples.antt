@@ -1,5 +1,5 @@
 -- The definitions, tried on small examples.
-use Rattle.std.proofs.Common.{◌≡◌, ℕ, pos, negsuc, List, [], ◌∷◌, ◌++◌, true, false, Option, Some, None, Ok, Err, codes, refl}
+use Rattle.std.proofs.Common.{◌≡◌, ℕ, pos, negsuc, [], ◌∷◌, ◌++◌, true, Some, Ok, Err, codes, refl}
 use Rattle.doc_values.specs.Documents.{rec, int, more_docs, no_docs}
 use Rattle.edit_module.specs.Words.{set, at, done, then}
 use Rattle.edit_module.specs.declared.atom.Atom.TheVariants.{Truth, Number}
@@ -12,11 +12,10 @@ use Rattle.std.specs.Fmt.{digits}
 use Rattle.serde_json.proofs.OnLiterals.{serde_json_on_literals}
 use Rattle.edit_journal.specs.declared.fault.EntryFault.TheVariants.{NotAnEdit}
 use Rattle.edit_journal.specs.declared.line.Line.TheVariants.{Text}
-use Rattle.editlens_main.specs.Lines.{cut, bare, is_separator, program_part, journal}
+use Rattle.editlens_main.specs.Lines.{cut, is_separator, program_part, journal}
 use Rattle.editlens_main.specs.Step.{TripleTree, first, carried, no_apply, no_entry, step}
-use Rattle.editlens_main.specs.Run.{run, any_refused}
-use Rattle.editlens_main.specs.Report.{answer_line, state_lines, run_report, report, refusal_line}
-use Rattle.editlens_main.specs.declared.status.Status.TheVariants.{Done, SomeRefused, ProgramRefused}
+use Rattle.editlens_main.specs.Run.{run}
+use Rattle.editlens_main.specs.Report.{answer_line, state_lines}
 
 -- lines keep their LF when a text is cut; what follows the last one is a line where it is not empty
 cut_twice : cut (codes "ab" ++ 10 ∷ 10 ∷ codes "c") ≡ (codes "ab" ++ 10 ∷ []) ∷ (10 ∷ []) ∷ codes "c" ∷ []

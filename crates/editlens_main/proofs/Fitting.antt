@@ -1,5 +1,5 @@
 -- A word that the lens carries has counts that fit, where those of the edit fit.
-use Rattle.std.proofs.Common.{◌≡◌, List, ℕ, Bool, true, false, cond, Option, None, Some, option_map, IsTrue, refl, sym, ap, subst, ◌∙◌}
+use Rattle.std.proofs.Common.{◌≡◌, List, ℕ, Bool, true, false, cond, Option, None, Some, option_map, IsTrue, refl, subst}
 use Rattle.std.specs.Prelude.{option_and_then, ◌&&◌}
 use Rattle.doc_values.specs.Types.{TyTree, ty_int}
 use Rattle.edit_module.specs.Words.{PrimitiveTree, at, WordTree, done, then, joined}

@@ -1,5 +1,5 @@
 -- Every run from the first triple goes on to its end, and all its triples are in step.
-use Rattle.std.proofs.Common.{◌≡◌, ℕ, List, [], ◌∷◌, Option, Some, None, option_map, option_and_then, Result, Ok, Err, map, IsTrue, refl, sym, ap, subst, ◌∙◌}
+use Rattle.std.proofs.Common.{◌≡◌, List, [], ◌∷◌, Option, Some, None, Result, Ok, Err, map, IsTrue, refl, sym, ap, subst}
 use Rattle.std.specs.List.{All, AllByRecursion}
 use Rattle.std.proofs.lemmas.List.Elements.{All-from_recursion}
 use Rattle.doc_values.specs.Documents.{DocTree}
@@ -7,15 +7,13 @@ use Rattle.doc_values.specs.Types.{TyTree}
 use Rattle.doc_values.specs.Typing.{has}
 use Rattle.edit_module.specs.Words.{WordTree}
 use Rattle.edit_module.specs.Action.{act, Why}
-use Rattle.edit_module.specs.declared.side.Side.{Side}
 use Rattle.edit_module.specs.declared.side.Side.TheVariants.{Left, Right}
 use Rattle.lens_types.specs.Forms.{FormTree, left_type, right_type}
 use Rattle.lens_core.specs.Built.{is_paired_int}
 use Rattle.lens_core.specs.Complements.{CompTree}
 use Rattle.lens_core.specs.Translation.{translate}
-use Rattle.lens_core.specs.Laws.{IsCarriedRight, IsCarriedLeft}
 use Rattle.lens_core.proofs.Lawful.{starts_consistent, consistent_is_typed, left_edits_carry, right_edits_carry}
-use Rattle.editlens_main.specs.Step.{TripleTree, first, IsInStep, AnswerTree, carried, left_done, left_acted, right_done, right_acted, step}
+use Rattle.editlens_main.specs.Step.{TripleTree, first, IsInStep, AnswerTree, carried, left_acted, right_acted}
 use Rattle.editlens_main.specs.Run.{Item, take_item, run, triples}
 
 -- a step has a value, and its triple is in step

@@ -5,7 +5,6 @@ use Rattle.lens_types.specs.Faults.{IsFaultOf}
 use Rattle.lens_types.specs.Checking.{Failure}
 use Rattle.lens_types.specs.declared.fault.TypeFault.{TypeFault}
 use Rattle.lens_types.specs.declared.fault.TypeFault.TheVariants as types
-use Rattle.lens_syntax.specs.declared.fault.ProgramFault.{ProgramFault}
 use Rattle.lens_syntax.specs.declared.fault.ProgramFault.TheVariants as texts
 use Rattle.std.specs.Prelude.{Some}
 use Rattle.editlens_main.specs.Program.{Refusal, syntax, typing, not_built}

@@ -1,9 +1,9 @@
 -- Where no name is repeated, the names of each side are distinct.
 use Rattle.std.proofs.Common.{◌≡◌, ℕ, Bool, true, false, ◌&&◌, ◌||◌, List, [], ◌∷◌, ◌++◌, Option, Some, None, refl, ap, sym, ◌∙◌, subst}
-use Rattle.std.specs.Prelude.{bytes_eq, not, if◌then◌else◌}
+use Rattle.std.specs.Prelude.{bytes_eq, if◌then◌else◌}
 use Rattle.std.proofs.lemmas.Slice.Eq.{bytes_eq-Decides}
 use Rattle.hold_shapes.specs.Keys.{has_name}
-use Rattle.doc_values.specs.Types.{FieldTrees, names_of, are_distinct}
+use Rattle.doc_values.specs.Types.{names_of, are_distinct}
 use Rattle.doc_values.proofs.Typed.{first_and, second_and, bytes_eq-refl}
 use Rattle.program_terms.specs.Terms as Term
 use Rattle.lens_types.specs.Forms.{lefts, rights}

@@ -1,12 +1,11 @@
 -- What has no failure is typed and keeps the limits.
 use Rattle.std.proofs.Common.{◌≡◌, ℕ, zero, suc, Bool, true, false, ◌&&◌, List, [], ◌∷◌, ◌++◌, drop, Option, Some, None, refl, ap, ap₂}
 use Rattle.std.specs.Prelude.{bytes_eq, nat_le, if◌then◌else◌, option_map, unwrap_or, slice_get}
-use Rattle.hold_shapes.specs.Keys.{is_rising}
-use Rattle.doc_values.specs.Types.{TyTree, FieldTrees, no_fields, field, names_of, are_distinct, are_choices, is_well_formed, are_well_formed, height, is_same_ty}
+use Rattle.doc_values.specs.Types.{FieldTrees, no_fields, field, names_of, are_distinct, is_well_formed, are_well_formed, height, is_same_ty}
 use Rattle.doc_values.proofs.Typed.{first_and, second_and}
 use Rattle.program_terms.specs.Terms as Term
-use Rattle.lens_types.specs.Forms.{FormTree, form_id, form_bij, form_disc, form_then, form_rec, form_alt, form_part, RowTrees, no_rows, ArmTrees, no_arms, more_arms, lefts, rights, sorted, left_type, right_type}
-use Rattle.lens_types.specs.Typing.{is_typed, are_typed_rows, are_typed_arms, left_names, right_names, left_arms, right_arms}
+use Rattle.lens_types.specs.Forms.{FormTree, ArmTrees, no_arms, more_arms, lefts, rights, left_type, right_type}
+use Rattle.lens_types.specs.Typing.{is_typed, are_typed_rows, are_typed_arms, left_arms, right_arms}
 use Rattle.lens_types.specs.Measures.{form_parts, form_height, most_parts, greatest_height}
 use Rattle.lens_types.specs.Sound.{is_sound}
 use Rattle.lens_types.specs.Earlier.{KnownTree, known_type, known_lens, Definitions, known, type_of_known, form_of_known, type_named, form_named, enum_type, alternatives_type, bijection, alternatives, partition, type_of, fields_of, form_of, rows_of, arms_of, known_of}

@@ -1,12 +1,11 @@
 -- The definitions on small programs. The names are "a", "b", "c" and "t".
-use Rattle.std.proofs.Common.{◌≡◌, ℕ, true, false, List, [], ◌∷◌, Some, None, refl}
-use Rattle.doc_values.specs.Types.{ty_int, ty_text, ty_enum, ty_rec, ty_alt, ty_list, no_fields, field}
+use Rattle.std.proofs.Common.{◌≡◌, ℕ, List, [], ◌∷◌, Some, None, refl}
+use Rattle.doc_values.specs.Types.{ty_int, ty_text, ty_rec, ty_alt, ty_list, no_fields, field}
 use Rattle.program_terms.specs.Terms as Term
 use Rattle.lens_types.specs.Forms.{form_id, form_rec, form_part, form_each, form_inv, no_rows, both, left_type, right_type}
 use Rattle.lens_types.specs.Measures.{form_parts, form_height}
-use Rattle.lens_types.specs.Earlier.{known_type, known_lens, type_of, form_of, main_form}
-use Rattle.lens_types.specs.Checking.{middle_differs, repeated_field, repeated_tag, repeated_member, too_large, too_deep, lens_failure, def_failure, first_failure}
-use Rattle.lens_types.specs.Typing.{is_typed}
+use Rattle.lens_types.specs.Earlier.{known_type, type_of, main_form}
+use Rattle.lens_types.specs.Checking.{middle_differs, repeated_field, repeated_tag, repeated_member, first_failure}
 
 abbrev a : List ℕ
 a = 97 ∷ []

@@ -1,5 +1,5 @@
 -- How many steps a walk over a type or a lens takes at most, by which the code's recursions end.
-use Rattle.std.proofs.Common.{◌≡◌, ℕ, zero, suc, ◌+◌, ◌<◌, List, [], ◌∷◌, length, map, get_or, ap, subst, arith}
+use Rattle.std.proofs.Common.{◌≡◌, ℕ, zero, suc, ◌+◌, ◌<◌, List, [], ◌∷◌, length, map, get_or, arith}
 use Rattle.program_terms.specs.Terms.{TypeTree, unit, bool, int, text, enum_of, record_of, one_of, list, keyed, tree, named, FieldTrees, no_fields, more_fields, fields_of, LensTree, id_of, bij_of, disc_of, then_of, rec_lens, alt_lens, each_of, keyed_each, tree_each, part_of, inv_of, named_lens, RowTree, row_both, row_left, row_right, RowTrees, no_rows, both, only_left, only_right, with_row, rows_of, ArmTrees, no_arms, more_arms, arms_of}
 use Rattle.program_terms.specs.Views.{type_tree, field_tree, lens_tree, row_tree, arm_tree}
 use Rattle.program_terms.specs.declared.types.TyExpr.{TyExpr}

@@ -1,16 +1,14 @@
 -- One definition after another.
-use Rattle.std.proofs.Common.{◌≡◌, ℕ, zero, suc, ◌+◌, ◌≤◌, true, List, [], ◌∷◌, ◌++◌, length, drop, Option, Some, None, ap, sym, ◌∙◌, subst, add-one}
+use Rattle.std.proofs.Common.{◌≡◌, ℕ, suc, ◌+◌, ◌≤◌, true, List, [], ◌∷◌, ◌++◌, length, drop, Option, Some, None, ap, sym, ◌∙◌, subst, add-one}
 use Rattle.std.specs.Prelude.{option_map, slice_get}
 use Rattle.std.proofs.lemmas.List.{drop_all}
 use Rattle.program_terms.specs.Terms as Term
-use Rattle.lens_types.specs.Forms.{FormTree}
-use Rattle.lens_types.specs.Sound.{is_sound}
-use Rattle.lens_types.specs.Earlier.{KnownTree, Definitions, known_of, all_known, form_of}
+use Rattle.lens_types.specs.Earlier.{KnownTree, Definitions, known_of, all_known}
 use Rattle.lens_types.specs.Checking.{Failure, or_else, def_failure, failure_after}
 use Rattle.lens_types.specs.Faults.{IsFaultOf}
 use Rattle.lens_types.specs.declared.fault.TypeFault.{TypeFault}
 use Rattle.lens_types.specs.declared.fault.TypeFault.TheVariants.{MiddleDiffers, RepeatedField, RepeatedTag, RepeatedMember, TooLarge, TooDeep, NoMemory}
-use Rattle.lens_types.proofs.Checked.{are_sound, sound_more, def_sound, lens_sound, drop_at, drop_def}
+use Rattle.lens_types.proofs.Checked.{are_sound, sound_more, def_sound, drop_at, drop_def}
 
 -- ---- a definition that has a failure
 

@@ -1,6 +1,6 @@
 -- What the code's own helpers speak of: how it sees the earlier definitions, how it counts, and how it makes the type of
 -- a side. No public clause uses these words; proofs/ shows that they say the same as the definitions of typing.
-use Rattle.std.specs.Prelude.{◌≡◌, ℕ, ◌+◌, ◌-◌, nat_le, if◌then◌else◌, List, length, map, Option, Some, None, option_map, option_and_then}
+use Rattle.std.specs.Prelude.{◌≡◌, ℕ, ◌-◌, nat_le, if◌then◌else◌, List, length, map, Option, Some, None, option_map, option_and_then}
 use Rattle.doc_values.specs.Types.{TyTree, ty_enum, ty_rec, ty_alt, ty_list, ty_keyed, ty_ordered, FieldTrees, no_fields, field, height, ty_tree}
 use Rattle.program_terms.specs.Terms as Term
 use Rattle.lens_types.specs.Forms.{FormTree, form_id, form_bij, form_disc, form_then, form_rec, form_alt, form_each, form_keyed, form_ordered, form_part, form_inv, RowTrees, no_rows, both, only_left, only_right, RowTree, row_both, row_left, row_right, ArmTrees, no_arms, more_arms, lefts, rights, insert_field, sorted, lists_of, form_tree}

@@ -131,8 +131,18 @@ fn right(alloc: Global, field: &str, ty: Made<TyExpr>) -> Made<Row> {
     Ok(Row::OnlyRight(name(alloc, field)?, ty?))
 }
 
-fn rec(alloc: Global, one: Made<Row>, two: Made<Row>, three: Made<Row>) -> Made<Lens> {
-    Ok(Lens::Rec(Rows::from_vec(vec![in alloc; one?, two?, three?]?)))
+fn no_rows(alloc: Global) -> Made<Vec<Row>> {
+    Ok(Vec::new(alloc))
+}
+
+fn with_row(rows: Made<Vec<Row>>, row: Made<Row>) -> Made<Vec<Row>> {
+    let mut rows = rows?;
+    rows.push(row?)?;
+    Ok(rows)
+}
+
+fn rec(rows: Made<Vec<Row>>) -> Made<Lens> {
+    Ok(Lens::Rec(Rows::from_vec(rows?)))
 }
 
 fn alt(alloc: Global, first: (&str, &str), second: (&str, &str)) -> Made<Lens> {
@@ -227,30 +237,38 @@ fn main_gives(rt: &impl Abort, alloc: Global, main: Made<Lens>, expected: &str) 
     gives(rt, alloc, program(alloc, main), expected);
 }
 
+// A field stands twice on the left, behind other rows.
+fn twice_on_the_left(alloc: Global) -> Made<Lens> {
+    let rows = with_row(no_rows(alloc), both(alloc, "a", "b", id(int())));
+    let rows = with_row(rows, left(alloc, "a", int()));
+    rec(with_row(rows, right(alloc, "c", int())))
+}
+
+// The field c stands twice on the right, and after that the field b twice on the left.
+fn twice_on_both_sides(alloc: Global) -> Made<Lens> {
+    let rows = with_row(no_rows(alloc), both(alloc, "a", "c", id(int())));
+    let rows = with_row(rows, both(alloc, "b", "c", id(int())));
+    rec(with_row(rows, both(alloc, "b", "d", id(int()))))
+}
+
+// Each field stands twice, but on two sides.
+fn once_on_each_side(alloc: Global) -> Made<Lens> {
+    let rows = with_row(no_rows(alloc), both(alloc, "a", "b", id(int())));
+    let rows = with_row(rows, left(alloc, "b", int()));
+    rec(with_row(rows, right(alloc, "a", int())))
+}
+
 #[test]
-fn repeated_names(rt: HostRuntime) {
+fn repeated_fields(rt: HostRuntime) {
     let alloc = rt.alloc();
-    let twice = rec(
-        alloc,
-        both(alloc, "a", "b", id(int())),
-        left(alloc, "a", int()),
-        right(alloc, "c", int()),
-    );
-    main_gives(&rt, alloc, twice, "field a");
-    let later = rec(
-        alloc,
-        both(alloc, "a", "c", id(int())),
-        both(alloc, "b", "c", id(int())),
-        both(alloc, "b", "d", id(int())),
-    );
-    main_gives(&rt, alloc, later, "field c");
-    let apart = rec(
-        alloc,
-        both(alloc, "a", "b", id(int())),
-        left(alloc, "b", int()),
-        right(alloc, "a", int()),
-    );
-    main_gives(&rt, alloc, apart, "typed");
+    main_gives(&rt, alloc, twice_on_the_left(alloc), "field a");
+    main_gives(&rt, alloc, twice_on_both_sides(alloc), "field c");
+    main_gives(&rt, alloc, once_on_each_side(alloc), "typed");
+}
+
+#[test]
+fn repeated_tags_and_members(rt: HostRuntime) {
+    let alloc = rt.alloc();
     main_gives(&rt, alloc, alt(alloc, ("a", "b"), ("a", "c")), "tag a");
     main_gives(&rt, alloc, alt(alloc, ("a", "b"), ("c", "b")), "tag b");
     main_gives(&rt, alloc, bij(alloc, ("x", "y"), ("z", "y")), "member y");

@@ -1,5 +1,4 @@
 use Rattle.std.proofs.Common.{◌++◌, codes, ap, ap₂, ◌∙◌}
-use Rattle.doc_values.specs.Documents.{doc_tree}
 use Rattle.lens_types.specs.Forms.{form_tree}
 use Rattle.value_json.specs.DocumentJson.{tree_of_document}
 use Rattle.answer_text.specs.Lines.{tree_line}

@@ -1,4 +1,4 @@
-use Rattle.std.proofs.Common.{◌≡◌, ◌+◌, ◌<◌, ◌≤◌, ◌^◌, length, map}
+use Rattle.std.proofs.Common.{◌≡◌, ◌+◌, ◌≤◌, length, map}
 use Rattle.lens_types.specs.Forms.{form_tree}
 use Rattle.editlens_main.specs.Lines.{cut, bare}
 use Rattle.editlens_main.specs.Report.{run_report}

@@ -1,4 +1,4 @@
-use Rattle.std.proofs.Common.{sym, ◌∙◌}
+use Rattle.std.proofs.Common.{sym}
 use Rattle.program_terms.specs.Views.{lens_tree}
 use Rattle.lens_types.specs.Walks.{earlier_tree}
 use Rattle.lens_types.proofs.Rooms.{lens_count_none, lens_count_some}

@@ -1,4 +1,4 @@
-use Rattle.std.proofs.Common.{sym, ◌∙◌}
+use Rattle.std.proofs.Common.{sym}
 use Rattle.program_terms.specs.Views.{type_tree}
 use Rattle.lens_types.specs.Walks.{earlier_tree}
 use Rattle.lens_types.proofs.Rooms.{type_count_none, type_count_some}
