@@ -1,5 +1,5 @@
 -- The definitions, tried on small examples.
-use Rattle.std.proofs.Common.{◌≡◌, ℕ, pos, negsuc, [], ◌∷◌, ◌++◌, true, Some, Ok, Err, codes, refl}
+use Rattle.std.proofs.Common.{◌≡◌, ℕ, pos, negsuc, [], ◌∷◌, ◌++◌, true, false, Some, Ok, Err, codes, refl}
 use Rattle.doc_values.specs.Documents.{rec, int, more_docs, no_docs}
 use Rattle.edit_module.specs.Words.{set, at, done, then}
 use Rattle.edit_module.specs.declared.atom.Atom.TheVariants.{Truth, Number}
