@@ -6,9 +6,9 @@ use Rattle.hold_shapes.specs.Keys.{has_name}
 use Rattle.doc_values.specs.Types.{names_of, are_distinct}
 use Rattle.doc_values.proofs.Typed.{first_and, second_and, bytes_eq-refl}
 use Rattle.program_terms.specs.Terms as Term
-use Rattle.lens_types.specs.Forms.{lefts, rights}
-use Rattle.lens_types.specs.Typing.{left_names, right_names, left_arms, right_arms}
-use Rattle.lens_types.specs.Earlier.{Definitions, fields_of, rows_of, arms_of}
+use Rattle.lens_forms.specs.Forms.{lefts, rights}
+use Rattle.lens_forms.specs.Typing.{left_names, right_names, left_arms, right_arms}
+use Rattle.lens_types.specs.Earlier.{Definitions, expanded_fields, expanded_rows, expanded_arms}
 use Rattle.lens_types.specs.Repeats.{SidedName, is_same_end, is_same_name, is_among, repeat_after, first_repeat, member_names, field_names, pair_names, row_names, arm_names}
 use Rattle.lens_types.specs.declared.names.End.{End}
 use Rattle.lens_types.specs.declared.names.End.TheVariants.{Left, Right}
@@ -104,7 +104,7 @@ on-members : (ms : List (List ℕ)) → on Left (member_names ms) ≡ ms
 on-members [] = refl
 on-members (m ∷ ms) = ap (λ xs. m ∷ xs) (on-members ms)
 
-on-fields : (ds : Definitions) (fs : Term.FieldTrees) → on Left (field_names fs) ≡ names_of (fields_of ds fs)
+on-fields : (ds : Definitions) (fs : Term.FieldTrees) → on Left (field_names fs) ≡ names_of (expanded_fields ds fs)
 on-fields ds Term.no_fields = refl
 on-fields ds (Term.more_fields n t fs) = ap (λ xs. n ∷ xs) (on-fields ds fs)
 
@@ -116,23 +116,23 @@ on-rights : (ps : List (List ℕ × List ℕ)) → on Right (pair_names ps) ≡ 
 on-rights [] = refl
 on-rights (p ∷ ps) = ap (λ xs. p.1 ∷ xs) (on-rights ps)
 
-on-left_names : (ds : Definitions) (rows : Term.RowTrees) → on Left (row_names rows) ≡ left_names (rows_of ds rows)
+on-left_names : (ds : Definitions) (rows : Term.RowTrees) → on Left (row_names rows) ≡ left_names (expanded_rows ds rows)
 on-left_names ds Term.no_rows = refl
 on-left_names ds (Term.both a b l rows) = ap (λ xs. a ∷ xs) (on-left_names ds rows)
 on-left_names ds (Term.only_left a t rows) = ap (λ xs. a ∷ xs) (on-left_names ds rows)
 on-left_names ds (Term.only_right b t rows) = on-left_names ds rows
 
-on-right_names : (ds : Definitions) (rows : Term.RowTrees) → on Right (row_names rows) ≡ right_names (rows_of ds rows)
+on-right_names : (ds : Definitions) (rows : Term.RowTrees) → on Right (row_names rows) ≡ right_names (expanded_rows ds rows)
 on-right_names ds Term.no_rows = refl
 on-right_names ds (Term.both a b l rows) = ap (λ xs. b ∷ xs) (on-right_names ds rows)
 on-right_names ds (Term.only_left a t rows) = on-right_names ds rows
 on-right_names ds (Term.only_right b t rows) = ap (λ xs. b ∷ xs) (on-right_names ds rows)
 
-on-left_arms : (ds : Definitions) (arms : Term.ArmTrees) → on Left (arm_names arms) ≡ left_arms (arms_of ds arms)
+on-left_arms : (ds : Definitions) (arms : Term.ArmTrees) → on Left (arm_names arms) ≡ left_arms (expanded_arms ds arms)
 on-left_arms ds Term.no_arms = refl
 on-left_arms ds (Term.more_arms a b l arms) = ap (λ xs. a ∷ xs) (on-left_arms ds arms)
 
-on-right_arms : (ds : Definitions) (arms : Term.ArmTrees) → on Right (arm_names arms) ≡ right_arms (arms_of ds arms)
+on-right_arms : (ds : Definitions) (arms : Term.ArmTrees) → on Right (arm_names arms) ≡ right_arms (expanded_arms ds arms)
 on-right_arms ds Term.no_arms = refl
 on-right_arms ds (Term.more_arms a b l arms) = ap (λ xs. b ∷ xs) (on-right_arms ds arms)
 
@@ -141,7 +141,7 @@ on-right_arms ds (Term.more_arms a b l arms) = ap (λ xs. b ∷ xs) (on-right_ar
 pub members_distinct : (ms : List (List ℕ)) → first_repeat (member_names ms) ≡ None → are_distinct ms ≡ true
 members_distinct ms h = sides_distinct (member_names ms) Left ms (on-members ms) h
 
-pub fields_distinct : (ds : Definitions) (fs : Term.FieldTrees) → first_repeat (field_names fs) ≡ None → are_distinct (names_of (fields_of ds fs)) ≡ true
+pub fields_distinct : (ds : Definitions) (fs : Term.FieldTrees) → first_repeat (field_names fs) ≡ None → are_distinct (names_of (expanded_fields ds fs)) ≡ true
 fields_distinct ds fs h = sides_distinct (field_names fs) Left _ (on-fields ds fs) h
 
 pub lefts_distinct : (ps : List (List ℕ × List ℕ)) → first_repeat (pair_names ps) ≡ None → are_distinct (lefts ps) ≡ true
@@ -150,14 +150,14 @@ lefts_distinct ps h = sides_distinct (pair_names ps) Left _ (on-lefts ps) h
 pub rights_distinct : (ps : List (List ℕ × List ℕ)) → first_repeat (pair_names ps) ≡ None → are_distinct (rights ps) ≡ true
 rights_distinct ps h = sides_distinct (pair_names ps) Right _ (on-rights ps) h
 
-pub left_names_distinct : (ds : Definitions) (rows : Term.RowTrees) → first_repeat (row_names rows) ≡ None → are_distinct (left_names (rows_of ds rows)) ≡ true
+pub left_names_distinct : (ds : Definitions) (rows : Term.RowTrees) → first_repeat (row_names rows) ≡ None → are_distinct (left_names (expanded_rows ds rows)) ≡ true
 left_names_distinct ds rows h = sides_distinct (row_names rows) Left _ (on-left_names ds rows) h
 
-pub right_names_distinct : (ds : Definitions) (rows : Term.RowTrees) → first_repeat (row_names rows) ≡ None → are_distinct (right_names (rows_of ds rows)) ≡ true
+pub right_names_distinct : (ds : Definitions) (rows : Term.RowTrees) → first_repeat (row_names rows) ≡ None → are_distinct (right_names (expanded_rows ds rows)) ≡ true
 right_names_distinct ds rows h = sides_distinct (row_names rows) Right _ (on-right_names ds rows) h
 
-pub left_arms_distinct : (ds : Definitions) (arms : Term.ArmTrees) → first_repeat (arm_names arms) ≡ None → are_distinct (left_arms (arms_of ds arms)) ≡ true
+pub left_arms_distinct : (ds : Definitions) (arms : Term.ArmTrees) → first_repeat (arm_names arms) ≡ None → are_distinct (left_arms (expanded_arms ds arms)) ≡ true
 left_arms_distinct ds arms h = sides_distinct (arm_names arms) Left _ (on-left_arms ds arms) h
 
-pub right_arms_distinct : (ds : Definitions) (arms : Term.ArmTrees) → first_repeat (arm_names arms) ≡ None → are_distinct (right_arms (arms_of ds arms)) ≡ true
+pub right_arms_distinct : (ds : Definitions) (arms : Term.ArmTrees) → first_repeat (arm_names arms) ≡ None → are_distinct (right_arms (expanded_arms ds arms)) ≡ true
 right_arms_distinct ds arms h = sides_distinct (arm_names arms) Right _ (on-right_arms ds arms) h

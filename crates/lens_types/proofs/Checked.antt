@@ -4,15 +4,15 @@ use Rattle.std.specs.Prelude.{bytes_eq, nat_le, if◌then◌else◌, option_map,
 use Rattle.doc_values.specs.Types.{FieldTrees, no_fields, field, names_of, are_distinct, is_well_formed, are_well_formed, height, is_same_ty}
 use Rattle.doc_values.proofs.Typed.{first_and, second_and}
 use Rattle.program_terms.specs.Terms as Term
-use Rattle.lens_types.specs.Forms.{FormTree, ArmTrees, no_arms, more_arms, lefts, rights, left_type, right_type}
-use Rattle.lens_types.specs.Typing.{is_typed, are_typed_rows, are_typed_arms, left_arms, right_arms}
-use Rattle.lens_types.specs.Measures.{form_parts, form_height, most_parts, greatest_height}
+use Rattle.lens_forms.specs.Forms.{FormTree, ArmTrees, no_arms, more_arms, lefts, rights, left_type, right_type}
+use Rattle.lens_forms.specs.Typing.{is_typed, are_typed_rows, are_typed_arms, left_arms, right_arms}
+use Rattle.lens_forms.specs.Measures.{form_parts, form_height, most_parts, greatest_height}
 use Rattle.lens_types.specs.Sound.{is_sound}
-use Rattle.lens_types.specs.Earlier.{KnownTree, known_type, known_lens, Definitions, known, type_of_known, form_of_known, type_named, form_named, enum_type, alternatives_type, bijection, alternatives, partition, type_of, fields_of, form_of, rows_of, arms_of, known_of}
+use Rattle.lens_types.specs.Earlier.{KnownTree, known_type, known_lens, Definitions, known, type_of_known, form_of_known, type_named, form_named, enum_type, alternatives_type, bijection, alternatives, partition, expanded_type, expanded_fields, expanded_form, expanded_rows, expanded_arms, known_of}
 use Rattle.lens_types.specs.Checking.{Failure, repeated_field, repeated_tag, repeated_member, too_large, too_deep, or_else, type_failure, fields_failure, lens_failure, rows_failure, arms_failure, middle_failure, sides_failure, written_height, size_failure, height_failure, def_failure}
 use Rattle.lens_types.specs.Repeats.{first_repeat, member_names, field_names, pair_names, row_names, arm_names}
 use Rattle.lens_types.proofs.Apart.{members_distinct, fields_distinct, lefts_distinct, rights_distinct, left_names_distinct, right_names_distinct, left_arms_distinct, right_arms_distinct}
-use Rattle.lens_types.proofs.Rising.{both_true, sorted-rising, sorted-well_formed}
+use Rattle.lens_forms.proofs.SortedFields.{both_true, sorted-rising, sorted-well_formed}
 
 -- ---- no failure
 
@@ -76,7 +76,7 @@ alternatives_formed no_fields h r = refl
 alternatives_formed (field n t fs) h r = both_true _ _ h r
 
 mutual
-  pub type_formed : (ds : Definitions) → are_sound ds ≡ true → (t : Term.TypeTree) → type_failure t ≡ None → is_well_formed (type_of ds t) ≡ true
+  pub type_formed : (ds : Definitions) → are_sound ds ≡ true → (t : Term.TypeTree) → type_failure t ≡ None → is_well_formed (expanded_type ds t) ≡ true
   type_formed ds s Term.unit h = refl
   type_formed ds s Term.bool h = refl
   type_formed ds s Term.int h = refl
@@ -84,17 +84,17 @@ mutual
   type_formed ds s (Term.enum_of ms) h = enum_formed ms (members_distinct ms (none_map repeated_member (first_repeat (member_names ms)) h))
   type_formed ds s (Term.record_of fs) h =
       let none = none_both (fields_failure fs) (option_map repeated_field (first_repeat (field_names fs))) h in
-      both_true _ _ (sorted-rising (fields_of ds fs) (fields_distinct ds fs (none_map repeated_field (first_repeat (field_names fs)) none.1)))
-      (sorted-well_formed (fields_of ds fs) (fields_formed ds s fs none.0))
+      both_true _ _ (sorted-rising (expanded_fields ds fs) (fields_distinct ds fs (none_map repeated_field (first_repeat (field_names fs)) none.1)))
+      (sorted-well_formed (expanded_fields ds fs) (fields_formed ds s fs none.0))
   type_formed ds s (Term.one_of fs) h =
       let none = none_both (fields_failure fs) (option_map repeated_tag (first_repeat (field_names fs))) h in
-      alternatives_formed (fields_of ds fs) (fields_distinct ds fs (none_map repeated_tag (first_repeat (field_names fs)) none.1)) (fields_formed ds s fs none.0)
+      alternatives_formed (expanded_fields ds fs) (fields_distinct ds fs (none_map repeated_tag (first_repeat (field_names fs)) none.1)) (fields_formed ds s fs none.0)
   type_formed ds s (Term.list t) h = type_formed ds s t h
   type_formed ds s (Term.keyed t) h = type_formed ds s t h
   type_formed ds s (Term.tree t) h = type_formed ds s t h
   type_formed ds s (Term.named n) h = named_formed ds n s
 
-  fields_formed : (ds : Definitions) → are_sound ds ≡ true → (fs : Term.FieldTrees) → fields_failure fs ≡ None → are_well_formed (fields_of ds fs) ≡ true
+  fields_formed : (ds : Definitions) → are_sound ds ≡ true → (fs : Term.FieldTrees) → fields_failure fs ≡ None → are_well_formed (expanded_fields ds fs) ≡ true
   fields_formed ds s Term.no_fields h = refl
   fields_formed ds s (Term.more_fields n t fs) h =
       let none = none_both (type_failure t) (fields_failure fs) h in
@@ -119,7 +119,7 @@ middle_same : (l k : FormTree) → middle_failure l k ≡ None → is_same_ty (r
 middle_same l k h = none_if (is_same_ty (right_type l) (left_type k)) _ h
 
 mutual
-  pub lens_typed : (ds : Definitions) → are_sound ds ≡ true → (l : Term.LensTree) → lens_failure ds l ≡ None → is_typed (form_of ds l) ≡ true
+  pub lens_typed : (ds : Definitions) → are_sound ds ≡ true → (l : Term.LensTree) → lens_failure ds l ≡ None → is_typed (expanded_form ds l) ≡ true
   lens_typed ds s (Term.id_of t) h = type_formed ds s t (none_both (type_failure t) _ h).0
   lens_typed ds s (Term.bij_of ps) h =
       let none = none_map repeated_member (first_repeat (pair_names ps)) (none_both (option_map repeated_member (first_repeat (pair_names ps))) _ h).0 in
@@ -130,8 +130,8 @@ mutual
   lens_typed ds s (Term.then_of l k) h =
       let first = none_both (lens_failure ds l) _ h in
       let second = none_both (lens_failure ds k) _ first.1 in
-      let middle = none_both (middle_failure (form_of ds l) (form_of ds k)) _ second.1 in
-      both_true _ _ (both_true _ _ (lens_typed ds s l first.0) (lens_typed ds s k second.0)) (middle_same (form_of ds l) (form_of ds k) middle.0)
+      let middle = none_both (middle_failure (expanded_form ds l) (expanded_form ds k)) _ second.1 in
+      both_true _ _ (both_true _ _ (lens_typed ds s l first.0) (lens_typed ds s k second.0)) (middle_same (expanded_form ds l) (expanded_form ds k) middle.0)
   lens_typed ds s (Term.rec_lens rows) h =
       let parts = none_both (rows_failure ds rows) _ h in
       let none = none_map repeated_field (first_repeat (row_names rows)) (none_both (option_map repeated_field (first_repeat (row_names rows))) _ parts.1).0 in
@@ -139,18 +139,18 @@ mutual
   lens_typed ds s (Term.alt_lens arms) h =
       let parts = none_both (arms_failure ds arms) _ h in
       let none = none_map repeated_tag (first_repeat (arm_names arms)) (none_both (option_map repeated_tag (first_repeat (arm_names arms))) _ parts.1).0 in
-      alternatives_typed (arms_of ds arms) (arms_typed ds s arms parts.0) (left_arms_distinct ds arms none) (right_arms_distinct ds arms none)
+      alternatives_typed (expanded_arms ds arms) (arms_typed ds s arms parts.0) (left_arms_distinct ds arms none) (right_arms_distinct ds arms none)
   lens_typed ds s (Term.each_of l) h = lens_typed ds s l (none_both (lens_failure ds l) _ h).0
   lens_typed ds s (Term.keyed_each l) h = lens_typed ds s l (none_both (lens_failure ds l) _ h).0
   lens_typed ds s (Term.tree_each l) h = lens_typed ds s l (none_both (lens_failure ds l) _ h).0
   lens_typed ds s (Term.part_of fs) h =
       let parts = none_both (fields_failure fs) _ h in
       let none = none_map repeated_tag (first_repeat (field_names fs)) (none_both (option_map repeated_tag (first_repeat (field_names fs))) _ parts.1).0 in
-      partition_typed (fields_of ds fs) (fields_distinct ds fs none) (fields_formed ds s fs parts.0)
+      partition_typed (expanded_fields ds fs) (fields_distinct ds fs none) (fields_formed ds s fs parts.0)
   lens_typed ds s (Term.inv_of l) h = lens_typed ds s l (none_both (lens_failure ds l) _ h).0
   lens_typed ds s (Term.named_lens n) h = first_and (is_typed (form_named ds n)) _ (named_sound ds n s)
 
-  rows_typed : (ds : Definitions) → are_sound ds ≡ true → (rows : Term.RowTrees) → rows_failure ds rows ≡ None → are_typed_rows (rows_of ds rows) ≡ true
+  rows_typed : (ds : Definitions) → are_sound ds ≡ true → (rows : Term.RowTrees) → rows_failure ds rows ≡ None → are_typed_rows (expanded_rows ds rows) ≡ true
   rows_typed ds s Term.no_rows h = refl
   rows_typed ds s (Term.both a b l rows) h =
       let none = none_both (lens_failure ds l) (rows_failure ds rows) h in both_true _ _ (lens_typed ds s l none.0) (rows_typed ds s rows none.1)
@@ -159,7 +159,7 @@ mutual
   rows_typed ds s (Term.only_right b t rows) h =
       let none = none_both (type_failure t) (rows_failure ds rows) h in both_true _ _ (type_formed ds s t none.0) (rows_typed ds s rows none.1)
 
-  arms_typed : (ds : Definitions) → are_sound ds ≡ true → (arms : Term.ArmTrees) → arms_failure ds arms ≡ None → are_typed_arms (arms_of ds arms) ≡ true
+  arms_typed : (ds : Definitions) → are_sound ds ≡ true → (arms : Term.ArmTrees) → arms_failure ds arms ≡ None → are_typed_arms (expanded_arms ds arms) ≡ true
   arms_typed ds s Term.no_arms h = refl
   arms_typed ds s (Term.more_arms a b l arms) h =
       let none = none_both (lens_failure ds l) (arms_failure ds arms) h in both_true _ _ (lens_typed ds s l none.0) (arms_typed ds s arms none.1)
@@ -175,22 +175,22 @@ sides_low f h = none_if (low_sides f) too_deep h
 last_low : (a : Option Failure) (f : FormTree) → or_else a (sides_failure f) ≡ None → low_sides f ≡ true
 last_low a f h = sides_low f (none_both a (sides_failure f) h).1
 
-pub lens_low : (ds : Definitions) → are_sound ds ≡ true → (l : Term.LensTree) → lens_failure ds l ≡ None → low_sides (form_of ds l) ≡ true
-lens_low ds s (Term.id_of t) h = last_low (type_failure t) (form_of ds (Term.id_of t)) h
+pub lens_low : (ds : Definitions) → are_sound ds ≡ true → (l : Term.LensTree) → lens_failure ds l ≡ None → low_sides (expanded_form ds l) ≡ true
+lens_low ds s (Term.id_of t) h = last_low (type_failure t) (expanded_form ds (Term.id_of t)) h
 lens_low ds s (Term.bij_of ps) h = last_low (option_map repeated_member (first_repeat (pair_names ps))) (bijection ps) h
-lens_low ds s (Term.disc_of t u) h = last_low (type_failure u) (form_of ds (Term.disc_of t u)) (none_both (type_failure t) _ h).1
+lens_low ds s (Term.disc_of t u) h = last_low (type_failure u) (expanded_form ds (Term.disc_of t u)) (none_both (type_failure t) _ h).1
 lens_low ds s (Term.then_of l k) h =
-    last_low (middle_failure (form_of ds l) (form_of ds k)) (form_of ds (Term.then_of l k)) (none_both (lens_failure ds k) _ (none_both (lens_failure ds l) _ h).1).1
+    last_low (middle_failure (expanded_form ds l) (expanded_form ds k)) (expanded_form ds (Term.then_of l k)) (none_both (lens_failure ds k) _ (none_both (lens_failure ds l) _ h).1).1
 lens_low ds s (Term.rec_lens rows) h =
-    last_low (option_map repeated_field (first_repeat (row_names rows))) (form_of ds (Term.rec_lens rows)) (none_both (rows_failure ds rows) _ h).1
+    last_low (option_map repeated_field (first_repeat (row_names rows))) (expanded_form ds (Term.rec_lens rows)) (none_both (rows_failure ds rows) _ h).1
 lens_low ds s (Term.alt_lens arms) h =
-    last_low (option_map repeated_tag (first_repeat (arm_names arms))) (alternatives (arms_of ds arms)) (none_both (arms_failure ds arms) _ h).1
-lens_low ds s (Term.each_of l) h = last_low (lens_failure ds l) (form_of ds (Term.each_of l)) h
-lens_low ds s (Term.keyed_each l) h = last_low (lens_failure ds l) (form_of ds (Term.keyed_each l)) h
-lens_low ds s (Term.tree_each l) h = last_low (lens_failure ds l) (form_of ds (Term.tree_each l)) h
+    last_low (option_map repeated_tag (first_repeat (arm_names arms))) (alternatives (expanded_arms ds arms)) (none_both (arms_failure ds arms) _ h).1
+lens_low ds s (Term.each_of l) h = last_low (lens_failure ds l) (expanded_form ds (Term.each_of l)) h
+lens_low ds s (Term.keyed_each l) h = last_low (lens_failure ds l) (expanded_form ds (Term.keyed_each l)) h
+lens_low ds s (Term.tree_each l) h = last_low (lens_failure ds l) (expanded_form ds (Term.tree_each l)) h
 lens_low ds s (Term.part_of fs) h =
-    last_low (option_map repeated_tag (first_repeat (field_names fs))) (partition (fields_of ds fs)) (none_both (fields_failure fs) _ h).1
-lens_low ds s (Term.inv_of l) h = last_low (lens_failure ds l) (form_of ds (Term.inv_of l)) h
+    last_low (option_map repeated_tag (first_repeat (field_names fs))) (partition (expanded_fields ds fs)) (none_both (fields_failure fs) _ h).1
+lens_low ds s (Term.inv_of l) h = last_low (lens_failure ds l) (expanded_form ds (Term.inv_of l)) h
 lens_low ds s (Term.named_lens n) h =
     let f = form_named ds n in
     second_and (nat_le (form_height f) greatest_height) (low_sides f)
@@ -198,9 +198,9 @@ lens_low ds s (Term.named_lens n) h =
 
 -- ---- definitions
 
-pub lens_sound : (ds : Definitions) → are_sound ds ≡ true → (l : Term.LensTree) → def_failure ds (Term.lens_def l) ≡ None → is_sound (form_of ds l) ≡ true
+pub lens_sound : (ds : Definitions) → are_sound ds ≡ true → (l : Term.LensTree) → def_failure ds (Term.lens_def l) ≡ None → is_sound (expanded_form ds l) ≡ true
 lens_sound ds s l h =
-    let f = form_of ds l in
+    let f = expanded_form ds l in
     let size = none_both (size_failure (form_parts f)) _ h in
     let levels = none_both (height_failure (form_height f)) _ size.1 in
     let nodes = none_both (height_failure (written_height ds l)) (lens_failure ds l) levels.1 in
@@ -210,7 +210,7 @@ lens_sound ds s l h =
 
 pub def_sound : (ds : Definitions) → are_sound ds ≡ true → (d : Term.DefTree) → def_failure ds d ≡ None → is_sound_known (known_of ds d) ≡ true
 def_sound ds s (Term.type_def t) h =
-    type_formed ds s t (none_both (height_failure (height (type_of ds t))) (type_failure t) (none_both (size_failure _) _ h).1).1
+    type_formed ds s t (none_both (height_failure (height (expanded_type ds t))) (type_failure t) (none_both (size_failure _) _ h).1).1
 def_sound ds s (Term.lens_def l) h = lens_sound ds s l h
 
 -- ---- a list from a place on

@@ -5,7 +5,7 @@ use Rattle.std.specs.List.{insert}
 use Rattle.hold_shapes.specs.Keys.{is_before}
 use Rattle.doc_values.specs.Types.{FieldTrees, no_fields, field, fields_of, field_tree, ty_tree}
 use Rattle.doc_values.specs.declared.ty.Ty.{Ty}
-use Rattle.lens_types.specs.Forms.{insert_field, sorted}
+use Rattle.lens_forms.specs.Forms.{insert_field, sorted}
 use Rattle.lens_types.specs.Inserts.{place_among}
 
 -- a field inserted in the list at its place is put at its place

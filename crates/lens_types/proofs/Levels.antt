@@ -5,8 +5,8 @@ use Rattle.std.proofs.lemmas.Bool.Decides.{nat_tests}
 use Rattle.hold_shapes.specs.Keys.{is_before}
 use Rattle.doc_values.specs.Types.{TyTree, ty_rec, FieldTrees, no_fields, field, height, highest}
 use Rattle.doc_values.proofs.Heights.{nat_le-max, nat_le-next, height-positive}
-use Rattle.lens_types.specs.Forms.{FormTree, form_id, form_bij, form_disc, form_then, form_rec, form_alt, form_each, form_keyed, form_ordered, form_part, form_inv, ArmTrees, no_arms, more_arms, insert_field, sorted}
-use Rattle.lens_types.specs.Measures.{form_height, highest_row, highest_arm}
+use Rattle.lens_forms.specs.Forms.{FormTree, form_id, form_bij, form_disc, form_then, form_rec, form_alt, form_each, form_keyed, form_ordered, form_part, form_inv, ArmTrees, no_arms, more_arms, insert_field, sorted}
+use Rattle.lens_forms.specs.Measures.{form_height, highest_row, highest_arm}
 use Rattle.lens_types.specs.Earlier.{enum_type, alternatives_type, bijection, alternatives, partition}
 use Rattle.lens_types.proofs.Lists.{rows_tree-out, arms_tree-out}
 

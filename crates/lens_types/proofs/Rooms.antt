@@ -5,10 +5,10 @@ use Rattle.std.proofs.lemmas.Bool.Decides.{nat_tests}
 use Rattle.hold_shapes.specs.Keys.{is_before}
 use Rattle.doc_values.specs.Types.{TyTree, FieldTrees, no_fields, field}
 use Rattle.program_terms.specs.Terms as Term
-use Rattle.lens_types.specs.Forms.{ArmTrees, no_arms, more_arms, insert_field, sorted}
-use Rattle.lens_types.specs.Measures.{type_parts, fields_parts, form_parts, rows_parts, arms_parts, most_parts}
+use Rattle.lens_forms.specs.Forms.{ArmTrees, no_arms, more_arms, insert_field, sorted}
+use Rattle.lens_forms.specs.Measures.{type_parts, fields_parts, form_parts, rows_parts, arms_parts, most_parts}
 use Rattle.lens_types.specs.Checking.{too_large}
-use Rattle.lens_types.specs.Earlier.{Definitions, type_of, fields_of, form_of, rows_of, arms_of, enum_type, alternatives_type, bijection, alternatives, partition}
+use Rattle.lens_types.specs.Earlier.{Definitions, expanded_type, expanded_fields, expanded_form, expanded_rows, expanded_arms, enum_type, alternatives_type, bijection, alternatives, partition}
 use Rattle.lens_types.specs.Walks.{IsCountOf, room_after, type_room, fields_room, lens_room, rows_room, arms_room}
 
 -- ---- room after two counts
@@ -64,82 +64,82 @@ no_parts : (n : ℕ) → Some n ≡ room_after 0 n
 no_parts n = grind (arith, nat_tests)
 
 mutual
-  pub type_room-parts : (ds : Definitions) (t : Term.TypeTree) (n : ℕ) → type_room ds t n ≡ room_after (type_parts (type_of ds t)) n
+  pub type_room-parts : (ds : Definitions) (t : Term.TypeTree) (n : ℕ) → type_room ds t n ≡ room_after (type_parts (expanded_type ds t)) n
   type_room-parts ds Term.unit n = refl
   type_room-parts ds Term.bool n = refl
   type_room-parts ds Term.int n = refl
   type_room-parts ds Term.text n = refl
   type_room-parts ds (Term.enum_of ms) n = room_after-add 1 (length ms) n ∙ ap (λ k. room_after k n) (sym (parts-enum_type ms))
   type_room-parts ds (Term.record_of fs) n =
-      to_room (λ left. fields_room ds fs left) 1 (fields_parts (fields_of ds fs)) (fields_parts (sorted (fields_of ds fs)) + 1) n
-      (λ m. fields_room-parts ds fs m) (omega (arith, parts-sorted (fields_of ds fs)))
+      to_room (λ left. fields_room ds fs left) 1 (fields_parts (expanded_fields ds fs)) (fields_parts (sorted (expanded_fields ds fs)) + 1) n
+      (λ m. fields_room-parts ds fs m) (omega (arith, parts-sorted (expanded_fields ds fs)))
   type_room-parts ds (Term.one_of fs) n =
-      to_room (λ left. fields_room ds fs left) 1 (fields_parts (fields_of ds fs)) (type_parts (alternatives_type (fields_of ds fs))) n
-      (λ m. fields_room-parts ds fs m) (sym (parts-alternatives_type (fields_of ds fs)))
+      to_room (λ left. fields_room ds fs left) 1 (fields_parts (expanded_fields ds fs)) (type_parts (alternatives_type (expanded_fields ds fs))) n
+      (λ m. fields_room-parts ds fs m) (sym (parts-alternatives_type (expanded_fields ds fs)))
   type_room-parts ds (Term.list t) n =
-      to_room (λ left. type_room ds t left) 1 (type_parts (type_of ds t)) (type_parts (type_of ds t) + 1) n (λ m. type_room-parts ds t m) (omega arith)
+      to_room (λ left. type_room ds t left) 1 (type_parts (expanded_type ds t)) (type_parts (expanded_type ds t) + 1) n (λ m. type_room-parts ds t m) (omega arith)
   type_room-parts ds (Term.keyed t) n =
-      to_room (λ left. type_room ds t left) 1 (type_parts (type_of ds t)) (type_parts (type_of ds t) + 1) n (λ m. type_room-parts ds t m) (omega arith)
+      to_room (λ left. type_room ds t left) 1 (type_parts (expanded_type ds t)) (type_parts (expanded_type ds t) + 1) n (λ m. type_room-parts ds t m) (omega arith)
   type_room-parts ds (Term.tree t) n =
-      to_room (λ left. type_room ds t left) 1 (type_parts (type_of ds t)) (type_parts (type_of ds t) + 1) n (λ m. type_room-parts ds t m) (omega arith)
+      to_room (λ left. type_room ds t left) 1 (type_parts (expanded_type ds t)) (type_parts (expanded_type ds t) + 1) n (λ m. type_room-parts ds t m) (omega arith)
   type_room-parts ds (Term.named x) n = refl
 
-  pub fields_room-parts : (ds : Definitions) (fs : Term.FieldTrees) (n : ℕ) → fields_room ds fs n ≡ room_after (fields_parts (fields_of ds fs)) n
+  pub fields_room-parts : (ds : Definitions) (fs : Term.FieldTrees) (n : ℕ) → fields_room ds fs n ≡ room_after (fields_parts (expanded_fields ds fs)) n
   fields_room-parts ds Term.no_fields n = no_parts n
   fields_room-parts ds (Term.more_fields x t fs) n =
       ap (option_and_then (λ left. fields_room ds fs left))
-      (to_room (λ left. type_room ds t left) 1 (type_parts (type_of ds t)) (type_parts (type_of ds t) + 1) n (λ m. type_room-parts ds t m) (omega arith))
-      ∙ then_room (λ left. fields_room ds fs left) (type_parts (type_of ds t) + 1) (fields_parts (fields_of ds fs)) n (λ m. fields_room-parts ds fs m)
+      (to_room (λ left. type_room ds t left) 1 (type_parts (expanded_type ds t)) (type_parts (expanded_type ds t) + 1) n (λ m. type_room-parts ds t m) (omega arith))
+      ∙ then_room (λ left. fields_room ds fs left) (type_parts (expanded_type ds t) + 1) (fields_parts (expanded_fields ds fs)) n (λ m. fields_room-parts ds fs m)
 
 -- one lens of any kind that has one part
-one_more : (ds : Definitions) (l : Term.LensTree) (n : ℕ) → ((m : ℕ) → lens_room ds l m ≡ room_after (form_parts (form_of ds l)) m)
-    → option_and_then (λ left. lens_room ds l left) (room_after 1 n) ≡ room_after (form_parts (form_of ds l) + 1) n
-one_more ds l n h = to_room (λ left. lens_room ds l left) 1 (form_parts (form_of ds l)) (form_parts (form_of ds l) + 1) n h (omega arith)
+one_more : (ds : Definitions) (l : Term.LensTree) (n : ℕ) → ((m : ℕ) → lens_room ds l m ≡ room_after (form_parts (expanded_form ds l)) m)
+    → option_and_then (λ left. lens_room ds l left) (room_after 1 n) ≡ room_after (form_parts (expanded_form ds l) + 1) n
+one_more ds l n h = to_room (λ left. lens_room ds l left) 1 (form_parts (expanded_form ds l)) (form_parts (expanded_form ds l) + 1) n h (omega arith)
 
-one_type : (ds : Definitions) (t : Term.TypeTree) (n : ℕ) → option_and_then (type_room ds t) (room_after 1 n) ≡ room_after (type_parts (type_of ds t) + 1) n
-one_type ds t n = to_room (type_room ds t) 1 (type_parts (type_of ds t)) (type_parts (type_of ds t) + 1) n (type_room-parts ds t) (omega arith)
+one_type : (ds : Definitions) (t : Term.TypeTree) (n : ℕ) → option_and_then (type_room ds t) (room_after 1 n) ≡ room_after (type_parts (expanded_type ds t) + 1) n
+one_type ds t n = to_room (type_room ds t) 1 (type_parts (expanded_type ds t)) (type_parts (expanded_type ds t) + 1) n (type_room-parts ds t) (omega arith)
 
 mutual
-  pub lens_room-parts : (ds : Definitions) (l : Term.LensTree) (n : ℕ) → lens_room ds l n ≡ room_after (form_parts (form_of ds l)) n
+  pub lens_room-parts : (ds : Definitions) (l : Term.LensTree) (n : ℕ) → lens_room ds l n ≡ room_after (form_parts (expanded_form ds l)) n
   lens_room-parts ds (Term.id_of t) n = one_type ds t n
   lens_room-parts ds (Term.bij_of ps) n = room_after-add 1 (length ps) n ∙ ap (λ k. room_after k n) (sym (parts-bijection ps))
   lens_room-parts ds (Term.disc_of t u) n =
       ap (option_and_then (type_room ds u)) (one_type ds t n)
-      ∙ to_room (type_room ds u) (type_parts (type_of ds t) + 1) (type_parts (type_of ds u)) (type_parts (type_of ds t) + type_parts (type_of ds u) + 1) n (type_room-parts ds u) (omega arith)
+      ∙ to_room (type_room ds u) (type_parts (expanded_type ds t) + 1) (type_parts (expanded_type ds u)) (type_parts (expanded_type ds t) + type_parts (expanded_type ds u) + 1) n (type_room-parts ds u) (omega arith)
   lens_room-parts ds (Term.then_of l k) n =
       ap (option_and_then (λ left. lens_room ds k left)) (one_more ds l n (λ m. lens_room-parts ds l m))
-      ∙ to_room (λ left. lens_room ds k left) (form_parts (form_of ds l) + 1) (form_parts (form_of ds k)) (form_parts (form_of ds l) + form_parts (form_of ds k) + 1) n (λ m. lens_room-parts ds k m) (omega arith)
+      ∙ to_room (λ left. lens_room ds k left) (form_parts (expanded_form ds l) + 1) (form_parts (expanded_form ds k)) (form_parts (expanded_form ds l) + form_parts (expanded_form ds k) + 1) n (λ m. lens_room-parts ds k m) (omega arith)
   lens_room-parts ds (Term.rec_lens rows) n =
-      to_room (λ left. rows_room ds rows left) 1 (rows_parts (rows_of ds rows)) (rows_parts (rows_of ds rows) + 1) n (λ m. rows_room-parts ds rows m) (omega arith)
+      to_room (λ left. rows_room ds rows left) 1 (rows_parts (expanded_rows ds rows)) (rows_parts (expanded_rows ds rows) + 1) n (λ m. rows_room-parts ds rows m) (omega arith)
   lens_room-parts ds (Term.alt_lens arms) n =
-      to_room (λ left. arms_room ds arms left) 1 (arms_parts (arms_of ds arms)) (form_parts (alternatives (arms_of ds arms))) n
-      (λ m. arms_room-parts ds arms m) (sym (parts-alternatives (arms_of ds arms)))
+      to_room (λ left. arms_room ds arms left) 1 (arms_parts (expanded_arms ds arms)) (form_parts (alternatives (expanded_arms ds arms))) n
+      (λ m. arms_room-parts ds arms m) (sym (parts-alternatives (expanded_arms ds arms)))
   lens_room-parts ds (Term.each_of l) n = one_more ds l n (λ m. lens_room-parts ds l m)
   lens_room-parts ds (Term.keyed_each l) n = one_more ds l n (λ m. lens_room-parts ds l m)
   lens_room-parts ds (Term.tree_each l) n = one_more ds l n (λ m. lens_room-parts ds l m)
   lens_room-parts ds (Term.part_of fs) n =
-      to_room (fields_room ds fs) 1 (fields_parts (fields_of ds fs)) (form_parts (partition (fields_of ds fs))) n
-      (fields_room-parts ds fs) (sym (parts-partition (fields_of ds fs)))
+      to_room (fields_room ds fs) 1 (fields_parts (expanded_fields ds fs)) (form_parts (partition (expanded_fields ds fs))) n
+      (fields_room-parts ds fs) (sym (parts-partition (expanded_fields ds fs)))
   lens_room-parts ds (Term.inv_of l) n = one_more ds l n (λ m. lens_room-parts ds l m)
   lens_room-parts ds (Term.named_lens x) n = refl
 
-  pub rows_room-parts : (ds : Definitions) (rows : Term.RowTrees) (n : ℕ) → rows_room ds rows n ≡ room_after (rows_parts (rows_of ds rows)) n
+  pub rows_room-parts : (ds : Definitions) (rows : Term.RowTrees) (n : ℕ) → rows_room ds rows n ≡ room_after (rows_parts (expanded_rows ds rows)) n
   rows_room-parts ds Term.no_rows n = no_parts n
   rows_room-parts ds (Term.both a b l rows) n =
       ap (option_and_then (λ left. rows_room ds rows left)) (one_more ds l n (λ m. lens_room-parts ds l m))
-      ∙ then_room (λ left. rows_room ds rows left) (form_parts (form_of ds l) + 1) (rows_parts (rows_of ds rows)) n (λ m. rows_room-parts ds rows m)
+      ∙ then_room (λ left. rows_room ds rows left) (form_parts (expanded_form ds l) + 1) (rows_parts (expanded_rows ds rows)) n (λ m. rows_room-parts ds rows m)
   rows_room-parts ds (Term.only_left a t rows) n =
       ap (option_and_then (λ left. rows_room ds rows left)) (one_type ds t n)
-      ∙ then_room (λ left. rows_room ds rows left) (type_parts (type_of ds t) + 1) (rows_parts (rows_of ds rows)) n (λ m. rows_room-parts ds rows m)
+      ∙ then_room (λ left. rows_room ds rows left) (type_parts (expanded_type ds t) + 1) (rows_parts (expanded_rows ds rows)) n (λ m. rows_room-parts ds rows m)
   rows_room-parts ds (Term.only_right b t rows) n =
       ap (option_and_then (λ left. rows_room ds rows left)) (one_type ds t n)
-      ∙ then_room (λ left. rows_room ds rows left) (type_parts (type_of ds t) + 1) (rows_parts (rows_of ds rows)) n (λ m. rows_room-parts ds rows m)
+      ∙ then_room (λ left. rows_room ds rows left) (type_parts (expanded_type ds t) + 1) (rows_parts (expanded_rows ds rows)) n (λ m. rows_room-parts ds rows m)
 
-  pub arms_room-parts : (ds : Definitions) (arms : Term.ArmTrees) (n : ℕ) → arms_room ds arms n ≡ room_after (arms_parts (arms_of ds arms)) n
+  pub arms_room-parts : (ds : Definitions) (arms : Term.ArmTrees) (n : ℕ) → arms_room ds arms n ≡ room_after (arms_parts (expanded_arms ds arms)) n
   arms_room-parts ds Term.no_arms n = no_parts n
   arms_room-parts ds (Term.more_arms a b l arms) n =
       ap (option_and_then (λ left. arms_room ds arms left)) (one_more ds l n (λ m. lens_room-parts ds l m))
-      ∙ then_room (λ left. arms_room ds arms left) (form_parts (form_of ds l) + 1) (arms_parts (arms_of ds arms)) n (λ m. arms_room-parts ds arms m)
+      ∙ then_room (λ left. arms_room ds arms left) (form_parts (expanded_form ds l) + 1) (arms_parts (expanded_arms ds arms)) n (λ m. arms_room-parts ds arms m)
 
 -- ---- a count that is done
 
@@ -158,16 +158,16 @@ count_step false parts room e h = let no : ⊥ = cc in absurd no
 count_some : (parts room : ℕ) → room_after parts most_parts ≡ Some room → (room ≤ most_parts) × IsCountOf parts (Some (most_parts - room))
 count_some parts room h = count_step (nat_le parts most_parts) parts room refl h
 
-pub type_count_none : (ds : Definitions) (t : Term.TypeTree) → type_room ds t most_parts ≡ None → IsCountOf (type_parts (type_of ds t)) None
-type_count_none ds t h = count_none (type_parts (type_of ds t)) (sym (type_room-parts ds t most_parts) ∙ h)
+pub type_count_none : (ds : Definitions) (t : Term.TypeTree) → type_room ds t most_parts ≡ None → IsCountOf (type_parts (expanded_type ds t)) None
+type_count_none ds t h = count_none (type_parts (expanded_type ds t)) (sym (type_room-parts ds t most_parts) ∙ h)
 
 pub type_count_some : (ds : Definitions) (t : Term.TypeTree) (room : ℕ) → type_room ds t most_parts ≡ Some room
-    → (room ≤ most_parts) × IsCountOf (type_parts (type_of ds t)) (Some (most_parts - room))
-type_count_some ds t room h = count_some (type_parts (type_of ds t)) room (sym (type_room-parts ds t most_parts) ∙ h)
+    → (room ≤ most_parts) × IsCountOf (type_parts (expanded_type ds t)) (Some (most_parts - room))
+type_count_some ds t room h = count_some (type_parts (expanded_type ds t)) room (sym (type_room-parts ds t most_parts) ∙ h)
 
-pub lens_count_none : (ds : Definitions) (l : Term.LensTree) → lens_room ds l most_parts ≡ None → IsCountOf (form_parts (form_of ds l)) None
-lens_count_none ds l h = count_none (form_parts (form_of ds l)) (sym (lens_room-parts ds l most_parts) ∙ h)
+pub lens_count_none : (ds : Definitions) (l : Term.LensTree) → lens_room ds l most_parts ≡ None → IsCountOf (form_parts (expanded_form ds l)) None
+lens_count_none ds l h = count_none (form_parts (expanded_form ds l)) (sym (lens_room-parts ds l most_parts) ∙ h)
 
 pub lens_count_some : (ds : Definitions) (l : Term.LensTree) (room : ℕ) → lens_room ds l most_parts ≡ Some room
-    → (room ≤ most_parts) × IsCountOf (form_parts (form_of ds l)) (Some (most_parts - room))
-lens_count_some ds l room h = count_some (form_parts (form_of ds l)) room (sym (lens_room-parts ds l most_parts) ∙ h)
+    → (room ≤ most_parts) × IsCountOf (form_parts (expanded_form ds l)) (Some (most_parts - room))
+lens_count_some ds l room h = count_some (form_parts (expanded_form ds l)) room (sym (lens_room-parts ds l most_parts) ∙ h)

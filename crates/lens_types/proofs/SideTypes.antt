@@ -1,7 +1,7 @@
 -- The type of a side, for both sides at once, is the left or the right type.
 use Rattle.std.proofs.Common.{◌≡◌, refl, ap}
 use Rattle.doc_values.specs.Types.{ty_rec, ty_alt, ty_list, ty_keyed, ty_ordered}
-use Rattle.lens_types.specs.Forms.{FormTree, form_id, form_bij, form_disc, form_then, form_rec, form_alt, form_each, form_keyed, form_ordered, form_part, form_inv, RowTrees, no_rows, both, only_left, only_right, ArmTrees, no_arms, more_arms, insert_field, left_type, right_type, left_fields, right_fields, left_tags, right_tags}
+use Rattle.lens_forms.specs.Forms.{FormTree, form_id, form_bij, form_disc, form_then, form_rec, form_alt, form_each, form_keyed, form_ordered, form_part, form_inv, RowTrees, no_rows, both, only_left, only_right, ArmTrees, no_arms, more_arms, insert_field, left_type, right_type, left_fields, right_fields, left_tags, right_tags}
 use Rattle.lens_types.specs.Walks.{type_on, fields_on, tags_on}
 use Rattle.lens_types.specs.declared.names.End.TheVariants.{Left, Right}
 

@@ -1,7 +1,7 @@
 use Rattle.std.proofs.Common.{◌≡◌, map, drop}
 use Rattle.std.specs.Prelude.{nat_le}
-use Rattle.lens_types.specs.Forms.{rows_of, row_tree, arms_of, arm_tree}
-use Rattle.lens_types.specs.Measures.{highest_row, highest_arm}
+use Rattle.lens_forms.specs.Forms.{rows_of, row_tree, arms_of, arm_tree}
+use Rattle.lens_forms.specs.Measures.{highest_row, highest_arm}
 use Rattle.lens_types.proofs.heights.+is_form_within.Given as goal
 
 abbrev pub invariant-are_rows_within-loop-row : goal.invariant-are_rows_within-loop-row

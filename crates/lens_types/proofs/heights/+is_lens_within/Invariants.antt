@@ -4,7 +4,7 @@ use Rattle.program_terms.specs.Terms.{rows_of as term_rows, arms_of as term_arms
 use Rattle.program_terms.specs.Views.{arm_tree, arms_tree, lens_tree, row_tree, rows_tree}
 use Rattle.lens_types.proofs.Sizes.{arms_size, lens_size, row_size, rows_size}
 use Rattle.lens_types.specs.Earlier.{rows_of, arms_of}
-use Rattle.lens_types.specs.Measures.{highest_row, highest_arm}
+use Rattle.lens_forms.specs.Measures.{highest_row, highest_arm}
 use Rattle.lens_types.specs.Walks.{earlier_tree}
 use Rattle.lens_types.proofs.heights.+is_lens_within.Given as goal
 

@@ -3,7 +3,7 @@ use Rattle.program_terms.specs.Terms.{rows_of as term_rows, arms_of as term_arms
 use Rattle.program_terms.specs.Views.{arm_tree, arms_tree, lens_tree, row_tree, rows_tree}
 use Rattle.lens_types.proofs.Sizes.{arms_size, lens_size, row_size, rows_size}
 use Rattle.lens_types.specs.Checking.{rows_failure, arms_failure}
-use Rattle.lens_types.specs.Forms.{row_list, arm_list, row_tree as form_row, arm_tree as form_arm}
+use Rattle.lens_forms.specs.Forms.{row_list, arm_list, row_tree as form_row, arm_tree as form_arm}
 use Rattle.lens_types.specs.Earlier.{rows_of, arms_of}
 use Rattle.lens_types.specs.Walks.{earlier_tree}
 use Rattle.lens_types.proofs.lenses.+checked_lens.Given as goal

@@ -1,5 +1,5 @@
 use Rattle.std.proofs.Common.{◌≤◌, length, ap, arith}
-use Rattle.lens_types.specs.declared.form.FormArms.{out-FormArms}
+use Rattle.lens_forms.specs.declared.form.FormArms.{out-FormArms}
 use Rattle.lens_types.proofs.Lists.{arms_tree-out, tags_done}
 use Rattle.lens_types.proofs.sides.+type_on.Goals as goal
 

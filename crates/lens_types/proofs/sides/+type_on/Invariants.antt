@@ -1,6 +1,6 @@
 use Rattle.std.proofs.Common.{◌≡◌, ◌++◌, map, drop}
 use Rattle.doc_values.specs.Types.{fields_of, field_list, field_tree}
-use Rattle.lens_types.specs.Forms.{rows_of, row_tree, arms_of, arm_tree}
+use Rattle.lens_forms.specs.Forms.{rows_of, row_tree, arms_of, arm_tree}
 use Rattle.lens_types.specs.Walks.{fields_on, tags_on}
 use Rattle.lens_types.proofs.sides.+type_on.Given as goal
 

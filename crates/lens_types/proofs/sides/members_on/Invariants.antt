@@ -1,5 +1,5 @@
 use Rattle.std.proofs.Common.{◌≡◌, ◌++◌, drop}
-use Rattle.lens_types.specs.Forms.{lefts, rights}
+use Rattle.lens_forms.specs.Forms.{lefts, rights}
 use Rattle.lens_types.specs.SidedNames.{pick}
 use Rattle.lens_types.proofs.sides.members_on.Given as goal
 

@@ -1,7 +1,7 @@
 use Rattle.std.proofs.Common.{◌≡◌, map}
 use Rattle.std.specs.Prelude.{vec_len}
 use Rattle.doc_values.specs.Types.{fields_of, field_tree}
-use Rattle.lens_types.specs.Forms.{sorted}
+use Rattle.lens_forms.specs.Forms.{sorted}
 use Rattle.lens_types.proofs.Inserts.{put_onto}
 use Rattle.lens_types.proofs.sides.sorted.Given as goal
 

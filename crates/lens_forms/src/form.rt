@@ -1,14 +1,14 @@
 //! Forms of lenses.
 
 ghost use Rattle.std.specs.Prelude.{◌≡◌, IfOk, map};
-ghost use Rattle.lens_types.specs.Forms.{form_tree, row_tree, rows_tree, rows_of, arm_tree, arms_tree, arms_of};
+ghost use Rattle.lens_forms.specs.Forms.{form_tree, row_tree, rows_tree, form_rows_of, arm_tree, arms_tree, form_arms_of};
 
 use doc_values::{Fields, Ty};
 use hold_shapes::{Name, Twin};
 use program_terms::Pairs;
 use std::alloc::{AllocError, Global};
 
-/// A lens with all names put in. Each list is in written order.
+/// A lens with all names expanded. Each list is in written order.
 ///
 /// Contracts see it as a `FormTree`. docs/TYPING.md has the two types of each form.
 #[derive(Drop)]
@@ -65,53 +65,53 @@ pub struct FormArms {
 }
 
 impl FormRows {
-    /// These rows, in this order. Takes no memory.
+    /// These rows, in this order. It does not allocate.
     pub fn from_vec(items: Vec<FormRow>) -> FormRows
-        ensures { rows_tree result ≡ rows_of (map row_tree items.items) }
+        ensures { rows_tree result ≡ form_rows_of (map row_tree items.items) }
     {
         FormRows { items }
     }
 
     /// The rows in order.
     pub fn as_slice(&self) -> &[FormRow]
-        ensures { rows_of (map row_tree result.now) ≡ rows_tree self.now }
+        ensures { form_rows_of (map row_tree result.now) ≡ rows_tree self.now }
     {
         self.items.as_slice()
     }
 
-    /// The rows in order. Takes no memory.
+    /// The rows in order. It does not allocate.
     pub fn into_vec(self) -> Vec<FormRow>
-        ensures { rows_of (map row_tree result.items) ≡ rows_tree self }
+        ensures { form_rows_of (map row_tree result.items) ≡ rows_tree self }
     {
         self.items
     }
 }
 
 impl FormArms {
-    /// These arms, in this order. Takes no memory.
+    /// These arms, in this order. It does not allocate.
     pub fn from_vec(items: Vec<(Name, Name, Form)>) -> FormArms
-        ensures { arms_tree result ≡ arms_of (map arm_tree items.items) }
+        ensures { arms_tree result ≡ form_arms_of (map arm_tree items.items) }
     {
         FormArms { items }
     }
 
     /// The arms in order.
     pub fn as_slice(&self) -> &[(Name, Name, Form)]
-        ensures { arms_of (map arm_tree result.now) ≡ arms_tree self.now }
+        ensures { form_arms_of (map arm_tree result.now) ≡ arms_tree self.now }
     {
         self.items.as_slice()
     }
 
-    /// The arms in order. Takes no memory.
+    /// The arms in order. It does not allocate.
     pub fn into_vec(self) -> Vec<(Name, Name, Form)>
-        ensures { arms_of (map arm_tree result.items) ≡ arms_tree self }
+        ensures { form_arms_of (map arm_tree result.items) ≡ arms_tree self }
     {
         self.items
     }
 }
 
 impl Twin for Form {
-    ghost use Rattle.lens_types.specs.Forms.{FormTree, form_tree};
+    ghost use Rattle.lens_forms.specs.Forms.{FormTree, form_tree};
 
     ghost Meaning = { FormTree };
 
@@ -123,7 +123,7 @@ impl Twin for Form {
 }
 
 impl Twin for FormRow {
-    ghost use Rattle.lens_types.specs.Forms.{RowTree, row_tree};
+    ghost use Rattle.lens_forms.specs.Forms.{RowTree, row_tree};
 
     ghost Meaning = { RowTree };
 
@@ -135,7 +135,7 @@ impl Twin for FormRow {
 }
 
 impl Twin for FormRows {
-    ghost use Rattle.lens_types.specs.Forms.{RowTrees, rows_tree};
+    ghost use Rattle.lens_forms.specs.Forms.{RowTrees, rows_tree};
 
     ghost Meaning = { RowTrees };
 
@@ -147,7 +147,7 @@ impl Twin for FormRows {
 }
 
 impl Twin for FormArms {
-    ghost use Rattle.lens_types.specs.Forms.{ArmTrees, arms_tree};
+    ghost use Rattle.lens_forms.specs.Forms.{ArmTrees, arms_tree};
 
     ghost Meaning = { ArmTrees };
 

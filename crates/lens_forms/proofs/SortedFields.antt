@@ -10,7 +10,7 @@ use Rattle.std.proofs.lemmas.Slice.Eq.{bytes_eq-Decides}
 use Rattle.hold_shapes.specs.Keys.{is_before, all_after, is_rising, has_name}
 use Rattle.doc_values.specs.Types.{TyTree, FieldTrees, no_fields, field, names_of, are_distinct, is_well_formed, are_well_formed}
 use Rattle.doc_values.proofs.Typed.{first_and, second_and}
-use Rattle.lens_types.specs.Forms.{insert_field, sorted}
+use Rattle.lens_forms.specs.Forms.{insert_field, sorted}
 
 pub both_true : (x y : Bool) → x ≡ true → y ≡ true → (x && y) ≡ true
 both_true x y h k = rw (h, k) refl

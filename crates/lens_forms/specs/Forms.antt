@@ -1,12 +1,12 @@
 -- Forms of lenses as plain trees, and the two types of a form.
-use Rattle.std.specs.Prelude.{◌≡◌, IsTrue, ℕ, ◌+◌, if◌then◌else◌, List, [], ◌∷◌}
+use Rattle.std.specs.Prelude.{ℕ, ◌+◌, if◌then◌else◌, List, [], ◌∷◌}
 use Rattle.hold_shapes.specs.Keys.{is_before}
-use Rattle.doc_values.specs.Types.{TyTree, ty_enum, ty_rec, ty_alt, ty_list, ty_keyed, ty_ordered, FieldTrees, no_fields, field, is_well_formed, ty_tree, fields_tree}
-use Rattle.lens_types.specs.declared.form.Form.{Form, fold-Form}
-use Rattle.lens_types.specs.declared.form.FormRow.{FormRow, fold-FormRow}
-use Rattle.lens_types.specs.declared.form.FormRows.{FormRows, fold-FormRows}
-use Rattle.lens_types.specs.declared.form.FormArms.{FormArms, fold-FormArms}
-use Rattle.lens_types.specs.declared.form.Form.TheOpen.{Form-F, FormRow-F, FormRows-F, FormArms-F}
+use Rattle.doc_values.specs.Types.{TyTree, ty_enum, ty_rec, ty_alt, ty_list, ty_keyed, ty_ordered, FieldTrees, no_fields, field, ty_tree, fields_tree}
+use Rattle.lens_forms.specs.declared.form.Form.{Form, fold-Form}
+use Rattle.lens_forms.specs.declared.form.FormRow.{FormRow, fold-FormRow}
+use Rattle.lens_forms.specs.declared.form.FormRows.{FormRows, fold-FormRows}
+use Rattle.lens_forms.specs.declared.form.FormArms.{FormArms, fold-FormArms}
+use Rattle.lens_forms.specs.declared.form.Form.TheOpen.{Form-F, FormRow-F, FormRows-F, FormArms-F}
 
 -- the forms in the order of the grammar; a bijection has its pairs, a partition its tags with their types; a row of a
 -- record is paired, or stands on one side alone; an arm of alternatives has its left tag, its right tag and its form
@@ -116,13 +116,6 @@ abbrev mutual
   right_tags no_arms = no_fields
   right_tags (more_arms a b l arms) = field b (right_type l) (right_tags arms)
 
--- these are the left and the right type of a form, and both keep the condition on types
-pub record AreTypesOf (form : FormTree) (left : TyTree) (right : TyTree) : Type 0 where
-  pub left_is : left ≡ left_type form
-  pub right_is : right ≡ right_type form
-  pub left_well_formed : IsTrue (is_well_formed left)
-  pub right_well_formed : IsTrue (is_well_formed right)
-
 -- ---- how contracts see a `Form`
 
 -- one row, its form already seen as its tree
@@ -138,9 +131,9 @@ with_row (row_left a t) rows = only_left a t rows
 with_row (row_right b t) rows = only_right b t rows
 
 -- a list of rows as rows, and back
-abbrev pub rows_of : List RowTree → RowTrees
-rows_of [] = no_rows
-rows_of (r ∷ rows) = with_row r (rows_of rows)
+abbrev pub form_rows_of : List RowTree → RowTrees
+form_rows_of [] = no_rows
+form_rows_of (r ∷ rows) = with_row r (form_rows_of rows)
 
 abbrev pub row_list : RowTrees → List RowTree
 row_list no_rows = []
@@ -149,9 +142,9 @@ row_list (only_left a t rows) = row_left a t ∷ row_list rows
 row_list (only_right b t rows) = row_right b t ∷ row_list rows
 
 -- a list of two tags with a form as arms, and back
-abbrev pub arms_of : List (List ℕ × List ℕ × FormTree) → ArmTrees
-arms_of [] = no_arms
-arms_of (a ∷ arms) = more_arms a.0 a.1 a.2 (arms_of arms)
+abbrev pub form_arms_of : List (List ℕ × List ℕ × FormTree) → ArmTrees
+form_arms_of [] = no_arms
+form_arms_of (a ∷ arms) = more_arms a.0 a.1 a.2 (form_arms_of arms)
 
 abbrev pub arm_list : ArmTrees → List (List ℕ × List ℕ × FormTree)
 arm_list no_arms = []
@@ -177,10 +170,10 @@ row_step (FormRow-F.OnlyLeft a t) = row_left a (ty_tree t)
 row_step (FormRow-F.OnlyRight b t) = row_right b (ty_tree t)
 
 abbrev pub rows_step : FormRows-F FormTree RowTree ArmTrees RowTrees → RowTrees
-rows_step rows = rows_of rows.items.items
+rows_step rows = form_rows_of rows.items.items
 
 abbrev pub arms_step : FormArms-F FormTree RowTree ArmTrees RowTrees → ArmTrees
-arms_step arms = arms_of arms.items.items
+arms_step arms = form_arms_of arms.items.items
 
 -- the tree of a `Form`, the tree of a `FormRow`, the trees of a `FormRows` and of a `FormArms`
 abbrev pub form_tree : Form → FormTree

@@ -1,8 +1,8 @@
 -- No list in a type or in a form is longer than the type or the form has parts.
 use Rattle.std.proofs.Common.{◌≤◌, length, arith}
 use Rattle.doc_values.specs.Types.{TyTree, ty_unit, ty_bool, ty_int, ty_text, ty_enum, ty_rec, ty_alt, ty_list, ty_keyed, ty_ordered, FieldTrees, no_fields, field, names_of}
-use Rattle.lens_types.specs.Forms.{FormTree, form_id, form_bij, form_disc, form_then, form_rec, form_alt, form_each, form_keyed, form_ordered, form_part, form_inv, RowTrees, no_rows, both, only_left, only_right, row_list, ArmTrees, no_arms, more_arms, arm_list}
-use Rattle.lens_types.specs.Measures.{type_parts, fields_parts, form_parts, rows_parts, arms_parts, longest_in_type, longest_in_fields, longest_list, longest_in_rows, longest_in_arms}
+use Rattle.lens_forms.specs.Forms.{FormTree, form_id, form_bij, form_disc, form_then, form_rec, form_alt, form_each, form_keyed, form_ordered, form_part, form_inv, RowTrees, no_rows, both, only_left, only_right, row_list, ArmTrees, no_arms, more_arms, arm_list}
+use Rattle.lens_forms.specs.Measures.{type_parts, fields_parts, form_parts, rows_parts, arms_parts, longest_in_type, longest_in_fields, longest_list, longest_in_rows, longest_in_arms}
 
 -- ---- lists of fields, of rows and of arms
 
