@@ -1,40 +1,15 @@
 -- Fields put at their places rise by bytes where their names are distinct, and keep what holds of each.
 use Rattle.std.proofs.Common.{◌≡◌, ℕ, Bool, true, false, ◌&&◌, ◌||◌, List, ◌∷◌, Ordering, refl, ap, sym, ◌∙◌}
 use Rattle.std.specs.Prelude.{bytes_eq, not, if◌then◌else◌}
-use Rattle.std.specs.declared.cmp.Ordering.TheVariants.{Less, Equal, Greater}
-use Rattle.std.specs.Ordering.{nat_cmp, is_lt, ordering_reverse}
-use Rattle.std.specs.Cmp.Lexicographic.{slice_cmp}
-use Rattle.std.specs.FinMap.{slice_cmp-IsAntisymmetric, nat_cmp-IsAntisymmetric}
-use Rattle.std.proofs.lemmas.Cmp.{nat_list_cmp_total}
-use Rattle.std.proofs.lemmas.Slice.Eq.{bytes_eq-Decides}
-use Rattle.hold_shapes.specs.Keys.{is_before, all_after, is_rising, has_name}
+use Rattle.texts.specs.Keys.{is_before, all_after, is_rising, has_name}
 use Rattle.doc_values.specs.Types.{TyTree, FieldTrees, no_fields, field, names_of, are_distinct, is_well_formed, are_well_formed}
-use Rattle.doc_values.proofs.Typed.{first_and, second_and}
+use Rattle.texts.proofs.Conjunction.{both as both_true, first as first_and, second as second_and}
+use Rattle.texts.proofs.KeyOrder.{before-total}
 use Rattle.lens_forms.specs.Forms.{insert_field, sorted}
-
-pub both_true : (x y : Bool) → x ≡ true → y ≡ true → (x && y) ≡ true
-both_true x y h k = rw (h, k) refl
 
 not_first : (x y : Bool) → (x || y) ≡ false → (x ≡ false) × (y ≡ false)
 not_first true y h = cc
 not_first false y h = (refl, h)
-
--- ---- of two names that differ, one is before the other
-
-not_less : (r s : Ordering) → is_lt r ≡ false → (r ≡ Equal → ⊥) → r ≡ ordering_reverse s → is_lt s ≡ true
-not_less r Less h n e = refl
-not_less r Equal h n e = absurd (n e)
-not_less r Greater h n e = let k : is_lt r ≡ true = ap is_lt e in cc
-
-before-total : (k m : List ℕ) → is_before m k ≡ false → bytes_eq k m ≡ false → is_before k m ≡ true
-before-total k m h n =
-    not_less (slice_cmp nat_cmp m k) (slice_cmp nat_cmp k m) h
-    (λ (e : slice_cmp nat_cmp m k ≡ Equal).
-    let same : m ≡ k = slice_cmp-IsAntisymmetric nat_cmp-IsAntisymmetric m k e in
-    let yes : bytes_eq k m ≡ true = (bytes_eq-Decides k m).1 (sym same) in
-    let no : true ≡ false = sym yes ∙ n in
-    cc)
-    (nat_list_cmp_total.antisymm m k)
 
 -- ---- rising
 

@@ -1,13 +1,13 @@
 -- The test of typing, typing, and the types of what is typed.
 use Rattle.std.proofs.Common.{◌≡◌, ℕ, true, ◌&&◌, List, [], ◌∷◌, refl, ap, ap₂, sym, ◌∙◌, subst}
 use Rattle.std.specs.Prelude.{not}
-use Rattle.hold_shapes.specs.Keys.{is_rising, has_name}
+use Rattle.texts.specs.Keys.{is_rising, has_name}
 use Rattle.doc_values.specs.Types.{TyTree, ty_rec, ty_alt, ty_list, ty_keyed, ty_ordered, FieldTrees, no_fields, field, names_of, are_distinct, are_choices, is_well_formed, are_well_formed, is_same_ty}
 use Rattle.doc_values.proofs.SameTypes.{is_same_ty-equal, is_same_ty-refl}
-use Rattle.doc_values.proofs.Typed.{first_and, second_and}
+use Rattle.texts.proofs.Conjunction.{both as both_true, first as first_and, second as second_and}
 use Rattle.lens_forms.specs.Forms.{FormTree, form_id, form_bij, form_disc, form_then, form_rec, form_alt, form_each, form_keyed, form_ordered, form_part, form_inv, RowTrees, no_rows, both, only_left, only_right, ArmTrees, no_arms, more_arms, lefts, rights, insert_field, sorted, lists_of, left_type, right_type, left_fields, right_fields, left_tags, right_tags}
 use Rattle.lens_forms.specs.Typing.{IsTyped, AreTypedRows, AreTypedArms, is_typed, are_typed_rows, are_typed_arms, left_names, right_names, left_arms, right_arms}
-use Rattle.lens_forms.proofs.SortedFields.{both_true, inserted, inserted_names, sorted-rising, sorted-well_formed, well_formed-insert}
+use Rattle.lens_forms.proofs.SortedFields.{inserted, inserted_names, sorted-rising, sorted-well_formed, well_formed-insert}
 
 -- ---- what the test says, typing says of the two types
 

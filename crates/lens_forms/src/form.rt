@@ -4,7 +4,7 @@ ghost use Rattle.std.specs.Prelude.{◌≡◌, IfOk, map};
 ghost use Rattle.lens_forms.specs.Forms.{form_tree, row_tree, rows_tree, form_rows_of, arm_tree, arms_tree, form_arms_of};
 
 use doc_values::{Fields, Ty};
-use hold_shapes::{Name, Twin};
+use texts::{Name, Twin};
 use program_terms::Pairs;
 use std::alloc::{AllocError, Global};
 
