@@ -1,8 +1,9 @@
+pub mod CappedHeights
 pub mod DefinitionSteps
 pub mod Entries
 mod Examples
-pub mod Heights
 pub mod Lists
+pub mod NodeHeights
 pub mod Nodes
 pub mod PartCounts
 pub mod RepeatedNames

@@ -1,6 +1,6 @@
 -- An element takes fewer steps than the list that has it.
-use Rattle.std.proofs.Common.{◌≡◌, ℕ, zero, suc, ◌+◌, ◌<◌, List, [], ◌∷◌, length, map, get_or, arith}
-use Rattle.program_terms.specs.Terms.{fields_of, RowTree, row_both, row_left, row_right, RowTrees, with_row, rows_of, arms_of}
+use Rattle.std.proofs.Common.{◌≡◌, ℕ, zero, suc, ◌+◌, ◌<◌, ◌≤◌, List, [], ◌∷◌, length, map, get_or, arith}
+use Rattle.program_terms.specs.Terms.{fields_of, LensTree, id_of, bij_of, disc_of, then_of, rec_lens, alt_lens, each_of, keyed_each, tree_each, part_of, inv_of, named_lens, RowTree, row_both, row_left, row_right, RowTrees, with_row, rows_of, arms_of}
 use Rattle.program_terms.specs.Views.{type_tree, field_tree, lens_tree, row_tree, arm_tree}
 use Rattle.program_terms.specs.declared.types.TyExpr.{TyExpr}
 use Rattle.program_terms.specs.declared.lens.Lens.{Lens}
@@ -37,3 +37,19 @@ arm_smaller (b ∷ arms) zero a h e = rw e (omega arith)
 arm_smaller (b ∷ arms) (suc i) a h e =
     let rest : lens_size (lens_tree a.2) < arms_size (arms_of (map arm_tree arms)) = arm_smaller arms i a (omega arith) e in
     omega arith
+
+-- ---- a walk over a lens takes at least one step
+
+pub lens_size-positive : (l : LensTree) → 1 ≤ lens_size l
+lens_size-positive (id_of t) = omega arith
+lens_size-positive (bij_of ps) = omega arith
+lens_size-positive (disc_of t u) = omega arith
+lens_size-positive (then_of l k) = omega arith
+lens_size-positive (rec_lens rows) = omega arith
+lens_size-positive (alt_lens arms) = omega arith
+lens_size-positive (each_of l) = omega arith
+lens_size-positive (keyed_each l) = omega arith
+lens_size-positive (tree_each l) = omega arith
+lens_size-positive (part_of fs) = omega arith
+lens_size-positive (inv_of l) = omega arith
+lens_size-positive (named_lens n) = omega arith

@@ -12,7 +12,7 @@ use Rattle.lens_types.specs.Earlier.{KnownTree, known_type, known_lens, Definiti
 use Rattle.lens_types.specs.Checking.{Failure, repeated_field, repeated_tag, repeated_member, too_large, too_deep, or_else, type_failure, fields_failure, lens_failure, rows_failure, arms_failure, middle_failure, sides_failure, written_height, size_failure, height_failure, def_failure}
 use Rattle.lens_types.specs.Repeats.{first_repeat, member_names, field_names, pair_names, row_names, arm_names}
 use Rattle.lens_types.proofs.RepeatedNames.{members_distinct, fields_distinct, lefts_distinct, rights_distinct, left_names_distinct, right_names_distinct, left_arms_distinct, right_arms_distinct}
-use Rattle.lens_forms.proofs.SortedFields.{both_true, sorted-rising, sorted-well_formed}
+use Rattle.lens_forms.proofs.SortedFields.{sorted-rising, sorted-well_formed}
 
 -- ---- no failure
 
@@ -212,22 +212,3 @@ pub def_sound : (ds : Definitions) → are_sound ds ≡ true → (d : Term.DefTr
 def_sound ds s (Term.type_def t) h =
     type_formed ds s t (none_both (height_failure (height (expanded_type ds t))) (type_failure t) (none_both (size_failure _) _ h).1).1
 def_sound ds s (Term.lens_def l) h = lens_sound ds s l h
-
--- ---- a list from a place on
-
-value_is : {A : Type 0} (x y : A) → Some x ≡ Some y → x ≡ y
-value_is x y h = ap (λ o. unwrap_or o x) h
-
-pub drop_at : {A B : Type 0} (xs : List (A × B)) (i : ℕ) (a : A) (b : B) → option_map (λ x. x.0) (slice_get xs i) ≡ Some a
-    → option_map (λ x. x.1) (slice_get xs i) ≡ Some b → drop i xs ≡ (a, b) ∷ drop (suc i) xs
-drop_at [] zero a b h k = cc
-drop_at [] (suc i) a b h k = cc
-drop_at (x ∷ xs) zero a b h k = ap₂ (λ c d. (c, d) ∷ xs) (value_is x.0 a h) (value_is x.1 b k)
-drop_at (x ∷ xs) (suc i) a b h k = drop_at xs i a b h k
-
--- the same where only what the name is defined as is known
-pub drop_def : {A B : Type 0} (xs : List (A × B)) (i : ℕ) (b : B) → option_map (λ x. x.1) (slice_get xs i) ≡ Some b → (a : A) × (drop i xs ≡ (a, b) ∷ drop (suc i) xs)
-drop_def [] zero b k = let no : ⊥ = cc in absurd no
-drop_def [] (suc i) b k = let no : ⊥ = cc in absurd no
-drop_def (x ∷ xs) zero b k = (x.0, ap (λ d. (x.0, d) ∷ xs) (value_is x.1 b k))
-drop_def (x ∷ xs) (suc i) b k = drop_def xs i b k

@@ -57,23 +57,23 @@ module _ {X : Type 0} (lt : X → X → Bool) (o : IsStrictWeakOrder lt) where
   ties_itself : (x : X) → ties lt x x ≡ true
   ties_itself x = let h = irreflexive (lt x x) x refl in ties_of x x h h
 
+  head_step : (b : Bool) (x y z : X) (zs rest : List X) → cond b (z ∷ zs) zs ≡ y ∷ rest → lt z x ≡ false → (zs ≡ y ∷ rest → lt y x ≡ false) → lt y x ≡ false
+  head_step true x y z zs rest e h f = let same : z ≡ y = cc in subst (λ (w : X). lt w x ≡ false) same h
+  head_step false x y z zs rest e h f = f e
+
   -- the first of the elements that pass is not less than what none is less than
   head_above : (p : X → Bool) (x y : X) (zs rest : List X) → filter p zs ≡ y ∷ rest → Above x zs → lt y x ≡ false
   head_above p x y [] rest e a = cc
-  head_above p x y (z ∷ zs) rest e a = by (p z) e
-    where
-      by : (b : Bool) → cond b (z ∷ filter p zs) (filter p zs) ≡ y ∷ rest → lt y x ≡ false
-      by true e = let same : z ≡ y = cc in subst (λ (w : X). lt w x ≡ false) same a.0
-      by false e = head_above p x y zs rest e a.1
+  head_above p x y (z ∷ zs) rest e a = head_step (p z) x y z (filter p zs) rest e a.0 (λ f. head_above p x y zs rest f a.1)
 
   -- ---- two lists in order in which ties stand in one order are the same
 
   first_passes : (p : X → Bool) (x : X) (xs : List X) → p x ≡ true → filter p (x ∷ xs) ≡ x ∷ filter p xs
   first_passes p x xs h = ap (λ b. cond b (x ∷ filter p xs) (filter p xs)) h
 
-  tail_same : (b : Bool) (x y : X) (as bs : List X) → x ≡ y → cond b (x ∷ as) as ≡ cond b (y ∷ bs) bs → as ≡ bs
-  tail_same true x y as bs e h = cc
-  tail_same false x y as bs e h = h
+  tail_same : (b : Bool) (x y : X) (us vs : List X) → x ≡ y → cond b (x ∷ us) us ≡ cond b (y ∷ vs) vs → us ≡ vs
+  tail_same true x y us vs e h = cc
+  tail_same false x y us vs e h = h
 
   same_list : (xs ys : List X) → Up xs → Up ys → ((z : X) → filter (ties lt z) xs ≡ filter (ties lt z) ys) → xs ≡ ys
   same_list [] [] u v e = refl

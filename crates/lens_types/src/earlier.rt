@@ -25,7 +25,13 @@ impl<'a> Model for Earlier<'a> {
     ghost use Rattle.lens_types.specs.declared.known.Known.{Known};
     ghost use Rattle.lens_types.specs.Entries.{are_measured};
 
+    ghost use Rattle.std.specs.Coded.{codes};
+    ghost use Rattle.program_terms.specs.contracts.types.TyExpr as type_code;
+    ghost use Rattle.program_terms.specs.contracts.lens.Lens as lens_code;
+
     ghost Value = { List (List ℕ × Known) };
+
+    ghost coded = { Prim.hlevel (codes, type_code.the_row.coded, lens_code.the_row.coded) };
 
     ghost view = { λ e. e.entries.entries };
 
@@ -48,12 +54,12 @@ impl<'a> Earlier<'a> {
     }
 
     // Adds a definition behind the others, none of which has its name.
-    pub(crate) fn add(&mut self, name: Name, known: Known<'a>) -> Result<(), AllocError>
+    pub(crate) fn add(&mut self, name: Name, meaning: Known<'a>) -> Result<(), AllocError>
         requires is_new { known (earlier_tree self.old) name ≡ None }
-        requires measured { IsTrue (is_measured (earlier_tree self.old) known) }
-        ensures { OnOk result (earlier_tree self.new ≡ earlier_tree self.old ++ (name, stands_for (earlier_tree self.old) known) ∷ []) }
+        requires measured { IsTrue (is_measured (earlier_tree self.old) meaning) }
+        ensures { OnOk result (earlier_tree self.new ≡ earlier_tree self.old ++ (name, stands_for (earlier_tree self.old) meaning.entry) ∷ []) }
     {
-        self.entries.insert(name, known)?;
+        self.entries.insert(name, meaning)?;
         Ok(())
     }
 

@@ -15,7 +15,7 @@ use program_terms::{Arms, Lens, Row, Rows, TyExpr, TyFields};
 
 // The height of a type.
 #[cycle(type_height)]
-#[tactic(auto, using(crate::proofs::Heights::type_height_rules))]
+#[tactic(auto, using(crate::proofs::CappedHeights::type_height_rules))]
 pub(crate) fn type_height(earlier: &Earlier<'_>, ty: &TyExpr) -> u32
     ensures { result ≡ capped (height (expanded_type (earlier_tree earlier.now) (type_tree ty.now))) }
 {
@@ -36,7 +36,7 @@ pub(crate) fn type_height(earlier: &Earlier<'_>, ty: &TyExpr) -> u32
 
 // The greatest height of the type of a field, or 0.
 #[cycle(type_height)]
-#[tactic(auto, using(crate::proofs::Heights::type_height_rules))]
+#[tactic(auto, using(crate::proofs::CappedHeights::type_height_rules))]
 pub(crate) fn fields_height(earlier: &Earlier<'_>, fields: &TyFields) -> u32
     ensures { result ≡ capped (highest (expanded_fields (earlier_tree earlier.now) (fields_tree fields.now))) }
 {
@@ -49,7 +49,7 @@ pub(crate) fn fields_height(earlier: &Earlier<'_>, fields: &TyFields) -> u32
 
 // The height of a lens.
 #[cycle(lens_height)]
-#[tactic(auto, using(crate::proofs::Heights::lens_height_rules))]
+#[tactic(auto, using(crate::proofs::CappedHeights::lens_height_rules))]
 pub(crate) fn lens_height(earlier: &Earlier<'_>, lens: &Lens) -> u32
     ensures { result ≡ capped (form_height (expanded_form (earlier_tree earlier.now) (lens_tree lens.now))) }
 {
@@ -73,7 +73,7 @@ pub(crate) fn lens_height(earlier: &Earlier<'_>, lens: &Lens) -> u32
 }
 
 #[cycle(lens_height)]
-#[tactic(auto, using(crate::proofs::Heights::lens_height_rules))]
+#[tactic(auto, using(crate::proofs::CappedHeights::lens_height_rules))]
 fn rows_height(earlier: &Earlier<'_>, rows: &Rows) -> u32
     ensures { result ≡ capped (highest_row (expanded_rows (earlier_tree earlier.now) (rows_tree rows.now))) }
 {
@@ -86,7 +86,7 @@ fn rows_height(earlier: &Earlier<'_>, rows: &Rows) -> u32
 
 // The height of the lens of a row, or 0.
 #[cycle(lens_height)]
-#[tactic(auto, using(crate::proofs::Heights::lens_height_rules))]
+#[tactic(auto, using(crate::proofs::CappedHeights::lens_height_rules))]
 fn row_height(earlier: &Earlier<'_>, row: &Row) -> u32
     ensures { result ≡ capped (row_height (earlier_tree earlier.now) (row_tree row.now)) }
 {
@@ -98,7 +98,7 @@ fn row_height(earlier: &Earlier<'_>, row: &Row) -> u32
 }
 
 #[cycle(lens_height)]
-#[tactic(auto, using(crate::proofs::Heights::lens_height_rules))]
+#[tactic(auto, using(crate::proofs::CappedHeights::lens_height_rules))]
 fn arms_height(earlier: &Earlier<'_>, arms: &Arms) -> u32
     ensures { result ≡ capped (highest_arm (expanded_arms (earlier_tree earlier.now) (arms_tree arms.now))) }
 {
@@ -111,7 +111,7 @@ fn arms_height(earlier: &Earlier<'_>, arms: &Arms) -> u32
 
 // The greatest height of a type that is written in a lens, or 0.
 #[cycle(written_height)]
-#[tactic(auto, using(crate::proofs::Heights::written_rules))]
+#[tactic(auto, using(crate::proofs::CappedHeights::written_rules))]
 pub(crate) fn written_height(earlier: &Earlier<'_>, lens: &Lens) -> u32
     ensures { result ≡ capped (written_height (earlier_tree earlier.now) (lens_tree lens.now)) }
 {
@@ -138,7 +138,7 @@ pub(crate) fn written_height(earlier: &Earlier<'_>, lens: &Lens) -> u32
 }
 
 #[cycle(written_height)]
-#[tactic(auto, using(crate::proofs::Heights::written_rules))]
+#[tactic(auto, using(crate::proofs::CappedHeights::written_rules))]
 fn rows_written(earlier: &Earlier<'_>, rows: &Rows) -> u32
     ensures { result ≡ capped (rows_written (earlier_tree earlier.now) (rows_tree rows.now)) }
 {
@@ -150,7 +150,7 @@ fn rows_written(earlier: &Earlier<'_>, rows: &Rows) -> u32
 }
 
 #[cycle(written_height)]
-#[tactic(auto, using(crate::proofs::Heights::written_rules))]
+#[tactic(auto, using(crate::proofs::CappedHeights::written_rules))]
 fn row_written(earlier: &Earlier<'_>, row: &Row) -> u32
     ensures { result ≡ capped (row_written (earlier_tree earlier.now) (row_tree row.now)) }
 {
@@ -162,7 +162,7 @@ fn row_written(earlier: &Earlier<'_>, row: &Row) -> u32
 }
 
 #[cycle(written_height)]
-#[tactic(auto, using(crate::proofs::Heights::written_rules))]
+#[tactic(auto, using(crate::proofs::CappedHeights::written_rules))]
 fn arms_written(earlier: &Earlier<'_>, arms: &Arms) -> u32
     ensures { result ≡ capped (arms_written (earlier_tree earlier.now) (arms_tree arms.now)) }
 {

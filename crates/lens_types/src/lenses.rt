@@ -1,11 +1,11 @@
 //! The first failure among the nodes of a lens, and the heights of its two types.
 
 ghost use Rattle.std.specs.Prelude.{◌≡◌, ◌+◌, MatchResult, None};
-ghost use Rattle.lens_forms.specs.Forms.{FormTree};
-ghost use Rattle.program_terms.specs.Terms.{id_of, disc_of, part_of};
+ghost use Rattle.lens_forms.specs.Forms.{FormTree, form_then, form_each, form_inv, form_rec, RowTrees, ArmTrees};
+ghost use Rattle.program_terms.specs.Terms.{id_of, disc_of, then_of, part_of};
 ghost use Rattle.program_terms.specs.Views.{lens_tree, rows_tree, row_tree, arms_tree, fields_tree, type_tree};
 ghost use Rattle.lens_types.specs.Checking.{lens_failure, rows_failure, arms_failure, middle_failure, sides_failure};
-ghost use Rattle.lens_types.specs.Earlier.{expanded_form, expanded_rows, expanded_arms, bijection};
+ghost use Rattle.lens_types.specs.Earlier.{expanded_form, expanded_rows, expanded_arms, alternatives, bijection};
 ghost use Rattle.lens_types.specs.Faults.{IsFaultOf};
 ghost use Rattle.lens_types.specs.Entries.{earlier_tree};
 ghost use Rattle.lens_types.specs.Heights.{capped, HasHeights, HasRowHeights, HasArmHeights};
@@ -41,35 +41,54 @@ pub(crate) fn checked_lens(
         Lens::Id(ty) => checked_identity(alloc, earlier, ty),
         Lens::Bij(pairs) => checked_bijection(alloc, pairs),
         Lens::Disc(left, right) => checked_disc(alloc, earlier, left, right),
-        Lens::Then(first, second) => {
-            let left = checked_lens(alloc, earlier, first)?.left;
-            let right = checked_lens(alloc, earlier, second)?.right;
-            same_middle(alloc, earlier, first, second)?;
-            low_sides(SideHeights { left, right })
-        }
+        Lens::Then(first, second) => checked_composition(alloc, earlier, first, second),
         Lens::Rec(rows) => {
             let highest = checked_rows(alloc, earlier, rows)?;
             distinct_fields(alloc, &row_names(alloc, rows.as_slice())?)?;
-            low_sides(container_heights(highest))
+            low_record(highest)
         }
         Lens::Alt(arms) => {
             let highest = checked_arms(alloc, earlier, arms)?;
             distinct_tags(alloc, &arm_names(alloc, arms.as_slice())?)?;
-            low_sides(container_heights(highest))
+            low_alternatives(highest)
         }
-        Lens::Each(inner) => low_sides(container_heights(checked_lens(alloc, earlier, inner)?)),
-        Lens::Keyed(inner) => low_sides(container_heights(checked_lens(alloc, earlier, inner)?)),
-        Lens::Tree(inner) => low_sides(container_heights(checked_lens(alloc, earlier, inner)?)),
+        Lens::Each(inner) => {
+            let part = checked_lens(alloc, earlier, inner)?;
+            low_container(part)
+        }
+        Lens::Keyed(inner) => {
+            let part = checked_lens(alloc, earlier, inner)?;
+            low_container(part)
+        }
+        Lens::Tree(inner) => {
+            let part = checked_lens(alloc, earlier, inner)?;
+            low_container(part)
+        }
         Lens::Part(fields) => checked_partition(alloc, earlier, fields),
         Lens::Inv(inner) => {
             let sides = checked_lens(alloc, earlier, inner)?;
-            low_sides(SideHeights {
-                left: sides.right,
-                right: sides.left,
-            })
+            low_inverse(sides)
         }
         Lens::Named(name) => Ok(earlier.side_heights(name)),
     }
+}
+
+#[cycle(checked_lens)]
+fn checked_composition(
+    alloc: Global,
+    earlier: &Earlier<'_>,
+    first: &Lens,
+    second: &Lens,
+) -> Result<SideHeights, TypeFault>
+    ensures { MatchResult result
+        (λ h. (lens_failure (earlier_tree earlier.now) (then_of (lens_tree first.now) (lens_tree second.now)) ≡ None)
+        × HasHeights (expanded_form (earlier_tree earlier.now) (then_of (lens_tree first.now) (lens_tree second.now))) h)
+        (λ fault. IsFaultOf (lens_failure (earlier_tree earlier.now) (then_of (lens_tree first.now) (lens_tree second.now))) fault) }
+{
+    let before = checked_lens(alloc, earlier, first)?;
+    let after = checked_lens(alloc, earlier, second)?;
+    same_middle(alloc, earlier, first, second)?;
+    low_composition(before, after)
 }
 
 // The greatest heights of the fields of both sides, or the first failure among the rows.
@@ -223,6 +242,47 @@ fn same_middle(
         return Err(TypeFault::MiddleDiffers { left, right });
     }
     Ok(())
+}
+
+// The heights of a composition of two forms of these heights, where no side is too high.
+fn low_composition(before: SideHeights, after: SideHeights) -> Result<SideHeights, TypeFault>
+    ensures { (l : FormTree) (k : FormTree) → HasHeights l before → HasHeights k after → IsLowForm (form_then l k) result }
+{
+    low_sides(SideHeights {
+        left: before.left,
+        right: after.right,
+    })
+}
+
+// The heights of the inverse of a form of these heights, where no side is too high.
+fn low_inverse(sides: SideHeights) -> Result<SideHeights, TypeFault>
+    ensures { (form : FormTree) → HasHeights form sides → IsLowForm (form_inv form) result }
+{
+    low_sides(SideHeights {
+        left: sides.right,
+        right: sides.left,
+    })
+}
+
+// The heights of a container of forms of these heights, where no side is too high.
+fn low_container(part: SideHeights) -> Result<SideHeights, TypeFault>
+    ensures { (form : FormTree) → HasHeights form part → IsLowForm (form_each form) result }
+{
+    low_sides(container_heights(part))
+}
+
+// The heights of a record whose highest fields are so high, where no side is too high.
+fn low_record(highest: SideHeights) -> Result<SideHeights, TypeFault>
+    ensures { (rows : RowTrees) → HasRowHeights rows highest → IsLowForm (form_rec rows) result }
+{
+    low_sides(container_heights(highest))
+}
+
+// The heights of alternatives whose highest contents are so high, where no side is too high.
+fn low_alternatives(highest: SideHeights) -> Result<SideHeights, TypeFault>
+    ensures { (arms : ArmTrees) → HasArmHeights arms highest → IsLowForm (alternatives arms) result }
+{
+    low_sides(container_heights(highest))
 }
 
 // The heights of what contains a part of these heights.

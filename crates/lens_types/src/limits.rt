@@ -1,7 +1,7 @@
 //! The limits of definitions, and heights up to one more than the limit.
 
 ghost use Rattle.std.specs.Prelude.{◌≡◌, ◌+◌, max};
-ghost use Rattle.lens_types.specs.Entries.{capped};
+ghost use Rattle.lens_types.specs.Heights.{capped};
 
 /// The most parts that a definition may have, names expanded.
 pub const MOST_PARTS: usize = 4096;

@@ -3,9 +3,10 @@
 ghost use Rattle.std.specs.Prelude.{◌≡◌, IfOk, MatchResult, None, option_map, map};
 ghost use Rattle.program_terms.specs.Terms.{fields_of, rows_of, arms_of};
 ghost use Rattle.program_terms.specs.Views.{field_tree, row_tree, arm_tree};
-ghost use Rattle.lens_types.specs.Repeats.{sided, first_repeat, member_names, field_names, pair_names, row_names, arm_names};
+ghost use Rattle.lens_types.specs.Repeats.{is_same_side, sided, first_repeat, member_names, field_names, pair_names, row_names, arm_names};
 ghost use Rattle.lens_types.specs.Checking.{repeated_field, repeated_tag, repeated_member};
 ghost use Rattle.lens_types.specs.Faults.{IsFaultOf};
+ghost use Rattle.texts.specs.declared.side.Side;
 
 use crate::fault::TypeFault;
 use indexmap::IndexSet;
@@ -64,12 +65,20 @@ fn first_repeat<'a>(
 {
     let mut known = IndexSet::new(alloc);
     for name in names {
-        let is_left = name.0 == Side::Left;
-        if !known.insert((is_left, name.1.as_str()))? {
+        if !known.insert((is_left(name.0), name.1.as_str()))? {
             return Ok(Some(name.1));
         }
     }
     Ok(None)
+}
+
+fn is_left(side: Side) -> bool
+    ensures { result ≡ is_same_side side Side.Left }
+{
+    match side {
+        Side::Left => true,
+        Side::Right => false,
+    }
 }
 
 pub(crate) fn member_names(

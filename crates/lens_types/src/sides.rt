@@ -1,9 +1,9 @@
 //! The type of a side of a lens, all names expanded.
 
 ghost use Rattle.std.specs.Prelude.{◌≡◌, IfOk, map, take, option_map};
-ghost use Rattle.doc_values.specs.Types.{ty_tree, fields_tree as ty_fields, fields_of as ty_fields_of, field_tree as ty_field};
+ghost use Rattle.doc_values.specs.Types.{ty_tree, ty_list, ty_alt, ty_rec, fields_of as ty_fields_of, field_tree as ty_field};
 ghost use Rattle.program_terms.specs.Views.{lens_tree, row_tree, rows_tree, arms_tree};
-ghost use Rattle.lens_forms.specs.Forms.{lists_of};
+ghost use Rattle.lens_forms.specs.Forms.{sorted, lists_of};
 ghost use Rattle.lens_types.specs.Earlier.{expanded_form, expanded_rows, expanded_arms, alternatives_type, bijection, partition};
 ghost use Rattle.lens_types.specs.Entries.{earlier_tree};
 ghost use Rattle.lens_types.specs.SideTypes.{pick, type_on, fields_on, tags_on, field_on, members_on};
@@ -173,22 +173,37 @@ fn side_members(alloc: Global, side: Side, pairs: &[(Name, Name)]) -> Result<Nam
 fn partition_side(alloc: Global, side: Side, tags: Vec<(Name, Ty)>) -> Result<Ty, AllocError>
     ensures { IfOk result (λ t. ty_tree t ≡ type_on side (partition (ty_fields_of (map ty_field tags.items)))) }
 {
-    if tags.is_empty() {
+    if tags.as_slice().is_empty() {
         return Ok(Ty::Rec(Fields::from_vec(tags)));
     }
     match side {
-        Side::Left => Ok(Ty::List(Box::new(alloc, Ty::Alt(Fields::from_vec(tags)))?)),
-        Side::Right => Ok(Ty::Rec(Fields::from_vec(sorted(lists_of(alloc, tags)?)?))),
+        Side::Left => list_of_alternatives(alloc, tags),
+        Side::Right => record_of_lists(alloc, tags),
     }
 }
 
+fn list_of_alternatives(alloc: Global, tags: Vec<(Name, Ty)>) -> Result<Ty, AllocError>
+    ensures { IfOk result (λ t. ty_tree t ≡ ty_list (ty_alt (ty_fields_of (map ty_field tags.items)))) }
+{
+    Ok(Ty::List(Box::new(alloc, Ty::Alt(Fields::from_vec(tags)))?))
+}
+
+fn record_of_lists(alloc: Global, tags: Vec<(Name, Ty)>) -> Result<Ty, AllocError>
+    ensures { IfOk result (λ t. ty_tree t ≡ ty_rec (sorted (lists_of (ty_fields_of (map ty_field tags.items))))) }
+{
+    let lists = lists_of(alloc, tags.as_slice())?;
+    Ok(Ty::Rec(Fields::from_vec(sorted(lists)?)))
+}
+
 // The same names, each with a list of its type.
-fn lists_of(alloc: Global, fields: Vec<(Name, Ty)>) -> Result<Vec<(Name, Ty)>, AllocError>
-    ensures { IfOk result (λ fs. ty_fields_of (map ty_field fs.items) ≡ lists_of (ty_fields_of (map ty_field fields.items))) }
+fn lists_of(alloc: Global, fields: &[(Name, Ty)]) -> Result<Vec<(Name, Ty)>, AllocError>
+    ensures { IfOk result (λ fs. ty_fields_of (map ty_field fs.items) ≡ lists_of (ty_fields_of (map ty_field fields.now))) }
 {
     let mut lists = Vec::new(alloc);
-    for (name, ty) in fields {
-        lists.push((name, Ty::List(Box::new(alloc, ty)?)))?;
+    for field in fields {
+        let name = field.0.twin(alloc)?;
+        let list = Ty::List(Box::new(alloc, field.1.twin(alloc)?)?);
+        lists.push((name, list))?;
     }
     Ok(lists)
 }
