@@ -13,7 +13,7 @@ use Rattle.program_terms.specs.Views.{type_tree, lens_tree}
 use Rattle.texts.specs.Keys.{has_name}
 use Rattle.texts.proofs.Conjunction.{both as both_true, first as first_and, second as second_and}
 use Rattle.lens_types.specs.Earlier.{KnownTree, Definitions, known, known_of, type_of_known, form_of_known, type_named, form_named, expanded_type, expanded_form}
-use Rattle.lens_types.specs.Entries.{scope_of, term_of, stands_for, with_entries, earlier_tree, is_measured, is_measured_type, is_measured_lens, are_measured, term_size, weight, weight_before, IsFound, IsTypeFound, IsLensFound}
+use Rattle.lens_types.specs.Entries.{scope_of, term_of, stands_for, with_entries, earlier_tree, is_measured, is_measured_type, is_measured_lens, are_measured, term_size, weight, weight_before, IsFound, IsTypeFound, IsLensFound, IsKnownType, IsKnownLens}
 use Rattle.lens_types.specs.Heights.{capped, HasHeights}
 use Rattle.lens_types.specs.declared.known.Known.{Known}
 use Rattle.lens_types.specs.declared.known.Known.TheVariants.{OfType, OfLens}
@@ -320,3 +320,46 @@ no_type es scope name h all = ap (λ ds. type_named ds name) (sym (all_of es sco
 pub no_lens : (es : List Entry) (scope : ℕ) (name : List ℕ) → form_named (take scope (earlier_tree es)) name ≡ form_id ty_unit → scope ≡ length es
     → form_named (earlier_tree es) name ≡ form_id ty_unit
 no_lens es scope name h all = ap (λ ds. form_named ds name) (sym (all_of es scope all)) ∙ h
+
+-- ---- what a definition stands for: an alias stands for what its name does
+
+pub type_alias : (es : List Entry) (scope : ℕ) (name : List ℕ) (k : KnownType) → IsTypeFound es scope name k → scope ≡ length es
+    → IsKnownType (earlier_tree es) (Term.named name) k
+type_alias es scope name k h all = record { stands = h.stands ∙ ap (λ ds. type_named ds name) (all_of es scope all); measured = h.measured; }
+
+pub type_itself : (es : List Entry) (k : KnownType) → k.scope ≡ length es → is_measured_type (earlier_tree es) k ≡ true
+    → IsKnownType (earlier_tree es) (type_tree k.ty.now) k
+type_itself es k all h = record { stands = ap (λ ds. expanded_type ds (type_tree k.ty.now)) (all_of es k.scope all); measured = h; }
+
+pub lens_alias : (es : List Entry) (scope : ℕ) (name : List ℕ) (k : KnownLens) → IsLensFound es scope name k → scope ≡ length es
+    → IsKnownLens (earlier_tree es) (Term.named_lens name) k
+lens_alias es scope name k h all = record { stands = h.stands ∙ ap (λ ds. form_named ds name) (all_of es scope all); measured = h.measured; }
+
+pub lens_itself : (es : List Entry) (k : KnownLens) → k.scope ≡ length es → is_measured_lens (earlier_tree es) k ≡ true
+    → IsKnownLens (earlier_tree es) (lens_tree k.lens.now) k
+lens_itself es k all h = record { stands = ap (λ ds. expanded_form ds (lens_tree k.lens.now)) (all_of es k.scope all); measured = h; }
+
+-- ---- the measures of a new entry are those that were counted
+
+equal_test : (a b : ℕ) → a ≡ b → nat_eq a b ≡ true
+equal_test a b h = grind (arith, nat_tests)
+
+scope_test : (es : List Entry) (scope : ℕ) → scope ≡ length es → nat_le scope (length (earlier_tree es)) ≡ true
+scope_test es scope h = within_test scope (length (earlier_tree es)) (omega (arith, h, length_tree es))
+
+pub measured_type : (es : List Entry) (k : KnownType) → k.scope ≡ length es → k.parts ≡ type_parts (expanded_type (earlier_tree es) (type_tree k.ty.now))
+    → k.height ≡ capped (height (expanded_type (earlier_tree es) (type_tree k.ty.now))) → is_measured_type (earlier_tree es) k ≡ true
+measured_type es k all p h =
+    let same = sym (ap (λ ds. expanded_type ds (type_tree k.ty.now)) (all_of es k.scope all)) in
+    both_true _ _ (scope_test es k.scope all)
+    (both_true _ _ (equal_test k.parts _ (p ∙ ap type_parts same)) (equal_test k.height _ (h ∙ ap (λ t. capped (height t)) same)))
+
+pub measured_lens : (es : List Entry) (k : KnownLens) → k.scope ≡ length es → k.parts ≡ form_parts (expanded_form (earlier_tree es) (lens_tree k.lens.now))
+    → k.height ≡ capped (form_height (expanded_form (earlier_tree es) (lens_tree k.lens.now)))
+    → HasHeights (expanded_form (earlier_tree es) (lens_tree k.lens.now)) k.sides → is_measured_lens (earlier_tree es) k ≡ true
+measured_lens es k all p h s =
+    let same = sym (ap (λ ds. expanded_form ds (lens_tree k.lens.now)) (all_of es k.scope all)) in
+    both_true _ _ (scope_test es k.scope all)
+    (both_true _ _ (equal_test k.parts _ (p ∙ ap form_parts same))
+    (both_true _ _ (equal_test k.height _ (h ∙ ap (λ f. capped (form_height f)) same))
+    (both_true _ _ (equal_test k.sides.left _ (s.0 ∙ ap (λ f. capped (height (left_type f))) same)) (equal_test k.sides.right _ (s.1 ∙ ap (λ f. capped (height (right_type f))) same)))))

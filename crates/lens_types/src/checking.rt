@@ -101,7 +101,7 @@ fn defined_type<'a>(
 fn without_type_alias<'a>(earlier: &Earlier<'a>, known: KnownType<'a>) -> KnownType<'a>
     requires scope { known.scope ≡ length earlier.now }
     requires measured { IsTrue (is_measured_type (earlier_tree earlier.now) known) }
-    ensures { IsKnownType (earlier_tree earlier.now) (type_tree known.ty.now) result }
+    ensures { IsKnownType (earlier_tree earlier.now) (type_tree known.entry.ty.now) result }
 {
     if let TyExpr::Named(name) = known.ty
         && let Some(other) = earlier.type_named(name, known.scope)
@@ -147,7 +147,7 @@ fn defined_lens<'a>(
 fn without_lens_alias<'a>(earlier: &Earlier<'a>, known: KnownLens<'a>) -> KnownLens<'a>
     requires scope { known.scope ≡ length earlier.now }
     requires measured { IsTrue (is_measured_lens (earlier_tree earlier.now) known) }
-    ensures { IsKnownLens (earlier_tree earlier.now) (lens_tree known.lens.now) result }
+    ensures { IsKnownLens (earlier_tree earlier.now) (lens_tree known.entry.lens.now) result }
 {
     if let Lens::Named(name) = known.lens
         && let Some(other) = earlier.lens_named(name, known.scope)
