@@ -4,7 +4,7 @@ ghost use Rattle.std.specs.Prelude.{◌≡◌, ◌≤◌, IfOk, OnErr, length};
 ghost use Rattle.std.specs.List.{list_all};
 ghost use Rattle.edit_journal.specs.Lines.{line_of, is_space, is_blank};
 
-use lens_io::Bytes;
+use texts::Bytes;
 use std::alloc::{AllocError, Global};
 
 /// The largest number of bytes in the text of a line, without its LF.
