@@ -1,4 +1,4 @@
--- The plan of a shape edit: the new shape and where each of its places comes from, or the cause for which there is none. docs/EDITS.md has the same in words.
+-- The plan of a shape edit: the new shape and where each of its places comes from, or the cause for which there is none. docs/EDITS.md states the rules in words.
 use Rattle.std.specs.Prelude.{ℕ, ◌+◌, ◌-◌, Bool, true, false, not, ◌&&◌, ◌||◌, if◌then◌else◌, List, [], ◌∷◌, ◌++◌, length, map, take, drop, replicate, slice_index, slice_range, Option, Some, None, Result, Ok, Err, nat_eq, nat_lt, nat_le, bytes_eq}
 use Rattle.std.specs.List.{insert, remove, range_with_len}
 use Rattle.hold_shapes.specs.declared.shape.Shape.{Shape}
@@ -145,7 +145,7 @@ shift ds i j p =
 abbrev pub moved_depths : ℕ → ℕ → List ℕ → List ℕ
 moved_depths a r part = map (λ d. d - a + (r + 1)) part
 
--- no number is above n
+-- each number is at most n
 abbrev pub all_at_most : ℕ → List ℕ → Bool
 all_at_most n [] = true
 all_at_most n (d ∷ ds) = nat_le d n && all_at_most n ds
