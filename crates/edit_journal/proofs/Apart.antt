@@ -6,7 +6,7 @@ use Rattle.hold_shapes.specs.declared.edit.Place.TheVariants as places
 use Rattle.hold_shapes.specs.declared.edit.ShapeEdit.{ShapeEdit}
 use Rattle.hold_shapes.specs.declared.edit.ShapeEdit.TheVariants as edits
 use Rattle.value_json.specs.Numbers.{int_tree, count_items}
-use Rattle.edit_module.specs.Words.{PrimitiveTree, set, add, splice, at, stay, switch, modify, shape, WordTree, done, then}
+use Rattle.edit_module.specs.Words.{PrimitiveTree, set, add, splice, at, stay, switch, modify, shape, WordTree, no_primitives, more_primitives}
 use Rattle.edit_module.specs.declared.atom.Atom.{Atom}
 use Rattle.edit_module.specs.declared.atom.Atom.TheVariants.{Truth, Number, Letters}
 use Rattle.texts.specs.declared.side.Side.{Side}
@@ -120,11 +120,11 @@ abbrev mutual
 
   word_back : Data → WordTree
   word_back (array ds) = primitives_back ds
-  word_back _ = done
+  word_back _ = no_primitives
 
   primitives_back : Items → WordTree
-  primitives_back no_items = done
-  primitives_back (item d ds) = then (primitive_back d) (primitives_back ds)
+  primitives_back no_items = no_primitives
+  primitives_back (item d ds) = more_primitives (primitive_back d) (primitives_back ds)
 
 shape_same : (e : ShapeEdit) → primitive_back (tree_of_shape_edit e) ≡ shape e
 shape_same (edits.Ins n) = refl
@@ -151,8 +151,8 @@ mutual
   primitive_same (shape e) = shape_same e
 
   word_same : (w : WordTree) → primitives_back (items_of_word w) ≡ w
-  word_same done = refl
-  word_same (then p w) = ap₂ then (primitive_same p) (word_same w)
+  word_same no_primitives = refl
+  word_same (more_primitives p w) = ap₂ more_primitives (primitive_same p) (word_same w)
 
 -- ---- entries
 

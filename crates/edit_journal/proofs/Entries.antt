@@ -6,7 +6,7 @@ use Rattle.value_json.proofs.Facts.{left, right, equal_bytes, if_then}
 use Rattle.edit_module.specs.Words.{WordTree}
 use Rattle.texts.specs.declared.side.Side.{Side}
 use Rattle.texts.specs.declared.side.Side.TheVariants.{Left, Right}
-use Rattle.edit_json.specs.WordJson.{tree_of_word, word_of, counts_fit, numbers_fit}
+use Rattle.edit_json.specs.WordJson.{tree_of_word, word_of_tree, counts_fit, numbers_fit}
 use Rattle.edit_json.specs.Depths.{word_depth}
 use Rattle.edit_json.proofs.Again.{again as word_reads}
 use Rattle.edit_json.proofs.Takes.{takes as word_taken}
@@ -63,9 +63,9 @@ with_taken side (Some w) e h =
     let second : w ≡ e.1 = cc in
     (first, ap Some second)
 
-parts_of_entry : (o : Option (Side × Data)) (e : Side × WordTree) → entry_of_parts o ≡ Ok e → (p : Side × Data) × (o ≡ Some p) × (p.0 ≡ e.0) × (word_of p.1 ≡ Some e.1)
+parts_of_entry : (o : Option (Side × Data)) (e : Side × WordTree) → entry_of_parts o ≡ Ok e → (p : Side × Data) × (o ≡ Some p) × (p.0 ≡ e.0) × (word_of_tree p.1 ≡ Some e.1)
 parts_of_entry None e h = cc
-parts_of_entry (Some p) e h = let t = with_taken p.0 (word_of p.1) e h in (p, refl, t.0, t.1)
+parts_of_entry (Some p) e h = let t = with_taken p.0 (word_of_tree p.1) e h in (p, refl, t.0, t.1)
 
 pub taken : (d : Data) (e : Side × WordTree) → entry_of_tree d ≡ Ok e → (counts_fit e.1 ≡ true) × (numbers_fit e.1 ≡ true) × (tree_of_entry e ≡ d)
 taken d e h =

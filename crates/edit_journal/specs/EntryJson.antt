@@ -6,7 +6,7 @@ use Rattle.serde_json.specs.Read.{read}
 use Rattle.edit_module.specs.Words.{WordTree}
 use Rattle.texts.specs.declared.side.Side.{Side}
 use Rattle.texts.specs.declared.side.Side.TheVariants.{Left, Right}
-use Rattle.edit_json.specs.WordJson.{tree_of_word, word_of}
+use Rattle.edit_json.specs.WordJson.{tree_of_word, word_of_tree}
 use Rattle.edit_journal.specs.declared.fault.EntryFault.{EntryFault}
 use Rattle.edit_journal.specs.declared.fault.EntryFault.TheVariants.{LineTooLong, NotJson, NotAnEntry, NotAnEdit}
 use Rattle.edit_journal.specs.declared.line.Line.{Line}
@@ -42,7 +42,7 @@ entry_with side (Some w) = Ok (side, w)
 entry_with side None = Err NotAnEdit
 
 abbrev pub entry_of_parts : Option (Side × Data) → Result (Side × WordTree) EntryFault
-entry_of_parts (Some p) = entry_with p.0 (word_of p.1)
+entry_of_parts (Some p) = entry_with p.0 (word_of_tree p.1)
 entry_of_parts None = Err NotAnEntry
 
 -- the entry of a tree

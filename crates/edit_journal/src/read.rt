@@ -3,7 +3,7 @@
 ghost use Rattle.std.specs.Prelude.{◌≡◌, true, IfOk, option_map, ok_or};
 ghost use Rattle.serde_json.specs.View.{view};
 ghost use Rattle.edit_module.specs.Views.{word_tree, entry_tree};
-ghost use Rattle.edit_json.specs.WordJson.{word_of, counts_fit};
+ghost use Rattle.edit_json.specs.WordJson.{word_of_tree, counts_fit};
 ghost use Rattle.edit_journal.specs.EntryJson.{side_of, parts_of, tree_of_line, entry_of_tree, entry_of_text, entry_of_line};
 ghost use Rattle.edit_journal.specs.Reading.{Gives};
 ghost use Rattle.edit_journal.specs.declared.fault.EntryFault;
@@ -100,7 +100,7 @@ fn read_side(text: &str) -> Option<Side>
 
 // The word of an edit.
 fn read_edit(alloc: Global, edit: &Value) -> Result<Word, EntryFault>
-    ensures word { Gives word_tree result (ok_or (word_of (view edit.now)) EntryFault.NotAnEdit) }
+    ensures word { Gives word_tree result (ok_or (word_of_tree (view edit.now)) EntryFault.NotAnEdit) }
     ensures fits { IfOk result (λ word. counts_fit (word_tree word) ≡ true) }
 {
     match read_word(alloc, edit) {

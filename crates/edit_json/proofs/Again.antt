@@ -8,12 +8,12 @@ use Rattle.hold_shapes.specs.declared.edit.ShapeEdit.{ShapeEdit}
 use Rattle.hold_shapes.specs.declared.edit.ShapeEdit.TheVariants as edits
 use Rattle.edit_module.specs.declared.atom.Atom.{Atom}
 use Rattle.edit_module.specs.declared.atom.Atom.TheVariants as atoms
-use Rattle.edit_module.specs.Words.{PrimitiveTree, set, add, splice, at, stay, switch, modify, shape, WordTree, done, then}
+use Rattle.edit_module.specs.Words.{PrimitiveTree, set, add, splice, at, stay, switch, modify, shape, WordTree, no_primitives, more_primitives}
 use Rattle.value_json.specs.Numbers.{fits_i64, counts_of, int_tree, count_tree, count_items}
 use Rattle.value_json.proofs.Facts.{left, right}
 use Rattle.value_json.proofs.Again.{int_again}
 use Rattle.edit_json.specs.Values.{tree_of_atom, tree_of_place, atom_of, place_of, item_count_of, fits_u64, all_fit_u64, atom_fits, place_fits}
-use Rattle.edit_json.specs.WordJson.{tree_of_shape_edit, tree_of_primitive, items_of_word, tree_of_word, primitive_of, word_of, word_of_items, edit_counts_fit, primitive_counts_fit, counts_fit, edit_numbers_fit, primitive_numbers_fit, numbers_fit}
+use Rattle.edit_json.specs.WordJson.{tree_of_shape_edit, tree_of_primitive, items_of_word, tree_of_word, primitive_of, word_of_tree, word_of_items, edit_counts_fit, primitive_counts_fit, counts_fit, edit_numbers_fit, primitive_numbers_fit, numbers_fit}
 
 counts_again : (ns : List ℕ) → all_fit_u64 ns ≡ true → counts_of (count_items ns) ≡ Some ns
 counts_again [] h = refl
@@ -69,17 +69,17 @@ mutual
   primitive_again (shape e) h k = shape_again e h k
 
   items_again : (w : WordTree) → counts_fit w ≡ true → numbers_fit w ≡ true → word_of_items (items_of_word w) ≡ Some w
-  items_again done h k = refl
-  items_again (then p w) h k =
+  items_again no_primitives h k = refl
+  items_again (more_primitives p w) h k =
       rw (
         primitive_again p (left (primitive_counts_fit p) (counts_fit w) h) (left (primitive_numbers_fit p) (numbers_fit w) k),
         items_again w (right (primitive_counts_fit p) (counts_fit w) h) (right (primitive_numbers_fit p) (numbers_fit w) k),
       ) refl
 
-pub again : (w : WordTree) → counts_fit w ≡ true → numbers_fit w ≡ true → word_of (tree_of_word w) ≡ Some w
+pub again : (w : WordTree) → counts_fit w ≡ true → numbers_fit w ≡ true → word_of_tree (tree_of_word w) ≡ Some w
 unfolding primitive_of
 again w h k = items_again w h k
 
 -- two words with the same tree are what it is read back as
 pub apart : (v w : WordTree) → counts_fit v ≡ true → numbers_fit v ≡ true → counts_fit w ≡ true → numbers_fit w ≡ true → tree_of_word v ≡ tree_of_word w → v ≡ w
-apart v w h k i j same = let both : Some v ≡ Some w = sym (again v h k) ∙ ap word_of same ∙ again w i j in cc
+apart v w h k i j same = let both : Some v ≡ Some w = sym (again v h k) ∙ ap word_of_tree same ∙ again w i j in cc

@@ -16,7 +16,7 @@ use Rattle.edit_json.specs.declared.kind.Kind.TheVariants.{Splice, At, Stay, Swi
 use Rattle.edit_json.specs.Parts.{two_items, three_items}
 use Rattle.edit_json.specs.Kinds.{kind_of}
 use Rattle.edit_json.specs.Values.{place_of, numbers_of}
-use Rattle.edit_json.specs.WordJson.{leaf_of, primitive_of, content_of, word_of, word_of_items}
+use Rattle.edit_json.specs.WordJson.{leaf_of, primitive_of, content_of, word_of_tree, word_of_items}
 
 -- ---- primitives without an inner word
 
@@ -66,7 +66,7 @@ pub ruleset leaf_rules = (splice_of, move_of, rename_of, shift_of, hang_of)
 
 abbrev pub at_by : Option (Data × Data) → Option PrimitiveTree
 at_by None = None
-at_by (Some p) = option_and_then (λ f. option_map (at f) (word_of p.1)) (as_str p.0)
+at_by (Some p) = option_and_then (λ f. option_map (at f) (word_of_tree p.1)) (as_str p.0)
 
 pub at_of : (d : Data) → content_of At d ≡ at_by (two_items d)
 unfolding primitive_of
@@ -75,7 +75,7 @@ at_of d = refl
 
 abbrev pub stay_by : Option (Data × Data) → Option PrimitiveTree
 stay_by None = None
-stay_by (Some p) = option_and_then (λ t. option_map (stay t) (word_of p.1)) (as_str p.0)
+stay_by (Some p) = option_and_then (λ t. option_map (stay t) (word_of_tree p.1)) (as_str p.0)
 
 pub stay_of : (d : Data) → content_of Stay d ≡ stay_by (two_items d)
 unfolding primitive_of
@@ -84,7 +84,7 @@ stay_of d = refl
 
 abbrev pub switch_by : Option (Data × Data × Data) → Option PrimitiveTree
 switch_by None = None
-switch_by (Some p) = option_and_then (λ a. option_and_then (λ b. option_map (switch a b) (word_of p.2)) (as_str p.1)) (as_str p.0)
+switch_by (Some p) = option_and_then (λ a. option_and_then (λ b. option_map (switch a b) (word_of_tree p.2)) (as_str p.1)) (as_str p.0)
 
 pub switch_of : (d : Data) → content_of Switch d ≡ switch_by (three_items d)
 unfolding primitive_of
@@ -93,7 +93,7 @@ switch_of d = refl
 
 abbrev pub mod_by : Option (Data × Data) → Option PrimitiveTree
 mod_by None = None
-mod_by (Some p) = option_and_then (λ q. option_map (modify q) (word_of p.1)) (place_of p.0)
+mod_by (Some p) = option_and_then (λ q. option_map (modify q) (word_of_tree p.1)) (place_of p.0)
 
 pub mod_of : (d : Data) → content_of Mod d ≡ mod_by (two_items d)
 unfolding primitive_of
@@ -123,7 +123,7 @@ unfolding primitive_of
 primitive_of_member (object (member k d no_members)) = refl
 primitive_of_member d = refl
 
-pub word_of_array : (d : Data) → word_of d ≡ option_and_then word_of_items (as_array d)
+pub word_of_array : (d : Data) → word_of_tree d ≡ option_and_then word_of_items (as_array d)
 unfolding primitive_of
 word_of_array (array ds) = refl
 word_of_array d = refl

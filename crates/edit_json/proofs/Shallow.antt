@@ -8,7 +8,7 @@ use Rattle.edit_module.specs.declared.atom.Atom.{Atom}
 use Rattle.edit_module.specs.declared.atom.Atom.TheVariants as atoms
 use Rattle.serde_json.specs.Data.{depth, items_depth}
 use Rattle.serde_json.specs.Written.{has_float, items_have_float}
-use Rattle.edit_module.specs.Words.{PrimitiveTree, set, add, splice, at, stay, switch, modify, shape, WordTree, done, then}
+use Rattle.edit_module.specs.Words.{PrimitiveTree, set, add, splice, at, stay, switch, modify, shape, WordTree, no_primitives, more_primitives}
 use Rattle.value_json.specs.Numbers.{int_tree, count_items}
 use Rattle.edit_json.specs.Values.{tree_of_atom, tree_of_place}
 use Rattle.edit_json.specs.WordJson.{tree_of_shape_edit, tree_of_primitive, items_of_word, tree_of_word}
@@ -59,8 +59,8 @@ mutual
   primitive_whole (shape e) = shape_whole e
 
   items_whole : (w : WordTree) → items_have_float (items_of_word w) ≡ false
-  items_whole done = refl
-  items_whole (then p w) = rw (primitive_whole p, items_whole w) refl
+  items_whole no_primitives = refl
+  items_whole (more_primitives p w) = rw (primitive_whole p, items_whole w) refl
 
 pub whole : (w : WordTree) → has_float (tree_of_word w) ≡ false
 whole w = items_whole w
@@ -111,8 +111,8 @@ mutual
   primitive_low (shape e) = shape_low e
 
   items_low : (w : WordTree) → items_depth (items_of_word w) ≤ 3 * word_depth w
-  items_low done = omega arith
-  items_low (then p w) = omega (arith, primitive_low p, items_low w)
+  items_low no_primitives = omega arith
+  items_low (more_primitives p w) = omega (arith, primitive_low p, items_low w)
 
 pub shallow : (w : WordTree) → depth (tree_of_word w) ≤ 3 * word_depth w + 1
 shallow w = omega (arith, items_low w)

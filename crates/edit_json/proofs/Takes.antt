@@ -9,7 +9,7 @@ use Rattle.edit_module.specs.declared.atom.Atom.{Atom}
 use Rattle.edit_module.specs.declared.atom.Atom.TheVariants as atoms
 use Rattle.serde_json.specs.Data.{Num, unsigned, negative, float, Data, boolean, number, string, array, object, Items, no_items, item, no_members, member}
 use Rattle.serde_json.specs.Find.{as_str}
-use Rattle.edit_module.specs.Words.{PrimitiveTree, set, add, splice, at, stay, switch, modify, shape, WordTree, done, then}
+use Rattle.edit_module.specs.Words.{PrimitiveTree, set, add, splice, at, stay, switch, modify, shape, WordTree, no_primitives, more_primitives}
 use Rattle.value_json.specs.Numbers.{fits_i64, int_in, int_of, count_in, count_of, counts_of, int_tree, count_tree}
 use Rattle.value_json.proofs.Facts.{both, equal_bytes, bind_some, map_some, if_some}
 use Rattle.value_json.proofs.Takes.{int_takes, count_takes, counts_take}
@@ -17,7 +17,7 @@ use Rattle.edit_json.specs.declared.kind.Kind.{Kind}
 use Rattle.edit_json.specs.declared.kind.Kind.TheVariants.{Set, Add, Splice, At, Stay, Switch, Mod, Ins, Del, Move, Reorder, Put, Drop, Rename, Graft, Prune, Shift, Hang}
 use Rattle.edit_json.specs.Kinds.{kind_of}
 use Rattle.edit_json.specs.Values.{tree_of_counts, tree_of_atom, tree_of_place, atom_of, numbers_of, place_of, if_count, item_count_of, fits_u64, all_fit_u64, atom_fits, place_fits}
-use Rattle.edit_json.specs.WordJson.{one, tree_of_primitive, items_of_word, tree_of_word, leaf_of, primitive_of, content_of, word_of, word_of_items, primitive_counts_fit, counts_fit, primitive_numbers_fit, numbers_fit}
+use Rattle.edit_json.specs.WordJson.{one, tree_of_primitive, items_of_word, tree_of_word, leaf_of, primitive_of, content_of, word_of_tree, word_of_items, primitive_counts_fit, counts_fit, primitive_numbers_fit, numbers_fit}
 
 -- ---- values
 
@@ -219,38 +219,38 @@ mutual
 
   content_takes : (kind : Kind) (d : Data) (p : PrimitiveTree) → content_of kind d ≡ Some p → IsRead (one (name_of kind) d) p
   content_takes At (array (item f (item w no_items))) p h =
-      let b = bind_some (λ f. option_map (at f) (word_of w)) (as_str f) p h in
-      let m = map_some (at b.0) (word_of w) p b.2 in
+      let b = bind_some (λ f. option_map (at f) (word_of_tree w)) (as_str f) p h in
+      let m = map_some (at b.0) (word_of_tree w) p b.2 in
       let r = word_takes w m.0 m.1 in
       read_as _ _ p m.2 (record { tree = rw (text_takes f b.0 b.1, r.0) refl; counts = r.1; numbers = r.2 })
   content_takes Stay (array (item t (item w no_items))) p h =
-      let b = bind_some (λ t. option_map (stay t) (word_of w)) (as_str t) p h in
-      let m = map_some (stay b.0) (word_of w) p b.2 in
+      let b = bind_some (λ t. option_map (stay t) (word_of_tree w)) (as_str t) p h in
+      let m = map_some (stay b.0) (word_of_tree w) p b.2 in
       let r = word_takes w m.0 m.1 in
       read_as _ _ p m.2 (record { tree = rw (text_takes t b.0 b.1, r.0) refl; counts = r.1; numbers = r.2 })
   content_takes Switch (array (item a (item b (item w no_items)))) p h =
-      let first = bind_some (λ a. option_and_then (λ b. option_map (switch a b) (word_of w)) (as_str b)) (as_str a) p h in
-      let second = bind_some (λ b. option_map (switch first.0 b) (word_of w)) (as_str b) p first.2 in
-      let m = map_some (switch first.0 second.0) (word_of w) p second.2 in
+      let first = bind_some (λ a. option_and_then (λ b. option_map (switch a b) (word_of_tree w)) (as_str b)) (as_str a) p h in
+      let second = bind_some (λ b. option_map (switch first.0 b) (word_of_tree w)) (as_str b) p first.2 in
+      let m = map_some (switch first.0 second.0) (word_of_tree w) p second.2 in
       let r = word_takes w m.0 m.1 in
       read_as _ _ p m.2 (record { tree = rw (text_takes a first.0 first.1, text_takes b second.0 second.1, r.0) refl; counts = r.1; numbers = r.2 })
   content_takes Mod (array (item q (item w no_items))) p h =
-      let b = bind_some (λ q. option_map (modify q) (word_of w)) (place_of q) p h in
-      let m = map_some (modify b.0) (word_of w) p b.2 in
+      let b = bind_some (λ q. option_map (modify q) (word_of_tree w)) (place_of q) p h in
+      let m = map_some (modify b.0) (word_of_tree w) p b.2 in
       let place = place_takes q b.0 b.1 in
       let r = word_takes w m.0 m.1 in
       read_as _ _ p m.2 (record { tree = rw (place.0, r.0) refl; counts = r.1; numbers = both (place_fits b.0) (numbers_fit m.0) place.1 r.2 })
   content_takes kind d p h = leaf_takes kind d p h
 
-  word_takes : (d : Data) (w : WordTree) → word_of d ≡ Some w → (tree_of_word w ≡ d) × (counts_fit w ≡ true) × (numbers_fit w ≡ true)
+  word_takes : (d : Data) (w : WordTree) → word_of_tree d ≡ Some w → (tree_of_word w ≡ d) × (counts_fit w ≡ true) × (numbers_fit w ≡ true)
   word_takes (array ds) w h = let r = items_take ds w h in (ap array r.tree, r.counts, r.numbers)
   word_takes d w h = cc
 
   items_take : (ds : Items) (w : WordTree) → word_of_items ds ≡ Some w → WordRead ds w
-  items_take no_items w h = let e : done ≡ w = cc in rw (← e) (record { tree = refl; counts = refl; numbers = refl })
+  items_take no_items w h = let e : no_primitives ≡ w = cc in rw (← e) (record { tree = refl; counts = refl; numbers = refl })
   items_take (item d ds) w h =
-      let b = bind_some (λ p. option_map (then p) (word_of_items ds)) (primitive_of d) w h in
-      let m = map_some (then b.0) (word_of_items ds) w b.2 in
+      let b = bind_some (λ p. option_map (more_primitives p) (word_of_items ds)) (primitive_of d) w h in
+      let m = map_some (more_primitives b.0) (word_of_items ds) w b.2 in
       let r = primitive_takes d b.0 b.1 in
       let s = items_take ds m.0 m.1 in
       rw (← m.2) (record {
@@ -260,5 +260,5 @@ mutual
       })
 
 -- a word that is read from a tree
-pub takes : (d : Data) (w : WordTree) → word_of d ≡ Some w → (tree_of_word w ≡ d) × (counts_fit w ≡ true) × (numbers_fit w ≡ true)
+pub takes : (d : Data) (w : WordTree) → word_of_tree d ≡ Some w → (tree_of_word w ≡ d) × (counts_fit w ≡ true) × (numbers_fit w ≡ true)
 takes = word_takes

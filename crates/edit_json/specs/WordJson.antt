@@ -5,7 +5,7 @@ use Rattle.serde_json.specs.Find.{as_str}
 use Rattle.hold_shapes.specs.Plans.{is_count}
 use Rattle.hold_shapes.specs.declared.edit.ShapeEdit.{ShapeEdit}
 use Rattle.hold_shapes.specs.declared.edit.ShapeEdit.TheVariants as edits
-use Rattle.edit_module.specs.Words.{PrimitiveTree, set, add, splice, at, stay, switch, modify, shape, WordTree, done, then}
+use Rattle.edit_module.specs.Words.{PrimitiveTree, set, add, splice, at, stay, switch, modify, shape, WordTree, no_primitives, more_primitives}
 use Rattle.value_json.specs.Numbers.{fits_i64, int_of, count_of, int_tree, count_tree}
 use Rattle.edit_json.specs.Kinds.{kind_of}
 use Rattle.edit_json.specs.Values.{tree_of_counts, tree_of_atom, tree_of_place, atom_of, numbers_of, place_of, item_count_of, fits_u64, all_fit_u64, atom_fits, place_fits}
@@ -52,8 +52,8 @@ abbrev mutual
 
   -- an item for each primitive: its tree
   pub items_of_word : WordTree → Items
-  items_of_word done = no_items
-  items_of_word (then p w) = item (tree_of_primitive p) (items_of_word w)
+  items_of_word no_primitives = no_items
+  items_of_word (more_primitives p w) = item (tree_of_primitive p) (items_of_word w)
 
 -- a word: an array of its primitives
 abbrev pub tree_of_word : WordTree → Data
@@ -100,8 +100,8 @@ unfoldable mutual
   word_of _ = None
 
   pub word_of_items : Items → Option WordTree
-  word_of_items no_items = Some done
-  word_of_items (item d ds) = option_and_then (λ p. option_map (then p) (word_of_items ds)) (primitive_of d)
+  word_of_items no_items = Some no_primitives
+  word_of_items (item d ds) = option_and_then (λ p. option_map (more_primitives p) (word_of_items ds)) (primitive_of d)
 
 -- ---- insertions and deletions
 
@@ -122,8 +122,8 @@ abbrev mutual
   primitive_counts_fit _ = true
 
   pub counts_fit : WordTree → Bool
-  counts_fit done = true
-  counts_fit (then p w) = primitive_counts_fit p && counts_fit w
+  counts_fit no_primitives = true
+  counts_fit (more_primitives p w) = primitive_counts_fit p && counts_fit w
 
 -- ---- the numbers of a word
 
@@ -150,5 +150,5 @@ abbrev mutual
   primitive_numbers_fit (shape e) = edit_numbers_fit e
 
   pub numbers_fit : WordTree → Bool
-  numbers_fit done = true
-  numbers_fit (then p w) = primitive_numbers_fit p && numbers_fit w
+  numbers_fit no_primitives = true
+  numbers_fit (more_primitives p w) = primitive_numbers_fit p && numbers_fit w

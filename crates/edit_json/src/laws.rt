@@ -6,7 +6,7 @@ ghost use Rattle.std.specs.Prelude.{◌≡◌, ◌≤◌, ◌*◌, ◌+◌, true
 ghost use Rattle.serde_json.specs.Data.{Data, depth};
 ghost use Rattle.serde_json.specs.Written.{has_float};
 ghost use Rattle.edit_module.specs.Words.{WordTree};
-ghost use Rattle.edit_json.specs.WordJson.{tree_of_word, word_of, counts_fit, numbers_fit};
+ghost use Rattle.edit_json.specs.WordJson.{tree_of_word, word_of_tree, counts_fit, numbers_fit};
 ghost use Rattle.edit_json.specs.Depths.{word_depth};
 
 /// Two different words whose counts and numbers fit never have the same tree.
@@ -21,10 +21,10 @@ pub fn trees_differ()
 pub fn reading_inverts_writing()
     // A word whose counts and numbers fit is what its tree reads as.
     ensures again { (word : WordTree) → counts_fit word ≡ true → numbers_fit word ≡ true
-        → word_of (tree_of_word word) ≡ Some word }
+        → word_of_tree (tree_of_word word) ≡ Some word }
 
     // What a tree reads as has counts and numbers that fit, and has this tree.
-    ensures taken { (tree : Data) (word : WordTree) → word_of tree ≡ Some word
+    ensures taken { (tree : Data) (word : WordTree) → word_of_tree tree ≡ Some word
         → (counts_fit word ≡ true) × (numbers_fit word ≡ true) × (tree_of_word word ≡ tree) }
 {}
 

@@ -4,7 +4,7 @@ ghost use Rattle.std.specs.Prelude.{◌≡◌, true, IfOk, IsErrOf};
 ghost use Rattle.serde_json.specs.View.{view, items_view};
 ghost use Rattle.edit_module.specs.Words.{WordTree};
 ghost use Rattle.edit_module.specs.Views.{primitive_tree, word_tree};
-ghost use Rattle.edit_json.specs.WordJson.{tree_of_word, primitive_of, content_of, word_of, word_of_items, counts_fit, numbers_fit};
+ghost use Rattle.edit_json.specs.WordJson.{tree_of_word, primitive_of, content_of, word_of_tree, word_of_items, counts_fit, numbers_fit};
 ghost use Rattle.edit_json.specs.Reading.{Gives};
 ghost use Rattle.edit_json.specs.declared.fault.EditFault;
 ghost use Rattle.edit_json.specs.declared.kind.Kind.TheVariants as kinds;
@@ -29,7 +29,7 @@ use value_json::only_member;
 /// has. The tree may be any tree. Nothing of it is copied but its texts.
 pub fn read_word(alloc: Global, tree: &Value) -> Result<Word, EditFault>
     // The answer is the definition's, both ways.
-    ensures word { Gives word_tree result (word_of (view tree.now)) }
+    ensures word { Gives word_tree result (word_of_tree (view tree.now)) }
 
     // What is read has a tree, and has this tree.
     ensures fits { IfOk result (λ word. counts_fit (word_tree word) ≡ true) }
@@ -46,7 +46,7 @@ pub fn read_word(alloc: Global, tree: &Value) -> Result<Word, EditFault>
 #[cycle(read)]
 #[tactic(auto, using(crate::proofs::ByParts::read_rules))]
 fn read(alloc: Global, tree: &Value) -> Result<Word, EditFault>
-    ensures { Gives word_tree result (word_of (view tree.now)) }
+    ensures { Gives word_tree result (word_of_tree (view tree.now)) }
 {
     match tree.as_array() {
         Some(items) => read_items(alloc, items),

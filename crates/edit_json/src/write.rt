@@ -8,7 +8,7 @@ ghost use Rattle.hold_shapes.specs.declared.edit.ShapeEdit;
 ghost use Rattle.edit_module.specs.Views.{primitive_tree, word_tree};
 ghost use Rattle.edit_module.specs.Words.{splice, switch, modify};
 ghost use Rattle.edit_json.specs.Values.{tree_of_counts, tree_of_atom, tree_of_place, atom_fits, place_fits, all_fit_u64};
-ghost use Rattle.edit_json.specs.WordJson.{one, two, three, tree_of_shape_edit, tree_of_primitive, tree_of_word, word_of, counts_fit, edit_numbers_fit, primitive_numbers_fit, numbers_fit};
+ghost use Rattle.edit_json.specs.WordJson.{one, two, three, tree_of_shape_edit, tree_of_primitive, tree_of_word, word_of_tree, counts_fit, edit_numbers_fit, primitive_numbers_fit, numbers_fit};
 ghost use Rattle.edit_json.specs.Depths.{word_depth};
 
 use edit_module::word::Primitive;
@@ -28,7 +28,7 @@ pub fn write_word(alloc: Global, word: &Word) -> Result<Value, AllocError>
     ensures tree { IfOk result (λ tree. view tree ≡ tree_of_word (word_tree word.now)) }
 
     // What is written is read back as the same word.
-    ensures reads_back { IfOk result (λ tree. word_of (view tree) ≡ Some (word_tree word.now)) }
+    ensures reads_back { IfOk result (λ tree. word_of_tree (view tree) ≡ Some (word_tree word.now)) }
 
     // It has no float, so its text is told, and each level of words adds three levels to the tree.
     ensures no_float { IfOk result (λ tree. has_float (view tree) ≡ false) }

@@ -7,10 +7,10 @@ ghost use Rattle.std.specs.Prelude.{◌≡◌, ◌<◌, IfOk, MatchOption, Match
 ghost use Rattle.hold_shapes.specs.Shapes.{place_of};
 ghost use Rattle.doc_values.specs.Documents.{doc_tree, docs_tree, doc_list, alt};
 ghost use Rattle.doc_values.specs.Types.{ty_tree, fields_tree, is_well_formed, are_well_formed, ty_rec, ty_alt, ty_list, ty_keyed, ty_ordered};
-ghost use Rattle.doc_values.specs.Typing.{has, has_fields, spot, tag_ty};
+ghost use Rattle.doc_values.specs.Typing.{has, has_fields, lookup_field, lookup_type};
 ghost use Rattle.doc_values.specs.Initial.{initial};
 ghost use Rattle.edit_module.specs.Views.{primitive_tree, word_tree};
-ghost use Rattle.edit_module.specs.Action.{act, act_primitive, inner, put_in, doc_at};
+ghost use Rattle.edit_module.specs.Action.{act, act_primitive, inner, put_result_at, doc_at};
 ghost use Rattle.edit_module.specs.Held.{IsHeld, modified};
 ghost use Rattle.edit_module.specs.Words.{stay, switch};
 ghost use Rattle.edit_module.specs.Refusals.{IsRefusal, IsStepRefusal};
@@ -128,7 +128,7 @@ fn on_record(
 fn field_of<'a>(fields: &'a Fields, name: &Name, docs: &Docs) -> Option<(usize, &'a Ty)>
     requires well_formed { is_well_formed (ty_rec (fields_tree fields.now)) ≡ true }
     requires typed { has_fields (fields_tree fields.now) (docs_tree docs.now) ≡ true }
-    ensures spot { option_map (λ p. (p.0, ty_tree p.1.now)) result ≡ spot (fields_tree fields.now) name.now }
+    ensures lookup_field { option_map (λ p. (p.0, ty_tree p.1.now)) result ≡ lookup_field (fields_tree fields.now) name.now }
     ensures typed { MatchOption result (Unit {0}) (λ p. (p.0 < length (doc_list (docs_tree docs.now)))
         × (has (ty_tree p.1.now) (doc_at (docs_tree docs.now) p.0) ≡ true)
         × (is_well_formed (ty_tree p.1.now) ≡ true)) }
@@ -220,7 +220,7 @@ fn switch(
 // The place and the type of a tag.
 fn tag_of<'a>(tags: &'a Fields, tag: &Name) -> Option<(usize, &'a Ty)>
     requires { is_well_formed (ty_alt (fields_tree tags.now)) ≡ true }
-    ensures tag { option_map (λ p. ty_tree p.1.now) result ≡ tag_ty (fields_tree tags.now) tag.now }
+    ensures tag { option_map (λ p. ty_tree p.1.now) result ≡ lookup_type (fields_tree tags.now) tag.now }
     ensures well_formed { MatchOption result (Unit {0}) (λ p. is_well_formed (ty_tree p.1.now) ≡ true) }
 {
     tags.find(tag)
@@ -369,8 +369,8 @@ fn at_place(
     requires well_formed { is_well_formed (ty_tree ty.now) ≡ true }
     requires typed { has (ty_tree ty.now) (doc_at (docs_tree docs) place) ≡ true }
     ensures { MatchResult result
-        (λ ds. put_in (docs_tree docs) place (act (ty_tree ty.now) (word_tree word.now) (doc_at (docs_tree docs) place)) ≡ Ok (docs_tree ds))
-        (λ fault. IsStepRefusal (put_in (docs_tree docs) place (act (ty_tree ty.now) (word_tree word.now) (doc_at (docs_tree docs) place))) fault) }
+        (λ ds. put_result_at (docs_tree docs) place (act (ty_tree ty.now) (word_tree word.now) (doc_at (docs_tree docs) place)) ≡ Ok (docs_tree ds))
+        (λ fault. IsStepRefusal (put_result_at (docs_tree docs) place (act (ty_tree ty.now) (word_tree word.now) (doc_at (docs_tree docs) place))) fault) }
 {
     let mut docs = docs;
     let old = docs.replace(place, Doc::Unit);

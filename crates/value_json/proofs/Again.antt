@@ -7,9 +7,9 @@ use Rattle.hold_shapes.specs.Trees.{is_valid, goes_on}
 use Rattle.hold_shapes.specs.declared.shape.Shape.TheVariants.{List as ListOf, Keyed as KeyedOf, Tree as TreeOf}
 use Rattle.serde_json.specs.Data.{Data, null}
 use Rattle.serde_json.specs.Find.{of_integer}
-use Rattle.doc_values.specs.Types.{TyTree, ty_unit, ty_bool, ty_int, ty_text, ty_enum, ty_rec, ty_alt, ty_list, ty_keyed, ty_ordered, FieldTrees, no_fields, field}
+use Rattle.doc_values.specs.Types.{TyTree, ty_unit, ty_bool, ty_int, ty_text, ty_enum, ty_rec, ty_alt, ty_list, ty_keyed, ty_ordered, FieldTrees, no_fields, more_fields}
 use Rattle.doc_values.specs.Documents.{DocTree, unit, truth, int, text, pick, rec, alt, hold, DocTrees, no_docs, more_docs, doc_list}
-use Rattle.doc_values.specs.Typing.{tag_ty, has, has_fields, has_each}
+use Rattle.doc_values.specs.Typing.{lookup_type, has, has_fields, has_each}
 use Rattle.value_json.specs.Numbers.{fits_i64, int_in, counts_of, count_items}
 use Rattle.value_json.specs.DocumentJson.{tree_of_document, field_members, key_members, content_items, member_names, list_document, document_of, field_documents, member_documents, item_documents, holds_i64s, all_hold_i64s}
 use Rattle.value_json.proofs.Facts.{left, right, same_bytes, equal}
@@ -61,7 +61,7 @@ mutual
   again ty_text (text s) h k = refl
   again (ty_enum ms) (pick n) h k = rw h refl
   again (ty_rec fs) (rec ds) h k = ap (option_map rec) (fields_again fs ds h k)
-  again (ty_alt fs) (alt n d) h k = tag_again n (tag_ty fs n) d (λ t p. again t d p k) h
+  again (ty_alt fs) (alt n d) h k = tag_again n (lookup_type fs n) d (λ t p. again t d p k) h
   again (ty_list t) (hold (ListOf s) ds) h k =
       let n = length (doc_list ds) in
       ap (option_map list_document) (items_again t ds (right (nat_eq s.count n) (has_each t ds) h) k)
@@ -79,7 +79,7 @@ mutual
 
   fields_again : (fs : FieldTrees) (ds : DocTrees) → has_fields fs ds ≡ true → all_hold_i64s ds ≡ true → field_documents fs (field_members fs ds) ≡ Some ds
   fields_again no_fields no_docs h k = refl
-  fields_again (field n t fs) (more_docs d ds) h k =
+  fields_again (more_fields n t fs) (more_docs d ds) h k =
       rw (same_bytes n, again t d (left (has t d) (has_fields fs ds) h) (left (holds_i64s d) (all_hold_i64s ds) k), fields_again fs ds (right (has t d) (has_fields fs ds) h) (right (holds_i64s d) (all_hold_i64s ds) k)) refl
   fields_again fs ds h k = cc
 

@@ -6,9 +6,9 @@ use Rattle.hold_shapes.specs.Trees.{is_valid}
 use Rattle.hold_shapes.specs.declared.shape.Shape.TheVariants.{List as ListOf, Keyed as KeyedOf, Tree as TreeOf}
 use Rattle.serde_json.specs.Data.{Data, null, object, no_members, member}
 use Rattle.serde_json.specs.Find.{of_integer}
-use Rattle.doc_values.specs.Types.{TyTree, ty_unit, ty_bool, ty_int, ty_text, ty_enum, ty_rec, ty_alt, ty_list, ty_keyed, ty_ordered, FieldTrees, no_fields, field}
+use Rattle.doc_values.specs.Types.{TyTree, ty_unit, ty_bool, ty_int, ty_text, ty_enum, ty_rec, ty_alt, ty_list, ty_keyed, ty_ordered, FieldTrees, no_fields, more_fields}
 use Rattle.doc_values.specs.Documents.{DocTree, unit, truth, int, text, pick, rec, alt, hold, DocTrees, no_docs, more_docs, doc_list}
-use Rattle.doc_values.specs.Typing.{tag_ty, has, has_fields, has_each}
+use Rattle.doc_values.specs.Typing.{lookup_type, has, has_fields, has_each}
 use Rattle.value_json.specs.Numbers.{count_items}
 use Rattle.value_json.specs.DocumentJson.{tree_of_document, field_members, key_members, content_items, member_names}
 use Rattle.value_json.proofs.Facts.{left, right, equal}
@@ -46,7 +46,7 @@ tag_apart : (fs : FieldTrees) (n m : List ℕ) (d e : DocTree) → ((t : TyTree)
 tag_apart fs n m d e apart name h k q =
     let typed = subst (λ x. has (ty_alt fs) (alt x e) ≡ true) (sym name) k in
     let same = subst (λ x. tree_of_document (ty_alt fs) (alt n d) ≡ tree_of_document (ty_alt fs) (alt x e)) (sym name) q in
-    ap₂ alt name (content_apart (tag_ty fs n) d e apart h typed (only_content n _ _ same))
+    ap₂ alt name (content_apart (lookup_type fs n) d e apart h typed (only_content n _ _ same))
 
 list_same : (m n : ℕ) (ds es : DocTrees) → m ≡ length (doc_list ds) → n ≡ length (doc_list es) → ds ≡ es → hold (ListOf (record { count = m })) ds ≡ hold (ListOf (record { count = n })) es
 list_same m n ds es h k q = ap₂ (λ c xs. hold (ListOf (record { count = c })) xs) (h ∙ ap (λ xs. length (doc_list xs)) q ∙ sym k) q
@@ -86,7 +86,7 @@ mutual
 
   fields_apart : (fs : FieldTrees) (ds es : DocTrees) → has_fields fs ds ≡ true → has_fields fs es ≡ true → field_members fs ds ≡ field_members fs es → ds ≡ es
   fields_apart no_fields no_docs no_docs h k q = refl
-  fields_apart (field n t fs) (more_docs d ds) (more_docs e es) h k q =
+  fields_apart (more_fields n t fs) (more_docs d ds) (more_docs e es) h k q =
       let first : tree_of_document t d ≡ tree_of_document t e = cc in
       let rest : field_members fs ds ≡ field_members fs es = cc in
       ap₂ more_docs

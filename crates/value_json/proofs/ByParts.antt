@@ -6,7 +6,7 @@ use Rattle.serde_json.specs.Data.{Data, null, boolean, number, string, array, ob
 use Rattle.serde_json.specs.Find.{as_null, as_bool, as_str, as_array, as_object}
 use Rattle.doc_values.specs.Types.{TyTree, ty_unit, ty_bool, ty_int, ty_text, ty_enum, ty_rec, ty_alt, ty_list, ty_keyed, ty_ordered, FieldTrees}
 use Rattle.doc_values.specs.Documents.{DocTree, unit, truth, int, text, pick, rec, alt, hold, DocTrees, doc_list}
-use Rattle.doc_values.specs.Typing.{tag_ty, spot}
+use Rattle.doc_values.specs.Typing.{lookup_type, lookup_field}
 use Rattle.value_json.specs.Numbers.{int_of, counts_of}
 use Rattle.value_json.specs.Parts.{only_member, two_members, depths_and_items}
 use Rattle.value_json.proofs.Facts.{equal_tests}
@@ -44,14 +44,14 @@ rec_of fs d = refl
 
 abbrev pub tagged_by : FieldTrees → Option (List ℕ × Data) → Option DocTree
 tagged_by fs None = None
-tagged_by fs (Some p) = option_and_then (λ t. option_map (alt p.0) (document_of t p.1)) (tag_ty fs p.0)
+tagged_by fs (Some p) = option_and_then (λ t. option_map (alt p.0) (document_of t p.1)) (lookup_type fs p.0)
 
 tag_cases : (k : List ℕ) (d : Data) (o : Option TyTree) → (elim o [ None ↦ None | Some t ↦ option_map (alt k) (document_of t d) ]) ≡ option_and_then (λ t. option_map (alt k) (document_of t d)) o
 tag_cases k d None = refl
 tag_cases k d (Some t) = refl
 
 pub alt_of : (fs : FieldTrees) (d : Data) → document_of (ty_alt fs) d ≡ tagged_by fs (only_member d)
-alt_of fs (object (member k d no_members)) = tag_cases k d (tag_ty fs k)
+alt_of fs (object (member k d no_members)) = tag_cases k d (lookup_type fs k)
 alt_of fs d = refl
 
 pub list_of : (t : TyTree) (d : Data) → document_of (ty_list t) d ≡ option_and_then (λ ds. option_map list_document (item_documents t ds)) (as_array d)
@@ -98,13 +98,13 @@ pub ordered_found : (t : TyTree) (ns ds : Items) (depths nodes : List ℕ) (vs :
 ordered_found t ns ds depths nodes vs numbers contents valid many same =
     rw (numbers, contents, valid, equal_tests (length depths) (length (doc_list vs)) many, same) refl
 
-pub tag_none : (fs : FieldTrees) (k tag : List ℕ) (d : Data) → tag ≡ k → spot fs tag ≡ None → tagged_by fs (Some (k, d)) ≡ None
-tag_none fs k tag d same none = let e : tag_ty fs k ≡ None = rw (← same, spot_tag fs tag, none) refl in rw e refl
+pub tag_none : (fs : FieldTrees) (k tag : List ℕ) (d : Data) → tag ≡ k → lookup_field fs tag ≡ None → tagged_by fs (Some (k, d)) ≡ None
+tag_none fs k tag d same none = let e : lookup_type fs k ≡ None = rw (← same, spot_tag fs tag, none) refl in rw e refl
 
-pub tag_refused : (fs : FieldTrees) (k tag : List ℕ) (d : Data) (s : ℕ × TyTree) → tag ≡ k → spot fs tag ≡ Some s → document_of s.1 d ≡ None → tagged_by fs (Some (k, d)) ≡ None
-tag_refused fs k tag d s same some none = let e : tag_ty fs k ≡ Some s.1 = rw (← same, spot_tag fs tag, some) refl in rw (e, none) refl
+pub tag_refused : (fs : FieldTrees) (k tag : List ℕ) (d : Data) (s : ℕ × TyTree) → tag ≡ k → lookup_field fs tag ≡ Some s → document_of s.1 d ≡ None → tagged_by fs (Some (k, d)) ≡ None
+tag_refused fs k tag d s same some none = let e : lookup_type fs k ≡ Some s.1 = rw (← same, spot_tag fs tag, some) refl in rw (e, none) refl
 
-pub tag_found : (fs : FieldTrees) (k tag : List ℕ) (d : Data) (s : ℕ × TyTree) (v : DocTree) → tag ≡ k → spot fs tag ≡ Some s → document_of s.1 d ≡ Some v → tagged_by fs (Some (k, d)) ≡ Some (alt tag v)
-tag_found fs k tag d s v same some is = let e : tag_ty fs k ≡ Some s.1 = rw (← same, spot_tag fs tag, some) refl in rw (e, is, same) refl
+pub tag_found : (fs : FieldTrees) (k tag : List ℕ) (d : Data) (s : ℕ × TyTree) (v : DocTree) → tag ≡ k → lookup_field fs tag ≡ Some s → document_of s.1 d ≡ Some v → tagged_by fs (Some (k, d)) ≡ Some (alt tag v)
+tag_found fs k tag d s v same some is = let e : lookup_type fs k ≡ Some s.1 = rw (← same, spot_tag fs tag, some) refl in rw (e, is, same) refl
 
 pub ruleset read_rules = (unit_of, truth_of, whole_of, text_of, pick_of, rec_of, alt_of, list_of, keyed_of, ordered_of, arrays_by)

@@ -3,9 +3,9 @@ use Rattle.std.proofs.Common.{◌≡◌, ℕ, ◌*◌, ◌<◌, ◌≤◌, max, 
 use Rattle.hold_shapes.specs.declared.shape.Shape.TheVariants.{List as ListOf, Keyed as KeyedOf, Tree as TreeOf}
 use Rattle.serde_json.specs.Data.{Data, null, depth, items_depth, members_depth}
 use Rattle.serde_json.specs.Written.{has_float, items_have_float, members_have_float}
-use Rattle.doc_values.specs.Types.{TyTree, ty_unit, ty_bool, ty_int, ty_text, ty_enum, ty_rec, ty_alt, ty_list, ty_keyed, ty_ordered, FieldTrees, no_fields, field, height, highest}
+use Rattle.doc_values.specs.Types.{TyTree, ty_unit, ty_bool, ty_int, ty_text, ty_enum, ty_rec, ty_alt, ty_list, ty_keyed, ty_ordered, FieldTrees, no_fields, more_fields, height, highest}
 use Rattle.doc_values.specs.Documents.{DocTree, unit, truth, int, text, pick, rec, alt, hold, DocTrees, no_docs, more_docs}
-use Rattle.doc_values.specs.Typing.{tag_ty}
+use Rattle.doc_values.specs.Typing.{lookup_type}
 use Rattle.value_json.specs.Numbers.{int_tree, count_items}
 use Rattle.value_json.specs.DocumentJson.{tree_of_document, field_members, key_members, content_items}
 
@@ -34,14 +34,14 @@ mutual
   whole ty_text (text s) = refl
   whole (ty_enum ms) (pick n) = refl
   whole (ty_rec fs) (rec ds) = fields_whole fs ds
-  whole (ty_alt fs) (alt n d) = neither _ false (content_whole (tag_ty fs n) d (λ t. whole t d)) refl
+  whole (ty_alt fs) (alt n d) = neither _ false (content_whole (lookup_type fs n) d (λ t. whole t d)) refl
   whole (ty_list t) (hold (ListOf s) ds) = items_whole t ds
   whole (ty_keyed t) (hold (KeyedOf ks) ds) = members_whole t ks ds
   whole (ty_ordered t) (hold (TreeOf depths) ds) = neither _ _ (counts_whole depths) (neither _ false (items_whole t ds) refl)
   whole t d = refl
 
   fields_whole : (fs : FieldTrees) (ds : DocTrees) → members_have_float (field_members fs ds) ≡ false
-  fields_whole (field n t fs) (more_docs d ds) = neither _ _ (whole t d) (fields_whole fs ds)
+  fields_whole (more_fields n t fs) (more_docs d ds) = neither _ _ (whole t d) (fields_whole fs ds)
   fields_whole fs ds = refl
 
   members_whole : (t : TyTree) (ks : List (List ℕ)) (ds : DocTrees) → members_have_float (key_members t ks ds) ≡ false
@@ -74,9 +74,9 @@ tag_height_if : (fs : FieldTrees) (t s : TyTree) (b : Bool) (o : Option TyTree) 
 tag_height_if fs t s true o h later = let e : t ≡ s = cc in let p = ap height e in omega (arith, p)
 tag_height_if fs t s false o h later = omega (arith, later s h)
 
-tag_height : (fs : FieldTrees) (n : List ℕ) (s : TyTree) → tag_ty fs n ≡ Some s → height s ≤ highest fs
+tag_height : (fs : FieldTrees) (n : List ℕ) (s : TyTree) → lookup_type fs n ≡ Some s → height s ≤ highest fs
 tag_height no_fields n s h = cc
-tag_height (field m t fs) n s h = tag_height_if fs t s (bytes_eq m n) (tag_ty fs n) h (λ r e. tag_height fs n r e)
+tag_height (more_fields m t fs) n s h = tag_height_if fs t s (bytes_eq m n) (lookup_type fs n) h (λ r e. tag_height fs n r e)
 
 content_shallow : (fs : FieldTrees) (o : Option TyTree) (d : DocTree) → ((s : TyTree) → o ≡ Some s → height s ≤ highest fs) → ((t : TyTree) → depth (tree_of_document t d) < 2 * height t)
     → (let x : Data = elim o [ None ↦ null | Some t ↦ tree_of_document t d ] in depth x ≤ 2 * highest fs)
@@ -91,14 +91,14 @@ mutual
   shallow ty_text (text s) = omega arith
   shallow (ty_enum ms) (pick n) = omega arith
   shallow (ty_rec fs) (rec ds) = omega (arith, fields_shallow fs ds)
-  shallow (ty_alt fs) (alt n d) = omega (arith, content_shallow fs (tag_ty fs n) d (λ s e. tag_height fs n s e) (λ t. shallow t d))
+  shallow (ty_alt fs) (alt n d) = omega (arith, content_shallow fs (lookup_type fs n) d (λ s e. tag_height fs n s e) (λ t. shallow t d))
   shallow (ty_list t) (hold (ListOf s) ds) = omega (arith, items_shallow t ds)
   shallow (ty_keyed t) (hold (KeyedOf ks) ds) = omega (arith, members_shallow t ks ds)
   shallow (ty_ordered t) (hold (TreeOf depths) ds) = omega (arith, counts_flat depths, items_shallow t ds)
   shallow t d = high t
 
   fields_shallow : (fs : FieldTrees) (ds : DocTrees) → members_depth (field_members fs ds) ≤ 2 * highest fs
-  fields_shallow (field n t fs) (more_docs d ds) = omega (arith, shallow t d, fields_shallow fs ds)
+  fields_shallow (more_fields n t fs) (more_docs d ds) = omega (arith, shallow t d, fields_shallow fs ds)
   fields_shallow fs ds = omega arith
 
   members_shallow : (t : TyTree) (ks : List (List ℕ)) (ds : DocTrees) → members_depth (key_members t ks ds) < 2 * height t

@@ -6,9 +6,9 @@ use Rattle.hold_shapes.specs.Trees.{is_valid}
 use Rattle.hold_shapes.specs.declared.shape.Shape.TheVariants.{Keyed as KeyedOf, Tree as TreeOf}
 use Rattle.serde_json.specs.Data.{Num, unsigned, negative, float, Data, null, boolean, number, string, array, object, Items, no_items, item, Members, no_members, member}
 use Rattle.serde_json.specs.Find.{of_integer}
-use Rattle.doc_values.specs.Types.{TyTree, ty_unit, ty_bool, ty_int, ty_text, ty_enum, ty_rec, ty_alt, ty_list, ty_keyed, ty_ordered, FieldTrees, no_fields, field}
+use Rattle.doc_values.specs.Types.{TyTree, ty_unit, ty_bool, ty_int, ty_text, ty_enum, ty_rec, ty_alt, ty_list, ty_keyed, ty_ordered, FieldTrees, no_fields, more_fields}
 use Rattle.doc_values.specs.Documents.{DocTree, unit, truth, int, text, pick, rec, alt, hold, DocTrees, no_docs, more_docs, doc_list}
-use Rattle.doc_values.specs.Typing.{tag_ty, has, has_fields, has_each}
+use Rattle.doc_values.specs.Typing.{lookup_type, has, has_fields, has_each}
 use Rattle.value_json.specs.Numbers.{fits_i64, int_in, count_in, counts_of, count_of, count_tree, count_items}
 use Rattle.value_json.specs.DocumentJson.{tree_of_document, field_members, key_members, content_items, member_names, list_document, keyed_document, ordered_document, document_of, field_documents, member_documents, item_documents, holds_i64s, all_hold_i64s}
 use Rattle.value_json.proofs.Facts.{both, left, right, equal_bytes, equal_tests, bind_some, map_some, if_some, if_then}
@@ -65,7 +65,7 @@ pub record ItemsRead (t : TyTree) (ds : Items) (vs : DocTrees) : Type 0 where
   pub typed : has_each t vs ≡ true
   pub whole : all_hold_i64s vs ≡ true
 
-tag_takes : (fs : FieldTrees) (k : List ℕ) (o : Option TyTree) (d : Data) (v : DocTree) → tag_ty fs k ≡ o → ((t : TyTree) (w : DocTree) → document_of t d ≡ Some w → IsRead t d w)
+tag_takes : (fs : FieldTrees) (k : List ℕ) (o : Option TyTree) (d : Data) (v : DocTree) → lookup_type fs k ≡ o → ((t : TyTree) (w : DocTree) → document_of t d ≡ Some w → IsRead t d w)
     → (elim o [ None ↦ None | Some t ↦ option_map (alt k) (document_of t d) ]) ≡ Some v → IsRead (ty_alt fs) (object (member k d no_members)) v
 tag_takes fs k None d v is takes h = cc
 tag_takes fs k (Some t) d v is takes h =
@@ -91,7 +91,7 @@ mutual
       let m = map_some rec (field_documents fs ms) v h in
       let r = fields_take fs ms m.0 m.1 in
       read_as _ _ _ v m.2 (record { tree = ap object r.tree; typed = r.typed; whole = r.whole })
-  takes (ty_alt fs) (object (member k d no_members)) v h = tag_takes fs k (tag_ty fs k) d v refl (λ t w e. takes t d w e) h
+  takes (ty_alt fs) (object (member k d no_members)) v h = tag_takes fs k (lookup_type fs k) d v refl (λ t w e. takes t d w e) h
   takes (ty_list t) (array ds) v h =
       let m = map_some list_document (item_documents t ds) v h in
       let r = items_take t ds m.0 m.1 in
@@ -122,7 +122,7 @@ mutual
 
   fields_take : (fs : FieldTrees) (ms : Members) (vs : DocTrees) → field_documents fs ms ≡ Some vs → FieldsRead fs ms vs
   fields_take no_fields no_members vs h = let e : no_docs ≡ vs = cc in rw (← e) (record { tree = refl; typed = refl; whole = refl })
-  fields_take (field n t fs) (member k d ms) vs h =
+  fields_take (more_fields n t fs) (member k d ms) vs h =
       let p = if_then (bytes_eq n k) _ vs h in
       let b = bind_some (λ c. option_map (more_docs c) (field_documents fs ms)) (document_of t d) vs p.1 in
       let m = map_some (more_docs b.0) (field_documents fs ms) vs b.2 in

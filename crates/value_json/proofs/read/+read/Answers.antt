@@ -4,7 +4,7 @@ use Rattle.std.proofs.lemmas.Result.{err_from_is_err_and}
 use Rattle.value_json.proofs.Levels.{doc_tree-Hold, doc_tree-Alt, refused_with}
 use Rattle.serde_json.specs.View.{view, items_view, members_view}
 use Rattle.doc_values.specs.Documents.{alt, doc_tree, docs_tree, doc_list}
-use Rattle.doc_values.specs.Types.{ty_tree, fields_tree, fields_of, field_tree, highest}
+use Rattle.doc_values.specs.Types.{ty_tree, fields_tree, type_fields_of, field_tree, highest}
 use Rattle.hold_shapes.specs.Trees.{is_valid}
 use Rattle.value_json.specs.Numbers.{counts_of}
 use Rattle.value_json.specs.DocumentJson.{item_documents, member_documents, field_documents}
@@ -25,7 +25,7 @@ read_fields-loop-field-preserved t c =
     let fields = c.as_slice-field-items.result.now in
     let name = string_bytes c.in-Some.name.now in
     let same : bytes_eq c.field-item.result.0 name ≡ true = same_texts c.ne.result _ _ _ _ c.if-ne.false c.ne.ensures c.as_str.ensures c.as_str-in-loop-field.ensures.value in
-    let next = ap (λ es. option_map (then_docs (map doc_tree l.docs.items)) (field_documents (fields_of (map field_tree (drop l.field-index fields))) (members_view es))) c.in-Some.ensures.steps in
+    let next = ap (λ es. option_map (then_docs (map doc_tree l.docs.items)) (field_documents (type_fields_of (map field_tree (drop l.field-index fields))) (members_view es))) c.in-Some.ensures.steps in
     rw (c.in_ok-push.ensures.items, map-append)
     (l.invariant ∙ next ∙ next_field fields l.field-index c.field-item.result name (view c.in-Some.content.now) (members_view c.next.new.self) (map doc_tree l.docs.items) _ c.loop-field-test.true c.field-item.is same c.in_ok-read.ensures)
 
@@ -33,7 +33,7 @@ pub read_fields-returns-in-None : goal.read_fields-returns-in-None
 read_fields-returns-in-None t c =
     let l = c.loop-field in
     let fields = c.as_slice-field-items.result.now in
-    let last = ap (λ es. option_map (then_docs (map doc_tree l.docs.items)) (field_documents (fields_of (map field_tree (drop l.field-index fields))) (members_view es))) c.in-None.ensures.steps.0 in
+    let last = ap (λ es. option_map (then_docs (map doc_tree l.docs.items)) (field_documents (type_fields_of (map field_tree (drop l.field-index fields))) (members_view es))) c.in-None.ensures.steps.0 in
     l.invariant ∙ last ∙ fields_done fields l.field-index (map doc_tree l.docs.items) c.loop-field-test.false ∙ ap Some (sym c.from_vec.ensures)
 
 pub read_items-loop-item-preserved : goal.read_items-loop-item-preserved

@@ -5,7 +5,7 @@ use Rattle.serde_json.specs.View.{view, items_of, members_view}
 use Rattle.serde_json.proofs.Views.{view-Array, view-Object}
 use Rattle.texts.specs.Keys.{is_rising}
 use Rattle.doc_values.specs.Documents.{doc_tree, docs_of, doc_list}
-use Rattle.doc_values.specs.Types.{ty_tree, fields_tree, fields_of, field_tree, names_of, are_well_formed, highest}
+use Rattle.doc_values.specs.Types.{ty_tree, fields_tree, type_fields_of, field_tree, names_of, are_well_formed, highest}
 use Rattle.doc_values.specs.Typing.{has_fields, has_each}
 use Rattle.doc_values.proofs.Lists.{length-doc_list}
 use Rattle.value_json.specs.DocumentJson.{tree_of_document, field_members, key_members, content_items, all_hold_i64s}
@@ -49,7 +49,7 @@ write_record-returns-clause-tree t c =
     let contents = c.as_slice-contents.result.now in
     let typed = ap₂ has_fields c.as_slice-field-items.ensures c.as_slice-contents.ensures ∙ c.requires.typed in
     let past : length contents ≤ l.i = omega (arith, same_many fields contents typed) in
-    let all = ap₂ (λ fs ds. field_members (fields_of (map field_tree fs)) (docs_of (map doc_tree ds))) (take_all l.i fields c.loop-i-test.false) (take_all l.i contents past) in
+    let all = ap₂ (λ fs ds. field_members (type_fields_of (map field_tree fs)) (docs_of (map doc_tree ds))) (take_all l.i fields c.loop-i-test.false) (take_all l.i contents past) in
     view-Object l.members ∙ ap object (l.invariant.0 ∙ all ∙ ap₂ field_members c.as_slice-field-items.ensures c.as_slice-contents.ensures)
 
 pub write_record-returns-clause-whole : goal.write_record-returns-clause-whole
