@@ -2,7 +2,8 @@
 use Rattle.std.proofs.Common.{◌≡◌, ℕ, ◌+◌, ◌*◌, ◌≤◌, Bool, true, false, ◌&&◌, List, cond, codes, bytes_eq, Option, Some, None, option_map, Ok, refl, sym, ap, ap₂, ◌∙◌, arith}
 use Rattle.serde_json.specs.Data.{Data, string, object, no_members, member, depth}
 use Rattle.serde_json.specs.Written.{has_float}
-use Rattle.value_json.proofs.Facts.{left, right, equal_bytes, if_then}
+use Rattle.texts.proofs.Conjunction.{first as left, second as right}
+use Rattle.value_json.proofs.Facts.{equal_bytes, if_then}
 use Rattle.edit_module.specs.Words.{WordTree}
 use Rattle.texts.specs.declared.side.Side.{Side}
 use Rattle.texts.specs.declared.side.Side.TheVariants.{Left, Right}

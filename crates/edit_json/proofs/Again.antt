@@ -9,8 +9,9 @@ use Rattle.hold_shapes.specs.declared.edit.ShapeEdit.TheVariants as edits
 use Rattle.edit_module.specs.declared.atom.Atom.{Atom}
 use Rattle.edit_module.specs.declared.atom.Atom.TheVariants as atoms
 use Rattle.edit_module.specs.Words.{PrimitiveTree, set, add, splice, at, stay, switch, modify, shape, WordTree, no_primitives, more_primitives}
-use Rattle.value_json.specs.Numbers.{fits_i64, counts_of, int_tree, count_tree, count_items}
-use Rattle.value_json.proofs.Facts.{left, right}
+use Rattle.doc_values.specs.Integers.{fits_i64}
+use Rattle.value_json.specs.Numbers.{counts_of, int_tree, count_tree, count_items}
+use Rattle.texts.proofs.Conjunction.{first as left, second as right}
 use Rattle.value_json.proofs.Again.{int_again}
 use Rattle.edit_json.specs.Values.{tree_of_atom, tree_of_place, atom_of, place_of, item_count_of, fits_u64, all_fit_u64, atom_fits, place_fits}
 use Rattle.edit_json.specs.WordJson.{tree_of_shape_edit, tree_of_primitive, items_of_word, tree_of_word, primitive_of, word_of_tree, word_of_items, edit_counts_fit, primitive_counts_fit, counts_fit, edit_numbers_fit, primitive_numbers_fit, numbers_fit}

@@ -10,8 +10,10 @@ use Rattle.edit_module.specs.declared.atom.Atom.TheVariants as atoms
 use Rattle.serde_json.specs.Data.{Num, unsigned, negative, float, Data, boolean, number, string, array, object, Items, no_items, item, no_members, member}
 use Rattle.serde_json.specs.Find.{as_str}
 use Rattle.edit_module.specs.Words.{PrimitiveTree, set, add, splice, at, stay, switch, modify, shape, WordTree, no_primitives, more_primitives}
-use Rattle.value_json.specs.Numbers.{fits_i64, int_in, int_of, count_in, count_of, counts_of, int_tree, count_tree}
-use Rattle.value_json.proofs.Facts.{both, equal_bytes, bind_some, map_some, if_some}
+use Rattle.doc_values.specs.Integers.{fits_i64}
+use Rattle.value_json.specs.Numbers.{int_in, int_of, count_in, count_of, counts_of, int_tree, count_tree}
+use Rattle.texts.proofs.Conjunction.{both}
+use Rattle.value_json.proofs.Facts.{equal_bytes, bind_some, map_some, if_some}
 use Rattle.value_json.proofs.Takes.{int_takes, count_takes, counts_take}
 use Rattle.edit_json.specs.declared.kind.Kind.{Kind}
 use Rattle.edit_json.specs.declared.kind.Kind.TheVariants.{Set, Add, Splice, At, Stay, Switch, Mod, Ins, Del, Move, Reorder, Put, Drop, Rename, Graft, Prune, Shift, Hang}

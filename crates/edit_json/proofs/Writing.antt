@@ -12,7 +12,7 @@ use Rattle.edit_module.specs.Words.{WordTree}
 use Rattle.edit_module.specs.Words as words
 use Rattle.edit_module.specs.Views.{primitive_tree}
 use Rattle.edit_module.specs.declared.word.Primitive.{Primitive}
-use Rattle.value_json.proofs.Facts.{both, left, right}
+use Rattle.texts.proofs.Conjunction.{both, first as left, second as right}
 use Rattle.edit_json.specs.Values.{fits_u64, all_fit_u64}
 use Rattle.edit_json.specs.WordJson.{tree_of_primitive, items_of_word, tree_of_word, word_of_tree, primitive_numbers_fit, numbers_fit, counts_fit}
 use Rattle.edit_json.specs.Depths.{primitive_depth, word_depth}

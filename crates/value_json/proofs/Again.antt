@@ -10,9 +10,11 @@ use Rattle.serde_json.specs.Find.{of_integer}
 use Rattle.doc_values.specs.Types.{TyTree, ty_unit, ty_bool, ty_int, ty_text, ty_enum, ty_rec, ty_alt, ty_list, ty_keyed, ty_ordered, FieldTrees, no_fields, more_fields}
 use Rattle.doc_values.specs.Documents.{DocTree, unit, truth, int, text, pick, rec, alt, hold, DocTrees, no_docs, more_docs, doc_list}
 use Rattle.doc_values.specs.Typing.{lookup_type, has, has_fields, has_each}
-use Rattle.value_json.specs.Numbers.{fits_i64, int_in, counts_of, count_items}
+use Rattle.doc_values.specs.Integers.{fits_i64}
+use Rattle.value_json.specs.Numbers.{int_in, counts_of, count_items}
 use Rattle.value_json.specs.DocumentJson.{tree_of_document, field_members, key_members, content_items, member_names, list_document, document_of, field_documents, member_documents, item_documents, holds_i64s, all_hold_i64s}
-use Rattle.value_json.proofs.Facts.{left, right, same_bytes, equal}
+use Rattle.texts.proofs.Conjunction.{first as left, second as right}
+use Rattle.value_json.proofs.Facts.{same_bytes, equal}
 
 -- ---- numbers
 

@@ -11,7 +11,8 @@ use Rattle.doc_values.specs.Documents.{DocTree, unit, truth, int, text, pick, re
 use Rattle.doc_values.specs.Typing.{lookup_type, has, has_fields, has_each}
 use Rattle.value_json.specs.Numbers.{count_items}
 use Rattle.value_json.specs.DocumentJson.{tree_of_document, field_members, key_members, content_items, member_names}
-use Rattle.value_json.proofs.Facts.{left, right, equal}
+use Rattle.texts.proofs.Conjunction.{first as left, second as right}
+use Rattle.value_json.proofs.Facts.{equal}
 use Rattle.value_json.proofs.Again.{names_again}
 
 int_apart : (y z : ℤ) → of_integer y ≡ of_integer z → y ≡ z

@@ -1,5 +1,5 @@
 -- A document by the parts of its tree, a lemma for each type.
-use Rattle.std.proofs.Common.{◌≡◌, ℕ, length, Bool, true, false, ◌&&◌, List, Option, Some, None, option_map, option_and_then, codes, bytes_eq, cond, refl, sym}
+use Rattle.std.proofs.Common.{◌≡◌, ℕ, length, Bool, true, false, ◌&&◌, List, Option, Some, None, option_map, option_and_then, codes, bytes_eq, cond, refl, sym, ap}
 use Rattle.std.specs.Prelude.{if◌then◌else◌, is_some}
 use Rattle.texts.specs.Keys.{has_name}
 use Rattle.serde_json.specs.Data.{Data, null, boolean, number, string, array, object, Items, no_members, member}
@@ -10,7 +10,6 @@ use Rattle.doc_values.specs.Typing.{lookup_type, lookup_field}
 use Rattle.value_json.specs.Numbers.{int_of, counts_of}
 use Rattle.value_json.specs.Parts.{only_member, two_members, depths_and_items}
 use Rattle.value_json.proofs.Facts.{equal_tests}
-use Rattle.value_json.proofs.Loops.{spot_tag}
 use Rattle.hold_shapes.specs.Trees.{is_valid}
 use Rattle.hold_shapes.specs.declared.shape.Shape.TheVariants.{Tree as TreeOf}
 use Rattle.value_json.specs.DocumentJson.{document_of, field_documents, member_documents, item_documents, member_names, list_document, keyed_document, ordered_document}
@@ -93,18 +92,21 @@ arrays_by d = refl
 
 -- ---- where each part was read
 
+abbrev type_of : Option (ℕ × TyTree) → Option TyTree
+type_of o = option_map (λ (f : ℕ × TyTree). f.1) o
+
 pub ordered_found : (t : TyTree) (ns ds : Items) (depths nodes : List ℕ) (vs : DocTrees) → counts_of ns ≡ Some depths → item_documents t ds ≡ Some vs → is_valid depths ≡ true → length depths ≡ length (doc_list vs) → nodes ≡ depths
     → ordered_by t (Some (ns, ds)) ≡ Some (hold (TreeOf nodes) vs)
 ordered_found t ns ds depths nodes vs numbers contents valid many same =
     rw (numbers, contents, valid, equal_tests (length depths) (length (doc_list vs)) many, same) refl
 
-pub tag_none : (fs : FieldTrees) (k tag : List ℕ) (d : Data) → tag ≡ k → lookup_field fs tag ≡ None → tagged_by fs (Some (k, d)) ≡ None
-tag_none fs k tag d same none = let e : lookup_type fs k ≡ None = rw (← same, spot_tag fs tag, none) refl in rw e refl
+pub tag_none : (fs : FieldTrees) (k : List ℕ) (d : Data) → lookup_field fs k ≡ None → tagged_by fs (Some (k, d)) ≡ None
+tag_none fs k d none = let e = ap type_of none in rw e refl
 
-pub tag_refused : (fs : FieldTrees) (k tag : List ℕ) (d : Data) (s : ℕ × TyTree) → tag ≡ k → lookup_field fs tag ≡ Some s → document_of s.1 d ≡ None → tagged_by fs (Some (k, d)) ≡ None
-tag_refused fs k tag d s same some none = let e : lookup_type fs k ≡ Some s.1 = rw (← same, spot_tag fs tag, some) refl in rw (e, none) refl
+pub tag_refused : (fs : FieldTrees) (k : List ℕ) (d : Data) (s : ℕ × TyTree) → lookup_field fs k ≡ Some s → document_of s.1 d ≡ None → tagged_by fs (Some (k, d)) ≡ None
+tag_refused fs k d s some none = let e = ap type_of some in rw (e, none) refl
 
-pub tag_found : (fs : FieldTrees) (k tag : List ℕ) (d : Data) (s : ℕ × TyTree) (v : DocTree) → tag ≡ k → lookup_field fs tag ≡ Some s → document_of s.1 d ≡ Some v → tagged_by fs (Some (k, d)) ≡ Some (alt tag v)
-tag_found fs k tag d s v same some is = let e : lookup_type fs k ≡ Some s.1 = rw (← same, spot_tag fs tag, some) refl in rw (e, is, same) refl
+pub tag_found : (fs : FieldTrees) (k tag : List ℕ) (d : Data) (s : ℕ × TyTree) (v : DocTree) → tag ≡ k → lookup_field fs k ≡ Some s → document_of s.1 d ≡ Some v → tagged_by fs (Some (k, d)) ≡ Some (alt tag v)
+tag_found fs k tag d s v same some is = let e = ap type_of some in rw (e, is, same) refl
 
 pub ruleset read_rules = (unit_of, truth_of, whole_of, text_of, pick_of, rec_of, alt_of, list_of, keyed_of, ordered_of, arrays_by)

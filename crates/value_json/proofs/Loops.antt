@@ -7,7 +7,6 @@ use Rattle.serde_json.specs.View.{view, items_view}
 use Rattle.serde_json.specs.declared.value.Value.{Value}
 use Rattle.doc_values.specs.Documents.{DocTree, DocTrees, no_docs, more_docs, docs_of}
 use Rattle.doc_values.specs.Types.{TyTree, FieldTrees, no_fields, more_fields, type_fields_of, field_tree, ty_tree, height, highest}
-use Rattle.doc_values.specs.Typing.{lookup_type, lookup_field, later_field}
 use Rattle.doc_values.specs.declared.ty.Ty.{Ty}
 use Rattle.value_json.specs.DocumentJson.{document_of, field_documents, member_documents, item_documents}
 use Rattle.value_json.proofs.Counts.{left_items}
@@ -78,25 +77,3 @@ height_at (x ∷ fs) (suc i) f h = omega (arith, height_at fs i f (omega arith))
 
 pub field_height : (fs : List (List ℕ × Ty)) (i : ℕ) (f : List ℕ × Ty) → i < length fs → f ≡ get_or fs i f → height (ty_tree f.1) ≤ highest (type_fields_of (map field_tree fs))
 field_height fs i f h is = let e = ap (λ (g : List ℕ × Ty). height (ty_tree g.1)) is in omega (arith, e, height_at fs i f h)
-
-spot_height_if : (fs : FieldTrees) (n m : List ℕ) (t : TyTree) (s : ℕ × TyTree) (b : Bool) → cond b (Some (0, t)) (option_map (later_field 1) (lookup_field fs n)) ≡ Some s
-    → ((r : ℕ × TyTree) → lookup_field fs n ≡ Some r → height r.1 ≤ highest fs) → height s.1 ≤ highest (more_fields m t fs)
-spot_height_if fs n m t s true h later = let e : (0, t) ≡ s = cc in let p = ap (λ (r : ℕ × TyTree). height r.1) e in omega (arith, p)
-spot_height_if fs n m t s false h later =
-    let r = map_some (later_field 1) (lookup_field fs n) s h in
-    let p = ap (λ (q : ℕ × TyTree). height q.1) r.2 in
-    omega (arith, p, later r.0 r.1)
-
-pub spot_height : (fs : FieldTrees) (n : List ℕ) (s : ℕ × TyTree) → lookup_field fs n ≡ Some s → height s.1 ≤ highest fs
-spot_height no_fields n s h = cc
-spot_height (more_fields m t fs) n s h = spot_height_if fs n m t s (bytes_eq m n) h (λ r e. spot_height fs n r e)
-
-spot_tag_if : (t : TyTree) (b : Bool) (o : Option TyTree) (s : Option (ℕ × TyTree)) → o ≡ option_map (λ r. r.1) s
-    → cond b (Some t) o ≡ option_map (λ r. r.1) (cond b (Some (0, t)) (option_map (later_field 1) s))
-spot_tag_if t true o s h = refl
-spot_tag_if t false o None h = h
-spot_tag_if t false o (Some r) h = h
-
-pub spot_tag : (fs : FieldTrees) (n : List ℕ) → lookup_type fs n ≡ option_map (λ s. s.1) (lookup_field fs n)
-spot_tag no_fields n = refl
-spot_tag (more_fields m t fs) n = spot_tag_if t (bytes_eq m n) (lookup_type fs n) (lookup_field fs n) (spot_tag fs n)

@@ -6,6 +6,7 @@ use Rattle.serde_json.specs.Written.{has_float, items_have_float, members_have_f
 use Rattle.doc_values.specs.Types.{TyTree, ty_unit, ty_bool, ty_int, ty_text, ty_enum, ty_rec, ty_alt, ty_list, ty_keyed, ty_ordered, FieldTrees, no_fields, more_fields, height, highest}
 use Rattle.doc_values.specs.Documents.{DocTree, unit, truth, int, text, pick, rec, alt, hold, DocTrees, no_docs, more_docs}
 use Rattle.doc_values.specs.Typing.{lookup_type}
+use Rattle.doc_values.proofs.FieldPlaces.{lookup_field-height, lookup_type_place}
 use Rattle.value_json.specs.Numbers.{int_tree, count_items}
 use Rattle.value_json.specs.DocumentJson.{tree_of_document, field_members, key_members, content_items}
 
@@ -70,13 +71,11 @@ counts_flat : (ns : List ℕ) → items_depth (count_items ns) ≡ 0
 counts_flat [] = refl
 counts_flat (n ∷ ns) = omega (arith, counts_flat ns)
 
-tag_height_if : (fs : FieldTrees) (t s : TyTree) (b : Bool) (o : Option TyTree) → cond b (Some t) o ≡ Some s → ((r : TyTree) → o ≡ Some r → height r ≤ highest fs) → height s ≤ max (height t) (highest fs)
-tag_height_if fs t s true o h later = let e : t ≡ s = cc in let p = ap height e in omega (arith, p)
-tag_height_if fs t s false o h later = omega (arith, later s h)
-
 tag_height : (fs : FieldTrees) (n : List ℕ) (s : TyTree) → lookup_type fs n ≡ Some s → height s ≤ highest fs
-tag_height no_fields n s h = cc
-tag_height (more_fields m t fs) n s h = tag_height_if fs t s (bytes_eq m n) (lookup_type fs n) h (λ r e. tag_height fs n r e)
+tag_height fs n s h =
+    let r = lookup_type_place fs n s h in
+    let e = ap height r.2 in
+    omega (arith, e, lookup_field-height fs n r.0 r.1)
 
 content_shallow : (fs : FieldTrees) (o : Option TyTree) (d : DocTree) → ((s : TyTree) → o ≡ Some s → height s ≤ highest fs) → ((t : TyTree) → depth (tree_of_document t d) < 2 * height t)
     → (let x : Data = elim o [ None ↦ null | Some t ↦ tree_of_document t d ] in depth x ≤ 2 * highest fs)

@@ -10,13 +10,12 @@ use Rattle.serde_json.specs.Data.{Data, object, item, Members, no_members, membe
 use Rattle.serde_json.specs.View.{items_of}
 use Rattle.doc_values.specs.Documents.{DocTree, alt, docs_of, doc_tree}
 use Rattle.doc_values.specs.Types.{TyTree, ty_alt, FieldTrees, no_fields, more_fields, type_fields_of, field_tree, ty_tree, names_of, is_well_formed, are_well_formed}
-use Rattle.doc_values.specs.Typing.{has, has_fields, has_each, lookup_type, lookup_field, later_field}
+use Rattle.doc_values.specs.Typing.{has, has_fields, has_each, lookup_type, lookup_field}
 use Rattle.doc_values.specs.declared.doc.Doc.{Doc}
 use Rattle.doc_values.specs.declared.ty.Ty.{Ty}
 use Rattle.value_json.specs.Numbers.{count_tree, count_items}
 use Rattle.value_json.specs.DocumentJson.{tree_of_document, field_members, key_members, content_items, holds_i64s, all_hold_i64s}
-use Rattle.value_json.proofs.Facts.{both, left, right, map_some}
-use Rattle.value_json.proofs.Loops.{spot_tag}
+use Rattle.texts.proofs.Conjunction.{both, first as left, second as right}
 
 -- ---- names in byte order
 
@@ -161,10 +160,10 @@ items_of_counts (n ∷ ns) = ap (item (count_tree n)) (items_of_counts ns)
 -- ---- the type at a tag
 
 tag_at : (fs : FieldTrees) (n : List ℕ) (s : ℕ × TyTree) → lookup_field fs n ≡ Some s → lookup_type fs n ≡ Some s.1
-tag_at fs n s h = rw (spot_tag fs n, h) refl
+tag_at fs n s h = ap (option_map (λ (f : ℕ × TyTree). f.1)) h
 
 no_tag_at : (fs : FieldTrees) (n : List ℕ) → lookup_field fs n ≡ None → lookup_type fs n ≡ None
-no_tag_at fs n h = rw (spot_tag fs n, h) refl
+no_tag_at fs n h = ap (option_map (λ (f : ℕ × TyTree). f.1)) h
 
 pub tag_is_there : (fs : FieldTrees) (n : List ℕ) (d : DocTree) → has (ty_alt fs) (alt n d) ≡ true → lookup_field fs n ≡ None → ⊥
 tag_is_there fs n d h none = let bad : false ≡ true = rw (no_tag_at fs n none, has) at h in cc
@@ -174,15 +173,3 @@ content_typed fs n d s h some = rw (tag_at fs n s some, has) at h
 
 pub content_tree : (fs : FieldTrees) (n : List ℕ) (d : DocTree) (s : ℕ × TyTree) → lookup_field fs n ≡ Some s → tree_of_document (ty_alt fs) (alt n d) ≡ object (member n (tree_of_document s.1 d) no_members)
 content_tree fs n d s some = rw (tag_at fs n s some, tree_of_document) refl
-
-content_formed_if : (fs : FieldTrees) (t : TyTree) (n : List ℕ) (s : ℕ × TyTree) (b : Bool) → is_well_formed t ≡ true → cond b (Some (0, t)) (option_map (later_field 1) (lookup_field fs n)) ≡ Some s
-    → ((r : ℕ × TyTree) → lookup_field fs n ≡ Some r → is_well_formed r.1 ≡ true) → is_well_formed s.1 ≡ true
-content_formed_if fs t n s true formed h later = let e : (0, t) ≡ s = cc in ap (λ (r : ℕ × TyTree). is_well_formed r.1) (sym e) ∙ formed
-content_formed_if fs t n s false formed h later =
-    let r = map_some (later_field 1) (lookup_field fs n) s h in
-    ap (λ (q : ℕ × TyTree). is_well_formed q.1) (sym r.2) ∙ later r.0 r.1
-
-pub content_formed : (fs : FieldTrees) (n : List ℕ) (s : ℕ × TyTree) → are_well_formed fs ≡ true → lookup_field fs n ≡ Some s → is_well_formed s.1 ≡ true
-content_formed no_fields n s h some = cc
-content_formed (more_fields m t fs) n s h some =
-    content_formed_if fs t n s (bytes_eq m n) (left (is_well_formed t) (are_well_formed fs) h) some (λ r e. content_formed fs n r (right (is_well_formed t) (are_well_formed fs) h) e)

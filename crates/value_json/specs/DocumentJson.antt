@@ -7,7 +7,8 @@ use Rattle.hold_shapes.specs.declared.shape.Shape.TheVariants.{List as ListOf, K
 use Rattle.doc_values.specs.Types.{TyTree, ty_unit, ty_bool, ty_int, ty_text, ty_enum, ty_rec, ty_alt, ty_list, ty_keyed, ty_ordered, FieldTrees, no_fields, more_fields}
 use Rattle.doc_values.specs.Documents.{DocTree, unit, truth, int, text, pick, rec, alt, hold, DocTrees, no_docs, more_docs, doc_list}
 use Rattle.doc_values.specs.Typing.{lookup_type}
-use Rattle.value_json.specs.Numbers.{fits_i64, int_in, counts_of, int_tree, count_items}
+use Rattle.doc_values.specs.Integers.{fits_i64}
+use Rattle.value_json.specs.Numbers.{int_in, counts_of, int_tree, count_items}
 
 -- The tree of a document of the type, a line for each type; `null` where the document is of another type.
 -- The members of a tree's object stand in byte order, and so do the names of its type or of its shape.

@@ -15,7 +15,7 @@ ghost use Rattle.value_json.specs.declared.fault.DocFault;
 use crate::fault::DocFault;
 use crate::numbers::{read_counts, read_int};
 use crate::parts::{only_member, two_members};
-use doc_values::{Doc, Docs, Fields, Ty};
+use doc_values::{Doc, Docs, Fields, Ty, has_text};
 use hold_shapes::{Depths, KeyedShape, ListShape, Name, Names, Shape, Str, TreeShape};
 use serde_json::{Map, Value};
 use std::alloc::{AllocError, Global};
@@ -109,11 +109,11 @@ fn read_pick(alloc: Global, members: &Names, tree: &Value) -> Result<Doc, DocFau
     let Some(text) = tree.as_str() else {
         return Err(DocFault::NotOfType);
     };
-    let name = Name::from_string(String::from_str(alloc, text)?);
-    if !members.has(&name) {
+    if !has_text(members, text) {
         return Err(DocFault::NotOfType);
     }
-    Ok(Doc::Pick(name))
+    let member = Name::from_string(String::from_str(alloc, text)?);
+    Ok(Doc::Pick(member))
 }
 
 #[cycle(read)]
@@ -163,11 +163,11 @@ fn read_tagged(alloc: Global, tags: &Fields, tree: &Value) -> Result<Doc, DocFau
     let Some((name, content)) = only_member(tree) else {
         return Err(DocFault::NotOfType);
     };
-    let tag = Name::from_string(String::from_str(alloc, name)?);
-    let Some((_, ty)) = tags.find(&tag) else {
+    let Some((_, ty)) = tags.find(name) else {
         return Err(DocFault::NotOfType);
     };
     let content = read(alloc, ty, content)?;
+    let tag = Name::from_string(String::from_str(alloc, name)?);
     Ok(Doc::Alt(tag, Box::new(alloc, content)?))
 }
 

@@ -60,7 +60,8 @@ fn write(alloc: Global, ty: &Ty, doc: &Doc) -> Result<Value, AllocError>
     }
 }
 
-fn write_text(alloc: Global, text: &str) -> Result<Value, AllocError>
+/// The string of a text. Fails only if memory runs out.
+pub fn write_text(alloc: Global, text: &str) -> Result<Value, AllocError>
     ensures { IfOk result (λ tree. view tree ≡ string text.now) }
 {
     Ok(Value::String(String::from_str(alloc, text)?))
@@ -99,12 +100,13 @@ fn write_tagged(
         ≡ tree_of_document (ty_alt (fields_tree tags.now)) (alt tag.now (doc_tree content.now))) }
     ensures whole { OnOk result (holds_i64s (doc_tree content.now) ≡ true) }
 {
-    let Some((_, ty)) = tags.find(tag) else {
+    let name = tag.as_str();
+    let Some((_, ty)) = tags.find(name) else {
         unreachable!()
     };
     let content = write(alloc, ty, content)?;
     let mut members = Map::new(alloc);
-    put(&mut members, alloc, tag.as_str(), content)?;
+    put(&mut members, alloc, name, content)?;
     Ok(Value::Object(members))
 }
 

@@ -9,7 +9,8 @@ use Rattle.hold_shapes.specs.Trees.{is_valid}
 use Rattle.value_json.specs.Numbers.{counts_of}
 use Rattle.value_json.specs.DocumentJson.{item_documents, member_documents, field_documents}
 use Rattle.value_json.proofs.Facts.{same_texts}
-use Rattle.value_json.proofs.Loops.{next_item, items_done, next_entry, entries_done, next_field, fields_done, field_height, spot_height, then_docs}
+use Rattle.doc_values.proofs.FieldPlaces.{lookup_field-height}
+use Rattle.value_json.proofs.Loops.{next_item, items_done, next_entry, entries_done, next_field, fields_done, field_height, then_docs}
 use Rattle.value_json.proofs.ByParts.{ordered_of, ordered_by, ordered_found, alt_of, tagged_by, tag_none, tag_refused, tag_found}
 use Rattle.value_json.proofs.read.+read.Goals as goal
 
@@ -78,11 +79,11 @@ pub read_tagged-returns-in_default-find : goal.read_tagged-returns-in_default-fi
 read_tagged-returns-in_default-find t c =
     let tags = fields_tree c.args.tags.now in
     alt_of tags (view c.args.tree.now) ∙ sym (ap (tagged_by tags) c.in-Some.ensures)
-    ∙ tag_none tags _ c.from_string-tag.result _ (c.from_string-tag.ensures ∙ c.in_ok-from_str.ensures.ok) (sym c.in_default-find.ensures)
+    ∙ tag_none tags _ _ (sym c.in_default-find.ensures)
 
 pub read_tagged-read-requires : goal.read_tagged-read-requires
 read_tagged-read-requires t c =
-    let low = spot_height (fields_tree c.args.tags.now) c.from_string-tag.result _ (sym c.in-Some-find.ensures) in
+    let low = lookup_field-height (fields_tree c.args.tags.now) _ _ (sym c.in-Some-find.ensures) in
     (omega (arith, low), tt)
 
 pub read_tagged-returns-in_err-content : goal.read_tagged-returns-in_err-content
@@ -91,7 +92,7 @@ read_tagged-returns-in_err-content t c =
     let tags = fields_tree c.args.tags.now in
     rw (p.1, p.2) (refused_with c.in_err-content.field-0.0 _ _
     (λ none. alt_of tags (view c.args.tree.now) ∙ sym (ap (tagged_by tags) c.in-Some.ensures)
-    ∙ tag_refused tags _ c.from_string-tag.result _ _ (c.from_string-tag.ensures ∙ c.in_ok-from_str.ensures.ok) (sym c.in-Some-find.ensures) none)
+    ∙ tag_refused tags _ _ _ (sym c.in-Some-find.ensures) none)
     c.in_err-content.ensures)
 
 pub read_tagged-returns : goal.read_tagged-returns
