@@ -8,8 +8,8 @@ mod condition;
 pub mod doc;
 pub mod initial;
 mod levels;
-mod same;
 pub mod names;
+mod same;
 pub mod ty;
 mod typing;
 
@@ -17,4 +17,3 @@ pub use crate::doc::{Doc, Docs};
 pub use crate::initial::init;
 pub use crate::names::has_text;
 pub use crate::ty::{Fields, Ty};
-

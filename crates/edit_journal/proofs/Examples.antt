@@ -9,7 +9,7 @@ use Rattle.edit_module.specs.Words.{add, no_primitives, more_primitives}
 use Rattle.texts.specs.declared.side.Side.TheVariants.{Left, Right}
 use Rattle.edit_json.specs.WordJson.{primitive_of}
 use Rattle.edit_journal.specs.Lines.{line_of, is_blank}
-use Rattle.edit_journal.specs.EntryJson.{tree_of_entry, parts_of, entry_of_tree, tree_of_line, entry_of_line}
+use Rattle.edit_journal.specs.EntryJson.{tree_of_entry, parts_of, entry_of_tree, tree_of_text, entry_of_line}
 use Rattle.edit_journal.specs.declared.line.Line.TheVariants.{Text, TooLong}
 use Rattle.edit_journal.specs.declared.fault.EntryFault.TheVariants.{LineTooLong, NotJson, NotAnEntry, NotAnEdit}
 
@@ -62,7 +62,7 @@ unfolding is_utf8 chars encode serde_json_on_literals
 not_json = refl
 
 -- a byte that is no text
-not_utf8 : tree_of_line (34 ∷ 255 ∷ 34 ∷ []) ≡ None
+not_utf8 : tree_of_text (34 ∷ 255 ∷ 34 ∷ []) ≡ None
 unfolding is_utf8 chars encode
 not_utf8 = refl
 

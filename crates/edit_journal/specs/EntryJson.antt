@@ -52,8 +52,13 @@ entry_of_tree d = entry_of_parts (parts_of d)
 -- ---- the entry that a line is
 
 -- the tree of a text, where it is valid UTF-8 and reads as JSON
-abbrev pub tree_of_line : List ℕ → Option Data
-tree_of_line bytes = if is_utf8 bytes then read bytes else None
+abbrev pub tree_of_text : List ℕ → Option Data
+tree_of_text bytes = if is_utf8 bytes then read bytes else None
+
+-- the tree of a line: that of its text, and none when it is too long
+abbrev pub tree_of_line : Line → Option Data
+tree_of_line (Text bytes) = tree_of_text bytes
+tree_of_line TooLong = None
 
 abbrev pub entry_if_json : Option Data → Result (Side × WordTree) EntryFault
 entry_if_json (Some d) = entry_of_tree d
@@ -61,7 +66,7 @@ entry_if_json None = Err NotJson
 
 -- the entry of a text
 abbrev pub entry_of_text : List ℕ → Result (Side × WordTree) EntryFault
-entry_of_text bytes = entry_if_json (tree_of_line bytes)
+entry_of_text bytes = entry_if_json (tree_of_text bytes)
 
 -- the entry of a line
 abbrev pub entry_of_line : Line → Result (Side × WordTree) EntryFault

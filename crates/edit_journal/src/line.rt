@@ -4,7 +4,7 @@ ghost use Rattle.std.specs.Prelude.{◌≡◌, ◌≤◌, IfOk, OnErr, length};
 ghost use Rattle.std.specs.List.{list_all};
 ghost use Rattle.edit_journal.specs.Lines.{line_of, is_space, is_blank};
 
-use texts::Bytes;
+use texts::{Bytes, Twin};
 use std::alloc::{AllocError, Global};
 
 /// The largest number of bytes in the text of a line, without its LF.
@@ -22,8 +22,8 @@ pub enum Line {
 impl Line {
     /// The line of these bytes, which stand without their LF.
     ///
-    /// `TooLong` exactly where there are more than `LONGEST`, whatever they are. Fails where memory
-    /// runs out, and not otherwise; a line that is too long takes no memory.
+    /// `TooLong` if and only if there are more than `LONGEST`, whatever they are. Fails only if
+    /// memory runs out; a line that is too long does not allocate.
     pub fn from_slice(alloc: Global, bytes: &[u8]) -> Result<Line, AllocError>
         ensures line { IfOk result (λ line. line ≡ line_of bytes.now) }
         ensures too_long_needs_none { OnErr result (length bytes.now ≤ 1048576) }
@@ -36,8 +36,23 @@ impl Line {
     }
 }
 
+impl Twin for Line {
+    ghost use Rattle.edit_journal.specs.declared.line.Line.{Line};
+
+    ghost Meaning = { Line };
+
+    ghost meaning = { λ l. l };
+
+    fn twin(&self, alloc: Global) -> Result<Self, AllocError> {
+        match self {
+            Line::Text(bytes) => Ok(Line::Text(bytes.twin(alloc)?)),
+            Line::TooLong => Ok(Line::TooLong),
+        }
+    }
+}
+
 /// Whether the line is a text of spaces, tabs and CR alone, as the empty text is. A line that is too
-/// long is not blank. Takes no memory.
+/// long is not blank. Does not allocate.
 pub fn is_blank(line: &Line) -> bool
     ensures { result ≡ is_blank line.now }
 {

@@ -16,8 +16,8 @@ use Rattle.texts.proofs.Conjunction.{both, first as left, second as right}
 use Rattle.edit_json.specs.Values.{fits_u64, all_fit_u64}
 use Rattle.edit_json.specs.WordJson.{tree_of_primitive, items_of_word, tree_of_word, word_of_tree, primitive_numbers_fit, numbers_fit, counts_fit}
 use Rattle.edit_json.specs.Depths.{primitive_depth, word_depth}
-use Rattle.edit_json.proofs.Again.{again}
-use Rattle.edit_json.proofs.Shallow.{whole, shallow}
+use Rattle.edit_json.proofs.WritingReadsBack.{again}
+use Rattle.edit_json.proofs.TreeDepths.{whole, shallow}
 
 all_items : (ps : List Primitive) → items_of (map (λ p. tree_of_primitive (primitive_tree p)) ps) ≡ items_of_word (words.word_of (map primitive_tree ps))
 all_items [] = refl

@@ -89,16 +89,16 @@ unfoldable mutual
 
   -- a primitive, by what it does and by the content of its member: those with an inner word, and then all others
   pub content_of : Kind → Data → Option PrimitiveTree
-  content_of At (array (item f (item w no_items))) = option_and_then (λ f. option_map (at f) (word_of w)) (as_str f)
-  content_of Stay (array (item t (item w no_items))) = option_and_then (λ t. option_map (stay t) (word_of w)) (as_str t)
-  content_of Switch (array (item a (item b (item w no_items)))) = option_and_then (λ a. option_and_then (λ b. option_map (switch a b) (word_of w)) (as_str b)) (as_str a)
-  content_of Mod (array (item p (item w no_items))) = option_and_then (λ p. option_map (modify p) (word_of w)) (place_of p)
+  content_of At (array (item f (item w no_items))) = option_and_then (λ f. option_map (at f) (word_of_tree w)) (as_str f)
+  content_of Stay (array (item t (item w no_items))) = option_and_then (λ t. option_map (stay t) (word_of_tree w)) (as_str t)
+  content_of Switch (array (item a (item b (item w no_items)))) = option_and_then (λ a. option_and_then (λ b. option_map (switch a b) (word_of_tree w)) (as_str b)) (as_str a)
+  content_of Mod (array (item p (item w no_items))) = option_and_then (λ p. option_map (modify p) (word_of_tree w)) (place_of p)
   content_of kind d = leaf_of kind d
 
   -- an array of primitives
-  pub word_of : Data → Option WordTree
-  word_of (array ds) = word_of_items ds
-  word_of _ = None
+  pub word_of_tree : Data → Option WordTree
+  word_of_tree (array ds) = word_of_items ds
+  word_of_tree _ = None
 
   pub word_of_items : Items → Option WordTree
   word_of_items no_items = Some no_primitives

@@ -16,12 +16,12 @@ use edit_module::{Atom, Word};
 use hold_shapes::{Name, Path, Place, ShapeEdit};
 use serde_json::{Map, Value};
 use std::alloc::{AllocError, Global};
-use value_json::write_counts;
+use value_json::{write_counts, write_text};
 
 /// The tree of a word; the page docs/FORMATS.md says which tree this is.
 ///
 /// Each insertion and each deletion in the word, inner words included, is of 1 to 65,536 items,
-/// which `has_tree` tests. Fails where memory runs out, and not otherwise.
+/// which `has_tree` tests. Fails only if memory runs out.
 pub fn write_word(alloc: Global, word: &Word) -> Result<Value, AllocError>
     requires counts_fit { counts_fit (word_tree word.now) ≡ true }
 
@@ -204,12 +204,6 @@ fn write_numbers(alloc: Global, numbers: &[u64]) -> Result<Value, AllocError>
     ensures whole { OnOk result (all_fit_u64 numbers.now ≡ true) }
 {
     write_counts(alloc, numbers)
-}
-
-fn write_text(alloc: Global, text: &str) -> Result<Value, AllocError>
-    ensures { IfOk result (λ tree. view tree ≡ string text.now) }
-{
-    Ok(Value::String(String::from_str(alloc, text)?))
 }
 
 // ---- objects with one member, and arrays of two and of three

@@ -25,10 +25,10 @@ use hold_shapes::{Held, Name, Place, Shape, Twin};
 use std::alloc::Global;
 use std::mem;
 
-/// What a word makes of a document: its value after the primitives of the word in turn, which has the type. The empty
+/// What a word makes of a document: its value after the primitives of the word one after another, which has the type. The empty
 /// word gives the document itself.
 ///
-/// The type is well formed and the document has it. [`ActFault::NoApply`] comes exactly where a primitive fails; it
+/// The type is well formed and the document has it. [`ActFault::NoApply`] comes if and only if a primitive fails; it
 /// has the number, from 0, of the first one that does, and its cause. Where a word inside a primitive fails, the
 /// primitive fails with the cause inside. docs/EDITS.md has each primitive with its causes. The document stays as it
 /// is in any case.
@@ -47,7 +47,7 @@ pub fn act(alloc: Global, ty: &Ty, word: &Word, doc: &Doc) -> Result<Doc, ActFau
     }
 }
 
-// The value of a document after the primitives of a word in turn.
+// The value of a document after the primitives of a word one after another.
 #[cycle(run)]
 #[tactic(auto, using(crate::proofs::WordSteps::steps))]
 fn run(alloc: Global, word: &Word, ty: &Ty, doc: Doc) -> Result<Doc, ActFault>

@@ -17,8 +17,7 @@ use std::alloc::{AllocError, Global};
 
 /// The tree of a document of the type; the page docs/FORMATS.md says which tree this is.
 ///
-/// The document has the type, and the type is well formed. Fails where memory runs out, and not
-/// otherwise.
+/// The document has the type, and the type is well formed. Fails only if memory runs out.
 pub fn write_doc(alloc: Global, ty: &Ty, doc: &Doc) -> Result<Value, AllocError>
     requires well_formed { is_well_formed (ty_tree ty.now) ≡ true }
     requires typed { has (ty_tree ty.now) (doc_tree doc.now) ≡ true }
@@ -172,7 +171,7 @@ fn write_ordered(
     Ok(Value::Object(members))
 }
 
-/// The array of these numbers. Fails where memory runs out, and not otherwise.
+/// The array of these numbers. Fails only if memory runs out.
 
 pub fn write_counts(alloc: Global, counts: &[u64]) -> Result<Value, AllocError>
     ensures { IfOk result (λ tree. view tree ≡ array (count_items counts.now)) }

@@ -2,8 +2,8 @@ use Rattle.std.proofs.Common.{◌≡◌, Some, None, true, sym, ap, ◌∙◌}
 use Rattle.serde_json.specs.View.{view}
 use Rattle.edit_module.specs.Views.{word_tree}
 use Rattle.edit_json.specs.WordJson.{tree_of_word, word_of_tree, counts_fit}
-use Rattle.edit_json.proofs.Again.{again}
-use Rattle.edit_json.proofs.Takes.{takes}
+use Rattle.edit_json.proofs.WritingReadsBack.{again}
+use Rattle.edit_json.proofs.ReadingHasTree.{takes}
 use Rattle.edit_json.proofs.Reading.{given_some, refused_none}
 use Rattle.edit_json.proofs.read.read_word.Goals as goal
 

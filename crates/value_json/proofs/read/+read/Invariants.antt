@@ -3,7 +3,7 @@ use Rattle.serde_json.specs.View.{items_view, members_view}
 use Rattle.doc_values.specs.Documents.{doc_tree}
 use Rattle.doc_values.specs.Types.{ty_tree, fields_tree, type_fields_of, field_tree, height, highest}
 use Rattle.value_json.specs.DocumentJson.{field_documents, member_documents, item_documents}
-use Rattle.value_json.proofs.Loops.{then_docs}
+use Rattle.value_json.proofs.ReadLoops.{then_docs}
 use Rattle.value_json.proofs.read.+read.Given as goal
 
 abbrev pub decreases-read : goal.decreases-read

@@ -13,7 +13,7 @@ use Rattle.value_json.specs.Numbers.{count_items}
 use Rattle.value_json.specs.DocumentJson.{tree_of_document, field_members, key_members, content_items, member_names}
 use Rattle.texts.proofs.Conjunction.{first as left, second as right}
 use Rattle.value_json.proofs.Facts.{equal}
-use Rattle.value_json.proofs.Again.{names_again}
+use Rattle.value_json.proofs.WritingReadsBack.{names_again}
 
 int_apart : (y z : ℤ) → of_integer y ≡ of_integer z → y ≡ z
 int_apart (pos m) (pos n) q = cc

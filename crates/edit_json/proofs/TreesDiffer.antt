@@ -1,4 +1,4 @@
--- Two entries never have the same tree: here is a way back from a tree, which asks nothing of its numbers and serves proofs alone.
+-- Two words never have the same tree: here is a way back from a tree, which asks nothing of its numbers and serves proofs alone.
 use Rattle.std.proofs.Common.{◌≡◌, ℕ, ℤ, pos, negsuc, List, [], ◌∷◌, Some, None, refl, sym, ap, ap₂, ◌∙◌}
 use Rattle.serde_json.specs.Data.{Data, null, boolean, number, string, array, object, unsigned, negative, Items, no_items, item, no_members, member}
 use Rattle.hold_shapes.specs.declared.edit.Place.{Place}
@@ -9,14 +9,11 @@ use Rattle.value_json.specs.Numbers.{int_tree, count_items}
 use Rattle.edit_module.specs.Words.{PrimitiveTree, set, add, splice, at, stay, switch, modify, shape, WordTree, no_primitives, more_primitives}
 use Rattle.edit_module.specs.declared.atom.Atom.{Atom}
 use Rattle.edit_module.specs.declared.atom.Atom.TheVariants.{Truth, Number, Letters}
-use Rattle.texts.specs.declared.side.Side.{Side}
 use Rattle.edit_json.specs.Kinds.{kind_of}
 use Rattle.edit_json.specs.Values.{tree_of_atom, tree_of_place}
 use Rattle.edit_json.specs.WordJson.{tree_of_shape_edit, tree_of_primitive, items_of_word, tree_of_word}
 use Rattle.edit_json.specs.declared.kind.Kind.{Kind}
 use Rattle.edit_json.specs.declared.kind.Kind.TheVariants.{Set, Add, Splice, At, Stay, Switch, Mod, Ins, Del, Move, Reorder, Put, Drop, Rename, Graft, Prune, Shift, Hang}
-use Rattle.edit_journal.specs.EntryJson.{tree_of_entry, parts_of}
-use Rattle.edit_journal.proofs.Entries.{parts_again}
 
 -- ---- values
 
@@ -154,21 +151,5 @@ mutual
   word_same no_primitives = refl
   word_same (more_primitives p w) = ap₂ more_primitives (primitive_same p) (word_same w)
 
--- ---- entries
-
-words_apart : (v w : WordTree) → tree_of_word v ≡ tree_of_word w → v ≡ w
-words_apart v w same = sym (word_same v) ∙ ap word_back same ∙ word_same w
-
-abbrev entry : Side → WordTree → Side × WordTree
-entry side w = (side, w)
-
-abbrev parts : Side × WordTree → Side × Data
-parts e = (e.0, tree_of_word e.1)
-
-same_parts : {X : Type 0} (x y : X) → Some x ≡ Some y → x ≡ y
-same_parts x y same = cc
-
-pub apart : (e f : Side × WordTree) → tree_of_entry e ≡ tree_of_entry f → e ≡ f
-apart e f same =
-    let both = same_parts (parts e) (parts f) (sym (parts_again e) ∙ ap parts_of same ∙ parts_again f) in
-    ap₂ entry (ap (λ (p : Side × Data). p.0) both) (words_apart e.1 f.1 (ap (λ (p : Side × Data). p.1) both))
+pub words_differ : (v w : WordTree) → tree_of_word v ≡ tree_of_word w → v ≡ w
+words_differ v w same = sym (word_same v) ∙ ap word_back same ∙ word_same w

@@ -14,7 +14,7 @@ use Rattle.doc_values.specs.Integers.{fits_i64}
 use Rattle.value_json.specs.Numbers.{int_in, int_of, count_in, count_of, counts_of, int_tree, count_tree}
 use Rattle.texts.proofs.Conjunction.{both}
 use Rattle.value_json.proofs.Facts.{equal_bytes, bind_some, map_some, if_some}
-use Rattle.value_json.proofs.Takes.{int_takes, count_takes, counts_take}
+use Rattle.value_json.proofs.ReadingHasTree.{int_takes, count_takes, counts_take}
 use Rattle.edit_json.specs.declared.kind.Kind.{Kind}
 use Rattle.edit_json.specs.declared.kind.Kind.TheVariants.{Set, Add, Splice, At, Stay, Switch, Mod, Ins, Del, Move, Reorder, Put, Drop, Rename, Graft, Prune, Shift, Hang}
 use Rattle.edit_json.specs.Kinds.{kind_of}

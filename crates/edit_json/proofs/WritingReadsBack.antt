@@ -12,7 +12,7 @@ use Rattle.edit_module.specs.Words.{PrimitiveTree, set, add, splice, at, stay, s
 use Rattle.doc_values.specs.Integers.{fits_i64}
 use Rattle.value_json.specs.Numbers.{counts_of, int_tree, count_tree, count_items}
 use Rattle.texts.proofs.Conjunction.{first as left, second as right}
-use Rattle.value_json.proofs.Again.{int_again}
+use Rattle.value_json.proofs.WritingReadsBack.{int_again}
 use Rattle.edit_json.specs.Values.{tree_of_atom, tree_of_place, atom_of, place_of, item_count_of, fits_u64, all_fit_u64, atom_fits, place_fits}
 use Rattle.edit_json.specs.WordJson.{tree_of_shape_edit, tree_of_primitive, items_of_word, tree_of_word, primitive_of, word_of_tree, word_of_items, edit_counts_fit, primitive_counts_fit, counts_fit, edit_numbers_fit, primitive_numbers_fit, numbers_fit}
 
@@ -80,7 +80,3 @@ mutual
 pub again : (w : WordTree) → counts_fit w ≡ true → numbers_fit w ≡ true → word_of_tree (tree_of_word w) ≡ Some w
 unfolding primitive_of
 again w h k = items_again w h k
-
--- two words with the same tree are what it is read back as
-pub apart : (v w : WordTree) → counts_fit v ≡ true → numbers_fit v ≡ true → counts_fit w ≡ true → numbers_fit w ≡ true → tree_of_word v ≡ tree_of_word w → v ≡ w
-apart v w h k i j same = let both : Some v ≡ Some w = sym (again v h k) ∙ ap word_of_tree same ∙ again w i j in cc
