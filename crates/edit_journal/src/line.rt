@@ -45,7 +45,10 @@ impl Twin for Line {
 
     fn twin(&self, alloc: Global) -> Result<Self, AllocError> {
         match self {
-            Line::Text(bytes) => Ok(Line::Text(bytes.twin(alloc)?)),
+            Line::Text(bytes) => {
+                let copy = Vec::from_slice(alloc, bytes.as_slice())?;
+                Ok(Line::Text(Bytes::from_vec(copy)))
+            }
             Line::TooLong => Ok(Line::TooLong),
         }
     }

@@ -12,8 +12,6 @@ pub mod laws;
 pub mod numbers;
 pub mod parts;
 pub mod read;
-#[cfg(test)]
-mod tests;
 pub mod text;
 pub mod write;
 
