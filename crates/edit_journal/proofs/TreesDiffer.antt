@@ -1,6 +1,6 @@
 -- Two entries never have the same tree.
 use Rattle.std.proofs.Common.{◌≡◌, Option, Some, refl, sym, ap, ap₂, ◌∙◌}
-use mathlib.Core.Option.{some-injective}
+use Rattle.std.proofs.lemmas.Option.{same_Some}
 use Rattle.serde_json.specs.Data.{Data}
 use Rattle.edit_module.specs.Words.{WordTree}
 use Rattle.texts.specs.declared.side.Side.{Side}
@@ -17,5 +17,5 @@ parts e = (e.0, tree_of_word e.1)
 
 pub entries_differ : (e f : Side × WordTree) → tree_of_entry e ≡ tree_of_entry f → e ≡ f
 entries_differ e f same =
-    let both = some-injective (parts e) (parts f) (sym (parts_read_back e) ∙ ap parts_of same ∙ parts_read_back f) in
+    let both = same_Some (parts e) (parts f) (sym (parts_read_back e) ∙ ap parts_of same ∙ parts_read_back f) in
     ap₂ entry (ap (λ (p : Side × Data). p.0) both) (words_differ e.1 f.1 (ap (λ (p : Side × Data). p.1) both))
