@@ -20,7 +20,7 @@ pub enum Line {
 }
 
 impl Line {
-    /// The line of these bytes, which stand without their LF.
+    /// The line of these bytes, which are without their LF.
     ///
     /// `TooLong` if and only if there are more than `LONGEST`, whatever they are. Fails only if
     /// memory runs out; a line that is too long does not allocate.
