@@ -2,7 +2,7 @@
 
 ghost use Rattle.std.specs.Prelude.{◌≡◌, ◌↔◌, ◌<◌, ◌≤◌, IsErrOf, length};
 ghost use Rattle.program_terms.specs.Views.{program_tree};
-ghost use Rattle.lens_syntax.specs.Programs.{Gives, Tells, bounded, seen, unbounded};
+ghost use Rattle.lens_syntax.specs.Programs.{Gives, TellsResult, bounded, unbounded};
 ghost use Rattle.lens_syntax.specs.declared.fault.ProgramFault;
 
 use crate::fault::ProgramFault;
@@ -27,7 +27,7 @@ pub fn read_program(alloc: Global, text: &[u8]) -> Result<Program, ProgramFault>
     ensures too_long { IsErrOf result ProgramFault.ProgramTooLong ↔ 65536 < length text.now }
 
     // What the answer says of the text, in the words of the grammar.
-    ensures tells { length text.now ≤ 65536 → Tells text.now (seen program_tree result) }
+    ensures tells { length text.now ≤ 65536 → TellsResult program_tree text.now result }
 {
     if text.len() > LONGEST {
         return Err(ProgramFault::ProgramTooLong);
@@ -42,7 +42,7 @@ pub fn read_unbounded(alloc: Global, text: &[u8]) -> Result<Program, ProgramFaul
     ensures answer { Gives program_tree result (unbounded text.now) }
 
     // What the answer says of the text, in the words of the grammar; so it is never `ProgramTooLong`.
-    ensures tells { Tells text.now (seen program_tree result) }
+    ensures tells { TellsResult program_tree text.now result }
 {
     let tokens = tokens(alloc, text)?;
     match read_tokens(alloc, tokens) {

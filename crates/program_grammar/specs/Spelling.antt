@@ -9,7 +9,7 @@ use Rattle.program_tokens.specs.Tokens.{placed}
 use Rattle.program_terms.specs.Terms.{TypeTree, FieldTrees, unit, bool, int, text, enum_of, record_of, one_of, list, keyed, tree, named, no_fields, more_fields, LensTree, id_of, bij_of, disc_of, then_of, rec_lens, alt_lens, each_of, keyed_each, tree_each, part_of, inv_of, named_lens, RowTrees, no_rows, both, only_left, only_right, ArmTrees, no_arms, more_arms, DefTree, type_def, lens_def}
 use Rattle.program_grammar.specs.declared.mention.Sort.{Sort}
 use Rattle.program_grammar.specs.declared.mention.Sort.TheVariants as sorts
-use Rattle.program_grammar.specs.Mentions.{Point, mention, Noted, NotedProgram}
+use Rattle.program_grammar.specs.Mentions.{Point, mention, NotedDefinition, NotedProgram}
 
 -- one token, which mentions nothing
 pub record Is (k : Token) (here there : Point) : Type 0 where
@@ -119,7 +119,7 @@ IsStatement (type_def t) k here there = (k ≡ Keyword words.Type) × IsType 100
 IsStatement (lens_def l) k here there = (k ≡ Keyword words.Lens) × IsLens 100 l here there
 
 -- A definition: `type` or `lens`, its name, `=`, what it stands for, `;`. Its mentions are those since it began.
-pub record IsDefinition (d : Noted) (here there : List PlacedToken) : Type 0 where
+pub record IsDefinition (d : NotedDefinition) (here there : List PlacedToken) : Type 0 where
   pub word : Token
   pub word_at : ℕ
   pub a : List PlacedToken
@@ -131,7 +131,7 @@ pub record IsDefinition (d : Noted) (here there : List PlacedToken) : Type 0 whe
   pub ends : Is (Mark Semicolon) c (d.mentions, there)
 
 -- definitions in written order
-abbrev pub AreDefinitions : List Noted → List PlacedToken → List PlacedToken → Type 0
+abbrev pub AreDefinitions : List NotedDefinition → List PlacedToken → List PlacedToken → Type 0
 AreDefinitions [] here there = here ≡ there
 AreDefinitions (d ∷ ds) here there = (a : List PlacedToken) × IsDefinition d here a × AreDefinitions ds a there
 

@@ -7,11 +7,11 @@ use Rattle.program_tokens.specs.declared.mark.Mark.TheVariants.{Equals, Semicolo
 use Rattle.program_tokens.specs.declared.token.Token.{Token}
 use Rattle.program_tokens.specs.declared.token.Token.TheVariants as tokens
 use Rattle.program_tokens.specs.declared.token.PlacedToken.{PlacedToken}
-use Rattle.program_terms.specs.Terms.{TypeTree, unit, bool, int, text, enum_of, record_of, one_of, list, keyed, tree, named, fields_of, LensTree, id_of, bij_of, disc_of, then_of, rec_lens, alt_lens, each_of, keyed_each, tree_each, part_of, inv_of, named_lens, RowTree, row_both, row_left, row_right, rows_of, arms_of, DefTree, type_def, lens_def}
+use Rattle.program_terms.specs.Terms.{TypeTree, unit, bool, int, text, enum_of, record_of, one_of, list, keyed, tree, named, term_fields_of, LensTree, id_of, bij_of, disc_of, then_of, rec_lens, alt_lens, each_of, keyed_each, tree_each, part_of, inv_of, named_lens, RowTree, row_both, row_left, row_right, term_rows_of, term_arms_of, DefTree, type_def, lens_def}
 use Rattle.program_grammar.specs.declared.mention.Mention.{Mention}
 use Rattle.program_grammar.specs.declared.mention.Sort.TheVariants as sorts
-use Rattle.program_grammar.specs.Mentions.{Point, mention, Noted}
-use Rattle.program_grammar.specs.Reading.{Read, ◌>>=◌, is_mark, next_is, next_word, mark_in, mark_at, string_in, field_in, name_in, taken, string_at, field_at, name_at, more_at, list_at, closed_at, perhaps_at, typed_at, enum_at, record_at, one_of_at, word_type, mark_type, begun_type, type_from, type_step, type_at, pair_at, bij_at, arm_at, left_row_at, right_row_at, both_row_at, row_by, row_at, then_at, disc_at, part_at, word_lens, rec_at, alt_at, mark_lens, begun_lens, lens_from, lens_step, lens_at, type_term_at, lens_term_at, definition_at}
+use Rattle.program_grammar.specs.Mentions.{Point, mention, NotedDefinition}
+use Rattle.program_grammar.specs.Reading.{Read, ◌>>=◌, is_mark, next_is, next_word, mark_in, mark_at, string_in, field_in, name_in, token_value, string_at, field_at, name_at, more_at, list_at, closed_at, perhaps_at, typed_at, enum_at, record_at, one_of_at, word_type, mark_type, begun_type, type_from, type_step, type_at, pair_at, bij_at, arm_at, left_row_at, right_row_at, both_row_at, row_by, row_at, then_at, disc_at, part_at, word_lens, rec_at, alt_at, mark_lens, begun_lens, lens_from, lens_step, lens_at, type_term_at, lens_term_at, definition_at}
 
 -- ---- rests
 
@@ -90,33 +90,33 @@ pub mark_moves : (m : Mark) (p q : Point) → mark_at m p ≡ Ok q → Passes q.
 unfolding mark_at
 mark_moves m p q e = mark_in_moves m p.0 p.1 q e
 
--- a token of which something is taken
-abbrev taken_from : {A : Type 0} → (PlacedToken → Option A) → List Mention → List PlacedToken → Read A
-taken_from in_token ms [] = Err None
-taken_from in_token ms (t ∷ ts) = taken (in_token t) t.at ms ts
+-- a token of which something is token_value
+abbrev value_from : {A : Type 0} → (PlacedToken → Option A) → List Mention → List PlacedToken → Read A
+value_from in_token ms [] = Err None
+value_from in_token ms (t ∷ ts) = token_value (in_token t) t.at ms ts
 
-taken_is : {A : Type 0} (o : Option A) (at : ℕ) (ms : List Mention) (ts : List PlacedToken) (x : A × Point) → taken o at ms ts ≡ Ok x → ts ≡ x.1.1
-taken_is {A = A} (Some y) at ms ts x e = ap (λ (p : A × Point). p.1.1) (ok_is (y, (ms, ts)) x e)
-taken_is {A = A} None at ms ts x e = absurd cc
+value_is : {A : Type 0} (o : Option A) (at : ℕ) (ms : List Mention) (ts : List PlacedToken) (x : A × Point) → token_value o at ms ts ≡ Ok x → ts ≡ x.1.1
+value_is {A = A} (Some y) at ms ts x e = ap (λ (p : A × Point). p.1.1) (ok_is (y, (ms, ts)) x e)
+value_is {A = A} None at ms ts x e = absurd cc
 
-taken_moves : {A : Type 0} (in_token : PlacedToken → Option A) (ms : List Mention) (ts : List PlacedToken) (x : A × Point) → taken_from in_token ms ts ≡ Ok x → Passes x.1.1 ts
-taken_moves in_token ms [] x e = absurd cc
-taken_moves in_token ms (t ∷ ts) x e = subst (λ r. Passes r (t ∷ ts)) (taken_is (in_token t) t.at ms ts x e) (passes_cons t ts ts (trails_self ts))
+value_moves : {A : Type 0} (in_token : PlacedToken → Option A) (ms : List Mention) (ts : List PlacedToken) (x : A × Point) → value_from in_token ms ts ≡ Ok x → Passes x.1.1 ts
+value_moves in_token ms [] x e = absurd cc
+value_moves in_token ms (t ∷ ts) x e = subst (λ r. Passes r (t ∷ ts)) (value_is (in_token t) t.at ms ts x e) (passes_cons t ts ts (trails_self ts))
 
 pub string_moves : Moves string_at
 unfolding string_at
-string_moves (ms, []) x e = taken_moves (λ t. string_in t.token) ms [] x e
-string_moves (ms, (t ∷ ts)) x e = taken_moves (λ t. string_in t.token) ms (t ∷ ts) x e
+string_moves (ms, []) x e = value_moves (λ t. string_in t.token) ms [] x e
+string_moves (ms, (t ∷ ts)) x e = value_moves (λ t. string_in t.token) ms (t ∷ ts) x e
 
 field_moves : Moves field_at
 unfolding field_at
-field_moves (ms, []) x e = taken_moves (λ t. field_in t.token) ms [] x e
-field_moves (ms, (t ∷ ts)) x e = taken_moves (λ t. field_in t.token) ms (t ∷ ts) x e
+field_moves (ms, []) x e = value_moves (λ t. field_in t.token) ms [] x e
+field_moves (ms, (t ∷ ts)) x e = value_moves (λ t. field_in t.token) ms (t ∷ ts) x e
 
 name_moves : Moves name_at
 unfolding name_at
-name_moves (ms, []) x e = taken_moves (λ t. name_in t.token t.at) ms [] x e
-name_moves (ms, (t ∷ ts)) x e = taken_moves (λ t. name_in t.token t.at) ms (t ∷ ts) x e
+name_moves (ms, []) x e = value_moves (λ t. name_in t.token t.at) ms [] x e
+name_moves (ms, (t ∷ ts)) x e = value_moves (λ t. name_in t.token t.at) ms (t ∷ ts) x e
 
 -- ---- lists
 
@@ -170,11 +170,11 @@ enum_moves p x e =
 
 record_moves : (inner : Point → Read TypeTree) → Moves inner → Moves (record_at inner)
 unfolding record_at
-record_moves inner m p x e = wrapped (perhaps_at (typed_at inner) CloseBrace) (perhaps_moves (typed_at inner) CloseBrace (typed_moves inner m)) (λ fs. record_of (fields_of fs)) p x e
+record_moves inner m p x e = wrapped (perhaps_at (typed_at inner) CloseBrace) (perhaps_moves (typed_at inner) CloseBrace (typed_moves inner m)) (λ fs. record_of (term_fields_of fs)) p x e
 
 one_of_moves : (inner : Point → Read TypeTree) → Moves inner → Moves (one_of_at inner)
 unfolding one_of_at
-one_of_moves inner m p x e = wrapped (closed_at (typed_at inner) Greater) (closed_moves (typed_at inner) Greater (typed_moves inner m)) (λ fs. one_of (fields_of fs)) p x e
+one_of_moves inner m p x e = wrapped (closed_at (typed_at inner) Greater) (closed_moves (typed_at inner) Greater (typed_moves inner m)) (λ fs. one_of (term_fields_of fs)) p x e
 
 -- behind a first token it is enough to trail
 
@@ -276,15 +276,15 @@ then_moves inner m p x e =
 part_moves : (type : Point → Read TypeTree) → Moves type → Moves (part_at type)
 unfolding part_at
 part_moves type m p x e =
-    next_moves (mark_at Less p) _ p.1 x.1.1 (λ r. r.1) x e (mark_moves Less p) (λ r e. (wrapped (closed_at (typed_at type) Greater) (closed_moves (typed_at type) Greater (typed_moves type m)) (λ fs. part_of (fields_of fs)) r x e).trails)
+    next_moves (mark_at Less p) _ p.1 x.1.1 (λ r. r.1) x e (mark_moves Less p) (λ r e. (wrapped (closed_at (typed_at type) Greater) (closed_moves (typed_at type) Greater (typed_moves type m)) (λ fs. part_of (term_fields_of fs)) r x e).trails)
 
 rec_moves : (type : Point → Read TypeTree) (inner : Point → Read LensTree) → Moves type → Moves inner → Moves (rec_at type inner)
 unfolding rec_at
-rec_moves type inner m n p x e = wrapped (perhaps_at (row_at type inner) CloseBrace) (perhaps_moves (row_at type inner) CloseBrace (row_moves type inner m n)) (λ rs. rec_lens (rows_of rs)) p x e
+rec_moves type inner m n p x e = wrapped (perhaps_at (row_at type inner) CloseBrace) (perhaps_moves (row_at type inner) CloseBrace (row_moves type inner m n)) (λ rs. rec_lens (term_rows_of rs)) p x e
 
 alt_moves : (inner : Point → Read LensTree) → Moves inner → Moves (alt_at inner)
 unfolding alt_at
-alt_moves inner m p x e = wrapped (closed_at (arm_at inner) Greater) (closed_moves (arm_at inner) Greater (arm_moves inner m)) (λ rs. alt_lens (arms_of rs)) p x e
+alt_moves inner m p x e = wrapped (closed_at (arm_at inner) Greater) (closed_moves (arm_at inner) Greater (arm_moves inner m)) (λ rs. alt_lens (term_arms_of rs)) p x e
 
 word_lens_moves : (type : Point → Read TypeTree) (inner : Point → Read LensTree) → Moves type → Moves inner → (k : Keyword) (at : ℕ) (p : Point) (x : LensTree × Point)
     → word_lens type inner k at p ≡ Ok x → Trails x.1.1 p.1
@@ -337,11 +337,11 @@ pub lens_term_moves : Moves lens_term_at
 unfolding lens_term_at
 lens_term_moves p x e = wrapped (lens_at 100) (lens_moves 100) lens_def p x e
 
-pub definition_moves : (term : Point → Read DefTree) → Moves term → (ts : List PlacedToken) (x : Noted × List PlacedToken) → definition_at term ts ≡ Ok x → Passes x.1 ts
+pub definition_moves : (term : Point → Read DefTree) → Moves term → (ts : List PlacedToken) (x : NotedDefinition × List PlacedToken) → definition_at term ts ≡ Ok x → Passes x.1 ts
 unfolding definition_at
 definition_moves term m ts x e =
     next_moves (name_at ([], ts)) _ ts x.1 (λ n. n.1.1) x e (name_moves ([], ts)) (λ n e.
     (next_moves (mark_at Equals n.1) _ n.1.1 x.1 (λ r. r.1) x e (mark_moves Equals n.1) (λ r e.
     (next_moves (term r) _ r.1 x.1 (λ d. d.1.1) x e (m r) (λ d e.
     (next_moves (mark_at Semicolon d.1) _ d.1.1 x.1 (λ r. r.1) x e (mark_moves Semicolon d.1) (λ r e.
-    subst (λ (y : Noted × List PlacedToken). Trails y.1 r.1) (ok_is (record { name = n.0.0; at = n.0.1; def = d.0; mentions = r.0 }, r.1) x e) (trails_self r.1))).trails)).trails)).trails)
+    subst (λ (y : NotedDefinition × List PlacedToken). Trails y.1 r.1) (ok_is (record { name = n.0.0; at = n.0.1; def = d.0; mentions = r.0 }, r.1) x e) (trails_self r.1))).trails)).trails)).trails)

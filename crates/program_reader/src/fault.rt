@@ -51,9 +51,9 @@ impl<T: Drop> From<AllocFailed<T>> for ReadFault {
 }
 
 impl From<ReadFault> for ProgramReadFault {
-    ghost use Rattle.program_reader.specs.Answers.{misfit};
+    ghost use Rattle.program_reader.specs.Causes.{public_fault};
 
-    ghost from_gives = { λ found fault. fault ≡ misfit found };
+    ghost from_gives = { λ found fault. fault ≡ public_fault found };
 
     fn from(found: ReadFault) -> ProgramReadFault {
         match found {
@@ -65,9 +65,9 @@ impl From<ReadFault> for ProgramReadFault {
 }
 
 impl From<NameFault> for ProgramReadFault {
-    ghost use Rattle.program_reader.specs.Answers.{refusal};
+    ghost use Rattle.program_reader.specs.Causes.{public_name_fault};
 
-    ghost from_gives = { λ found fault. fault ≡ refusal found };
+    ghost from_gives = { λ found fault. fault ≡ public_name_fault found };
 
     fn from(found: NameFault) -> ProgramReadFault {
         match found {

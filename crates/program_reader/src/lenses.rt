@@ -90,7 +90,7 @@ pub(crate) fn read_lens(alloc: Global, reader: &mut Reader, room: u32) -> Result
     ensures { Gives lens_tree result reader.new (lens_at room reader.old) }
 {
     if room == 0 {
-        return Err(reader.stuck());
+        return Err(reader.next_fault());
     }
     read_begun_lens(alloc, reader, room - 1)
 }

@@ -1,5 +1,5 @@
 //! From tokens to a program.
-ghost use Rattle.program_reader.specs.Answers.{IsAnswer, answer_of};
+ghost use Rattle.program_reader.specs.Causes.{IsResult, program_of};
 ghost use Rattle.program_terms.specs.Views.{program_tree};
 
 use crate::fault::ProgramReadFault;
@@ -21,7 +21,7 @@ use std::alloc::Global;
 ///
 /// docs/LANGUAGE.md has the grammar and the rules for names.
 pub fn read_tokens(alloc: Global, tokens: Tokens) -> Result<Program, ProgramReadFault>
-    ensures { IsAnswer program_tree result (answer_of tokens) }
+    ensures { IsResult program_tree result (program_of tokens) }
 {
     let program = read_program(alloc, tokens)?;
     with_known_names(alloc, program)

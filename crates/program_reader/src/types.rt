@@ -54,7 +54,7 @@ pub(crate) fn read_type(alloc: Global, reader: &mut Reader, room: u32) -> Result
     ensures { Gives type_tree result reader.new (type_at room reader.old) }
 {
     if room == 0 {
-        return Err(reader.stuck());
+        return Err(reader.next_fault());
     }
     read_begun_type(alloc, reader, room - 1)
 }

@@ -22,9 +22,9 @@ mutual
     more_fields : List ℕ → TypeTree → FieldTrees → FieldTrees
 
 -- a list of names with types as fields, and back
-abbrev pub fields_of : List (List ℕ × TypeTree) → FieldTrees
-fields_of [] = no_fields
-fields_of (f ∷ fs) = more_fields f.0 f.1 (fields_of fs)
+abbrev pub term_fields_of : List (List ℕ × TypeTree) → FieldTrees
+term_fields_of [] = no_fields
+term_fields_of (f ∷ fs) = more_fields f.0 f.1 (term_fields_of fs)
 
 abbrev pub field_list : FieldTrees → List (List ℕ × TypeTree)
 field_list no_fields = []
@@ -70,9 +70,9 @@ with_row (row_left a t) rows = only_left a t rows
 with_row (row_right a t) rows = only_right a t rows
 
 -- a list of rows as rows, and back
-abbrev pub rows_of : List RowTree → RowTrees
-rows_of [] = no_rows
-rows_of (r ∷ rs) = with_row r (rows_of rs)
+abbrev pub term_rows_of : List RowTree → RowTrees
+term_rows_of [] = no_rows
+term_rows_of (r ∷ rs) = with_row r (term_rows_of rs)
 
 abbrev pub row_list : RowTrees → List RowTree
 row_list no_rows = []
@@ -81,9 +81,9 @@ row_list (only_left a t rows) = row_left a t ∷ row_list rows
 row_list (only_right a t rows) = row_right a t ∷ row_list rows
 
 -- a list of two tags with a lens as arms, and back
-abbrev pub arms_of : List (List ℕ × List ℕ × LensTree) → ArmTrees
-arms_of [] = no_arms
-arms_of (a ∷ others) = more_arms a.0 a.1 a.2 (arms_of others)
+abbrev pub term_arms_of : List (List ℕ × List ℕ × LensTree) → ArmTrees
+term_arms_of [] = no_arms
+term_arms_of (a ∷ others) = more_arms a.0 a.1 a.2 (term_arms_of others)
 
 abbrev pub arm_list : ArmTrees → List (List ℕ × List ℕ × LensTree)
 arm_list no_arms = []

@@ -1,7 +1,7 @@
 //! Types as they are written.
 
 ghost use Rattle.std.specs.Prelude.{◌≡◌, IfOk, map};
-ghost use Rattle.program_terms.specs.Terms.{fields_of};
+ghost use Rattle.program_terms.specs.Terms.{term_fields_of};
 ghost use Rattle.program_terms.specs.Views.{type_tree, fields_tree, field_tree};
 
 use hold_shapes::{Name, Names, Twin};
@@ -49,21 +49,21 @@ pub struct TyFields {
 impl TyFields {
     /// The fields with these names and types, in this order. Takes no memory.
     pub fn from_vec(items: Vec<(Name, TyExpr)>) -> TyFields
-        ensures { fields_tree result ≡ fields_of (map field_tree items.items) }
+        ensures { fields_tree result ≡ term_fields_of (map field_tree items.items) }
     {
         TyFields { items }
     }
 
     /// The names and types in order.
     pub fn as_slice(&self) -> &[(Name, TyExpr)]
-        ensures { fields_of (map field_tree result.now) ≡ fields_tree self.now }
+        ensures { term_fields_of (map field_tree result.now) ≡ fields_tree self.now }
     {
         self.items.as_slice()
     }
 
     /// The names and types in order. Takes no memory.
     pub fn into_vec(self) -> Vec<(Name, TyExpr)>
-        ensures { fields_of (map field_tree result.items) ≡ fields_tree self }
+        ensures { term_fields_of (map field_tree result.items) ≡ fields_tree self }
     {
         self.items
     }

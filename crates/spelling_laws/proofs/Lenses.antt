@@ -8,13 +8,13 @@ use Rattle.program_tokens.specs.declared.mark.Mark.TheVariants as marks
 use Rattle.program_tokens.specs.declared.token.Token.{Token}
 use Rattle.program_tokens.specs.declared.token.Token.TheVariants as tokens
 use Rattle.program_tokens.specs.declared.token.PlacedToken.{PlacedToken}
-use Rattle.program_terms.specs.Terms.{TypeTree, fields_of, field_list, LensTree, id_of, bij_of, disc_of, then_of, rec_lens, alt_lens, each_of, keyed_each, tree_each, part_of, inv_of, named_lens, rows_of, row_list, arms_of, arm_list}
+use Rattle.program_terms.specs.Terms.{TypeTree, term_fields_of, field_list, LensTree, id_of, bij_of, disc_of, then_of, rec_lens, alt_lens, each_of, keyed_each, tree_each, part_of, inv_of, named_lens, term_rows_of, row_list, term_arms_of, arm_list}
 use Rattle.program_grammar.specs.declared.mention.Mention.{Mention}
 use Rattle.program_grammar.specs.declared.mention.Sort.TheVariants as sorts
 use Rattle.program_grammar.specs.Mentions.{Point, mention}
 use Rattle.program_grammar.specs.Reading.{Read, ◌>>=◌, typed_at, closed_at, perhaps_at, type_at, pair_at, bij_at, arm_at, row_at, then_at, disc_at, part_at, word_lens, rec_at, alt_at, mark_lens, begun_lens, lens_from, lens_step, lens_at}
 use Rattle.program_grammar.specs.Spelling.{Is, IsPair, IsType, IsLens}
-use Rattle.spelling_laws.proofs.Steps.{Ahead, onward, is_ahead, Exact, done, read_as, read_first, made_of}
+use Rattle.spelling_laws.proofs.ReadingSteps.{Ahead, onward, is_ahead, Exact, done, read_as, read_first, made_of}
 use Rattle.spelling_laws.proofs.Marks.{before, it_is, point_is, mention_ahead, mark_again, mark_first}
 use Rattle.spelling_laws.proofs.Lists.{Closed, Perhaps}
 use Rattle.spelling_laws.proofs.Types.{Typed, fields_and_back, listed_are_fields, fields_are_listed, fields_exact, type_exact}
@@ -81,7 +81,7 @@ part_found : (n : ℕ) (type : Point → Read TypeTree) → Exact (IsType n) typ
 unfolding part_at
 part_found n type d at here x h =
     mark_first Less here _ x _ h (λ a opens h.
-    made_of (Closed (Typed (IsType n)) Greater) (closed_at (typed_at type) Greater) (part_fields n type d) (IsLens (suc n)) (λ fs. part_of (fields_of fs)) (before (tokens.Keyword words.Part) at here) a x h (λ fs there so.
+    made_of (Closed (Typed (IsType n)) Greater) (closed_at (typed_at type) Greater) (part_fields n type d) (IsLens (suc n)) (λ fs. part_of (term_fields_of fs)) (before (tokens.Keyword words.Part) at here) a x h (λ fs there so.
     (here, a, so.0, it_is (tokens.Keyword words.Part) at here, opens, listed_are_fields n fs a so.0 so.1, so.2)))
 
 -- a word and a lens
@@ -108,11 +108,11 @@ word_found n type inner e _ at here x h = absurd cc
 mark_lens_found : (n : ℕ) (type : Point → Read TypeTree) (inner : Point → Read LensTree) → Inside n type inner → (m : Mark) (at : ℕ) → Begun n (tokens.Mark m) at (mark_lens type inner m at)
 unfolding mark_lens rec_at alt_at
 mark_lens_found n type inner e marks.OpenBrace at here x h =
-    made_of (Perhaps (IsRow n) CloseBrace) (perhaps_at (row_at type inner) CloseBrace) (rows_exact n type inner e.types e.lenses) (IsLens (suc n)) (λ rs. rec_lens (rows_of rs)) (before (tokens.Mark OpenBrace) at here) here x h (λ rs there so.
+    made_of (Perhaps (IsRow n) CloseBrace) (perhaps_at (row_at type inner) CloseBrace) (rows_exact n type inner e.types e.lenses) (IsLens (suc n)) (λ rs. rec_lens (term_rows_of rs)) (before (tokens.Mark OpenBrace) at here) here x h (λ rs there so.
     let braced = perhaps_are_rows n rs here there so in
     (here, braced.0, it_is (tokens.Mark OpenBrace) at here, braced.1, braced.2))
 mark_lens_found n type inner e marks.Less at here x h =
-    made_of (Closed (IsArm n) Greater) (closed_at (arm_at inner) Greater) (arms_exact n inner e.lenses) (IsLens (suc n)) (λ xs. alt_lens (arms_of xs)) (before (tokens.Mark Less) at here) here x h (λ xs there so.
+    made_of (Closed (IsArm n) Greater) (closed_at (arm_at inner) Greater) (arms_exact n inner e.lenses) (IsLens (suc n)) (λ xs. alt_lens (term_arms_of xs)) (before (tokens.Mark Less) at here) here x h (λ xs there so.
     (here, so.0, it_is (tokens.Mark Less) at here, listed_are_arms n xs here so.0 so.1, so.2))
 mark_lens_found n type inner e _ at here x h = absurd cc
 

@@ -9,7 +9,7 @@ use Rattle.program_grammar.specs.declared.mention.Mention.{Mention}
 use Rattle.program_grammar.specs.Mentions.{Point}
 use Rattle.program_grammar.specs.Reading.{Read, ◌>>=◌, is_mark, next_is, mark_at, more_at, list_at, closed_at, perhaps_at}
 use Rattle.program_grammar.specs.Spelling.{Is}
-use Rattle.spelling_laws.proofs.Steps.{Ahead, no_step, onward, is_ahead, rest_is, Exact, done, read_as, bind_ok, chosen, read_first}
+use Rattle.spelling_laws.proofs.ReadingSteps.{Ahead, no_step, onward, is_ahead, rest_is, Exact, done, read_as, bind_ok, chosen, read_first}
 use Rattle.spelling_laws.proofs.Marks.{point_is, this_mark, mark_again, mark_first, mark_next, other_mark}
 
 -- elements behind commas

@@ -11,9 +11,9 @@ use Rattle.program_tokens.specs.declared.token.PlacedToken.{PlacedToken}
 use Rattle.program_grammar.specs.declared.mention.Mention.{Mention}
 use Rattle.program_grammar.specs.declared.mention.Sort.{Sort}
 use Rattle.program_grammar.specs.Mentions.{Point}
-use Rattle.program_grammar.specs.Reading.{◌>>=◌, is_mark, next_is, mark_in, mark_at, string_in, string_from, string_at, field_in, field_from, field_at, taken}
+use Rattle.program_grammar.specs.Reading.{◌>>=◌, is_mark, next_is, mark_in, mark_at, string_in, string_from, string_at, field_in, field_from, field_at, token_value}
 use Rattle.program_grammar.specs.Spelling.{Is, IsField, IsMention}
-use Rattle.spelling_laws.proofs.Steps.{Ahead, is_ahead, Exact, ok_is, read_as, bind_ok, chosen}
+use Rattle.spelling_laws.proofs.ReadingSteps.{Ahead, is_ahead, Exact, ok_is, read_as, bind_ok, chosen}
 
 -- the point where this token stands before those of another point
 abbrev pub before : Token → ℕ → Point → Point
@@ -95,17 +95,17 @@ other_mark m k e h = ap (next_is m) h.parts ∙ e
 abbrev pub IsText : List ℕ → Point → Point → Type 0
 IsText s here there = Is (tokens.Text s) here there
 
-text_taken : (ms : List Mention) (k : Token) (at : ℕ) (ts : List PlacedToken) (x : List ℕ × Point) → taken (string_in k) at ms ts ≡ Ok x → IsText x.0 (ms, placed k at ∷ ts) x.1
-text_taken ms (tokens.Text s) at ts x e = read_as IsText (ms, placed (tokens.Text s) at ∷ ts) (s, (ms, ts)) x e (it_is (tokens.Text s) at (ms, ts))
-text_taken ms (tokens.Mark m) at ts x e = absurd cc
-text_taken ms (tokens.Keyword k) at ts x e = absurd cc
-text_taken ms (tokens.Name n) at ts x e = absurd cc
-text_taken ms tokens.Bad at ts x e = absurd cc
-text_taken ms tokens.End at ts x e = absurd cc
+text_value : (ms : List Mention) (k : Token) (at : ℕ) (ts : List PlacedToken) (x : List ℕ × Point) → token_value (string_in k) at ms ts ≡ Ok x → IsText x.0 (ms, placed k at ∷ ts) x.1
+text_value ms (tokens.Text s) at ts x e = read_as IsText (ms, placed (tokens.Text s) at ∷ ts) (s, (ms, ts)) x e (it_is (tokens.Text s) at (ms, ts))
+text_value ms (tokens.Mark m) at ts x e = absurd cc
+text_value ms (tokens.Keyword k) at ts x e = absurd cc
+text_value ms (tokens.Name n) at ts x e = absurd cc
+text_value ms tokens.Bad at ts x e = absurd cc
+text_value ms tokens.End at ts x e = absurd cc
 
 text_from : (ms : List Mention) (ts : List PlacedToken) (x : List ℕ × Point) → string_from ms ts ≡ Ok x → IsText x.0 (ms, ts) x.1
 text_from ms [] x e = absurd cc
-text_from ms (t ∷ ts) x e = text_taken ms t.token t.at ts x e
+text_from ms (t ∷ ts) x e = text_value ms t.token t.at ts x e
 
 pub string_exact : Exact IsText string_at
 unfolding string_at
@@ -117,17 +117,17 @@ string_exact = record {
 
 -- fields
 
-field_taken : (ms : List Mention) (k : Token) (at : ℕ) (ts : List PlacedToken) (x : List ℕ × Point) → taken (field_in k) at ms ts ≡ Ok x → IsField x.0 (ms, placed k at ∷ ts) x.1
-field_taken ms (tokens.Name s) at ts x e = read_as IsField (ms, placed (tokens.Name s) at ∷ ts) (s, (ms, ts)) x e (inl (it_is (tokens.Name s) at (ms, ts)))
-field_taken ms (tokens.Text s) at ts x e = read_as IsField (ms, placed (tokens.Text s) at ∷ ts) (s, (ms, ts)) x e (inr (it_is (tokens.Text s) at (ms, ts)))
-field_taken ms (tokens.Mark m) at ts x e = absurd cc
-field_taken ms (tokens.Keyword k) at ts x e = absurd cc
-field_taken ms tokens.Bad at ts x e = absurd cc
-field_taken ms tokens.End at ts x e = absurd cc
+field_value : (ms : List Mention) (k : Token) (at : ℕ) (ts : List PlacedToken) (x : List ℕ × Point) → token_value (field_in k) at ms ts ≡ Ok x → IsField x.0 (ms, placed k at ∷ ts) x.1
+field_value ms (tokens.Name s) at ts x e = read_as IsField (ms, placed (tokens.Name s) at ∷ ts) (s, (ms, ts)) x e (inl (it_is (tokens.Name s) at (ms, ts)))
+field_value ms (tokens.Text s) at ts x e = read_as IsField (ms, placed (tokens.Text s) at ∷ ts) (s, (ms, ts)) x e (inr (it_is (tokens.Text s) at (ms, ts)))
+field_value ms (tokens.Mark m) at ts x e = absurd cc
+field_value ms (tokens.Keyword k) at ts x e = absurd cc
+field_value ms tokens.Bad at ts x e = absurd cc
+field_value ms tokens.End at ts x e = absurd cc
 
 field_from_found : (ms : List Mention) (ts : List PlacedToken) (x : List ℕ × Point) → field_from ms ts ≡ Ok x → IsField x.0 (ms, ts) x.1
 field_from_found ms [] x e = absurd cc
-field_from_found ms (t ∷ ts) x e = field_taken ms t.token t.at ts x e
+field_from_found ms (t ∷ ts) x e = field_value ms t.token t.at ts x e
 
 field_moves : (f : List ℕ) (here there : Point) → IsField f here there → Ahead here there
 field_moves f here there (inl h) = is_ahead h

@@ -3,7 +3,7 @@ use Rattle.std.proofs.lemmas.Result.{err_from_is_err_and}
 use Rattle.std.proofs.lemmas.List.{map_push}
 use Rattle.program_terms.specs.Views.{row_tree, arm_tree}
 use Rattle.program_grammar.specs.Reading.{list_at, type_at, lens_at, row_at, arm_at}
-use Rattle.program_reader.proofs.Loops.{begins, begins_not, goes_on, breaks, is_done, shorter}
+use Rattle.program_reader.proofs.ListLoop.{begins, begins_not, goes_on, breaks, is_done, shorter}
 use Rattle.program_reader.proofs.Moves.{type_moves, lens_moves, row_moves, arm_moves}
 use Rattle.program_reader.proofs.lenses.+lenses.Goals as goal
 

@@ -1,7 +1,7 @@
 use Rattle.std.proofs.Common.{◌≡◌, ◌++◌, ◌∷◌, [], refl}
 use Rattle.std.proofs.lemmas.Result.{err_from_is_err_and}
 use Rattle.program_grammar.specs.Reading.{pair_at, list_at}
-use Rattle.program_reader.proofs.Loops.{begins, begins_not, goes_on, breaks, is_done, shorter}
+use Rattle.program_reader.proofs.ListLoop.{begins, begins_not, goes_on, breaks, is_done, shorter}
 use Rattle.program_reader.proofs.Moves.{pair_moves}
 use Rattle.program_reader.proofs.lenses.read_pairs.Goals as goal
 

@@ -3,7 +3,7 @@ use Rattle.std.proofs.lemmas.Result.{err_from_is_err_and}
 use Rattle.std.proofs.lemmas.List.{map_push}
 use Rattle.program_terms.specs.Views.{field_tree}
 use Rattle.program_grammar.specs.Reading.{list_at, typed_at, type_at}
-use Rattle.program_reader.proofs.Loops.{begins, begins_not, goes_on, breaks, is_done, shorter}
+use Rattle.program_reader.proofs.ListLoop.{begins, begins_not, goes_on, breaks, is_done, shorter}
 use Rattle.program_reader.proofs.Moves.{typed_moves, type_moves}
 use Rattle.program_reader.proofs.types.+types.Goals as goal
 

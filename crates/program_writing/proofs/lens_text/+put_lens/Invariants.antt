@@ -1,5 +1,5 @@
 use Rattle.std.proofs.Common.{◌≡◌, ◌+◌, ◌*◌, ◌++◌, [], drop, map, List, ℕ, string_bytes}
-use Rattle.program_terms.specs.Terms.{rows_of, arms_of}
+use Rattle.program_terms.specs.Terms.{term_rows_of, term_arms_of}
 use Rattle.program_terms.specs.Views.{lens_tree, row_tree, rows_tree, arm_tree, arms_tree}
 use Rattle.program_writing.specs.Canonical.{put_rows, put_arms}
 use Rattle.program_writing.specs.Puts.{comma}
@@ -19,7 +19,7 @@ abbrev pub decreases-put_arms : goal.decreases-put_arms
 decreases-put_arms l = 3 * arms_depth (arms_tree l.arms.now) + 2
 
 abbrev pub invariant-put_rows-loop-row : goal.invariant-put_rows-loop-row
-invariant-put_rows-loop-row l = (rest : List ℕ) → string_bytes l.out ++ put_rows (comma l.first) (rows_of (map row_tree (drop l.row-index l.row-items))) rest ≡ string_bytes l.fn.out ++ put_rows [] (rows_of (map row_tree l.row-items)) rest
+invariant-put_rows-loop-row l = (rest : List ℕ) → string_bytes l.out ++ put_rows (comma l.first) (term_rows_of (map row_tree (drop l.row-index l.row-items))) rest ≡ string_bytes l.fn.out ++ put_rows [] (term_rows_of (map row_tree l.row-items)) rest
 
 abbrev pub invariant-put_arms-loop-arm : goal.invariant-put_arms-loop-arm
-invariant-put_arms-loop-arm l = (rest : List ℕ) → string_bytes l.out ++ put_arms (comma l.first) (arms_of (map arm_tree (drop l.arm-index l.arm-items))) rest ≡ string_bytes l.fn.out ++ put_arms [] (arms_of (map arm_tree l.arm-items)) rest
+invariant-put_arms-loop-arm l = (rest : List ℕ) → string_bytes l.out ++ put_arms (comma l.first) (term_arms_of (map arm_tree (drop l.arm-index l.arm-items))) rest ≡ string_bytes l.fn.out ++ put_arms [] (term_arms_of (map arm_tree l.arm-items)) rest

@@ -1,0 +1,46 @@
+//! Reading stops at the first token that does not fit, and nowhere else.
+//!
+//! Each function here does nothing: its clauses are laws of the grammar of programs, for other crates to rest on.
+//! docs/LANGUAGE.md has the rules in prose.
+#![tactic(auto)]
+
+ghost use Rattle.std.specs.Prelude.{◌≡◌, ℕ, List, ◌++◌, Some, None, Ok, Err};
+ghost use Rattle.program_tokens.specs.Tokens.{tokens_of};
+ghost use Rattle.program_tokens.specs.declared.token.Token.{Token};
+ghost use Rattle.program_tokens.specs.declared.token.PlacedToken.{PlacedToken};
+ghost use Rattle.program_grammar.specs.Grammar.{Symbol, IsViablePrefix, program_and_end};
+ghost use Rattle.program_grammar.specs.Mentions.{NotedProgram};
+ghost use Rattle.program_grammar.specs.Unexpected.{without_offsets, IsUnexpectedToken};
+ghost use Rattle.program_grammar.specs.Reading.{program_at};
+
+/// Of some symbols and tokens there is one misfit at most.
+pub fn one_unexpected_token()
+    // What begins a front is a front.
+    ensures prefix_of_viable { (s : List Symbol) (before after : List Token) → IsViablePrefix s (before ++ after) → IsViablePrefix s before }
+
+    // Two misfits of the same symbols and tokens are at the same offset.
+    ensures same_offset { (s : List Symbol) (ts : List PlacedToken) (at other : ℕ) → IsUnexpectedToken s ts at → IsUnexpectedToken s ts other → at ≡ other }
+{}
+
+/// Reading a program fails at an offset exactly where the first token that does not fit is there: the tokens before it
+/// begin a program and its end, and with it they do not.
+pub fn reading_stops_at_the_unexpected_token()
+    ensures stops_there { (ts : List PlacedToken) (at : ℕ) → program_at ts ≡ Err (Some at) → IsUnexpectedToken program_and_end ts at }
+    ensures only_there { (ts : List PlacedToken) (at : ℕ) → IsUnexpectedToken program_and_end ts at → program_at ts ≡ Err (Some at) }
+{}
+
+/// Reading a program finds no misfit exactly where the tokens begin a program and its end.
+pub fn reading_accepts_viable_prefixes()
+    // The tokens ran out before the end.
+    ensures unfinished { (ts : List PlacedToken) → program_at ts ≡ Err None → IsViablePrefix program_and_end (without_offsets ts) }
+
+    // A program was read.
+    ensures read { (ts : List PlacedToken) (p : NotedProgram) → program_at ts ≡ Ok p → IsViablePrefix program_and_end (without_offsets ts) }
+    ensures no_unexpected_token { (ts : List PlacedToken) (at : ℕ) → IsViablePrefix program_and_end (without_offsets ts) → program_at ts ≡ Err (Some at) → ⊥ }
+{}
+
+/// The tokens of a text never run out before reading stops: they end with the text's end or with a bad token, and
+/// reading goes past neither, but for the end of a program.
+pub fn tokens_never_run_out()
+    ensures { (text : List ℕ) → program_at (tokens_of text) ≡ Err None → ⊥ }
+{}
