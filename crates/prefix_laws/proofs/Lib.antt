@@ -1,14 +1,17 @@
-pub mod TextEnd
 mod Examples
-pub mod SymbolTokens
+pub mod Machine
+pub mod MachineSteps
 pub mod MachineSoundness
 pub mod MachineCompleteness
+pub mod SymbolTokens
+pub mod TokenReading
 pub mod ListReading
-pub mod Machine
-pub mod Unexpected
-pub mod ReadingLaws
-pub mod MachineSteps
+pub mod TypeReading
 pub mod LensReading
 pub mod ProgramReading
-pub mod TypeReading
-pub mod TokenReading
+pub mod ReadingLaws
+pub mod Unexpected
+pub mod TextEnd
+pub mod PlainPrefixes
+pub mod NumberedSymbols
+pub mod NestingBound

@@ -17,7 +17,7 @@ use Rattle.prefix_laws.proofs.SymbolTokens.{nothing_there, word_is, chosen, name
 -- Fine symbols: what follows a part begins with `main` or with a mark other than a comma, and no part that may come again ends in
 -- another. So the next token alone says whether a part is there.
 
-abbrev Closes : List Symbol → Type 0
+abbrev pub Closes : List Symbol → Type 0
 Closes [] = ⊥
 Closes (mark m ∷ s) = eqb (mark_byte m) 44 ≡ false
 Closes (word k ∷ s) = k ≡ words.Main
@@ -51,20 +51,20 @@ Fine (repeated p ∷ s) = EndsPlain p × Closes s × Fine s
 
 -- a fact of each of some lists of symbols
 
-abbrev Each : (List Symbol → Type 0) → List (List Symbol) → Type 0
+abbrev pub Each : {A : Type 0} → (A → Type 0) → List A → Type 0
 Each P [] = Unit {0}
 Each P (b ∷ bs) = P b × Each P bs
 
 infixr 4 ◌also◌
-abbrev ◌also◌ : {A B : Type 0} → A → B → A × B
+abbrev pub ◌also◌ : {A B : Type 0} → A → B → A × B
 a also b = (a, b)
 
-each : (P : List Symbol → Type 0) (all : List (List Symbol)) → Each P all → (a : List Symbol) → IsAmong a all → P a
+pub each : {A : Type 0} (P : A → Type 0) (all : List A) → Each P all → (a : A) → IsAmong a all → P a
 each P [] h a k = absurd k
 each P (b ∷ bs) h a (inl e) = subst P (sym e) h.0
 each P (b ∷ bs) h a (inr k) = each P bs h.1 a k
 
-fine_rule : (r : Rule) (s : List Symbol) → Fine s → Each (λ a. Fine (a ++ s)) (alternatives r)
+pub fine_rule : (r : Rule) (s : List Symbol) → Fine s → Each (λ a. Fine (a ++ s)) (alternatives r)
 fine_rule program s f = (tt, refl, f) also tt
 fine_rule field s f = f also f also tt
 fine_rule (type zero) s f = tt
@@ -73,7 +73,7 @@ fine_rule (lens zero) s f = tt
 fine_rule (lens (suc n)) s f = f also f also (tt, refl, f) also f also (refl, f) also (tt, refl, f) also f also f also f also (tt, refl, f) also f also f also tt
 fine_rule (row n) s f = f also f also f also tt
 
-fine_part : (p : Part) (s : List Symbol) → Closes s → Fine s → Each (λ a. Fine (a ++ s)) (contents p)
+pub fine_part : (p : Part) (s : List Symbol) → Closes s → Fine s → Each (λ a. Fine (a ++ s)) (contents p)
 fine_part definitions s c f = f also f also tt
 fine_part other_members s c f = f also tt
 fine_part other_pairs s c f = f also tt
@@ -83,7 +83,7 @@ fine_part (rows n) s c f = (tt, c, f) also tt
 fine_part (other_rows n) s c f = f also tt
 fine_part (other_arms n) s c f = f also tt
 
-fine_again : (p : Part) (s : List Symbol) → Fine (repeated p ∷ s) → Each (λ a. Fine (a ++ (repeated p ∷ s))) (contents p)
+pub fine_again : (p : Part) (s : List Symbol) → Fine (repeated p ∷ s) → Each (λ a. Fine (a ++ (repeated p ∷ s))) (contents p)
 fine_again definitions s f = f also f also tt
 fine_again other_members s f = f also tt
 fine_again other_pairs s f = f also tt
@@ -95,8 +95,8 @@ fine_again (other_arms n) s f = f also tt
 
 -- What one of some lists of symbols takes, the machine takes where it has the choice of all.
 
-record Lifts (all : List (List Symbol)) (s : List Symbol) (t : Token) (a : List Symbol) : Type 0 where
-  lifted : (q : List Symbol) → take_one (a ++ s) t ≡ Some q → first_of (λ b. take_inside (b ++ s) t) all ≡ Some q
+pub record Lifts (all : List (List Symbol)) (s : List Symbol) (t : Token) (a : List Symbol) : Type 0 where
+  pub lifted : (q : List Symbol) → take_one (a ++ s) t ≡ Some q → first_of (λ b. take_inside (b ++ s) t) all ≡ Some q
 
 by_word : (all : List (List Symbol)) (k : Keyword) (b s : List Symbol) (t : Token) → first_of (λ a. take_inside (a ++ s) (tokens.Keyword k)) all ≡ Some (b ++ s) → Lifts all s t (word k ∷ b)
 unfolding take_one
@@ -132,7 +132,7 @@ by_string all s t h = record {
       subst (λ x. first_of (λ a. take_inside (a ++ s) x) all ≡ Some q) (sym n.1) (h n.0 ∙ ap Some c.1);
 }
 
-or_none : (o : Option (List Symbol)) → or_else o None ≡ o
+pub or_none : (o : Option (List Symbol)) → or_else o None ≡ o
 or_none (Some a) = refl
 or_none None = refl
 
@@ -181,7 +181,7 @@ lifts_lens n s t =
     also by_name all s t (λ _. refl)
     also tt
 
-lifts_rule : (r : Rule) (s : List Symbol) (t : Token) → Each (Lifts (alternatives r) s t) (alternatives r)
+pub lifts_rule : (r : Rule) (s : List Symbol) (t : Token) → Each (Lifts (alternatives r) s t) (alternatives r)
 unfolding take_one
 lifts_rule program s t = alone _ s t refl also tt
 lifts_rule field s t = by_name (alternatives field) s t (λ _. refl) also by_string (alternatives field) s t (λ _. refl) also tt
@@ -193,7 +193,7 @@ lifts_rule (row n) s t =
     let all = alternatives (row n) in
     record { lifted = arm_lifted n s t } also by_word all words.Left _ s t refl also by_word all words.Right _ s t refl also tt
 
-lifts_part : (p : Part) (s : List Symbol) (t : Token) → Each (Lifts (contents p) s t) (contents p)
+pub lifts_part : (p : Part) (s : List Symbol) (t : Token) → Each (Lifts (contents p) s t) (contents p)
 unfolding take_one
 lifts_part definitions s t =
     let all = contents definitions in
@@ -228,7 +228,7 @@ main_shuts (rows n) s = refl
 main_shuts (other_rows n) s = refl
 main_shuts (other_arms n) s = refl
 
-passed_by : (p : Part) (behind s q : List Symbol) (t : Token) → Closes s → take_one s t ≡ Some q → first_of (λ a. take_inside (a ++ behind) t) (contents p) ≡ None
+pub passed_by : (p : Part) (behind s q : List Symbol) (t : Token) → Closes s → take_one s t ≡ Some q → first_of (λ a. take_inside (a ++ behind) t) (contents p) ≡ None
 unfolding take_one
 passed_by p behind [] q t c e = absurd c
 passed_by p behind (mark m ∷ s) q t c e = subst (λ x. first_of (λ a. take_inside (a ++ behind) x) (contents p) ≡ None) (sym (mark_is m t (chosen (is_mark m t) s q e).0)) (mark_shuts p behind m c)
@@ -242,7 +242,7 @@ passed_by p behind (repeated r ∷ s) q t c e = absurd c
 
 -- The machine goes on, symbol by symbol.
 
-goes_nothing : (s : List Symbol) → goes s [] ≡ true
+pub goes_nothing : (s : List Symbol) → goes s [] ≡ true
 unfolding goes
 goes_nothing s = refl
 

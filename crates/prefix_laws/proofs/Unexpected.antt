@@ -81,8 +81,8 @@ pub one_unexpected : (s : List Symbol) (ts : List PlacedToken) (at other : ℕ) 
 one_unexpected s ts at other m o =
     elim (split_twice m.before o.before m.after o.after m.first o.first (sym m.parts ∙ o.parts)) [
       | inl same ↦ sym m.place ∙ ap (λ (t : PlacedToken). t.at) same ∙ o.place
-      | inr (inl h) ↦ absurd (not_longer s o.before m.before m.first h o.front m.none)
-      | inr (inr h) ↦ absurd (not_longer s m.before o.before o.first h m.front o.none)
+      | inr (inl h) ↦ absurd (not_longer s o.before m.before m.first h o.viable m.not_viable)
+      | inr (inr h) ↦ absurd (not_longer s m.before o.before o.first h m.viable o.not_viable)
     ]
 
 -- The machine stops at the misfit.
@@ -117,7 +117,7 @@ never false h k = absurd cc
 pub stops_at_unexpected : (s : List Symbol) (ts : List PlacedToken) (at : ℕ) → Fine s → stop s ts ≡ Some at → IsUnexpectedToken s ts at
 stops_at_unexpected s ts at f e =
     let h = stopped s ts at e in
-    record { before = h.before; first = h.first; after = h.after; parts = h.parts; place = h.place; front = goes_viable s (without_offsets h.before) h.front; none = λ k. never _ (viable_goes k f) h.none }
+    record { before = h.before; first = h.first; after = h.after; parts = h.parts; place = h.place; viable = goes_viable s (without_offsets h.before) h.front; not_viable = λ k. never _ (viable_goes k f) h.none }
 
 abbrev nowhere : Option ℕ
 nowhere = None
@@ -140,7 +140,7 @@ stops_or_not None = inl refl
 
 -- a misfit is no part of a front
 pub not_viable : (s : List Symbol) (ts : List PlacedToken) (at : ℕ) → IsUnexpectedToken s ts at → IsViablePrefix s (without_offsets ts) → ⊥
-not_viable s ts at m f = m.none (begins s (without_offsets (m.before ++ m.first ∷ [])) (without_offsets m.after) (subst (IsViablePrefix s) (ap without_offsets m.parts ∙ append_cons m.before m.after m.first) f))
+not_viable s ts at m f = m.not_viable (begins s (without_offsets (m.before ++ m.first ∷ [])) (without_offsets m.after) (subst (IsViablePrefix s) (ap without_offsets m.parts ∙ append_cons m.before m.after m.first) f))
 
 pub unexpected_stops : (s : List Symbol) (ts : List PlacedToken) (at : ℕ) → Fine s → IsUnexpectedToken s ts at → stop s ts ≡ Some at
 unexpected_stops s ts at f m =
