@@ -14,6 +14,3 @@ pub use crate::fault::ProgramFault;
 pub use crate::reading::{read_program, read_unbounded};
 pub use program_terms::{Arms, Def, Lens, Pairs, Program, Row, Rows, TyExpr, TyFields};
 pub use program_writing::{write_name, write_program, write_type};
-
-#[cfg(test)]
-mod tests;

@@ -12,7 +12,8 @@ use Rattle.program_grammar.specs.Mentions.{Point}
 use Rattle.program_grammar.specs.Reading.{Read, is_mark, mark_at, more_at, list_at, closed_at, perhaps_at}
 use Rattle.prefix_laws.proofs.Machine.{or_else, first_of, take_inside, take_one, stop}
 use Rattle.prefix_laws.proofs.MachineSteps.{Trails, Takes, Reads, stop_nothing, takes_ok, takes_then, none_as, takes_first, takes_as, either_way}
-use Rattle.prefix_laws.proofs.TokenReading.{mark_is, mark_takes}
+use Rattle.program_grammar.proofs.MarkTokens.{mark_is}
+use Rattle.prefix_laws.proofs.TokenReading.{mark_takes}
 
 -- the part is a comma and these symbols
 abbrev pub Commas : Part → List Symbol → Type 0
@@ -34,14 +35,9 @@ comma_takes p e s t ms ts r c h =
       | inr not_it ↦ rw not_it (takes_as s t.token t.at ts (comma_or p e s t.token c ∙ rw not_it refl) (takes_ok s ([], (ms, t ∷ ts))))
     ]
 
-pub rest_is : (ts rest : List PlacedToken) → Trails rest ts → drop (length ts - length rest) ts ≡ rest
-rest_is ts rest h =
-    let n : length h.front ≡ length (h.front ++ rest) - length rest = omega (arith, length-append h.front rest) in
-    rw h.parts (drop_at h.front rest (length (h.front ++ rest) - length rest) n)
-
 pub done_takes : {X : Type 0} {left : X → List PlacedToken} (a s : List Symbol) (x : X) → left x ≡ [] → Takes X left a s [] (Ok x)
 done_takes {left = left} a s x e = record {
-  trails = λ y g. record { front = []; parts = sym e ∙ ap left cc };
+  leaves = λ y g. record { front = []; parts = sym e ∙ ap left cc };
   stops = stop_nothing a ∙ sym (stop_nothing s) ∙ ap (λ ts. stop s ts) (sym e);
 }
 
@@ -53,7 +49,7 @@ more_takes element p e c h s (suc skip) ms [] = done_takes (repeated p ∷ s) s 
 more_takes element p e c h s (suc skip) ms (t ∷ ts) = more_takes element p e c h s skip ms ts
 more_takes {A = A} element p e c h s zero ms (t ∷ ts) =
     comma_takes p e s t ms ts _ c (takes_then (element (ms, ts)) _ (h (repeated p ∷ s) (ms, ts)) (λ x k.
-    let there = rest_is ts x.1.1 ((h (repeated p ∷ s) (ms, ts)).trails x k) in
+    let there = drop_to_rest ts x.1.1 ((h (repeated p ∷ s) (ms, ts)).leaves x k) in
     takes_then (more_at element (length ts - length x.1.1) x.1.0 ts) _
     (subst (λ rest. Takes (List A × Point) (λ y. y.1.1) (repeated p ∷ s) s rest (more_at element (length ts - length x.1.1) x.1.0 ts)) there (more_takes element p e c h s (length ts - length x.1.1) x.1.0 ts))
     (λ xs k. takes_ok s (x.0 ∷ xs.0, xs.1))))

@@ -11,7 +11,7 @@ use Rattle.program_tokens.specs.Words.{mark_byte}
 use Rattle.program_grammar.specs.Grammar.{Rule, program, field, type, lens, row, Part, definitions, other_members, other_pairs, fields, other_fields, rows, other_rows, other_arms, Symbol, mark, word, a_name, a_string, the_end, rule, perhaps, repeated, an_arm, contents, alternatives, IsAmong, IsViablePrefix, no_tokens, mark_first, word_first, name_first, string_first, end_first, rule_replaced, option_present, option_absent, repeated_once_more, repeated_no_more}
 use Rattle.program_grammar.specs.Reading.{is_mark}
 use Rattle.prefix_laws.proofs.Machine.{is_name, is_string, is_word, code, or_else, first_of, take_inside, take_one, goes}
-use Rattle.prefix_laws.proofs.TokenReading.{mark_is}
+use Rattle.program_grammar.proofs.MarkTokens.{mark_is}
 use Rattle.prefix_laws.proofs.SymbolTokens.{nothing_there, word_is, chosen, name_is, string_is}
 
 -- Fine symbols: what follows a part begins with `main` or with a mark other than a comma, and no part that may come again ends in

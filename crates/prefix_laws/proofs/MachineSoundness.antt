@@ -4,7 +4,7 @@ use Rattle.program_tokens.specs.declared.token.Token.{Token}
 use Rattle.program_grammar.specs.Grammar.{mark, word, a_name, a_string, the_end, rule, perhaps, repeated, Symbol, contents, alternatives, IsAmong, IsViablePrefix, no_tokens, mark_first, word_first, name_first, string_first, end_first, rule_replaced, option_present, option_absent, repeated_once_more, repeated_no_more}
 use Rattle.program_grammar.specs.Reading.{is_mark, is_end}
 use Rattle.prefix_laws.proofs.Machine.{is_name, is_string, is_word, or_else, first_of, step, no_step, take_inside, take_one, goes}
-use Rattle.prefix_laws.proofs.TokenReading.{mark_is}
+use Rattle.program_grammar.proofs.MarkTokens.{mark_is}
 use Rattle.prefix_laws.proofs.SymbolTokens.{nothing_there, word_is, chosen, name_is, string_is, end_is}
 
 -- Every token that the machine takes is one that the symbols may begin with.

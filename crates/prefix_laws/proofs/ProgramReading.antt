@@ -62,7 +62,7 @@ more_take e term h s k at ts first others =
     let one = definition_takes e term h (repeated definitions ∷ s) ts in
     takes_first k at ts (a_name ∷ mark Equals ∷ e ∷ mark Semicolon ∷ repeated definitions ∷ s) first (takes_then (definition_at term ts) _ one (λ d e.
     takes_then (definitions_at (length ts - length d.1) ts) _
-    (subst (λ rest. Takes (List NotedDefinition × List PlacedToken) (λ x. x.1) (repeated definitions ∷ s) s rest (definitions_at (length ts - length d.1) ts)) (rest_is ts d.1 (one.trails d e)) (others (length ts - length d.1)))
+    (subst (λ rest. Takes (List NotedDefinition × List PlacedToken) (λ x. x.1) (repeated definitions ∷ s) s rest (definitions_at (length ts - length d.1) ts)) (rest_is ts d.1 (one.leaves d e)) (others (length ts - length d.1)))
     (λ ds _. takes_ok s (d.0 ∷ ds.0, ds.1))))
 
 definitions_by_word : (s : List Symbol) (k : Keyword) (at : ℕ) (ts : List PlacedToken) → ((skip : ℕ) → Definitions s skip ts) → Definitions s 0 (placed (tokens.Keyword k) at ∷ ts)

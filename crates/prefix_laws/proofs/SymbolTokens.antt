@@ -7,10 +7,8 @@ use Rattle.program_tokens.specs.declared.token.Token.{Token}
 use Rattle.program_tokens.specs.declared.token.Token.TheVariants as tokens
 use Rattle.program_grammar.specs.Grammar.{Symbol}
 use Rattle.program_grammar.specs.Reading.{is_end}
+use Rattle.program_grammar.proofs.ReadingResults.{some_is}
 use Rattle.prefix_laws.proofs.Machine.{is_name, is_string, is_word, code}
-
-pub some_is : {A : Type 0} (x y : A) → Some x ≡ Some y → x ≡ y
-some_is x y e = cc
 
 abbrev absent : Option (List Symbol)
 absent = None

@@ -4,6 +4,7 @@ use Rattle.program_tokens.specs.declared.token.Token.{Token}
 use Rattle.program_tokens.specs.declared.token.PlacedToken.{PlacedToken}
 use Rattle.program_grammar.specs.Grammar.{Symbol, IsViablePrefix, no_tokens, mark_first, word_first, name_first, string_first, end_first, rule_replaced, option_present, option_absent, repeated_once_more, repeated_no_more}
 use Rattle.program_grammar.specs.Unexpected.{without_offsets, IsUnexpectedToken}
+use Rattle.program_grammar.proofs.ReadingResults.{some_is}
 use Rattle.prefix_laws.proofs.Machine.{take_one, goes, stop}
 use Rattle.prefix_laws.proofs.MachineSoundness.{goes_viable}
 use Rattle.prefix_laws.proofs.MachineCompleteness.{Fine, viable_goes}
@@ -96,9 +97,6 @@ record Stopped (s : List Symbol) (ts : List PlacedToken) (at : ℕ) : Type 0 whe
   front : goes s (without_offsets before) ≡ true
   none : goes s (without_offsets (before ++ first ∷ [])) ≡ false
 
-some_at : (a b : ℕ) → Some a ≡ Some b → a ≡ b
-some_at a b e = cc
-
 stopped : (s : List Symbol) (ts : List PlacedToken) (at : ℕ) → stop s ts ≡ Some at → Stopped s ts at
 unfolding stop goes
 stopped s [] at e = absurd cc
@@ -107,7 +105,7 @@ stopped s (t ∷ ts) at e =
       | Some r ↦ λ k g.
           let h = stopped r ts at g in
           record { before = t ∷ h.before; first = h.first; after = h.after; parts = ap (λ x. t ∷ x) h.parts; place = h.place; front = rw (k, goes) h.front; none = rw (k, goes) h.none }
-      | None ↦ λ k g. record { before = []; first = t; after = ts; parts = refl; place = some_at t.at at g; front = refl; none = rw (k, goes) refl }
+      | None ↦ λ k g. record { before = []; first = t; after = ts; parts = refl; place = some_is t.at at g; front = refl; none = rw (k, goes) refl }
     ] refl e
 
 never : (b : Bool) → b ≡ true → b ≡ false → ⊥

@@ -12,28 +12,20 @@ use Rattle.program_reader.specs.declared.fault.ReadFault.{ReadFault}
 use Rattle.program_reader.specs.declared.fault.ReadFault.TheVariants as faults
 use Rattle.program_reader.specs.Gives.{Fails}
 use Rattle.program_reader.specs.Programs.{term_at, with_no_mentions}
-use Rattle.program_reader.proofs.Moves.{Trails, Moves, bind_ok, ok_is, type_term_moves, lens_term_moves, definition_moves}
+use Rattle.program_grammar.proofs.ReadingResults.{bind_ok, ok_is}
+use Rattle.program_grammar.proofs.RestOfTokens.{definitions_after}
+use Rattle.program_grammar.proofs.TokensLeft.{LeavesFewer, type_term_leaves, lens_term_leaves, definition_leaves}
 use Rattle.program_reader.proofs.ListLoop.{with_front, regroup}
 
 -- a loop has so far read these definitions, and these tokens are left
 abbrev pub AreSoFar : List NotedDefinition → List PlacedToken → List PlacedToken → Type 0
 AreSoFar front left whole = with_front front (definitions_at 0 left) ≡ definitions_at 0 whole
 
-term_moves : (sort : Sort) → Moves (term_at sort)
-term_moves sorts.Type = type_term_moves
-term_moves sorts.Lens = lens_term_moves
+term_leaves : (sort : Sort) → LeavesFewer (term_at sort)
+term_leaves sorts.Type = type_term_leaves
+term_leaves sorts.Lens = lens_term_leaves
 
 -- ---- the definitions behind a definition
-
-all_skipped : (front rest : List PlacedToken) → definitions_at (length front) (front ++ rest) ≡ definitions_at 0 rest
-unfolding definitions_at
-all_skipped [] rest = refl
-all_skipped (t ∷ front) rest = all_skipped front rest
-
-behind : (ts rest : List PlacedToken) → Trails rest ts → definitions_at (length ts - length rest) ts ≡ definitions_at 0 rest
-behind ts rest h =
-    let n : length (h.front ++ rest) - length rest ≡ length h.front = omega (arith, length-append h.front rest) in
-    rw h.parts (rw n (all_skipped h.front rest))
 
 -- a definition comes next
 one_comes : (term : Point → Read DefTree) (ts : List PlacedToken) → definition_of (next_word ts) ≡ Some term
@@ -90,8 +82,8 @@ pub goes_on : (sort : Sort) (front : List NotedDefinition) (ts whole : List Plac
     → with_no_mentions (definition_at (term_at sort) (drop 1 ts)) ≡ Ok (d, q) → AreSoFar front ts whole → AreSoFar (front ++ d ∷ []) q.1 whole
 goes_on sort front ts whole d q next e so_far =
     let found = (no_mentions_ok (definition_at (term_at sort) (drop 1 ts)) d q e).0 in
-    let trails = (definition_moves (term_at sort) (term_moves sort) (drop 1 ts) (d, q.1) found).trails in
-    let step : definitions_at 0 ts ≡ (definitions_at 0 q.1 >>= λ ds. Ok (d ∷ ds.0, ds.1)) = one_comes (term_at sort) ts next ∙ rw found (rw (behind (drop 1 ts) q.1 trails) refl) in
+    let rest = (definition_leaves (term_at sort) (term_leaves sort) (drop 1 ts) (d, q.1) found).rest in
+    let step : definitions_at 0 ts ≡ (definitions_at 0 q.1 >>= λ ds. Ok (d ∷ ds.0, ds.1)) = one_comes (term_at sort) ts next ∙ rw found (rw (definitions_after (drop 1 ts) q.1 rest) refl) in
     sym (regroup front d (definitions_at 0 q.1)) ∙ ap (with_front front) (sym step) ∙ so_far
 
 pub breaks : (sort : Sort) (front : List NotedDefinition) (ts whole : List PlacedToken) (fault : ReadFault) → definition_of (next_word ts) ≡ Some (term_at sort)
@@ -111,4 +103,4 @@ pub shorter : (sort : Sort) (ts : List PlacedToken) (d : NotedDefinition) (q : P
     → with_no_mentions (definition_at (term_at sort) (drop 1 ts)) ≡ Ok (d, q) → length q.1 < length ts
 shorter sort ts d q next e =
     let found = (no_mentions_ok (definition_at (term_at sort) (drop 1 ts)) d q e).0 in
-    omega (arith, fewer (term_at sort) ts next, (definition_moves (term_at sort) (term_moves sort) (drop 1 ts) (d, q.1) found).less)
+    omega (arith, fewer (term_at sort) ts next, (definition_leaves (term_at sort) (term_leaves sort) (drop 1 ts) (d, q.1) found).less)

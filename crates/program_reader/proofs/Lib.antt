@@ -1,4 +1,3 @@
-pub mod Moves
 pub mod ListLoop
 pub mod DefinitionLoop
 pub mod FirstFault

@@ -9,7 +9,9 @@ use Rattle.program_grammar.specs.Reading.{Read, ◌>>=◌, is_mark, next_is, mar
 use Rattle.program_reader.specs.declared.fault.ReadFault.{ReadFault}
 use Rattle.program_reader.specs.declared.fault.ReadFault.TheVariants as faults
 use Rattle.program_reader.specs.Gives.{Fails}
-use Rattle.program_reader.proofs.Moves.{Trails, Moves, ok_is, chosen, mark_moves}
+use Rattle.program_grammar.proofs.ReadingResults.{ok_is, chosen}
+use Rattle.program_grammar.proofs.RestOfTokens.{more_after}
+use Rattle.program_grammar.proofs.TokensLeft.{LeavesFewer, mark_leaves}
 
 -- the elements behind commas at this point
 abbrev pub more_from : {A : Type 0} → (Point → Read A) → Point → Read (List A)
@@ -24,16 +26,6 @@ abbrev pub IsSoFar : {A : Type 0} → (Point → Read A) → List A → Point �
 IsSoFar element front p whole = with_front front (more_from element p) ≡ whole
 
 -- ---- the elements behind a comma
-
-more_skips : {A : Type 0} (element : Point → Read A) (ms : List Mention) (front rest : List PlacedToken) → more_at element (length front) ms (front ++ rest) ≡ more_at element 0 ms rest
-unfolding more_at
-more_skips element ms [] rest = refl
-more_skips element ms (t ∷ front) rest = more_skips element ms front rest
-
-more_after : {A : Type 0} (element : Point → Read A) (ms : List Mention) (ts rest : List PlacedToken) → Trails rest ts → more_at element (length ts - length rest) ms ts ≡ more_at element 0 ms rest
-more_after element ms ts rest h =
-    let n : length (h.front ++ rest) - length rest ≡ length h.front = omega (arith, length-append h.front rest) in
-    rw h.parts (rw n (more_skips element ms h.front rest))
 
 -- a comma that is there
 comma_in : (ms : List Mention) (ts : List PlacedToken) (q : Point) → mark_in Comma ms ts ≡ Ok q → (t : PlacedToken) × (ts ≡ t ∷ q.1) × (q ≡ (ms, q.1)) × (is_mark Comma t.token ≡ true)
@@ -61,9 +53,9 @@ more_comma element p q e =
     ap (more_at element 0 p.0) c.1 ∙ more_reads element p.0 c.0 q.1 c.3
     ∙ ap (λ (r : Point). element r >>= λ x. more_at element (length q.1 - length x.1.1) x.1.0 q.1 >>= λ xs. Ok (x.0 ∷ xs.0, xs.1)) (sym c.2)
 
-more_element : {A : Type 0} (element : Point → Read A) (p q : Point) (x : A × Point) → Moves element → mark_at Comma p ≡ Ok q → element q ≡ Ok x
+more_element : {A : Type 0} (element : Point → Read A) (p q : Point) (x : A × Point) → LeavesFewer element → mark_at Comma p ≡ Ok q → element q ≡ Ok x
     → more_from element p ≡ (more_from element x.1 >>= λ xs. Ok (x.0 ∷ xs.0, xs.1))
-more_element element p q x m e h = more_comma element p q e ∙ rw h (rw (more_after element x.1.0 q.1 x.1.1 (m q x h).trails) refl)
+more_element element p q x m e h = more_comma element p q e ∙ rw h (rw (more_after element x.1.0 q.1 x.1.1 (m q x h).rest) refl)
 
 more_fails : {A : Type 0} (element : Point → Read A) (p q : Point) (f : Option ℕ) → mark_at Comma p ≡ Ok q → element q ≡ Err f → more_from element p ≡ Err f
 more_fails element p q f e h = more_comma element p q e ∙ rw h refl
@@ -92,7 +84,7 @@ begins_not element p faults.Ended h = rw h refl
 begins_not element p (faults.At at) h = rw h refl
 
 -- it goes on behind a comma
-pub goes_on : {A : Type 0} (element : Point → Read A) (front : List A) (p q : Point) (x : A × Point) (whole : Read (List A)) → Moves element → mark_at Comma p ≡ Ok q → element q ≡ Ok x
+pub goes_on : {A : Type 0} (element : Point → Read A) (front : List A) (p q : Point) (x : A × Point) (whole : Read (List A)) → LeavesFewer element → mark_at Comma p ≡ Ok q → element q ≡ Ok x
     → IsSoFar element front p whole → IsSoFar element (front ++ x.0 ∷ []) x.1 whole
 goes_on element front p q x whole m e h so_far =
     sym (regroup front x.0 (more_from element x.1)) ∙ ap (with_front front) (sym (more_element element p q x m e h)) ∙ so_far
@@ -111,5 +103,5 @@ is_done {A = A} element front p q whole h so_far =
     sym so_far ∙ ap (with_front front) (more_in element p.0 p.1 h.0) ∙ ap (λ (ns : List A). Ok (ns, p)) (append-nil front) ∙ ap (λ (r : Point). Ok (front, r)) (sym h.1)
 
 -- fewer tokens are left behind a comma and an element
-pub shorter : {A : Type 0} (element : Point → Read A) (p q : Point) (x : A × Point) → Moves element → mark_at Comma p ≡ Ok q → element q ≡ Ok x → length x.1.1 < length p.1
-shorter element p q x m e h = omega (arith, (mark_moves Comma p q e).less, (m q x h).less)
+pub shorter : {A : Type 0} (element : Point → Read A) (p q : Point) (x : A × Point) → LeavesFewer element → mark_at Comma p ≡ Ok q → element q ≡ Ok x → length x.1.1 < length p.1
+shorter element p q x m e h = omega (arith, (mark_leaves Comma p q e).less, (m q x h).less)

@@ -15,6 +15,3 @@ mod types;
 
 pub use crate::fault::ProgramReadFault;
 pub use crate::reading::read_tokens;
-
-#[cfg(test)]
-mod tests;

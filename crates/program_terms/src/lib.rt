@@ -20,6 +20,3 @@ pub use crate::lens::{Arms, Lens, Row, Rows};
 pub use crate::pairs::Pairs;
 pub use crate::program::Program;
 pub use crate::types::{TyExpr, TyFields};
-
-#[cfg(test)]
-mod tests;

@@ -5,6 +5,7 @@ use Rattle.std.proofs.lemmas.Bool.Decides.{nat_tests}
 use Rattle.std.proofs.lemmas.List.{length-append}
 use Rattle.std.proofs.Math.Seq.{take-append_seam, drop-append_seam, drop-append-add}
 use Rattle.std.specs.List.{list_all, prefix_len}
+use Rattle.texts.proofs.Conjunction.{split}
 use Rattle.program_tokens.specs.Words.{is_space, begins_word, in_word, is_word, is_name, is_text, keyword_of, keyword_text, mark_byte, mark_of}
 use Rattle.program_tokens.specs.Tokens.{piece_of, word_piece, text_piece, keyword_or_name, word_run, tokens_from, placed}
 use Rattle.program_tokens.specs.declared.keyword.Keyword.{Keyword}
@@ -15,7 +16,7 @@ use Rattle.program_tokens.specs.declared.token.Token.{Token}
 use Rattle.program_tokens.specs.declared.token.Token.TheVariants as tokens
 use Rattle.program_tokens.specs.declared.piece.Piece.TheVariants as pieces
 use Rattle.program_tokens.proofs.PieceTokens.{token_first}
-use Rattle.program_tokens.proofs.StringTexts.{both_true, unquoted}
+use Rattle.program_tokens.proofs.StringTexts.{unquoted}
 
 -- the text begins with a token, and the tokens of the rest follow; or it begins with nothing but a space
 abbrev pub Lexes : Token → List ℕ → List ℕ → Type 0
@@ -35,7 +36,7 @@ suc_of n = omega arith
 runs : (q : ℕ → Bool) (s rest : List ℕ) → list_all q s ≡ true → Stops q rest → prefix_len q (s ++ rest) ≡ length s
 runs q [] [] h e = refl
 runs q [] (b ∷ rest) h e = rw e refl
-runs q (b ∷ s) rest h e = let p = both_true (q b) (list_all q s) h in rw p.0 (ap (λ n. 1 + n) (runs q s rest p.1 e) ∙ suc_of (length s))
+runs q (b ∷ s) rest h e = let p = split (q b) (list_all q s) h in rw p.0 (ap (λ n. 1 + n) (runs q s rest p.1 e) ∙ suc_of (length s))
 
 shorter : (s rest : List ℕ) → length s ≤ length (s ++ rest)
 shorter s rest = omega (arith, length-append s rest)
@@ -69,7 +70,7 @@ pub lex_word : (w rest : List ℕ) (t : Token) → is_word w ≡ true → nat_le
 unfolding is_word
 lex_word [] rest t form short is stops at = absurd cc
 lex_word (b ∷ w) rest t form short is stops at =
-    let p = both_true (begins_word b) (list_all in_word w) form in (
+    let p = split (begins_word b) (list_all in_word w) form in (
       at + 1 + length w,
       token_first b at (length w) t (w ++ rest) (first_word b w rest t p.0 p.1 short is stops) (shorter w rest)
           ∙ ap (λ x. placed t at ∷ tokens_from 0 (at + 1 + length w) x) (drop-append_seam w rest),
@@ -114,8 +115,8 @@ no_keyword (Some k) w h = absurd cc
 pub lex_name : (w rest : List ℕ) → is_name w ≡ true → Stops in_word rest → Lexes (tokens.Name w) (w ++ rest) rest
 unfolding is_name
 lex_name w rest h stops =
-    let a = both_true (is_word w && nat_le (length w) 64) (is_none (keyword_of w)) h in
-    let b = both_true (is_word w) (nat_le (length w) 64) a.0 in
+    let a = split (is_word w && nat_le (length w) 64) (is_none (keyword_of w)) h in
+    let b = split (is_word w) (nat_le (length w) 64) a.0 in
     lex_word w rest (tokens.Name w) b.0 b.1 (no_keyword (keyword_of w) w a.1) stops
 
 -- ---- strings

@@ -7,11 +7,8 @@ use Rattle.std.proofs.lemmas.Str.Ascii.{IsAscii-nil, IsAscii-cons}
 use Rattle.std.specs.Str.{is_utf8, chars, NoCharPasses, NonePass, IsAscii}
 use Rattle.std.specs.List.{list_all}
 use Rattle.program_tokens.proofs.WordUtf8.{word_goes_on}
+use Rattle.texts.proofs.Conjunction.{split}
 use Rattle.program_tokens.specs.Words.{begins_word, in_word, is_word, is_name, in_text, is_text, keyword_of}
-
-pub both_true : (a b : Bool) → (a && b) ≡ true → (a ≡ true) × (b ≡ true)
-both_true true b h = (refl, h)
-both_true false b h = absurd cc
 
 not_true : (b : Bool) → not b ≡ true → b ≡ false
 not_true false h = refl
@@ -29,9 +26,9 @@ pub record IsGood (s : List ℕ) : Type 0 where
 pub good_text : (s : List ℕ) → is_text s ≡ true → IsGood s
 unfolding is_text
 good_text s h =
-    let a = both_true (is_utf8 s && nat_le 1 (length (chars s)) && nat_le (length (chars s)) 64) (list_all in_text (chars s)) h in
-    let b = both_true (is_utf8 s && nat_le 1 (length (chars s))) (nat_le (length (chars s)) 64) a.0 in
-    let c = both_true (is_utf8 s) (nat_le 1 (length (chars s))) b.0 in
+    let a = split (is_utf8 s && nat_le 1 (length (chars s)) && nat_le (length (chars s)) 64) (list_all in_text (chars s)) h in
+    let b = split (is_utf8 s && nat_le 1 (length (chars s))) (nat_le (length (chars s)) 64) a.0 in
+    let c = split (is_utf8 s) (nat_le 1 (length (chars s))) b.0 in
     record { utf8 = c.0; some = c.1; few = b.1; good = a.1 }
 
 no_quote_in : (c : ℕ) → in_text c ≡ true → eqb c 34 ≡ false
@@ -40,7 +37,7 @@ no_quote_in c h = grind (arith, nat_tests)
 
 none_quoted : (cs : List ℕ) → list_all in_text cs ≡ true → NonePass (λ c. eqb c 34) cs
 none_quoted [] h = tt
-none_quoted (c ∷ cs) h = let p = both_true (in_text c) (list_all in_text cs) h in (no_quote_in c p.0, none_quoted cs p.1)
+none_quoted (c ∷ cs) h = let p = split (in_text c) (list_all in_text cs) h in (no_quote_in c p.0, none_quoted cs p.1)
 
 quote_is : (b : ℕ) → eqb b 34 ≡ true → b < 128
 quote_is b h = grind (arith, nat_tests)
@@ -74,11 +71,11 @@ letter_ascii b h = grind (arith, nat_tests)
 
 letters_good : (bs : List ℕ) → list_all in_word bs ≡ true → list_all in_text bs ≡ true
 letters_good [] h = refl
-letters_good (b ∷ bs) h = let p = both_true (in_word b) (list_all in_word bs) h in rw (letter_good b p.0) (letters_good bs p.1)
+letters_good (b ∷ bs) h = let p = split (in_word b) (list_all in_word bs) h in rw (letter_good b p.0) (letters_good bs p.1)
 
 letters_ascii : (bs : List ℕ) → list_all in_word bs ≡ true → IsAscii bs
 letters_ascii [] h = IsAscii-nil
-letters_ascii (b ∷ bs) h = let p = both_true (in_word b) (list_all in_word bs) h in IsAscii-cons b bs (letter_ascii b p.0) (letters_ascii bs p.1)
+letters_ascii (b ∷ bs) h = let p = split (in_word b) (list_all in_word bs) h in IsAscii-cons b bs (letter_ascii b p.0) (letters_ascii bs p.1)
 
 word_text : (w : List ℕ) → IsAscii w → nat_le 1 (length w) ≡ true → nat_le (length w) 64 ≡ true → list_all in_text w ≡ true → is_text w ≡ true
 unfolding is_text
@@ -90,13 +87,13 @@ some_of b w = grind (arith, nat_tests)
 letters_of : (w : List ℕ) → is_word w ≡ true → (list_all in_word w ≡ true) × (nat_le 1 (length w) ≡ true)
 unfolding is_word
 letters_of [] h = absurd cc
-letters_of (b ∷ w) h = let p = both_true (begins_word b) (list_all in_word w) h in (word_goes_on b w p.0 p.1, some_of b w)
+letters_of (b ∷ w) h = let p = split (begins_word b) (list_all in_word w) h in (word_goes_on b w p.0 p.1, some_of b w)
 
 -- a name may stand in a string
 pub name_is_text : (w : List ℕ) → is_name w ≡ true → is_text w ≡ true
 unfolding is_name
 name_is_text w h =
-    let a = both_true (is_word w && nat_le (length w) 64) (is_none (keyword_of w)) h in
-    let b = both_true (is_word w) (nat_le (length w) 64) a.0 in
+    let a = split (is_word w && nat_le (length w) 64) (is_none (keyword_of w)) h in
+    let b = split (is_word w) (nat_le (length w) 64) a.0 in
     let letters = letters_of w b.0 in
     word_text w (letters_ascii w letters.0) letters.1 b.1 (letters_good w letters.0)

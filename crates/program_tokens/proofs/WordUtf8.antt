@@ -5,6 +5,7 @@ use Rattle.std.proofs.lemmas.Str.{IsUtf8-from_ascii}
 use Rattle.std.proofs.lemmas.Str.Ascii.{IsAscii-nil, IsAscii-cons}
 use Rattle.std.specs.Str.{IsAscii, IsUtf8}
 use Rattle.std.specs.List.{list_all, prefix_len}
+use Rattle.texts.proofs.Conjunction.{split}
 use Rattle.program_tokens.specs.Words.{in_word, begins_word}
 
 byte_ascii : (b : ℕ) → in_word b ≡ true → b < 128
@@ -14,13 +15,10 @@ byte_ascii b h = grind (arith, nat_tests)
 suc_of : (n : ℕ) → 1 + n ≡ suc n
 suc_of n = omega arith
 
-both : (a b : Bool) → (a && b) ≡ true → (a ≡ true) × (b ≡ true)
-both true b h = (refl, h)
-both false b h = absurd cc
 
 word_ascii : (bs : List ℕ) → list_all in_word bs ≡ true → IsAscii bs
 word_ascii [] h = IsAscii-nil
-word_ascii (b ∷ bs) h = let p = both (in_word b) (list_all in_word bs) h in IsAscii-cons b bs (byte_ascii b p.0) (word_ascii bs p.1)
+word_ascii (b ∷ bs) h = let p = split (in_word b) (list_all in_word bs) h in IsAscii-cons b bs (byte_ascii b p.0) (word_ascii bs p.1)
 
 pub word_utf8 : (bs : List ℕ) → list_all in_word bs ≡ true → IsUtf8 bs
 word_utf8 bs h = IsUtf8-from_ascii bs (word_ascii bs h)

@@ -2,7 +2,7 @@ pub mod CanonicalSpelling
 mod Examples
 pub mod FirstFault
 pub mod DefinitionsText
-pub mod Heights
+pub mod TypeHeights
 pub mod WritableSpelling
 pub mod MentionedNames
 pub mod CanonicalTokens

@@ -5,7 +5,7 @@ use Rattle.doc_values.specs.Types.{TyTree, ty_unit, ty_bool, ty_int, ty_text, ty
 use Rattle.program_tokens.specs.Tokens.{tokens_of}
 use Rattle.program_tokens.specs.declared.token.Token.TheVariants as tokens
 use Rattle.program_tokens.proofs.FirstToken.{lex_end}
-use Rattle.program_tokens.proofs.StringTexts.{both_true}
+use Rattle.texts.proofs.Conjunction.{split}
 use Rattle.program_grammar.specs.Mentions.{Point}
 use Rattle.program_grammar.specs.Spelling.{Is, IsType}
 use Rattle.program_writing.specs.Canonical.{term_of_type, terms_of_fields, canonical_type}
@@ -41,10 +41,10 @@ mutual
   writable (suc n) ty_int h w s = tt
   writable (suc n) ty_text h w s = tt
   writable (suc n) (ty_enum ms) h w s = (has_members ms w, s)
-  writable (suc n) (ty_rec fs) h w s = let k : highest fs ≤ n = omega arith in all_writable n fs k (both_true (is_rising (names_of fs)) (are_well_formed fs) w).1 s
+  writable (suc n) (ty_rec fs) h w s = let k : highest fs ≤ n = omega arith in all_writable n fs k (split (is_rising (names_of fs)) (are_well_formed fs) w).1 s
   writable (suc n) (ty_alt fs) h w s =
       let k : highest fs ≤ n = omega arith in
-      let p = both_true (are_choices (names_of fs)) (are_well_formed fs) w in
+      let p = split (are_choices (names_of fs)) (are_well_formed fs) w in
       (has_tags fs p.0, all_writable n fs k p.1 s)
   writable (suc n) (ty_list t) h w s = let k : height t ≤ n = omega arith in writable n t k w s
   writable (suc n) (ty_keyed t) h w s = let k : height t ≤ n = omega arith in writable n t k w s
@@ -55,7 +55,7 @@ mutual
   all_writable n (field f t fs) h w s =
       let one : height t ≤ n = omega arith in
       let others : highest fs ≤ n = omega arith in
-      let p = both_true (is_well_formed t) (are_well_formed fs) w in
+      let p = split (is_well_formed t) (are_well_formed fs) w in
       (s.0, writable n t one p.0 s.1, all_writable n fs others p.1 s.2)
 
 -- The text of such a type spells it, and the text ends behind it.

@@ -15,6 +15,3 @@ mod type_text;
 pub use crate::name_text::write_name;
 pub use crate::program_text::write_program;
 pub use crate::ty_text::write_type;
-
-#[cfg(test)]
-mod tests;

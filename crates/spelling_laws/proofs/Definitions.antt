@@ -11,7 +11,9 @@ use Rattle.program_terms.specs.Terms.{DefTree, type_def, lens_def}
 use Rattle.program_grammar.specs.Mentions.{Point, NotedDefinition}
 use Rattle.program_grammar.specs.Reading.{Read, ◌>>=◌, token_value, type_at, lens_at, name_in, name_at, type_term_at, lens_term_at, definition_at, definitions_at}
 use Rattle.program_grammar.specs.Spelling.{IsType, IsLens, IsStatement, IsDefinition, AreDefinitions}
-use Rattle.spelling_laws.proofs.ReadingSteps.{Ahead, onward, is_ahead, rest_is, Exact, done, ok_is, bind_ok, read_first, made_of}
+use Rattle.program_grammar.proofs.ReadingResults.{done, ok_is, bind_ok}
+use Rattle.program_grammar.proofs.RestOfTokens.{drop_to_rest, definitions_after}
+use Rattle.spelling_laws.proofs.ReadingSteps.{ComesBefore, onward, is_ahead, Exact, read_first, made_of}
 use Rattle.spelling_laws.proofs.Marks.{mark_again, mark_first}
 use Rattle.spelling_laws.proofs.Types.{type_exact}
 use Rattle.spelling_laws.proofs.Lenses.{lens_exact}
@@ -20,7 +22,7 @@ use Rattle.spelling_laws.proofs.Lenses.{lens_exact}
 abbrev IsTerm : Keyword → DefTree → Point → Point → Type 0
 IsTerm k d here there = IsStatement d (tokens.Keyword k) here there
 
-statement_ahead : (d : DefTree) (k : Token) (here there : Point) → IsStatement d k here there → Ahead here there
+statement_ahead : (d : DefTree) (k : Token) (here there : Point) → IsStatement d k here there → ComesBefore here there
 statement_ahead (type_def t) k here there h = (type_exact 100).moves t here there h.1
 statement_ahead (lens_def l) k here there h = (lens_exact 100).moves l here there h.1
 
@@ -101,10 +103,10 @@ unfolding definition_at name_at
 definition_again term d here there h read = rw (mark_again Equals ([], h.a) h.b h.equals, read, mark_again Semicolon h.c (d.mentions, there) h.ends) refl
 
 -- behind its first word a definition is ahead of what is behind it
-definition_ahead : (d : NotedDefinition) (here there : List PlacedToken) (h : IsDefinition d here there) → Ahead ([], placed (tokens.Name d.name) d.at ∷ h.a) ([], there)
+definition_ahead : (d : NotedDefinition) (here there : List PlacedToken) (h : IsDefinition d here there) → ComesBefore ([], placed (tokens.Name d.name) d.at ∷ h.a) ([], there)
 definition_ahead d here there h =
-    let name : Ahead ([], placed (tokens.Name d.name) d.at ∷ h.a) ([], h.a) = record { front = placed (tokens.Name d.name) d.at ∷ []; parts = refl } in
-    let last : Ahead (d.mentions, there) ([], there) = record { front = []; parts = refl } in
+    let name : ComesBefore ([], placed (tokens.Name d.name) d.at ∷ h.a) ([], h.a) = record { front = placed (tokens.Name d.name) d.at ∷ []; parts = refl } in
+    let last : ComesBefore (d.mentions, there) ([], there) = record { front = []; parts = refl } in
     onward name (onward (is_ahead h.equals) (onward (statement_ahead d.def h.word h.b h.c h.stands) (onward (is_ahead h.ends) last)))
 
 -- definitions in written order
@@ -129,10 +131,10 @@ with_found k term e at ts gathered x h =
     let b = bind_ok (definitions_at (length ts - length a.0.1) ts) (λ ds. Ok (a.0.0 ∷ ds.0, ds.1)) x a.2 in
     let one = definition_found k term e at ts a.0 a.1 in
     let behind : ts ≡ placed (tokens.Name a.0.0.name) a.0.0.at ∷ one.a = tail_is _ _ _ _ one.begins in
-    let ahead : Ahead ([], ts) ([], a.0.1) = subst (λ (r : List PlacedToken). Ahead ([], r) ([], a.0.1)) (sym behind) (definition_ahead a.0.0 (placed (tokens.Keyword k) at ∷ ts) a.0.1 one) in
+    let ahead : ComesBefore ([], ts) ([], a.0.1) = subst (λ (r : List PlacedToken). ComesBefore ([], r) ([], a.0.1)) (sym behind) (definition_ahead a.0.0 (placed (tokens.Keyword k) at ∷ ts) a.0.1 one) in
     let others = gathered (length ts - length a.0.1) b.0 b.1 in
     gathered_as (placed (tokens.Keyword k) at ∷ ts) (a.0.0 ∷ b.0.0, b.0.1) x b.2
-    (a.0.1, one, subst (λ (r : List PlacedToken). AreDefinitions b.0.0 r b.0.1) (rest_is ([], ts) ([], a.0.1) ahead) others)
+    (a.0.1, one, subst (λ (r : List PlacedToken). AreDefinitions b.0.0 r b.0.1) (drop_to_rest ts a.0.1 ahead) others)
 
 begun_found : (k : Token) (at : ℕ) (ts : List PlacedToken) → Gathered ts → (x : List NotedDefinition × List PlacedToken) → definitions_at 0 (placed k at ∷ ts) ≡ Ok x → AreDefinitions x.0 (placed k at ∷ ts) x.1
 unfolding definitions_at
@@ -146,16 +148,6 @@ definitions_found [] zero x h = gathered_as [] ([], []) x h refl
 definitions_found [] (suc skip) x h = gathered_as [] ([], []) x h refl
 definitions_found (t ∷ ts) (suc skip) x h = definitions_found ts skip x h
 definitions_found (t ∷ ts) zero x h = begun_found t.token t.at ts (definitions_found ts) x h
-
-definitions_skip : (front rest : List PlacedToken) → definitions_at (length front) (front ++ rest) ≡ definitions_at 0 rest
-unfolding definitions_at
-definitions_skip [] rest = refl
-definitions_skip (t ∷ front) rest = definitions_skip front rest
-
-definitions_after : (ts rest : List PlacedToken) → Ahead ([], ts) ([], rest) → definitions_at (length ts - length rest) ts ≡ definitions_at 0 rest
-definitions_after ts rest h =
-    let n : length (h.front ++ rest) - length rest ≡ length h.front = omega (arith, length-append h.front rest) in
-    rw h.parts (rw n (definitions_skip h.front rest))
 
 -- a definition that is spelled with its word comes first
 with_again : (term : Point → Read DefTree) (d : NotedDefinition) (here there : List PlacedToken) (h : IsDefinition d here there) → term h.b ≡ Ok (d.def, h.c)

@@ -11,7 +11,7 @@ use Rattle.program_grammar.specs.declared.mention.Mention.{Mention}
 use Rattle.program_grammar.specs.Mentions.{Point}
 use Rattle.program_grammar.specs.Reading.{Read, next_is, word_in, next_word, string_at, field_at, typed_at, closed_at, perhaps_at, pair_at, arm_at, left_row_at, right_row_at, both_row_at, row_by, row_at}
 use Rattle.program_grammar.specs.Spelling.{Is, IsField, IsPair, OtherPairs, ArePairs, IsType, IsLens, PerhapsRows, OtherRows, AreArms, OtherArms}
-use Rattle.spelling_laws.proofs.ReadingSteps.{Ahead, onward, is_ahead, Exact, read_as, read_first, made_of}
+use Rattle.spelling_laws.proofs.ReadingSteps.{ComesBefore, onward, is_ahead, Exact, read_as, read_first, made_of}
 use Rattle.spelling_laws.proofs.Marks.{before, it_is, point_is, mark_again, mark_first, IsText, string_exact, field_exact, field_no_mark}
 use Rattle.spelling_laws.proofs.Lists.{Others, Listed, Closed, Perhaps, closed_exact, perhaps_exact}
 use Rattle.spelling_laws.proofs.Types.{Typed, typed_exact}
@@ -76,16 +76,12 @@ unfolding arm_at
 arm_again n inner e x here there h =
     rw (field_exact.again x.0 here h.0 h.4, mark_again Tilde h.0 h.1 h.5, field_exact.again x.1 h.1 h.2 h.6, mark_again Colon h.2 h.3 h.7, e.again x.2 h.3 there h.8) refl
 
-arm_moves : (n : ℕ) (inner : Point → Read LensTree) → Exact (IsLens n) inner → (x : List ℕ × List ℕ × LensTree) (here there : Point) → IsArm n x here there → Ahead here there
+arm_moves : (n : ℕ) (inner : Point → Read LensTree) → Exact (IsLens n) inner → (x : List ℕ × List ℕ × LensTree) (here there : Point) → IsArm n x here there → ComesBefore here there
 arm_moves n inner e x here there h =
     onward (field_exact.moves x.0 here h.0 h.4) (onward (is_ahead h.5) (onward (field_exact.moves x.1 h.1 h.2 h.6) (onward (is_ahead h.7) (e.moves x.2 h.3 there h.8))))
 
 arm_exact : (n : ℕ) (inner : Point → Read LensTree) → Exact (IsLens n) inner → Exact (IsArm n) (arm_at inner)
 arm_exact n inner e = record { moves = arm_moves n inner e; found = arm_found n inner e; again = arm_again n inner e }
-
-pub arms_and_back : (arms : ArmTrees) → term_arms_of (arm_list arms) ≡ arms
-arms_and_back no_arms = refl
-arms_and_back (more_arms f g l arms) = ap (more_arms f g l) (arms_and_back arms)
 
 others_are_arms : (n : ℕ) (xs : List (List ℕ × List ℕ × LensTree)) (here there : Point) → Others (IsArm n) xs here there → OtherArms n (term_arms_of xs) here there
 others_are_arms n [] here there h = h
@@ -116,7 +112,7 @@ IsRow n (row_both f g l) here there = IsArm n (f, g, l) here there
 IsRow n (row_left f t) here there = IsSide words.Left n (f, t) here there
 IsRow n (row_right f t) here there = IsSide words.Right n (f, t) here there
 
-row_moves : (n : ℕ) (type : Point → Read TypeTree) (inner : Point → Read LensTree) → Exact (IsType n) type → Exact (IsLens n) inner → (r : RowTree) (here there : Point) → IsRow n r here there → Ahead here there
+row_moves : (n : ℕ) (type : Point → Read TypeTree) (inner : Point → Read LensTree) → Exact (IsType n) type → Exact (IsLens n) inner → (r : RowTree) (here there : Point) → IsRow n r here there → ComesBefore here there
 row_moves n type inner d e (row_both f g l) here there h = arm_moves n inner e (f, g, l) here there h
 row_moves n type inner d e (row_left f t) here there h = onward (is_ahead h.1) ((typed_exact (IsType n) type d).moves (f, t) h.0 there h.2)
 row_moves n type inner d e (row_right f t) here there h = onward (is_ahead h.1) ((typed_exact (IsType n) type d).moves (f, t) h.0 there h.2)
@@ -179,12 +175,6 @@ row_no_brace : (n : ℕ) (r : RowTree) (here there : Point) → IsRow n r here t
 row_no_brace n (row_both f g l) here there h = field_no_mark CloseBrace f here h.0 h.4
 row_no_brace n (row_left f t) here there h = ap (next_is CloseBrace) h.1.parts
 row_no_brace n (row_right f t) here there h = ap (next_is CloseBrace) h.1.parts
-
-pub rows_and_back : (rows : RowTrees) → term_rows_of (row_list rows) ≡ rows
-rows_and_back no_rows = refl
-rows_and_back (both f g l rows) = ap (both f g l) (rows_and_back rows)
-rows_and_back (only_left f t rows) = ap (only_left f t) (rows_and_back rows)
-rows_and_back (only_right f t rows) = ap (only_right f t) (rows_and_back rows)
 
 others_are_rows : (n : ℕ) (rs : List RowTree) (here there : Point) → Others (IsRow n) rs here there → OtherRows n (term_rows_of rs) here there
 others_are_rows n [] here there h = h

@@ -12,10 +12,12 @@ use Rattle.program_tokens.specs.declared.token.PlacedToken.{PlacedToken}
 use Rattle.program_terms.specs.Terms.{TypeTree, FieldTrees, unit, bool, int, text, enum_of, record_of, one_of, list, keyed, tree, named, no_fields, more_fields, term_fields_of, field_list}
 use Rattle.program_grammar.specs.declared.mention.Mention.{Mention}
 use Rattle.program_grammar.specs.declared.mention.Sort.TheVariants as sorts
+use Rattle.program_terms.proofs.TreeLists.{term_fields_of-field_list}
 use Rattle.program_grammar.specs.Mentions.{Point, mention}
 use Rattle.program_grammar.specs.Reading.{Read, string_at, field_at, typed_at, closed_at, perhaps_at, enum_at, record_at, one_of_at, word_type, mark_type, begun_type, type_from, type_step, type_at}
 use Rattle.program_grammar.specs.Spelling.{Is, IsField, OtherStrings, AreStrings, IsType, PerhapsFields, AreFields, OtherFields}
-use Rattle.spelling_laws.proofs.ReadingSteps.{Ahead, onward, is_ahead, Exact, done, read_as, read_first, made_of}
+use Rattle.program_grammar.proofs.ReadingResults.{done}
+use Rattle.spelling_laws.proofs.ReadingSteps.{ComesBefore, onward, is_ahead, Exact, read_as, read_first, made_of}
 use Rattle.spelling_laws.proofs.Marks.{before, it_is, point_is, mention_ahead, mark_again, mark_first, IsText, string_exact, field_exact, field_no_mark}
 use Rattle.spelling_laws.proofs.Lists.{Others, Listed, Closed, Perhaps, closed_exact, perhaps_exact}
 
@@ -66,10 +68,6 @@ typed_exact R inner e = record {
 
 -- fields
 
-pub fields_and_back : (fs : FieldTrees) → term_fields_of (field_list fs) ≡ fs
-fields_and_back no_fields = refl
-fields_and_back (more_fields f t fs) = ap (more_fields f t) (fields_and_back fs)
-
 others_are_fields : (n : ℕ) (fs : List (List ℕ × TypeTree)) (here there : Point) → Others (Typed (IsType n)) fs here there → OtherFields n (term_fields_of fs) here there
 others_are_fields n [] here there h = h
 others_are_fields n (f ∷ fs) here there h = (h.0, h.3.0, h.3.1, h.1, h.2, h.3.2, h.3.3, h.3.4, others_are_fields n fs h.1 there h.4)
@@ -105,7 +103,7 @@ braced_fields_exact n inner e =
     perhaps_exact (Typed (IsType n)) (typed_at inner) CloseBrace refl (λ x here there h. field_no_mark CloseBrace x.0 here h.0 h.2) (typed_exact (IsType n) inner e)
 
 -- what a type spells is ahead of what is behind it
-type_moves : (n : ℕ) (inner : Point → Read TypeTree) → Exact (IsType n) inner → (t : TypeTree) (here there : Point) → IsType (suc n) t here there → Ahead here there
+type_moves : (n : ℕ) (inner : Point → Read TypeTree) → Exact (IsType n) inner → (t : TypeTree) (here there : Point) → IsType (suc n) t here there → ComesBefore here there
 type_moves n inner e unit here there h = is_ahead h
 type_moves n inner e bool here there h = is_ahead h
 type_moves n inner e int here there h = is_ahead h
@@ -181,9 +179,9 @@ type_again n inner e text here there h = ap (type_step inner) (point_is h)
 type_again n inner e (enum_of ms) here there h =
     ap (type_step inner) (point_is h.3) ∙ rw (mark_again OpenBracket h.0 h.1 h.4, strings_exact.again ms h.1 there (h.2, strings_are_listed ms h.1 h.2 h.5, h.6)) refl
 type_again n inner e (record_of fs) here there h =
-    ap (type_step inner) (point_is h.2) ∙ rw ((braced_fields_exact n inner e).again (field_list fs) h.0 there (fields_are_perhaps n fs h.0 there (h.1, h.3, h.4)), fields_and_back fs) refl
+    ap (type_step inner) (point_is h.2) ∙ rw ((braced_fields_exact n inner e).again (field_list fs) h.0 there (fields_are_perhaps n fs h.0 there (h.1, h.3, h.4)), term_fields_of-field_list fs) refl
 type_again n inner e (one_of fs) here there h =
-    ap (type_step inner) (point_is h.2) ∙ rw ((fields_exact n inner Greater refl e).again (field_list fs) h.0 there (h.1, fields_are_listed n fs h.0 h.1 h.3, h.4), fields_and_back fs) refl
+    ap (type_step inner) (point_is h.2) ∙ rw ((fields_exact n inner Greater refl e).again (field_list fs) h.0 there (h.1, fields_are_listed n fs h.0 h.1 h.3, h.4), term_fields_of-field_list fs) refl
 type_again n inner e (list t) here there h = ap (type_step inner) (point_is h.1) ∙ rw (e.again t h.0 there h.2) refl
 type_again n inner e (keyed t) here there h = ap (type_step inner) (point_is h.1) ∙ rw (e.again t h.0 there h.2) refl
 type_again n inner e (tree t) here there h = ap (type_step inner) (point_is h.1) ∙ rw (e.again t h.0 there h.2) refl
