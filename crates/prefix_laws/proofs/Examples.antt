@@ -75,7 +75,7 @@ bad_token : found (codes "main id !") ≡ Err (Some 8)
 unfolding found
 bad_token = refl
 
--- a front of a program without its end
+-- the beginning of a program, without its end
 ran_out : read (placed (tokens.Keyword words.Main) 0 ∷ placed (tokens.Keyword words.Id) 5 ∷ []) ≡ Err None
 unfolding read
 ran_out = refl

@@ -187,7 +187,7 @@ unfolding lens_at take_one
 no_room s ms [] = takes_none (rule (lens zero) ∷ s) s
 no_room s ms (t ∷ ts) = takes_not t.token t.at ts refl
 
--- a lens, however many types and lenses may stand one inside the other
+-- a lens, however many types and lenses may be nested
 pub lens_takes : (room : ℕ) → Reads LensTree (rule (lens room) ∷ []) (lens_at room)
 unfolding lens_at lens_step
 lens_takes zero s p = no_room s p.0 p.1

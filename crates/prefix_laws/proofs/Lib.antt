@@ -1,4 +1,5 @@
 mod Examples
+mod PlainExamples
 pub mod Machine
 pub mod MachineSteps
 pub mod MachineSoundness

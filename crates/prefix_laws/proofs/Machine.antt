@@ -1,4 +1,4 @@
--- A machine whose stack is a list of symbols, where the next token alone decides: the middle term between reading and fronts.
+-- A machine whose stack is a list of symbols, where the next token alone decides: the middle term between reading and viable prefixes.
 use Rattle.std.specs.Prelude.{ℕ, Bool, true, false, List, [], ◌∷◌, ◌++◌, Option, Some, None, ◌==◌, if◌then◌else◌}
 use Rattle.program_tokens.specs.declared.keyword.Keyword.{Keyword}
 use Rattle.program_tokens.specs.declared.keyword.Keyword.TheVariants as words
@@ -43,7 +43,7 @@ abbrev pub is_word : Keyword → Token → Bool
 is_word k (tokens.Keyword j) = code j == code k
 is_word k _ = false
 
--- the first answer that is there
+-- the first of two, where there is one
 abbrev pub or_else : Option (List Symbol) → Option (List Symbol) → Option (List Symbol)
 or_else (Some a) other = Some a
 or_else None other = other
@@ -52,7 +52,7 @@ abbrev pub first_of : (List Symbol → Option (List Symbol)) → List (List Symb
 first_of f [] = None
 first_of f (a ∷ others) = or_else (f a) (first_of f others)
 
--- The symbols that are left after a token, where it fits. What a rule or a part stands for is asked of the function inside.
+-- The symbols that are left after a token, where it fits. What a rule or a part is replaced by is asked of the function inside.
 abbrev pub step : (List Symbol → Token → Option (List Symbol)) → List Symbol → Token → Option (List Symbol)
 step inner [] t = None
 step inner (mark m ∷ s) t = if is_mark m t then Some s else None

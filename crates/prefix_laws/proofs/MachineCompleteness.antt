@@ -1,4 +1,4 @@
--- The machine goes on with every front.
+-- The machine goes on with every viable prefix.
 use Rattle.std.proofs.Common.{◌≡◌, ℕ, zero, suc, true, false, List, [], ◌∷◌, ◌++◌, Option, Some, None, refl, sym, ap, subst, ◌∙◌, eqb, inl, inr}
 use Rattle.std.proofs.lemmas.Bool.{eq-eqb}
 use Rattle.program_tokens.specs.declared.keyword.Keyword.{Keyword}

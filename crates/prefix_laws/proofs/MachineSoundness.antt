@@ -1,4 +1,4 @@
--- Where the machine goes on, the tokens are a front.
+-- Where the machine goes on, the tokens are a viable prefix.
 use Rattle.std.proofs.Common.{◌≡◌, true, false, List, [], ◌∷◌, ◌++◌, Option, Some, None, refl, sym, subst, ◌⊎◌, inl, inr}
 use Rattle.program_tokens.specs.declared.token.Token.{Token}
 use Rattle.program_grammar.specs.Grammar.{mark, word, a_name, a_string, the_end, rule, perhaps, repeated, Symbol, contents, alternatives, IsAmong, IsViablePrefix, no_tokens, mark_first, word_first, name_first, string_first, end_first, rule_replaced, option_present, option_absent, repeated_once_more, repeated_no_more}

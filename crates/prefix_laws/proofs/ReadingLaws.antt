@@ -1,4 +1,4 @@
--- Reading a program stops at the misfit.
+-- Reading a program stops at the unexpected token.
 use Rattle.std.proofs.Common.{◌≡◌, ℕ, List, Option, Some, None, Result, Ok, Err, sym, ap, ◌∙◌}
 use Rattle.program_tokens.specs.declared.token.PlacedToken.{PlacedToken}
 use Rattle.program_grammar.specs.Grammar.{IsViablePrefix, program_and_end}

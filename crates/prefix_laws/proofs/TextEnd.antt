@@ -14,6 +14,7 @@ use Rattle.program_terms.specs.Terms.{TypeTree, LensTree, RowTree, DefTree}
 use Rattle.program_grammar.specs.declared.mention.Mention.{Mention}
 use Rattle.program_grammar.specs.Mentions.{Point, NotedDefinition, NotedProgram}
 use Rattle.program_grammar.specs.Reading.{Read, ◌>>=◌, is_mark, next_is, word_in, next_word, string_in, field_in, mark_in, mark_at, token_value, string_from, string_at, field_from, field_at, more_at, list_at, closed_at, perhaps_at, typed_at, enum_at, record_at, one_of_at, word_type, mark_type, begun_type, type_from, type_step, type_at, pair_at, bij_at, arm_at, left_row_at, right_row_at, both_row_at, row_by, row_at, then_at, disc_at, part_at, word_lens, rec_at, alt_at, mark_lens, begun_lens, lens_from, lens_step, lens_at, name_in, name_from, name_at, type_term_at, lens_term_at, definition_at, definition_of, definitions_at, is_main, main_at, is_end, none_left, end_at, program_at, next_offset}
+use Rattle.program_grammar.proofs.RestOfTokens.{IsRest, rest_self, rest_cons, rest_then, drop_to_rest}
 
 -- a token that is neither the end nor bad
 abbrev pub is_free : Token → Bool
@@ -24,41 +25,30 @@ is_free _ = true
 abbrev pub Free : List PlacedToken → Type 0
 Free ts = AllByRecursion (λ t. is_free t.token ≡ true) ts
 
--- the tokens up to a rest are free
-pub record Leads (ts rest : List PlacedToken) : Type 0 where
-  pub front : List PlacedToken
-  pub parts : ts ≡ front ++ rest
-  pub free : Free front
+-- these tokens are a rest, and the tokens before them are free
+pub record PassesFree (ts left : List PlacedToken) : Type 0 where
+  pub rest : IsRest left ts
+  pub free : Free rest.front
 
 free_append : (a b : List PlacedToken) → Free a → Free b → Free (a ++ b)
 free_append [] b h k = k
 free_append (t ∷ a) b h k = (h.0, free_append a b h.1 k)
 
-pub leads_self : (ts : List PlacedToken) → Leads ts ts
-leads_self ts = record { front = []; parts = refl; free = tt }
+pub free_self : (ts : List PlacedToken) → PassesFree ts ts
+free_self ts = record { rest = rest_self ts; free = tt }
 
-leads_cons : (t : PlacedToken) (ts rest : List PlacedToken) → is_free t.token ≡ true → Leads ts rest → Leads (t ∷ ts) rest
-leads_cons t ts rest f h = record { front = t ∷ h.front; parts = ap (λ x. t ∷ x) h.parts; free = (f, h.free) }
+free_cons : (t : PlacedToken) (ts left : List PlacedToken) → is_free t.token ≡ true → PassesFree ts left → PassesFree (t ∷ ts) left
+free_cons t ts left f h = record { rest = rest_cons t left ts h.rest; free = (f, h.free) }
 
-leads_then : (a b c : List PlacedToken) → Leads a b → Leads b c → Leads a c
-leads_then a b c p q = record { front = p.front ++ q.front; parts = p.parts ∙ ap (λ x. p.front ++ x) q.parts ∙ sym (append_assoc p.front q.front c); free = free_append p.front q.front p.free q.free }
+free_then : (a b c : List PlacedToken) → PassesFree a b → PassesFree b c → PassesFree a c
+free_then a b c p q = record { rest = rest_then c b a q.rest p.rest; free = free_append p.rest.front q.rest.front p.free q.free }
 
-leads_free : (a b : List PlacedToken) → Leads a b → Free b → Free a
-leads_free a b p h = subst Free (sym p.parts) (free_append p.front b p.free h)
-
-drop_front : (front rest : List PlacedToken) → drop (length front) (front ++ rest) ≡ rest
-drop_front [] rest = refl
-drop_front (t ∷ front) rest = drop_front front rest
-
--- skipping what was passed leaves the rest
-leads_drop : (ts rest : List PlacedToken) → Leads ts rest → drop (length ts - length rest) ts ≡ rest
-leads_drop ts rest h =
-    let n : length (h.front ++ rest) - length rest ≡ length h.front = omega (arith, length-append h.front rest) in
-    rw h.parts (rw n (drop_front h.front rest))
+free_before : (a b : List PlacedToken) → PassesFree a b → Free b → Free a
+free_before a b p h = subst Free (sym p.rest.parts) (free_append p.rest.front b p.free h)
 
 -- Reading that began at some tokens passed free tokens; where they ran out all were free.
 abbrev pub Good : {A : Type 0} → (A → List PlacedToken) → List PlacedToken → Result A (Option ℕ) → Type 0
-Good left ts (Ok x) = Leads ts (left x)
+Good left ts (Ok x) = PassesFree ts (left x)
 Good left ts (Err None) = Free ts
 Good left ts (Err (Some n)) = Unit {0}
 
@@ -73,14 +63,14 @@ abbrev pub all : List PlacedToken → List PlacedToken
 all ts = ts
 
 -- from a rest on, and so from the beginning on
-pub good_from : {A : Type 0} (left : A → List PlacedToken) (ts rest : List PlacedToken) (r : Result A (Option ℕ)) → Leads ts rest → Good left rest r → Good left ts r
-good_from left ts rest (Ok x) h g = leads_then ts rest (left x) h g
-good_from left ts rest (Err None) h g = leads_free ts rest h g
+pub good_from : {A : Type 0} (left : A → List PlacedToken) (ts rest : List PlacedToken) (r : Result A (Option ℕ)) → PassesFree ts rest → Good left rest r → Good left ts r
+good_from left ts rest (Ok x) h g = free_then ts rest (left x) h g
+good_from left ts rest (Err None) h g = free_before ts rest h g
 good_from left ts rest (Err (Some n)) h g = tt
 
 -- one step, and then another
 pub good_then : {A B : Type 0} (left : A → List PlacedToken) (last : B → List PlacedToken) (ts : List PlacedToken) (r : Result A (Option ℕ)) (f : A → Result B (Option ℕ))
-    → Good left ts r → ((x : A) → Leads ts (left x) → Good last (left x) (f x)) → Good last ts (r >>= f)
+    → Good left ts r → ((x : A) → PassesFree ts (left x) → Good last (left x) (f x)) → Good last ts (r >>= f)
 good_then left last ts (Ok x) f g h = good_from last ts (left x) (f x) g (h x g)
 good_then left last ts (Err None) f g h = g
 good_then left last ts (Err (Some n)) f g h = tt
@@ -104,14 +94,14 @@ free_mark m tokens.End h = h
 
 one_mark : (m : Mark) (ms : List Mention) (ts : List PlacedToken) → Good here ts (mark_in m ms ts)
 one_mark m ms [] = tt
-one_mark m ms (t ∷ ts) = good_if here (t ∷ ts) (is_mark m t.token) (Ok (ms, ts)) (Err (Some t.at)) (λ h. leads_cons t ts ts (free_mark m t.token h) (leads_self ts)) tt
+one_mark m ms (t ∷ ts) = good_if here (t ∷ ts) (is_mark m t.token) (Ok (ms, ts)) (Err (Some t.at)) (λ h. free_cons t ts ts (free_mark m t.token h) (free_self ts)) tt
 
 pub mark_sound : (m : Mark) (p : Point) → Good here p.1 (mark_at m p)
 unfolding mark_at
 mark_sound m p = one_mark m p.0 p.1
 
 good_value : {A : Type 0} (o : Option A) (t : PlacedToken) (ms : List Mention) (ts : List PlacedToken) → ((x : A) → o ≡ Some x → is_free t.token ≡ true) → Good behind (t ∷ ts) (token_value o t.at ms ts)
-good_value (Some x) t ms ts h = leads_cons t ts ts (h x refl) (leads_self ts)
+good_value (Some x) t ms ts h = free_cons t ts ts (h x refl) (free_self ts)
 good_value None t ms ts h = tt
 
 free_string : (t : Token) (x : List ℕ) → string_in t ≡ Some x → is_free t ≡ true
@@ -177,40 +167,40 @@ given x p = Ok (x, p)
 
 more_sound : {A : Type 0} (element : Point → Read A) → Sound element → (skip : ℕ) (ms : List Mention) (ts : List PlacedToken) → Good behind (drop skip ts) (more_at element skip ms ts)
 unfolding more_at
-more_sound element s zero ms [] = leads_self []
-more_sound element s (suc skip) ms [] = leads_self []
+more_sound element s zero ms [] = free_self []
+more_sound element s (suc skip) ms [] = free_self []
 more_sound element s (suc skip) ms (t ∷ ts) = more_sound element s skip ms ts
 more_sound {A = A} element s zero ms (t ∷ ts) =
     good_if behind (t ∷ ts) (is_mark Comma t.token) _ (Ok ([], (ms, t ∷ ts))) (λ h.
-    good_from behind (t ∷ ts) ts _ (leads_cons t ts ts (free_mark Comma t.token h) (leads_self ts))
+    good_from behind (t ∷ ts) ts _ (free_cons t ts ts (free_mark Comma t.token h) (free_self ts))
     (good_then behind behind ts (element (ms, ts)) _ (s (ms, ts)) (λ (x : A × Point) l.
     good_then behind behind x.1.1 (more_at element (length ts - length x.1.1) x.1.0 ts) _
-    (subst (λ us. Good behind us (more_at element (length ts - length x.1.1) x.1.0 ts)) (leads_drop ts x.1.1 l) (more_sound element s (length ts - length x.1.1) x.1.0 ts))
-    (λ xs k. leads_self xs.1.1))))
-    (leads_self (t ∷ ts))
+    (subst (λ us. Good behind us (more_at element (length ts - length x.1.1) x.1.0 ts)) (drop_to_rest ts x.1.1 l.rest) (more_sound element s (length ts - length x.1.1) x.1.0 ts))
+    (λ xs k. free_self xs.1.1))))
+    (free_self (t ∷ ts))
 
 list_sound : {A : Type 0} (element : Point → Read A) → Sound element → Sound (list_at element)
 unfolding list_at
 list_sound {A = A} element s p =
     good_then behind behind p.1 (element p) _ (s p) (λ (x : A × Point) l.
-    good_then behind behind x.1.1 (more_at element 0 x.1.0 x.1.1) _ (more_sound element s 0 x.1.0 x.1.1) (λ xs k. leads_self xs.1.1))
+    good_then behind behind x.1.1 (more_at element 0 x.1.0 x.1.1) _ (more_sound element s 0 x.1.0 x.1.1) (λ xs k. free_self xs.1.1))
 
 closed_sound : {A : Type 0} (element : Point → Read A) (close : Mark) → Sound element → Sound (closed_at element close)
 unfolding closed_at
 closed_sound {A = A} element close s p =
     good_then behind behind p.1 (list_at element p) _ (list_sound element s p) (λ (xs : List A × Point) l.
-    good_then here behind xs.1.1 (mark_at close xs.1) _ (mark_sound close xs.1) (λ rest k. leads_self rest.1))
+    good_then here behind xs.1.1 (mark_at close xs.1) _ (mark_sound close xs.1) (λ rest k. free_self rest.1))
 
 perhaps_sound : {A : Type 0} (element : Point → Read A) (close : Mark) → Sound element → Sound (perhaps_at element close)
 unfolding perhaps_at
 perhaps_sound {A = A} element close s p =
     good_if behind p.1 (next_is close p.1) _ (closed_at element close p)
-    (λ h. good_then here behind p.1 (mark_at close p) _ (mark_sound close p) (λ rest k. leads_self rest.1))
+    (λ h. good_then here behind p.1 (mark_at close p) _ (mark_sound close p) (λ rest k. free_self rest.1))
     (closed_sound element close s p)
 
 -- a value made of one that was read
 wrapped : {A B : Type 0} (f : Point → Read A) → Sound f → (make : A → B) (p : Point) → Good {A = B × Point} behind p.1 (f p >>= λ x. Ok (make x.0, x.1))
-wrapped {A = A} f s make p = good_then behind behind p.1 (f p) _ (s p) (λ (x : A × Point) l. leads_self x.1.1)
+wrapped {A = A} f s make p = good_then behind behind p.1 (f p) _ (s p) (λ (x : A × Point) l. free_self x.1.1)
 
 -- types
 
@@ -219,13 +209,13 @@ unfolding typed_at
 typed_sound {A = A} inner s p =
     good_then behind behind p.1 (field_at p) _ (field_sound p) (λ (f : List ℕ × Point) l.
     good_then here behind f.1.1 (mark_at Colon f.1) _ (mark_sound Colon f.1) (λ rest k.
-    good_then behind behind rest.1 (inner rest) _ (s rest) (λ (t : A × Point) j. leads_self t.1.1)))
+    good_then behind behind rest.1 (inner rest) _ (s rest) (λ (t : A × Point) j. free_self t.1.1)))
 
 enum_sound : Sound enum_at
 unfolding enum_at
 enum_sound p =
     good_then here behind p.1 (mark_at OpenBracket p) _ (mark_sound OpenBracket p) (λ rest l.
-    good_then behind behind rest.1 (closed_at string_at CloseBracket rest) _ (closed_sound string_at CloseBracket string_sound rest) (λ (ms : List (List ℕ) × Point) k. leads_self ms.1.1))
+    good_then behind behind rest.1 (closed_at string_at CloseBracket rest) _ (closed_sound string_at CloseBracket string_sound rest) (λ (ms : List (List ℕ) × Point) k. free_self ms.1.1))
 
 record_sound : (inner : Point → Read TypeTree) → Sound inner → Sound (record_at inner)
 unfolding record_at
@@ -237,10 +227,10 @@ one_of_sound inner s p = wrapped (closed_at (typed_at inner) Greater) (closed_so
 
 word_type_sound : (inner : Point → Read TypeTree) → Sound inner → (k : Keyword) (at : ℕ) → Sound (word_type inner k at)
 unfolding word_type
-word_type_sound inner s words.Unit at p = leads_self p.1
-word_type_sound inner s words.Bool at p = leads_self p.1
-word_type_sound inner s words.Int at p = leads_self p.1
-word_type_sound inner s words.Text at p = leads_self p.1
+word_type_sound inner s words.Unit at p = free_self p.1
+word_type_sound inner s words.Bool at p = free_self p.1
+word_type_sound inner s words.Int at p = free_self p.1
+word_type_sound inner s words.Text at p = free_self p.1
 word_type_sound inner s words.Enum at p = enum_sound p
 word_type_sound inner s words.List at p = wrapped inner s _ p
 word_type_sound inner s words.Keyed at p = wrapped inner s _ p
@@ -258,9 +248,9 @@ unfolding begun_type
 type_begins inner s t ms ts = by_token t.token refl
   where
     by_token : (k : Token) → t.token ≡ k → Good behind (t ∷ ts) (begun_type inner k t.at (ms, ts))
-    by_token (tokens.Keyword k) e = good_from behind (t ∷ ts) ts _ (leads_cons t ts ts (ap is_free e) (leads_self ts)) (word_type_sound inner s k t.at (ms, ts))
-    by_token (tokens.Name n) e = leads_cons t ts ts (ap is_free e) (leads_self ts)
-    by_token (tokens.Mark m) e = good_from behind (t ∷ ts) ts _ (leads_cons t ts ts (ap is_free e) (leads_self ts)) (mark_type_sound inner s m t.at (ms, ts))
+    by_token (tokens.Keyword k) e = good_from behind (t ∷ ts) ts _ (free_cons t ts ts (ap is_free e) (free_self ts)) (word_type_sound inner s k t.at (ms, ts))
+    by_token (tokens.Name n) e = free_cons t ts ts (ap is_free e) (free_self ts)
+    by_token (tokens.Mark m) e = good_from behind (t ∷ ts) ts _ (free_cons t ts ts (ap is_free e) (free_self ts)) (mark_type_sound inner s m t.at (ms, ts))
     by_token (tokens.Text x) e = tt
     by_token tokens.Bad e = tt
     by_token tokens.End e = tt
@@ -285,7 +275,7 @@ unfolding pair_at
 pair_sound p =
     good_then behind behind p.1 (string_at p) _ (string_sound p) (λ (a : List ℕ × Point) l.
     good_then here behind a.1.1 (mark_at Equals a.1) _ (mark_sound Equals a.1) (λ rest k.
-    good_then behind behind rest.1 (string_at rest) _ (string_sound rest) (λ (b : List ℕ × Point) j. leads_self b.1.1)))
+    good_then behind behind rest.1 (string_at rest) _ (string_sound rest) (λ (b : List ℕ × Point) j. free_self b.1.1)))
 
 bij_sound : Sound bij_at
 unfolding bij_at
@@ -300,7 +290,7 @@ arm_sound inner s p =
     good_then here behind a.1.1 (mark_at Tilde a.1) _ (mark_sound Tilde a.1) (λ rest k.
     good_then behind behind rest.1 (field_at rest) _ (field_sound rest) (λ (b : List ℕ × Point) j.
     good_then here behind b.1.1 (mark_at Colon b.1) _ (mark_sound Colon b.1) (λ next i.
-    good_then behind behind next.1 (inner next) _ (s next) (λ (x : LensTree × Point) h. leads_self x.1.1)))))
+    good_then behind behind next.1 (inner next) _ (s next) (λ (x : LensTree × Point) h. free_self x.1.1)))))
 
 both_sound : (inner : Point → Read LensTree) → Sound inner → Sound (both_row_at inner)
 unfolding both_row_at
@@ -315,8 +305,8 @@ unfolding right_row_at
 right_sound type s p = wrapped (typed_at type) (typed_sound type s) _ p
 
 row_starts : (type : Point → Read TypeTree) (inner : Point → Read LensTree) → Sound type → Sound inner → (o : Option Keyword) (ms : List Mention) (ts : List PlacedToken) → next_word ts ≡ o → Good behind ts (row_by type inner o ms ts)
-row_starts type inner u s (Some words.Left) ms (t ∷ ts) e = good_from behind (t ∷ ts) ts _ (leads_cons t ts ts (free_word t.token words.Left e) (leads_self ts)) (left_sound type u (ms, ts))
-row_starts type inner u s (Some words.Right) ms (t ∷ ts) e = good_from behind (t ∷ ts) ts _ (leads_cons t ts ts (free_word t.token words.Right e) (leads_self ts)) (right_sound type u (ms, ts))
+row_starts type inner u s (Some words.Left) ms (t ∷ ts) e = good_from behind (t ∷ ts) ts _ (free_cons t ts ts (free_word t.token words.Left e) (free_self ts)) (left_sound type u (ms, ts))
+row_starts type inner u s (Some words.Right) ms (t ∷ ts) e = good_from behind (t ∷ ts) ts _ (free_cons t ts ts (free_word t.token words.Right e) (free_self ts)) (right_sound type u (ms, ts))
 row_starts type inner u s (Some words.Left) ms [] e = both_sound inner s (ms, [])
 row_starts type inner u s (Some words.Right) ms [] e = both_sound inner s (ms, [])
 row_starts type inner u s _ ms ts e = both_sound inner s (ms, ts)
@@ -332,7 +322,7 @@ then_sound inner s p =
     good_then behind behind rest.1 (inner rest) _ (s rest) (λ (a : LensTree × Point) k.
     good_then here behind a.1.1 (mark_at Comma a.1) _ (mark_sound Comma a.1) (λ next j.
     good_then behind behind next.1 (inner next) _ (s next) (λ (b : LensTree × Point) i.
-    good_then here behind b.1.1 (mark_at CloseParen b.1) _ (mark_sound CloseParen b.1) (λ last h. leads_self last.1)))))
+    good_then here behind b.1.1 (mark_at CloseParen b.1) _ (mark_sound CloseParen b.1) (λ last h. free_self last.1)))))
 
 disc_sound : (type : Point → Read TypeTree) → Sound type → Sound (disc_at type)
 unfolding disc_at
@@ -369,9 +359,9 @@ unfolding begun_lens
 lens_begins type inner u s t ms ts = by_token t.token refl
   where
     by_token : (k : Token) → t.token ≡ k → Good behind (t ∷ ts) (begun_lens type inner k t.at (ms, ts))
-    by_token (tokens.Keyword k) e = good_from behind (t ∷ ts) ts _ (leads_cons t ts ts (ap is_free e) (leads_self ts)) (word_lens_sound type inner u s k t.at (ms, ts))
-    by_token (tokens.Name n) e = leads_cons t ts ts (ap is_free e) (leads_self ts)
-    by_token (tokens.Mark m) e = good_from behind (t ∷ ts) ts _ (leads_cons t ts ts (ap is_free e) (leads_self ts)) (mark_lens_sound type inner u s m t.at (ms, ts))
+    by_token (tokens.Keyword k) e = good_from behind (t ∷ ts) ts _ (free_cons t ts ts (ap is_free e) (free_self ts)) (word_lens_sound type inner u s k t.at (ms, ts))
+    by_token (tokens.Name n) e = free_cons t ts ts (ap is_free e) (free_self ts)
+    by_token (tokens.Mark m) e = good_from behind (t ∷ ts) ts _ (free_cons t ts ts (ap is_free e) (free_self ts)) (mark_lens_sound type inner u s m t.at (ms, ts))
     by_token (tokens.Text x) e = tt
     by_token tokens.Bad e = tt
     by_token tokens.End e = tt
@@ -396,7 +386,7 @@ term_sound term s ts =
     good_then behind left ts (name_at ([], ts)) _ (name_sound ([], ts)) (λ (n : (List ℕ × ℕ) × Point) l.
     good_then here left n.1.1 (mark_at Equals n.1) _ (mark_sound Equals n.1) (λ rest k.
     good_then behind left rest.1 (term rest) _ (s rest) (λ (d : DefTree × Point) j.
-    good_then here left d.1.1 (mark_at Semicolon d.1) _ (mark_sound Semicolon d.1) (λ next i. leads_self next.1))))
+    good_then here left d.1.1 (mark_at Semicolon d.1) _ (mark_sound Semicolon d.1) (λ next i. free_self next.1))))
 
 type_term_sound : Sound type_term_at
 unfolding type_term_at
@@ -417,8 +407,8 @@ word_there None term e = absurd cc
 
 definitions_sound : (skip : ℕ) (ts : List PlacedToken) → Good left (drop skip ts) (definitions_at skip ts)
 unfolding definitions_at
-definitions_sound zero [] = leads_self []
-definitions_sound (suc skip) [] = leads_self []
+definitions_sound zero [] = free_self []
+definitions_sound (suc skip) [] = free_self []
 definitions_sound (suc skip) (t ∷ ts) = definitions_sound skip ts
 definitions_sound zero (t ∷ ts) =
     by_word (definition_of (word_in t.token)) refl (λ skip. definitions_sound skip ts)
@@ -427,11 +417,11 @@ definitions_sound zero (t ∷ ts) =
         → Good left (t ∷ ts) (elim o [ Some term ↦ definition_at term ts >>= λ d. definitions_at (length ts - length d.1) ts >>= λ ds. Ok (d.0 ∷ ds.0, ds.1) | None ↦ Ok ([], t ∷ ts) ])
     by_word (Some term) e later =
         let w = word_there (word_in t.token) term e in
-        good_from left (t ∷ ts) ts _ (leads_cons t ts ts (free_word t.token w.0 w.1) (leads_self ts))
+        good_from left (t ∷ ts) ts _ (free_cons t ts ts (free_word t.token w.0 w.1) (free_self ts))
         (good_then left left ts (definition_at term ts) _ (term_sound term (definition_sound (word_in t.token) term e) ts) (λ (d : NotedDefinition × List PlacedToken) l.
-        good_then left left d.1 (definitions_at (length ts - length d.1) ts) _ (subst (λ us. Good left us (definitions_at (length ts - length d.1) ts)) (leads_drop ts d.1 l) (later (length ts - length d.1)))
-        (λ (ds : List NotedDefinition × List PlacedToken) k. leads_self ds.1)))
-    by_word None e later = leads_self (t ∷ ts)
+        good_then left left d.1 (definitions_at (length ts - length d.1) ts) _ (subst (λ us. Good left us (definitions_at (length ts - length d.1) ts)) (drop_to_rest ts d.1 l.rest) (later (length ts - length d.1)))
+        (λ (ds : List NotedDefinition × List PlacedToken) k. free_self ds.1)))
+    by_word None e later = free_self (t ∷ ts)
 
 main_there : (o : Option Keyword) → is_main o ≡ true → (k : Keyword) × (o ≡ Some k)
 main_there (Some k) e = (k, refl)
@@ -440,7 +430,7 @@ main_there None e = absurd cc
 main_sound : (ts : List PlacedToken) → Good all ts (main_at ts)
 unfolding main_at
 main_sound [] = tt
-main_sound (t ∷ ts) = good_if all (t ∷ ts) (is_main (word_in t.token)) (Ok ts) (Err (Some t.at)) (λ h. let w = main_there (word_in t.token) h in leads_cons t ts ts (free_word t.token w.0 w.1) (leads_self ts)) tt
+main_sound (t ∷ ts) = good_if all (t ∷ ts) (is_main (word_in t.token)) (Ok ts) (Err (Some t.at)) (λ h. let w = main_there (word_in t.token) h in free_cons t ts ts (free_word t.token w.0 w.1) (free_self ts)) tt
 
 -- the end is not free, so that tokens that ran out before it are all free
 abbrev Runs : {A : Type 0} → List PlacedToken → Result A (Option ℕ) → Type 0
@@ -453,7 +443,7 @@ run_then {B = B} last ts (Ok x) f g h = further (f x) (h x)
   where
     further : (s : Result B (Option ℕ)) → Runs (last x) s → Runs ts s
     further (Ok y) k = tt
-    further (Err None) k = leads_free ts (last x) g k
+    further (Err None) k = free_before ts (last x) g k
     further (Err (Some n)) k = tt
 run_then last ts (Err None) f g h = g
 run_then last ts (Err (Some n)) f g h = tt

@@ -110,7 +110,7 @@ unfolding type_at take_one
 no_room s ms [] = takes_none (rule (type zero) ∷ s) s
 no_room s ms (t ∷ ts) = takes_not t.token t.at ts refl
 
--- a type, however many may stand one inside the other
+-- a type, however many may be nested
 pub type_takes : (room : ℕ) → Reads TypeTree (rule (type room) ∷ []) (type_at room)
 unfolding type_at type_step
 type_takes zero s p = no_room s p.0 p.1

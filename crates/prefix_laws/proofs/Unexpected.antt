@@ -1,4 +1,4 @@
--- There is one misfit at most, and the machine stops there.
+-- At most one token is the unexpected one, and the machine stops there.
 use Rattle.std.proofs.Common.{◌≡◌, ℕ, zero, suc, Bool, true, false, List, [], ◌∷◌, ◌++◌, length, take, Option, Some, None, refl, sym, ap, subst, ◌∙◌, ◌⊎◌, inl, inr}
 use Rattle.program_tokens.specs.declared.token.Token.{Token}
 use Rattle.program_tokens.specs.declared.token.PlacedToken.{PlacedToken}
@@ -9,9 +9,9 @@ use Rattle.prefix_laws.proofs.Machine.{take_one, goes, stop}
 use Rattle.prefix_laws.proofs.MachineSoundness.{goes_viable}
 use Rattle.prefix_laws.proofs.MachineCompleteness.{Fine, viable_goes}
 
--- What begins a front is a front.
+-- What a viable prefix begins with is a viable prefix.
 
--- so many tokens of a front
+-- the first n tokens of a viable prefix
 first_of_viable : {s : List Symbol} {ts : List Token} → IsViablePrefix s ts → (n : ℕ) → IsViablePrefix s (take n ts)
 first_of_viable (no_tokens s) zero = no_tokens s
 first_of_viable (no_tokens s) (suc n) = no_tokens s
@@ -38,7 +38,7 @@ take_length (t ∷ before) after = ap (λ x. t ∷ x) (take_length before after)
 pub begins : (s : List Symbol) (before after : List Token) → IsViablePrefix s (before ++ after) → IsViablePrefix s before
 begins s before after h = subst (IsViablePrefix s) (take_length before after) (first_of_viable h (length before))
 
--- Two misfits are at one offset.
+-- Two unexpected tokens are at one offset.
 
 without_offsets_append : (a b : List PlacedToken) → without_offsets (a ++ b) ≡ without_offsets a ++ without_offsets b
 without_offsets_append [] b = refl
@@ -74,7 +74,7 @@ append_cons : (a rest : List PlacedToken) (t : PlacedToken) → without_offsets 
 append_cons [] rest t = refl
 append_cons (u ∷ a) rest t = ap (λ x. u.token ∷ x) (append_cons a rest t)
 
--- a misfit is in no front
+-- an unexpected token is in no viable prefix
 not_longer : (s : List Symbol) (long short : List PlacedToken) (t : PlacedToken) → Longer long short t → IsViablePrefix s (without_offsets long) → (IsViablePrefix s (without_offsets (short ++ t ∷ [])) → ⊥) → ⊥
 not_longer s long short t h f none = none (begins s (without_offsets (short ++ t ∷ [])) (without_offsets h.rest) (subst (IsViablePrefix s) (ap without_offsets h.parts ∙ append_cons short h.rest t) f))
 
@@ -86,7 +86,7 @@ one_unexpected s ts at other m o =
       | inr (inr h) ↦ absurd (not_longer s m.before o.before o.first h m.viable o.not_viable)
     ]
 
--- The machine stops at the misfit.
+-- The machine stops at the unexpected token.
 
 record Stopped (s : List Symbol) (ts : List PlacedToken) (at : ℕ) : Type 0 where
   before : List PlacedToken
@@ -136,7 +136,7 @@ stops_or_not : (o : Option ℕ) → (o ≡ nowhere) ⊎ ((at : ℕ) × (o ≡ So
 stops_or_not (Some at) = inr (at, refl)
 stops_or_not None = inl refl
 
--- a misfit is no part of a front
+-- an unexpected token is not part of a viable prefix
 pub not_viable : (s : List Symbol) (ts : List PlacedToken) (at : ℕ) → IsUnexpectedToken s ts at → IsViablePrefix s (without_offsets ts) → ⊥
 not_viable s ts at m f = m.not_viable (begins s (without_offsets (m.before ++ m.first ∷ [])) (without_offsets m.after) (subst (IsViablePrefix s) (ap without_offsets m.parts ∙ append_cons m.before m.after m.first) f))
 

@@ -1,4 +1,4 @@
-//! Reading stops at the first token that does not fit, and nowhere else.
+//! Reading stops at the unexpected token, and nowhere else.
 //!
 //! Each function here does nothing: its clauses are laws of the grammar of programs, for other crates to rest on.
 //! docs/LANGUAGE.md has the rules in prose.

@@ -157,7 +157,7 @@ abbrev pub depths_before : ℕ → List PlainSymbol → List ℕ → List ℕ
 depths_before n [] ns = ns
 depths_before n (x ∷ a) ns = n ∷ depths_before n a ns
 
--- a type or a lens is inside fewer than so many others
+-- a type or a lens is inside fewer than `most` others
 abbrev pub IsAllowed : ℕ → PlainRule → ℕ → Type 0
 IsAllowed most program n = Unit {0}
 IsAllowed most field n = Unit {0}
@@ -165,7 +165,7 @@ IsAllowed most type n = n < most
 IsAllowed most lens n = n < most
 IsAllowed most row n = Unit {0}
 
--- Each type and each lens that begins at one of the tokens is inside fewer than so many others.
+-- Each type and each lens that begins at one of the tokens is inside fewer than `most` others.
 abbrev pub IsNestedBelow : ℕ → List ℕ → {s : List PlainSymbol} {ts : List Token} → IsPlainPrefix s ts → Type 0
 IsNestedBelow most ns (no_tokens s) = Unit {0}
 IsNestedBelow most ns (mark_first m s ts h) = IsNestedBelow most (other_depths ns) h

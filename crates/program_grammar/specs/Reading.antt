@@ -1,5 +1,5 @@
--- Reading from left to right, without going back: the value and the point behind it, or the offset of the first token that does not
--- fit (none where the tokens ran out). A form for proofs: the laws show that it is what is spelled, and that it stops at the first misfit.
+-- Reading from left to right, without going back: the value and the point behind it, or the offset of the unexpected token (none if the
+-- tokens ran out). A form for proofs: the laws show that it reads what is spelled, and that it stops at the unexpected token.
 use Rattle.std.specs.Prelude.{◌≡◌, ℕ, zero, suc, ◌-◌, Bool, true, false, List, [], ◌∷◌, ◌++◌, length, Option, Some, None, Result, Ok, Err, ◌==◌, if◌then◌else◌}
 use Rattle.program_tokens.specs.Words.{mark_byte}
 use Rattle.program_tokens.specs.declared.keyword.Keyword.{Keyword}
@@ -14,7 +14,7 @@ use Rattle.program_grammar.specs.declared.mention.Mention.{Mention}
 use Rattle.program_grammar.specs.declared.mention.Sort.TheVariants as sorts
 use Rattle.program_grammar.specs.Mentions.{Point, mention, NotedDefinition, NotedProgram}
 
--- what reading answers
+-- what reading gives
 abbrev pub Read : Type 0 → Type 0
 Read A = Result (A × Point) (Option ℕ)
 
@@ -171,7 +171,7 @@ type_from inner ms (t ∷ ts) = begun_type inner t.token t.at (ms, ts)
 unfoldable pub type_step : (Point → Read TypeTree) → Point → Read TypeTree
 type_step inner p = type_from inner p.0 p.1
 
--- a type that may have so many types one inside the other, itself among them
+-- a type with at most this many types nested, itself among them
 unfoldable pub type_at : ℕ → Point → Read TypeTree
 type_at zero p = Err (next_offset p.1)
 type_at (suc room) p = type_step (type_at room) p
@@ -280,7 +280,7 @@ lens_from type inner ms (t ∷ ts) = begun_lens type inner t.token t.at (ms, ts)
 unfoldable pub lens_step : (Point → Read TypeTree) → (Point → Read LensTree) → Point → Read LensTree
 lens_step type inner p = lens_from type inner p.0 p.1
 
--- a lens that may have so many types and lenses one inside the other, itself among them
+-- a lens with at most this many types and lenses nested, itself among them
 unfoldable pub lens_at : ℕ → Point → Read LensTree
 lens_at zero p = Err (next_offset p.1)
 lens_at (suc room) p = lens_step (type_at room) (lens_at room) p
@@ -299,7 +299,7 @@ name_from ms (t ∷ ts) = token_value (name_in t.token t.at) t.at ms ts
 unfoldable pub name_at : Point → Read (List ℕ × ℕ)
 name_at p = name_from p.0 p.1
 
--- what a definition stands for, by the word before it
+-- what a name is defined as, by the word before it
 unfoldable pub type_term_at : Point → Read DefTree
 type_term_at p = type_at 100 p >>= λ t. Ok (type_def t.0, t.1)
 
@@ -352,7 +352,7 @@ unfoldable pub end_at : List PlacedToken → Result (List PlacedToken) (Option �
 end_at [] = Err None
 end_at (t ∷ ts) = if is_end t.token then none_left ts else Err (Some t.at)
 
--- a whole program
+-- a complete program
 unfoldable pub program_at : List PlacedToken → Result NotedProgram (Option ℕ)
 program_at ts = do
   ds ← definitions_at 0 ts

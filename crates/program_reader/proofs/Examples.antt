@@ -42,7 +42,7 @@ no_tokens : program_of [] ≡ Err ended
 unfolding program_at definitions_at main_at
 no_tokens = refl
 
--- a definition is not known in what it stands for
+-- a definition is not in scope in its own body
 own_name : program_of (tokens_of (codes "type t = list t; main id t")) ≡ Err (unknown_name 14)
 unfolding tokens_from piece_of is_space begins_word in_word keyword_of mark_of program_at definitions_at definition_at name_at mark_at type_term_at main_at end_at lens_at lens_step begun_lens word_lens type_at type_step begun_type word_type
 own_name = refl
@@ -57,7 +57,7 @@ other_sort : program_of (tokens_of (codes "type t = int; lens t = id u; main t")
 unfolding tokens_from piece_of is_space begins_word in_word keyword_of mark_of program_at definitions_at definition_at name_at mark_at type_term_at lens_term_at main_at end_at lens_at lens_step begun_lens word_lens type_at type_step begun_type word_type
 other_sort = refl
 
--- a token that does not fit comes before a name that is unknown
+-- an unexpected token comes before a name that is unknown
 grammar_first : program_of (tokens_of (codes "main then(l, m")) ≡ Err (not_a_program 14)
 unfolding tokens_from piece_of is_space begins_word in_word keyword_of mark_of program_at definitions_at main_at mark_at lens_at lens_step begun_lens word_lens then_at
 grammar_first = refl

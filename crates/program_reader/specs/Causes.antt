@@ -29,7 +29,7 @@ abbrev pub if_no_fault : {A : Type 0} → Option NameFault → A → Result A Re
 if_no_fault None x = Ok x
 if_no_fault (Some fault) x = Err (name_cause fault)
 
--- The grammar's cause comes first: the first token that does not fit. Then comes the first fault of the names.
+-- The grammar's cause comes first: the unexpected token. Then comes the first fault of the names.
 abbrev pub program_or_cause : Result NotedProgram (Option ℕ) → Result ProgramTree ReadCause
 program_or_cause (Ok p) = if_no_fault (first_fault p) (without_notes p)
 program_or_cause (Err (Some at)) = Err (not_a_program at)

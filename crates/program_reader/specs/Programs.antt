@@ -18,7 +18,7 @@ definition_with_notes d = record { name = d.name; at = d.at; def = def_tree d.de
 abbrev pub program_with_notes : ReadProgram → NotedProgram
 program_with_notes p = record { definitions = map definition_with_notes p.definitions.items; main = lens_tree p.main; mentions = p.mentions.items }
 
--- what a definition of this sort stands for
+-- what a name of this sort is defined as
 abbrev pub term_at : Sort → Point → Read DefTree
 term_at sorts.Type = type_term_at
 term_at sorts.Lens = lens_term_at

@@ -33,7 +33,7 @@ pub(crate) fn with_known_names(
     Ok(Program::from_parts(known, main))
 }
 
-/// Adds a definition behind the earlier ones, or answers its first fault.
+/// Adds a definition behind the earlier ones, or returns its first fault.
 fn add_definition(
     known: &mut Definitions,
     definition: ReadDefinition,
@@ -49,7 +49,7 @@ fn add_definition(
         def,
         mentions,
     } = definition;
-    // Before it is added: a definition is not known in what it stands for.
+    // Before it is added: a definition is not in scope in its own body.
     let mentioned = all_known(known, &mentions);
     match known.add(name, def) {
         Ok(()) => {}

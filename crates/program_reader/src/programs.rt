@@ -1,4 +1,4 @@
-//! Reading definitions and whole programs.
+//! Reading definitions and complete programs.
 ghost use Rattle.std.specs.Prelude.{◌≡◌, [], Ok, map, option_map};
 ghost use Rattle.program_grammar.specs.Reading.{next_word, type_at, lens_at, definition_at, definition_of, definitions_at, program_at};
 ghost use Rattle.program_reader.specs.Gives.{Gives, GivesAll};
@@ -16,7 +16,7 @@ use program_tokens::{Keyword, Mark, Tokens};
 use std::alloc::Global;
 use std::collections::VecDeque;
 
-/// How many types and lenses may stand one inside the other.
+/// How many types and lenses may be nested.
 const NESTED: u32 = 100;
 
 /// A definition, with the offset of its name and the names that it mentions in written order.
@@ -106,7 +106,7 @@ fn read_definition(
     })
 }
 
-/// What a definition of this sort stands for.
+/// What a name of this sort is defined as.
 #[tactic(auto, unfolding(program_grammar::specs::Reading::type_term_at, program_grammar::specs::Reading::lens_term_at))]
 fn read_def(alloc: Global, reader: &mut Reader, sort: Sort) -> Result<Def, ReadFault>
     ensures { Gives def_tree result reader.new (term_at sort reader.old) }

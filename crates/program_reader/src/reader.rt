@@ -1,4 +1,4 @@
-//! The tokens that are left of a text, taken from the front.
+//! The tokens that are left of a text, the first one first.
 ghost use Rattle.std.specs.Prelude.{◌≡◌, ◌∷◌, ◌++◌, [], Err, Ok, false, drop, IfOk, IfErr, OnOk, MatchBool};
 ghost use Rattle.program_grammar.specs.Mentions.{mention};
 ghost use Rattle.program_grammar.specs.Reading.{next_offset, is_mark, next_is, word_in, next_word, mark_at, string_at, field_at, name_at, main_at, is_end, end_at};
@@ -184,7 +184,7 @@ impl Reader {
         }
     }
 
-    /// Notes that a name that stands for a definition of this sort is mentioned at this offset.
+    /// Notes that the name of a definition of this sort is mentioned at this offset.
     pub fn mention(
         &mut self,
         alloc: Global,

@@ -39,6 +39,18 @@ impl From<AllocError> for AddFault {
     }
 }
 
+impl Twin for AddFault {
+    ghost use Rattle.program_terms.specs.declared.definitions.AddFault.{AddFault};
+
+    ghost Meaning = { AddFault };
+
+    ghost meaning = { λ x. x };
+
+    fn twin(&self, _alloc: Global) -> Result<Self, AllocError> {
+        Ok(*self)
+    }
+}
+
 /// Definitions in written order, each under a name of its own, types and lenses alike.
 ///
 /// Contracts see them as the list of the names with the trees of what they are defined as.

@@ -55,7 +55,7 @@ sound_mark : (o : Option Mark) → IsSoundPiece (mark_piece o)
 sound_mark (Some m) = tt
 sound_mark None = tt
 
--- the tests of `piece_of` in turn
+-- the tests of `piece_of`, one after another
 by_tests : (space comment word quote : Bool) (b : ℕ) (bs : List ℕ) → begins_word b ≡ word
     → IsSoundPiece (cond space (pieces.Gap 0) (cond comment (pieces.Gap (line_run bs)) (cond word (word_piece (b ∷ take (word_run bs) bs) (word_run bs)) (cond quote (text_piece bs (position (λ c. eqb c 34) bs)) (mark_piece (mark_of b))))))
 by_tests true comment word quote b bs h = tt

@@ -50,7 +50,7 @@ fn line_run(rest: &[u8]) -> usize
     rest.iter().take_while(|b| **b != b'\n').count()
 }
 
-/// How many bytes of a word stand at the front.
+/// How many bytes of a word come first.
 fn word_run(rest: &[u8]) -> usize
     ensures run { result ≡ word_run rest.now }
     ensures within { result ≤ length rest.now }

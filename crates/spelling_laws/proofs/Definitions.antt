@@ -1,4 +1,4 @@
--- Definitions are read exactly where they are spelled.
+-- Definitions are read if and only if they are spelled.
 use Rattle.std.proofs.Common.{◌≡◌, ℕ, zero, suc, ◌-◌, List, [], ◌∷◌, ◌++◌, length, drop, Option, Result, Ok, refl, sym, ap, subst, ◌∙◌, arith, length-append, ◌⊎◌, inl, inr}
 use Rattle.program_tokens.specs.Tokens.{placed}
 use Rattle.program_tokens.specs.declared.keyword.Keyword.{Keyword}
@@ -18,7 +18,7 @@ use Rattle.spelling_laws.proofs.Marks.{mark_again, mark_first}
 use Rattle.spelling_laws.proofs.Types.{type_exact}
 use Rattle.spelling_laws.proofs.Lenses.{lens_exact}
 
--- what a definition stands for, behind this word
+-- what a name is defined as, behind this word
 abbrev IsTerm : Keyword → DefTree → Point → Point → Type 0
 IsTerm k d here there = IsStatement d (tokens.Keyword k) here there
 

@@ -12,7 +12,7 @@ use Rattle.program_grammar.specs.Mentions.{mention, NotedProgram}
 use Rattle.program_grammar.specs.Reading.{Read, more_at, mark_at, string_at, field_at, list_at, closed_at, perhaps_at, typed_at, record_at, one_of_at, word_type, mark_type, begun_type, type_step, type_at, pair_at, bij_at, arm_at, left_row_at, both_row_at, row_at, disc_at, rec_at, word_lens, mark_lens, begun_lens, lens_step, lens_at, name_at, type_term_at, lens_term_at, definition_at, definitions_at, main_at, end_at, program_at}
 use Rattle.program_grammar.specs.Spelling.{IsType}
 
--- the program of a text, a type at its front, and a lens at its front
+-- the program of a text, a type that it begins with, and a lens that it begins with
 abbrev program_in : List ℕ → Result NotedProgram (Option ℕ)
 program_in text = program_at (tokens_of text)
 

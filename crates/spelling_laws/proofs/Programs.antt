@@ -1,4 +1,4 @@
--- A program is read exactly where it is spelled.
+-- A program is read if and only if it is spelled.
 use Rattle.std.proofs.Common.{◌≡◌, ℕ, List, [], ◌∷◌, Option, Ok, Err, sym, ap, subst, ◌∙◌}
 use Rattle.program_tokens.specs.Tokens.{placed}
 use Rattle.program_tokens.specs.declared.keyword.Keyword.TheVariants as words

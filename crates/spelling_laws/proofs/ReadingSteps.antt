@@ -23,7 +23,7 @@ onward {a = a} {b = b} {c = c} p q = rest_then c.1 b.1 a.1 q p
 pub is_ahead : {k : Token} {here there : Point} → Is k here there → ComesBefore here there
 is_ahead {k = k} h = record { front = placed k h.at ∷ []; parts = h.parts }
 
--- The relation holds of a value and two points exactly where the reader reads the value at the first and leaves the second, and the
+-- The relation holds of a value and two points if and only if the reader reads the value at the first and leaves the second, and the
 -- second is ahead of the first.
 pub record Exact {A : Type 0} (R : A → Point → Point → Type 0) (reader : Point → Read A) : Type 0 where
   pub moves : (x : A) (here there : Point) → R x here there → Ahead here there

@@ -1,4 +1,4 @@
--- Pairs, arms and rows are read exactly where they are spelled.
+-- Pairs, arms and rows are read if and only if they are spelled.
 use Rattle.std.proofs.Common.{◌≡◌, ℕ, false, List, [], ◌∷◌, Some, Ok, refl, sym, ap, subst, ◌∙◌, inl, inr}
 use Rattle.program_tokens.specs.declared.keyword.Keyword.{Keyword}
 use Rattle.program_tokens.specs.declared.keyword.Keyword.TheVariants as words

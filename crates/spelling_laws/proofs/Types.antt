@@ -1,4 +1,4 @@
--- A type is read exactly where it is spelled.
+-- A type is read if and only if it is spelled.
 use Rattle.std.proofs.Common.{◌≡◌, ℕ, zero, suc, List, [], ◌∷◌, ◌++◌, Ok, false, eqb, refl, sym, ap, subst, ◌∙◌}
 use Rattle.program_tokens.specs.Words.{mark_byte}
 use Rattle.program_tokens.specs.declared.keyword.Keyword.{Keyword}
