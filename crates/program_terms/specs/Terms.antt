@@ -2,7 +2,7 @@
 use Rattle.std.specs.Prelude.{ℕ, Bool, true, ◌&&◌, not, bytes_eq, is_some, Option, Some, None, if◌then◌else◌, List, [], ◌∷◌}
 
 -- an enum has its members in written order; a record and alternatives have names with types; a list, a keyed map and an
--- ordered tree have the type of their contents; a name stands for the type that is defined by it
+-- ordered tree have the type of their contents; a name refers to the type that it is defined as
 mutual
   pub data TypeTree : Type 0 where
     unit : TypeTree
@@ -31,7 +31,7 @@ field_list no_fields = []
 field_list (more_fields n t fs) = (n, t) ∷ field_list fs
 
 -- the lenses in the order of the grammar; a row of a record is paired, or stands on one side alone; an arm of
--- alternatives has its left tag, its right tag and its lens; a name stands for the lens that is defined by it
+-- alternatives has its left tag, its right tag and its lens; a name refers to the lens that it is defined as
 mutual
   pub data LensTree : Type 0 where
     id_of : TypeTree → LensTree

@@ -9,7 +9,7 @@ use crate::types::{TyExpr, TyFields};
 use texts::{Name, Twin};
 use std::alloc::{AllocError, Global};
 
-/// A lens as a program writes it, in which a name may stand for a lens that is defined.
+/// A lens as a program writes it, in which a name may refer to a lens that is defined.
 ///
 /// Contracts see it as a `LensTree`. docs/LANGUAGE.md has the grammar and the types of each lens.
 #[derive(Drop)]
@@ -19,7 +19,7 @@ pub enum Lens {
     Id(TyExpr),
     /// Members of an enum joined to members of another: `bij["on"="yes", "off"="no"]`.
     Bij(Pairs),
-    /// Two types of which no edit is carried: `disc int text`.
+    /// Two types of which no edit is translated: `disc int text`.
     Disc(TyExpr, TyExpr),
     /// The first lens, and then the second: `then(id int, id int)`.
     Then(Box<Lens>, Box<Lens>),
@@ -68,7 +68,7 @@ pub struct Arms {
 }
 
 impl Rows {
-    /// These rows, in this order. Takes no memory.
+    /// These rows, in this order. Does not allocate.
     pub fn from_vec(items: Vec<Row>) -> Rows
         ensures { rows_tree result ≡ term_rows_of (map row_tree items.items) }
     {
@@ -82,7 +82,7 @@ impl Rows {
         self.items.as_slice()
     }
 
-    /// The rows in order. Takes no memory.
+    /// The rows in order. Does not allocate.
     pub fn into_vec(self) -> Vec<Row>
         ensures { term_rows_of (map row_tree result.items) ≡ rows_tree self }
     {
@@ -91,7 +91,7 @@ impl Rows {
 }
 
 impl Arms {
-    /// These arms, in this order. Takes no memory.
+    /// These arms, in this order. Does not allocate.
     pub fn from_vec(items: Vec<(Name, Name, Lens)>) -> Arms
         ensures { arms_tree result ≡ term_arms_of (map arm_tree items.items) }
     {
@@ -105,7 +105,7 @@ impl Arms {
         self.items.as_slice()
     }
 
-    /// The arms in order. Takes no memory.
+    /// The arms in order. Does not allocate.
     pub fn into_vec(self) -> Vec<(Name, Name, Lens)>
         ensures { term_arms_of (map arm_tree result.items) ≡ arms_tree self }
     {

@@ -1,6 +1,6 @@
 //! The terms of lens programs: types, lenses, definitions and whole programs, as they are written.
 //!
-//! A [`TyExpr`] is a type and a [`Lens`] a lens, in which names may stand for what a program defines; a [`Program`]
+//! A [`TyExpr`] is a type and a [`Lens`] a lens, in which names may refer to what a program defines; a [`Program`]
 //! is a list of definitions by name, in written order, and a main lens. Types and lenses hold themselves, so
 //! contracts see them as plain trees: `TypeTree` through `type_tree`, `LensTree` through `lens_tree`, and
 //! `ProgramTree` through `program_tree`.

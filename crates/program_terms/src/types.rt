@@ -7,7 +7,7 @@ ghost use Rattle.program_terms.specs.Views.{type_tree, fields_tree, field_tree};
 use texts::{Name, Names, Twin};
 use std::alloc::{AllocError, Global};
 
-/// A type as a program writes it, in which a name may stand for a type that is defined.
+/// A type as a program writes it, in which a name may refer to a type that is defined.
 ///
 /// Contracts see it as a `TypeTree`. docs/LANGUAGE.md has the grammar.
 #[derive(Drop)]
@@ -47,7 +47,7 @@ pub struct TyFields {
 }
 
 impl TyFields {
-    /// The fields with these names and types, in this order. Takes no memory.
+    /// The fields with these names and types, in this order. Does not allocate.
     pub fn from_vec(items: Vec<(Name, TyExpr)>) -> TyFields
         ensures { fields_tree result ≡ term_fields_of (map field_tree items.items) }
     {
@@ -61,7 +61,7 @@ impl TyFields {
         self.items.as_slice()
     }
 
-    /// The names and types in order. Takes no memory.
+    /// The names and types in order. Does not allocate.
     pub fn into_vec(self) -> Vec<(Name, TyExpr)>
         ensures { term_fields_of (map field_tree result.items) ≡ fields_tree self }
     {
