@@ -1,8 +1,8 @@
 #!/usr/bin/env python3
 """Writes cases of edits and documents for crates/layer_cases, worked out from the rules alone: python3 bench/reference.py.
 
-Each answer is computed here in the words of docs/EDITS.md (plans and the action) and docs/FORMATS.md (documents, words and
-entries), and never taken from the program. The rows are the same in every run. They go to
+Each answer is computed here in the words of docs/EDITS.md (plans and the action), docs/FORMATS.md (documents, words and
+entries) and docs/MEANING.md (what words are carried to), and never taken from the program. The rows are the same in every run. They go to
 crates/layer_cases/data/*_reference.jsonl, in the forms of crates/layer_cases/CASES.md. It is run by hand, as is
 bench/reference_programs.py, which writes the cases of programs.
 """
@@ -182,6 +182,11 @@ def tree_edits():
         yield {'hang': [start, end]}
 
 
+def fewer_refused(rows, chance):
+    """The rows with one in eight of those that are refused for a place or a number, which are many."""
+    return (row for row in rows if 'shape' in row['answer'] or chance.random() < 0.12)
+
+
 def plan_rows(chance):
     for n in range(4):
         yield from (plan_row({'list': n}, edit) for edit in list_edits(n))
@@ -189,16 +194,13 @@ def plan_rows(chance):
     yield plan_row({'list': 65537}, {'del': 65537})
     for keys in [[], ['b'], ['a', 'b'], ['ab', 'é', '\U00010000'], ['', 'b', '\uffff', '\U00010000']]:
         yield from (plan_row({'keyed': keys}, edit) for edit in keyed_edits())
-    for depths in [depths for count in range(1, 5) for depths in depth_lists(count)]:
-        yield from (plan_row({'tree': depths}, edit) for edit in tree_edits() if chance.random() < 0.4)
-    for depths in depth_lists(6):
-        yield from (plan_row({'tree': depths}, edit) for edit in chance.sample(list(tree_edits()), 15))
-    chain = list(range(16))
-    for length in range(13, 17):
-        yield plan_row({'tree': chain}, {'graft': [0] * length})
-        yield plan_row({'tree': chain[:length]}, {'graft': [0] * (length - 1)})
-        yield plan_row({'tree': chain[:length] + [1, 2]}, {'hang': [[1], [0] * (length - 2)]})
-        yield plan_row({'tree': chain[:length] + [1, 2]}, {'hang': [[1], [0] * (length - 3)]})
+    for depths in [depths for count in range(1, 5) for depths in depth_lists(count)] + chance.sample(depth_lists(6), 20):
+        yield from fewer_refused((plan_row({'tree': depths}, edit) for edit in tree_edits()), chance)
+    for length, steps in itertools.product(range(13, 17), range(12, 16)):
+        chain, path = list(range(length)), [0] * steps
+        yield plan_row({'tree': chain}, {'graft': path})
+        for beside in ([1], [1, 2], [1, 2, 3, 2]):
+            yield plan_row({'tree': chain + beside}, {'hang': [[1], path]})
     some = [{'ins': 1}, {'del': 1}, {'move': [0, 0]}, {'reorder': [0]}, {'put': 'k'}, {'drop': 'a'}, {'rename': ['a', 'k']},
             {'graft': []}, {'prune': []}, {'shift': [[], 0, 0]}, {'hang': [[0], []]}]
     for shape in [{'list': 1}, {'keyed': ['a']}, {'tree': [0, 1]}]:
@@ -373,7 +375,7 @@ def hold(shape, items):
 
 class Chance(random.Random):
     def type(self, depth):
-        kind = self.choice(['unit', 'bool', 'int', 'text', 'enum'] + ['rec', 'alt', 'list', 'keyed', 'tree'] * (2 if depth else 0))
+        kind = self.choice(['unit', 'bool', 'int', 'int', 'text', 'text', 'enum'] + ['rec', 'alt', 'list', 'keyed', 'tree'] * (2 if depth else 0))
         if kind == 'enum':
             return kind, self.sample(FIELDS, self.randint(1, 3))
         if kind == 'rec':
@@ -386,7 +388,7 @@ class Chance(random.Random):
         return ''.join(self.choice('ab é€\n"\\\U0001f600') for _ in range(self.randint(0, 3)))
 
     def int(self):
-        return self.choice([0, 1, -1, 7, LEAST, MOST])
+        return self.choice([0, 1, -1, 7, LEAST, MOST, MOST])
 
     def document(self, ty):
         if isinstance(ty, str):
@@ -401,11 +403,15 @@ class Chance(random.Random):
             return {n: self.document(t)}
         count = self.randint(kind == 'tree', 3)
         items = [self.document(what) for _ in range(count)]
+        if kind == 'tree' and self.random() < 0.2:
+            return {'depths': list(range(16)), 'items': [self.document(what) for _ in range(16)]}
         form = {'list': count, 'keyed': in_byte_order(self.sample(NAMES, count)), 'tree': count and self.choice(depth_lists(max(count, 1)))}
         return hold({kind: form[kind]}, items)
 
     def path(self):
-        return [self.randint(0, 2) for _ in range(self.choice([0, 0, 1, 1, 2]))]
+        if self.random() < 0.15:
+            return [0] * self.randint(12, 15)
+        return [self.choice([0, 0, 0, 1, 2]) for _ in range(self.choice([0, 0, 1, 1, 2]))]
 
     def word(self, ty, most=3):
         return [self.primitive(ty) for _ in range(self.randint(0, most))]
@@ -466,8 +472,8 @@ class Chance(random.Random):
 
 
 def act_rows(chance, count):
-    for _ in range(count):
-        ty = chance.type(3)
+    for number in range(count):
+        ty = chance.type(3) if number % 2 else (chance.choice(['list', 'keyed', 'tree']), chance.type(1))
         doc, word = chance.document(ty), chance.word(ty)
         row = {'call': 'act', 'type': type_text(ty), 'doc': doc, 'edit': word}
         try:
@@ -551,12 +557,42 @@ def entry_rows(chance, count):
         yield {'call': 'is_blank', 'bytes': [32, byte, 9], 'ok': byte in (9, 13, 32)}
 
 
+# ---- the record of one pair of ints, as docs/MEANING.md says that it is carried
+
+def carried(near, far, complement, word):
+    """The word of the other side, or None where there is none. The complement stays."""
+    other = []
+    for primitive in word:
+        (name, what), = primitive.items()
+        parts = complement['rec'] if complement else []
+        if name != 'at' or what[0] != near or len(parts) != 1 or parts != [None] and what[1]:
+            return None
+        other += [{'at': [far, what[1]]}] if what[1] else []
+    return other
+
+
+def lens_rows(chance, count):
+    for number in range(count):
+        left, right = chance.sample(FIELDS, 2)
+        near, far = (left, right) if number % 2 else (right, left)
+        complement = chance.choice([{'rec': [None]}] * 8 + [None, {'rec': []}, {'rec': [None] * 2}, {'rec': [{'rec': []}]}])
+        fields = [near] * 8 + [far, 'q']
+        word = [{'at': [chance.choice(fields), chance.word('int', 2)]} for _ in range(chance.randint(0, 3))]
+        if number % 16 == 0:
+            word.insert(chance.randint(0, len(word)), chance.primitive(chance.type(1)))
+        row = {'call': 'carry', 'program': 'main {%s ~ %s: id int}' % (field_text(left), field_text(right)),
+               'side': ('right', 'left')[number % 2], 'complement': complement, 'edit': word}
+        other = carried(near, far, complement, word)
+        yield {**row, **({'fault': 'unfit'} if other is None else {'ok': other, 'then': complement})}
+
+
 def main():
     chance = Chance(14)
     rows_to('plans', itertools.chain(plan_rows(chance), place_rows()))
-    rows_to('edits', itertools.chain(act_rows(chance, 900), word_rows(chance, 500)))
+    rows_to('edits', itertools.chain(act_rows(chance, 1200), word_rows(chance, 500)))
     rows_to('documents', document_rows(chance, 600))
     rows_to('lines', entry_rows(chance, 200))
+    rows_to('lenses', lens_rows(chance, 160))
 
 
 if __name__ == '__main__':

@@ -76,24 +76,37 @@ impl<'a> Case<'a> {
     }
 
     /// What is wanted: `answer`, or else an object of the members `ok`, `fault`, `cause` and `then` that the row has,
-    /// with `at` where it has one of `fault` and `cause`. It is refused where the row has none of these.
+    /// with `at` where it has one of `fault` and `cause`. It is refused where the row has none of these, and where it
+    /// has `answer` beside one of them.
     pub fn wanted(&self, alloc: Global) -> Result<Value> {
-        if self.has("answer") {
-            return Ok(self.argument("answer")?.clone()?);
-        }
         let mut members = Map::new(alloc);
-        for name in ["ok", "fault", "cause", "then"] {
-            if self.has(name) {
-                put(&mut members, alloc, name, self.argument(name)?.clone()?)?;
-            }
+        self.take_over(alloc, &mut members, "ok")?;
+        self.take_over(alloc, &mut members, "then")?;
+        self.take_over(alloc, &mut members, "fault")?;
+        self.take_over(alloc, &mut members, "cause")?;
+        if self.has("fault") || self.has("cause") {
+            self.take_over(alloc, &mut members, "at")?;
         }
-        if members.is_empty() {
-            bail!("no answer");
+        if self.has("answer") == members.is_empty() {
+            return self.answer_or(members);
         }
-        if self.has("at") && (self.has("fault") || self.has("cause")) {
-            put(&mut members, alloc, "at", self.argument("at")?.clone()?)?;
+        bail!("not one answer")
+    }
+
+    // Puts the member of this name among the others, where the row has it.
+    fn take_over(&self, alloc: Global, members: &mut Map<String, Value>, name: &str) -> Result<()> {
+        if let Some(value) = self.row.get(name) {
+            put(members, alloc, name, value.clone()?)?;
         }
-        Ok(Value::Object(members))
+        Ok(())
+    }
+
+    // The member `answer`, or where there is none the object of these members.
+    fn answer_or(&self, members: Map<String, Value>) -> Result<Value> {
+        match self.row.get("answer") {
+            Some(answer) => Ok(answer.clone()?),
+            None => Ok(Value::Object(members)),
+        }
     }
 }
 

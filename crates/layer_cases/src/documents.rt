@@ -1,12 +1,13 @@
 //! Calls on types and on documents.
 
 use crate::case::Case;
+use crate::objects::{named, object, pair, text};
 use crate::plans::are_below;
 use crate::values;
 use anyhow::{Context, Result, bail};
 use doc_values::{Doc, Docs, Ty, init};
 use lens_syntax::write_type;
-use serde_json::{Value, json};
+use serde_json::Value;
 use std::alloc::Global;
 use value_json::{DocFault, read_counts, read_doc, write_counts, write_doc};
 
@@ -30,7 +31,7 @@ pub fn answer(alloc: Global, call: &str, case: &Case<'_>) -> Result<Option<Value
         }
         _ => return Ok(None),
     };
-    Ok(Some(json!(in alloc; {"ok": came})?))
+    Ok(Some(object(alloc, "ok", came)?))
 }
 
 fn ty(alloc: Global, case: &Case<'_>, name: &str) -> Result<Ty> {
@@ -65,9 +66,9 @@ fn read(alloc: Global, case: &Case<'_>) -> Result<Value> {
     match read_doc(alloc, &ty, &tree) {
         Ok(doc) => {
             let written = doc_tree(alloc, &ty, &doc)?;
-            Ok(json!(in alloc; {"ok": written})?)
+            Ok(object(alloc, "ok", written)?)
         }
-        Err(DocFault::NotOfType) => Ok(json!(in alloc; {"fault": "not-of-type"})?),
+        Err(DocFault::NotOfType) => Ok(named(alloc, "fault", "not-of-type")?),
         Err(DocFault::NoMemory) => bail!("out of memory"),
     }
 }
@@ -110,8 +111,9 @@ fn find(alloc: Global, case: &Case<'_>) -> Result<Value> {
     let name = values::name(alloc, case.argument("name")?)?;
     match fields.find(&name) {
         Some((place, ty)) => {
-            let text = write_type(alloc, ty)?;
-            Ok(json!(in alloc; {"place": place as u64, "type": (text.as_str())})?)
+            let ty = text(alloc, write_type(alloc, ty)?.as_str())?;
+            let place = Value::from(place as u64);
+            Ok(pair(alloc, ("place", place), ("type", ty))?)
         }
         None => Ok(Value::Null),
     }
@@ -127,7 +129,7 @@ fn replaced(alloc: Global, case: &Case<'_>) -> Result<Value> {
     let old = docs.replace(place as usize, doc(alloc, &of, case, "doc")?);
     let old = doc_tree(alloc, &of, &old)?;
     let items = doc_trees(alloc, &of, &docs)?;
-    Ok(json!(in alloc; {"old": old, "items": items})?)
+    Ok(pair(alloc, ("old", old), ("items", items))?)
 }
 
 fn gathered(alloc: Global, case: &Case<'_>) -> Result<Value> {

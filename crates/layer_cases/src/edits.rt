@@ -2,12 +2,14 @@
 
 use crate::case::Case;
 use crate::documents::doc_tree;
+use crate::objects::{named, object, pair, text};
 use crate::values;
 use anyhow::{Result, bail};
 use edit_json::{EditFault, has_tree, read_word, write_word};
-use edit_module::{ActFault, Cause, Side, Word, act};
-use serde_json::{Value, json};
+use edit_module::{ActFault, Cause, Word, act};
+use serde_json::Value;
 use std::alloc::Global;
+use texts::Side;
 
 /// What came of a call, or none where the call is no call on words.
 pub fn answer(alloc: Global, call: &str, case: &Case<'_>) -> Result<Option<Value>> {
@@ -22,11 +24,11 @@ pub fn answer(alloc: Global, call: &str, case: &Case<'_>) -> Result<Option<Value
         }
         "other" => {
             let side = values::side(case.argument("side")?)?;
-            Value::try_from_str(alloc, side_text(side.other()))?
+            text(alloc, side_text(side.other()))?
         }
         _ => return Ok(None),
     };
-    Ok(Some(json!(in alloc; {"ok": came})?))
+    Ok(Some(object(alloc, "ok", came)?))
 }
 
 fn word(alloc: Global, case: &Case<'_>, name: &str) -> Result<Word> {
@@ -58,10 +60,11 @@ fn acted(alloc: Global, case: &Case<'_>) -> Result<Value> {
     match act(alloc, &ty, &word, &doc) {
         Ok(after) => {
             let tree = doc_tree(alloc, &ty, &after)?;
-            Ok(json!(in alloc; {"ok": tree})?)
+            Ok(object(alloc, "ok", tree)?)
         }
         Err(ActFault::NoApply { at, cause }) => {
-            Ok(json!(in alloc; {"at": at, "cause": cause_text(cause)})?)
+            let cause = text(alloc, cause_text(cause))?;
+            Ok(pair(alloc, ("at", Value::from(at)), ("cause", cause))?)
         }
         Err(ActFault::NoMemory) => bail!("out of memory"),
     }
@@ -86,9 +89,9 @@ fn read(alloc: Global, case: &Case<'_>) -> Result<Value> {
     match read_word(alloc, &tree) {
         Ok(word) => {
             let written = word_tree(alloc, &word)?;
-            Ok(json!(in alloc; {"ok": written})?)
+            Ok(object(alloc, "ok", written)?)
         }
-        Err(EditFault::NotAnEdit) => Ok(json!(in alloc; {"fault": "not-an-edit"})?),
+        Err(EditFault::NotAnEdit) => Ok(named(alloc, "fault", "not-an-edit")?),
         Err(EditFault::NoMemory) => bail!("out of memory"),
     }
 }

@@ -2,11 +2,12 @@
 
 use crate::case::Case;
 use crate::edits::word_tree;
+use crate::objects::{named, object, pair};
 use crate::programs::typed;
 use crate::values;
 use anyhow::{Result, bail};
 use lens_core::{CarryFault, Comp, is_built, missing, record_carry};
-use serde_json::{Value, json};
+use serde_json::Value;
 use std::alloc::Global;
 
 /// What came of a call, or none where the call is no call on lenses.
@@ -20,7 +21,7 @@ pub fn answer(alloc: Global, call: &str, case: &Case<'_>) -> Result<Option<Value
         "is_built" => Value::Bool(is_built(typed(alloc, case.text("program")?)?.form())),
         _ => return Ok(None),
     };
-    Ok(Some(json!(in alloc; {"ok": came})?))
+    Ok(Some(object(alloc, "ok", came)?))
 }
 
 fn carried(alloc: Global, case: &Case<'_>) -> Result<Value> {
@@ -35,9 +36,9 @@ fn carried(alloc: Global, case: &Case<'_>) -> Result<Value> {
         Ok(carried) => {
             let word = word_tree(alloc, &carried.word)?;
             let then = complement_tree(alloc, &carried.comp)?;
-            Ok(json!(in alloc; {"ok": word, "then": then})?)
+            Ok(pair(alloc, ("ok", word), ("then", then))?)
         }
-        Err(CarryFault::Unfit) => Ok(json!(in alloc; {"fault": "unfit"})?),
+        Err(CarryFault::Unfit) => Ok(named(alloc, "fault", "unfit")?),
         Err(CarryFault::NoMemory) => bail!("out of memory"),
     }
 }
@@ -52,6 +53,5 @@ fn complement_tree(alloc: Global, complement: &Comp) -> Result<Value> {
     for part in parts.as_slice() {
         items.push(complement_tree(alloc, part)?)?;
     }
-    let items = Value::Array(items);
-    Ok(json!(in alloc; {"rec": items})?)
+    Ok(object(alloc, "rec", Value::Array(items))?)
 }

@@ -1,9 +1,10 @@
 //! Calls on lines of a journal.
 
 use crate::case::Case;
+use crate::objects::{named, object};
 use anyhow::{Result, bail};
 use edit_journal::{EntryFault, Line, is_blank, read_entry, write_entry};
-use serde_json::{Value, json};
+use serde_json::Value;
 use std::alloc::Global;
 
 /// What came of a call, or none where the call is no call on lines.
@@ -14,7 +15,7 @@ pub fn answer(alloc: Global, call: &str, case: &Case<'_>) -> Result<Option<Value
         "is_too_long" => Value::Bool(matches!(line(alloc, case)?, Line::TooLong)),
         _ => return Ok(None),
     };
-    Ok(Some(json!(in alloc; {"ok": came})?))
+    Ok(Some(object(alloc, "ok", came)?))
 }
 
 fn line(alloc: Global, case: &Case<'_>) -> Result<Line> {
@@ -26,9 +27,9 @@ fn read(alloc: Global, case: &Case<'_>) -> Result<Value> {
     match read_entry(alloc, &line(alloc, case)?) {
         Ok(entry) => {
             let written = write_entry(alloc, &entry)?;
-            Ok(json!(in alloc; {"ok": written})?)
+            Ok(object(alloc, "ok", written)?)
         }
-        Err(fault) => Ok(json!(in alloc; {"fault": fault_text(fault)?})?),
+        Err(fault) => Ok(named(alloc, "fault", fault_text(fault)?)?),
     }
 }
 

@@ -1,6 +1,6 @@
 //! Runs the cases of files of JSON lines through the calls of the layers, and compares what came with what is wanted.
 //!
-//! Words: the files. A line of a file is one case: an object with the call, its arguments and its answer; docs/CASES.md has
+//! Words: the files. A line of a file is one case: an object with the call, its arguments and its answer; CASES.md has
 //! the form of each call. A line is printed for each file, with the number of its cases and of those that differ, and
 //! before it one for each case that differs. The program fails where a case differs, where a line is no case, and where a
 //! file has none.
@@ -11,6 +11,7 @@ mod documents;
 mod edits;
 mod lenses;
 mod lines;
+mod objects;
 mod plans;
 mod programs;
 mod types;
@@ -46,8 +47,13 @@ fn compare_file<R: Files + AllocGlobal + Print>(rt: &R, file: &str) -> Result<u6
     let mut differing = 0u64;
     for line in text.as_str().lines() {
         count = count.saturating_add(1);
-        if !compare_line(rt, file, count, line)? {
-            differing = differing.saturating_add(1);
+        match difference(rt.alloc(), line) {
+            Ok(None) => {}
+            Ok(Some(difference)) => {
+                differing = differing.saturating_add(1);
+                println!(rt; "{file} {count}: {difference}")?;
+            }
+            Err(error) => bail!("{file} {count}: {error}"),
         }
     }
     if count == 0 {
@@ -58,55 +64,43 @@ fn compare_file<R: Files + AllocGlobal + Print>(rt: &R, file: &str) -> Result<u6
     Ok(differing)
 }
 
-// Whether what comes of a case is what is wanted. A difference is printed.
-fn compare_line<R: AllocGlobal + Print>(
-    rt: &R,
-    file: &str,
-    number: u64,
-    line: &str,
-) -> Result<bool> {
-    let alloc = rt.alloc();
-    match outcome(alloc, line) {
-        Ok((wanted, came)) => {
-            if came == wanted {
-                return Ok(true);
-            }
-            let wanted = wanted.to_string(alloc)?;
-            let came = came.to_string(alloc)?;
-            println!(rt; "{file} {number}: wanted {wanted}, came {came}")?;
-            Ok(false)
-        }
-        Err(error) => bail!("{file} {number}: {error}"),
-    }
-}
-
-// What is wanted of a case, and what came.
-fn outcome(alloc: Global, line: &str) -> Result<(Value, Value)> {
+// What is wanted of the case of a line and what came of it, where they differ.
+fn difference(alloc: Global, line: &str) -> Result<Option<String>> {
     let row = Value::from_str(alloc, line)?;
     let case = Case::from_row(&row)?;
     let wanted = case.wanted(alloc)?;
-    let call = case.text("call")?;
-    match answer(alloc, call, &case)? {
-        Some(came) => Ok((wanted, came)),
-        None => bail!("no call {call}"),
+    let came = outcome(alloc, &case)?;
+    if came == wanted {
+        return Ok(None);
     }
+    let wanted = wanted.to_string(alloc)?;
+    let came = came.to_string(alloc)?;
+    Ok(Some(format!(in alloc; "wanted {wanted}, came {came}")?))
 }
 
-// What came of a call, or none where there is no such call.
-fn answer(alloc: Global, call: &str, case: &Case<'_>) -> Result<Option<Value>> {
-    let layers = [
-        plans::answer(alloc, call, case)?,
-        documents::answer(alloc, call, case)?,
-        edits::answer(alloc, call, case)?,
-        lines::answer(alloc, call, case)?,
-        programs::answer(alloc, call, case)?,
-        types::answer(alloc, call, case)?,
-        lenses::answer(alloc, call, case)?,
-    ];
-    for came in layers {
-        if came.is_some() {
-            return Ok(came);
-        }
+// What came of the call of a case. It is refused where there is no such call.
+fn outcome(alloc: Global, case: &Case<'_>) -> Result<Value> {
+    let call = case.text("call")?;
+    if let Some(came) = plans::answer(alloc, call, case)? {
+        return Ok(came);
     }
-    Ok(None)
+    if let Some(came) = documents::answer(alloc, call, case)? {
+        return Ok(came);
+    }
+    if let Some(came) = edits::answer(alloc, call, case)? {
+        return Ok(came);
+    }
+    if let Some(came) = lines::answer(alloc, call, case)? {
+        return Ok(came);
+    }
+    if let Some(came) = programs::answer(alloc, call, case)? {
+        return Ok(came);
+    }
+    if let Some(came) = types::answer(alloc, call, case)? {
+        return Ok(came);
+    }
+    match lenses::answer(alloc, call, case)? {
+        Some(came) => Ok(came),
+        None => bail!("no call {call}"),
+    }
 }

@@ -1,13 +1,14 @@
 //! Calls on shapes: plans, places, and what is moved by a plan.
 
 use crate::case::Case;
+use crate::objects::{named, object, pair, text};
 use crate::values;
 use anyhow::{Context, Result, bail};
 use edit_module::Prim;
 use hold_shapes::{
     Depths, Held, KeyedShape, Origin, Origins, Plan, PlanFault, Shape, TreeShape, gather,
 };
-use serde_json::{Value, json};
+use serde_json::Value;
 use std::alloc::Global;
 use value_json::write_counts;
 
@@ -48,7 +49,7 @@ fn plan(alloc: Global, case: &Case<'_>) -> Result<Value> {
     };
     match shape.plan(alloc, edit) {
         Ok(plan) => plan_tree(alloc, &plan),
-        Err(fault) => Ok(json!(in alloc; {"fault": cause(fault)?})?),
+        Err(fault) => Ok(named(alloc, "fault", cause(fault)?)?),
     }
 }
 
@@ -68,23 +69,22 @@ fn cause(fault: PlanFault) -> Result<&'static str> {
 fn plan_tree(alloc: Global, plan: &Plan<Shape>) -> Result<Value> {
     let shape = shape_tree(alloc, &plan.shape)?;
     let from = origin_items(alloc, &plan.from)?;
-    Ok(json!(in alloc; {"shape": shape, "from": from})?)
+    Ok(pair(alloc, ("shape", shape), ("from", from))?)
 }
 
 fn shape_tree(alloc: Global, shape: &Shape) -> Result<Value> {
     match shape {
-        Shape::List(list) => Ok(json!(in alloc; {"list": list.count})?),
+        Shape::List(list) => Ok(object(alloc, "list", Value::from(list.count))?),
         Shape::Keyed(keys) => {
             let mut names = Vec::new(alloc);
             for key in keys.names().as_slice() {
-                names.push(Value::try_from_str(alloc, key.as_str())?)?;
+                names.push(text(alloc, key.as_str())?)?;
             }
-            let names = Value::Array(names);
-            Ok(json!(in alloc; {"keyed": names})?)
+            Ok(object(alloc, "keyed", Value::Array(names))?)
         }
         Shape::Tree(nodes) => {
             let depths = write_counts(alloc, nodes.depths().as_slice())?;
-            Ok(json!(in alloc; {"tree": depths})?)
+            Ok(object(alloc, "tree", depths)?)
         }
     }
 }
@@ -122,8 +122,8 @@ fn gathered(alloc: Global, case: &Case<'_>) -> Result<Value> {
     }
     let fresh = values::text(alloc, case.argument("fresh")?)?;
     let mut came = Vec::new(alloc);
-    for text in gather(alloc, &from, items.as_slice(), &fresh)?.as_slice() {
-        came.push(Value::try_from_str(alloc, text.as_str())?)?;
+    for item in gather(alloc, &from, items.as_slice(), &fresh)?.as_slice() {
+        came.push(text(alloc, item.as_str())?)?;
     }
     Ok(Value::Array(came))
 }
@@ -137,11 +137,11 @@ pub fn are_below(origins: &Origins, places: usize) -> bool {
 }
 
 fn splice(alloc: Global, case: &Case<'_>) -> Result<Value> {
-    let text = values::text(alloc, case.argument("text")?)?;
+    let old = values::text(alloc, case.argument("text")?)?;
     let with = values::text(alloc, case.argument("with")?)?;
-    let spliced = text.splice(alloc, case.count("at")?, case.count("count")?, &with)?;
+    let spliced = old.splice(alloc, case.count("at")?, case.count("count")?, &with)?;
     match spliced {
-        Some(text) => Ok(Value::try_from_str(alloc, text.as_str())?),
+        Some(new) => Ok(text(alloc, new.as_str())?),
         None => Ok(Value::Null),
     }
 }

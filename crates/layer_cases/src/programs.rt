@@ -1,6 +1,7 @@
 //! Calls on texts of programs and on what is written of them.
 
 use crate::case::Case;
+use crate::objects::{named, pair, text};
 use crate::values;
 use anyhow::{Result, bail};
 use lens_syntax::{
@@ -9,7 +10,7 @@ use lens_syntax::{
 use lens_types::{Typed, check};
 use program_terms::Program;
 use program_tokens::{PlacedToken, Token, is_name, is_text, tokens};
-use serde_json::{Value, json};
+use serde_json::Value;
 use std::alloc::Global;
 
 /// What came of a call, or none where the call is no call on texts of programs.
@@ -26,11 +27,11 @@ pub fn answer(alloc: Global, call: &str, case: &Case<'_>) -> Result<Option<Value
         "tokens" => token_items(alloc, case)?,
         "write_type" => {
             let ty = values::ty(alloc, case.argument("type")?)?;
-            Value::try_from_str(alloc, write_type(alloc, &ty)?.as_str())?
+            text(alloc, write_type(alloc, &ty)?.as_str())?
         }
         "write_name" => {
             let name = values::name(alloc, case.argument("name")?)?;
-            Value::try_from_str(alloc, write_name(alloc, &name)?.as_str())?
+            text(alloc, write_name(alloc, &name)?.as_str())?
         }
         "is_name" => Value::Bool(is_name(case.text("text")?.as_bytes())),
         "is_text" => Value::Bool(is_text(case.text("text")?)),
@@ -51,7 +52,7 @@ fn read_tree(alloc: Global, read: std::result::Result<Program, ProgramFault>) ->
             if !write_program(alloc, &again)?.is_same(&text) {
                 bail!("the canonical text is that of another program");
             }
-            Ok(json!(in alloc; {"canonical": (text.as_str())})?)
+            Ok(named(alloc, "canonical", text.as_str())?)
         }
         Err(fault) => fault_tree(alloc, fault),
     }
@@ -61,14 +62,15 @@ fn read_tree(alloc: Global, read: std::result::Result<Program, ProgramFault>) ->
 pub fn fault_tree(alloc: Global, fault: ProgramFault) -> Result<Value> {
     let (reason, at) = match fault {
         ProgramFault::ProgramTooLong => {
-            return Ok(json!(in alloc; {"fault": "program-too-long"})?);
+            return Ok(named(alloc, "fault", "program-too-long")?);
         }
         ProgramFault::NotAProgram { at } => ("not-a-program", at),
         ProgramFault::UnknownName { at } => ("unknown-name", at),
         ProgramFault::RepeatedName { at } => ("repeated-name", at),
         ProgramFault::NoMemory => bail!("out of memory"),
     };
-    Ok(json!(in alloc; {"fault": reason, "at": at})?)
+    let fault = text(alloc, reason)?;
+    Ok(pair(alloc, ("fault", fault), ("at", Value::from(at)))?)
 }
 
 /// The program of a text, checked. It is refused where the text is no program or is not accepted.
@@ -96,7 +98,7 @@ fn token_items(alloc: Global, case: &Case<'_>) -> Result<Value> {
 
 // A token with its offset. A mark is its character, a name and a string have their sort before them.
 fn token_tree(alloc: Global, token: &PlacedToken) -> Result<Value> {
-    let text = match &token.token {
+    let word = match &token.token {
         Token::Keyword(word) => String::from_str(alloc, word.text())?,
         Token::Name(name) => format!(in alloc; "name:{}", name.as_str())?,
         Token::Text(text) => format!(in alloc; "string:{}", text.as_str())?,
@@ -107,6 +109,8 @@ fn token_tree(alloc: Global, token: &PlacedToken) -> Result<Value> {
         Token::Bad => String::from_str(alloc, "bad")?,
         Token::End => String::from_str(alloc, "end")?,
     };
-    let at = token.at;
-    Ok(json!(in alloc; [text, at])?)
+    let mut items = Vec::new(alloc);
+    items.push(Value::String(word))?;
+    items.push(Value::from(token.at))?;
+    Ok(Value::Array(items))
 }

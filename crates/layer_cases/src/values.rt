@@ -4,14 +4,14 @@ use crate::programs::typed;
 use anyhow::{Context, Result, bail};
 use doc_values::{Doc, Docs, Fields, Ty};
 use edit_json::read_word;
-use edit_module::{Prim, Side, Word};
+use edit_module::{Prim, Word};
 use hold_shapes::{
-    Depths, Held, KeyedShape, ListShape, Name, Names, Origin, Origins, Path, Place, Shape,
-    ShapeEdit, Str, TreeShape, Twin,
+    Depths, Held, KeyedShape, ListShape, Origin, Origins, Path, Place, Shape, ShapeEdit, TreeShape,
 };
 use lens_core::{Comp, Comps};
 use serde_json::Value;
 use std::alloc::Global;
+use texts::{Name, Names, Side, Str, Twin};
 use value_json::{only_member, read_count, read_counts, read_doc};
 
 /// The text that a tree is.
