@@ -1,0 +1,11 @@
+//! A list of tags that is asked for rank and place at every edit, as a height-balanced tree.
+//!
+//! A tag is a `u32`. [`TagSeq`] is seen as a list of tags. Its calls take time in the height of the tree, and
+//! a copy shares the whole tree. A node of the tree keeps how many tags its left part has, in all and of each
+//! tag, so that rank and place walk down one path.
+#![tactic(auto)]
+
+pub mod counts;
+pub mod node;
+pub mod steps;
+mod total;
