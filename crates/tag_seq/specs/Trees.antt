@@ -30,3 +30,8 @@ pub record IsNode (tag : ℕ) (left right : TagTree) (h : ℕ) (left_size : ℕ)
   pub balanced : DifferByAtMost 1 (height left) (height right)
   pub short : IsShort (length (tags left ++ tag ∷ tags right)) h
   pub small : length (tags left ++ tag ∷ tags right) < 2 ^ 64
+
+-- the height of a tree made of parts with the heights l and r: that of the higher part or one more, and one more where
+-- the two differ by at most one
+abbrev pub SettlesAt : ℕ → ℕ → ℕ → Type 0
+SettlesAt l r h = (max l r ≤ h) × (h ≤ max l r + 1) × (DifferByAtMost 1 l r → h ≡ max l r + 1)

@@ -4,7 +4,9 @@ ghost use Rattle.std.specs.Prelude.{◌≡◌, ◌<◌, ◌≤◌, ◌+◌, ◌*
 ghost use Rattle.tag_seq.specs.Trees.{tags, height, DifferByAtMost, IsShort};
 ghost use Rattle.tag_seq.specs.Totals.{AreTotals};
 
-use crate::counts::{Counts, Measure};
+mod balance;
+
+use crate::counts::Counts;
 use crate::steps::Steps;
 use crate::total::Total;
 use std::alloc::{AllocError, Global};
@@ -86,6 +88,7 @@ impl TagTree {
     pub(crate) fn height(&self) -> u32
         ensures value { result ≡ height self.now }
         ensures short { IsShort (length (tags self.now)) result }
+        ensures bound { result ≤ 128 }
     {
         match self {
             TagTree::Empty => 0,
@@ -105,16 +108,17 @@ impl TagTree {
     }
 
     /// How many tags there are, in all and of each tag.
-    #[cycle(total)]
     pub(crate) fn total(&self, alloc: Global) -> Result<Total, AllocError>
         ensures { IfOk result (λ t. AreTotals t.size t.counts (tags self.now)) }
     {
         match self {
             TagTree::Empty => Ok(Total::zero(alloc)),
             TagTree::Node(node) => {
+                let node: &TagNode = node;
                 let behind = node.right.total(alloc)?;
                 let front = Total::of_part(alloc, node.left_size, &node.left_counts)?;
-                front.and(alloc, node.tag, behind.size, &behind.counts)
+                let whole = front.and(alloc, node.tag, behind.size, &behind.counts)?;
+                Ok(whole)
             }
         }
     }

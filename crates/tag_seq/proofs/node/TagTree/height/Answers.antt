@@ -1,0 +1,6 @@
+use Rattle.std.proofs.Common.{arith}
+use Rattle.tag_seq.proofs.Heights.{short_fits}
+use Rattle.tag_seq.proofs.node.TagTree.height.Goals as goal
+
+pub returns-in-Node-clause-bound : goal.returns-in-Node-clause-bound
+returns-in-Node-clause-bound c = ?
