@@ -5,7 +5,13 @@
 //! tag, so that rank and place walk down one path.
 #![tactic(auto)]
 
-pub mod counts;
-pub mod node;
+mod counts;
+pub mod laws;
+mod node;
+pub mod seq;
 pub mod steps;
 mod total;
+mod walks;
+
+pub use crate::seq::TagSeq;
+pub use crate::steps::Steps;

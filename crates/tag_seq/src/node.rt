@@ -5,6 +5,12 @@ ghost use Rattle.tag_seq.specs.Trees.{tags, height, DifferByAtMost, IsShort};
 ghost use Rattle.tag_seq.specs.Totals.{AreTotals};
 
 mod balance;
+pub(crate) mod bounds;
+pub(crate) mod cutting;
+pub(crate) mod joining;
+pub(crate) mod making;
+pub(crate) mod moving;
+pub(crate) mod setting;
 
 use crate::counts::Counts;
 use crate::steps::Steps;
@@ -55,6 +61,7 @@ impl Model for TagNode {
 }
 
 /// What a look into a node shows.
+#[derive(Drop)]
 pub(crate) struct Seen<'a> {
     pub(crate) tag: u32,
     pub(crate) left: &'a TagTree,

@@ -98,7 +98,8 @@ fn lean_twice_right(
             let middle = within.behind(alloc, node.left_size, &node.left_counts, node.tag)?;
             let low = fork(alloc, left, before, tag, node.left.share()?)?;
             let high = fork(alloc, node.right.share()?, middle, next, outer.share()?)?;
-            fork(alloc, low, front, node.tag, high)
+            let whole = fork(alloc, low, front, node.tag, high)?;
+            Ok(whole)
         }
     }
 }
@@ -169,7 +170,8 @@ fn lean_twice_left(
             let middle = within.behind(alloc, node.left_size, &node.left_counts, node.tag)?;
             let low = fork(alloc, outer.share()?, before, tag, node.left.share()?)?;
             let high = fork(alloc, node.right.share()?, middle, next, right)?;
-            fork(alloc, low, front, node.tag, high)
+            let whole = fork(alloc, low, front, node.tag, high)?;
+            Ok(whole)
         }
     }
 }
