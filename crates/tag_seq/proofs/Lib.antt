@@ -1,0 +1,5 @@
+pub mod Heights
+pub mod Numbers
+pub mod Ranks
+pub mod Sides
+pub mod Totals
