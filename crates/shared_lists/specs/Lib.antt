@@ -1,0 +1,4 @@
+pub mod Items
+pub mod ListItems
+pub mod Nodes
+pub mod RootMemory
