@@ -2,3 +2,4 @@ pub mod Items
 pub mod ListItems
 pub mod Nodes
 pub mod RootMemory
+pub mod formers
