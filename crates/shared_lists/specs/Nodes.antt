@@ -1,5 +1,5 @@
 -- The items below a node of the tree, in order.
-use Rattle.std.specs.Prelude.{ℕ, ◌≡◌, ◌<◌, List, ◌++◌, length}
+use Rattle.std.specs.Prelude.{◌≡◌, ◌<◌, List, ◌++◌, length}
 use Rattle.shared_lists.specs.declared.tree.Node.{Node}
 use Rattle.shared_lists.specs.declared.tree.Node.TheVariants.{Chunk, Join}
 use Rattle.shared_lists.specs.Items.{items_of}

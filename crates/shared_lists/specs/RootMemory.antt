@@ -1,5 +1,5 @@
 -- What the root of a tree owns: what a box that holds an owner of the tree owns.
-use Rattle.std.specs.Prelude.{ℕ, List}
+use Rattle.std.specs.Prelude.{List}
 use base.Fml.{Fml, Lft}
 use base.Stored.{Coded, coded×, coded_list, coded_via}
 use denote.RattleType.{RattleType}

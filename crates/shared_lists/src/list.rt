@@ -135,11 +135,7 @@ impl<T: Drop> SharedList<T> {
     }
 
     /// A list of the items of two lists, one after the other. All three lists share the items.
-    pub fn concat(
-        &self,
-        alloc: Global,
-        other: &SharedList<T>,
-    ) -> Result<SharedList<T>, AllocError>
+    pub fn concat(&self, alloc: Global, other: &SharedList<T>) -> Result<SharedList<T>, AllocError>
         requires { length self.now + length other.now < 2 ^ 64 }
         ensures { IfOk result (λ list. list ≡ self.now ++ other.now) }
     {
@@ -166,10 +162,7 @@ impl<T: Drop> SharedList<T> {
     }
 
     // The list of a tree.
-    fn from_tree(
-        alloc: Global,
-        tree: Option<Rc<Tree<T>>>,
-    ) -> Result<SharedList<T>, AllocError>
+    fn from_tree(alloc: Global, tree: Option<Rc<Tree<T>>>) -> Result<SharedList<T>, AllocError>
         ensures { IfOk result (λ list. list ≡ optional_items tree) }
     {
         match tree {

@@ -8,7 +8,7 @@ use std::alloc::{AllocError, Global};
 use std::marker::Model;
 use std::rc::Rc;
 
-/// How many items a chunk has at most, unless a list of one chunk was made by hand.
+/// How many items a chunk has at most.
 pub(crate) const CHUNK: usize = 32;
 
 #[cycle(tree)]
@@ -60,7 +60,7 @@ impl<T> Tree<T> {
         }
     }
 
-    /// How many nodes stand on the longest way down, less one. Only the cost rests on it.
+    /// The height: 0 for a chunk. Only the cost rests on it.
     pub(crate) fn height(&self) -> u8 {
         match &self.node {
             Node::Chunk(_) => 0,
@@ -98,10 +98,7 @@ pub(crate) fn share<T: Drop>(into: &mut Vec<Rc<T>>, items: &[Rc<T>]) -> Result<(
 }
 
 /// A tree of one chunk.
-pub(crate) fn chunk<T: Drop>(
-    alloc: Global,
-    items: Vec<Rc<T>>,
-) -> Result<Rc<Tree<T>>, AllocError>
+pub(crate) fn chunk<T: Drop>(alloc: Global, items: Vec<Rc<T>>) -> Result<Rc<Tree<T>>, AllocError>
     requires { 0 < length items.items }
     ensures { IfOk result (λ t. t.value ≡ items_of items.items) }
 {
@@ -111,7 +108,10 @@ pub(crate) fn chunk<T: Drop>(
 
 /// Shares all items of a tree, and puts them at the end of others.
 #[cycle(share_all)]
-pub(crate) fn share_all<T: Drop>(into: &mut Vec<Rc<T>>, tree: &Rc<Tree<T>>) -> Result<(), AllocError>
+pub(crate) fn share_all<T: Drop>(
+    into: &mut Vec<Rc<T>>,
+    tree: &Rc<Tree<T>>,
+) -> Result<(), AllocError>
     ensures { IfOk result (λ _. items_of into.new.items ≡ items_of into.old.items ++ tree.now.value) }
 {
     match &tree.node {

@@ -8,7 +8,7 @@ use mathlib.Core.HLevel.{×_prop}
 use mathlib.Core.Logic.{◌⊎◌, inl, inr}
 use mathlib.Core.List.{List, [], ◌∷◌, ◌++◌, map}
 use mathlib.Core.Former.{Former, Row, Count, none_left, one_more, this, const, pair, or, list, via, children}
-use Prim.Native.Nat.{ℕ, zero, suc, ◌+◌, ◌<◌}
+use Prim.Native.Nat.{ℕ, zero, suc, ◌+◌}
 use native.Mathlib.Nat.{ℕ_set}
 use native.Mathlib.Bridge.{le_prop}
 use native.Mathlib.Omega.{arith}
@@ -189,9 +189,10 @@ module _ (R S : RattleType) (h : R.Denot → S.Denot) (a : Alike R S h) where
     mapped = eachs (K.type-Node R A A).parts (K.type-Node S B B).parts maps
 
     variants : Alike (K.layer-Node R A A) (K.layer-Node S B B) mapped
-    variants = enum_places (K.type-Node R A A) (K.type-Node S B B) maps mapped (λ d. refl) refl
-        ((laid _ _ _ (vec.the_places heap.the_row ghosts (owners_of R) (owners_of S) (over_owner h) (owner_places R S h a)), tt),
-        ((laid _ _ _ (owner_places A B g b), (laid _ _ _ (owner_places A B g b), ((refl, (λ n. refl, λ n. refl)), ((refl, (λ n. refl, λ n. refl)), tt)))), tt))
+    variants = enum_places (K.type-Node R A A) (K.type-Node S B B) maps mapped (λ d. refl) refl (
+      (laid _ _ _ (vec.the_places heap.the_row ghosts (owners_of R) (owners_of S) (over_owner h) (owner_places R S h a)), tt),
+      ((laid _ _ _ (owner_places A B g b), (laid _ _ _ (owner_places A B g b), ((refl, (λ n. refl, λ n. refl)), ((refl, (λ n. refl, λ n. refl)), tt)))), tt),
+    )
 
   -- what the trees own at one stage
   module _ (p : Parts (K.frame R)) (q : Parts (K.frame S)) (b : Alike (rows (K.frame R) p member-Tree) (rows (K.frame S) q member-Tree) (map h)) where

@@ -25,7 +25,7 @@ use denote.Param.{layouts}
 use denote.Param.Laws.{Laws}
 use denote.Signature.{type_at}
 use denote.Steps.{nothing}
-use denote.Triple.Clauses.{Ended, Clauses}
+use denote.Triple.Clauses.{Clauses}
 use denote.Triple.Spec.{triple_of}
 use denote.Triple.Table.{entered}
 use denote.Triple.Walked.{says, Stays, stay_dropped, walk_of, ends_at, walk_Meets}

@@ -6,8 +6,8 @@ use seplogic.Ra.Ura.{Ura}
 use mir.Syntax.{Args, Body, Fn, a_type, named, place, copy, assign, rv_opd, seq, return}
 use mir.MapTy.{inst_fn}
 use mir.Val.{Val, vptr}
-use base.Logic.{SProp, ent, sep, emp, via, fst∗}
-use base.Fml.{Lft, Share, Fml, ftrue, fhide, flft, fsep}
+use base.Logic.{SProp, ent, sep, via, fst∗}
+use base.Fml.{Lft, Share, Fml, ftrue, fhide, flft}
 use prog.Wp.{Calls, Loops, WpFn, Tables}
 use types.Logic.{Logic, sem}
 use sound.WpLaws.{WpFn-mono}
