@@ -384,6 +384,29 @@ class Chance(random.Random):
             return kind, [(n, self.type(depth - 1)) for n in self.sample(FIELDS, self.randint(1, 3))]
         return (kind, self.type(depth - 1)) if kind in ('list', 'keyed', 'tree') else kind
 
+    def near_type(self, ty):
+        """The type, or one that differs at one spot."""
+        if isinstance(ty, str) or self.random() < 0.2:
+            return ty if self.random() < 0.7 else self.type(1)
+        kind, what = ty
+        if kind == 'enum':
+            return kind, self.choice([what, what[::-1], what + ['more']])
+        if kind in ('rec', 'alt') and what:
+            k = self.randrange(len(what))
+            changed = what[:k] + [(what[k][0], self.near_type(what[k][1]))] + what[k + 1:]
+            return kind, self.choice([changed, changed[:-1] if kind == 'rec' else changed[::-1]])
+        return (kind, self.near_type(what)) if kind in ('list', 'keyed', 'tree') else ty
+
+    def shuffled(self, ty):
+        """The same type, with the fields of its records in another order."""
+        if isinstance(ty, str) or ty[0] == 'enum':
+            return ty
+        kind, what = ty
+        if kind in ('rec', 'alt'):
+            what = [(n, self.shuffled(t)) for n, t in what]
+            return kind, self.sample(what, len(what)) if kind == 'rec' else what
+        return kind, self.shuffled(what)
+
     def letters(self):
         return ''.join(self.choice('ab é€\n"\\\U0001f600') for _ in range(self.randint(0, 3)))
 
@@ -494,6 +517,33 @@ def document_rows(chance, count):
             yield {'call': 'init', 'type': type_text(ty), 'ok': initial(ty)}
 
 
+def has_type(ty, of, tree):
+    """Whether the document of the type `of` with this tree has the type. A record keeps no names, and a container no type."""
+    if isinstance(ty, str) or isinstance(of, str):
+        return ty == of
+    if ty[0] != of[0]:
+        return False
+    kind, what, other = ty[0], ty[1], of[1]
+    if kind == 'enum':
+        return tree in what
+    if kind == 'rec':
+        return len(what) == len(other) and all(has_type(t, u, tree[n]) for (_, t), (n, u) in zip(what, other))
+    if kind == 'alt':
+        (n, content), = tree.items()
+        return n in dict(what) and has_type(dict(what)[n], dict(other)[n], content)
+    return all(has_type(what, other, item) for item in contents(kind, tree))
+
+
+def type_rows(chance, count):
+    for number in range(count):
+        ty, other = chance.type(2), chance.type(2)
+        if number % 2:
+            other = chance.near_type(ty)
+        tree = chance.document(other)
+        yield {'call': 'has_type', 'type': type_text(ty), 'of': type_text(other), 'doc': tree, 'ok': has_type(ty, other, tree)}
+        yield {'call': 'is_same', 'left': type_text(ty), 'right': type_text(chance.shuffled(other)), 'ok': ty == other}
+
+
 # ---- words and entries as trees
 
 def is_text(tree):
@@ -590,7 +640,7 @@ def main():
     chance = Chance(14)
     rows_to('plans', itertools.chain(plan_rows(chance), place_rows()))
     rows_to('edits', itertools.chain(act_rows(chance, 1200), word_rows(chance, 500)))
-    rows_to('documents', document_rows(chance, 600))
+    rows_to('documents', itertools.chain(document_rows(chance, 600), type_rows(chance, 150)))
     rows_to('lines', entry_rows(chance, 200))
     rows_to('lenses', lens_rows(chance, 160))
 

@@ -1,9 +1,12 @@
 //! Calls on shapes: plans, places, and what is moved by a plan.
 
+ghost use Rattle.std.specs.Prelude.{IsTrue, All};
+ghost use Rattle.hold_shapes.specs.Gather.{IsBelow};
+
 use crate::case::Case;
 use crate::objects::{named, object, pair, text};
 use crate::values;
-use anyhow::{Context, Result, bail};
+use anyhow::{Result, bail};
 use edit_module::Prim;
 use hold_shapes::{
     Depths, Held, KeyedShape, Origin, Origins, Plan, PlanFault, Shape, TreeShape, gather,
@@ -129,7 +132,9 @@ fn gathered(alloc: Global, case: &Case<'_>) -> Result<Value> {
 }
 
 /// Whether each origin is fresh or below the number of places.
-pub fn are_below(origins: &Origins, places: usize) -> bool {
+pub fn are_below(origins: &Origins, places: usize) -> bool
+    ensures { IsTrue result → All (IsBelow places) origins.now }
+{
     origins.as_slice().iter().all(|origin| match origin {
         Origin::Old(place) => *place < places as u64,
         Origin::Fresh => true,

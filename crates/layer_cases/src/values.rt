@@ -76,14 +76,16 @@ pub fn shape(alloc: Global, tree: &Value) -> Result<Shape> {
 pub fn origins(alloc: Global, tree: &Value) -> Result<Origins> {
     let mut origins = Vec::new(alloc);
     for item in tree.as_array().context("no array of origins")? {
-        let origin = match read_count(item) {
-            Some(place) => Origin::Old(place),
-            None if item.is_null() => Origin::Fresh,
-            None => bail!("no origin"),
-        };
-        origins.push(origin)?;
+        origins.push(origin(item)?)?;
     }
     Ok(Origins::from_vec(origins))
+}
+
+fn origin(tree: &Value) -> Result<Origin> {
+    if tree.is_null() {
+        return Ok(Origin::Fresh);
+    }
+    Ok(Origin::Old(read_count(tree).context("no origin")?))
 }
 
 /// The place that a tree is: of a list a number, of a keyed map a text, and of an ordered tree an array.
