@@ -1,5 +1,6 @@
 pub mod Heights
 pub mod Numbers
 pub mod Ranks
+pub mod Setting
 pub mod Sides
 pub mod Totals

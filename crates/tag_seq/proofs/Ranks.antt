@@ -3,7 +3,7 @@ use Rattle.std.proofs.Common.{◌≡◌, ℕ, zero, suc, ◌+◌, ◌-◌, ◌<�
 use Rattle.std.proofs.lemmas.Bool.{cases_eq, cases_lt, eq-eqb, ne_eqb}
 use Rattle.std.specs.Prelude.{nat_eq, slice_get}
 use Rattle.tag_seq.specs.Tags.{count, one_if_same, rank, place, further}
-use Rattle.tag_seq.proofs.Totals.{count-append}
+use Rattle.tag_seq.proofs.Totals.{count-append, count-le-length}
 use Rattle.tag_seq.proofs.Sides.{take_left, take_right}
 
 pub rank_left : (t : ℕ) (xs ys : List ℕ) (n i : ℕ) → n ≡ length xs → i ≤ n → rank t i (xs ++ ys) ≡ rank t i xs
@@ -73,7 +73,7 @@ place_right t xs ys x n k e h l =
       | inr f ↦ place_behind t xs (x ∷ ys) k (k - count t xs) (omega arith) ∙ (ap (further (length xs)) (place_other t x (k - count t xs) ys f ∙ ap (λ q. further 1 (place t q ys)) (omega (arith, one_other x t f))) ∙ further_twice (length xs) 1 (n + 1) (place t (k - count t xs - one_if_same x t) ys) (omega arith))
     ]
 
-pub ruleset rank_rules = (rank_left, rank_right)
+pub ruleset rank_rules = (rank_left, rank_right, count-le-length)
 pub ruleset place_rules = (place_left, place_here, place_right)
 
 -- a place is that of a tag of the list

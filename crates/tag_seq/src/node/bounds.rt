@@ -15,7 +15,10 @@ impl TagTree {
             TagTree::Empty => true,
             TagTree::Node(node) => {
                 let node: &TagNode = node;
-                node.left_counts.is_below(bound) && node.tag < bound && node.right.is_below(bound)
+                if !node.left_counts.is_below(bound) {
+                    return false;
+                }
+                node.tag < bound && node.right.is_below(bound)
             }
         }
     }
