@@ -13,14 +13,22 @@ use Rattle.std.specs.declared.rc.Rc.{Rc}
 use Rattle.std.specs.contracts.rc.Rc as rc
 use Rattle.shared_lists.specs.contracts.tree.Tree as tree
 
+-- an owner of a tree, which is seen as its items
+abbrev pub Owner : Type 0 → Type 0
+Owner X = Rc (List X) Global
+
+-- what is known of such an owner in memory
 abbrev pub owner_row : RattleType → RattleType
 owner_row R = rc.the_row (tree.the_row R) heap.the_row ghosts
 
-abbrev pub root_owns : (R : RattleType) → Global → Ptr → Rc (List R.Denot) Global → Fml
+-- the block at the pointer, with the owner in it and the right to free the block
+abbrev pub root_owns : (R : RattleType) → Global → Ptr → Owner R.Denot → Fml
 root_owns R alloc = box_owns (ghosts.dealloc_token alloc) (owner_row R)
 
-abbrev pub root_shares : (R : RattleType) → Ptr → Rc (List R.Denot) Global → Lft → Fml
+-- a shared loan of the block
+abbrev pub root_shares : (R : RattleType) → Ptr → Owner R.Denot → Lft → Fml
 root_shares R = lent_at (owner_row R)
 
-abbrev pub owner_coded : {X : Type 0} → Coded X → Coded (Rc (List X) Global)
+-- an owner is stored as its pointer and its items
+abbrev pub owner_coded : {X : Type 0} → Coded X → Coded (Owner X)
 owner_coded c = coded_via (coded× coded_ptr (coded_list c)) (λ r. (r.ptr, r.value)) (λ x y e i. record { ptr = (e i).0; value = (e i).1 })

@@ -1,24 +1,14 @@
-//! The root of a list's tree, behind a raw pointer.
-//!
-//! A type that holds lists of itself, as a document does, may reach itself through a list only if the
-//! list's own fields lead to no other type that reaches itself, and a tree does. So a list holds a
-//! [`Root`], whose field is a pointer: it is the pointer of a box that holds the owner of the tree.
-//!
-//! This file and root/parts.rt have the only raw pointers of the crate. What makes each line safe:
-//! a [`Root`] is made from a box alone, so its pointer is that of a live block with an owner in it;
-//! no other value has that pointer; and the block is freed once, by the box that a drop makes again.
+//! The root of a list's tree, behind the raw pointer of a box with an owner of the tree: fields that led to
+//! the tree would keep a type from holding lists of itself. Safe, since a root is made from a box alone, no
+//! other value has its pointer, and the block is freed once, by the box that a drop makes again.
 
 ghost use Rattle.std.specs.Prelude.{◌≡◌, IfOk};
-ghost use Rattle.std.specs.declared.alloc.Global.{Global};
-ghost use Rattle.std.specs.declared.rc.Rc.{Rc};
-ghost use Rattle.std.specs.Prelude.{List};
-ghost use Rattle.shared_lists.specs.RootMemory.{owner_coded, root_owns, root_shares};
-
-pub(crate) mod parts;
+ghost use Rattle.std.specs.Box.Ownership.{box_owns};
+ghost use Rattle.shared_lists.specs.RootMemory.{Owner, owner_coded, root_owns, root_shares};
 
 use crate::tree::Tree;
 use parts::BoxParts;
-use std::alloc::{AllocError, Global};
+use std::alloc::{AllocError, Allocator, Global};
 use std::marker::Model;
 use std::rc::Rc;
 
@@ -26,7 +16,7 @@ use std::rc::Rc;
 pub(crate) struct Root<T> {
     pointer: *mut Rc<Tree<T>>,
     alloc: Global,
-    pub ghost owner: { Rc (List T) Global } by { owner_coded T.code },
+    pub ghost owner: { Owner T } by { owner_coded T.code },
 }
 
 impl<T> Model for Root<T> {
@@ -36,7 +26,23 @@ impl<T> Model for Root<T> {
 }
 
 impl<T> Root<T> {
-    // The pointer of a box, which the root owns from now on.
+    /// The root of a tree. Allocates one block.
+    pub(crate) fn new(alloc: Global, owner: Rc<Tree<T>>) -> Result<Root<T>, AllocError>
+    where
+        T: Drop,
+        ensures { IfOk result (λ r. r.owner ≡ owner) }
+    {
+        Ok(Root::from_parts(BoxParts::from_box(Box::new(alloc, owner)?)))
+    }
+
+    /// The owner of the tree.
+    pub(crate) fn tree(&self) -> &Rc<Tree<T>>
+        ensures { result.now ≡ self.now.owner }
+    {
+        // Safe: the block lives as long as the root, and nothing writes behind a `&`.
+        unsafe { &*self.pointer }
+    }
+
     fn from_parts(parts: BoxParts<Rc<Tree<T>>, Global>) -> Root<T>
         ensures { result.owner ≡ parts.value }
     {
@@ -44,15 +50,6 @@ impl<T> Root<T> {
         Root { pointer, alloc }
     }
 
-    /// The owner of the tree.
-    pub(crate) fn tree(&self) -> &Rc<Tree<T>>
-        ensures { result.now ≡ self.now.owner }
-    {
-        // Safe: the block is live as long as the root is, and nothing writes to it behind a `&`.
-        unsafe { &*self.pointer }
-    }
-
-    // The pointer, which the root no longer owns.
     fn into_parts(self) -> BoxParts<Rc<Tree<T>>, Global>
         ensures { result.value ≡ self.owner }
     {
@@ -61,17 +58,42 @@ impl<T> Root<T> {
     }
 }
 
-impl<T: Drop> Root<T> {
-    /// The root of a tree. Allocates one block.
-    pub(crate) fn new(alloc: Global, owner: Rc<Tree<T>>) -> Result<Root<T>, AllocError>
-        ensures { IfOk result (λ r. r.owner ≡ owner) }
-    {
-        Ok(Root::from_parts(BoxParts::from_box(Box::new(alloc, owner)?)))
-    }
-}
-
 impl<T: Drop> Drop for Root<T> {
     fn drop(self) {
         drop(self.into_parts().into_box());
+    }
+}
+
+mod parts {
+    use super::{Allocator, Model};
+
+    /// A box taken apart, which owns what the box owned.
+    pub(crate) struct BoxParts<T, A: Allocator> {
+        pub(super) pointer: *mut T,
+        pub(super) alloc: A,
+        pub ghost value: { T },
+    }
+
+    impl<T, A: Allocator> Model for BoxParts<T, A> {
+        ghost also_owns = { λ p. box_owns (A.dealloc_token p.alloc) T.row p.pointer p.value };
+    }
+
+    impl<T, A: Allocator> BoxParts<T, A> {
+        pub(crate) fn from_box(whole: Box<T, A>) -> BoxParts<T, A>
+        where
+            T: Drop,
+            ensures { result.value ≡ whole.value }
+        {
+            let (pointer, alloc) = Box::into_raw_with_allocator(whole);
+            BoxParts { pointer, alloc }
+        }
+
+        pub(crate) fn into_box(self) -> Box<T, A>
+            ensures { result.value ≡ self.value }
+        {
+            let BoxParts { pointer, alloc } = self;
+            // Safe: the pointer and the allocator are those of a box, and `self` was their only owner.
+            unsafe { Box::from_raw(alloc, pointer) }
+        }
     }
 }
