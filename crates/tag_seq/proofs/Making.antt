@@ -6,8 +6,11 @@ use Rattle.std.specs.Prelude.{replicate}
 use Rattle.tag_seq.specs.Tags.{moved}
 
 pub replicate_around : (m n k x : ℕ) → k ≡ m + 1 + n → replicate m x ++ x ∷ replicate n x ≡ replicate k x
-replicate_around zero n k x e = ap (λ j. replicate j x) (omega arith)
-replicate_around (suc m) n k x e = ap (λ xs. x ∷ xs) (replicate_around m n (m + 1 + n) x refl) ∙ ap (λ j. replicate j x) (omega arith)
+replicate_around zero n k x e = let same : suc n ≡ k = omega arith in ap (λ (j : ℕ). replicate j x) same
+replicate_around (suc m) n k x e = let same : suc (m + 1 + n) ≡ k = omega arith in ap (λ (xs : List ℕ). x ∷ xs) (replicate_around m n (m + 1 + n) x refl) ∙ ap (λ (j : ℕ). replicate j x) same
+
+pub replicate_first : (n x : ℕ) → 0 < n → x ∷ replicate (n - 1) x ≡ replicate n x
+replicate_first n x h = let same : suc (n - 1) ≡ n = omega arith in ap (λ (j : ℕ). replicate j x) same
 
 -- a list is its part before a place, the item there, and its part behind it
 pub halves : (xs : List ℕ) (m : ℕ) → m < length xs → take m xs ++ get_or xs m 0 ∷ take (length xs - (m + 1)) (drop (m + 1) xs) ≡ xs
