@@ -1,4 +1,5 @@
 pub mod Heights
+pub mod Making
 pub mod Numbers
 pub mod Ranks
 pub mod Setting

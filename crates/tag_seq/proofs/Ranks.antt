@@ -1,7 +1,8 @@
 -- Rank and place in lists with a tag between two parts, and their laws.
 use Rattle.std.proofs.Common.{◌≡◌, ℕ, zero, suc, ◌+◌, ◌-◌, ◌<◌, ◌≤◌, List, [], ◌∷◌, ◌++◌, length, take, refl, ap, sym, ◌∙◌, true, false, arith, cond, inl, inr, Option, Some, None}
-use Rattle.std.proofs.lemmas.Bool.{cases_eq, cases_lt, eq-eqb, ne_eqb}
-use Rattle.std.specs.Prelude.{nat_eq, slice_get}
+use Rattle.std.proofs.lemmas.Bool.{cases_eq, cases_lt, eq-eqb, ne_eqb, true≢false}
+use Rattle.std.proofs.lemmas.List.{append-nil}
+use Rattle.std.specs.Prelude.{nat_eq, slice_get, IsSome, is_some}
 use Rattle.tag_seq.specs.Tags.{count, one_if_same, rank, place, further}
 use Rattle.tag_seq.proofs.Totals.{count-append, count-le-length}
 use Rattle.tag_seq.proofs.Sides.{take_left, take_right}
@@ -121,3 +122,13 @@ place-rises (x ∷ xs) t q r p s d e h =
           let sooner = further_some 1 p (place t q xs) (sym (place_other t x q xs f) ∙ d) in
           omega (arith, later.1.1, sooner.1.1, place-rises xs t q r sooner.0 later.0 sooner.1.0 later.1.0 h)
     ]
+
+-- there is a place exactly for the numbers of occurrences
+pub place_found : (t k : ℕ) (xs : List ℕ) → (IsSome (place t k xs) → k < count t xs) × (k < count t xs → IsSome (place t k xs))
+place_found t k xs = (
+  λ s. elim (cases_lt k (count t xs)) [
+    | inl l ↦ l
+    | inr h ↦ let none : place t k xs ≡ None = ap (place t k) (sym (append-nil xs)) ∙ place_behind t xs [] k (k - count t xs) (omega arith) in absurd (true≢false (sym s ∙ ap is_some none))
+  ],
+  λ l. let d = rank-after-place xs t k l in ap is_some d.1
+)

@@ -148,12 +148,12 @@ impl TagSeq {
         ensures too_long { 2 ^ 64 ≤ length self.old + count → IsErr result }
         ensures kept { OnErr result (self.new ≡ self.old) }
     {
-        if count == 0 {
-            return Ok(());
-        }
         let Some(len) = self.len.checked_add(count) else {
             return Err(AllocError);
         };
+        if count == 0 {
+            return Ok(());
+        }
         let more = repeat(self.alloc, tag, count - 1)?;
         let before = self.root.total(self.alloc)?;
         let root = join(self.alloc, &self.root, before, tag, &more)?;

@@ -20,7 +20,7 @@ fork-requires-in-Node-clause-small c =
     let is : tags c.args.inner.now ≡ tags c.node.inside.left ++ c.node.inside.tag ∷ tags c.node.inside.right = search rules in
     omega (arith, length-append (tags c.args.outer.now ++ c.args.tag ∷ tags c.args.inner.now) (c.args.next ∷ tags c.args.right), length-append (tags c.args.outer.now) (c.args.tag ∷ tags c.args.inner.now), length-append (tags c.in_ok-share-in-Node-3.field-0) (c.args.next ∷ tags c.args.right), ap length c.in_ok-share-in-Node-3.ensures.tags, ap length is, length-append (tags c.node.inside.left) (c.node.inside.tag ∷ tags c.node.inside.right))
 
-pub returns-in_ok-whole-in-Node-clause-tags : goal.returns-in_ok-whole-in-Node-clause-tags
-returns-in_ok-whole-in-Node-clause-tags c =
+pub returns-clause-tags : goal.returns-clause-tags
+returns-clause-tags c =
     let is : tags c.args.inner.now ≡ tags c.node.inside.left ++ c.node.inside.tag ∷ tags c.node.inside.right = search rules in
     rw (c.in_ok-whole-in-Node.ensures.tags, c.in_ok-low-in-Node.ensures.tags, c.in_ok-high-in-Node.ensures.tags, c.in_ok-share-in-Node.ensures.tags, c.in_ok-share-in-Node-2.ensures.tags, c.in_ok-share-in-Node-3.ensures.tags, is) (simp append_assoc)
