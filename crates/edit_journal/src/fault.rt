@@ -1,17 +1,18 @@
 //! Why a line was not read.
 
-use std::alloc::{AllocError, AllocFailed};
+use std::alloc::{AllocError, AllocFailed, Global};
+use texts::Twin;
 
 /// Why a line was not read as an entry. A line is tested in the order of these variants.
 #[derive(Clone, Copy, Debug, PartialEq, Eq, Drop)]
 pub enum EntryFault {
     /// The line is too long.
     LineTooLong,
-    /// The text of the line is no JSON.
+    /// The text of the line is not JSON.
     NotJson,
     /// The tree of the line is not the form of an entry.
     NotAnEntry,
-    /// The tree is the form of an entry, and its edit is no word.
+    /// The tree has the form of an entry, but its edit is not a word.
     NotAnEdit,
     /// Memory ran out, which says nothing of the line.
     NoMemory,
@@ -36,5 +37,17 @@ impl<T: Drop> From<AllocFailed<T>> for EntryFault {
 
     fn from(_: AllocFailed<T>) -> EntryFault {
         EntryFault::NoMemory
+    }
+}
+
+impl Twin for EntryFault {
+    ghost use Rattle.edit_journal.specs.declared.fault.EntryFault.{EntryFault};
+
+    ghost Meaning = { EntryFault };
+
+    ghost meaning = { λ f. f };
+
+    fn twin(&self, _alloc: Global) -> Result<Self, AllocError> {
+        Ok(*self)
     }
 }

@@ -1,4 +1,4 @@
-//! What a primitive does, which its tree tells by the name of a member.
+//! What a primitive does, which the name of the member of its tree says.
 
 ghost use Rattle.std.specs.Prelude.{◌≡◌};
 ghost use Rattle.edit_json.specs.Kinds.{kind_of};
@@ -44,7 +44,7 @@ pub enum Kind {
     Hang,
 }
 
-/// What the primitive does whose member has this name. None exactly where no primitive has it.
+/// What the primitive does whose member has this name. None if and only if no primitive has it.
 pub fn kind_of(name: &str) -> Option<Kind>
     ensures { result ≡ kind_of name.now }
 {

@@ -15,14 +15,14 @@ use value_json::write_compact;
 /// The text of a word's tree, with no space between its parts.
 ///
 /// Each insertion and each deletion in the word is of 1 to 65,536 items, which `has_tree` tests.
-/// Fails where memory runs out, and not otherwise.
+/// Fails only if memory runs out.
 pub fn write_word_text(alloc: Global, word: &Word) -> Result<String, AllocError>
     requires counts_fit { counts_fit (word_tree word.now) ≡ true }
 
     ensures text { IfOk result (λ text. string_bytes text
         ≡ compact_text (tree_of_word (word_tree word.now))) }
 
-    // A reader of JSON gives the word's tree back, unless words stand too deep in one another for it.
+    // A reader of JSON gives the word's tree back, unless words are nested too deep for it.
     ensures reads_back { IfOk result (λ text. 3 * word_depth (word_tree word.now) + 1 ≤ max_depth
         → read (string_bytes text) ≡ Some (tree_of_word (word_tree word.now))) }
 {

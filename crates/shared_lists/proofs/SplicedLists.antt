@@ -1,0 +1,62 @@
+-- A splice of two lists, one after the other, is a splice of one of them or of both.
+use Rattle.std.proofs.Common.{arith}
+use Rattle.std.specs.Prelude.{ℕ, ◌≡◌, ◌<◌, ◌≤◌, ◌+◌, ◌-◌, List, [], ◌∷◌, ◌++◌, length, take, drop, suc, slice_get, slice_set}
+use Rattle.std.proofs.lemmas.List.{take-append-le, drop-append-le, append_assoc, append-nil, length-append, length-take, length-drop, take-append-drop, set_split, take-map, drop-map}
+use Rattle.std.proofs.Math.Seq.{take-append-add, drop-append-add, drop-length, drop-cons}
+use Rattle.std.proofs.Math.ListN.{drop_of_length-le}
+use Rattle.std.proofs.lemmas.Option.{get_or_from_slice_get, slice_get_within}
+use Rattle.std.specs.declared.option.Option.TheVariants.{Some}
+use Rattle.std.specs.declared.alloc.Global.{Global}
+use Rattle.std.specs.declared.rc.Rc.{Rc}
+use Rattle.shared_lists.specs.Items.{items_of}
+use mathlib.Core.Path.{ap, sym, subst}
+
+module _ {X : Type 0} (xs ys : List X) where
+  take-append_beyond : (n : ℕ) → length xs ≤ n → take n (xs ++ ys) ≡ xs ++ take (n - length xs) ys
+  take-append_beyond n p = subst (λ k. take k (xs ++ ys) ≡ xs ++ take (n - length xs) ys) (omega arith) (take-append-add xs ys (n - length xs))
+
+  drop-append_beyond : (n : ℕ) → length xs ≤ n → drop n (xs ++ ys) ≡ drop (n - length xs) ys
+  drop-append_beyond n p = subst (λ k. drop k (xs ++ ys) ≡ drop (n - length xs) ys) (omega arith) (drop-append-add xs ys (n - length xs))
+
+  module _ (more : List X) (from to : ℕ) (order : from ≤ to) where
+    pub spliced_left : to ≤ length xs → (take from xs ++ more ++ drop to xs) ++ ys ≡ take from (xs ++ ys) ++ more ++ drop to (xs ++ ys)
+    spliced_left p = rw (take-append-le from xs ys (omega arith), drop-append-le to xs ys p) (simp append_assoc)
+
+    pub spliced_right : length xs ≤ from → xs ++ (take (from - length xs) ys ++ more ++ drop (to - length xs) ys) ≡ take from (xs ++ ys) ++ more ++ drop to (xs ++ ys)
+    spliced_right p = rw (take-append_beyond from p, drop-append_beyond to (omega arith)) (simp append_assoc)
+
+    pub spliced_across : from ≤ length xs → length xs ≤ to
+        → (take from xs ++ more ++ drop (length xs) xs) ++ (take 0 ys ++ [] ++ drop (to - length xs) ys) ≡ take from (xs ++ ys) ++ more ++ drop to (xs ++ ys)
+    spliced_across p q = rw (take-append-le from xs ys p, drop-append_beyond to q, drop-length xs) (simp (append_assoc, append-nil))
+
+pub length-spliced : {X : Type 0} (xs more : List X) (from to : ℕ) → from ≤ to → to ≤ length xs
+    → length (take from xs ++ more ++ drop to xs) ≡ length xs - (to - from) + length more
+length-spliced xs more from to order within = simp (length-append, length-take, length-drop) (omega arith)
+
+pub ruleset splice_rules = (spliced_left, spliced_right, spliced_across, length-spliced)
+
+one_more : (i : ℕ) → suc i ≡ i + 1
+one_more i = omega arith
+
+-- what is left of a list from a place on begins with the item there
+pub drop-at : {X : Type 0} (xs : List X) (i : ℕ) (x : X) → slice_get xs i ≡ Some x → drop i xs ≡ x ∷ drop (i + 1) xs
+drop-at xs i x e = rw (drop-cons xs i x (slice_get_within xs i x e), get_or_from_slice_get xs i x x e) (ap (λ k. x ∷ drop k xs) (one_more i))
+
+module _ {T : Type 0} (owners : List (Rc T Global)) (n : ℕ) where
+  pub items_of-take : items_of (take n owners) ≡ take n (items_of owners)
+  items_of-take = sym (take-map (λ r. r.value) n owners)
+
+  pub items_of-drop : items_of (drop n owners) ≡ drop n (items_of owners)
+  items_of-drop = sym (drop-map (λ r. r.value) n owners)
+
+  pub items_of-parts : items_of (take n owners) ++ items_of (drop n owners) ≡ items_of owners
+  items_of-parts = rw (items_of-take, items_of-drop) (take-append-drop n (items_of owners))
+
+pub ruleset items_rules = (items_of-take, items_of-drop, items_of-parts)
+
+pub spliced_one : {X : Type 0} (xs : List X) (i : ℕ) (x : X) → i < length xs → take i xs ++ (x ∷ []) ++ drop (i + 1) xs ≡ slice_set xs i x
+spliced_one xs i x p = rw (set_split xs i x p) (simp append_assoc (ap (λ k. take i xs ++ x ∷ drop k xs) (sym (one_more i))))
+
+pub ruleset edit_rules = (spliced_one, drop_of_length-le, append-nil)
+
+pub ruleset iter_rules = (drop-at, drop_of_length-le)

@@ -1,0 +1,15 @@
+-- The items that shared owners hold.
+use Rattle.std.specs.Prelude.{List, [], map}
+use Rattle.std.specs.declared.alloc.Global.{Global}
+use Rattle.std.specs.declared.option.Option.{Option}
+use Rattle.std.specs.declared.option.Option.TheVariants.{None, Some}
+use Rattle.std.specs.declared.rc.Rc.{Rc}
+
+-- the item of each owner
+abbrev pub items_of : {T : Type 0} → List (Rc T Global) → List T
+items_of owners = map (λ r. r.value) owners
+
+-- the items of a tree that may have none
+abbrev pub optional_items : {T : Type 0} → Option (Rc (List T) Global) → List T
+optional_items None = []
+optional_items (Some tree) = tree.value

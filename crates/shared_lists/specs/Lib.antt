@@ -1,0 +1,5 @@
+pub mod Items
+pub mod ListItems
+pub mod Nodes
+pub mod RootMemory
+pub mod formers

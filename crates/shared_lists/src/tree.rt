@@ -1,0 +1,145 @@
+//! The balanced tree of a list that is not empty.
+
+ghost use Rattle.std.specs.Prelude.{◌≡◌, ◌<◌, ◌+◌, ◌^◌, ◌++◌, length, slice_get, IfOk};
+ghost use Rattle.std.specs.declared.option.Option.TheVariants.{Some};
+ghost use Rattle.shared_lists.specs.Items.{items_of};
+
+use std::alloc::{AllocError, Global};
+use std::marker::Model;
+use std::rc::Rc;
+
+/// How many items a chunk has at most.
+pub(crate) const CHUNK: usize = 32;
+
+#[cycle(tree)]
+#[derive(Drop)]
+pub(crate) enum Node<T> {
+    /// Some items, at least one.
+    Chunk(Vec<Rc<T>>),
+    /// Two trees one after the other, the number of their items, and the height of this tree.
+    Join(Rc<Tree<T>>, Rc<Tree<T>>, usize, u8),
+}
+
+/// At least one item, in order.
+#[cycle(tree)]
+#[derive(Drop)]
+pub(crate) struct Tree<T> {
+    pub(crate) node: Node<T>,
+}
+
+impl<T> Model for Tree<T> {
+    ghost use Rattle.std.specs.Prelude.{List, length};
+    ghost use Rattle.std.specs.Coded.{coded_list};
+
+    ghost Value = { List T };
+
+    ghost coded = { coded_list T.code };
+
+    ghost use Rattle.shared_lists.specs.Nodes.{node_items, IsSound};
+
+    ghost view = { λ a. node_items a.node };
+
+    ghost invariant = { λ a. IsSound a.node };
+
+    ghost size = { length };
+
+    ghost use Rattle.std.proofs.Common.{arith, length-append};
+
+    ghost size_decreases = { λ a h. Prim.grind (arith, length-append) };
+}
+
+impl<T> Tree<T> {
+    /// How many items there are.
+    pub(crate) fn len(&self) -> usize
+        ensures value { result ≡ length self.now }
+        ensures some { 0 < result }
+    {
+        match &self.node {
+            Node::Chunk(items) => items.len(),
+            Node::Join(_, _, len, _) => *len,
+        }
+    }
+
+    /// The height: 0 for a chunk. Only the cost rests on it.
+    pub(crate) fn height(&self) -> u8 {
+        match &self.node {
+            Node::Chunk(_) => 0,
+            Node::Join(_, _, _, height) => *height,
+        }
+    }
+
+    /// The item at a place.
+    pub(crate) fn get(&self, place: usize) -> &T
+        requires { place < length self.now }
+        ensures { slice_get self.now place ≡ Some result.now }
+    {
+        match &self.node {
+            Node::Chunk(items) => &items[place],
+            Node::Join(left, right, _, _) => {
+                let middle = left.len();
+                if place < middle {
+                    left.get(place)
+                } else {
+                    right.get(place - middle)
+                }
+            }
+        }
+    }
+}
+
+/// Counts one more owner of each of some items, and puts them at the end of others.
+pub(crate) fn share<T: Drop>(into: &mut Vec<Rc<T>>, items: &[Rc<T>]) -> Result<(), AllocError>
+    ensures { IfOk result (λ _. items_of into.new.items ≡ items_of into.old.items ++ items_of items.now) }
+{
+    for item in items {
+        into.push(item.clone()?)?;
+    }
+    Ok(())
+}
+
+/// A tree of one chunk.
+pub(crate) fn chunk<T: Drop>(alloc: Global, items: Vec<Rc<T>>) -> Result<Rc<Tree<T>>, AllocError>
+    requires { 0 < length items.items }
+    ensures { IfOk result (λ t. t.value ≡ items_of items.items) }
+{
+    let node = Node::Chunk(items);
+    Ok(Rc::new(alloc, Tree { node })?)
+}
+
+/// Shares all items of a tree, and puts them at the end of others.
+#[cycle(share_all)]
+pub(crate) fn share_all<T: Drop>(
+    into: &mut Vec<Rc<T>>,
+    tree: &Rc<Tree<T>>,
+) -> Result<(), AllocError>
+    ensures { IfOk result (λ _. items_of into.new.items ≡ items_of into.old.items ++ tree.now.value) }
+{
+    match &tree.node {
+        Node::Chunk(items) => share(into, items.as_slice()),
+        Node::Join(left, right, _, _) => {
+            share_all(into, left)?;
+            share_all(into, right)
+        }
+    }
+}
+
+/// Two trees one after the other, with no look at their heights. Few items make one chunk.
+pub(crate) fn pair<T: Drop>(
+    alloc: Global,
+    left: Rc<Tree<T>>,
+    right: Rc<Tree<T>>,
+) -> Result<Rc<Tree<T>>, AllocError>
+    requires { length left.value + length right.value < 2 ^ 64 }
+    ensures { IfOk result (λ t. t.value ≡ left.value ++ right.value) }
+{
+    let len = left.len() + right.len();
+    if len <= CHUNK {
+        let mut items = Vec::with_capacity(alloc, len)?;
+        share_all(&mut items, &left)?;
+        share_all(&mut items, &right)?;
+        return chunk(alloc, items);
+    }
+    let height = left.height().max(right.height()).saturating_add(1);
+    let node = Node::Join(left, right, len, height);
+    Ok(Rc::new(alloc, Tree { node })?)
+}

@@ -1,0 +1,7 @@
+pub mod Heights
+pub mod Making
+pub mod Numbers
+pub mod Ranks
+pub mod Setting
+pub mod Sides
+pub mod Totals
