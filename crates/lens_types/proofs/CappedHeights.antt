@@ -1,11 +1,11 @@
 -- Heights up to one more than the limit.
 use Rattle.std.proofs.Common.{◌≡◌, ℕ, ◌+◌, true, false, List, [], ◌∷◌, refl, ap, ◌∙◌, arith}
-use Rattle.std.specs.Prelude.{nat_le, max, min, if◌then◌else◌}
+use Rattle.std.specs.Prelude.{nat_le, max, if◌then◌else◌}
 use Rattle.std.proofs.lemmas.Bool.Decides.{nat_tests}
 use Rattle.texts.specs.Keys.{is_before}
 use Rattle.doc_values.specs.Types.{TyTree, ty_rec, FieldTrees, no_fields, field, height, highest}
 use Rattle.lens_forms.specs.Forms.{ArmTrees, no_arms, more_arms, insert_field, sorted}
-use Rattle.lens_forms.specs.Measures.{form_height, highest_row, highest_arm, greatest_height}
+use Rattle.lens_forms.specs.Measures.{form_height, highest_arm, greatest_height}
 use Rattle.lens_types.specs.Earlier.{enum_type, alternatives_type, bijection, alternatives, partition}
 use Rattle.lens_types.specs.Heights.{capped}
 

@@ -1,5 +1,5 @@
 -- What a look-up among the entries gives, and what adding one makes.
-use Rattle.std.proofs.Common.{◌≡◌, ℕ, zero, suc, ◌+◌, ◌≤◌, ◌<◌, Bool, true, false, true≢false, ◌&&◌, ◌||◌, nat_eq, cond, List, [], ◌∷◌, ◌++◌, length, map, take, slice_get, bytes_eq, Option, Some, None, is_some, option_map, unwrap_or, refl, ap, ap₂, sym, ◌∙◌, subst, arith, append-nil, append_assoc}
+use Rattle.std.proofs.Common.{◌≡◌, ℕ, zero, suc, ◌+◌, ◌≤◌, ◌<◌, Bool, true, false, true≢false, ◌||◌, nat_eq, cond, List, [], ◌∷◌, ◌++◌, length, map, take, slice_get, bytes_eq, Option, Some, None, is_some, option_map, unwrap_or, refl, ap, sym, ◌∙◌, subst, arith, append-nil, append_assoc}
 use Rattle.std.specs.Prelude.{nat_le, nat_lt, min, not, position, if◌then◌else◌}
 use Rattle.std.specs.List.{position_or_len}
 use Rattle.std.specs.Map.{keys_of, lookup}
@@ -12,8 +12,8 @@ use Rattle.program_terms.specs.Terms as Term
 use Rattle.program_terms.specs.Views.{type_tree, lens_tree}
 use Rattle.texts.specs.Keys.{has_name}
 use Rattle.texts.proofs.Conjunction.{both as both_true, first as first_and, second as second_and}
-use Rattle.lens_types.specs.Earlier.{KnownTree, Definitions, known, known_of, type_of_known, form_of_known, type_named, form_named, expanded_type, expanded_form}
-use Rattle.lens_types.specs.Entries.{scope_of, term_of, stands_for, with_entries, earlier_tree, is_measured, is_measured_type, is_measured_lens, are_measured, term_size, weight, weight_before, IsFound, IsTypeFound, IsLensFound, IsKnownType, IsKnownLens}
+use Rattle.lens_types.specs.Earlier.{KnownTree, Definitions, known, known_of, type_named, form_named, expanded_type, expanded_form}
+use Rattle.lens_types.specs.Entries.{scope_of, term_of, stands_for, with_entries, earlier_tree, is_measured, is_measured_type, is_measured_lens, are_measured, term_size, weight, IsFound, IsTypeFound, IsLensFound, IsKnownType, IsKnownLens}
 use Rattle.lens_types.specs.Heights.{capped, HasHeights}
 use Rattle.lens_types.specs.declared.known.Known.{Known}
 use Rattle.lens_types.specs.declared.known.Known.TheVariants.{OfType, OfLens}

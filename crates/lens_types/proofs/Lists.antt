@@ -1,5 +1,5 @@
 -- Lists of trees, and the folds at the types that wrap a list.
-use Rattle.std.proofs.Common.{◌≡◌, ℕ, ◌≤◌, false, nat_eq, List, [], ◌∷◌, ◌++◌, length, map, drop, None, rules, refl, ap, sym, ◌∙◌, append-nil}
+use Rattle.std.proofs.Common.{◌≡◌, ℕ, ◌≤◌, false, nat_eq, List, [], ◌∷◌, ◌++◌, length, map, drop, rules, refl, ap, ◌∙◌, append-nil}
 use Rattle.std.proofs.lemmas.List.{drop_all}
 use Rattle.doc_values.specs.Types.{field_list, fields_of as ty_fields, field_tree as ty_field}
 use Rattle.doc_values.specs.declared.ty.Ty.{Ty}
@@ -16,8 +16,7 @@ use Rattle.texts.specs.declared.side.Side.{Side}
 use Rattle.lens_forms.specs.declared.form.Form.{Form, the_lemmas as form_lemmas}
 use Rattle.lens_forms.specs.declared.form.Form.TheVariants.{Alt}
 use Rattle.lens_forms.specs.declared.form.FormRow.{FormRow}
-use Rattle.lens_forms.specs.declared.form.FormRows.{FormRows, out-FormRows, the_lemmas as rows_lemmas}
-use Rattle.lens_forms.specs.declared.form.FormArms.{FormArms, out-FormArms, the_lemmas as arms_lemmas}
+use Rattle.lens_forms.specs.declared.form.FormArms.{FormArms}
 
 -- ---- trees and lists, there and back
 

@@ -1,18 +1,17 @@
 -- The heights of the sides of a form, from those of its parts.
-use Rattle.std.proofs.Common.{◌≡◌, ℕ, suc, Option, None, ◌+◌, ◌<◌, ◌≤◌, Bool, true, false, nat_eq, cond, List, [], ◌∷◌, length, map, drop, get_or, refl, ap, sym, ◌∙◌, subst, add-one, drop-cons, arith}
+use Rattle.std.proofs.Common.{◌≡◌, ℕ, suc, Option, None, ◌+◌, ◌<◌, Bool, true, false, nat_eq, cond, List, [], ◌∷◌, length, map, drop, get_or, refl, ap, sym, ◌∙◌, add-one, drop-cons, arith}
 use Rattle.std.specs.Prelude.{max, nat_lt}
 use Rattle.std.specs.Ordering.{ord_max, nat_cmp, is_lt}
 use Rattle.std.specs.declared.cmp.Ordering.TheVariants.{Less, Equal, Greater}
 use Rattle.std.proofs.lemmas.Bool.Decides.{nat_tests}
-use Rattle.std.proofs.lemmas.List.{drop_all}
-use Rattle.doc_values.specs.Types.{TyTree, ty_list, ty_alt, ty_rec, FieldTrees, no_fields, field, height, highest}
+use Rattle.doc_values.specs.Types.{TyTree, ty_rec, FieldTrees, no_fields, field, height, highest}
 use Rattle.program_terms.specs.Terms as Term
-use Rattle.program_terms.specs.Views.{field_tree, row_tree, arm_tree, lens_tree}
+use Rattle.program_terms.specs.Views.{field_tree, row_tree, arm_tree}
 use Rattle.program_terms.specs.declared.types.TyExpr.{TyExpr}
 use Rattle.program_terms.specs.declared.lens.Lens.{Lens}
 use Rattle.program_terms.specs.declared.lens.Row.{Row}
-use Rattle.lens_forms.specs.Forms.{FormTree, form_each, form_rec, form_inv, form_then, RowTrees, ArmTrees, no_arms, more_arms, left_type, right_type, left_fields, right_fields, left_tags, right_tags, sorted, lists_of}
-use Rattle.lens_types.specs.Earlier.{Definitions, expanded_type, expanded_fields, expanded_form, expanded_rows, expanded_arms, bijection, alternatives, partition}
+use Rattle.lens_forms.specs.Forms.{FormTree, form_each, form_rec, RowTrees, ArmTrees, no_arms, more_arms, left_type, right_type, left_fields, right_fields, left_tags, right_tags, sorted, lists_of}
+use Rattle.lens_types.specs.Earlier.{Definitions, expanded_type, expanded_fields, expanded_form, expanded_rows, bijection, alternatives, partition}
 use Rattle.lens_types.specs.Checking.{Failure, or_else, rows_failure}
 use Rattle.lens_types.specs.Heights.{capped, HasHeights, HasRowHeights, HasArmHeights}
 use Rattle.lens_types.specs.Nodes.{HasFieldHeights, row_failure}

@@ -1,6 +1,6 @@
 -- What has no failure is typed and keeps the limits.
-use Rattle.std.proofs.Common.{◌≡◌, ℕ, zero, suc, Bool, true, false, ◌&&◌, List, [], ◌∷◌, ◌++◌, drop, Option, Some, None, refl, ap, ap₂}
-use Rattle.std.specs.Prelude.{bytes_eq, nat_le, if◌then◌else◌, option_map, unwrap_or, slice_get}
+use Rattle.std.proofs.Common.{◌≡◌, ℕ, Bool, true, false, ◌&&◌, List, [], ◌∷◌, ◌++◌, Option, Some, None, refl}
+use Rattle.std.specs.Prelude.{bytes_eq, nat_le, if◌then◌else◌, option_map}
 use Rattle.doc_values.specs.Types.{FieldTrees, no_fields, field, names_of, are_distinct, is_well_formed, are_well_formed, height, is_same_ty}
 use Rattle.texts.proofs.Conjunction.{both as both_true, first as first_and, second as second_and}
 use Rattle.program_terms.specs.Terms as Term

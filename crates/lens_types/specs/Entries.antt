@@ -1,11 +1,11 @@
 -- For the helpers of the checker: its entries, the definitions that they stand for, and what a look-up gives.
-use Rattle.std.specs.Prelude.{◌≡◌, ◌≤◌, ℕ, ◌+◌, Bool, true, ◌&&◌, nat_eq, nat_le, List, [], ◌∷◌, ◌++◌, length, take, Option, Some}
+use Rattle.std.specs.Prelude.{◌≡◌, ◌≤◌, ℕ, ◌+◌, Bool, true, ◌&&◌, nat_eq, nat_le, List, [], ◌∷◌, ◌++◌, length, take, Some}
 use Rattle.doc_values.specs.Types.{height}
 use Rattle.program_terms.specs.Terms as Term
 use Rattle.program_terms.specs.Views.{type_tree, lens_tree}
 use Rattle.lens_forms.specs.Measures.{type_parts, form_parts, form_height}
 use Rattle.lens_types.specs.Earlier.{KnownTree, Definitions, known, known_of, type_named, form_named, expanded_type, expanded_form}
-use Rattle.lens_types.specs.Heights.{capped, HasHeights, has_heights}
+use Rattle.lens_types.specs.Heights.{capped, has_heights}
 use Rattle.lens_types.specs.Sizes.{type_size, lens_size}
 use Rattle.lens_types.specs.declared.known.Known.{Known}
 use Rattle.lens_types.specs.declared.known.Known.TheVariants.{OfType, OfLens}

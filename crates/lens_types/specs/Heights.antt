@@ -1,11 +1,11 @@
 -- For the helpers of the checker: heights up to one more than the limit, on both sides and row by row.
-use Rattle.std.specs.Prelude.{◌≡◌, ℕ, Bool, ◌&&◌, nat_eq, nat_le, min, if◌then◌else◌, Option, Some, None}
+use Rattle.std.specs.Prelude.{◌≡◌, ℕ, Bool, ◌&&◌, nat_eq, min}
 use Rattle.doc_values.specs.Types.{height, highest}
 use Rattle.program_terms.specs.Terms as Term
 use Rattle.lens_forms.specs.Forms.{FormTree, left_type, right_type, RowTrees, left_fields, right_fields, ArmTrees, left_tags, right_tags}
-use Rattle.lens_forms.specs.Measures.{form_height, greatest_height}
+use Rattle.lens_forms.specs.Measures.{form_height}
 use Rattle.lens_types.specs.Earlier.{Definitions, expanded_type, expanded_form}
-use Rattle.lens_types.specs.Checking.{Failure, too_deep, written_height}
+use Rattle.lens_types.specs.Checking.{written_height}
 use Rattle.lens_types.specs.declared.known.SideHeights.{SideHeights}
 
 -- a height over the limit counts as one more than the limit

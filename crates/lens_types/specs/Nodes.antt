@@ -1,5 +1,5 @@
 -- For the helpers of the checker: what the check of one node or one row gives.
-use Rattle.std.specs.Prelude.{◌≡◌, ℕ, List, Option, Some, None, option_map, Result, MatchResult}
+use Rattle.std.specs.Prelude.{◌≡◌, ℕ, List, Option, None, option_map, Result, MatchResult}
 use Rattle.doc_values.specs.Types.{height}
 use Rattle.program_terms.specs.Terms as Term
 use Rattle.lens_forms.specs.Forms.{FormTree, RowTree, row_both, row_left, row_right}

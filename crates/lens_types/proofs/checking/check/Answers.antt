@@ -1,7 +1,7 @@
 use Rattle.std.proofs.Common.{◌≡◌, ◌≤◌, true, [], length, Some, ap, ap₂, sym, ◌∙◌, subst, rules, arith}
 use Rattle.program_terms.specs.Terms.{lens_def}
 use Rattle.program_terms.specs.Views.{lens_tree, def_tree, program_tree}
-use Rattle.lens_forms.specs.Forms.{FormTree, form_tree, left_type, right_type}
+use Rattle.lens_forms.specs.Forms.{FormTree, left_type, right_type}
 use Rattle.lens_types.specs.Checking.{def_failure, first_failure}
 use Rattle.lens_types.specs.Earlier.{all_known, expanded_form}
 use Rattle.lens_types.specs.Entries.{earlier_tree, stands_for}
