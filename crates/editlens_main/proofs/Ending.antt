@@ -2,7 +2,7 @@
 use Rattle.std.proofs.Common.{◌≡◌, ◌⊎◌, inl, inr, ℕ, ◌+◌, ◌^◌, ◌<◌, ◌≤◌, List, ◌++◌, length, Bool, true, false, cond, Option, Some, None, option_map, Result, Ok, Err, IsTrue, IfSome, refl, sym, ap, subst, ◌∙◌, append-nil, length-append, arith}
 use Rattle.std.specs.Io.KnownBytes.{Appends, Consumes, IsAtEnd}
 use Rattle.std.proofs.KnownBytes.{Appends-nil}
-use Rattle.lens_io.specs.Causes.{Rose}
+use Rattle.lens_io.specs.Causes.{Increased}
 use Rattle.lens_io.specs.Content.{AppendsFront}
 use Rattle.lens_io.specs.Takes.{Takes}
 use Rattle.lens_io.specs.declared.failed.TakeFault.{TakeFault}
@@ -208,10 +208,10 @@ sure command bytes left' held held' SinkFault R F s r source sink no_source few 
 sure command bytes left' held held' status R F s r source sink no_source few = inl (complete command (Some bytes) left' held held' status R ⊥ s r source (λ e. cc) few no_source (λ f. f))
 
 -- a count that stays 0 did not rise
-pub never : Rose 0 0 → ⊥
+pub never : Increased 0 0 → ⊥
 never h = omega (arith, h)
 
-pub by_room : {A F : Type 0} → Rose 0 0 ⊎ A × F → F
+pub by_room : {A F : Type 0} → Increased 0 0 ⊎ A × F → F
 by_room (inl h) = absurd (never h)
 by_room (inr p) = p.1
 

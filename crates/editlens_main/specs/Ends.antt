@@ -3,7 +3,7 @@ use Rattle.std.specs.Prelude.{◌≡◌, ◌⊎◌, ◌↔◌, ℕ, ◌+◌, ◌
 use Rattle.std.specs.List.{All}
 use Rattle.std.specs.declared.option.Option.{Option}
 use Rattle.std.specs.Io.KnownBytes.{Appends, Consumes, IsAtEnd}
-use Rattle.lens_io.specs.Causes.{Rose}
+use Rattle.lens_io.specs.Causes.{Increased}
 use Rattle.lens_io.specs.Content.{IsFull, AppendsFront}
 use Rattle.lens_types.specs.Forms.{FormTree}
 use Rattle.editlens_main.specs.Lines.{program_part}
@@ -66,7 +66,7 @@ pub record Stops (command : Command) (left left' held held' : Option (List ℕ))
 
 -- the sink failed, or took 0 bytes of a piece that is not empty: then a sink that tells its room is full
 abbrev pub SinkFailed : {K : Type 0} (faults empty_takes : K → ℕ) (room : K → Option ℕ) (held : K → Option (List ℕ)) → K → K → Type 0
-SinkFailed faults empty_takes room held old new = Rose (faults old) (faults new) ⊎ Rose (empty_takes old) (empty_takes new) × IsFull (room new) (held new)
+SinkFailed faults empty_takes room held old new = Increased (faults old) (faults new) ⊎ Increased (empty_takes old) (empty_takes new) × IsFull (room new) (held new)
 
 -- where the words name no command, the source is left alone, and the usage line is given, or a front of it and the sink failed
 abbrev pub GivesUsage : Option (List ℕ) → Option (List ℕ) → Status → Type 0

@@ -1,6 +1,6 @@
 //! The top call.
 ghost use Rattle.std.specs.Prelude.{◌≡◌, ◌⊎◌, ◌^◌, ◌<◌, ◌≤◌, IfSome, Some, None, length};
-ghost use Rattle.lens_io.specs.Causes.{Rose};
+ghost use Rattle.lens_io.specs.Causes.{Increased};
 ghost use Rattle.lens_io.specs.Content.{IsFull};
 ghost use Rattle.editlens_main.specs.Ends.{IsFinished, Reports, Stops, SinkFailed, GivesUsage, IsComplete};
 ghost use Rattle.editlens_main.specs.Words.{command_of};
@@ -44,11 +44,11 @@ pub fn editlens<S: Source, K: Sink>(
         × (S.left source.new ≡ S.left source.old) × (S.faults source.new ≡ S.faults source.old) }
     ensures no_usage { result ≡ Status.Usage → command_of words.now ≡ None }
 
-    ensures source_fault { result ≡ Status.SourceFault → Rose (S.faults source.old) (S.faults source.new) }
+    ensures source_fault { result ≡ Status.SourceFault → Increased (S.faults source.old) (S.faults source.new) }
     ensures sink_fault { result ≡ Status.SinkFault → SinkFailed K.faults K.empty_takes K.room K.held sink.old sink.new }
 
     ensures complete { (command : Command) → command_of words.now ≡ Some command → IfSome (S.left source.old) (λ bytes. length bytes ≤ 2 ^ 30
-        → (Rose (S.faults source.old) (S.faults source.new) → ⊥)
+        → (Increased (S.faults source.old) (S.faults source.new) → ⊥)
         → (SinkFailed K.faults K.empty_takes K.room K.held sink.old sink.new → ⊥)
         → IsComplete command bytes result) }
 {
@@ -65,10 +65,10 @@ pub fn editlens<S: Source, K: Sink>(
 fn run<S: Source, K: Sink>(alloc: Global, command: Command, source: &mut S, sink: &mut K) -> Status
     ensures stops { Stops command (S.left source.old) (S.left source.new) (K.held sink.old) (K.held sink.new) result }
     ensures reports { IsFinished result → Reports command (S.left source.old) (S.left source.new) (K.held sink.old) (K.held sink.new) result }
-    ensures source_fault { result ≡ Status.SourceFault → Rose (S.faults source.old) (S.faults source.new) }
+    ensures source_fault { result ≡ Status.SourceFault → Increased (S.faults source.old) (S.faults source.new) }
     ensures sink_fault { result ≡ Status.SinkFault → SinkFailed K.faults K.empty_takes K.room K.held sink.old sink.new }
     ensures complete { IfSome (S.left source.old) (λ bytes. length bytes ≤ 2 ^ 30
-        → (Rose (S.faults source.old) (S.faults source.new) → ⊥)
+        → (Increased (S.faults source.old) (S.faults source.new) → ⊥)
         → (SinkFailed K.faults K.empty_takes K.room K.held sink.old sink.new → ⊥)
         → IsComplete command bytes result) }
 {

@@ -14,7 +14,8 @@ pub record MemSourceState : Type 0 where
   pub faults : ℕ
 
 -- a sink that fails on demand: the bytes that it holds, its piece lengths, the numbers of the calls that fail,
--- the number of its next call, how often it has failed, and how often it took nothing of a piece that is not empty
+-- the number of its next call, how often it has failed, how often it took nothing of a piece that is not empty,
+-- and how often it has run out of memory
 pub record MemSinkState : Type 0 where
   pub held : List ℕ
   pub takes : List ℕ
@@ -22,6 +23,7 @@ pub record MemSinkState : Type 0 where
   pub calls : ℕ
   pub faults : ℕ
   pub empty_takes : ℕ
+  pub memory_faults : ℕ
 
 -- a sink that does not fail: the bytes that it holds, how many it has room for, and how often it took nothing of a piece that is not empty
 pub record SureSinkState : Type 0 where
@@ -62,9 +64,13 @@ sink_moves s offered =
 abbrev pub empty_takes_after : ℕ → ℕ → ℕ → ℕ
 empty_takes_after empty_takes count offered = if count == 0 && nat_lt 0 offered then raised empty_takes else empty_takes
 
+-- the count of memory faults after a failed call: a call that is not to fail has run out of memory
+abbrev pub memory_faults_after : MemSinkState → ℕ
+memory_faults_after s = if is_to_fail s.fails s.calls then s.memory_faults else raised s.memory_faults
+
 -- the sink after a call over these bytes: a failed one raises the count of faults and takes no byte
 abbrev pub sink_after : MemSinkState → List ℕ → Option ℕ → MemSinkState
-sink_after s bytes None = record s { calls = raised s.calls; faults = raised s.faults }
+sink_after s bytes None = record s { calls = raised s.calls; faults = raised s.faults; memory_faults = memory_faults_after s }
 sink_after s bytes (Some count) = record s {
   held = s.held ++ take count bytes;
   calls = raised s.calls;

@@ -1,11 +1,11 @@
 //! Sinks in memory: one that fails on demand, and one that never fails.
-ghost use Rattle.std.specs.Prelude.{◌≡◌, ◌⊎◌, ◌<◌, ◌≤◌, ◌++◌, ℕ, [], length, take, Ok, Some, None, IfOk, OnErr, IsErr, slice_get, vec_capacity};
+ghost use Rattle.std.specs.Prelude.{◌≡◌, ◌⊎◌, ◌<◌, ◌≤◌, ◌++◌, ℕ, [], length, take, Ok, Some, None, IfOk, IsTrue, OnErr, IsErr, slice_get, vec_capacity};
 ghost use Rattle.std.specs.Result.{result_ok};
 ghost use Rattle.std.specs.Io.{WritesAtMost};
 ghost use Rattle.std.specs.Io.KnownBytes.{WriteAppends};
-ghost use Rattle.lens_io.specs.Causes.{Rose, HasCause, TakesSome};
+ghost use Rattle.lens_io.specs.Causes.{Increased, HasCause, TakesSome};
 ghost use Rattle.lens_io.specs.Content.{IsFull};
-ghost use Rattle.lens_io.specs.Devices.{MemSinkState, SureSinkState, sink_moves, sink_after, sure_moves, sure_after};
+ghost use Rattle.lens_io.specs.Devices.{MemSinkState, SureSinkState, is_to_fail, sink_moves, sink_after, sure_moves, sure_after};
 
 use crate::pieces::{count_empty_take, is_to_fail, within_piece};
 use crate::{Failed, Sink};
@@ -21,6 +21,7 @@ pub struct MemSink {
     calls: u64,
     faults: u64,
     empty_takes: u64,
+    memory_faults: u64,
 }
 
 impl Model for MemSink {
@@ -28,7 +29,7 @@ impl Model for MemSink {
 
     ghost Value = { MemSinkState };
 
-    ghost view = { λ s. record { held = s.bytes.items; takes = s.takes.items; fails = s.fails.items; calls = s.calls; faults = s.faults; empty_takes = s.empty_takes } };
+    ghost view = { λ s. record { held = s.bytes.items; takes = s.takes.items; fails = s.fails.items; calls = s.calls; faults = s.faults; empty_takes = s.empty_takes; memory_faults = s.memory_faults } };
 }
 
 impl MemSink {
@@ -41,6 +42,7 @@ impl MemSink {
         ensures calls { result.calls ≡ 0 }
         ensures faults { result.faults ≡ 0 }
         ensures empty_takes { result.empty_takes ≡ 0 }
+        ensures memory_faults { result.memory_faults ≡ 0 }
     {
         MemSink {
             bytes: Vec::new(alloc),
@@ -49,6 +51,7 @@ impl MemSink {
             calls: 0,
             faults: 0,
             empty_takes: 0,
+            memory_faults: 0,
         }
     }
 
@@ -57,6 +60,13 @@ impl MemSink {
         ensures { result.now ≡ self.now.held }
     {
         &self.bytes
+    }
+
+    /// How often a call has failed because memory ran out.
+    pub fn memory_faults(&self) -> u64
+        ensures { result ≡ self.now.memory_faults }
+    {
+        self.memory_faults
     }
 }
 
@@ -69,22 +79,30 @@ impl Sink for MemSink {
 
     ghost room = { λ _. None };
 
-    /// Fails at the calls that it is told, and for want of memory.
+    /// Fails at the calls whose numbers are in `fails`, and else only where memory runs out, which it counts.
     fn give(&mut self, bytes: &[u8]) -> Result<usize, Failed>
         ensures bound { WritesAtMost result bytes.now }
         ensures bytes { WriteAppends (Some self.old.held) (Some self.new.held) result bytes.now }
         ensures cause { HasCause self.old.faults self.new.faults result }
         ensures some { TakesSome self.old.empty_takes self.new.empty_takes bytes.now result }
 
-        // Which call fails, how many bytes a call moves, and what it leaves. Want of memory fails too.
+        // A call that is to fail does. Any other call fails only where memory ran out.
+        ensures errs { OnErr result (IsTrue (is_to_fail self.old.fails self.old.calls) ⊎ Increased self.old.memory_faults self.new.memory_faults) }
+
+        // How many bytes a call moves that does not fail, and what any call leaves.
         ensures count { IfOk result (λ count. sink_moves self.old (length bytes.now) ≡ Some count) }
         ensures state { self.new ≡ sink_after self.old bytes.now (result_ok result) }
     {
         let call = self.calls;
         self.calls = call.saturating_add(1);
         let count = within_piece(&self.takes, call, bytes.len());
-        if is_to_fail(&self.fails, call) || self.bytes.extend_from_slice(&bytes[..count]).is_err() {
+        if is_to_fail(&self.fails, call) {
             self.faults = self.faults.saturating_add(1);
+            return Err(Failed);
+        }
+        if self.bytes.extend_from_slice(&bytes[..count]).is_err() {
+            self.faults = self.faults.saturating_add(1);
+            self.memory_faults = self.memory_faults.saturating_add(1);
             return Err(Failed);
         }
         self.empty_takes = count_empty_take(self.empty_takes, count, bytes.len());
@@ -149,7 +167,7 @@ impl Sink for SureSink {
         ensures cause { HasCause 0 0 result }
         ensures some { TakesSome self.old.empty_takes self.new.empty_takes bytes.now result }
         ensures room { Some self.new.room ≡ Some self.old.room }
-        ensures full { Rose self.old.empty_takes self.new.empty_takes → IsFull (Some self.new.room) (Some self.new.held) }
+        ensures full { Increased self.old.empty_takes self.new.empty_takes → IsFull (Some self.new.room) (Some self.new.held) }
 
         // It moves what its room still holds.
         ensures count { result ≡ Ok (sure_moves self.old (length bytes.now)) }

@@ -1,7 +1,7 @@
 //! A source over a reader and a sink over a writer, as the standard input and output. They tell nothing of content.
 ghost use Rattle.std.specs.Prelude.{◌≡◌, ◌<◌, ◌≤◌, ℕ, None, length, is_ok, if◌then◌else◌};
 ghost use Rattle.std.specs.Io.{ReadsAtMost, WritesAtMost};
-ghost use Rattle.lens_io.specs.Causes.{Rose, HasCause, TakesSome, raised};
+ghost use Rattle.lens_io.specs.Causes.{Increased, HasCause, TakesSome, raised};
 ghost use Rattle.lens_io.specs.Devices.{RealSinkState, real_after};
 
 use crate::pieces::count_empty_take;

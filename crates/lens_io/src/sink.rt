@@ -3,7 +3,7 @@ ghost use Rattle.std.specs.Prelude.{◌≡◌, ◌⊎◌, ◌<◌, ◌≤◌, Li
 ghost use Rattle.std.specs.declared.option.Option.{Option};
 ghost use Rattle.std.specs.Io.{WritesAtMost};
 ghost use Rattle.std.specs.Io.KnownBytes.{Appends, WriteAppends};
-ghost use Rattle.lens_io.specs.Causes.{Rose, HasCause, TakesSome};
+ghost use Rattle.lens_io.specs.Causes.{Increased, HasCause, TakesSome};
 ghost use Rattle.lens_io.specs.Content.{IsFull, HasRoom, AppendsFront};
 
 use crate::{Failed, GiveFault};
@@ -29,7 +29,7 @@ pub trait Sink {
         ensures cause { HasCause (faults self.old) (faults self.new) result }
         ensures some { TakesSome (empty_takes self.old) (empty_takes self.new) bytes.now result }
         ensures room { room self.new ≡ room self.old }
-        ensures full { Rose (empty_takes self.old) (empty_takes self.new) → IsFull (room self.new) (held self.new) };
+        ensures full { Increased (empty_takes self.old) (empty_takes self.new) → IsFull (room self.new) (held self.new) };
 }
 
 /// Gives all the bytes, in as many pieces as the sink takes.
@@ -42,12 +42,12 @@ pub fn give_all<K: Sink>(sink: &mut K, bytes: &[u8]) -> Result<(), GiveFault>
     ensures faults { K.faults sink.old ≤ K.faults sink.new }
     ensures empty_takes { K.empty_takes sink.old ≤ K.empty_takes sink.new }
     ensures room { K.room sink.new ≡ K.room sink.old }
-    ensures cause { OnErr result (Rose (K.faults sink.old) (K.faults sink.new)
-        ⊎ Rose (K.empty_takes sink.old) (K.empty_takes sink.new) × IsFull (K.room sink.new) (K.held sink.new)) }
+    ensures cause { OnErr result (Increased (K.faults sink.old) (K.faults sink.new)
+        ⊎ Increased (K.empty_takes sink.old) (K.empty_takes sink.new) × IsFull (K.room sink.new) (K.held sink.new)) }
 
     // A sink that has room for all the bytes takes them all, unless it fails.
     ensures complete { HasRoom (K.room sink.old) (K.held sink.old) (length bytes.now)
-        → (Rose (K.faults sink.old) (K.faults sink.new) → ⊥) → IsOk result }
+        → (Increased (K.faults sink.old) (K.faults sink.new) → ⊥) → IsOk result }
 {
     let mut rest = bytes;
     while !rest.is_empty() {

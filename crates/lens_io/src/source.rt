@@ -3,7 +3,7 @@ ghost use Rattle.std.specs.Prelude.{◌≡◌, ◌↔◌, ◌+◌, ◌-◌, ◌*
 ghost use Rattle.std.specs.declared.option.Option.{Option};
 ghost use Rattle.std.specs.Io.{ReadsAtMost};
 ghost use Rattle.std.specs.Io.KnownBytes.{ReadConsumes, IsAtEnd};
-ghost use Rattle.lens_io.specs.Causes.{Rose, HasCause};
+ghost use Rattle.lens_io.specs.Causes.{Increased, HasCause};
 ghost use Rattle.lens_io.specs.Content.{EndsExactly};
 ghost use Rattle.lens_io.specs.Takes.{Takes, TakesPiece};
 
@@ -35,7 +35,7 @@ pub fn take_all<S: Source>(alloc: Global, source: &mut S, limit: u64) -> Result<
     requires { limit < 2 ^ 64 - 1 }
     ensures bytes { Takes limit (S.left source.old) (S.left source.new) result }
     ensures faults { S.faults source.old ≤ S.faults source.new }
-    ensures cause { IsErrOf result TakeFault.SourceFault → Rose (S.faults source.old) (S.faults source.new) }
+    ensures cause { IsErrOf result TakeFault.SourceFault → Increased (S.faults source.old) (S.faults source.new) }
 {
     let mut taken = Vec::new(alloc);
     let mut piece = piece_of(alloc, FIRST_PIECE)?;
@@ -74,7 +74,7 @@ fn take_piece<S: Source>(
     requires some { 0 < length piece.old }
     ensures bytes { TakesPiece limit (S.left source.old) (S.left source.new) taken.old.items taken.new.items result }
     ensures faults { S.faults source.old ≤ S.faults source.new }
-    ensures cause { IsErrOf result TakeFault.SourceFault → Rose (S.faults source.old) (S.faults source.new) }
+    ensures cause { IsErrOf result TakeFault.SourceFault → Increased (S.faults source.old) (S.faults source.new) }
     ensures bound { IfOk result (λ count. count ≤ length piece.old) }
 {
     let want = next_ask(limit, taken.len(), piece.len());
