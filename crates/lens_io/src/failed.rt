@@ -4,28 +4,28 @@ ghost use Rattle.std.specs.Prelude.{◌≡◌};
 use std::alloc::AllocError;
 use thiserror::Error;
 
-/// The answer of a device's call that failed. Such a call has moved no byte.
+/// A device's call failed. Such a call has moved no byte.
 #[derive(Clone, Copy, Debug, PartialEq, Eq)]
 pub struct Failed;
 
-/// Why not all bytes were given.
+/// Why not all bytes were written to a sink.
 #[derive(Clone, Copy, Debug, PartialEq, Eq, Error)]
 pub enum GiveFault {
-    /// The sink failed, or took 0 bytes of a piece that is not empty.
+    /// A call of the sink failed, or took 0 bytes of a piece that is not empty.
     #[error("the sink failed or took nothing")]
     SinkFault,
 }
 
-/// Why not all bytes were taken.
+/// Why not all bytes were read from a source.
 #[derive(Clone, Copy, Debug, PartialEq, Eq, Error)]
 pub enum TakeFault {
-    /// The source failed.
+    /// A call of the source failed.
     #[error("the source failed")]
     SourceFault,
     /// There are more bytes than the limit allows.
     #[error("the input is too long")]
     TooLong,
-    /// There is no memory for the bytes.
+    /// Memory ran out.
     #[error("out of memory")]
     NoMemory,
 }

@@ -1,7 +1,7 @@
-//! Sources and sinks that count their faults, and the calls that take or give all bytes.
+//! Sources and sinks that count their faults, and the calls that read or write all bytes.
 //!
-//! A device answers [`Failed`] only where its count of faults rose, so every fault that a caller sees has its cause
-//! on the contract. The devices in memory tell their content: [`MemSource`] and [`MemSink`] fail on demand,
+//! A device's call returns [`Failed`] only if its count of faults increased, so contracts give the cause of every fault
+//! that a caller sees. The content of the devices in memory is known: [`MemSource`] and [`MemSink`] fail on demand,
 //! [`SureSource`] and [`SureSink`] never fail. [`RealSource`] and [`RealSink`] adapt readers and writers.
 #![tactic(auto)]
 
