@@ -30,14 +30,14 @@ StaysInStep Check form items = Unit {0}
 -- accepted, and every triple stays in step.
 pub record Reports (command : Command) (left left' held held' : Option (List ℕ)) (status : Status) : Type 0 where
   pub bytes : List ℕ
-  pub taken : Consumes left left' bytes
-  pub whole : IsAtEnd left'
+  pub consumes : Consumes left left' bytes
+  pub at_end : IsAtEnd left'
   pub within : length bytes ≤ 2 ^ 30
   pub text : List ℕ
-  pub reported : report command bytes ≡ Some (text, status)
-  pub given : Appends held held' text
+  pub is_report : report command bytes ≡ Some (text, status)
+  pub appends : Appends held held' text
   pub form : FormTree
-  pub accepted : lens_of command (program_part bytes) ≡ Ok form
+  pub has_lens : lens_of command (program_part bytes) ≡ Ok form
   pub in_step : StaysInStep command form (items_of bytes)
 
 -- What stands after each status of a call that is not finished. The source gave some bytes.
@@ -59,7 +59,7 @@ IsCleanStop command left left' held held' bytes NoMemory = Appends held held' []
 -- These bytes were taken, at most 2^30 + 1, and InputTooLong comes exactly where they are more than 2^30.
 pub record Stops (command : Command) (left left' held held' : Option (List ℕ)) (status : Status) : Type 0 where
   pub bytes : List ℕ
-  pub taken : Consumes left left' bytes
+  pub consumes : Consumes left left' bytes
   pub at_most : length bytes ≤ 2 ^ 30 + 1
   pub too_long : (status ≡ InputTooLong) ↔ (2 ^ 30 < length bytes)
   pub clean : IsCleanStop command left left' held held' bytes status

@@ -12,17 +12,17 @@ use Rattle.editlens_main.specs.declared.program.Refused.{Refused}
 use Rattle.editlens_main.specs.declared.program.Refused.TheVariants.{Syntax, Typing, NotBuilt, NoMemory}
 
 -- Why a program part is refused, as the definition has it; want of memory says nothing, and is no fault of a text or of a program.
-pub record TellsTyping (found : Result FormTree Refusal) (fault : TypeFault) : Type 0 where
+pub record IsTypingRefusal (outcome : Result FormTree Refusal) (fault : TypeFault) : Type 0 where
   pub failure : Failure
-  pub is : found ≡ Err (typing failure)
-  pub told : IsFaultOf (Some failure) fault
+  pub is : outcome ≡ Err (typing failure)
+  pub is_fault : IsFaultOf (Some failure) fault
   pub known : fault ≡ types.NoMemory → ⊥
 
 abbrev pub IsRefusal : Result FormTree Refusal → Refused → Type 0
-IsRefusal found (Syntax fault) = (found ≡ Err (syntax fault)) × (fault ≡ texts.NoMemory → ⊥)
-IsRefusal found (Typing fault) = TellsTyping found fault
-IsRefusal found NotBuilt = found ≡ Err not_built
-IsRefusal found NoMemory = Unit {0}
+IsRefusal outcome (Syntax fault) = (outcome ≡ Err (syntax fault)) × (fault ≡ texts.NoMemory → ⊥)
+IsRefusal outcome (Typing fault) = IsTypingRefusal outcome fault
+IsRefusal outcome NotBuilt = outcome ≡ Err not_built
+IsRefusal outcome NoMemory = Unit {0}
 
 -- what is told in a line: want of memory is not
 abbrev pub IsKnown : Refused → Type 0

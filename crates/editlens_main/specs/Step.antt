@@ -35,24 +35,24 @@ pub data AnswerTree : Type 0 where
 
 -- An edit of the left side acts on the left document. Where it has no value there, the triple stays. Where it has, it is translated, and
 -- the carried word acts on the right document. Where there is no translation, or the carried word does not act, there is no step.
-abbrev pub left_done : DocTree → Translated → Result DocTree Why → Option (TripleTree × AnswerTree)
-left_done x r (Ok y) = Some (record { left = x; comp = r.1; right = y }, carried Right r.0)
-left_done x r (Err why) = None
+abbrev pub after_left_translation : DocTree → Translated → Result DocTree Why → Option (TripleTree × AnswerTree)
+after_left_translation x r (Ok y) = Some (record { left = x; comp = r.1; right = y }, carried Right r.0)
+after_left_translation x r (Err why) = None
 
-abbrev pub left_acted : FormTree → TripleTree → WordTree → Result DocTree Why → Option (TripleTree × AnswerTree)
-left_acted form t w (Ok x) = option_and_then (λ r. left_done x r (act (right_type form) r.0 t.right)) (translate form Left t.comp w)
-left_acted form t w (Err why) = Some (t, no_apply why.0 why.1)
+abbrev pub after_left_action : FormTree → TripleTree → WordTree → Result DocTree Why → Option (TripleTree × AnswerTree)
+after_left_action form t w (Ok x) = option_and_then (λ r. after_left_translation x r (act (right_type form) r.0 t.right)) (translate form Left t.comp w)
+after_left_action form t w (Err why) = Some (t, no_apply why.0 why.1)
 
 -- an edit of the right side, likewise
-abbrev pub right_done : DocTree → Translated → Result DocTree Why → Option (TripleTree × AnswerTree)
-right_done y r (Ok x) = Some (record { left = x; comp = r.1; right = y }, carried Left r.0)
-right_done y r (Err why) = None
+abbrev pub after_right_translation : DocTree → Translated → Result DocTree Why → Option (TripleTree × AnswerTree)
+after_right_translation y r (Ok x) = Some (record { left = x; comp = r.1; right = y }, carried Left r.0)
+after_right_translation y r (Err why) = None
 
-abbrev pub right_acted : FormTree → TripleTree → WordTree → Result DocTree Why → Option (TripleTree × AnswerTree)
-right_acted form t w (Ok y) = option_and_then (λ r. right_done y r (act (left_type form) r.0 t.left)) (translate form Right t.comp w)
-right_acted form t w (Err why) = Some (t, no_apply why.0 why.1)
+abbrev pub after_right_action : FormTree → TripleTree → WordTree → Result DocTree Why → Option (TripleTree × AnswerTree)
+after_right_action form t w (Ok y) = option_and_then (λ r. after_right_translation y r (act (left_type form) r.0 t.left)) (translate form Right t.comp w)
+after_right_action form t w (Err why) = Some (t, no_apply why.0 why.1)
 
 -- the triple after an entry, and the answer to it
 abbrev pub step : FormTree → TripleTree → Side → WordTree → Option (TripleTree × AnswerTree)
-step form t Left w = left_acted form t w (act (left_type form) w t.left)
-step form t Right w = right_acted form t w (act (right_type form) w t.right)
+step form t Left w = after_left_action form t w (act (left_type form) w t.left)
+step form t Right w = after_right_action form t w (act (right_type form) w t.right)

@@ -11,7 +11,7 @@ ghost use Rattle.editlens_main.specs.ComplementJson.{complement_json};
 ghost use Rattle.editlens_main.specs.Report.{answer_line, state_lines};
 ghost use Rattle.editlens_main.specs.Run.{is_refused};
 ghost use Rattle.editlens_main.specs.Step.{IsInStep};
-ghost use Rattle.editlens_main.specs.Telling.{CanBeTold};
+ghost use Rattle.editlens_main.specs.AnswerLines.{HasAnswerLine};
 ghost use Rattle.editlens_main.specs.Views.{triple_tree, answer_tree};
 
 use crate::complements::write_complement;
@@ -39,7 +39,7 @@ impl Answer {
 
 /// The answer line of the item with this number. Only want of memory is an error.
 pub fn answer_line(alloc: Global, number: u64, answer: &Answer) -> Result<Bytes, AllocError>
-    requires { CanBeTold (answer_tree answer.now) }
+    requires { HasAnswerLine (answer_tree answer.now) }
     ensures { IfOk result (λ line. line ≡ answer_line number (answer_tree answer.now)) }
 {
     match answer {
@@ -74,7 +74,7 @@ fn document_line(alloc: Global, label: &str, ty: &Ty, doc: &Doc) -> Result<Bytes
     tree_line(alloc, label, &tree)
 }
 
-#[tactic(auto, using(crate::proofs::NoFloats::complement_whole))]
+#[tactic(auto, using(crate::proofs::ComplementFloats::complement_whole))]
 fn complement_line(alloc: Global, comp: &Comp) -> Result<Bytes, AllocError>
     ensures { IfOk result (λ line. line ≡ tree_line (codes "complement") (complement_json (comp_tree comp.now))) }
 {

@@ -3,7 +3,7 @@ ghost use Rattle.std.specs.Prelude.{◌≡◌, MatchResult, IfOk, IsTrue, Ok};
 ghost use Rattle.lens_core.specs.Built.{is_paired_int};
 ghost use Rattle.lens_types.specs.Forms.{form_tree};
 ghost use Rattle.program_terms.specs.Views.{program_tree};
-ghost use Rattle.editlens_main.specs.Program.{built, checked, lens_of};
+ghost use Rattle.editlens_main.specs.Program.{form_for_command, form_of_program, lens_of};
 ghost use Rattle.editlens_main.specs.Refused.{IsRefusal};
 ghost use Rattle.editlens_main.specs.declared.words.Command;
 
@@ -46,33 +46,33 @@ pub fn read_lens(alloc: Global, command: Command, text: &[u8]) -> Result<Typed, 
 // The lens of a program.
 fn check_lens(alloc: Global, command: Command, program: &Program) -> Result<Typed, Refused>
     ensures lens { MatchResult result
-        (λ lens. checked command (Ok (program_tree program.now)) ≡ Ok (form_tree lens))
-        (λ refused. IsRefusal (checked command (Ok (program_tree program.now))) refused) }
+        (λ lens. form_of_program command (Ok (program_tree program.now)) ≡ Ok (form_tree lens))
+        (λ refused. IsRefusal (form_of_program command (Ok (program_tree program.now))) refused) }
     ensures built { IfOk result (λ lens. command ≡ Command.Run → IsTrue (is_paired_int (form_tree lens))) }
 {
     match check(alloc, program) {
-        Ok(lens) => built_lens(command, lens),
+        Ok(lens) => lens_for_command(command, lens),
         Err(TypeFault::NoMemory) => Err(Refused::NoMemory),
         Err(fault) => Err(Refused::Typing(fault)),
     }
 }
 
 // A lens that is typed, where the command can use it.
-fn built_lens(command: Command, lens: Typed) -> Result<Typed, Refused>
+fn lens_for_command(command: Command, lens: Typed) -> Result<Typed, Refused>
     ensures lens { MatchResult result
-        (λ lens'. built command (form_tree lens) ≡ Ok (form_tree lens')) (λ refused. IsRefusal (built command (form_tree lens)) refused) }
+        (λ lens'. form_for_command command (form_tree lens) ≡ Ok (form_tree lens')) (λ refused. IsRefusal (form_for_command command (form_tree lens)) refused) }
     ensures built { IfOk result (λ lens'. command ≡ Command.Run → IsTrue (is_paired_int (form_tree lens'))) }
 {
     match command {
-        Command::Run => carried_lens(lens),
+        Command::Run => lens_for_run(lens),
         Command::Check => Ok(lens),
     }
 }
 
 // A lens that is carried today.
-fn carried_lens(lens: Typed) -> Result<Typed, Refused>
+fn lens_for_run(lens: Typed) -> Result<Typed, Refused>
     ensures lens { MatchResult result
-        (λ lens'. built Command.Run (form_tree lens) ≡ Ok (form_tree lens')) (λ refused. IsRefusal (built Command.Run (form_tree lens)) refused) }
+        (λ lens'. form_for_command Command.Run (form_tree lens) ≡ Ok (form_tree lens')) (λ refused. IsRefusal (form_for_command Command.Run (form_tree lens)) refused) }
     ensures built { IfOk result (λ lens'. IsTrue (is_paired_int (form_tree lens'))) }
 {
     if is_built(lens.form()) {

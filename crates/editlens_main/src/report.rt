@@ -4,14 +4,14 @@ ghost use Rattle.lens_types.specs.Forms.{FormTree, form_tree};
 ghost use Rattle.lens_core.specs.Built.{is_paired_int};
 ghost use Rattle.edit_journal.specs.Lines.{line_of, is_blank};
 ghost use Rattle.edit_journal.specs.EntryJson.{entry_of_line};
-ghost use Rattle.editlens_main.specs.Lines.{cut, bare};
+ghost use Rattle.editlens_main.specs.Lines.{cut, up_to_line_end};
 ghost use Rattle.editlens_main.specs.Program.{Refusal, not_built};
 ghost use Rattle.editlens_main.specs.Refused.{IsKnown, IsRefusal};
 ghost use Rattle.editlens_main.specs.Report.{ending, report, refusal_line, report_with, run_report, type_lines};
 ghost use Rattle.editlens_main.specs.Run.{Item, take_item};
 ghost use Rattle.editlens_main.specs.Running.{items_among, report_at};
 ghost use Rattle.editlens_main.specs.Step.{IsInStep, first};
-ghost use Rattle.editlens_main.specs.Telling.{CanBeTold};
+ghost use Rattle.editlens_main.specs.AnswerLines.{HasAnswerLine};
 ghost use Rattle.editlens_main.specs.Views.{triple_tree, answer_tree};
 
 use crate::Status;
@@ -75,7 +75,7 @@ fn lens_report(
     journal: &[u8],
 ) -> Result<Report, AllocError>
     requires { command ≡ Command.Run → IsTrue (is_paired_int (form_tree lens.now)) }
-    ensures { IfOk result (λ r. report_with command (Ok (form_tree lens.now)) (items_among (map bare (cut journal.now))) ≡ Some (r.text.items, r.status)) }
+    ensures { IfOk result (λ r. report_with command (Ok (form_tree lens.now)) (items_among (map up_to_line_end (cut journal.now))) ≡ Some (r.text.items, r.status)) }
 {
     match command {
         Command::Run => run_journal(alloc, lens, journal),
@@ -100,8 +100,8 @@ fn type_report(alloc: Global, lens: &Typed) -> Result<Report, AllocError>
 // The report where the program part is refused. Want of memory is no refusal.
 fn refusal_report(alloc: Global, refused: &Refused) -> Result<Report, AllocError>
     requires { IsKnown refused.now }
-    ensures { IfOk result (λ r. (found : Result FormTree Refusal) (command : Command) (items : List Item) → IsRefusal found refused.now
-        → report_with command found items ≡ Some (r.text.items, r.status)) }
+    ensures { IfOk result (λ r. (outcome : Result FormTree Refusal) (command : Command) (items : List Item) → IsRefusal outcome refused.now
+        → report_with command outcome items ≡ Some (r.text.items, r.status)) }
 {
     match refused {
         Refused::Syntax(fault) => Ok(refused_with(syntax_line(alloc, fault)?)),
@@ -135,7 +135,7 @@ fn not_built_report(alloc: Global) -> Result<Report, AllocError>
 // The report of the items among the lines of a journal.
 fn run_journal(alloc: Global, lens: &Typed, journal: &[u8]) -> Result<Report, AllocError>
     requires { IsTrue (is_paired_int (form_tree lens.now)) }
-    ensures { IfOk result (λ r. run_report (form_tree lens.now) (items_among (map bare (cut journal.now))) ≡ Some (r.text.items, r.status)) }
+    ensures { IfOk result (λ r. run_report (form_tree lens.now) (items_among (map up_to_line_end (cut journal.now))) ≡ Some (r.text.items, r.status)) }
 {
     let most = journal.len() as u64;
     let mut running = Running {
@@ -179,7 +179,7 @@ fn first_triple(alloc: Global, lens: &Typed) -> Result<Triple, AllocError>
 }
 
 // Takes a line without its LF: a blank one is passed over, any other is an item.
-#[tactic(auto, using(crate::proofs::Reports::line_passed, crate::proofs::Reports::line_taken))]
+#[tactic(auto, using(crate::proofs::RunReports::blank_line_step, crate::proofs::RunReports::line_step))]
 fn take_line(
     alloc: Global,
     lens: &Typed,
@@ -219,9 +219,9 @@ fn take_item(
     let mut triple = running.triple;
     let answer = answer_to(alloc, lens, &mut triple, line)?;
     let number = running.number + 1;
-    let said = answer_line(alloc, number, &answer)?;
+    let next_line = answer_line(alloc, number, &answer)?;
     let mut text = running.text;
-    text.extend_from_slice(said.as_slice())?;
+    text.extend_from_slice(next_line.as_slice())?;
     let refused = either(running.refused, answer.is_refused());
     Ok(Running {
         triple,
@@ -248,7 +248,7 @@ fn answer_to(
     requires in_step { IsInStep (form_tree lens.now) (triple_tree triple.old) }
     ensures answer { IfOk result (λ answer. take_item (form_tree lens.now) (triple_tree triple.old) (entry_of_line line.now)
         ≡ Some (triple_tree triple.new, answer_tree answer)) }
-    ensures told { IfOk result (λ answer. CanBeTold (answer_tree answer)) }
+    ensures has_line { IfOk result (λ answer. HasAnswerLine (answer_tree answer)) }
 {
     match read_entry(alloc, line) {
         Ok(entry) => step(alloc, lens, triple, &entry),

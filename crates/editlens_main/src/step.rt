@@ -4,8 +4,8 @@ ghost use Rattle.edit_json.specs.WordJson.{counts_fit};
 ghost use Rattle.edit_module.specs.Views.{word_tree};
 ghost use Rattle.lens_types.specs.Forms.{form_tree};
 ghost use Rattle.lens_core.specs.Built.{is_paired_int};
-ghost use Rattle.editlens_main.specs.Step.{IsInStep, step, left_acted};
-ghost use Rattle.editlens_main.specs.Telling.{CanBeTold};
+ghost use Rattle.editlens_main.specs.Step.{IsInStep, step, after_left_action};
+ghost use Rattle.editlens_main.specs.AnswerLines.{HasAnswerLine};
 ghost use Rattle.editlens_main.specs.Views.{triple_tree, answer_tree};
 
 use doc_values::Doc;
@@ -46,7 +46,7 @@ pub fn step(
     requires fits { counts_fit (word_tree entry.now.word) ≡ true }
     ensures steps { IfOk result (λ answer. step (form_tree lens.now) (triple_tree triple.old) entry.now.side (word_tree entry.now.word)
         ≡ Some (triple_tree triple.new, answer_tree answer)) }
-    ensures told { IfOk result (λ answer. CanBeTold (answer_tree answer)) }
+    ensures has_line { IfOk result (λ answer. HasAnswerLine (answer_tree answer)) }
     ensures err { OnErr result (triple.new ≡ triple.old) }
 {
     match entry.side {
@@ -67,7 +67,7 @@ fn step_left(
     requires fits { counts_fit (word_tree word.now) ≡ true }
     ensures steps { IfOk result (λ answer. step (form_tree lens.now) (triple_tree triple.old) Side.Left (word_tree word.now)
         ≡ Some (triple_tree triple.new, answer_tree answer)) }
-    ensures told { IfOk result (λ answer. CanBeTold (answer_tree answer)) }
+    ensures has_line { IfOk result (λ answer. HasAnswerLine (answer_tree answer)) }
     ensures err { OnErr result (triple.new ≡ triple.old) }
 {
     let left = match act(alloc, lens.left(), word, &triple.left) {
@@ -107,7 +107,7 @@ fn step_right(
     requires fits { counts_fit (word_tree word.now) ≡ true }
     ensures steps { IfOk result (λ answer. step (form_tree lens.now) (triple_tree triple.old) Side.Right (word_tree word.now)
         ≡ Some (triple_tree triple.new, answer_tree answer)) }
-    ensures told { IfOk result (λ answer. CanBeTold (answer_tree answer)) }
+    ensures has_line { IfOk result (λ answer. HasAnswerLine (answer_tree answer)) }
     ensures err { OnErr result (triple.new ≡ triple.old) }
 {
     let right = match act(alloc, lens.right(), word, &triple.right) {

@@ -1,6 +1,6 @@
 // The command line.
 ghost use Rattle.std.specs.Prelude.{◌≡◌};
-ghost use Rattle.editlens_main.specs.Words.{command_of, named};
+ghost use Rattle.editlens_main.specs.Words.{command_of, command_named};
 
 /// What is written where the words name no command.
 pub const USAGE: &str = "usage: editlens run|check|init|apply|show|verify|pack|gen N SEED\n";
@@ -19,13 +19,13 @@ pub fn read_command(words: &[String]) -> Option<Command>
     ensures { result ≡ command_of words.now }
 {
     match words {
-        [_, word] => named(word.as_str()),
+        [_, word] => command_named(word.as_str()),
         _ => None,
     }
 }
 
-fn named(word: &str) -> Option<Command>
-    ensures { result ≡ named word.now }
+fn command_named(word: &str) -> Option<Command>
+    ensures { result ≡ command_named word.now }
 {
     match word {
         "run" => Some(Command::Run),

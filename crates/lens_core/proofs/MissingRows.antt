@@ -8,7 +8,7 @@ use Rattle.lens_types.specs.declared.form.FormRow.{FormRow}
 use Rattle.lens_types.specs.declared.form.FormRow.TheVariants.{Both, OnlyLeft, OnlyRight}
 use Rattle.lens_core.specs.Complements.{CompTree, comps_of, comp_list, comp_tree, missing, missing_rows}
 use Rattle.lens_core.specs.declared.comp.Comp.{Comp}
-use Rattle.lens_core.proofs.Lists.{comps_of-comp_list, row_tree-both, row_tree-left, row_tree-right}
+use Rattle.lens_core.proofs.ComplementTrees.{comps_of-comp_list, row_tree-both, row_tree-left, row_tree-right}
 
 -- the missing complements of the rows from one on
 abbrev pub missing_from : List FormRow → ℕ → List CompTree

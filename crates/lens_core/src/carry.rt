@@ -85,7 +85,7 @@ pub fn record_carry(
 }
 
 // What one primitive is carried to. The complement stays.
-#[tactic(auto, using(crate::proofs::Carries::one_rules))]
+#[tactic(auto, using(crate::proofs::CarriedWords::one_rules))]
 fn carry_one(
     alloc: Global,
     form: &Form,
@@ -115,7 +115,7 @@ fn carry_one(
 }
 
 // Whether the identity passes on a word: at a complement other than Nil the empty one alone.
-#[tactic(auto, using(crate::proofs::Carries::word_rules))]
+#[tactic(auto, using(crate::proofs::CarriedWords::word_rules))]
 fn is_passed(part: &Comp, inner: &Word) -> bool
     ensures { result ≡ passes (comp_tree part.now) (word_tree inner.now) }
 {
@@ -126,7 +126,7 @@ fn is_passed(part: &Comp, inner: &Word) -> bool
 }
 
 // An At of a field with a word inside, left out where that word is empty.
-#[tactic(auto, using(crate::proofs::Carries::word_rules))]
+#[tactic(auto, using(crate::proofs::CarriedWords::word_rules))]
 fn in_field(alloc: Global, field: &Name, inner: &Word) -> Result<Word, AllocError>
     ensures { IfOk result (λ w. word_tree w ≡ at_word field.now (word_tree inner.now)) }
 {
@@ -149,7 +149,7 @@ fn ends<'a>(side: Side, left: &'a Name, right: &'a Name) -> (&'a Name, &'a Name)
 }
 
 // The part of a record's complement, where it has one and no more.
-#[tactic(auto, using(crate::proofs::Carries::part_rules))]
+#[tactic(auto, using(crate::proofs::CarriedWords::part_rules))]
 fn only_part(comp: &Comp) -> Option<&Comp>
     ensures { MatchOption result
         (only_part (comp_tree comp.now) ≡ None)

@@ -1,7 +1,7 @@
 use Rattle.std.proofs.Common.{◌≡◌, ◌++◌, map, drop}
 use Rattle.lens_types.specs.Forms.{form_tree, row_tree, rows_of, rows_tree}
 use Rattle.lens_core.specs.Complements.{comp_tree, comp_list, missing_rows}
-use Rattle.lens_core.proofs.Sizes.{form_size, rows_size}
+use Rattle.lens_core.proofs.FormSizes.{form_size, rows_size}
 use Rattle.lens_core.proofs.comp.+missing.Given as goal
 
 abbrev pub decreases-missing : goal.decreases-missing

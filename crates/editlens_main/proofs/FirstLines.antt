@@ -3,7 +3,7 @@ use Rattle.std.proofs.Common.{◌≡◌, ℕ, suc, ◌+◌, ◌<◌, ◌≤◌, 
 use Rattle.std.proofs.lemmas.List.{take_all}
 use borrow.Author.Tests.{ltb-true}
 use Rattle.std.specs.List.{position, position_or_len, onto_first}
-use Rattle.editlens_main.specs.Lines.{cut, bare}
+use Rattle.editlens_main.specs.Lines.{cut, up_to_line_end}
 
 abbrev feed : ℕ → Bool
 feed byte = byte == 10
@@ -36,10 +36,10 @@ cut-no_feed x (y ∷ xs) h =
       | false ↦ λ past. ap (onto_first x) (cut-no_feed y xs (omega arith))
     ] h
 
-bare-before : (xs : List ℕ) → bare xs ≡ take (before xs) xs
-bare-before [] = refl
-bare-before (x ∷ xs) =
-    elim (x == 10) as (λ b. cond b [] (x ∷ bare xs) ≡ take (cond b 0 (suc (before xs))) (x ∷ xs)) [ true ↦ refl | false ↦ ap (λ ys. x ∷ ys) (bare-before xs) ]
+up_to_line_end-before : (xs : List ℕ) → up_to_line_end xs ≡ take (before xs) xs
+up_to_line_end-before [] = refl
+up_to_line_end-before (x ∷ xs) =
+    elim (x == 10) as (λ b. cond b [] (x ∷ up_to_line_end xs) ≡ take (cond b 0 (suc (before xs))) (x ∷ xs)) [ true ↦ refl | false ↦ ap (λ ys. x ∷ ys) (up_to_line_end-before xs) ]
 
 found : (b : Bool) (n i : ℕ) → Some i ≡ cond b (Some n) None → (b ≡ true) × (i ≡ n)
 found true n i h = (refl, let e : i ≡ n = cc in e)
@@ -67,8 +67,8 @@ pub cut_whole : (xs : List ℕ) → None ≡ position feed xs → 0 < length xs 
 cut_whole [] h some = absurd (omega arith)
 cut_whole (x ∷ xs) h some = cut-no_feed x xs (omega (arith, none (x ∷ xs) h))
 
-pub bare_at : (xs : List ℕ) (i : ℕ) → Some i ≡ position feed xs → bare xs ≡ take i xs
-bare_at xs i h = rw (first xs i h).1 (bare-before xs)
+pub up_to_line_end_at : (xs : List ℕ) (i : ℕ) → Some i ≡ position feed xs → up_to_line_end xs ≡ take i xs
+up_to_line_end_at xs i h = rw (first xs i h).1 (up_to_line_end-before xs)
 
-pub bare_whole : (xs : List ℕ) → None ≡ position feed xs → bare xs ≡ xs
-bare_whole xs h = bare-before xs ∙ take_all (before xs) xs (none xs h)
+pub up_to_line_end_whole : (xs : List ℕ) → None ≡ position feed xs → up_to_line_end xs ≡ xs
+up_to_line_end_whole xs h = up_to_line_end-before xs ∙ take_all (before xs) xs (none xs h)

@@ -18,7 +18,7 @@ use Rattle.lens_core.specs.Complements.{CompTree, nil, rec_comp, CompTrees, no_c
 use Rattle.lens_core.specs.Consistency.{IsConsistent, AreConsistent, content}
 use Rattle.lens_core.specs.Translation.{near, far, at_word, in_turn, translate_one, translate}
 use Rattle.lens_core.specs.Laws.{StartsConsistent, LeftEditsCarry, RightEditsCarry}
-use Rattle.lens_core.proofs.Steps.{acts_then, joined_acts}
+use Rattle.lens_core.proofs.WordSteps.{acts_then, joined_acts}
 
 pub bytes_eq-refl : (n : List ℕ) → bytes_eq n n ≡ true
 bytes_eq-refl n = (bytes_eq-Decides n n).1 refl

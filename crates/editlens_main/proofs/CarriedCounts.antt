@@ -9,7 +9,7 @@ use Rattle.lens_types.specs.Forms.{FormTree, form_id}
 use Rattle.lens_core.specs.Built.{paired_int, is_paired_int}
 use Rattle.lens_core.specs.Complements.{CompTree, nil, rec_comp, CompTrees, no_comps, more_comps}
 use Rattle.lens_core.specs.Translation.{Translated, at_word, behind, in_turn, in_row, past_row, in_record, translate_one, translate}
-use Rattle.lens_core.proofs.Lawful.{paired_fields}
+use Rattle.lens_core.proofs.LensLaws.{paired_fields}
 
 and_left : (a b : Bool) → (a && b) ≡ true → a ≡ true
 and_left true b h = refl

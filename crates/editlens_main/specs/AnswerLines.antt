@@ -5,11 +5,11 @@ use Rattle.edit_journal.specs.declared.fault.EntryFault.TheVariants.{LineTooLong
 use Rattle.editlens_main.specs.Step.{AnswerTree, carried, no_apply, no_entry}
 
 -- a word that is told has a tree: its counts fit; want of memory is no fault of a line
-abbrev pub CanBeTold : AnswerTree → Type 0
-CanBeTold (carried side w) = counts_fit w ≡ true
-CanBeTold (no_apply at cause) = Unit {0}
-CanBeTold (no_entry LineTooLong) = Unit {0}
-CanBeTold (no_entry NotJson) = Unit {0}
-CanBeTold (no_entry NotAnEntry) = Unit {0}
-CanBeTold (no_entry NotAnEdit) = Unit {0}
-CanBeTold (no_entry NoMemory) = ⊥
+abbrev pub HasAnswerLine : AnswerTree → Type 0
+HasAnswerLine (carried side w) = counts_fit w ≡ true
+HasAnswerLine (no_apply at cause) = Unit {0}
+HasAnswerLine (no_entry LineTooLong) = Unit {0}
+HasAnswerLine (no_entry NotJson) = Unit {0}
+HasAnswerLine (no_entry NotAnEntry) = Unit {0}
+HasAnswerLine (no_entry NotAnEdit) = Unit {0}
+HasAnswerLine (no_entry NoMemory) = ⊥

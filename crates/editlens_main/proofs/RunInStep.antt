@@ -12,8 +12,8 @@ use Rattle.lens_types.specs.Forms.{FormTree, left_type, right_type}
 use Rattle.lens_core.specs.Built.{is_paired_int}
 use Rattle.lens_core.specs.Complements.{CompTree}
 use Rattle.lens_core.specs.Translation.{translate}
-use Rattle.lens_core.proofs.Lawful.{starts_consistent, consistent_is_typed, left_edits_carry, right_edits_carry}
-use Rattle.editlens_main.specs.Step.{TripleTree, first, IsInStep, AnswerTree, carried, left_acted, right_acted}
+use Rattle.lens_core.proofs.LensLaws.{starts_consistent, consistent_is_typed, left_edits_carry, right_edits_carry}
+use Rattle.editlens_main.specs.Step.{TripleTree, first, IsInStep, AnswerTree, carried, after_left_action, after_right_action}
 use Rattle.editlens_main.specs.Run.{Item, take_item, run, triples}
 
 -- a step has a value, and its triple is in step
@@ -48,14 +48,14 @@ module _ (form : FormTree) (built : IsTrue (is_paired_int form)) where
       apart (ap (λ (p : WordTree × CompTree). act (left_type form) p.0 t.left) (only r.carried some)) r.acts refused
 
   left_steps : (t : TripleTree) (w : WordTree) → IsInStep form t → (r : Result DocTree Why) → act (left_type form) w t.left ≡ r
-      → (s : TripleTree × AnswerTree) × (left_acted form t w r ≡ Some s) × IsInStep form s.0
+      → (s : TripleTree × AnswerTree) × (after_left_action form t w r ≡ Some s) × IsInStep form s.0
   left_steps t w h (Ok x) is =
       let c = left_edits_carry form built t.left t.comp t.right w x h is in
       ((record { left = x; comp = c.comp; right = c.right }, carried Right c.word), rw (c.carried, c.acts) refl, c.consistent)
   left_steps t w h (Err why) is = ((t, _), refl, h)
 
   right_steps : (t : TripleTree) (w : WordTree) → IsInStep form t → (r : Result DocTree Why) → act (right_type form) w t.right ≡ r
-      → (s : TripleTree × AnswerTree) × (right_acted form t w r ≡ Some s) × IsInStep form s.0
+      → (s : TripleTree × AnswerTree) × (after_right_action form t w r ≡ Some s) × IsInStep form s.0
   right_steps t w h (Ok y) is =
       let c = right_edits_carry form built t.left t.comp t.right w y h is in
       ((record { left = c.left; comp = c.comp; right = y }, carried Left c.word), rw (c.carried, c.acts) refl, c.consistent)

@@ -3,7 +3,7 @@ use Rattle.std.proofs.Common.{◌≡◌, ℕ, ◌+◌, ◌-◌, ◌≤◌, List,
 use Rattle.std.proofs.lemmas.List.{length-take, length-drop, take_all}
 use Rattle.std.proofs.Math.Seq.{take-append_seam, drop-append_seam}
 use Rattle.std.specs.List.{concat}
-use Rattle.editlens_main.specs.Lines.{cut, bare, is_separator, lines_before, lines_behind, program_part}
+use Rattle.editlens_main.specs.Lines.{cut, up_to_line_end, is_separator, lines_before, lines_behind, program_part}
 
 -- what is left behind a place, as a slice has it
 pub tail : (xs : List ℕ) (i : ℕ) → take (length xs - i) (drop i xs) ≡ drop i xs
@@ -26,7 +26,7 @@ module _ (bytes line rest : List ℕ) (at : ℕ) (within : at ≤ length bytes) 
   line_within = omega (arith, ap length whole, length-append (take at bytes ++ line) rest, front)
 
   -- a line that is no separator goes to the program part
-  pub part_more : cut (drop at bytes) ≡ line ∷ cut rest → is_separator (bare line) ≡ false
+  pub part_more : cut (drop at bytes) ≡ line ∷ cut rest → is_separator (up_to_line_end line) ≡ false
       → program_part bytes ≡ take at bytes ++ concat (lines_before (cut (drop at bytes)))
       → program_part bytes ≡ take (at + length line) bytes ++ concat (lines_before (cut (drop (at + length line) bytes)))
   part_more first plain h =
@@ -35,7 +35,7 @@ module _ (bytes line rest : List ℕ) (at : ℕ) (within : at ≤ length bytes) 
       ∙ sym (append_assoc (take at bytes) line (concat (lines_before (cut rest))))
       ∙ ap₂ (λ t r. t ++ concat (lines_before (cut r))) (sym take_line) (sym drop_line)
 
-  pub behind_more : cut (drop at bytes) ≡ line ∷ cut rest → is_separator (bare line) ≡ false
+  pub behind_more : cut (drop at bytes) ≡ line ∷ cut rest → is_separator (up_to_line_end line) ≡ false
       → lines_behind (cut bytes) ≡ lines_behind (cut (drop at bytes))
       → lines_behind (cut bytes) ≡ lines_behind (cut (drop (at + length line) bytes))
   behind_more first plain h =

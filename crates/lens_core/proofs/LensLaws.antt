@@ -7,8 +7,8 @@ use Rattle.lens_core.specs.Built.{is_paired_int}
 use Rattle.lens_core.specs.Complements.{nil, rec_comp}
 use Rattle.lens_core.specs.Translation.{translate_one}
 use Rattle.lens_core.specs.Laws.{StartsConsistent, ConsistentIsTyped, LeftEditsCarry, RightEditsCarry, EmptyStays, WordsCompose}
-use Rattle.lens_core.proofs.Paired.{paired_starts, paired_left_edits, paired_right_edits}
-use Rattle.lens_core.proofs.Turns.{in_turn-joined}
+use Rattle.lens_core.proofs.PairedRecord.{paired_starts, paired_left_edits, paired_right_edits}
+use Rattle.lens_core.proofs.WordTranslation.{in_turn-joined}
 pub use Rattle.lens_core.proofs.BuiltForms.{IsPairedInt, paired_fields}
 
 pub starts_consistent : (form : FormTree) → IsTrue (is_paired_int form) → StartsConsistent form

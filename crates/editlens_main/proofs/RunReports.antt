@@ -3,7 +3,7 @@ use Rattle.std.proofs.Common.{◌≡◌, ℕ, ◌+◌, List, [], ◌∷◌, ◌+
 use Rattle.lens_types.specs.Forms.{FormTree}
 use Rattle.edit_journal.specs.Lines.{line_of, is_blank}
 use Rattle.edit_journal.specs.EntryJson.{entry_of_line}
-use Rattle.editlens_main.specs.Lines.{cut, bare, journal_of, lines_behind, program_part}
+use Rattle.editlens_main.specs.Lines.{cut, up_to_line_end, journal_of, lines_behind, program_part}
 use Rattle.std.specs.Prelude.{IfOk}
 use Rattle.editlens_main.specs.Program.{Refusal, lens_of}
 use Rattle.editlens_main.specs.Refused.{IsRefusal, IsKnown}
@@ -21,13 +21,13 @@ use Rattle.editlens_main.specs.declared.status.Status.TheVariants.{ProgramRefuse
 use Rattle.editlens_main.specs.declared.report.Running.{Running}
 
 -- the items among the lines are those of the journal
-pub items_among-bare : (lines : List (List ℕ)) → items_among (map bare lines) ≡ map entry_of_line (journal_of lines)
-items_among-bare [] = refl
-items_among-bare (l ∷ ls) =
-    elim (is_blank (line_of (bare l))) as (λ b. cond b (items_among (map bare ls)) (entry_of_line (line_of (bare l)) ∷ items_among (map bare ls))
-    ≡ map entry_of_line (cond (not b) (line_of (bare l) ∷ journal_of ls) (journal_of ls))) [
-      | true ↦ items_among-bare ls
-      | false ↦ ap (λ items. entry_of_line (line_of (bare l)) ∷ items) (items_among-bare ls)
+pub items_among-lines : (lines : List (List ℕ)) → items_among (map up_to_line_end lines) ≡ map entry_of_line (journal_of lines)
+items_among-lines [] = refl
+items_among-lines (l ∷ ls) =
+    elim (is_blank (line_of (up_to_line_end l))) as (λ b. cond b (items_among (map up_to_line_end ls)) (entry_of_line (line_of (up_to_line_end l)) ∷ items_among (map up_to_line_end ls))
+    ≡ map entry_of_line (cond (not b) (line_of (up_to_line_end l) ∷ journal_of ls) (journal_of ls))) [
+      | true ↦ items_among-lines ls
+      | false ↦ ap (λ items. entry_of_line (line_of (up_to_line_end l)) ∷ items) (items_among-lines ls)
     ]
 
 or_assoc : (a b c : Bool) → (a || (b || c)) ≡ ((a || b) || c)
@@ -61,25 +61,25 @@ two_texts text line None = refl
 two_texts text line (Some r) = ap (λ x. Some (x, r.1)) (sym (append_assoc text line r.0))
 
 -- an item that is taken
-pub item_taken : (form : FormTree) (old new : Running) (item : Item) (a : AnswerTree) (items : List Item)
+pub item_step : (form : FormTree) (old new : Running) (item : Item) (a : AnswerTree) (items : List Item)
     → take_item form (triple_tree old.triple) item ≡ Some (triple_tree new.triple, a) → new.number ≡ old.number + 1
     → new.refused ≡ (old.refused || is_refused a) → new.text.items ≡ old.text.items ++ answer_line new.number a
     → report_at form old (item ∷ items) ≡ report_at form new items
-item_taken form old new item a items taken number refused text =
+item_step form old new item a items taken number refused text =
     ap (option_map (behind_text old.text.items)) (item_first form (triple_tree old.triple) (triple_tree new.triple) (old.number + 1) old.refused a item items taken)
     ∙ two_texts old.text.items (answer_line (old.number + 1) a) (report_from form (triple_tree new.triple) (old.number + 1 + 1) (old.refused || is_refused a) items)
     ∙ ap (λ n. option_map (behind_text (old.text.items ++ answer_line n a)) (report_from form (triple_tree new.triple) (n + 1) (old.refused || is_refused a) items)) (sym number)
     ∙ ap₂ (λ x b. option_map (behind_text x) (report_from form (triple_tree new.triple) (new.number + 1) b items)) (sym text) (sym refused)
 
 -- a blank line is passed over, and any other is an item
-pub line_passed : (form : FormTree) (r : Running) (line : List ℕ) (lines : List (List ℕ)) → is_blank (line_of line) ≡ true
+pub blank_line_step : (form : FormTree) (r : Running) (line : List ℕ) (lines : List (List ℕ)) → is_blank (line_of line) ≡ true
     → report_at form r (items_among (line ∷ lines)) ≡ report_at form r (items_among lines)
-line_passed form r line lines blank = ap (λ b. report_at form r (cond b (items_among lines) (entry_of_line (line_of line) ∷ items_among lines))) blank
+blank_line_step form r line lines blank = ap (λ b. report_at form r (cond b (items_among lines) (entry_of_line (line_of line) ∷ items_among lines))) blank
 
-pub line_taken : (form : FormTree) (old new : Running) (line : List ℕ) (lines : List (List ℕ)) → is_blank (line_of line) ≡ false
+pub line_step : (form : FormTree) (old new : Running) (line : List ℕ) (lines : List (List ℕ)) → is_blank (line_of line) ≡ false
     → report_at form old (entry_of_line (line_of line) ∷ items_among lines) ≡ report_at form new (items_among lines)
     → report_at form old (items_among (line ∷ lines)) ≡ report_at form new (items_among lines)
-line_taken form old new line lines full taken =
+line_step form old new line lines full taken =
     ap (λ b. report_at form old (cond b (items_among lines) (entry_of_line (line_of line) ∷ items_among lines))) full ∙ taken
 
 -- behind the last line the state lines follow
@@ -99,16 +99,16 @@ at_start form r items triple number refused text =
     ∙ ap₂ (λ t b. report_from form t 1 b items) triple refused
 
 -- the report of the items among the lines behind the separator is that of the whole input
-pub of_parts : (command : Command) (bytes program lines : List ℕ) (found : Result FormTree Refusal) (answer : List ℕ × Status) → program ≡ program_part bytes → lens_of command program ≡ found
-    → cut lines ≡ lines_behind (cut bytes) → report_with command found (items_among (map bare (cut lines))) ≡ Some answer → report command bytes ≡ Some answer
-of_parts command bytes program lines found answer is lens behind run =
-    let items : items_of bytes ≡ items_among (map bare (cut lines)) =
-    sym (items_among-bare (lines_behind (cut bytes))) ∙ ap (λ ls. items_among (map bare ls)) (sym behind) in
+pub of_parts : (command : Command) (bytes program lines : List ℕ) (outcome : Result FormTree Refusal) (answer : List ℕ × Status) → program ≡ program_part bytes → lens_of command program ≡ outcome
+    → cut lines ≡ lines_behind (cut bytes) → report_with command outcome (items_among (map up_to_line_end (cut lines))) ≡ Some answer → report command bytes ≡ Some answer
+of_parts command bytes program lines outcome answer is lens behind run =
+    let items : items_of bytes ≡ items_among (map up_to_line_end (cut lines)) =
+    sym (items_among-lines (lines_behind (cut bytes))) ∙ ap (λ ls. items_among (map up_to_line_end ls)) (sym behind) in
     ap₂ (report_with command) (ap (lens_of command) (sym is) ∙ lens) items ∙ run
 
 -- the line of a refusal is the report, whatever the items
 pub refused_parts : (command : Command) (bytes program lines : List ℕ) (answer : List ℕ × Status) → program ≡ program_part bytes → cut lines ≡ lines_behind (cut bytes)
-    → report_with command (lens_of command program) (items_among (map bare (cut lines))) ≡ Some answer → report command bytes ≡ Some answer
+    → report_with command (lens_of command program) (items_among (map up_to_line_end (cut lines))) ≡ Some answer → report command bytes ≡ Some answer
 refused_parts command bytes program lines answer is behind run = of_parts command bytes program lines (lens_of command program) answer is refl behind run
 
 -- the report of a program part that is refused is the line of the refusal
@@ -117,16 +117,16 @@ refused_is : (command : Command) (r : Refusal) (items : List Item) → report_wi
 refused_is Run r items = refl
 refused_is Check r items = refl
 
-pub refused_report : (command : Command) (found : Result FormTree Refusal) (items : List Item) (r : Refusal) (text : List ℕ) (status : Status) → found ≡ Err r → text ≡ refusal_line r → status ≡ ProgramRefused
-    → report_with command found items ≡ Some (text, status)
-refused_report command found items r text status is line ends =
+pub refused_report : (command : Command) (outcome : Result FormTree Refusal) (items : List Item) (r : Refusal) (text : List ℕ) (status : Status) → outcome ≡ Err r → text ≡ refusal_line r → status ≡ ProgramRefused
+    → report_with command outcome items ≡ Some (text, status)
+refused_report command outcome items r text status is line ends =
     ap (λ f. report_with command f items) is ∙ refused_is command r items ∙ ap₂ (λ x s. Some (x, s)) (sym line) (sym ends)
 
-pub known : (found : Result FormTree Refusal) (refused : Refused) → IsRefusal found refused → IsKnown refused
-known found (Syntax fault) h = h.1
-known found (Typing fault) h = h.known
-known found NotBuilt h = tt
-known found NoMemory h = tt
+pub known : (outcome : Result FormTree Refusal) (refused : Refused) → IsRefusal outcome refused → IsKnown refused
+known outcome (Syntax fault) h = h.1
+known outcome (Typing fault) h = h.known
+known outcome NotBuilt h = tt
+known outcome NoMemory h = tt
 
 -- what holds of a value holds of another
 pub if_ok : {A E : Type 0} (r : Result A E) (P Q : A → Type 0) → ((a : A) → P a → Q a) → IfOk r P → IfOk r Q

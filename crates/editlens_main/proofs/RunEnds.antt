@@ -15,35 +15,35 @@ use Rattle.lens_syntax.specs.Programs.{bounded}
 use Rattle.lens_syntax.specs.declared.fault.ProgramFault.{ProgramFault}
 use Rattle.lens_types.specs.Checking.{Failure, first_failure}
 use Rattle.lens_types.specs.Earlier.{main_form}
-use Rattle.editlens_main.specs.Program.{Refusal, not_built, typed, checked, lens_of}
+use Rattle.editlens_main.specs.Program.{Refusal, not_built, form_without_failure, form_of_program, lens_of}
 use Rattle.editlens_main.specs.Step.{TripleTree, first, AnswerTree}
 use Rattle.editlens_main.specs.Report.{items_of, answer_lines, state_lines, type_lines, ending, report_with, report, refusal_line}
 use Rattle.editlens_main.specs.Run.{Item, run, last, any_refused}
 use Rattle.editlens_main.specs.Ends.{IsFinished, StaysInStep, Reports, IsCleanStop, Stops, IsComplete}
-use Rattle.editlens_main.proofs.InStep.{triples_in_step}
+use Rattle.editlens_main.proofs.RunInStep.{triples_in_step}
 use Rattle.editlens_main.specs.declared.words.Command.{Command}
 use Rattle.editlens_main.specs.declared.words.Command.TheVariants.{Run, Check}
 use Rattle.editlens_main.specs.declared.status.Status.{Status}
 use Rattle.editlens_main.specs.declared.status.Status.TheVariants.{Done, SomeRefused, Usage, ProgramRefused, SourceFault, SinkFault, InputTooLong, NoMemory}
 
 -- the lens of a run is one that is carried today
-abbrev given : FormTree → Result FormTree Refusal
-given f = Ok f
+abbrev accepts : FormTree → Result FormTree Refusal
+accepts f = Ok f
 
-built_run : (form f : FormTree) (b : Bool) → is_paired_int form ≡ b → cond b (Ok form) (Err not_built) ≡ given f → IsTrue (is_paired_int f)
-built_run form f true is h = let same : form ≡ f = cc in subst (λ g. IsTrue (is_paired_int g)) same is
-built_run form f false is h = absurd cc
+run_form_is_paired : (form f : FormTree) (b : Bool) → is_paired_int form ≡ b → cond b (Ok form) (Err not_built) ≡ accepts f → IsTrue (is_paired_int f)
+run_form_is_paired form f true is h = let same : form ≡ f = cc in subst (λ g. IsTrue (is_paired_int g)) same is
+run_form_is_paired form f false is h = absurd cc
 
-typed_run : (program : ProgramTree) (o : Option Failure) (f : FormTree) → typed Run program o ≡ Ok f → IsTrue (is_paired_int f)
-typed_run program None f h = built_run (main_form program) f (is_paired_int (main_form program)) refl h
-typed_run program (Some failure) f h = absurd cc
+run_program_is_paired : (program : ProgramTree) (o : Option Failure) (f : FormTree) → form_without_failure Run program o ≡ Ok f → IsTrue (is_paired_int f)
+run_program_is_paired program None f h = run_form_is_paired (main_form program) f (is_paired_int (main_form program)) refl h
+run_program_is_paired program (Some failure) f h = absurd cc
 
-checked_run : (r : Result ProgramTree ProgramFault) (f : FormTree) → checked Run r ≡ Ok f → IsTrue (is_paired_int f)
-checked_run (Ok program) f h = typed_run program (first_failure program) f h
-checked_run (Err fault) f h = absurd cc
+run_result_is_paired : (r : Result ProgramTree ProgramFault) (f : FormTree) → form_of_program Run r ≡ Ok f → IsTrue (is_paired_int f)
+run_result_is_paired (Ok program) f h = run_program_is_paired program (first_failure program) f h
+run_result_is_paired (Err fault) f h = absurd cc
 
-pub built : (text : List ℕ) (f : FormTree) → lens_of Run text ≡ Ok f → IsTrue (is_paired_int f)
-built text f h = checked_run (bounded text) f h
+pub form_for_command : (text : List ℕ) (f : FormTree) → lens_of Run text ≡ Ok f → IsTrue (is_paired_int f)
+run_lens_is_paired text f h = run_result_is_paired (bounded text) f h
 
 finished : (b : Bool) → IsFinished (ending b)
 finished true = inr refl
@@ -55,13 +55,13 @@ mapped f (Some x) y h = (x, refl, let e : f x ≡ y = cc in e)
 
 -- A report of an accepted program part ends with `Done` or `SomeRefused`; any other is the line of a refusal.
 abbrev pub Accepted : Result FormTree Refusal → Status → Type 0
-Accepted found status = (f : FormTree) × (found ≡ Ok f) × IsFinished status
+Accepted outcome status = (f : FormTree) × (outcome ≡ Ok f) × IsFinished status
 
 abbrev pub Refuses : Result FormTree Refusal → List ℕ → Status → Type 0
-Refuses found text status = (r : Refusal) × (found ≡ Err r) × (text ≡ refusal_line r) × (status ≡ ProgramRefused)
+Refuses outcome text status = (r : Refusal) × (outcome ≡ Err r) × (text ≡ refusal_line r) × (status ≡ ProgramRefused)
 
-pub ended : (command : Command) (found : Result FormTree Refusal) (items : List Item) (text : List ℕ) (status : Status) → report_with command found items ≡ Some (text, status)
-    → Accepted found status ⊎ Refuses found text status
+pub ended : (command : Command) (outcome : Result FormTree Refusal) (items : List Item) (text : List ℕ) (status : Status) → report_with command outcome items ≡ Some (text, status)
+    → Accepted outcome status ⊎ Refuses outcome text status
 ended Run (Ok form) items text status h =
     let answer : List (TripleTree × AnswerTree) → List ℕ × Status =
     λ steps. (answer_lines 1 steps ++ state_lines form (last (first form) steps), ending (any_refused steps)) in
@@ -97,7 +97,7 @@ module _ (command : Command) (left left' held held' : Option (List ℕ)) where
       → IsCleanStop command left left' held held' t.bytes status → Stops command left left' held held' status
   stops r status t whole other clean = record {
     bytes = t.bytes;
-    taken = t.taken;
+    consumes = t.consumes;
     at_most = t.at_most;
     too_long = ((λ e. absurd (other e)), (λ more. absurd (whole (t.too_long.1 more))));
     clean = clean;
@@ -132,7 +132,7 @@ module _ (command : Command) (left left' held held' : Option (List ℕ)) where
 
 -- every triple of a run stays in step
 stays : (command : Command) (text : List ℕ) (f : FormTree) (items : List Item) → lens_of command text ≡ Ok f → StaysInStep command f items
-stays Run text f items h = triples_in_step f (built text f h) items
+stays Run text f items h = triples_in_step f (run_lens_is_paired text f h) items
 stays Check text f items h = tt
 
 module _ (command : Command) (left left' held held' : Option (List ℕ)) where
@@ -141,14 +141,14 @@ module _ (command : Command) (left left' held held' : Option (List ℕ)) where
   reports_kind t text status h given fin (inl (f, some, is)) =
       record {
         bytes = t.0;
-        taken = t.1;
-        whole = t.2;
+        consumes = t.1;
+        at_end = t.2;
         within = t.3;
         text = text;
-        reported = h;
-        given = given;
+        is_report = h;
+        appends = given;
         form = f;
-        accepted = some;
+        has_lens = some;
         in_step = stays command (program_part t.0) f (items_of t.0) some;
       }
   reports_kind t text status h given (inl done) (inr (r, none, line, refused)) = cc
@@ -160,7 +160,7 @@ module _ (command : Command) (left left' held held' : Option (List ℕ)) where
       let few : 2 ^ 30 < length t.bytes → ⊥ = λ more. (let bad = t.too_long.1 more in cc) in
       let within : length t.bytes ≤ 2 ^ 30 = omega (arith, few) in
       let is = subst (λ bytes. report command bytes ≡ Some (text, status)) t.all.0 h in
-      reports_kind (t.bytes, t.taken, t.all.1, within) text status is given fin (ended command (lens_of command (program_part t.bytes)) (items_of t.bytes) text status is)
+      reports_kind (t.bytes, t.consumes, t.all.1, within) text status is given fin (ended command (lens_of command (program_part t.bytes)) (items_of t.bytes) text status is)
 
 -- before anything is given
 module _ (command : Command) (left left' held : Option (List ℕ)) where
@@ -176,7 +176,7 @@ module _ (command : Command) (left left' held : Option (List ℕ)) where
   pub stops_too_long : Takes (2 ^ 30) left left' (Err taking.TooLong) → Stops command left left' held held InputTooLong
   stops_too_long t = record {
     bytes = t.bytes;
-    taken = t.taken;
+    consumes = t.consumes;
     at_most = t.at_most;
     too_long = ((λ _. t.too_long.0 refl), (λ _. refl));
     clean = Appends-nil held;
@@ -188,16 +188,16 @@ pub complete : (command : Command) (left left' held held' : Option (List ℕ)) (
     → IfSome left (λ bytes. length bytes ≤ 2 ^ 30 → (R → ⊥) → (F → ⊥) → IsComplete command bytes status)
 complete command None left' held held' status R F s r source sink = tt
 complete command (Some bytes) left' held held' Done R F s r source sink =
-    λ few no_source no_sink. ((λ form is. inl (inl refl)), λ x none. let e = r (inl refl) in let same = ap (λ b. lens_of command (program_part b)) (all_taken bytes left' e.bytes e.taken e.whole) in let some = e.accepted in cc)
+    λ few no_source no_sink. ((λ form is. inl (inl refl)), λ x none. let e = r (inl refl) in let same = ap (λ b. lens_of command (program_part b)) (all_taken bytes left' e.bytes e.consumes e.at_end) in let some = e.has_lens in cc)
 complete command (Some bytes) left' held held' SomeRefused R F s r source sink =
-    λ few no_source no_sink. ((λ form is. inl (inr refl)), λ x none. let e = r (inr refl) in let same = ap (λ b. lens_of command (program_part b)) (all_taken bytes left' e.bytes e.taken e.whole) in let some = e.accepted in cc)
+    λ few no_source no_sink. ((λ form is. inl (inr refl)), λ x none. let e = r (inr refl) in let same = ap (λ b. lens_of command (program_part b)) (all_taken bytes left' e.bytes e.consumes e.at_end) in let some = e.has_lens in cc)
 complete command (Some bytes) left' held held' Usage R F s r source sink = λ few no_source no_sink. absurd s.clean
 complete command (Some bytes) left' held held' ProgramRefused R F s r source sink =
-    λ few no_source no_sink. ((λ form is. let same = ap (λ b. lens_of command (program_part b)) (all_taken bytes left' s.bytes s.taken s.clean.0) in let none = s.clean.1.1 in cc), λ x none. inl refl)
+    λ few no_source no_sink. ((λ form is. let same = ap (λ b. lens_of command (program_part b)) (all_taken bytes left' s.bytes s.consumes s.clean.0) in let none = s.clean.1.1 in cc), λ x none. inl refl)
 complete command (Some bytes) left' held held' SourceFault R F s r source sink = λ few no_source no_sink. absurd (no_source (source refl))
 complete command (Some bytes) left' held held' SinkFault R F s r source sink = λ few no_source no_sink. absurd (no_sink (sink refl))
 complete command (Some bytes) left' held held' InputTooLong R F s r source sink =
-    λ few no_source no_sink. absurd (omega (arith, s.too_long.0 refl, few_taken bytes left' s.bytes s.taken))
+    λ few no_source no_sink. absurd (omega (arith, s.too_long.0 refl, few_taken bytes left' s.bytes s.consumes))
 complete command (Some bytes) left' held held' NoMemory R F s r source sink = λ few no_source no_sink. ((λ form is. inr refl), λ x none. inr refl)
 
 -- Where the source does not fail, a command is complete, or it ends with the sink's fault and what that says.

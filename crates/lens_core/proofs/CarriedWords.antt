@@ -14,9 +14,9 @@ use Rattle.lens_core.specs.Complements.{CompTree, nil, rec_comp, CompTrees, no_c
 use Rattle.lens_core.specs.Parts.{only_part, passes}
 use Rattle.lens_core.specs.Translation.{near, far, at_word, behind, in_turn, translate_one, translate}
 use Rattle.lens_core.specs.declared.comp.Comp.{Comp}
-use Rattle.lens_core.proofs.Lists.{comps_tree-out}
-use Rattle.lens_core.proofs.Paired.{in_turn-id}
-use Rattle.lens_core.proofs.Turns.{joined-done, in_turn-next, in_turn-none}
+use Rattle.lens_core.proofs.ComplementTrees.{comps_tree-out}
+use Rattle.lens_core.proofs.PairedRecord.{in_turn-id}
+use Rattle.lens_core.proofs.WordTranslation.{joined-done, in_turn-next, in_turn-none}
 
 -- the identity at any complement
 in_turn-passes : (t : TyTree) (side : Side) (c : CompTree) (u : WordTree)
