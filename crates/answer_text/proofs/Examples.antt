@@ -7,7 +7,7 @@ use Rattle.program_tokens.specs.Words.{is_name, is_word, begins_word, in_word, k
 use Rattle.doc_values.specs.Types.{ty_int, ty_text, ty_enum, ty_rec, ty_alt, no_fields, field}
 use Rattle.edit_module.specs.Words.{set, at, done, then}
 use Rattle.edit_module.specs.declared.atom.Atom.TheVariants.{Number}
-use Rattle.edit_module.specs.declared.side.Side.TheVariants.{Left, Right}
+use Rattle.texts.specs.declared.side.Side.TheVariants.{Left, Right}
 use Rattle.edit_module.specs.declared.fault.Cause.TheVariants.{Place}
 use Rattle.edit_journal.specs.declared.fault.EntryFault.TheVariants.{NotAnEdit}
 use Rattle.lens_syntax.specs.declared.fault.ProgramFault.TheVariants.{ProgramTooLong, NotAProgram, RepeatedName}

@@ -3,7 +3,7 @@ use Rattle.std.specs.Prelude.{ℕ, List, ◌++◌, codes, decimal}
 use Rattle.serde_json.specs.Data.{Data}
 use Rattle.serde_json.specs.Written.{compact_text}
 use Rattle.doc_values.specs.Types.{TyTree}
-use Rattle.edit_module.specs.declared.side.Side.{Side}
+use Rattle.texts.specs.declared.side.Side.{Side}
 use Rattle.edit_module.specs.declared.fault.Cause.{Cause}
 use Rattle.edit_module.specs.Words.{WordTree}
 use Rattle.edit_json.specs.WordJson.{tree_of_word}

@@ -1,7 +1,7 @@
 -- The words for sides, causes and reasons that stand in a line.
 use Rattle.std.specs.Prelude.{ℕ, List, [], ◌++◌, codes, decimal}
-use Rattle.edit_module.specs.declared.side.Side.{Side}
-use Rattle.edit_module.specs.declared.side.Side.TheVariants.{Left, Right}
+use Rattle.texts.specs.declared.side.Side.{Side}
+use Rattle.texts.specs.declared.side.Side.TheVariants.{Left, Right}
 use Rattle.edit_module.specs.declared.fault.Cause.{Cause}
 use Rattle.edit_module.specs.declared.fault.Cause.TheVariants.{Kind, Place, Tag, Range, Overflow, Value, Present, Length, Deep}
 use Rattle.edit_journal.specs.declared.fault.EntryFault.{EntryFault}

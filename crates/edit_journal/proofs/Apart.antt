@@ -9,7 +9,7 @@ use Rattle.value_json.specs.Numbers.{int_tree, count_items}
 use Rattle.edit_module.specs.Words.{PrimitiveTree, set, add, splice, at, stay, switch, modify, shape, WordTree, done, then}
 use Rattle.edit_module.specs.declared.atom.Atom.{Atom}
 use Rattle.edit_module.specs.declared.atom.Atom.TheVariants.{Truth, Number, Letters}
-use Rattle.edit_module.specs.declared.side.Side.{Side}
+use Rattle.texts.specs.declared.side.Side.{Side}
 use Rattle.edit_json.specs.Kinds.{kind_of}
 use Rattle.edit_json.specs.Values.{tree_of_atom, tree_of_place}
 use Rattle.edit_json.specs.WordJson.{tree_of_shape_edit, tree_of_primitive, items_of_word, tree_of_word}

@@ -4,8 +4,8 @@ use Rattle.serde_json.specs.Data.{Data, string, object, no_members, member, dept
 use Rattle.serde_json.specs.Written.{has_float}
 use Rattle.value_json.proofs.Facts.{left, right, equal_bytes, if_then}
 use Rattle.edit_module.specs.Words.{WordTree}
-use Rattle.edit_module.specs.declared.side.Side.{Side}
-use Rattle.edit_module.specs.declared.side.Side.TheVariants.{Left, Right}
+use Rattle.texts.specs.declared.side.Side.{Side}
+use Rattle.texts.specs.declared.side.Side.TheVariants.{Left, Right}
 use Rattle.edit_json.specs.WordJson.{tree_of_word, word_of, counts_fit, numbers_fit}
 use Rattle.edit_json.specs.Depths.{word_depth}
 use Rattle.edit_json.proofs.Again.{again as word_reads}

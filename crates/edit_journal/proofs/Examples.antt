@@ -6,7 +6,7 @@ use Rattle.serde_json.specs.Data.{null, string, array, object, no_items, item, n
 use Rattle.serde_json.proofs.OnLiterals.{serde_json_on_literals}
 use Rattle.value_json.specs.Numbers.{count_tree, int_tree}
 use Rattle.edit_module.specs.Words.{add, done, then}
-use Rattle.edit_module.specs.declared.side.Side.TheVariants.{Left, Right}
+use Rattle.texts.specs.declared.side.Side.TheVariants.{Left, Right}
 use Rattle.edit_json.specs.WordJson.{primitive_of}
 use Rattle.edit_journal.specs.Lines.{line_of, is_blank}
 use Rattle.edit_journal.specs.EntryJson.{tree_of_entry, parts_of, entry_of_tree, tree_of_line, entry_of_line}

@@ -5,7 +5,7 @@
 ghost use Rattle.std.specs.Prelude.{◌≡◌, ◌≤◌, ◌*◌, ◌+◌, true, false, Some, Ok};
 ghost use Rattle.serde_json.specs.Data.{Data, depth};
 ghost use Rattle.serde_json.specs.Written.{has_float};
-ghost use Rattle.edit_module.specs.declared.side.Side.{Side};
+ghost use Rattle.texts.specs.declared.side.Side.{Side};
 ghost use Rattle.edit_module.specs.Words.{WordTree};
 ghost use Rattle.edit_json.specs.WordJson.{tree_of_word, counts_fit, numbers_fit};
 ghost use Rattle.edit_json.specs.Depths.{word_depth};

@@ -8,7 +8,6 @@ pub mod fault;
 pub mod laws;
 mod leaves;
 mod reshape;
-pub mod side;
 pub mod word;
 
 pub use crate::action::act;
@@ -16,8 +15,8 @@ pub use crate::atom::Atom;
 pub use crate::entry::Entry;
 pub use crate::fault::{ActFault, Cause};
 pub use crate::laws::{action_keeps_types, joined_acts_in_turn};
-pub use crate::side::Side;
 pub use crate::word::{Primitive as Prim, Word};
+pub use texts::Side;
 
 #[cfg(test)]
 mod tests;

@@ -6,7 +6,7 @@ use crate::action::act;
 use crate::atom::Atom;
 use crate::entry::Entry;
 use crate::fault::{ActFault, Cause};
-use crate::side::Side;
+use texts::Side;
 use crate::word::{Primitive, Word};
 use doc_values::{Doc, Docs, Fields, Ty};
 use hold_shapes::{

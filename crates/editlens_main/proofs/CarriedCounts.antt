@@ -3,7 +3,7 @@ use Rattle.std.proofs.Common.{◌≡◌, List, ℕ, Bool, true, false, cond, Opt
 use Rattle.std.specs.Prelude.{option_and_then, ◌&&◌}
 use Rattle.doc_values.specs.Types.{TyTree, ty_int}
 use Rattle.edit_module.specs.Words.{PrimitiveTree, at, WordTree, done, then, joined}
-use Rattle.edit_module.specs.declared.side.Side.{Side}
+use Rattle.texts.specs.declared.side.Side.{Side}
 use Rattle.edit_json.specs.WordJson.{counts_fit, primitive_counts_fit}
 use Rattle.lens_types.specs.Forms.{FormTree, form_id}
 use Rattle.lens_core.specs.Built.{paired_int, is_paired_int}

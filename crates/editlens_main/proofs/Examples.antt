@@ -3,7 +3,7 @@ use Rattle.std.proofs.Common.{◌≡◌, ℕ, pos, negsuc, [], ◌∷◌, ◌++�
 use Rattle.doc_values.specs.Documents.{rec, int, more_docs, no_docs}
 use Rattle.edit_module.specs.Words.{set, at, done, then}
 use Rattle.edit_module.specs.declared.atom.Atom.TheVariants.{Truth, Number}
-use Rattle.edit_module.specs.declared.side.Side.TheVariants.{Left, Right}
+use Rattle.texts.specs.declared.side.Side.TheVariants.{Left, Right}
 use Rattle.edit_module.specs.declared.fault.Cause.TheVariants.{Kind, Place}
 use Rattle.lens_types.specs.Forms.{FormTree}
 use Rattle.lens_core.specs.Built.{paired_int}

@@ -9,7 +9,7 @@ use Rattle.hold_shapes.specs.declared.edit.ShapeEdit.{ShapeEdit}
 use Rattle.hold_shapes.specs.declared.edit.ShapeEdit.TheVariants.{Ins, Del, MoveItem, Reorder, PutKey, DropKey, RenameKey, Graft, Prune, Shift, Hang}
 use Rattle.hold_shapes.specs.declared.plan.PlanFault.{PlanFault}
 use Rattle.hold_shapes.specs.declared.plan.PlanFault.TheVariants.{Kind, Place, Range, Present, Length, Deep, NoMemory}
-use Rattle.hold_shapes.specs.Keys.{key_place, rank}
+use Rattle.texts.specs.Keys.{key_place, rank}
 use Rattle.hold_shapes.specs.Trees.{node, children, child, end_of}
 
 -- a new shape with an origin for each of its places, or a cause

@@ -4,7 +4,7 @@ use Rattle.hold_shapes.specs.declared.shape.Shape.{Shape}
 use Rattle.hold_shapes.specs.declared.shape.Shape.TheVariants.{List as ListOf, Keyed as KeyedOf, Tree as TreeOf}
 use Rattle.hold_shapes.specs.declared.edit.Place.{Place}
 use Rattle.hold_shapes.specs.declared.edit.Place.TheVariants.{Index, Key, Node}
-use Rattle.hold_shapes.specs.Keys.{key_place}
+use Rattle.texts.specs.Keys.{key_place}
 use Rattle.hold_shapes.specs.Trees.{node}
 
 -- how many places a shape has

@@ -1,9 +1,9 @@
 //! The depths of the nodes of a tree in preorder.
 ghost use Rattle.std.specs.Prelude.{◌≡◌, ◌↔◌, IsTrue};
 
-use crate::twin::Twin;
 use std::alloc::{AllocError, Global};
 use std::marker::Model;
+use texts::Twin;
 
 /// A list of depths. It is the list of a tree only where `TreeShape::from_depths` accepts it.
 #[derive(Debug, Drop)]

@@ -1,11 +1,10 @@
 //! Places of a shape, and edits of a shape.
 ghost use Rattle.std.specs.Prelude.{◌≡◌, ◌↔◌, IsTrue};
 
-use crate::name::Name;
 use crate::path::Path;
 use crate::places::Places;
-use crate::twin::Twin;
 use std::alloc::{AllocError, Global};
+use texts::{Name, Twin};
 
 /// A place in a container, by the kind of the container. Which shape has it: `Held::place`.
 #[derive(Debug, Drop)]

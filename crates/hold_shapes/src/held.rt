@@ -7,9 +7,9 @@ ghost use Rattle.hold_shapes.specs.Plans.{plan as plan_of, IsRefusal};
 use crate::edit::{Place, ShapeEdit};
 use crate::plan::{Plan, PlanFault};
 use crate::shape::{KeyedShape, ListShape, Shape, TreeShape};
-use crate::twin::Twin;
-use crate::{keyed, keys, lists, tree_plans, trees};
+use crate::{keyed, lists, tree_plans, trees};
 use std::alloc::Global;
+use texts::{Twin, keys};
 
 /// A shape of a container, of one kind or of any.
 pub trait Held: Sized + Twin {

@@ -4,18 +4,17 @@ ghost use Rattle.std.specs.List.{remove};
 ghost use Rattle.hold_shapes.specs.declared.shape.Shape.TheVariants.{Keyed as KeyedOf};
 ghost use Rattle.hold_shapes.specs.declared.edit.ShapeEdit.TheVariants.{PutKey, DropKey, RenameKey};
 ghost use Rattle.hold_shapes.specs.declared.origins.Origin.TheVariants.{Old};
-ghost use Rattle.hold_shapes.specs.Keys.{key_place, is_rising};
+ghost use Rattle.texts.specs.Keys.{key_place, is_rising};
 ghost use Rattle.hold_shapes.specs.declared.plan.PlanFault.TheVariants.{NoMemory};
 ghost use Rattle.hold_shapes.specs.Plans.{plan_keyed, add_key, olds, IsRefusal};
 
-use crate::keys::{place, rank};
 use crate::lists::old_places;
-use crate::name::Name;
 use crate::origins::{Origin, Origins};
 use crate::plan::{Plan, PlanFault};
 use crate::shape::KeyedShape;
-use crate::twin::{Twin, twin_all};
 use std::alloc::{AllocError, Global};
+use texts::keys::{place, rank};
+use texts::{Name, Twin, twin_all};
 
 // A copy of the names.
 fn copied(alloc: Global, names: &[Name]) -> Result<Vec<Name>, AllocError>
@@ -25,7 +24,7 @@ fn copied(alloc: Global, names: &[Name]) -> Result<Vec<Name>, AllocError>
 }
 
 // One more key among names in byte order.
-#[tactic(auto, using(crate::proofs::Rising::rising_rules))]
+#[tactic(auto, using(texts::proofs::KeyOrder::rising_rules))]
 fn with_key(
     alloc: Global,
     mut names: Vec<Name>,
@@ -70,7 +69,7 @@ pub(crate) fn put(
 }
 
 // All names but the one at a place.
-#[tactic(auto, using(crate::proofs::Rising::rising_rules))]
+#[tactic(auto, using(texts::proofs::KeyOrder::rising_rules))]
 fn other_names(alloc: Global, names: &[Name], at: usize) -> Result<Vec<Name>, AllocError>
     requires { at < length names.now }
     ensures { IfOk result (λ v. v.items ≡ remove names.now at) }
@@ -93,7 +92,7 @@ fn other_places(alloc: Global, size: u64, at: u64) -> Result<Vec<Origin>, AllocE
 }
 
 // A key goes with its content.
-#[tactic(auto, using(crate::proofs::Rising::rising_rules))]
+#[tactic(auto, using(texts::proofs::KeyOrder::rising_rules))]
 pub(crate) fn drop_key(
     alloc: Global,
     keys: &KeyedShape,
@@ -116,7 +115,7 @@ pub(crate) fn drop_key(
 }
 
 // The content of one key under another.
-#[tactic(auto, using(crate::proofs::Rising::rising_rules))]
+#[tactic(auto, using(texts::proofs::KeyOrder::rising_rules))]
 pub(crate) fn rename(
     alloc: Global,
     keys: &KeyedShape,

@@ -4,41 +4,30 @@
 //! A container is a list, a keyed map or an ordered tree. What it holds lies in a vector, one item a
 //! place, and a plan says where each item of the new container comes from, so that [`gather`] moves
 //! documents and complements alike. docs/EDITS.md has the edits with their causes.
-//!
-//! Names, texts, paths and the like are small types over a `String` or a `Vec`, which contracts see
-//! as lists.
 #![tactic(auto)]
 
 pub mod depths;
 pub mod edit;
 pub mod held;
 pub mod keyed;
-pub mod keys;
 pub mod lists;
-pub mod name;
-pub mod names;
 pub mod origins;
 pub mod path;
 pub mod places;
 pub mod plan;
 pub mod shape;
-pub mod text;
 pub mod tree_plans;
 pub mod trees;
-pub mod twin;
 
 pub use crate::depths::Depths;
 pub use crate::edit::{Place, ShapeEdit};
 pub use crate::held::Held;
-pub use crate::name::Name;
-pub use crate::names::Names;
-pub use crate::origins::{Origin, Origins};
+pub use crate::origins::{Origin, Origins, gather};
 pub use crate::path::Path;
 pub use crate::places::Places;
 pub use crate::plan::{Plan, PlanFault};
 pub use crate::shape::{KeyedShape, ListShape, Shape, TreeShape};
-pub use crate::text::Str;
-pub use crate::twin::{Twin, gather, twin_all};
+pub use texts::{Name, Names, Str, Twin, twin_all};
 
 #[cfg(test)]
 mod tests;

@@ -1,9 +1,9 @@
 //! The path of a node in a tree.
 ghost use Rattle.std.specs.Prelude.{◌≡◌, ◌↔◌, IsTrue};
 
-use crate::twin::Twin;
 use std::alloc::{AllocError, Global};
 use std::marker::Model;
+use texts::Twin;
 
 /// A path from the root of a tree: at each step the number of the child that is taken, from 0.
 /// The empty path is the root.

@@ -1,9 +1,9 @@
 //! Places of a list, as a reorder gives them.
 ghost use Rattle.std.specs.Prelude.{◌≡◌, ◌↔◌, IsTrue};
 
-use crate::twin::Twin;
 use std::alloc::{AllocError, Global};
 use std::marker::Model;
+use texts::Twin;
 
 /// A list of places: a reorder gives for each new place the old one.
 #[derive(Debug, Drop)]

@@ -1,7 +1,7 @@
 //! A plan of a shape edit, and why there is none.
 use crate::origins::Origins;
-use crate::twin::Twin;
 use std::alloc::{AllocError, AllocFailed, Global};
+use texts::Twin;
 
 /// What an edit makes of a shape.
 #[derive(Drop)]

@@ -1,15 +1,13 @@
 //! Shapes of containers: a list's length, a keyed map's names, a tree's depths.
 ghost use Rattle.std.specs.Prelude.{◌≡◌, ◌↔◌, true, false, IsTrue, MatchOption};
-ghost use Rattle.hold_shapes.specs.Keys.{is_rising};
+ghost use Rattle.texts.specs.Keys.{is_rising};
 ghost use Rattle.hold_shapes.specs.Trees.{is_valid};
 
 use crate::depths::Depths;
-use crate::name::Name;
-use crate::names::Names;
-use crate::twin::Twin;
-use crate::{keys, trees};
+use crate::trees;
 use std::alloc::{AllocError, Global};
 use std::marker::Model;
+use texts::{Name, Names, Twin, keys};
 
 /// The shape of a list.
 #[derive(Clone, Copy, Debug, PartialEq, Eq)]
@@ -29,7 +27,7 @@ impl Model for KeyedShape {
 
     ghost Value = { List (List ℕ) };
 
-    ghost use Rattle.hold_shapes.specs.Keys.{is_rising};
+    ghost use Rattle.texts.specs.Keys.{is_rising};
 
     ghost view = { λ s. s.names };
 

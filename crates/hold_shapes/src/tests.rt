@@ -3,18 +3,16 @@
 use crate::depths::Depths;
 use crate::edit::{Place, ShapeEdit};
 use crate::held::Held;
-use crate::name::Name;
-use crate::names::Names;
+use crate::origins::gather;
 use crate::origins::{Origin, Origins};
 use crate::path::Path;
 use crate::places::Places;
 use crate::plan::Plan;
 use crate::shape::{KeyedShape, ListShape, Shape, TreeShape};
-use crate::text::Str;
-use crate::twin::{Twin, gather, twin_all};
 use std::alloc::{AllocError, Global};
 use std::process::Abort;
 use std::test::Fail;
+use texts::{Name, Names, Str, Twin, twin_all};
 
 fn name(alloc: Global, text: &str) -> Result<Name, AllocError> {
     Ok(Name::from_string(String::from_str(alloc, text)?))

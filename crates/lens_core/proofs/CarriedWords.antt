@@ -6,7 +6,7 @@ use Rattle.std.specs.Prelude.{bytes_eq, nat_eq}
 use Rattle.doc_values.specs.Types.{TyTree, ty_int}
 use Rattle.edit_module.specs.Words.{PrimitiveTree, at, WordTree, done, then, word_of, joined}
 use Rattle.edit_module.specs.Views.{primitive_tree}
-use Rattle.edit_module.specs.declared.side.Side.{Side}
+use Rattle.texts.specs.declared.side.Side.{Side}
 use Rattle.edit_module.specs.declared.word.Primitive.{Primitive}
 use Rattle.lens_types.specs.Forms.{FormTree, form_id}
 use Rattle.lens_core.specs.Built.{paired_int}

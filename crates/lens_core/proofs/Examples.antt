@@ -5,7 +5,7 @@ use Rattle.doc_values.specs.Documents.{DocTree, truth, int, rec, no_docs, more_d
 use Rattle.doc_values.specs.Types.{ty_int, ty_bool}
 use Rattle.edit_module.specs.Words.{WordTree, set, at, done, then}
 use Rattle.edit_module.specs.declared.atom.Atom.TheVariants.{Truth, Number}
-use Rattle.edit_module.specs.declared.side.Side.TheVariants.{Left, Right}
+use Rattle.texts.specs.declared.side.Side.TheVariants.{Left, Right}
 use Rattle.lens_types.specs.Forms.{FormTree, form_id, form_disc, form_rec, no_rows, both, only_left, only_right}
 use Rattle.lens_core.specs.Built.{paired_int}
 use Rattle.lens_core.specs.Complements.{CompTree, nil, rec_comp, no_comps, more_comps, missing}

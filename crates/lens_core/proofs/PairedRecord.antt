@@ -10,8 +10,8 @@ use Rattle.edit_module.specs.Words.{PrimitiveTree, set, add, at, WordTree, done,
 use Rattle.edit_module.specs.Words.{then}
 use Rattle.edit_module.specs.declared.atom.Atom.TheVariants.{Number}
 use Rattle.edit_module.specs.declared.fault.Cause.{Cause}
-use Rattle.edit_module.specs.declared.side.Side.{Side}
-use Rattle.edit_module.specs.declared.side.Side.TheVariants.{Left, Right}
+use Rattle.texts.specs.declared.side.Side.{Side}
+use Rattle.texts.specs.declared.side.Side.TheVariants.{Left, Right}
 use Rattle.lens_types.specs.Forms.{form_id, no_rows, both}
 use Rattle.lens_core.specs.Built.{paired_int}
 use Rattle.lens_core.specs.Complements.{CompTree, nil, rec_comp, CompTrees, no_comps, more_comps}

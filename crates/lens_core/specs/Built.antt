@@ -1,8 +1,8 @@
 -- The form that is carried today.
 use Rattle.std.specs.Prelude.{ℕ, Bool, true, false, List}
 use Rattle.doc_values.specs.Types.{TyTree, ty_int}
-use Rattle.edit_module.specs.declared.side.Side.{Side}
-use Rattle.edit_module.specs.declared.side.Side.TheVariants.{Left, Right}
+use Rattle.texts.specs.declared.side.Side.{Side}
+use Rattle.texts.specs.declared.side.Side.TheVariants.{Left, Right}
 use Rattle.lens_types.specs.Forms.{FormTree, form_id, form_rec, no_rows, both, left_type, right_type}
 
 -- the type of a side

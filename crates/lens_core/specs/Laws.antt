@@ -4,8 +4,8 @@ use Rattle.doc_values.specs.Documents.{DocTree}
 use Rattle.doc_values.specs.Initial.{initial}
 use Rattle.edit_module.specs.Action.{act}
 use Rattle.edit_module.specs.Words.{WordTree, done, joined}
-use Rattle.edit_module.specs.declared.side.Side.{Side}
-use Rattle.edit_module.specs.declared.side.Side.TheVariants.{Left, Right}
+use Rattle.texts.specs.declared.side.Side.{Side}
+use Rattle.texts.specs.declared.side.Side.TheVariants.{Left, Right}
 use Rattle.lens_types.specs.Forms.{FormTree, left_type, right_type}
 use Rattle.lens_core.specs.Complements.{CompTree, missing}
 use Rattle.lens_core.specs.Consistency.{IsConsistent, AreTyped}

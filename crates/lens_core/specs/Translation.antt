@@ -2,8 +2,8 @@
 use Rattle.std.specs.Prelude.{◌≡◌, ℕ, nat_eq, bytes_eq, cond, List, Option, None, Some, option_map, option_and_then}
 use Rattle.edit_module.specs.Views.{word_tree}
 use Rattle.edit_module.specs.Words.{PrimitiveTree, at, WordTree, done, then, joined}
-use Rattle.edit_module.specs.declared.side.Side.{Side}
-use Rattle.edit_module.specs.declared.side.Side.TheVariants.{Left, Right}
+use Rattle.texts.specs.declared.side.Side.{Side}
+use Rattle.texts.specs.declared.side.Side.TheVariants.{Left, Right}
 use Rattle.lens_types.specs.Forms.{FormTree, form_id, form_rec, RowTrees, both, only_left, only_right, paired_rows}
 use Rattle.lens_core.specs.Complements.{CompTree, nil, rec_comp, CompTrees, more_comps, count, comp_tree}
 use Rattle.lens_core.specs.declared.carry.Carried.{Carried}

@@ -5,7 +5,6 @@
 //! [`SureSource`] and [`SureSink`] never fail. [`RealSource`] and [`RealSink`] adapt readers and writers.
 #![tactic(auto)]
 
-mod bytes;
 mod failed;
 mod mem_sink;
 mod mem_source;
@@ -14,13 +13,13 @@ mod real;
 mod sink;
 mod source;
 
-pub use bytes::Bytes;
 pub use failed::{Failed, GiveFault, TakeFault};
 pub use mem_sink::{MemSink, SureSink};
 pub use mem_source::{MemSource, SureSource};
 pub use real::{RealSink, RealSource};
 pub use sink::{Sink, give_all};
 pub use source::{Source, take_all};
+pub use texts::Bytes;
 
 #[cfg(test)]
 mod tests;

@@ -2,7 +2,7 @@
 use Rattle.std.proofs.Common.{◌≡◌, ℕ, Bool, true, false, ◌&&◌, ◌||◌, List, [], ◌∷◌, ◌++◌, Option, Some, None, refl, ap, sym, ◌∙◌, subst}
 use Rattle.std.specs.Prelude.{bytes_eq, if◌then◌else◌}
 use Rattle.std.proofs.lemmas.Slice.Eq.{bytes_eq-Decides}
-use Rattle.hold_shapes.specs.Keys.{has_name}
+use Rattle.texts.specs.Keys.{has_name}
 use Rattle.doc_values.specs.Types.{names_of, are_distinct}
 use Rattle.doc_values.proofs.Typed.{first_and, second_and, bytes_eq-refl}
 use Rattle.program_terms.specs.Terms as Term

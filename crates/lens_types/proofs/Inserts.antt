@@ -2,7 +2,7 @@
 use Rattle.std.proofs.Common.{◌≡◌, ℕ, suc, ◌≤◌, true, false, List, [], ◌∷◌, ◌++◌, length, map, refl, ap, arith}
 use Rattle.std.specs.Prelude.{if◌then◌else◌}
 use Rattle.std.specs.List.{insert}
-use Rattle.hold_shapes.specs.Keys.{is_before}
+use Rattle.texts.specs.Keys.{is_before}
 use Rattle.doc_values.specs.Types.{FieldTrees, no_fields, field, fields_of, field_tree, ty_tree}
 use Rattle.doc_values.specs.declared.ty.Ty.{Ty}
 use Rattle.lens_types.specs.Forms.{insert_field, sorted}

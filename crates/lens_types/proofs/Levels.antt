@@ -2,7 +2,7 @@
 use Rattle.std.proofs.Common.{◌≡◌, ℕ, ◌+◌, false, List, [], ◌∷◌, refl, ap, ◌∙◌, arith}
 use Rattle.std.specs.Prelude.{nat_le, max, if◌then◌else◌, true}
 use Rattle.std.proofs.lemmas.Bool.Decides.{nat_tests}
-use Rattle.hold_shapes.specs.Keys.{is_before}
+use Rattle.texts.specs.Keys.{is_before}
 use Rattle.doc_values.specs.Types.{TyTree, ty_rec, FieldTrees, no_fields, field, height, highest}
 use Rattle.doc_values.proofs.Heights.{nat_le-max, nat_le-next, height-positive}
 use Rattle.lens_types.specs.Forms.{FormTree, form_id, form_bij, form_disc, form_then, form_rec, form_alt, form_each, form_keyed, form_ordered, form_part, form_inv, ArmTrees, no_arms, more_arms, insert_field, sorted}

@@ -7,7 +7,7 @@ use Rattle.std.specs.Cmp.Lexicographic.{slice_cmp}
 use Rattle.std.specs.FinMap.{slice_cmp-IsAntisymmetric, nat_cmp-IsAntisymmetric}
 use Rattle.std.proofs.lemmas.Cmp.{nat_list_cmp_total}
 use Rattle.std.proofs.lemmas.Slice.Eq.{bytes_eq-Decides}
-use Rattle.hold_shapes.specs.Keys.{is_before, all_after, is_rising, has_name}
+use Rattle.texts.specs.Keys.{is_before, all_after, is_rising, has_name}
 use Rattle.doc_values.specs.Types.{TyTree, FieldTrees, no_fields, field, names_of, are_distinct, is_well_formed, are_well_formed}
 use Rattle.doc_values.proofs.Typed.{first_and, second_and}
 use Rattle.lens_types.specs.Forms.{insert_field, sorted}

@@ -2,7 +2,7 @@
 use Rattle.std.proofs.Common.{◌≡◌, ℕ, ◌+◌, ◌-◌, ◌≤◌, true, false, List, [], ◌∷◌, length, Option, Some, None, refl, ap, sym, ◌∙◌, arith}
 use Rattle.std.specs.Prelude.{Bool, nat_le, unwrap_or, if◌then◌else◌, option_and_then}
 use Rattle.std.proofs.lemmas.Bool.Decides.{nat_tests}
-use Rattle.hold_shapes.specs.Keys.{is_before}
+use Rattle.texts.specs.Keys.{is_before}
 use Rattle.doc_values.specs.Types.{TyTree, FieldTrees, no_fields, field}
 use Rattle.program_terms.specs.Terms as Term
 use Rattle.lens_types.specs.Forms.{ArmTrees, no_arms, more_arms, insert_field, sorted}

@@ -1,7 +1,7 @@
 -- The test of typing, typing, and the types of what is typed.
 use Rattle.std.proofs.Common.{◌≡◌, ℕ, true, ◌&&◌, List, [], ◌∷◌, refl, ap, ap₂, sym, ◌∙◌, subst}
 use Rattle.std.specs.Prelude.{not}
-use Rattle.hold_shapes.specs.Keys.{is_rising, has_name}
+use Rattle.texts.specs.Keys.{is_rising, has_name}
 use Rattle.doc_values.specs.Types.{TyTree, ty_rec, ty_alt, ty_list, ty_keyed, ty_ordered, FieldTrees, no_fields, field, names_of, are_distinct, are_choices, is_well_formed, are_well_formed, is_same_ty}
 use Rattle.doc_values.proofs.SameTypes.{is_same_ty-equal, is_same_ty-refl}
 use Rattle.doc_values.proofs.Typed.{first_and, second_and}

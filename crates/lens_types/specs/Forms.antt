@@ -1,6 +1,6 @@
 -- Forms of lenses as plain trees, and the two types of a form.
 use Rattle.std.specs.Prelude.{◌≡◌, IsTrue, ℕ, ◌+◌, if◌then◌else◌, List, [], ◌∷◌}
-use Rattle.hold_shapes.specs.Keys.{is_before}
+use Rattle.texts.specs.Keys.{is_before}
 use Rattle.doc_values.specs.Types.{TyTree, ty_enum, ty_rec, ty_alt, ty_list, ty_keyed, ty_ordered, FieldTrees, no_fields, field, is_well_formed, ty_tree, fields_tree}
 use Rattle.lens_types.specs.declared.form.Form.{Form, fold-Form}
 use Rattle.lens_types.specs.declared.form.FormRow.{FormRow, fold-FormRow}

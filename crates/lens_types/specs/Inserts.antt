@@ -1,6 +1,6 @@
 -- Where a field is put among fields that are sorted by bytes.
 use Rattle.std.specs.Prelude.{ℕ, suc, if◌then◌else◌, List, [], ◌∷◌}
-use Rattle.hold_shapes.specs.Keys.{is_before}
+use Rattle.texts.specs.Keys.{is_before}
 use Rattle.doc_values.specs.declared.ty.Ty.{Ty}
 
 -- how many of the fields stand before a name, up to the first that does not

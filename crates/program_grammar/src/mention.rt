@@ -2,7 +2,7 @@
 ghost use Rattle.std.specs.Prelude.{◌≡◌};
 ghost use Rattle.program_grammar.specs.Mentions.{mention};
 
-use hold_shapes::Name;
+use texts::Name;
 
 /// The two sorts of definitions.
 #[derive(Clone, Copy, Debug, PartialEq, Eq)]

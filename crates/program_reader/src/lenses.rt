@@ -8,7 +8,7 @@ ghost use Rattle.program_tokens.specs.declared.mark.Mark.TheVariants.{CloseBrack
 use crate::fault::ReadFault;
 use crate::reader::Reader;
 use crate::types::{read_closed_fields, read_field, read_type};
-use hold_shapes::Name;
+use texts::Name;
 use program_grammar::Sort;
 use program_terms::{Arms, Lens, Pairs, Row, Rows, TyFields};
 use program_tokens::{Keyword, Mark, Token};

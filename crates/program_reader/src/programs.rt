@@ -9,7 +9,7 @@ use crate::fault::ReadFault;
 use crate::lenses::read_lens;
 use crate::reader::Reader;
 use crate::types::read_type;
-use hold_shapes::Name;
+use texts::Name;
 use program_grammar::{Mention, Sort};
 use program_terms::{Def, Lens};
 use program_tokens::{Keyword, Mark, Tokens};

@@ -7,7 +7,7 @@ ghost use Rattle.program_reader.specs.declared.fault.ReadFault.TheVariants.{Ende
 ghost use Rattle.program_tokens.specs.declared.mark.Mark.TheVariants.{Comma};
 
 use crate::fault::ReadFault;
-use hold_shapes::{Name, Twin};
+use texts::{Name, Twin};
 use program_grammar::{Mention, Sort};
 use program_tokens::{Keyword, Mark, PlacedToken, Token, Tokens};
 use std::alloc::{AllocError, Global};

@@ -1,6 +1,6 @@
 //! Each production once, with the parts of the program; and refusals with their offsets.
 use crate::{ProgramReadFault, read_tokens};
-use hold_shapes::Name;
+use texts::Name;
 use program_terms::{Def, Lens, Program, Row, TyExpr};
 use program_tokens::{Tokens, tokens};
 use std::alloc::Global;

@@ -7,7 +7,7 @@ ghost use Rattle.program_tokens.specs.declared.mark.Mark.TheVariants.{CloseBrack
 
 use crate::fault::ReadFault;
 use crate::reader::Reader;
-use hold_shapes::{Name, Names};
+use texts::{Name, Names};
 use program_grammar::Sort;
 use program_terms::{TyExpr, TyFields};
 use program_tokens::{Keyword, Mark, Token};

@@ -7,7 +7,7 @@ ghost use Rattle.program_terms.specs.declared.definitions.AddFault;
 
 use crate::lens::Lens;
 use crate::types::TyExpr;
-use hold_shapes::{Name, Twin};
+use texts::{Name, Twin};
 use indexmap::IndexMap;
 use std::alloc::{AllocError, Global};
 

@@ -6,7 +6,7 @@ ghost use Rattle.program_terms.specs.Views.{lens_tree, row_tree, rows_tree, arms
 
 use crate::pairs::Pairs;
 use crate::types::{TyExpr, TyFields};
-use hold_shapes::{Name, Twin};
+use texts::{Name, Twin};
 use std::alloc::{AllocError, Global};
 
 /// A lens as a program writes it, in which a name may stand for a lens that is defined.

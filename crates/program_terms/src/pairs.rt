@@ -2,7 +2,7 @@
 
 ghost use Rattle.std.specs.Prelude.{◌≡◌};
 
-use hold_shapes::{Name, Twin};
+use texts::{Name, Twin};
 use std::alloc::{AllocError, Global};
 use std::marker::Model;
 

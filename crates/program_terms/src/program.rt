@@ -6,7 +6,7 @@ ghost use Rattle.program_terms.specs.Views.{lens_tree, def_tree, definitions_tre
 
 use crate::definitions::{Def, Definitions};
 use crate::lens::Lens;
-use hold_shapes::{Name, Twin};
+use texts::{Name, Twin};
 use std::alloc::{AllocError, Global};
 
 /// A program: definitions in written order, no two of one name, and a main lens.

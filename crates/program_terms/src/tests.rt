@@ -6,7 +6,7 @@ use crate::lens::{Arms, Lens, Row, Rows};
 use crate::pairs::Pairs;
 use crate::program::Program;
 use crate::types::{TyExpr, TyFields};
-use hold_shapes::{Name, Names, Twin};
+use texts::{Name, Names, Twin};
 use std::alloc::{AllocError, Global};
 use std::process::Abort;
 

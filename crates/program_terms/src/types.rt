@@ -4,7 +4,7 @@ ghost use Rattle.std.specs.Prelude.{◌≡◌, IfOk, map};
 ghost use Rattle.program_terms.specs.Terms.{fields_of};
 ghost use Rattle.program_terms.specs.Views.{type_tree, fields_tree, field_tree};
 
-use hold_shapes::{Name, Names, Twin};
+use texts::{Name, Names, Twin};
 use std::alloc::{AllocError, Global};
 
 /// A type as a program writes it, in which a name may stand for a type that is defined.

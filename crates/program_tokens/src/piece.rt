@@ -9,7 +9,7 @@ use crate::mark::Mark;
 use crate::text::is_text;
 use crate::token::Token;
 use crate::word::{begins_word, in_word, is_space};
-use hold_shapes::Name;
+use texts::Name;
 use std::alloc::{AllocError, Global};
 
 /// A piece of text, with the number of bytes behind its first.

@@ -2,7 +2,7 @@
 
 use crate::keyword::Keyword;
 use crate::mark::Mark;
-use hold_shapes::Name;
+use texts::Name;
 
 /// What the grammar speaks of.
 #[derive(Drop)]

@@ -1,6 +1,6 @@
 -- A type of documents whose names may stand in strings is writable.
 use Rattle.std.proofs.Common.{◌≡◌, ℕ, zero, suc, ◌≤◌, true, List, [], ◌∷◌, arith, refl}
-use Rattle.hold_shapes.specs.Keys.{is_rising}
+use Rattle.texts.specs.Keys.{is_rising}
 use Rattle.doc_values.specs.Types.{TyTree, ty_unit, ty_bool, ty_int, ty_text, ty_enum, ty_rec, ty_alt, ty_list, ty_keyed, ty_ordered, FieldTrees, no_fields, field, height, highest, names_of, are_choices, is_well_formed, are_well_formed}
 use Rattle.program_tokens.specs.Tokens.{tokens_of}
 use Rattle.program_tokens.specs.declared.token.Token.TheVariants as tokens

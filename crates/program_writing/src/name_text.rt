@@ -3,7 +3,7 @@ ghost use Rattle.std.specs.Prelude.{◌≡◌, [], ◌++◌, IfOk, OnOk, string_
 ghost use Rattle.program_writing.specs.Canonical.{put_string, put_name, put_strings, put_pairs, canonical_name};
 ghost use Rattle.program_writing.specs.Puts.{Puts, comma};
 
-use hold_shapes::{Name, Str};
+use texts::{Name, Str};
 use program_tokens::is_name;
 use std::alloc::{AllocError, Global};
 

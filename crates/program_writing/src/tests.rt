@@ -6,7 +6,7 @@ use crate::name_text::write_name;
 use crate::program_text::write_program;
 use crate::ty_text::write_type;
 use doc_values::{Fields, Ty};
-use hold_shapes::{Name, Names};
+use texts::{Name, Names};
 use program_terms::{Arms, Def, Definitions, Lens, Pairs, Program, Row, Rows, TyExpr, TyFields};
 use std::alloc::{AllocError, Global};
 use std::process::Abort;

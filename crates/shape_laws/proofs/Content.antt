@@ -16,7 +16,7 @@ use Rattle.hold_shapes.specs.declared.edit.ShapeEdit.TheVariants.{Ins, Del, Move
 use Rattle.hold_shapes.specs.declared.plan.PlanFault.{PlanFault}
 use Rattle.hold_shapes.specs.declared.plan.PlanFault.TheVariants.{Place, Range, Deep}
 use Rattle.hold_shapes.specs.Gather.{content_at}
-use Rattle.hold_shapes.specs.Keys.{key_from, key_place, rank}
+use Rattle.texts.specs.Keys.{key_from, key_place, rank}
 use Rattle.hold_shapes.specs.Trees.{node, node_from, children, child, child_at, child_from, end_of, descendants}
 use Rattle.hold_shapes.specs.Plans.{Planned, olds, at_place, put_key, drop_key, rename_to, rename_key, plan_keyed, without, put_in, moved, graft, prune, prune_child, slot, shift_child, shift, hung, all_at_most, hang_part, hang_below, hang_in, hang, plan_list, plan_tree, plan}
 use Rattle.shape_laws.specs.Laws.{renamed_at, names_after, fresh_name, hung_below, hung_at, depths_after, depth_below, fresh_depth, MovesNames, MovesDepths, KeepsContent}

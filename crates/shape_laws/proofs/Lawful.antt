@@ -15,7 +15,7 @@ use Rattle.hold_shapes.specs.declared.edit.ShapeEdit.{ShapeEdit}
 use Rattle.hold_shapes.specs.declared.edit.ShapeEdit.TheVariants.{Ins, Del, MoveItem, Reorder, PutKey, DropKey, RenameKey, Graft, Prune, Shift, Hang}
 use Rattle.hold_shapes.specs.declared.plan.PlanFault.{PlanFault}
 use Rattle.hold_shapes.specs.declared.plan.PlanFault.TheVariants.{Place, Range, Length, Deep}
-use Rattle.hold_shapes.specs.Keys.{key_place, key_from, rank}
+use Rattle.texts.specs.Keys.{key_place, key_from, rank}
 use Rattle.hold_shapes.specs.Trees.{node, children, child, end_of}
 use Rattle.hold_shapes.specs.Shapes.{size_of}
 use Rattle.hold_shapes.specs.Plans.{Planned, olds, list_of, is_count, is_each_new, at_place, put_key, drop_key, rename_to, rename_key, without, graft, prune, prune_child, slot, shift_child, shift, deepened, hang_part, hang_below, hang_in, hang, plan_list, plan_keyed, plan_tree, plan}

@@ -14,7 +14,7 @@ use Rattle.hold_shapes.specs.declared.edit.ShapeEdit.{ShapeEdit}
 use Rattle.hold_shapes.specs.declared.edit.ShapeEdit.TheVariants.{Ins, Del, MoveItem, Reorder, PutKey, DropKey, RenameKey, Graft, Prune, Shift, Hang}
 use Rattle.hold_shapes.specs.declared.plan.PlanFault.{PlanFault}
 use Rattle.hold_shapes.specs.declared.plan.PlanFault.TheVariants.{Place, Range, Length, Deep}
-use Rattle.hold_shapes.specs.Keys.{key_place, rank}
+use Rattle.texts.specs.Keys.{key_place, rank}
 use Rattle.hold_shapes.specs.Trees.{node, children, child, end_of}
 use Rattle.hold_shapes.specs.Shapes.{size_of}
 use Rattle.hold_shapes.specs.Plans.{Planned, olds, list_of, is_count, is_each_new, at_place, put_key, drop_key, rename_to, rename_key, without, put_in, moved, graft, prune, prune_child, slot, shift_child, shift, hung, all_at_most, hang_part, hang_below, hang_in, hang, plan_list, plan_keyed, plan_tree, plan}

@@ -9,7 +9,7 @@ use Rattle.hold_shapes.specs.declared.origins.Origin.TheVariants.{Old, Fresh}
 use Rattle.hold_shapes.specs.declared.edit.ShapeEdit.{ShapeEdit}
 use Rattle.hold_shapes.specs.declared.edit.ShapeEdit.TheVariants.{Ins, Del, MoveItem, Reorder, PutKey, DropKey, RenameKey, Graft, Prune, Shift, Hang}
 use Rattle.hold_shapes.specs.Plans.{olds, without, hung}
-use Rattle.hold_shapes.specs.Keys.{key_place}
+use Rattle.texts.specs.Keys.{key_place}
 use Rattle.hold_shapes.specs.Trees.{node, child_at, end_of}
 use Rattle.shape_laws.specs.Parents.{parents}
 use Rattle.hold_shapes.specs.Gather.{IsBelow, content_at}

@@ -1,7 +1,7 @@
 -- Two documents of one type never have the same tree.
 use Rattle.std.proofs.Common.{◌≡◌, ℕ, ℤ, pos, negsuc, true, false, ◌&&◌, List, [], ◌∷◌, length, Option, Some, None, refl, sym, ap, ap₂, subst, ◌∙◌, arith}
 use Rattle.std.specs.Prelude.{nat_eq}
-use Rattle.hold_shapes.specs.Keys.{is_rising}
+use Rattle.texts.specs.Keys.{is_rising}
 use Rattle.hold_shapes.specs.Trees.{is_valid}
 use Rattle.hold_shapes.specs.declared.shape.Shape.TheVariants.{List as ListOf, Keyed as KeyedOf, Tree as TreeOf}
 use Rattle.serde_json.specs.Data.{Data, null, object, no_members, member}

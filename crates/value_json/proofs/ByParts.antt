@@ -1,7 +1,7 @@
 -- A document by the parts of its tree, a lemma for each type.
 use Rattle.std.proofs.Common.{◌≡◌, ℕ, length, Bool, true, false, ◌&&◌, List, Option, Some, None, option_map, option_and_then, codes, bytes_eq, cond, refl, sym}
 use Rattle.std.specs.Prelude.{if◌then◌else◌, is_some}
-use Rattle.hold_shapes.specs.Keys.{has_name}
+use Rattle.texts.specs.Keys.{has_name}
 use Rattle.serde_json.specs.Data.{Data, null, boolean, number, string, array, object, Items, no_members, member}
 use Rattle.serde_json.specs.Find.{as_null, as_bool, as_str, as_array, as_object}
 use Rattle.doc_values.specs.Types.{TyTree, ty_unit, ty_bool, ty_int, ty_text, ty_enum, ty_rec, ty_alt, ty_list, ty_keyed, ty_ordered, FieldTrees}

@@ -1,7 +1,7 @@
 -- What is read has the type, holds i64 numbers alone, and has the tree that was read.
 use Rattle.std.proofs.Common.{◌≡◌, ℕ, ℤ, pos, negsuc, suc, true, ◌&&◌, List, [], ◌∷◌, length, Option, Some, None, option_map, option_and_then, codes, bytes_eq, refl, sym, ap, ap₂, ◌∙◌}
 use Rattle.std.specs.Prelude.{nat_eq}
-use Rattle.hold_shapes.specs.Keys.{is_rising, has_name}
+use Rattle.texts.specs.Keys.{is_rising, has_name}
 use Rattle.hold_shapes.specs.Trees.{is_valid}
 use Rattle.hold_shapes.specs.declared.shape.Shape.TheVariants.{Keyed as KeyedOf, Tree as TreeOf}
 use Rattle.serde_json.specs.Data.{Num, unsigned, negative, float, Data, null, boolean, number, string, array, object, Items, no_items, item, Members, no_members, member}

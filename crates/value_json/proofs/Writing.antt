@@ -5,7 +5,7 @@ use Rattle.std.proofs.lemmas.Cmp.{nat_list_cmp_total}
 use Rattle.std.proofs.Common.{◌≡◌, ℕ, zero, suc, ◌+◌, add-one, ◌<◌, Bool, true, false, ◌&&◌, List, [], ◌∷◌, ◌++◌, map, take, bytes_eq, cond, length, get_or, Ordering, Less, Equal, Greater, Some, None, option_map, refl, sym, ap, ◌∙◌, arith}
 use Rattle.std.specs.Ordering.{nat_cmp, is_lt, ordering_reverse}
 use Rattle.std.specs.Cmp.Lexicographic.{slice_cmp}
-use Rattle.hold_shapes.specs.Keys.{is_before, all_after, is_rising}
+use Rattle.texts.specs.Keys.{is_before, all_after, is_rising}
 use Rattle.serde_json.specs.Data.{Data, object, item, Members, no_members, member, put}
 use Rattle.serde_json.specs.View.{items_of}
 use Rattle.doc_values.specs.Documents.{DocTree, alt, docs_of, doc_tree}

@@ -1,7 +1,7 @@
 //! Reading a document of a type from a JSON tree.
 
 ghost use Rattle.std.specs.Prelude.{◌≡◌, ◌<◌, true, IfOk, IsErrOf, option_map, option_and_then};
-ghost use Rattle.hold_shapes.specs.Keys.{has_name};
+ghost use Rattle.texts.specs.Keys.{has_name};
 ghost use Rattle.serde_json.specs.View.{view, items_view, members_view};
 ghost use Rattle.doc_values.specs.Documents.{DocTree, doc_tree, docs_tree};
 ghost use Rattle.doc_values.specs.Types.{ty_tree, fields_tree, ty_unit, ty_bool, ty_int, ty_text, ty_enum, ty_rec, ty_alt, ty_list, ty_keyed, ty_ordered};

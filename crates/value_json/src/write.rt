@@ -1,7 +1,7 @@
 //! Writing a document of a type as a JSON tree.
 
 ghost use Rattle.std.specs.Prelude.{◌≡◌, true, Some, IfOk, OnOk, length, codes};
-ghost use Rattle.hold_shapes.specs.Keys.{is_rising};
+ghost use Rattle.texts.specs.Keys.{is_rising};
 ghost use Rattle.serde_json.specs.Data.{string, array, object, no_members, member};
 ghost use Rattle.serde_json.specs.View.{view};
 ghost use Rattle.doc_values.specs.Documents.{alt, doc_tree, docs_tree, doc_list};

@@ -3,7 +3,7 @@ use Rattle.edit_module.specs.Views.{word_tree}
 use Rattle.lens_types.specs.Forms.{form_tree}
 use Rattle.lens_core.specs.Complements.{comp_tree}
 use Rattle.editlens_main.specs.Views.{triple_tree}
-use Rattle.edit_module.specs.declared.side.Side.TheVariants.{Right}
+use Rattle.texts.specs.declared.side.Side.TheVariants.{Right}
 use Rattle.editlens_main.proofs.CarriedCounts.{carried_fits}
 use Rattle.editlens_main.proofs.RunInStep.{right_unfit, right_refused}
 use Rattle.editlens_main.proofs.step.step_right.Goals as goal

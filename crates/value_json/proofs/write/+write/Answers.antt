@@ -3,7 +3,7 @@ use Rattle.std.proofs.lemmas.List.{take_all, map-append}
 use Rattle.serde_json.specs.Data.{array, object, no_members, member, put}
 use Rattle.serde_json.specs.View.{view, items_of, members_view}
 use Rattle.serde_json.proofs.Views.{view-Array, view-Object}
-use Rattle.hold_shapes.specs.Keys.{is_rising}
+use Rattle.texts.specs.Keys.{is_rising}
 use Rattle.doc_values.specs.Documents.{doc_tree, docs_of, doc_list}
 use Rattle.doc_values.specs.Types.{ty_tree, fields_tree, fields_of, field_tree, names_of, are_well_formed, highest}
 use Rattle.doc_values.specs.Typing.{has_fields, has_each}
