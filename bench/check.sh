@@ -4,7 +4,7 @@
 set -eu
 
 here=$(cd "$(dirname "${BASH_SOURCE[0]}")/.." && pwd)
-printf 'main {}\n' | "$here/editlens" check >/dev/null
+[ -x "$here/crates/editlens/out/editlens" ] || { echo "run ./build first" >&2; exit 1; }
 
 exec python3 - "$here/crates/editlens/out/editlens" <<'PYTHON'
 import subprocess, sys, time

@@ -5,7 +5,7 @@
 set -eu
 
 here=$(cd "$(dirname "${BASH_SOURCE[0]}")/.." && pwd)
-printf 'main {a ~ b: id int}\n' | "$here/editlens" run >/dev/null
+[ -x "$here/crates/editlens/out/editlens" ] || { echo "run ./build first" >&2; exit 1; }
 
 exec python3 - "$here/crates/editlens/out/editlens" "${1:-100000}" <<'PYTHON'
 import os, subprocess, sys, tempfile, time
