@@ -1,6 +1,6 @@
 mod Examples
-pub mod Hung
+pub mod MovedDepths
 pub mod Nodes
-pub mod Olds
-pub mod Slots
-pub mod Valid
+pub mod OldPlaces
+pub mod ChildPlaces
+pub mod ValidDepths

@@ -1,3 +1,4 @@
+pub mod Causes
 pub mod Gather
 pub mod Plans
 pub mod Shapes

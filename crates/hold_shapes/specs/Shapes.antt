@@ -13,7 +13,7 @@ size_of (ListOf s) = s.count
 size_of (KeyedOf names) = length names
 size_of (TreeOf depths) = length depths
 
--- the number of a place, where the shape has it; a place of another kind is no place
+-- the number of a place, if the shape has it; a shape has no place of another kind
 abbrev pub place_of : Shape → Place → Option ℕ
 place_of (ListOf s) (Index p) = if nat_lt p s.count then Some p else None
 place_of (KeyedOf names) (Key k) = key_place k names

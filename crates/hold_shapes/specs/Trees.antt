@@ -6,7 +6,7 @@ abbrev pub goes_on : ℕ → List ℕ → Bool
 goes_on before [] = true
 goes_on before (d ∷ ds) = nat_le 1 d && (nat_le d (before + 1) && (nat_le d 15 && goes_on d ds))
 
--- a valid depth list is not empty, begins with 0, and goes on so
+-- a valid depth list is not empty, begins with 0, and goes on by that rule
 abbrev pub is_valid : List ℕ → Bool
 is_valid [] = false
 is_valid (d ∷ ds) = nat_eq d 0 && goes_on 0 ds
@@ -44,7 +44,7 @@ children ds p = children_of (slice_index ds p) (drop (p + 1) ds)
 abbrev pub child : List ℕ → ℕ → ℕ → Option ℕ
 child ds p i = child_from (p + 1) (slice_index ds p) i (drop (p + 1) ds)
 
--- child number i of a node, where there is a node
+-- child number i of a node, if there is a node
 abbrev pub child_at : List ℕ → ℕ → Option ℕ → Option ℕ
 child_at ds i None = None
 child_at ds i (Some p) = child ds p i

@@ -5,7 +5,8 @@ use std::alloc::{AllocError, Global};
 use std::marker::Model;
 use texts::Twin;
 
-/// A list of depths. It is the list of a tree only where `TreeShape::from_depths` accepts it.
+/// A list of depths. It is the list of a tree if and only if `TreeShape::from_depths`
+/// accepts it.
 #[derive(Debug, Drop)]
 pub struct Depths {
     items: Vec<u64>,
@@ -20,7 +21,7 @@ impl Model for Depths {
 }
 
 impl Depths {
-    /// The depths of a vector, in its order. Takes no memory.
+    /// The depths of a vector, in its order. Does not allocate.
     pub fn from_vec(items: Vec<u64>) -> Self
         ensures { result ≡ items.items }
     {
@@ -32,13 +33,6 @@ impl Depths {
         ensures { result.now ≡ self.now }
     {
         self.items.as_slice()
-    }
-
-    /// The depths as a vector. Takes no memory.
-    pub fn into_vec(self) -> Vec<u64>
-        ensures { result.items ≡ self }
-    {
-        self.items
     }
 
     /// Whether both have the same depths in the same order.

@@ -20,28 +20,28 @@ pub enum Place {
 /// An edit of a shape. What each does and why it may be refused: docs/EDITS.md.
 #[derive(Debug, Drop)]
 pub enum ShapeEdit {
-    /// So many fresh items at the end of a list, from 1 to 65,536.
+    /// Adds this number of fresh items at the end of a list, from 1 to 65,536.
     Ins(u32),
-    /// So many items less at the end of a list, from 1 to 65,536.
+    /// Removes this number of items at the end of a list, from 1 to 65,536.
     Del(u32),
-    /// The item at the first place is put at the second place of the result.
+    /// Moves the item at the first place to the second place of the result.
     MoveItem(u64, u64),
-    /// Place j of the result is the old place number j of the list.
+    /// Item j of the result is the old item at the place that the list has at j.
     Reorder(Places),
-    /// A new key with fresh content.
+    /// Adds a key with fresh content.
     PutKey(Name),
-    /// A key less, with its content.
+    /// Removes a key with its content.
     DropKey(Name),
-    /// The content of the first key is found under the second.
+    /// Renames the first key to the second; it keeps its content.
     RenameKey(Name, Name),
-    /// A fresh node as the last child of the node.
+    /// Adds a fresh node as the last child of the node.
     Graft(Path),
-    /// The last child of the node goes, with its subtree.
+    /// Removes the last child of the node with its subtree.
     Prune(Path),
-    /// The child of the first number becomes the child of the second, with its subtree.
+    /// Makes the child of the first number the child of the second number, with its subtree.
     Shift(Path, u64, u64),
-    /// The subtree of the first node becomes the last child of the second, whose path is read in
-    /// the tree that remains without the subtree.
+    /// Makes the subtree of the first node the last child of the second node. The path to the second
+    /// node is read in the tree that remains without the subtree.
     Hang(Path, Path),
 }
 

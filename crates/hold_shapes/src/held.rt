@@ -2,7 +2,8 @@
 ghost use Rattle.std.specs.Prelude.{◌≡◌, ℕ, List, Ok, Err, IfOk, IsOk, MatchResult};
 ghost use Rattle.hold_shapes.specs.declared.shape.Shape.{Shape};
 ghost use Rattle.hold_shapes.specs.Shapes.{size_of, place_of};
-ghost use Rattle.hold_shapes.specs.Plans.{plan as plan_of, IsRefusal};
+ghost use Rattle.hold_shapes.specs.Causes.{IsRefusal};
+ghost use Rattle.hold_shapes.specs.Plans.{plan as plan_of};
 
 use crate::edit::{Place, ShapeEdit};
 use crate::plan::{Plan, PlanFault};
@@ -21,20 +22,20 @@ pub trait Held: Sized + Twin {
 
     /// The number of a place among the places of the shape, from 0.
     ///
-    /// None exactly where the shape has no such place; a place of another kind is no place.
+    /// Returns None if and only if the shape does not have the place; it has none of another kind.
     fn place(&self, at: &Place) -> Option<u64>
         ensures { result ≡ place_of (shape_of self.now) at.now };
 
     /// What the edit makes of the shape, by docs/EDITS.md.
     ///
-    /// Each cause is answered exactly where that page says so, and `NoMemory` for want of memory
-    /// alone. The time and the memory are of the order of the shape's size and the edit's.
+    /// An error is the first cause of that page that applies, or `NoMemory` if memory ran out.
+    /// Nothing is changed in either case. Time and memory grow with the sizes of shape and edit.
     fn plan(&self, alloc: Global, edit: &ShapeEdit) -> Result<Plan<Self>, PlanFault>
         ensures { MatchResult result
             (λ p. plan_of (shape_of self.now) edit.now ≡ Ok (shape_of p.shape, p.from))
             (λ fault. IsRefusal (plan_of (shape_of self.now) edit.now) fault) };
 
-    /// The same shape as one of the three kinds. Takes no memory.
+    /// The same shape as one of the three kinds. Does not allocate.
     fn into_shape(self) -> Shape
         ensures { result ≡ shape_of self };
 
@@ -97,7 +98,7 @@ impl Held for KeyedShape {
     fn place(&self, at: &Place) -> Option<u64> {
         match at {
             Place::Index(_) => None,
-            Place::Key(name) => keys::place(self.names().as_slice(), name),
+            Place::Key(name) => keys::place(self.rising(), name),
             Place::Node(_) => None,
         }
     }
@@ -187,7 +188,7 @@ impl Held for Shape {
     }
 }
 
-// The same answer, for the shape as one of the three.
+// The same result, with the shape as one of the three kinds.
 fn as_shape<H: Held>(planned: Result<Plan<H>, PlanFault>) -> Result<Plan<Shape>, PlanFault>
     ensures { MatchResult planned
         (λ p. IfOk result (λ q. (q.shape ≡ H.shape_of p.shape) × (q.from ≡ p.from)) × IsOk result)

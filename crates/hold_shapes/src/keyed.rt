@@ -6,7 +6,8 @@ ghost use Rattle.hold_shapes.specs.declared.edit.ShapeEdit.TheVariants.{PutKey, 
 ghost use Rattle.hold_shapes.specs.declared.origins.Origin.TheVariants.{Old};
 ghost use Rattle.texts.specs.Keys.{key_place, is_rising};
 ghost use Rattle.hold_shapes.specs.declared.plan.PlanFault.TheVariants.{NoMemory};
-ghost use Rattle.hold_shapes.specs.Plans.{plan_keyed, add_key, olds, IsRefusal};
+ghost use Rattle.hold_shapes.specs.Causes.{IsRefusal};
+ghost use Rattle.hold_shapes.specs.Plans.{plan_keyed, add_key, old_places};
 
 use crate::lists::old_places;
 use crate::origins::{Origin, Origins};
@@ -49,7 +50,7 @@ fn with_key(
 }
 
 // A new key with fresh content.
-#[tactic(auto, using(crate::proofs::Olds::old_rules))]
+#[tactic(auto, using(crate::proofs::OldPlaces::old_rules))]
 pub(crate) fn put(
     alloc: Global,
     keys: &KeyedShape,
@@ -80,10 +81,10 @@ fn other_names(alloc: Global, names: &[Name], at: usize) -> Result<Vec<Name>, Al
 }
 
 // The old places but one.
-#[tactic(auto, using(crate::proofs::Olds::old_rules))]
+#[tactic(auto, using(crate::proofs::OldPlaces::old_rules))]
 fn other_places(alloc: Global, size: u64, at: u64) -> Result<Vec<Origin>, AllocError>
     requires { at < size }
-    ensures items { IfOk result (λ v. v.items ≡ remove (olds size) at) }
+    ensures items { IfOk result (λ v. v.items ≡ remove (old_places size) at) }
     ensures size { IfOk result (λ v. length v.items + 1 ≡ size) }
 {
     let mut from = old_places(alloc, size)?;
@@ -91,7 +92,7 @@ fn other_places(alloc: Global, size: u64, at: u64) -> Result<Vec<Origin>, AllocE
     Ok(from)
 }
 
-// A key goes with its content.
+// A key is removed with its content.
 #[tactic(auto, using(texts::proofs::KeyOrder::rising_rules))]
 pub(crate) fn drop_key(
     alloc: Global,

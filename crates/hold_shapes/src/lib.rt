@@ -1,23 +1,23 @@
 //! Shapes of containers, edits of shapes, and plans: the new shape, and for each of its places the
 //! old place that it comes from.
 //!
-//! A container is a list, a keyed map or an ordered tree. What it holds lies in a vector, one item a
-//! place, and a plan says where each item of the new container comes from, so that [`gather`] moves
+//! A container is a list, a keyed map or an ordered tree. What it holds is in a vector, one item for
+//! each place. A plan says where each item of the new container comes from, so that [`gather`] moves
 //! documents and complements alike. docs/EDITS.md has the edits with their causes.
 #![tactic(auto)]
 
-pub mod depths;
-pub mod edit;
-pub mod held;
-pub mod keyed;
-pub mod lists;
-pub mod origins;
-pub mod path;
-pub mod places;
-pub mod plan;
-pub mod shape;
-pub mod tree_plans;
-pub mod trees;
+mod depths;
+mod edit;
+mod held;
+mod keyed;
+mod lists;
+mod origins;
+mod path;
+mod places;
+mod plan;
+mod shape;
+mod tree_plans;
+mod trees;
 
 pub use crate::depths::Depths;
 pub use crate::edit::{Place, ShapeEdit};
@@ -28,6 +28,3 @@ pub use crate::places::Places;
 pub use crate::plan::{Plan, PlanFault};
 pub use crate::shape::{KeyedShape, ListShape, Shape, TreeShape};
 pub use texts::{Name, Names, Str, Twin, twin_all};
-
-#[cfg(test)]
-mod tests;

@@ -2,7 +2,8 @@
 ghost use Rattle.std.specs.Prelude.{◌≡◌, ℕ, List, Ok, IfOk, MatchResult, map, length, []};
 ghost use Rattle.hold_shapes.specs.declared.edit.ShapeEdit.TheVariants.{Ins, Del, MoveItem, Reorder};
 ghost use Rattle.hold_shapes.specs.declared.origins.Origin.TheVariants.{Old, Fresh};
-ghost use Rattle.hold_shapes.specs.Plans.{plan_list, olds, list_of, IsRefusal, is_each_new};
+ghost use Rattle.hold_shapes.specs.Causes.{IsRefusal};
+ghost use Rattle.hold_shapes.specs.Plans.{plan_list, old_places, list_of, is_each_new};
 
 use crate::origins::{Origin, Origins};
 use crate::places::Places;
@@ -10,13 +11,13 @@ use crate::plan::{Plan, PlanFault};
 use crate::shape::ListShape;
 use std::alloc::{AllocError, Global};
 
-/// The most items that one edit adds or takes away.
+/// The most items that one edit adds or removes.
 const MOST_ITEMS: u32 = 65536;
 
-// The first places of a shape, each as it was.
-#[tactic(auto, using(crate::proofs::Olds::old_rules))]
+// The first old places in order.
+#[tactic(auto, using(crate::proofs::OldPlaces::old_rules))]
 pub(crate) fn old_places(alloc: Global, count: u64) -> Result<Vec<Origin>, AllocError>
-    ensures { IfOk result (λ v. v.items ≡ olds count) }
+    ensures { IfOk result (λ v. v.items ≡ old_places count) }
 {
     let mut from = Vec::new(alloc);
     for place in 0..count {
@@ -26,7 +27,7 @@ pub(crate) fn old_places(alloc: Global, count: u64) -> Result<Vec<Origin>, Alloc
 }
 
 // Fresh items at the end.
-#[tactic(auto, using(crate::proofs::Olds::old_rules))]
+#[tactic(auto, using(crate::proofs::OldPlaces::old_rules))]
 pub(crate) fn insert_items(
     alloc: Global,
     size: u64,
@@ -52,7 +53,7 @@ pub(crate) fn insert_items(
     })
 }
 
-// The last items go.
+// The last items are removed.
 pub(crate) fn delete_items(
     alloc: Global,
     size: u64,
@@ -73,8 +74,8 @@ pub(crate) fn delete_items(
     })
 }
 
-// An item is taken out and put at another place of the result.
-#[tactic(auto, using(crate::proofs::Olds::old_rules))]
+// An item is removed and inserted at another place of the result.
+#[tactic(auto, using(crate::proofs::OldPlaces::old_rules))]
 pub(crate) fn move_item(
     alloc: Global,
     size: u64,

@@ -11,8 +11,20 @@ use texts::Twin;
 pub enum Origin {
     /// From this place of the old shape.
     Old(u64),
-    /// From none: its content is initial.
+    /// From no old place: its content is initial.
     Fresh,
+}
+
+impl Twin for Origin {
+    ghost use Rattle.hold_shapes.specs.declared.origins.Origin.{Origin};
+
+    ghost Meaning = { Origin };
+
+    ghost meaning = { λ o. o };
+
+    fn twin(&self, _alloc: Global) -> Result<Self, AllocError> {
+        Ok(*self)
+    }
 }
 
 /// The origin of each place of a new shape, in order.
@@ -31,7 +43,7 @@ impl Model for Origins {
 }
 
 impl Origins {
-    /// The origins of a vector, in its order. Takes no memory.
+    /// The origins of a vector, in its order. Does not allocate.
     pub fn from_vec(items: Vec<Origin>) -> Self
         ensures { result ≡ items.items }
     {
@@ -43,13 +55,6 @@ impl Origins {
         ensures { result.now ≡ self.now }
     {
         self.items.as_slice()
-    }
-
-    /// The origins as a vector. Takes no memory.
-    pub fn into_vec(self) -> Vec<Origin>
-        ensures { result.items ≡ self }
-    {
-        self.items
     }
 }
 

@@ -21,7 +21,7 @@ impl Model for Path {
 }
 
 impl Path {
-    /// The child numbers of a vector, in its order. Takes no memory.
+    /// The child numbers of a vector, in its order. Does not allocate.
     pub fn from_vec(items: Vec<u64>) -> Self
         ensures { result ≡ items.items }
     {
@@ -33,13 +33,6 @@ impl Path {
         ensures { result.now ≡ self.now }
     {
         self.items.as_slice()
-    }
-
-    /// The child numbers as a vector. Takes no memory.
-    pub fn into_vec(self) -> Vec<u64>
-        ensures { result.items ≡ self }
-    {
-        self.items
     }
 
     /// Whether both have the same child numbers in the same order.

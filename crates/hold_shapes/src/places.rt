@@ -20,7 +20,7 @@ impl Model for Places {
 }
 
 impl Places {
-    /// The places of a vector, in its order. Takes no memory.
+    /// The places of a vector, in its order. Does not allocate.
     pub fn from_vec(items: Vec<u64>) -> Self
         ensures { result ≡ items.items }
     {
@@ -32,13 +32,6 @@ impl Places {
         ensures { result.now ≡ self.now }
     {
         self.items.as_slice()
-    }
-
-    /// The places as a vector. Takes no memory.
-    pub fn into_vec(self) -> Vec<u64>
-        ensures { result.items ≡ self }
-    {
-        self.items
     }
 
     /// Whether both have the same places in the same order.

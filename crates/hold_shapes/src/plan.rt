@@ -1,4 +1,4 @@
-//! A plan of a shape edit, and why there is none.
+//! A plan of a shape edit, and why an edit has none.
 use crate::origins::Origins;
 use std::alloc::{AllocError, AllocFailed, Global};
 use texts::Twin;
@@ -33,7 +33,7 @@ impl<H: Twin + Drop> Twin for Plan<H> {
 pub enum PlanFault {
     /// The edit is of another kind of shape.
     Kind,
-    /// There is no such place.
+    /// The shape does not have the place.
     Place,
     /// A number is out of its range.
     Range,
@@ -43,7 +43,7 @@ pub enum PlanFault {
     Length,
     /// A node would be more than 15 below the root.
     Deep,
-    /// Memory ran out. This cause stands for nothing else.
+    /// Memory ran out. This is no cause of the edit: with more memory there may be a plan.
     NoMemory,
 }
 
@@ -66,5 +66,17 @@ impl<T: Drop> From<AllocFailed<T>> for PlanFault {
 
     fn from(_: AllocFailed<T>) -> PlanFault {
         PlanFault::NoMemory
+    }
+}
+
+impl Twin for PlanFault {
+    ghost use Rattle.hold_shapes.specs.declared.plan.PlanFault.{PlanFault};
+
+    ghost Meaning = { PlanFault };
+
+    ghost meaning = { λ f. f };
+
+    fn twin(&self, _alloc: Global) -> Result<Self, AllocError> {
+        Ok(*self)
     }
 }

@@ -16,7 +16,7 @@ pub struct ListShape {
     pub count: u64,
 }
 
-/// The shape of a keyed map: its names, each standing before the next in byte order.
+/// The shape of a keyed map: its names, each before the next one in byte order.
 #[derive(Debug, Drop)]
 pub struct KeyedShape {
     names: Names,
@@ -78,9 +78,10 @@ impl Shape {
 }
 
 impl KeyedShape {
-    /// The names as a shape. Takes no memory.
+    /// The names as a shape. Does not allocate.
     ///
-    /// None exactly where the names are not strictly rising by bytes; the names are then given up.
+    /// Returns None if and only if a name is not before the next one in byte order; the names are
+    /// then dropped.
     pub fn from_names(names: Names) -> Option<KeyedShape>
         ensures { MatchOption result (is_rising names ≡ false) (λ s. (is_rising names ≡ true) × (s ≡ names)) }
     {
@@ -119,11 +120,11 @@ impl KeyedShape {
 }
 
 impl TreeShape {
-    /// The depths as a shape. Takes no memory.
+    /// The depths as a shape. Does not allocate.
     ///
-    /// None exactly where the list is not a valid depth list, which is not empty, begins with 0,
+    /// Returns None if and only if the list is not a valid depth list, which is not empty, begins with 0,
     /// and in which each later number is from 1 to the number before it plus 1, and at most 15.
-    /// The list is then given up.
+    /// The list is then dropped.
     pub fn from_depths(depths: Depths) -> Option<TreeShape>
         ensures { MatchOption result (is_valid depths ≡ false) (λ s. (is_valid depths ≡ true) × (s ≡ depths)) }
     {

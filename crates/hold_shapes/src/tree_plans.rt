@@ -3,7 +3,8 @@ ghost use Rattle.std.specs.Prelude.{◌≡◌, ℕ, List, Ok, IfOk, MatchResult,
 ghost use Rattle.hold_shapes.specs.declared.shape.Shape.TheVariants.{Tree as TreeOf};
 ghost use Rattle.hold_shapes.specs.declared.edit.ShapeEdit.TheVariants.{Graft, Prune, Shift, Hang};
 ghost use Rattle.hold_shapes.specs.Trees.{child};
-ghost use Rattle.hold_shapes.specs.Plans.{plan_tree, IsRefusal, without, put_in, moved, slot, deepened};
+ghost use Rattle.hold_shapes.specs.Causes.{IsRefusal};
+ghost use Rattle.hold_shapes.specs.Plans.{plan_tree, remove_part, insert_part, move_part, place_for_child, allowed_depths};
 
 use crate::lists::old_places;
 use crate::origins::{Origin, Origins};
@@ -13,8 +14,8 @@ use crate::shape::TreeShape;
 use crate::trees::{child, children, end, node};
 use std::alloc::{AllocError, Global};
 
-// A list without a part.
-fn without<T: Copy>(
+// A list without the part between two places.
+fn remove_part<T: Copy>(
     alloc: Global,
     items: &[T],
     from: usize,
@@ -22,17 +23,22 @@ fn without<T: Copy>(
 ) -> Result<Vec<T>, AllocError>
     requires order { from ≤ to }
     requires within { to ≤ length items.now }
-    ensures { IfOk result (λ v. v.items ≡ without from to items.now) }
+    ensures { IfOk result (λ v. v.items ≡ remove_part from to items.now) }
 {
     let mut left = Vec::from_slice(alloc, &items[..from])?;
     left.extend_from_slice(&items[to..])?;
     Ok(left)
 }
 
-// A list with a part put in.
-fn put_in<T: Copy>(alloc: Global, at: usize, part: &[T], items: &[T]) -> Result<Vec<T>, AllocError>
+// A list with a part inserted at a place.
+fn insert_part<T: Copy>(
+    alloc: Global,
+    at: usize,
+    part: &[T],
+    items: &[T],
+) -> Result<Vec<T>, AllocError>
     requires { at ≤ length items.now }
-    ensures { IfOk result (λ v. v.items ≡ put_in at part.now items.now) }
+    ensures { IfOk result (λ v. v.items ≡ insert_part at part.now items.now) }
 {
     let mut all = Vec::from_slice(alloc, &items[..at])?;
     all.extend_from_slice(part)?;
@@ -41,7 +47,7 @@ fn put_in<T: Copy>(alloc: Global, at: usize, part: &[T], items: &[T]) -> Result<
 }
 
 // A fresh node as the last child of a node.
-#[tactic(auto, using(crate::proofs::Valid::valid_rules, crate::proofs::Olds::old_rules))]
+#[tactic(auto, using(crate::proofs::ValidDepths::valid_rules, crate::proofs::OldPlaces::old_rules))]
 pub(crate) fn graft(
     alloc: Global,
     tree: &TreeShape,
@@ -70,8 +76,8 @@ pub(crate) fn graft(
     })
 }
 
-// The last child of a node goes with its subtree.
-#[tactic(auto, using(crate::proofs::Valid::valid_rules, crate::proofs::Olds::old_rules))]
+// The last child of a node is removed with its subtree.
+#[tactic(auto, using(crate::proofs::ValidDepths::valid_rules, crate::proofs::OldPlaces::old_rules))]
 pub(crate) fn prune(
     alloc: Global,
     tree: &TreeShape,
@@ -94,16 +100,16 @@ pub(crate) fn prune(
     };
     let to = end(depths, last);
     let from = old_places(alloc, depths.len() as u64)?;
-    let from = without(alloc, from.as_slice(), last, to)?;
-    let left = without(alloc, depths, last, to)?;
+    let from = remove_part(alloc, from.as_slice(), last, to)?;
+    let left = remove_part(alloc, depths, last, to)?;
     Ok(Plan {
         shape: TreeShape::of_valid(left),
         from: Origins::from_vec(from),
     })
 }
 
-// A list with a part moved.
-fn moved<T: Copy>(
+// A list with the part between two places moved to a place of the rest.
+fn move_part<T: Copy>(
     alloc: Global,
     items: &[T],
     from: usize,
@@ -113,17 +119,17 @@ fn moved<T: Copy>(
     requires order { from ≤ to }
     requires within { to ≤ length items.now }
     requires place { at + (to - from) ≤ length items.now }
-    ensures { IfOk result (λ v. v.items ≡ moved from to at items.now) }
+    ensures { IfOk result (λ v. v.items ≡ move_part from to at items.now) }
 {
-    let rest = without(alloc, items, from, to)?;
-    put_in(alloc, at, &items[from..to], rest.as_slice())
+    let rest = remove_part(alloc, items, from, to)?;
+    insert_part(alloc, at, &items[from..to], rest.as_slice())
 }
 
-// Where a child stands among the nodes, or would stand as the last one.
-#[tactic(auto, using(crate::proofs::Slots::slot_rules))]
-fn slot(depths: &[u64], at: usize, number: u64) -> usize
+// The place of a child of a node; without such a child, the place that a new last one has.
+#[tactic(auto, using(crate::proofs::ChildPlaces::slot_rules))]
+fn place_for_child(depths: &[u64], at: usize, number: u64) -> usize
     requires { at < length depths.now }
-    ensures value { result ≡ slot depths.now at (child depths.now at number) }
+    ensures value { result ≡ place_for_child depths.now at (child depths.now at number) }
     ensures above { at < result }
     ensures within { result ≤ length depths.now }
 {
@@ -134,7 +140,7 @@ fn slot(depths: &[u64], at: usize, number: u64) -> usize
 }
 
 // A child of a node becomes its child of another number.
-#[tactic(auto, using(crate::proofs::Slots::slot_rules, crate::proofs::Olds::old_rules))]
+#[tactic(auto, using(crate::proofs::ChildPlaces::slot_rules, crate::proofs::OldPlaces::old_rules))]
 pub(crate) fn shift(
     alloc: Global,
     tree: &TreeShape,
@@ -158,22 +164,22 @@ pub(crate) fn shift(
         return Err(PlanFault::Range);
     };
     let after = end(depths, place);
-    let rest = without(alloc, depths, place, after)?;
-    let target = slot(rest.as_slice(), at, to);
+    let rest = remove_part(alloc, depths, place, after)?;
+    let target = place_for_child(rest.as_slice(), at, to);
     let from = old_places(alloc, depths.len() as u64)?;
-    let from = moved(alloc, from.as_slice(), place, after, target)?;
-    let shifted = moved(alloc, depths, place, after, target)?;
+    let from = move_part(alloc, from.as_slice(), place, after, target)?;
+    let shifted = move_part(alloc, depths, place, after, target)?;
     Ok(Plan {
         shape: TreeShape::of_valid(shifted),
         from: Origins::from_vec(from),
     })
 }
 
-// A subtree below another node.
-fn hung(alloc: Global, part: &[u64], top: u64, depth: u64) -> Result<Vec<u64>, PlanFault>
+// The depths of a subtree whose root has depth `top`, after it is moved below a node of this depth.
+fn moved_depths(alloc: Global, part: &[u64], top: u64, depth: u64) -> Result<Vec<u64>, PlanFault>
     ensures { MatchResult result
-        (λ v. deepened top depth part.now ≡ Ok v.items)
-        (λ fault. IsRefusal (deepened top depth part.now) fault) }
+        (λ v. allowed_depths top depth part.now ≡ Ok v.items)
+        (λ fault. IsRefusal (allowed_depths top depth part.now) fault) }
 {
     let mut all = Vec::new(alloc);
     for item in part {
@@ -190,7 +196,7 @@ fn hung(alloc: Global, part: &[u64], top: u64, depth: u64) -> Result<Vec<u64>, P
 }
 
 // A subtree becomes the last child of a node of the tree that remains without it.
-#[tactic(auto, using(crate::proofs::Hung::hung_rules, crate::proofs::Olds::old_rules))]
+#[tactic(auto, using(crate::proofs::MovedDepths::hung_rules, crate::proofs::OldPlaces::old_rules))]
 pub(crate) fn hang(
     alloc: Global,
     tree: &TreeShape,
@@ -209,15 +215,15 @@ pub(crate) fn hang(
         return Err(PlanFault::Place);
     }
     let after = end(depths, top);
-    let rest = without(alloc, depths, top, after)?;
+    let rest = remove_part(alloc, depths, top, after)?;
     let Some(at) = node(rest.as_slice(), below.as_slice()) else {
         return Err(PlanFault::Place);
     };
-    let block = hung(alloc, &depths[top..after], depths[top], rest[at])?;
+    let block = moved_depths(alloc, &depths[top..after], depths[top], rest[at])?;
     let target = end(rest.as_slice(), at);
     let from = old_places(alloc, depths.len() as u64)?;
-    let from = moved(alloc, from.as_slice(), top, after, target)?;
-    let grown = put_in(alloc, target, block.as_slice(), rest.as_slice())?;
+    let from = move_part(alloc, from.as_slice(), top, after, target)?;
+    let grown = insert_part(alloc, target, block.as_slice(), rest.as_slice())?;
     Ok(Plan {
         shape: TreeShape::of_valid(grown),
         from: Origins::from_vec(from),

@@ -13,12 +13,11 @@ use Rattle.hold_shapes.specs.declared.origins.Origin.{Origin}
 use Rattle.hold_shapes.specs.declared.origins.Origin.TheVariants.{Old, Fresh}
 use Rattle.hold_shapes.specs.declared.edit.ShapeEdit.{ShapeEdit}
 use Rattle.hold_shapes.specs.declared.edit.ShapeEdit.TheVariants.{Ins, Del, MoveItem, Reorder, PutKey, DropKey, RenameKey, Graft, Prune, Shift, Hang}
-use Rattle.hold_shapes.specs.declared.plan.PlanFault.{PlanFault}
-use Rattle.hold_shapes.specs.declared.plan.PlanFault.TheVariants.{Place, Range, Deep}
+use Rattle.hold_shapes.specs.Causes.{PlanCause, Place, Range, Deep}
 use Rattle.hold_shapes.specs.Gather.{content_at}
 use Rattle.texts.specs.Keys.{key_from, key_place, rank}
 use Rattle.hold_shapes.specs.Trees.{node, node_from, children, child, child_at, child_from, end_of, descendants}
-use Rattle.hold_shapes.specs.Plans.{Planned, olds, at_place, put_key, drop_key, rename_to, rename_key, plan_keyed, without, put_in, moved, graft, prune, prune_child, slot, shift_child, shift, hung, all_at_most, hang_part, hang_below, hang_in, hang, plan_list, plan_tree, plan}
+use Rattle.hold_shapes.specs.Plans.{Planned, old_places, at_place, put_key, drop_key, rename_to, rename_key, plan_keyed, remove_part, insert_part, move_part, graft, prune, prune_child, place_for_child, shift_child, shift, moved_depths, all_at_most, hang_depths, hang_below, hang_at, hang, plan_list, plan_tree, plan}
 use Rattle.shape_laws.specs.Laws.{renamed_at, names_after, fresh_name, hung_below, hung_at, depths_after, depth_below, fresh_depth, MovesNames, MovesDepths, KeepsContent}
 use Rattle.shape_laws.proofs.Lawful.{key-within, past}
 
@@ -36,14 +35,14 @@ map-remove X Y f [] (suc i) = refl
 map-remove X Y f (y ∷ ys) zero = refl
 map-remove X Y f (y ∷ ys) (suc i) = ap (λ (l : List Y). f y ∷ l) (map-remove X Y f ys i)
 
-map-without : (X Y : Type 0) (f : X → Y) (a e : ℕ) (xs : List X) → map f (without a e xs) ≡ without a e (map f xs)
-map-without X Y f a e xs =
+map-remove_part : (X Y : Type 0) (f : X → Y) (a e : ℕ) (xs : List X) → map f (remove_part a e xs) ≡ remove_part a e (map f xs)
+map-remove_part X Y f a e xs =
     let p = map-append f (take a xs) (drop e xs) in
     let q = take-map f a xs in
     let r = drop-map f e xs in cc
 
-map-put_in : (X Y : Type 0) (f : X → Y) (t : ℕ) (part xs : List X) → map f (put_in t part xs) ≡ put_in t (map f part) (map f xs)
-map-put_in X Y f t part xs =
+map-insert_part : (X Y : Type 0) (f : X → Y) (t : ℕ) (part xs : List X) → map f (insert_part t part xs) ≡ insert_part t (map f part) (map f xs)
+map-insert_part X Y f t part xs =
     let p = map-append f (take t xs) (part ++ drop t xs) in
     let o = map-append f part (drop t xs) in
     let q = take-map f t xs in
@@ -54,11 +53,11 @@ map-range X Y f a e xs =
     let p = take-map f (e - a) (drop a xs) in
     let q = drop-map f a xs in cc
 
-map-moved : (X Y : Type 0) (f : X → Y) (a e t : ℕ) (xs : List X) → map f (moved a e t xs) ≡ moved a e t (map f xs)
-map-moved X Y f a e t xs =
-    let p = map-put_in X Y f t (slice_range xs a e) (without a e xs) in
+map-move_part : (X Y : Type 0) (f : X → Y) (a e t : ℕ) (xs : List X) → map f (move_part a e t xs) ≡ move_part a e t (map f xs)
+map-move_part X Y f a e t xs =
+    let p = map-insert_part X Y f t (slice_range xs a e) (remove_part a e xs) in
     let q = map-range X Y f a e xs in
-    let r = map-without X Y f a e xs in cc
+    let r = map-remove_part X Y f a e xs in cc
 
 -- gathering by the old places in order gives what was there
 in-order : (X : Type 0) (d : X) (front xs : List X) (n : ℕ) → n ≡ length front → map (content_at (front ++ xs) d) (map Old (range_with_len n (length xs))) ≡ xs
@@ -71,34 +70,34 @@ in-order X d front (x ∷ xs) n e =
     let rest = subst Q one (in-order X d (front ++ x ∷ []) xs (n + 1) more) in
     rw (here, rest) refl
 
-pub content-olds : (X : Type 0) (d : X) (xs : List X) (n : ℕ) → n ≡ length xs → map (content_at xs d) (olds n) ≡ xs
-content-olds X d xs n e =
-    let P : ℕ → Type 0 = λ m. map (content_at xs d) (olds m) ≡ xs in
+pub content-old_places : (X : Type 0) (d : X) (xs : List X) (n : ℕ) → n ≡ length xs → map (content_at xs d) (old_places n) ≡ xs
+content-old_places X d xs n e =
+    let P : ℕ → Type 0 = λ m. map (content_at xs d) (old_places m) ≡ xs in
     subst P (sym e) (in-order X d [] xs 0 refl)
 
-content-insert : (X : Type 0) (d : X) (xs : List X) (n i : ℕ) (o : Origin) → n ≡ length xs → insert xs i (content_at xs d o) ≡ map (content_at xs d) (insert (olds n) i o)
+content-insert : (X : Type 0) (d : X) (xs : List X) (n i : ℕ) (o : Origin) → n ≡ length xs → insert xs i (content_at xs d o) ≡ map (content_at xs d) (insert (old_places n) i o)
 content-insert X d xs n i o e =
-    let p = map-insert Origin X (content_at xs d) (olds n) i o in
-    let q = content-olds X d xs n e in
+    let p = map-insert Origin X (content_at xs d) (old_places n) i o in
+    let q = content-old_places X d xs n e in
     sym (p ∙ ap (λ (l : List X). insert l i (content_at xs d o)) q)
 
-content-remove : (X : Type 0) (d : X) (xs : List X) (n i : ℕ) → n ≡ length xs → remove xs i ≡ map (content_at xs d) (remove (olds n) i)
+content-remove : (X : Type 0) (d : X) (xs : List X) (n i : ℕ) → n ≡ length xs → remove xs i ≡ map (content_at xs d) (remove (old_places n) i)
 content-remove X d xs n i e =
-    let p = map-remove Origin X (content_at xs d) (olds n) i in
-    let q = content-olds X d xs n e in
+    let p = map-remove Origin X (content_at xs d) (old_places n) i in
+    let q = content-old_places X d xs n e in
     sym (p ∙ ap (λ (l : List X). remove l i) q)
 
-content-without : (X : Type 0) (d : X) (xs : List X) (n a b : ℕ) → n ≡ length xs → without a b xs ≡ map (content_at xs d) (without a b (olds n))
-content-without X d xs n a b e =
-    let p = map-without Origin X (content_at xs d) a b (olds n) in
-    let q = content-olds X d xs n e in
-    sym (p ∙ ap (λ (l : List X). without a b l) q)
+content-remove_part : (X : Type 0) (d : X) (xs : List X) (n a b : ℕ) → n ≡ length xs → remove_part a b xs ≡ map (content_at xs d) (remove_part a b (old_places n))
+content-remove_part X d xs n a b e =
+    let p = map-remove_part Origin X (content_at xs d) a b (old_places n) in
+    let q = content-old_places X d xs n e in
+    sym (p ∙ ap (λ (l : List X). remove_part a b l) q)
 
-content-moved : (X : Type 0) (d : X) (xs : List X) (n a b t : ℕ) → n ≡ length xs → moved a b t xs ≡ map (content_at xs d) (moved a b t (olds n))
-content-moved X d xs n a b t e =
-    let p = map-moved Origin X (content_at xs d) a b t (olds n) in
-    let q = content-olds X d xs n e in
-    sym (p ∙ ap (λ (l : List X). moved a b t l) q)
+content-move_part : (X : Type 0) (d : X) (xs : List X) (n a b t : ℕ) → n ≡ length xs → move_part a b t xs ≡ map (content_at xs d) (move_part a b t (old_places n))
+content-move_part X d xs n a b t e =
+    let p = map-move_part Origin X (content_at xs d) a b t (old_places n) in
+    let q = content-old_places X d xs n e in
+    sym (p ∙ ap (λ (l : List X). move_part a b t l) q)
 
 -- ---- what holds of the plan, where there is one
 
@@ -106,11 +105,11 @@ abbrev pub OfPlan : (Shape → List Origin → Type 0) → Planned → Type 0
 OfPlan P (Err fault) = Unit {0}
 OfPlan P (Ok y) = P y.0 y.1
 
-pub of-if : (P : Shape → List Origin → Type 0) (b : Bool) (x : Planned) (fault : PlanFault) → OfPlan P x → OfPlan P (if b then x else Err fault)
+pub of-if : (P : Shape → List Origin → Type 0) (b : Bool) (x : Planned) (fault : PlanCause) → OfPlan P x → OfPlan P (if b then x else Err fault)
 of-if P true x fault f = f
 of-if P false x fault f = tt
 
-pub of-else : (P : Shape → List Origin → Type 0) (b : Bool) (x : Planned) (fault : PlanFault) → (b ≡ false → OfPlan P x) → OfPlan P (if b then Err fault else x)
+pub of-else : (P : Shape → List Origin → Type 0) (b : Bool) (x : Planned) (fault : PlanCause) → (b ≡ false → OfPlan P x) → OfPlan P (if b then Err fault else x)
 of-else P true x fault f = tt
 of-else P false x fault f = f refl
 
@@ -136,11 +135,11 @@ of-rename-to ks m p None h =
     let named = set ks p m in
     let n : length ks ≡ length named = sym (length-set ks p m) in
     let here : get_or named p [] ≡ m = get_or-set_same ks p m [] h in
-    let outer = map-insert Origin (List ℕ) (content_at named []) (remove (olds (length ks)) p) (rank m (remove ks p)) (Old p) in
+    let outer = map-insert Origin (List ℕ) (content_at named []) (remove (old_places (length ks)) p) (rank m (remove ks p)) (Old p) in
     let inner = content-remove (List ℕ) [] named (length ks) p n in
     let bare = remove-set (List ℕ) ks p m in
-    let both : remove ks p ≡ map (content_at named []) (remove (olds (length ks)) p) = sym bare ∙ inner in
-    sym (outer ∙ (ap (λ (x : List ℕ). insert (map (content_at named []) (remove (olds (length ks)) p)) (rank m (remove ks p)) x) here
+    let both : remove ks p ≡ map (content_at named []) (remove (old_places (length ks)) p) = sym bare ∙ inner in
+    sym (outer ∙ (ap (λ (x : List ℕ). insert (map (content_at named []) (remove (old_places (length ks)) p)) (rank m (remove ks p)) x) here
     ∙ ap (λ (l : List (List ℕ)). insert l (rank m (remove ks p)) m) (sym both)))
 
 least-step : (b : Bool) (at p : ℕ) (o : Option ℕ) → (o ≡ Some p → at + 1 ≤ p) → (if b then Some at else o) ≡ Some p → at ≤ p
@@ -165,12 +164,12 @@ key-found at i k [] h = cc
 key-found at i k (m ∷ ms) h = found-step (bytes_eq k m) at i k m ms refl h (λ j. key-found (at + 1) j k ms)
 
 same-name : (b : Bool) (ks : List (List ℕ)) (k m : List ℕ) (p : ℕ) → bytes_eq k m ≡ b → p < length ks → get_or ks p [] ≡ k
-    → OfPlan (MovesNames (set ks p m) []) (if b then Ok (KeyedOf ks, olds (length ks)) else rename_to ks m p (key_place m ks))
+    → OfPlan (MovesNames (set ks p m) []) (if b then Ok (KeyedOf ks, old_places (length ks)) else rename_to ks m p (key_place m ks))
 same-name true ks k m p e h g =
     let same : k ≡ m = (bytes_eq-Decides k m).0 e in
     let put : set ks p m ≡ ks = ap (λ (x : List ℕ). set ks p x) (sym (g ∙ same)) ∙ set-get_or ks p [] in
-    let P : List (List ℕ) → Type 0 = λ l. ks ≡ map (content_at l []) (olds (length ks)) in
-    subst P (sym put) (sym (content-olds (List ℕ) [] ks (length ks) refl))
+    let P : List (List ℕ) → Type 0 = λ l. ks ≡ map (content_at l []) (old_places (length ks)) in
+    subst P (sym put) (sym (content-old_places (List ℕ) [] ks (length ks) refl))
 same-name false ks k m p e h g = of-rename-to ks m p (key_place m ks) h
 
 of-rename : (ks : List (List ℕ)) (k m : List ℕ) (o : Option ℕ) → key_place k ks ≡ o → OfPlan (MovesNames (renamed_at ks m o) []) (rename_key ks k m o)
@@ -199,12 +198,12 @@ of-graft : (ds : List ℕ) (o : Option ℕ) → OfPlan (MovesDepths ds (depth_be
 of-graft ds None = tt
 of-graft ds (Some p) =
     of-if (MovesDepths ds (get_or ds p 0 + 1)) (nat_lt (get_or ds p 0) 15)
-    (Ok (TreeOf (insert ds (end_of ds p) (get_or ds p 0 + 1)), insert (olds (length ds)) (end_of ds p) Fresh)) Deep
+    (Ok (TreeOf (insert ds (end_of ds p) (get_or ds p 0 + 1)), insert (old_places (length ds)) (end_of ds p) Fresh)) Deep
     (content-insert ℕ (get_or ds p 0 + 1) ds (length ds) (end_of ds p) Fresh refl)
 
 of-prune-child : (ds : List ℕ) (o : Option ℕ) → OfPlan (MovesDepths ds 0) (prune_child ds o)
 of-prune-child ds None = tt
-of-prune-child ds (Some c) = content-without ℕ 0 ds (length ds) c (end_of ds c) refl
+of-prune-child ds (Some c) = content-remove_part ℕ 0 ds (length ds) c (end_of ds c) refl
 
 of-prune : (ds : List ℕ) (o : Option ℕ) → OfPlan (MovesDepths ds 0) (at_place o (prune ds))
 of-prune ds None = tt
@@ -215,7 +214,7 @@ of-prune ds (Some p) =
 of-shift-child : (ds : List ℕ) (p j : ℕ) (o : Option ℕ) → OfPlan (MovesDepths ds 0) (shift_child ds p j o)
 of-shift-child ds p j None = tt
 of-shift-child ds p j (Some c) =
-    content-moved ℕ 0 ds (length ds) c (end_of ds c) (slot (without c (end_of ds c) ds) p (child (without c (end_of ds c) ds) p j)) refl
+    content-move_part ℕ 0 ds (length ds) c (end_of ds c) (place_for_child (remove_part c (end_of ds c) ds) p (child (remove_part c (end_of ds c) ds) p j)) refl
 
 of-shift : (ds : List ℕ) (i j : ℕ) (o : Option ℕ) → OfPlan (MovesDepths ds 0) (at_place o (shift ds i j))
 of-shift ds i j None = tt
@@ -260,7 +259,7 @@ back-of ds part a e h k l =
     let P : ℕ → Type 0 = λ i. drop i ((take a ds ++ part) ++ drop e ds) ≡ drop e ds in
     ap (λ (x : List ℕ). drop e x) (sym one) ∙ subst P n (drop-append_seam (take a ds ++ part) (drop e ds))
 
-rest-of : (ds part : List ℕ) (a e : ℕ) → a ≤ e → e ≤ length ds → length part ≡ e - a → without a e (take a ds ++ (part ++ drop e ds)) ≡ without a e ds
+rest-of : (ds part : List ℕ) (a e : ℕ) → a ≤ e → e ≤ length ds → length part ≡ e - a → remove_part a e (take a ds ++ (part ++ drop e ds)) ≡ remove_part a e ds
 rest-of ds part a e h k l =
     let p = front-of ds (part ++ drop e ds) a (omega arith) in
     let q = back-of ds part a e h k l in cc
@@ -272,31 +271,31 @@ length-of ds part a e h k l =
     let r = length-take-le a ds (omega arith) in
     let t = length-drop e ds in omega arith
 
-hung-moves : (ds part : List ℕ) (a e t : ℕ) → a ≤ e → e ≤ length ds → length part ≡ e - a
-    → put_in t part (without a e ds) ≡ map (content_at (take a ds ++ (part ++ drop e ds)) 0) (moved a e t (olds (length ds)))
-hung-moves ds part a e t h k l =
+moved_depths-moves : (ds part : List ℕ) (a e t : ℕ) → a ≤ e → e ≤ length ds → length part ≡ e - a
+    → insert_part t part (remove_part a e ds) ≡ map (content_at (take a ds ++ (part ++ drop e ds)) 0) (move_part a e t (old_places (length ds)))
+moved_depths-moves ds part a e t h k l =
     let p = block-of ds part a e h k l in
     let q = rest-of ds part a e h k l in
-    let m : moved a e t (take a ds ++ (part ++ drop e ds)) ≡ put_in t part (without a e ds) = cc in
-    sym m ∙ content-moved ℕ 0 (take a ds ++ (part ++ drop e ds)) (length ds) a e t (length-of ds part a e h k l)
+    let m : move_part a e t (take a ds ++ (part ++ drop e ds)) ≡ insert_part t part (remove_part a e ds) = cc in
+    sym m ∙ content-move_part ℕ 0 (take a ds ++ (part ++ drop e ds)) (length ds) a e t (length-of ds part a e h k l)
 
-length-hung : (ds : List ℕ) (a e d r : ℕ) → a ≤ e → e ≤ length ds → length (hung d r (slice_range ds a e)) ≡ e - a
-length-hung ds a e d r h k =
+length-moved_depths : (ds : List ℕ) (a e d r : ℕ) → a ≤ e → e ≤ length ds → length (moved_depths d r (slice_range ds a e)) ≡ e - a
+length-moved_depths ds a e d r h k =
     let m = length-map (slice_range ds a e) (λ (x : ℕ). x - d + (r + 1)) in
     let t = length-take-le (e - a) (drop a ds) (let n = length-drop a ds in omega arith) in m ∙ t
 
 of-deep : (b : Bool) (ds part : List ℕ) (a e r : ℕ) → a ≤ e → e ≤ length ds → length part ≡ e - a
-    → OfPlan (MovesDepths (take a ds ++ (part ++ drop e ds)) 0) (hang_part ds a e (without a e ds) r (if b then Ok part else Err Deep))
-of-deep true ds part a e r h k l = hung-moves ds part a e (end_of (without a e ds) r) h k l
+    → OfPlan (MovesDepths (take a ds ++ (part ++ drop e ds)) 0) (hang_depths ds a e (remove_part a e ds) r (if b then Ok part else Err Deep))
+of-deep true ds part a e r h k l = moved_depths-moves ds part a e (end_of (remove_part a e ds) r) h k l
 of-deep false ds part a e r h k l = tt
 
 of-below : (ds : List ℕ) (a e : ℕ) (o : Option ℕ) → a ≤ e → e ≤ length ds
-    → OfPlan (MovesDepths (hung_below ds a e (without a e ds) o) 0) (at_place o (hang_below ds a e (without a e ds)))
+    → OfPlan (MovesDepths (hung_below ds a e (remove_part a e ds) o) 0) (at_place o (hang_below ds a e (remove_part a e ds)))
 of-below ds a e None h k = tt
 of-below ds a e (Some r) h k =
     let d = get_or ds a 0 in
-    let f = get_or (without a e ds) r 0 in
-    of-deep (all_at_most 15 (hung d f (slice_range ds a e))) ds (hung d f (slice_range ds a e)) a e r h k (length-hung ds a e d f h k)
+    let f = get_or (remove_part a e ds) r 0 in
+    of-deep (all_at_most 15 (moved_depths d f (slice_range ds a e))) ds (moved_depths d f (slice_range ds a e)) a e r h k (length-moved_depths ds a e d f h k)
 
 -- ---- a path names the root or a node within the tree
 
@@ -340,8 +339,8 @@ not-zero a h = grind (arith, nat_tests)
 of-hang-at : (ds q : List ℕ) (o : Option ℕ) → Within ds o → OfPlan (MovesDepths (hung_at ds q o) 0) (at_place o (hang ds q))
 of-hang-at ds q None w = tt
 of-hang-at ds q (Some a) w =
-    of-else (MovesDepths (hung_at ds q (Some a)) 0) (nat_eq a 0) (hang_in ds a (end_of ds a) (without a (end_of ds a) ds) q) Place
-    (λ h. of-below ds a (end_of ds a) (node (without a (end_of ds a) ds) q) (past ds a) (end-within ds a (w (not-zero a h))))
+    of-else (MovesDepths (hung_at ds q (Some a)) 0) (nat_eq a 0) (hang_at ds a (end_of ds a) (remove_part a (end_of ds a) ds) q) Place
+    (λ h. of-below ds a (end_of ds a) (node (remove_part a (end_of ds a) ds) q) (past ds a) (end-within ds a (w (not-zero a h))))
 
 of-hang : (ds p q : List ℕ) → OfPlan (MovesDepths (hung_at ds q (node ds p)) 0) (at_place (node ds p) (hang ds q))
 of-hang ds p q = of-hang-at ds q (node ds p) (node-within ds p (Some 0) (λ h. absurd (omega arith)))

@@ -5,6 +5,7 @@ use Rattle.hold_shapes.specs.declared.shape.Shape.TheVariants.{Keyed as KeyedOf,
 use Rattle.hold_shapes.specs.declared.edit.ShapeEdit.TheVariants.{PutKey, RenameKey, Prune, Graft, Shift, Hang}
 use Rattle.hold_shapes.specs.Plans.{list_of}
 use Rattle.shape_laws.specs.Laws.{is_old, is_same_kind, names_after, depths_after, fresh_depth, moved_root, KeepsContent}
+use Rattle.shape_laws.specs.Children.{child_path, children_at, origin_at, GainsLastChild, LosesLastChild, MovesChild, HangsLastChild}
 use Rattle.shape_laws.specs.Parents.{parents}
 
 old : is_old 2 (Old 2) ≡ true
@@ -52,3 +53,30 @@ shifted_root = refl
 
 hung_root : moved_root (Hang (1 ∷ []) (0 ∷ [])) (0 ∷ 1 ∷ 2 ∷ 1 ∷ []) ≡ Some 3
 hung_root = refl
+
+-- ---- paths and numbers of children
+
+root_children : children_at (0 ∷ 1 ∷ 2 ∷ 1 ∷ []) [] ≡ Some 2
+root_children = refl
+
+no_node : children_at (0 ∷ 1 ∷ 2 ∷ 1 ∷ []) (2 ∷ []) ≡ None
+no_node = refl
+
+fresh_node : origin_at (0 ∷ 1 ∷ 2 ∷ 1 ∷ []) (Old 0 ∷ Old 1 ∷ Fresh ∷ Old 2 ∷ []) (child_path (0 ∷ []) 0) ≡ Some Fresh
+fresh_node = refl
+
+-- a fresh child of the first leaf
+grafted : GainsLastChild (0 ∷ 1 ∷ 1 ∷ []) (0 ∷ []) Fresh (TreeOf (0 ∷ 1 ∷ 2 ∷ 1 ∷ [])) (Old 0 ∷ Old 1 ∷ Fresh ∷ Old 2 ∷ [])
+grafted = (0, refl, refl, refl)
+
+-- the second child of the root is gone, with its child
+pruned : LosesLastChild (0 ∷ 1 ∷ 1 ∷ 2 ∷ []) [] (TreeOf (0 ∷ 1 ∷ [])) (Old 0 ∷ Old 1 ∷ [])
+pruned = (1, 2, refl, refl, refl, refl)
+
+-- the first child of the root, which has a child, becomes its second
+shifted : MovesChild (0 ∷ 1 ∷ 2 ∷ 1 ∷ []) [] 0 1 (TreeOf (0 ∷ 1 ∷ 1 ∷ 2 ∷ [])) (Old 0 ∷ Old 3 ∷ Old 1 ∷ Old 2 ∷ [])
+shifted = (1, refl, refl, refl)
+
+-- the second leaf is moved below the first
+hung : HangsLastChild (0 ∷ 1 ∷ 1 ∷ []) (1 ∷ []) (0 ∷ []) (TreeOf (0 ∷ 1 ∷ 2 ∷ [])) (Old 0 ∷ Old 1 ∷ Old 2 ∷ [])
+hung = (2, refl, (0, refl, refl, refl))

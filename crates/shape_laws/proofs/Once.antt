@@ -15,7 +15,7 @@ use Rattle.hold_shapes.specs.declared.edit.ShapeEdit.{ShapeEdit}
 use Rattle.hold_shapes.specs.declared.edit.ShapeEdit.TheVariants.{Ins, Del, MoveItem, Reorder, PutKey, DropKey, RenameKey, Graft, Prune, Shift, Hang}
 use Rattle.hold_shapes.specs.Gather.{IsBelow}
 use Rattle.hold_shapes.specs.Shapes.{size_of}
-use Rattle.hold_shapes.specs.Plans.{olds, plan}
+use Rattle.hold_shapes.specs.Plans.{old_places, plan}
 use Rattle.shape_laws.specs.Laws.{is_old, IsOnce, IsOld, KeepsAll, AddsNone, KeepsPlaces, Inserts, Deletes, Rearranges, IsArranged}
 use Rattle.shape_laws.proofs.Lawful.{lawful}
 
@@ -63,16 +63,16 @@ low n a (suc m) h = All-cons (IsBelow n) (Old a) (map Old (range_with_len (a + 1
 
 -- ---- and in another order
 
-from-order : (n c : ℕ) (from lost : List Origin) → IsPermutation (olds n ++ replicate c Fresh) (from ++ lost) → IsOnce n from
+from-order : (n c : ℕ) (from lost : List Origin) → IsPermutation (old_places n ++ replicate c Fresh) (from ++ lost) → IsOnce n from
 from-order n c from lost h =
-    let all : All (IsBelow n) (from ++ lost) = All-permutation (IsBelow n) (olds n ++ replicate c Fresh) (from ++ lost) h
-    (All-append (IsBelow n) (olds n) (replicate c Fresh) (low n 0 n (omega arith)) (All-replicate (IsBelow n) c Fresh tt)) in (
+    let all : All (IsBelow n) (from ++ lost) = All-permutation (IsBelow n) (old_places n ++ replicate c Fresh) (from ++ lost) h
+    (All-append (IsBelow n) (old_places n) (replicate c Fresh) (low n 0 n (omega arith)) (All-replicate (IsBelow n) c Fresh tt)) in (
       (λ k d lt. let P : Origin → Type 0 = λ o. IsBelow n o in
           subst P (get_or_append_left from lost d k lt) (all k d (let l = length-append from lost in omega arith))),
       (λ k.
-          let s = sum_by-IsPermutation (one k) (olds n ++ replicate c Fresh) (from ++ lost) h in
+          let s = sum_by-IsPermutation (one k) (old_places n ++ replicate c Fresh) (from ++ lost) h in
           let a = sum_by-append (one k) from lost in
-          let b = sum_by-append (one k) (olds n) (replicate c Fresh) in
+          let b = sum_by-append (one k) (old_places n) (replicate c Fresh) in
           let x = single k 0 n in
           let y = fresh k c in
           omega arith),
@@ -80,17 +80,17 @@ from-order n c from lost h =
 
 of-inserts : (n : ℕ) (from : List Origin) → Inserts n from → IsOnce n from
 of-inserts n from h =
-    let P : List Origin → Type 0 = λ os. IsPermutation (olds n ++ replicate h.0 Fresh) os in
+    let P : List Origin → Type 0 = λ os. IsPermutation (old_places n ++ replicate h.0 Fresh) os in
     from-order n h.0 from [] (subst P (sym (append-nil from)) h.1)
 
 of-deletes : (n : ℕ) (from : List Origin) → Deletes n from → IsOnce n from
 of-deletes n from h =
     let P : List Origin → Type 0 = λ os. IsPermutation os (from ++ h.0) in
-    from-order n 0 from h.0 (subst P (sym (append-nil (olds n))) h.1)
+    from-order n 0 from h.0 (subst P (sym (append-nil (old_places n))) h.1)
 
 of-rearranges : (n : ℕ) (from : List Origin) → Rearranges n from → IsOnce n from
 of-rearranges n from h =
-    let P : List Origin → Type 0 = λ os. IsPermutation (olds n) os in
+    let P : List Origin → Type 0 = λ os. IsPermutation (old_places n) os in
     of-deletes n from ([], subst P (sym (append-nil from)) h)
 
 of-law : (e : ShapeEdit) (n : ℕ) (from : List Origin) → IsArranged e n from → IsOnce n from
@@ -125,8 +125,8 @@ exactly k a (suc n) h lt =
 
 keeps-all : (n : ℕ) (from : List Origin) → Inserts n from → KeepsAll n from
 keeps-all n from h = λ k lt.
-    let s = sum_by-IsPermutation (one k) (olds n ++ replicate h.0 Fresh) from h.1 in
-    let b = sum_by-append (one k) (olds n) (replicate h.0 Fresh) in
+    let s = sum_by-IsPermutation (one k) (old_places n ++ replicate h.0 Fresh) from h.1 in
+    let b = sum_by-append (one k) (old_places n) (replicate h.0 Fresh) in
     let x = exactly k 0 n (omega arith) (omega arith) in
     let y = fresh k h.0 in
     omega arith
@@ -137,15 +137,15 @@ none-fresh a (suc n) = All-cons IsOld (Old a) (map Old (range_with_len (a + 1) n
 
 adds-none : (n : ℕ) (from : List Origin) → Deletes n from → AddsNone from
 adds-none n from h =
-    let all : All IsOld (from ++ h.0) = All-permutation IsOld (olds n) (from ++ h.0) h.1 (none-fresh 0 n) in
+    let all : All IsOld (from ++ h.0) = All-permutation IsOld (old_places n) (from ++ h.0) h.1 (none-fresh 0 n) in
     λ k d lt. let P : Origin → Type 0 = λ o. IsOld o in
     subst P (get_or_append_left from h.0 d k lt) (all k d (let l = length-append from h.0 in omega arith))
 
 does-both : (n : ℕ) (from : List Origin) → Rearranges n from → KeepsAll n from × AddsNone from
 does-both n from h =
-    let P : List Origin → Type 0 = λ os. IsPermutation (olds n) os in
+    let P : List Origin → Type 0 = λ os. IsPermutation (old_places n) os in
     let Q : List Origin → Type 0 = λ os. IsPermutation os from in
-    (keeps-all n from (0, subst Q (sym (append-nil (olds n))) h), adds-none n from ([], subst P (sym (append-nil from)) h))
+    (keeps-all n from (0, subst Q (sym (append-nil (old_places n))) h), adds-none n from ([], subst P (sym (append-nil from)) h))
 
 keeps-places : (e : ShapeEdit) (n : ℕ) (from : List Origin) → IsArranged e n from → KeepsPlaces e n from
 keeps-places (Ins c) n from h = keeps-all n from h

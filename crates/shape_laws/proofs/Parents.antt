@@ -9,8 +9,8 @@ use Rattle.std.proofs.lemmas.List.Sorted.{IsPermutation-trans, IsPermutation-app
 use Rattle.hold_shapes.specs.declared.origins.Origin.{Origin}
 use Rattle.hold_shapes.specs.declared.origins.Origin.TheVariants.{Fresh}
 use Rattle.hold_shapes.specs.Trees.{descendants, end_of}
-use Rattle.hold_shapes.specs.Plans.{without, put_in, hung}
-use Rattle.hold_shapes.proofs.Valid.{Low, HeadAtMost}
+use Rattle.hold_shapes.specs.Plans.{remove_part, insert_part, moved_depths}
+use Rattle.hold_shapes.proofs.ValidDepths.{Low, HeadAtMost}
 use Rattle.shape_laws.specs.Parents.{Called, less_deep, nearest, parents_below, parents}
 
 abbrev pub Pairs : Type 0
@@ -180,7 +180,7 @@ same-front X Y xs ys n h = length-take n xs ∙ (ap (λ (k : ℕ). min n k) h �
 
 pub taken-out : (ds : List ℕ) (os : List Origin) (c : ℕ) → length ds ≡ length os → c < length ds
     → (p : Option Origin) × IsPermutation (parents ds os)
-    ((get_or os c Fresh, p) ∷ (parents (without c (end_of ds c) ds) (without c (end_of ds c) os) ++ kids_of ds os c))
+    ((get_or os c Fresh, p) ∷ (parents (remove_part c (end_of ds c) ds) (remove_part c (end_of ds c) os) ++ kids_of ds os c))
 taken-out ds os c h lt =
     let n = descendants (get_or ds c 0) (drop (c + 1) ds) in
     let e = end_of ds c in
@@ -193,16 +193,16 @@ taken-out ds os c h lt =
     split_between os c e le ∙ ap (λ (b : List Origin). take c os ++ (b ++ drop e os)) (part-of Origin os c n Fresh (omega arith)) in
     let w = with-subtree (take c ds) (drop e ds) (below_node ds c) (take c os) (drop e os) (called_below ds os c) d o
     (same-front ℕ Origin ds os c h) (same-below ds os c h) (deeper d (drop (c + 1) ds)) (behind ds c) in
-    let P : List ℕ → Type 0 = λ l. IsPermutation (parents l os) ((o, w.0) ∷ (parents (without c e ds) (without c e os) ++ kids_of ds os c)) in
-    let Q : List Origin → Type 0 = λ l. IsPermutation (parents (take c ds ++ ((d ∷ below_node ds c) ++ drop e ds)) l) ((o, w.0) ∷ (parents (without c e ds) (without c e os) ++ kids_of ds os c)) in
+    let P : List ℕ → Type 0 = λ l. IsPermutation (parents l os) ((o, w.0) ∷ (parents (remove_part c e ds) (remove_part c e os) ++ kids_of ds os c)) in
+    let Q : List Origin → Type 0 = λ l. IsPermutation (parents (take c ds ++ ((d ∷ below_node ds c) ++ drop e ds)) l) ((o, w.0) ∷ (parents (remove_part c e ds) (remove_part c e os) ++ kids_of ds os c)) in
     (w.0, subst P (sym split) (subst Q (sym called) w.1))
 
 pub put-back : (ds bs : List ℕ) (os cs : List Origin) (t d : ℕ) (o : Origin) → length ds ≡ length os → length bs ≡ length cs → Low (d + 1) bs → HeadAtMost d (drop t ds)
-    → (p : Option Origin) × IsPermutation (parents (put_in t (d ∷ bs) ds) (put_in t (o ∷ cs) os)) ((o, p) ∷ (parents ds os ++ parents_below ((d, o) ∷ []) bs cs))
+    → (p : Option Origin) × IsPermutation (parents (insert_part t (d ∷ bs) ds) (insert_part t (o ∷ cs) os)) ((o, p) ∷ (parents ds os ++ parents_below ((d, o) ∷ []) bs cs))
 put-back ds bs os cs t d o h k l g =
     let w = with-subtree (take t ds) (drop t ds) bs (take t os) (drop t os) cs d o (same-front ℕ Origin ds os t h) k l g in
-    let P : List ℕ → Type 0 = λ xs. IsPermutation (parents (put_in t (d ∷ bs) ds) (put_in t (o ∷ cs) os)) ((o, w.0) ∷ (parents xs (take t os ++ drop t os) ++ parents_below ((d, o) ∷ []) bs cs)) in
-    let Q : List Origin → Type 0 = λ us. IsPermutation (parents (put_in t (d ∷ bs) ds) (put_in t (o ∷ cs) os)) ((o, w.0) ∷ (parents ds us ++ parents_below ((d, o) ∷ []) bs cs)) in
+    let P : List ℕ → Type 0 = λ xs. IsPermutation (parents (insert_part t (d ∷ bs) ds) (insert_part t (o ∷ cs) os)) ((o, w.0) ∷ (parents xs (take t os ++ drop t os) ++ parents_below ((d, o) ∷ []) bs cs)) in
+    let Q : List Origin → Type 0 = λ us. IsPermutation (parents (insert_part t (d ∷ bs) ds) (insert_part t (o ∷ cs) os)) ((o, w.0) ∷ (parents ds us ++ parents_below ((d, o) ∷ []) bs cs)) in
     (w.0, subst Q (take-append-drop t os) (subst P (take-append-drop t ds) w.1))
 
 -- ---- a subtree as it is below another node: all its depths are more or less by the same number
@@ -240,12 +240,12 @@ nearest-lifted : (a r : ℕ) (way : List Called) → nearest (lifted a r way) �
 nearest-lifted a r [] = refl
 nearest-lifted a r (n ∷ way) = refl
 
-pub below-lifted : (a r : ℕ) (way : List Called) (es : List ℕ) (ps : List Origin) → LowWay a way → Low a es → parents_below (lifted a r way) (hung a r es) ps ≡ parents_below way es ps
+pub below-lifted : (a r : ℕ) (way : List Called) (es : List ℕ) (ps : List Origin) → LowWay a way → Low a es → parents_below (lifted a r way) (moved_depths a r es) ps ≡ parents_below way es ps
 below-lifted a r way [] ps w l = refl
 below-lifted a r way (e ∷ es) [] w l = refl
 below-lifted a r way (e ∷ es) (p ∷ ps) w l =
     let s = less-lifted a r e way l.0 w in
     let near : nearest (less_deep (e - a + (r + 1)) (lifted a r way)) ≡ nearest (less_deep e way) = ap nearest s ∙ nearest-lifted a r (less_deep e way) in
-    let rest : parents_below ((e - a + (r + 1), p) ∷ less_deep (e - a + (r + 1)) (lifted a r way)) (hung a r es) ps ≡ parents_below ((e, p) ∷ less_deep e way) es ps =
-    ap (λ (k : List Called). parents_below ((e - a + (r + 1), p) ∷ k) (hung a r es) ps) s ∙ below-lifted a r ((e, p) ∷ less_deep e way) es ps (l.0, low-less a e way w) l.1 in
+    let rest : parents_below ((e - a + (r + 1), p) ∷ less_deep (e - a + (r + 1)) (lifted a r way)) (moved_depths a r es) ps ≡ parents_below ((e, p) ∷ less_deep e way) es ps =
+    ap (λ (k : List Called). parents_below ((e - a + (r + 1), p) ∷ k) (moved_depths a r es) ps) s ∙ below-lifted a r ((e, p) ∷ less_deep e way) es ps (l.0, low-less a e way w) l.1 in
     rw (near, rest) refl

@@ -12,15 +12,14 @@ use Rattle.hold_shapes.specs.declared.origins.Origin.{Origin}
 use Rattle.hold_shapes.specs.declared.origins.Origin.TheVariants.{Old, Fresh}
 use Rattle.hold_shapes.specs.declared.edit.ShapeEdit.{ShapeEdit}
 use Rattle.hold_shapes.specs.declared.edit.ShapeEdit.TheVariants.{Ins, Del, MoveItem, Reorder, PutKey, DropKey, RenameKey, Graft, Prune, Shift, Hang}
-use Rattle.hold_shapes.specs.declared.plan.PlanFault.{PlanFault}
-use Rattle.hold_shapes.specs.declared.plan.PlanFault.TheVariants.{Place, Range, Length, Deep}
+use Rattle.hold_shapes.specs.Causes.{PlanCause, Place, Range, Length, Deep}
 use Rattle.texts.specs.Keys.{key_place, rank}
 use Rattle.hold_shapes.specs.Trees.{node, children, child, end_of}
 use Rattle.hold_shapes.specs.Shapes.{size_of}
-use Rattle.hold_shapes.specs.Plans.{Planned, olds, list_of, is_count, is_each_new, at_place, put_key, drop_key, rename_to, rename_key, without, put_in, moved, graft, prune, prune_child, slot, shift_child, shift, hung, all_at_most, hang_part, hang_below, hang_in, hang, plan_list, plan_keyed, plan_tree, plan}
+use Rattle.hold_shapes.specs.Plans.{Planned, old_places, list_of, is_count, is_each_new, at_place, put_key, drop_key, rename_to, rename_key, remove_part, insert_part, move_part, graft, prune, prune_child, place_for_child, shift_child, shift, moved_depths, all_at_most, hang_depths, hang_below, hang_at, hang, plan_list, plan_keyed, plan_tree, plan}
 use Rattle.shape_laws.specs.Laws.{is_same_kind}
-use Rattle.hold_shapes.proofs.Olds.{length-olds}
-use Rattle.shape_laws.proofs.Permuted.{perm-without, perm-put, perm-moved}
+use Rattle.hold_shapes.proofs.OldPlaces.{length-old_places}
+use Rattle.shape_laws.proofs.Permuted.{perm-remove_part, perm-put, perm-move_part}
 use Rattle.shape_laws.proofs.Lawful.{key-within, past}
 
 abbrev pub Fits : Shape → Shape → List Origin → Type 0
@@ -30,11 +29,11 @@ abbrev pub FitsOf : Shape → Planned → Type 0
 FitsOf s (Err fault) = Unit {0}
 FitsOf s (Ok y) = Fits s y.0 y.1
 
-fits-if : (s : Shape) (b : Bool) (x : Planned) (fault : PlanFault) → (b ≡ true → FitsOf s x) → FitsOf s (if b then x else Err fault)
+fits-if : (s : Shape) (b : Bool) (x : Planned) (fault : PlanCause) → (b ≡ true → FitsOf s x) → FitsOf s (if b then x else Err fault)
 fits-if s true x fault f = f refl
 fits-if s false x fault f = tt
 
-fits-else : (s : Shape) (b : Bool) (x : Planned) (fault : PlanFault) → FitsOf s x → FitsOf s (if b then Err fault else x)
+fits-else : (s : Shape) (b : Bool) (x : Planned) (fault : PlanCause) → FitsOf s x → FitsOf s (if b then Err fault else x)
 fits-else s true x fault f = tt
 fits-else s false x fault f = f
 
@@ -51,17 +50,17 @@ same-insert X Y xs ys i x y h = let a = inserted X xs i x in let b = inserted Y 
 same-remove : (X Y : Type 0) (xs : List X) (ys : List Y) (i : ℕ) → i < length ys → length xs ≡ length ys → length (remove xs i) ≡ length (remove ys i)
 same-remove X Y xs ys i lt h = let a = length-remove xs i (omega arith) in let b = length-remove ys i lt in omega arith
 
-length-cut : (X : Type 0) (xs : List X) (a e : ℕ) → length (without a e xs) ≡ min a (length xs) + (length xs - e)
+length-cut : (X : Type 0) (xs : List X) (a e : ℕ) → length (remove_part a e xs) ≡ min a (length xs) + (length xs - e)
 length-cut X xs a e = length-append (take a xs) (drop e xs) ∙ (let p = length-take a xs in let q = length-drop e xs in omega arith)
 
-same-cut : (X Y : Type 0) (xs : List X) (ys : List Y) (a e : ℕ) → length xs ≡ length ys → length (without a e xs) ≡ length (without a e ys)
+same-cut : (X Y : Type 0) (xs : List X) (ys : List Y) (a e : ℕ) → length xs ≡ length ys → length (remove_part a e xs) ≡ length (remove_part a e ys)
 same-cut X Y xs ys a e h = length-cut X xs a e ∙ ((ap (λ (n : ℕ). min a n + (n - e)) h) ∙ sym (length-cut Y ys a e))
 
-length-moved : (X : Type 0) (xs : List X) (a e t : ℕ) → a ≤ e → length (moved a e t xs) ≡ length xs
-length-moved X xs a e t h = length_permutation xs (moved a e t xs) (perm-moved X xs a e t h)
+length-move_part : (X : Type 0) (xs : List X) (a e t : ℕ) → a ≤ e → length (move_part a e t xs) ≡ length xs
+length-move_part X xs a e t h = length_permutation xs (move_part a e t xs) (perm-move_part X xs a e t h)
 
-same-moved : (X Y : Type 0) (xs : List X) (ys : List Y) (a e t : ℕ) → a ≤ e → length xs ≡ length ys → length (moved a e t xs) ≡ length (moved a e t ys)
-same-moved X Y xs ys a e t h k = length-moved X xs a e t h ∙ (k ∙ sym (length-moved Y ys a e t h))
+same-move_part : (X Y : Type 0) (xs : List X) (ys : List Y) (a e t : ℕ) → a ≤ e → length xs ≡ length ys → length (move_part a e t xs) ≡ length (move_part a e t ys)
+same-move_part X Y xs ys a e t h k = length-move_part X xs a e t h ∙ (k ∙ sym (length-move_part Y ys a e t h))
 
 same-below : (i j n : ℕ) → (nat_lt i n && nat_lt j n) ≡ true → i < n
 same-below i j n h = grind (arith, nat_tests)
@@ -69,20 +68,20 @@ same-below i j n h = grind (arith, nat_tests)
 is-length : (a n : ℕ) → nat_eq a n ≡ true → a ≡ n
 is-length a n h = grind (arith, nat_tests)
 
-moved-item : (n i j : ℕ) → i < n → length (insert (remove (olds n) i) j (Old i)) ≡ n
-moved-item n i j h =
-    let l = length-olds n in
-    let r = length-remove (olds n) i (omega arith) in
-    let s = inserted Origin (remove (olds n) i) j (Old i) in omega arith
+move_part-item : (n i j : ℕ) → i < n → length (insert (remove (old_places n) i) j (Old i)) ≡ n
+move_part-item n i j h =
+    let l = length-old_places n in
+    let r = length-remove (old_places n) i (omega arith) in
+    let s = inserted Origin (remove (old_places n) i) j (Old i) in omega arith
 
 of-list : (l : Shape) (n : ℕ) (e : ShapeEdit) → is_same_kind l (list_of 0) ≡ true → ((m : ℕ) → is_same_kind l (list_of m) ≡ true) → FitsOf l (plan_list n e)
 of-list l n (Ins c) k s =
-    fits-if l (is_count c) (Ok (list_of (n + c), olds n ++ replicate c Fresh)) Range
-    (λ h. (length-append (olds n) (replicate c Fresh) ∙ (let p = length-olds n in let q = length-replicate c Fresh in omega arith), s (n + c)))
+    fits-if l (is_count c) (Ok (list_of (n + c), old_places n ++ replicate c Fresh)) Range
+    (λ h. (length-append (old_places n) (replicate c Fresh) ∙ (let p = length-old_places n in let q = length-replicate c Fresh in omega arith), s (n + c)))
 of-list l n (Del c) k s =
-    fits-if l (is_count c && nat_le c n) (Ok (list_of (n - c), olds (n - c))) Range (λ h. (length-olds (n - c), s (n - c)))
+    fits-if l (is_count c && nat_le c n) (Ok (list_of (n - c), old_places (n - c))) Range (λ h. (length-old_places (n - c), s (n - c)))
 of-list l n (MoveItem i j) k s =
-    fits-if l (nat_lt i n && nat_lt j n) (Ok (list_of n, insert (remove (olds n) i) j (Old i))) Place (λ h. (moved-item n i j (same-below i j n h), s n))
+    fits-if l (nat_lt i n && nat_lt j n) (Ok (list_of n, insert (remove (old_places n) i) j (Old i))) Place (λ h. (move_part-item n i j (same-below i j n h), s n))
 of-list l n (Reorder f) k s =
     fits-if l (nat_eq (length f) n) (if is_each_new n [] f then Ok (list_of n, map Old f) else Err Range) Length
     (λ h. fits-if l (is_each_new n [] f) (Ok (list_of n, map Old f)) Range (λ g. (length-map f Old ∙ is-length (length f) n h, s n)))
@@ -96,24 +95,24 @@ of-list l n (Hang p q) k s = tt
 
 of-put : (ks : List (List ℕ)) (k : List ℕ) (o : Option ℕ) → FitsOf (KeyedOf ks) (put_key ks k o)
 of-put ks k (Some p) = tt
-of-put ks k None = (same-insert Origin (List ℕ) (olds (length ks)) ks (rank k ks) Fresh k (length-olds (length ks)), refl)
+of-put ks k None = (same-insert Origin (List ℕ) (old_places (length ks)) ks (rank k ks) Fresh k (length-old_places (length ks)), refl)
 
 of-drop : (ks : List (List ℕ)) (k : List ℕ) (o : Option ℕ) → key_place k ks ≡ o → FitsOf (KeyedOf ks) (drop_key ks o)
 of-drop ks k None h = tt
 of-drop ks k (Some p) h =
-    let lt = key-within 0 p k ks h in (same-remove Origin (List ℕ) (olds (length ks)) ks p (omega arith) (length-olds (length ks)), refl)
+    let lt = key-within 0 p k ks h in (same-remove Origin (List ℕ) (old_places (length ks)) ks p (omega arith) (length-old_places (length ks)), refl)
 
 of-rename-to : (ks : List (List ℕ)) (m : List ℕ) (p : ℕ) (o : Option ℕ) → p < length ks → FitsOf (KeyedOf ks) (rename_to ks m p o)
 of-rename-to ks m p (Some q) h = tt
 of-rename-to ks m p None h = (
-  same-insert Origin (List ℕ) (remove (olds (length ks)) p) (remove ks p) (rank m (remove ks p)) (Old p) m
-      (same-remove Origin (List ℕ) (olds (length ks)) ks p h (length-olds (length ks))),
+  same-insert Origin (List ℕ) (remove (old_places (length ks)) p) (remove ks p) (rank m (remove ks p)) (Old p) m
+      (same-remove Origin (List ℕ) (old_places (length ks)) ks p h (length-old_places (length ks))),
   refl,
 )
 
 of-same : (b : Bool) (ks : List (List ℕ)) (m : List ℕ) (p : ℕ) → p < length ks
-    → FitsOf (KeyedOf ks) (if b then Ok (KeyedOf ks, olds (length ks)) else rename_to ks m p (key_place m ks))
-of-same true ks m p h = (length-olds (length ks), refl)
+    → FitsOf (KeyedOf ks) (if b then Ok (KeyedOf ks, old_places (length ks)) else rename_to ks m p (key_place m ks))
+of-same true ks m p h = (length-old_places (length ks), refl)
 of-same false ks m p h = of-rename-to ks m p (key_place m ks) h
 
 of-rename : (ks : List (List ℕ)) (k m : List ℕ) (o : Option ℕ) → key_place k ks ≡ o → FitsOf (KeyedOf ks) (rename_key ks k m o)
@@ -135,12 +134,12 @@ of-keyed ks (Hang p q) = tt
 
 of-graft : (ds : List ℕ) (p : ℕ) → FitsOf (TreeOf ds) (graft ds p)
 of-graft ds p =
-    fits-if (TreeOf ds) (nat_lt (get_or ds p 0) 15) (Ok (TreeOf (insert ds (end_of ds p) (get_or ds p 0 + 1)), insert (olds (length ds)) (end_of ds p) Fresh)) Deep
-    (λ h. (same-insert Origin ℕ (olds (length ds)) ds (end_of ds p) Fresh (get_or ds p 0 + 1) (length-olds (length ds)), refl))
+    fits-if (TreeOf ds) (nat_lt (get_or ds p 0) 15) (Ok (TreeOf (insert ds (end_of ds p) (get_or ds p 0 + 1)), insert (old_places (length ds)) (end_of ds p) Fresh)) Deep
+    (λ h. (same-insert Origin ℕ (old_places (length ds)) ds (end_of ds p) Fresh (get_or ds p 0 + 1) (length-old_places (length ds)), refl))
 
 of-prune-child : (ds : List ℕ) (o : Option ℕ) → FitsOf (TreeOf ds) (prune_child ds o)
 of-prune-child ds None = tt
-of-prune-child ds (Some c) = (same-cut Origin ℕ (olds (length ds)) ds c (end_of ds c) (length-olds (length ds)), refl)
+of-prune-child ds (Some c) = (same-cut Origin ℕ (old_places (length ds)) ds c (end_of ds c) (length-old_places (length ds)), refl)
 
 of-prune : (ds : List ℕ) (p : ℕ) → FitsOf (TreeOf ds) (prune ds p)
 of-prune ds p =
@@ -150,39 +149,39 @@ of-prune ds p =
 of-shift-child : (ds : List ℕ) (p j : ℕ) (o : Option ℕ) → FitsOf (TreeOf ds) (shift_child ds p j o)
 of-shift-child ds p j None = tt
 of-shift-child ds p j (Some c) =
-    (same-moved Origin ℕ (olds (length ds)) ds c (end_of ds c) (slot (without c (end_of ds c) ds) p (child (without c (end_of ds c) ds) p j)) (past ds c) (length-olds (length ds)), refl)
+    (same-move_part Origin ℕ (old_places (length ds)) ds c (end_of ds c) (place_for_child (remove_part c (end_of ds c) ds) p (child (remove_part c (end_of ds c) ds) p j)) (past ds c) (length-old_places (length ds)), refl)
 
 of-shift : (ds : List ℕ) (i j p : ℕ) → FitsOf (TreeOf ds) (shift ds i j p)
 of-shift ds i j p =
     fits-if (TreeOf ds) (nat_lt i (children ds p) && nat_lt j (children ds p)) (shift_child ds p j (child ds p i)) Range
     (λ h. of-shift-child ds p j (child ds p i))
 
-length-hung : (ds part : List ℕ) (a e t : ℕ) → a ≤ e → length part ≡ length (slice_range ds a e)
-    → length (moved a e t (olds (length ds))) ≡ length (put_in t part (without a e ds))
-length-hung ds part a e t h k =
-    let p = length-moved Origin (olds (length ds)) a e t h in
-    let q = length-olds (length ds) in
-    let r = length_permutation (without a e ds ++ part) (put_in t part (without a e ds)) (perm-put ℕ t part (without a e ds)) in
-    let s = length_permutation ds (without a e ds ++ slice_range ds a e) (perm-without ℕ ds a e h) in
-    let u = length-append (without a e ds) part in
-    let v = length-append (without a e ds) (slice_range ds a e) in
+length-moved_depths : (ds part : List ℕ) (a e t : ℕ) → a ≤ e → length part ≡ length (slice_range ds a e)
+    → length (move_part a e t (old_places (length ds))) ≡ length (insert_part t part (remove_part a e ds))
+length-moved_depths ds part a e t h k =
+    let p = length-move_part Origin (old_places (length ds)) a e t h in
+    let q = length-old_places (length ds) in
+    let r = length_permutation (remove_part a e ds ++ part) (insert_part t part (remove_part a e ds)) (perm-put ℕ t part (remove_part a e ds)) in
+    let s = length_permutation ds (remove_part a e ds ++ slice_range ds a e) (perm-remove_part ℕ ds a e h) in
+    let u = length-append (remove_part a e ds) part in
+    let v = length-append (remove_part a e ds) (slice_range ds a e) in
     omega arith
 
 of-deep : (b : Bool) (ds part : List ℕ) (a e r : ℕ) → a ≤ e → length part ≡ length (slice_range ds a e)
-    → FitsOf (TreeOf ds) (hang_part ds a e (without a e ds) r (if b then Ok part else Err Deep))
-of-deep true ds part a e r h k = (length-hung ds part a e (end_of (without a e ds) r) h k, refl)
+    → FitsOf (TreeOf ds) (hang_depths ds a e (remove_part a e ds) r (if b then Ok part else Err Deep))
+of-deep true ds part a e r h k = (length-moved_depths ds part a e (end_of (remove_part a e ds) r) h k, refl)
 of-deep false ds part a e r h k = tt
 
-of-hang-below : (ds : List ℕ) (a e r : ℕ) → a ≤ e → FitsOf (TreeOf ds) (hang_below ds a e (without a e ds) r)
+of-hang-below : (ds : List ℕ) (a e r : ℕ) → a ≤ e → FitsOf (TreeOf ds) (hang_below ds a e (remove_part a e ds) r)
 of-hang-below ds a e r h =
     let d = get_or ds a 0 in
-    let f = get_or (without a e ds) r 0 in
-    of-deep (all_at_most 15 (hung d f (slice_range ds a e))) ds (hung d f (slice_range ds a e)) a e r h (length-map (slice_range ds a e) (λ (x : ℕ). x - d + (f + 1)))
+    let f = get_or (remove_part a e ds) r 0 in
+    of-deep (all_at_most 15 (moved_depths d f (slice_range ds a e))) ds (moved_depths d f (slice_range ds a e)) a e r h (length-map (slice_range ds a e) (λ (x : ℕ). x - d + (f + 1)))
 
 of-hang : (ds q : List ℕ) (a : ℕ) → FitsOf (TreeOf ds) (hang ds q a)
 of-hang ds q a =
-    fits-else (TreeOf ds) (nat_eq a 0) (hang_in ds a (end_of ds a) (without a (end_of ds a) ds) q) Place
-    (fits-at (TreeOf ds) (node (without a (end_of ds a) ds) q) (hang_below ds a (end_of ds a) (without a (end_of ds a) ds))
+    fits-else (TreeOf ds) (nat_eq a 0) (hang_at ds a (end_of ds a) (remove_part a (end_of ds a) ds) q) Place
+    (fits-at (TreeOf ds) (node (remove_part a (end_of ds a) ds) q) (hang_below ds a (end_of ds a) (remove_part a (end_of ds a) ds))
     (λ r. of-hang-below ds a (end_of ds a) r (past ds a)))
 
 of-tree : (ds : List ℕ) (e : ShapeEdit) → FitsOf (TreeOf ds) (plan_tree ds e)

@@ -8,7 +8,7 @@ use Rattle.hold_shapes.specs.declared.origins.Origin.{Origin}
 use Rattle.hold_shapes.specs.declared.origins.Origin.TheVariants.{Old, Fresh}
 use Rattle.hold_shapes.specs.declared.edit.ShapeEdit.{ShapeEdit}
 use Rattle.hold_shapes.specs.declared.edit.ShapeEdit.TheVariants.{Ins, Del, MoveItem, Reorder, PutKey, DropKey, RenameKey, Graft, Prune, Shift, Hang}
-use Rattle.hold_shapes.specs.Plans.{olds, without, hung}
+use Rattle.hold_shapes.specs.Plans.{old_places, remove_part, moved_depths}
 use Rattle.texts.specs.Keys.{key_place}
 use Rattle.hold_shapes.specs.Trees.{node, child_at, end_of}
 use Rattle.shape_laws.specs.Parents.{parents}
@@ -45,15 +45,15 @@ is_same_kind s t = false
 
 -- all old places and some fresh ones, in some order
 abbrev pub Inserts : ℕ → List Origin → Type 0
-Inserts n from = (c : ℕ) × IsPermutation (olds n ++ replicate c Fresh) from
+Inserts n from = (c : ℕ) × IsPermutation (old_places n ++ replicate c Fresh) from
 
 -- old places alone; with the lost ones they are all of them
 abbrev pub Deletes : ℕ → List Origin → Type 0
-Deletes n from = (lost : List Origin) × IsPermutation (olds n) (from ++ lost)
+Deletes n from = (lost : List Origin) × IsPermutation (old_places n) (from ++ lost)
 
 -- the old places in another order
 abbrev pub Rearranges : ℕ → List Origin → Type 0
-Rearranges n from = IsPermutation (olds n) from
+Rearranges n from = IsPermutation (old_places n) from
 
 -- the origins of a plan from n old places, by the sort of its edit
 abbrev pub IsArranged : ShapeEdit → ℕ → List Origin → Type 0
@@ -103,12 +103,12 @@ fresh_name e = []
 abbrev pub hung_below : List ℕ → ℕ → ℕ → List ℕ → Option ℕ → List ℕ
 hung_below ds a e rest None = ds
 hung_below ds a e rest (Some r) =
-    take a ds ++ (hung (slice_index ds a) (slice_index rest r) (slice_range ds a e) ++ drop e ds)
+    take a ds ++ (moved_depths (slice_index ds a) (slice_index rest r) (slice_range ds a e) ++ drop e ds)
 
 abbrev pub hung_at : List ℕ → List ℕ → Option ℕ → List ℕ
 hung_at ds q None = ds
 hung_at ds q (Some a) =
-    hung_below ds a (end_of ds a) (without a (end_of ds a) ds) (node (without a (end_of ds a) ds) q)
+    hung_below ds a (end_of ds a) (remove_part a (end_of ds a) ds) (node (remove_part a (end_of ds a) ds) q)
 
 abbrev pub depths_after : ShapeEdit → List ℕ → List ℕ
 depths_after (Hang p q) ds = hung_at ds q (node ds p)
@@ -163,7 +163,7 @@ KeepsParents (Prune q) ds old new = (lost : List (Origin × Option Origin)) × I
 KeepsParents e ds old new = OnlyMoves (moved_root e ds) old new
 
 abbrev pub MovesFamily : ShapeEdit → List ℕ → Shape → List Origin → Type 0
-MovesFamily e ds (TreeOf new) from = KeepsParents e ds (parents ds (olds (length ds))) (parents new from)
+MovesFamily e ds (TreeOf new) from = KeepsParents e ds (parents ds (old_places (length ds))) (parents new from)
 MovesFamily e ds shape from = ⊥
 
 abbrev pub KeepsFamily : ShapeEdit → Shape → Shape → List Origin → Type 0

@@ -75,10 +75,10 @@ key_place-remove k ks p e = none 0 k (remove ks p) (absent-remove k ks p (absent
 
 -- ---- the first of rising names, and the others
 
-rising-first : (m : List ℕ) (ms : List (List ℕ)) → is_rising (m ∷ ms) ≡ true → all_after m ms ≡ true
+pub rising-first : (m : List ℕ) (ms : List (List ℕ)) → is_rising (m ∷ ms) ≡ true → all_after m ms ≡ true
 rising-first m ms r = first (all_after m ms) (is_rising ms) r
 
-rising-rest : (m : List ℕ) (ms : List (List ℕ)) → is_rising (m ∷ ms) ≡ true → is_rising ms ≡ true
+pub rising-rest : (m : List ℕ) (ms : List (List ℕ)) → is_rising (m ∷ ms) ≡ true → is_rising ms ≡ true
 rising-rest m ms r = second (all_after m ms) (is_rising ms) r
 
 -- ---- how many keys are before a name
@@ -106,7 +106,7 @@ pub rank-length : (k : List ℕ) (ks : List (List ℕ)) → rank k ks ≤ length
 rank-length k [] = omega arith
 rank-length k (m ∷ ms) = let i = rank-length k ms in let c = rank-cons (is_before m k) (rank k ms) in omega arith
 
-after-all : (m : List ℕ) (ms : List (List ℕ)) (i : ℕ) (d : List ℕ) → all_after m ms ≡ true → is_rising ms ≡ true → i < length ms → is_before m (get_or ms i d) ≡ true
+pub after-all : (m : List ℕ) (ms : List (List ℕ)) (i : ℕ) (d : List ℕ) → all_after m ms ≡ true → is_rising ms ≡ true → i < length ms → is_before m (get_or ms i d) ≡ true
 after-all m [] i d h r l = absurd (omega arith)
 after-all m (x ∷ xs) zero d h r l = h
 after-all m (x ∷ xs) (suc i) d h r l = before-trans m x (get_or xs i d) h (after-all x xs i d (rising-first x xs r) (rising-rest x xs r) (omega arith))
@@ -178,7 +178,7 @@ found at k d (m ∷ ms) (suc i) r l h =
 pub key_place-found : (k d : List ℕ) (ks : List (List ℕ)) (i : ℕ) → is_rising ks ≡ true → i < length ks → bytes_eq k (get_or ks i d) ≡ true → key_place k ks ≡ Some i
 key_place-found k d ks i r l h = let e : 0 + i ≡ i = omega arith in found 0 k d ks i r l h ∙ ap Some e
 
-after-tail : (m x : List ℕ) (xs : List (List ℕ)) → is_before m x ≡ true → all_after x xs ≡ true → all_after m xs ≡ true
+pub after-tail : (m x : List ℕ) (xs : List (List ℕ)) → is_before m x ≡ true → all_after x xs ≡ true → all_after m xs ≡ true
 after-tail m x [] h j = refl
 after-tail m x (y ∷ ys) h j = before-trans m x y h j
 
