@@ -58,7 +58,7 @@ pub struct Docs {
 }
 
 impl Docs {
-    /// These documents, in this order. Takes no memory.
+    /// These documents, in this order. Does not allocate.
     pub fn from_vec(items: Vec<Doc>) -> Docs
         ensures { docs_tree result ≡ docs_of (map doc_tree items.items) }
     {
@@ -72,14 +72,14 @@ impl Docs {
         self.items.as_slice()
     }
 
-    /// The documents in order. Takes no memory.
+    /// The documents in order. Does not allocate.
     pub fn into_vec(self) -> Vec<Doc>
         ensures { docs_of (map doc_tree result.items) ≡ docs_tree self }
     {
         self.items
     }
 
-    /// How many documents there are.
+    /// The number of documents.
     #[tactic(auto, using(crate::proofs::Rules::typing_rules))]
     pub fn len(&self) -> usize
         ensures { result ≡ length (doc_list (docs_tree self.now)) }
@@ -95,7 +95,7 @@ impl Docs {
         self.items.is_empty()
     }
 
-    /// Puts a document at a place, and gives back the one that was there. Takes no memory.
+    /// Puts a document at a place, and returns the one that was there. Does not allocate.
     ///
     /// The place is counted from 0 and is one of the places.
     #[tactic(auto, using(crate::proofs::Rules::replace_rules))]
@@ -109,7 +109,7 @@ impl Docs {
     }
 
     /// A copy of the document of each old place that is named, and of the fresh one elsewhere, in the order of the
-    /// origins. Only memory can fail it.
+    /// origins. Fails only if memory runs out.
     ///
     /// Each old place is one of the places.
     #[tactic(auto, using(crate::proofs::Rules::gather_rules))]

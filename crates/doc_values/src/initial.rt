@@ -18,7 +18,7 @@ use std::alloc::{AllocError, Global};
 ///
 /// The type is well formed, so there is a first member and a first tag, and the document has the type. Only memory
 /// can fail it. See docs/MEANING.md.
-#[tactic(auto, using(crate::proofs::Typed::has_initial))]
+#[tactic(auto, using(crate::proofs::InitialTypes::has_initial))]
 pub fn init(alloc: Global, ty: &Ty) -> Result<Doc, AllocError>
     requires { is_well_formed (ty_tree ty.now) ≡ true }
     ensures value { IfOk result (λ d. doc_tree d ≡ initial (ty_tree ty.now)) }

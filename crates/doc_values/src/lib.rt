@@ -4,17 +4,16 @@
 //! as plain trees: `TyTree` through `ty_tree`, and `DocTree` through `doc_tree`.
 #![tactic(auto)]
 
-pub mod condition;
+mod condition;
 pub mod doc;
 pub mod initial;
-pub mod levels;
-pub mod same;
+mod levels;
+pub mod names;
+mod same;
 pub mod ty;
-pub mod typing;
+mod typing;
 
 pub use crate::doc::{Doc, Docs};
 pub use crate::initial::init;
+pub use crate::names::has_text;
 pub use crate::ty::{Fields, Ty};
-
-#[cfg(test)]
-mod tests;

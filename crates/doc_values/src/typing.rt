@@ -21,7 +21,7 @@ pub(crate) fn fits(ty: &Ty, doc: &Doc) -> bool
         (Ty::Text, Doc::Text(_)) => true,
         (Ty::Enum(members), Doc::Pick(name)) => members.has(name),
         (Ty::Rec(fields), Doc::Rec(docs)) => fit_fields(fields, docs),
-        (Ty::Alt(fields), Doc::Alt(tag, content)) => match fields.position(tag) {
+        (Ty::Alt(fields), Doc::Alt(tag, content)) => match fields.position(tag.as_str()) {
             Some(at) => fits(&fields.items[at].1, content),
             None => false,
         },

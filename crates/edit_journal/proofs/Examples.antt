@@ -5,11 +5,11 @@ use lib.Utf8.{encode}
 use Rattle.serde_json.specs.Data.{null, string, array, object, no_items, item, no_members, member}
 use Rattle.serde_json.proofs.OnLiterals.{serde_json_on_literals}
 use Rattle.value_json.specs.Numbers.{count_tree, int_tree}
-use Rattle.edit_module.specs.Words.{add, done, then}
+use Rattle.edit_module.specs.Words.{add, no_primitives, more_primitives}
 use Rattle.texts.specs.declared.side.Side.TheVariants.{Left, Right}
 use Rattle.edit_json.specs.WordJson.{primitive_of}
 use Rattle.edit_journal.specs.Lines.{line_of, is_blank}
-use Rattle.edit_journal.specs.EntryJson.{tree_of_entry, parts_of, entry_of_tree, tree_of_line, entry_of_line}
+use Rattle.edit_journal.specs.EntryJson.{tree_of_entry, parts_of, entry_of_tree, tree_of_text, entry_of_line}
 use Rattle.edit_journal.specs.declared.line.Line.TheVariants.{Text, TooLong}
 use Rattle.edit_journal.specs.declared.fault.EntryFault.TheVariants.{LineTooLong, NotJson, NotAnEntry, NotAnEdit}
 
@@ -28,11 +28,11 @@ not_blank = refl
 -- ---- trees
 
 -- {"edit":[{"add":-1}],"side":"right"}
-written : tree_of_entry (Right, then (add (negsuc 0)) done)
+written : tree_of_entry (Right, more_primitives (add (negsuc 0)) no_primitives)
     ≡ object (member (codes "edit") (array (item (object (member (codes "add") (int_tree (negsuc 0)) no_members)) no_items)) (member (codes "side") (string (codes "right")) no_members))
 written = refl
 
-read_back : entry_of_tree (tree_of_entry (Right, then (add (negsuc 0)) done)) ≡ Ok (Right, then (add (negsuc 0)) done)
+read_back : entry_of_tree (tree_of_entry (Right, more_primitives (add (negsuc 0)) no_primitives)) ≡ Ok (Right, more_primitives (add (negsuc 0)) no_primitives)
 unfolding primitive_of
 read_back = refl
 
@@ -50,7 +50,7 @@ number_for_a_side = refl
 
 -- ---- lines as entries, and the four refusals
 
-entry : entry_of_line (line_of (codes "{\"side\":\"left\",\"edit\":[{\"add\":7}]}")) ≡ Ok (Left, then (add (pos 7)) done)
+entry : entry_of_line (line_of (codes "{\"side\":\"left\",\"edit\":[{\"add\":7}]}")) ≡ Ok (Left, more_primitives (add (pos 7)) no_primitives)
 unfolding primitive_of is_utf8 chars encode serde_json_on_literals
 entry = refl
 
@@ -62,7 +62,7 @@ unfolding is_utf8 chars encode serde_json_on_literals
 not_json = refl
 
 -- a byte that is no text
-not_utf8 : tree_of_line (34 ∷ 255 ∷ 34 ∷ []) ≡ None
+not_utf8 : tree_of_text (34 ∷ 255 ∷ 34 ∷ []) ≡ None
 unfolding is_utf8 chars encode
 not_utf8 = refl
 

@@ -1,4 +1,5 @@
 mod Examples
 pub mod Texts
 pub mod Entries
-pub mod Apart
+pub mod Reading
+pub mod TreesDiffer

@@ -6,7 +6,7 @@ use Rattle.serde_json.specs.Read.{read}
 use Rattle.edit_module.specs.Words.{WordTree}
 use Rattle.texts.specs.declared.side.Side.{Side}
 use Rattle.texts.specs.declared.side.Side.TheVariants.{Left, Right}
-use Rattle.edit_json.specs.WordJson.{tree_of_word, word_of}
+use Rattle.edit_json.specs.WordJson.{tree_of_word, word_of_tree}
 use Rattle.edit_journal.specs.declared.fault.EntryFault.{EntryFault}
 use Rattle.edit_journal.specs.declared.fault.EntryFault.TheVariants.{LineTooLong, NotJson, NotAnEntry, NotAnEdit}
 use Rattle.edit_journal.specs.declared.line.Line.{Line}
@@ -42,7 +42,7 @@ entry_with side (Some w) = Ok (side, w)
 entry_with side None = Err NotAnEdit
 
 abbrev pub entry_of_parts : Option (Side × Data) → Result (Side × WordTree) EntryFault
-entry_of_parts (Some p) = entry_with p.0 (word_of p.1)
+entry_of_parts (Some p) = entry_with p.0 (word_of_tree p.1)
 entry_of_parts None = Err NotAnEntry
 
 -- the entry of a tree
@@ -52,8 +52,13 @@ entry_of_tree d = entry_of_parts (parts_of d)
 -- ---- the entry that a line is
 
 -- the tree of a text, where it is valid UTF-8 and reads as JSON
-abbrev pub tree_of_line : List ℕ → Option Data
-tree_of_line bytes = if is_utf8 bytes then read bytes else None
+abbrev pub tree_of_text : List ℕ → Option Data
+tree_of_text bytes = if is_utf8 bytes then read bytes else None
+
+-- the tree of a line: that of its text, and none when it is too long
+abbrev pub tree_of_line : Line → Option Data
+tree_of_line (Text bytes) = tree_of_text bytes
+tree_of_line TooLong = None
 
 abbrev pub entry_if_json : Option Data → Result (Side × WordTree) EntryFault
 entry_if_json (Some d) = entry_of_tree d
@@ -61,7 +66,7 @@ entry_if_json None = Err NotJson
 
 -- the entry of a text
 abbrev pub entry_of_text : List ℕ → Result (Side × WordTree) EntryFault
-entry_of_text bytes = entry_if_json (tree_of_line bytes)
+entry_of_text bytes = entry_if_json (tree_of_text bytes)
 
 -- the entry of a line
 abbrev pub entry_of_line : Line → Result (Side × WordTree) EntryFault

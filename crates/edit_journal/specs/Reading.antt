@@ -3,7 +3,7 @@ use Rattle.std.specs.Prelude.{◌≡◌, Result, Ok, Err}
 use Rattle.edit_journal.specs.declared.fault.EntryFault.{EntryFault}
 use Rattle.edit_journal.specs.declared.fault.EntryFault.TheVariants.{NoMemory}
 
--- a refusal is the one that there is; want of memory says nothing
+-- a refusal is the one that there is; running out of memory says nothing
 abbrev pub Refuses : {Y : Type 0} → EntryFault → Result Y EntryFault → Type 0
 Refuses NoMemory read = Unit {0}
 Refuses fault read = read ≡ Err fault

@@ -1,6 +1,7 @@
 //! Why a line was not read.
 
-use std::alloc::{AllocError, AllocFailed};
+use std::alloc::{AllocError, AllocFailed, Global};
+use texts::Twin;
 
 /// Why a line was not read as an entry. A line is tested in the order of these variants.
 #[derive(Clone, Copy, Debug, PartialEq, Eq, Drop)]
@@ -36,5 +37,17 @@ impl<T: Drop> From<AllocFailed<T>> for EntryFault {
 
     fn from(_: AllocFailed<T>) -> EntryFault {
         EntryFault::NoMemory
+    }
+}
+
+impl Twin for EntryFault {
+    ghost use Rattle.edit_journal.specs.declared.fault.EntryFault.{EntryFault};
+
+    ghost Meaning = { EntryFault };
+
+    ghost meaning = { λ f. f };
+
+    fn twin(&self, _alloc: Global) -> Result<Self, AllocError> {
+        Ok(*self)
     }
 }

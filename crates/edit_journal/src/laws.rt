@@ -20,11 +20,11 @@ pub fn trees_differ()
 /// Reading a tree and writing it are inverse.
 pub fn reading_inverts_writing()
     // An entry whose counts and numbers fit is what its tree reads as.
-    ensures again { (entry : Side × WordTree) → counts_fit entry.1 ≡ true
+    ensures reads_back { (entry : Side × WordTree) → counts_fit entry.1 ≡ true
         → numbers_fit entry.1 ≡ true → entry_of_tree (tree_of_entry entry) ≡ Ok entry }
 
     // What a tree reads as has counts and numbers that fit, and has this tree.
-    ensures taken { (tree : Data) (entry : Side × WordTree) → entry_of_tree tree ≡ Ok entry
+    ensures writes_back { (tree : Data) (entry : Side × WordTree) → entry_of_tree tree ≡ Ok entry
         → (counts_fit entry.1 ≡ true) × (numbers_fit entry.1 ≡ true)
         × (tree_of_entry entry ≡ tree) }
 

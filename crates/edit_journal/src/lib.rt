@@ -11,8 +11,6 @@ pub mod fault;
 pub mod laws;
 pub mod line;
 pub mod read;
-#[cfg(test)]
-mod tests;
 pub mod write;
 
 pub use crate::fault::EntryFault;

@@ -1,10 +1,12 @@
 //! Reading the entry that a line is.
 
-ghost use Rattle.std.specs.Prelude.{◌≡◌, true, IfOk, option_map, ok_or};
+ghost use Rattle.std.specs.Prelude.{◌≡◌, ◌≢◌, true, Some, IfOk, IfErr, option_map, ok_or};
 ghost use Rattle.serde_json.specs.View.{view};
 ghost use Rattle.edit_module.specs.Views.{word_tree, entry_tree};
-ghost use Rattle.edit_json.specs.WordJson.{word_of, counts_fit};
-ghost use Rattle.edit_journal.specs.EntryJson.{side_of, parts_of, tree_of_line, entry_of_tree, entry_of_text, entry_of_line};
+ghost use Rattle.texts.specs.declared.side.Side.{Side};
+ghost use Rattle.edit_module.specs.Words.{WordTree};
+ghost use Rattle.edit_json.specs.WordJson.{word_of_tree, counts_fit, numbers_fit};
+ghost use Rattle.edit_journal.specs.EntryJson.{side_of, parts_of, tree_of_text, tree_of_line, tree_of_entry, entry_of_tree, entry_of_text, entry_of_line};
 ghost use Rattle.edit_journal.specs.Reading.{Gives};
 ghost use Rattle.edit_journal.specs.declared.fault.EntryFault;
 
@@ -19,16 +21,28 @@ use value_json::two_members;
 /// The entry that a line is; the page docs/FORMATS.md has the form.
 ///
 /// The line may have any bytes. It is refused by the first of these that holds: `LineTooLong`
-/// exactly where it is too long, `NotJson` exactly where its bytes are no text that the reader of
-/// JSON gives a tree for, `NotAnEntry` exactly where the tree is not an object with exactly the
-/// members `edit` and `side` of which `side` is `left` or `right`, and `NotAnEdit` exactly where
+/// if and only if it is too long, `NotJson` if and only if its bytes are no text that the reader of
+/// JSON gives a tree for, `NotAnEntry` if and only if the tree is not an object with exactly the
+/// members `edit` and `side` of which `side` is `left` or `right`, and `NotAnEdit` if and only if
 /// `edit` is the tree of no word. `NoMemory` says nothing of the line.
 pub fn read_entry(alloc: Global, line: &Line) -> Result<Entry, EntryFault>
     // The entry and each refusal are the definition's, both ways.
     ensures entry { Gives entry_tree result (entry_of_line line.now) }
 
-    // What is read has a tree.
+    // What is read has a tree, and it is the tree of this line.
     ensures fits { IfOk result (λ entry. counts_fit (word_tree entry.word) ≡ true) }
+    ensures tree { IfOk result (λ entry. tree_of_line line.now ≡ Some (tree_of_entry (entry_tree entry))) }
+
+    // If it is refused and memory has not run out, no entry has the tree of this line.
+    ensures refused { IfErr result (λ fault. fault ≢ EntryFault.NoMemory → (entry : Side × WordTree)
+        → counts_fit entry.1 ≡ true → numbers_fit entry.1 ≡ true
+        → tree_of_line line.now ≡ Some (tree_of_entry entry) → ⊥) }
+{
+    read_line(alloc, line)
+}
+
+fn read_line(alloc: Global, line: &Line) -> Result<Entry, EntryFault>
+    ensures { Gives entry_tree result (entry_of_line line.now) }
 {
     match line {
         Line::Text(bytes) => read_text(alloc, bytes.as_slice()),
@@ -37,16 +51,15 @@ pub fn read_entry(alloc: Global, line: &Line) -> Result<Entry, EntryFault>
 }
 
 fn read_text(alloc: Global, bytes: &[u8]) -> Result<Entry, EntryFault>
-    ensures entry { Gives entry_tree result (entry_of_text bytes.now) }
-    ensures fits { IfOk result (λ entry. counts_fit (word_tree entry.word) ≡ true) }
+    ensures { Gives entry_tree result (entry_of_text bytes.now) }
 {
     let tree = read_tree(alloc, bytes)?;
-    read_entry_tree(alloc, &tree)
+    read_parts(alloc, &tree)
 }
 
 // The tree of a text.
 fn read_tree(alloc: Global, bytes: &[u8]) -> Result<Value, EntryFault>
-    ensures { Gives view result (ok_or (tree_of_line bytes.now) EntryFault.NotJson) }
+    ensures { Gives view result (ok_or (tree_of_text bytes.now) EntryFault.NotJson) }
 {
     match Value::from_slice(alloc, bytes) {
         Ok(tree) => Ok(tree),
@@ -67,8 +80,21 @@ pub fn read_entry_tree(alloc: Global, tree: &Value) -> Result<Entry, EntryFault>
     // The entry and each refusal are the definition's, both ways.
     ensures entry { Gives entry_tree result (entry_of_tree (view tree.now)) }
 
-    // What is read has a tree.
+    // What is read has a tree, and it is this one.
     ensures fits { IfOk result (λ entry. counts_fit (word_tree entry.word) ≡ true) }
+    ensures tree { IfOk result (λ entry. tree_of_entry (entry_tree entry) ≡ view tree.now) }
+
+    // If it is refused and memory has not run out, no entry has this tree.
+    ensures refused { IfErr result (λ fault. fault ≢ EntryFault.NoMemory → (entry : Side × WordTree)
+        → counts_fit entry.1 ≡ true → numbers_fit entry.1 ≡ true
+        → tree_of_entry entry ≡ view tree.now → ⊥) }
+{
+    read_parts(alloc, tree)
+}
+
+// The entry of an object with exactly the members `edit` and `side`.
+fn read_parts(alloc: Global, tree: &Value) -> Result<Entry, EntryFault>
+    ensures { Gives entry_tree result (entry_of_tree (view tree.now)) }
 {
     let Some((side, edit)) = side_and_edit(tree) else {
         return Err(EntryFault::NotAnEntry);
@@ -100,8 +126,7 @@ fn read_side(text: &str) -> Option<Side>
 
 // The word of an edit.
 fn read_edit(alloc: Global, edit: &Value) -> Result<Word, EntryFault>
-    ensures word { Gives word_tree result (ok_or (word_of (view edit.now)) EntryFault.NotAnEdit) }
-    ensures fits { IfOk result (λ word. counts_fit (word_tree word) ≡ true) }
+    ensures { Gives word_tree result (ok_or (word_of_tree (view edit.now)) EntryFault.NotAnEdit) }
 {
     match read_word(alloc, edit) {
         Ok(word) => Ok(word),

@@ -17,7 +17,7 @@ use std::alloc::{AllocError, Global};
 /// The tree of an entry; the page docs/FORMATS.md says which tree this is.
 ///
 /// Each insertion and each deletion in the word, inner words included, is of 1 to 65,536 items,
-/// which `edit_json::has_tree` tests. Fails where memory runs out, and not otherwise.
+/// which `edit_json::has_tree` tests. Fails only if memory runs out.
 pub fn write_entry(alloc: Global, entry: &Entry) -> Result<Value, AllocError>
     requires counts_fit { counts_fit (word_tree entry.now.word) ≡ true }
 

@@ -4,27 +4,27 @@ use Rattle.hold_shapes.specs.declared.edit.Place.TheVariants.{Index, Key, Node}
 use Rattle.hold_shapes.specs.declared.edit.ShapeEdit.TheVariants.{Ins, Del, MoveItem, RenameKey, Shift}
 use Rattle.edit_module.specs.declared.atom.Atom.TheVariants.{Truth}
 use Rattle.serde_json.specs.Data.{boolean, string, array, object, no_items, item, no_members, member}
-use Rattle.edit_module.specs.Words.{set, add, splice, at, switch, modify, shape, done, then}
+use Rattle.edit_module.specs.Words.{set, add, splice, at, switch, modify, shape, no_primitives, more_primitives}
 use Rattle.value_json.specs.Numbers.{count_tree, int_tree}
-use Rattle.edit_json.specs.WordJson.{one, two, three, tree_of_word, word_of, primitive_of, counts_fit, numbers_fit}
+use Rattle.edit_json.specs.WordJson.{one, two, three, tree_of_word, word_of_tree, primitive_of, counts_fit, numbers_fit}
 use Rattle.edit_json.specs.Depths.{word_depth}
 
 -- [{"at":["a",[{"set":true}]]}]
-nested : word_of (array (item (one (codes "at") (two (string (codes "a")) (array (item (one (codes "set") (boolean true)) no_items)))) no_items))
-    ≡ Some (then (at (codes "a") (then (set (Truth true)) done)) done)
+nested : word_of_tree (array (item (one (codes "at") (two (string (codes "a")) (array (item (one (codes "set") (boolean true)) no_items)))) no_items))
+    ≡ Some (more_primitives (at (codes "a") (more_primitives (set (Truth true)) no_primitives)) no_primitives)
 unfolding primitive_of
 nested = refl
 
 -- a place is an index, a key or a path by the sort of its tree: [{"mod":[3,[]]}], [{"mod":["3",[]]}], [{"mod":[[3],[]]}]
-at_index : primitive_of (one (codes "mod") (two (count_tree 3) (array no_items))) ≡ Some (modify (Index 3) done)
+at_index : primitive_of (one (codes "mod") (two (count_tree 3) (array no_items))) ≡ Some (modify (Index 3) no_primitives)
 unfolding primitive_of
 at_index = refl
 
-at_key : primitive_of (one (codes "mod") (two (string (codes "3")) (array no_items))) ≡ Some (modify (Key (codes "3")) done)
+at_key : primitive_of (one (codes "mod") (two (string (codes "3")) (array no_items))) ≡ Some (modify (Key (codes "3")) no_primitives)
 unfolding primitive_of
 at_key = refl
 
-at_node : primitive_of (one (codes "mod") (two (array (item (count_tree 3) no_items)) (array no_items))) ≡ Some (modify (Node (3 ∷ [])) done)
+at_node : primitive_of (one (codes "mod") (two (array (item (count_tree 3) no_items)) (array no_items))) ≡ Some (modify (Node (3 ∷ [])) no_primitives)
 unfolding primitive_of
 at_node = refl
 
@@ -61,18 +61,18 @@ unfolding primitive_of
 below_zero = refl
 
 -- a word of two primitives, and its tree: [{"shift":[[1],2,0]},{"rename":["k","m"]}]
-written : tree_of_word (then (shape (Shift (1 ∷ []) 2 0)) (then (shape (RenameKey (codes "k") (codes "m"))) done))
+written : tree_of_word (more_primitives (shape (Shift (1 ∷ []) 2 0)) (more_primitives (shape (RenameKey (codes "k") (codes "m"))) no_primitives))
     ≡ array (item (one (codes "shift") (three (array (item (count_tree 1) no_items)) (count_tree 2) (count_tree 0))) (item (one (codes "rename") (two (string (codes "k")) (string (codes "m")))) no_items))
 written = refl
 
 -- a word with an insertion of nothing has no tree, wherever the insertion stands
-nothing_inside : counts_fit (then (add (pos 1)) (then (switch (codes "p") (codes "o") (then (shape (Ins 0)) done)) done)) ≡ false
+nothing_inside : counts_fit (more_primitives (add (pos 1)) (more_primitives (switch (codes "p") (codes "o") (more_primitives (shape (Ins 0)) no_primitives)) no_primitives)) ≡ false
 nothing_inside = refl
 
 -- 18446744073709551616 is above every u64
-above : numbers_fit (then (splice 18446744073709551616 0 []) done) ≡ false
+above : numbers_fit (more_primitives (splice 18446744073709551616 0 []) no_primitives) ≡ false
 above = refl
 
 -- two words inside one another
-two_levels : word_depth (then (shape (Del 1)) (then (modify (Index 0) (then (shape (MoveItem 0 1)) done)) done)) ≡ 2
+two_levels : word_depth (more_primitives (shape (Del 1)) (more_primitives (modify (Index 0) (more_primitives (shape (MoveItem 0 1)) no_primitives)) no_primitives)) ≡ 2
 two_levels = refl

@@ -1,9 +1,10 @@
-pub mod Again
-pub mod ByParts
+pub mod WritingReadsBack
+pub mod PrimitiveOf
 pub mod Counts
 mod Examples
 pub mod Reading
-pub mod Shallow
+pub mod TreeDepths
 pub mod Shapes
-pub mod Takes
+pub mod ReadingHasTree
 pub mod Writing
+pub mod TreesDiffer

@@ -4,7 +4,7 @@ use Rattle.std.proofs.lemmas.List.{drop_all}
 use Rattle.serde_json.specs.Data.{Data, Items, no_items, item}
 use Rattle.serde_json.specs.View.{view, items_view}
 use Rattle.serde_json.specs.declared.value.Value.{Value}
-use Rattle.edit_module.specs.Words.{PrimitiveTree, WordTree, done, then}
+use Rattle.edit_module.specs.Words.{PrimitiveTree, WordTree, no_primitives, more_primitives}
 use Rattle.edit_module.specs.Words as words
 use Rattle.value_json.proofs.Counts.{left_items}
 use Rattle.edit_json.specs.WordJson.{primitive_of, word_of_items}
@@ -15,17 +15,17 @@ use Rattle.edit_json.specs.declared.fault.EditFault.TheVariants.{NotAnEdit, NoMe
 -- the primitives, and then the word
 abbrev pub then_word : List PrimitiveTree → WordTree → WordTree
 then_word [] w = w
-then_word (p ∷ ps) w = then p (then_word ps w)
+then_word (p ∷ ps) w = more_primitives p (then_word ps w)
 
-then_word-append : (ps : List PrimitiveTree) (p : PrimitiveTree) (w : WordTree) → then_word (ps ++ p ∷ []) w ≡ then_word ps (then p w)
+then_word-append : (ps : List PrimitiveTree) (p : PrimitiveTree) (w : WordTree) → then_word (ps ++ p ∷ []) w ≡ then_word ps (more_primitives p w)
 then_word-append [] p w = refl
-then_word-append (q ∷ ps) p w = ap (then q) (then_word-append ps p w)
+then_word-append (q ∷ ps) p w = ap (more_primitives q) (then_word-append ps p w)
 
-then_word-nil : (ps : List PrimitiveTree) → then_word ps done ≡ words.word_of ps
+then_word-nil : (ps : List PrimitiveTree) → then_word ps no_primitives ≡ words.word_of ps
 then_word-nil [] = refl
-then_word-nil (q ∷ ps) = ap (then q) (then_word-nil ps)
+then_word-nil (q ∷ ps) = ap (more_primitives q) (then_word-nil ps)
 
-map_then : (ps : List PrimitiveTree) (p : PrimitiveTree) (o : Option WordTree) → option_map (then_word ps) (option_map (then p) o) ≡ option_map (then_word (ps ++ p ∷ [])) o
+map_then : (ps : List PrimitiveTree) (p : PrimitiveTree) (o : Option WordTree) → option_map (then_word ps) (option_map (more_primitives p) o) ≡ option_map (then_word (ps ++ p ∷ [])) o
 map_then ps p None = refl
 map_then ps p (Some w) = ap Some (sym (then_word-append ps p w))
 

@@ -12,12 +12,12 @@ use Rattle.edit_module.specs.Words.{WordTree}
 use Rattle.edit_module.specs.Words as words
 use Rattle.edit_module.specs.Views.{primitive_tree}
 use Rattle.edit_module.specs.declared.word.Primitive.{Primitive}
-use Rattle.value_json.proofs.Facts.{both, left, right}
+use Rattle.texts.proofs.Conjunction.{both, first as left, second as right}
 use Rattle.edit_json.specs.Values.{fits_u64, all_fit_u64}
-use Rattle.edit_json.specs.WordJson.{tree_of_primitive, items_of_word, tree_of_word, word_of, primitive_numbers_fit, numbers_fit, counts_fit}
+use Rattle.edit_json.specs.WordJson.{tree_of_primitive, items_of_word, tree_of_word, word_of_tree, primitive_numbers_fit, numbers_fit, counts_fit}
 use Rattle.edit_json.specs.Depths.{primitive_depth, word_depth}
-use Rattle.edit_json.proofs.Again.{again}
-use Rattle.edit_json.proofs.Shallow.{whole, shallow}
+use Rattle.edit_json.proofs.WritingReadsBack.{again}
+use Rattle.edit_json.proofs.TreeDepths.{whole, shallow}
 
 all_items : (ps : List Primitive) → items_of (map (λ p. tree_of_primitive (primitive_tree p)) ps) ≡ items_of_word (words.word_of (map primitive_tree ps))
 all_items [] = refl
@@ -52,8 +52,8 @@ slice_fits (n ∷ ns) h = both (fits_u64 n) (all_fit_u64 ns) (lt-ltb n (2 ^ 64) 
 
 -- ---- what is written
 
-pub written_back : (r : Result Value AllocError) (w : WordTree) → counts_fit w ≡ true → IfOk r (λ tree. view tree ≡ tree_of_word w) → OnOk r (numbers_fit w ≡ true) → IfOk r (λ tree. word_of (view tree) ≡ Some w)
-written_back (Ok tree) w counts is numbers = ap word_of is ∙ again w counts numbers
+pub written_back : (r : Result Value AllocError) (w : WordTree) → counts_fit w ≡ true → IfOk r (λ tree. view tree ≡ tree_of_word w) → OnOk r (numbers_fit w ≡ true) → IfOk r (λ tree. word_of_tree (view tree) ≡ Some w)
+written_back (Ok tree) w counts is numbers = ap word_of_tree is ∙ again w counts numbers
 written_back (Err e) w counts is numbers = tt
 
 pub written_whole : (r : Result Value AllocError) (w : WordTree) → IfOk r (λ tree. view tree ≡ tree_of_word w) → IfOk r (λ tree. has_float (view tree) ≡ false)

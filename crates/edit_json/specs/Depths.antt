@@ -1,6 +1,6 @@
 -- How deep words stand inside one another.
 use Rattle.std.specs.Prelude.{ℕ, ◌+◌, max}
-use Rattle.edit_module.specs.Words.{PrimitiveTree, at, stay, switch, modify, WordTree, done, then}
+use Rattle.edit_module.specs.Words.{PrimitiveTree, at, stay, switch, modify, WordTree, no_primitives, more_primitives}
 
 abbrev mutual
   -- the depth of the inner word, and 0 where there is none
@@ -13,5 +13,5 @@ abbrev mutual
 
   -- one more than its deepest primitive; the empty word has depth 1, too
   pub word_depth : WordTree → ℕ
-  word_depth done = 1
-  word_depth (then p w) = max (primitive_depth p + 1) (word_depth w)
+  word_depth no_primitives = 1
+  word_depth (more_primitives p w) = max (primitive_depth p + 1) (word_depth w)

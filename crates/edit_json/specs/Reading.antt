@@ -3,7 +3,7 @@ use Rattle.std.specs.Prelude.{◌≡◌, Option, Some, None, Result, Ok, Err}
 use Rattle.edit_json.specs.declared.fault.EditFault.{EditFault}
 use Rattle.edit_json.specs.declared.fault.EditFault.TheVariants.{NotAnEdit, NoMemory}
 
--- `NotAnEdit` exactly where there is nothing to read; want of memory says nothing
+-- `NotAnEdit` if and only if there is nothing to read; running out of memory says nothing
 abbrev pub Refuses : {Y : Type 0} → EditFault → Option Y → Type 0
 Refuses NotAnEdit read = read ≡ None
 Refuses NoMemory read = Unit {0}

@@ -7,7 +7,8 @@ use Rattle.hold_shapes.specs.declared.edit.Place.{Place}
 use Rattle.hold_shapes.specs.declared.edit.Place.TheVariants.{Index, Key, Node}
 use Rattle.edit_module.specs.declared.atom.Atom.{Atom}
 use Rattle.edit_module.specs.declared.atom.Atom.TheVariants.{Truth, Number, Letters}
-use Rattle.value_json.specs.Numbers.{fits_i64, int_in, count_of, counts_of, int_tree, count_tree, count_items}
+use Rattle.doc_values.specs.Integers.{fits_i64}
+use Rattle.value_json.specs.Numbers.{int_in, count_of, counts_of, int_tree, count_tree, count_items}
 
 -- ---- trees
 

@@ -5,8 +5,9 @@ use Rattle.serde_json.specs.Find.{as_str}
 use Rattle.hold_shapes.specs.Plans.{is_count}
 use Rattle.hold_shapes.specs.declared.edit.ShapeEdit.{ShapeEdit}
 use Rattle.hold_shapes.specs.declared.edit.ShapeEdit.TheVariants as edits
-use Rattle.edit_module.specs.Words.{PrimitiveTree, set, add, splice, at, stay, switch, modify, shape, WordTree, done, then}
-use Rattle.value_json.specs.Numbers.{fits_i64, int_of, count_of, int_tree, count_tree}
+use Rattle.edit_module.specs.Words.{PrimitiveTree, set, add, splice, at, stay, switch, modify, shape, WordTree, no_primitives, more_primitives}
+use Rattle.doc_values.specs.Integers.{fits_i64}
+use Rattle.value_json.specs.Numbers.{int_of, count_of, int_tree, count_tree}
 use Rattle.edit_json.specs.Kinds.{kind_of}
 use Rattle.edit_json.specs.Values.{tree_of_counts, tree_of_atom, tree_of_place, atom_of, numbers_of, place_of, item_count_of, fits_u64, all_fit_u64, atom_fits, place_fits}
 use Rattle.edit_json.specs.declared.kind.Kind.{Kind}
@@ -52,8 +53,8 @@ abbrev mutual
 
   -- an item for each primitive: its tree
   pub items_of_word : WordTree → Items
-  items_of_word done = no_items
-  items_of_word (then p w) = item (tree_of_primitive p) (items_of_word w)
+  items_of_word no_primitives = no_items
+  items_of_word (more_primitives p w) = item (tree_of_primitive p) (items_of_word w)
 
 -- a word: an array of its primitives
 abbrev pub tree_of_word : WordTree → Data
@@ -88,20 +89,20 @@ unfoldable mutual
 
   -- a primitive, by what it does and by the content of its member: those with an inner word, and then all others
   pub content_of : Kind → Data → Option PrimitiveTree
-  content_of At (array (item f (item w no_items))) = option_and_then (λ f. option_map (at f) (word_of w)) (as_str f)
-  content_of Stay (array (item t (item w no_items))) = option_and_then (λ t. option_map (stay t) (word_of w)) (as_str t)
-  content_of Switch (array (item a (item b (item w no_items)))) = option_and_then (λ a. option_and_then (λ b. option_map (switch a b) (word_of w)) (as_str b)) (as_str a)
-  content_of Mod (array (item p (item w no_items))) = option_and_then (λ p. option_map (modify p) (word_of w)) (place_of p)
+  content_of At (array (item f (item w no_items))) = option_and_then (λ f. option_map (at f) (word_of_tree w)) (as_str f)
+  content_of Stay (array (item t (item w no_items))) = option_and_then (λ t. option_map (stay t) (word_of_tree w)) (as_str t)
+  content_of Switch (array (item a (item b (item w no_items)))) = option_and_then (λ a. option_and_then (λ b. option_map (switch a b) (word_of_tree w)) (as_str b)) (as_str a)
+  content_of Mod (array (item p (item w no_items))) = option_and_then (λ p. option_map (modify p) (word_of_tree w)) (place_of p)
   content_of kind d = leaf_of kind d
 
   -- an array of primitives
-  pub word_of : Data → Option WordTree
-  word_of (array ds) = word_of_items ds
-  word_of _ = None
+  pub word_of_tree : Data → Option WordTree
+  word_of_tree (array ds) = word_of_items ds
+  word_of_tree _ = None
 
   pub word_of_items : Items → Option WordTree
-  word_of_items no_items = Some done
-  word_of_items (item d ds) = option_and_then (λ p. option_map (then p) (word_of_items ds)) (primitive_of d)
+  word_of_items no_items = Some no_primitives
+  word_of_items (item d ds) = option_and_then (λ p. option_map (more_primitives p) (word_of_items ds)) (primitive_of d)
 
 -- ---- insertions and deletions
 
@@ -122,8 +123,8 @@ abbrev mutual
   primitive_counts_fit _ = true
 
   pub counts_fit : WordTree → Bool
-  counts_fit done = true
-  counts_fit (then p w) = primitive_counts_fit p && counts_fit w
+  counts_fit no_primitives = true
+  counts_fit (more_primitives p w) = primitive_counts_fit p && counts_fit w
 
 -- ---- the numbers of a word
 
@@ -150,5 +151,5 @@ abbrev mutual
   primitive_numbers_fit (shape e) = edit_numbers_fit e
 
   pub numbers_fit : WordTree → Bool
-  numbers_fit done = true
-  numbers_fit (then p w) = primitive_numbers_fit p && numbers_fit w
+  numbers_fit no_primitives = true
+  numbers_fit (more_primitives p w) = primitive_numbers_fit p && numbers_fit w

@@ -1,6 +1,7 @@
 //! Why a tree was not read as a word.
 
-use std::alloc::{AllocError, AllocFailed};
+use std::alloc::{AllocError, AllocFailed, Global};
+use texts::Twin;
 
 /// Why a tree was not read as a word of edits.
 #[derive(Clone, Copy, Debug, PartialEq, Eq, Drop)]
@@ -30,5 +31,17 @@ impl<T: Drop> From<AllocFailed<T>> for EditFault {
 
     fn from(_: AllocFailed<T>) -> EditFault {
         EditFault::NoMemory
+    }
+}
+
+impl Twin for EditFault {
+    ghost use Rattle.edit_json.specs.declared.fault.EditFault.{EditFault};
+
+    ghost Meaning = { EditFault };
+
+    ghost meaning = { λ f. f };
+
+    fn twin(&self, _alloc: Global) -> Result<Self, AllocError> {
+        Ok(*self)
     }
 }

@@ -12,7 +12,7 @@ use hold_shapes::ShapeEdit;
 pub(crate) const MOST_ITEMS: u32 = 65536;
 
 /// Whether the word has a JSON tree: whether each insertion and each deletion in it, inner words
-/// included, is of 1 to 65,536 items. Takes no memory.
+/// included, is of 1 to 65,536 items. Does not allocate.
 #[cycle(fits)]
 #[tactic(auto, using(crate::proofs::Counts::count_rules))]
 pub fn has_tree(word: &Word) -> bool

@@ -44,7 +44,7 @@ pub enum Kind {
     Hang,
 }
 
-/// What the primitive does whose member has this name. None exactly where no primitive has it.
+/// What the primitive does whose member has this name. None if and only if no primitive has it.
 pub fn kind_of(name: &str) -> Option<Kind>
     ensures { result ≡ kind_of name.now }
 {

@@ -6,25 +6,22 @@ ghost use Rattle.std.specs.Prelude.{◌≡◌, ◌≤◌, ◌*◌, ◌+◌, true
 ghost use Rattle.serde_json.specs.Data.{Data, depth};
 ghost use Rattle.serde_json.specs.Written.{has_float};
 ghost use Rattle.edit_module.specs.Words.{WordTree};
-ghost use Rattle.edit_json.specs.WordJson.{tree_of_word, word_of, counts_fit, numbers_fit};
+ghost use Rattle.edit_json.specs.WordJson.{tree_of_word, word_of_tree, counts_fit, numbers_fit};
 ghost use Rattle.edit_json.specs.Depths.{word_depth};
 
-/// Two different words whose counts and numbers fit never have the same tree.
+/// Two different words never have the same tree, whatever their counts and numbers are.
 pub fn trees_differ()
-    ensures { (one other : WordTree)
-        → counts_fit one ≡ true → numbers_fit one ≡ true
-        → counts_fit other ≡ true → numbers_fit other ≡ true
-        → tree_of_word one ≡ tree_of_word other → one ≡ other }
+    ensures { (one other : WordTree) → tree_of_word one ≡ tree_of_word other → one ≡ other }
 {}
 
 /// Reading a tree and writing it are inverse.
 pub fn reading_inverts_writing()
     // A word whose counts and numbers fit is what its tree reads as.
-    ensures again { (word : WordTree) → counts_fit word ≡ true → numbers_fit word ≡ true
-        → word_of (tree_of_word word) ≡ Some word }
+    ensures reads_back { (word : WordTree) → counts_fit word ≡ true → numbers_fit word ≡ true
+        → word_of_tree (tree_of_word word) ≡ Some word }
 
     // What a tree reads as has counts and numbers that fit, and has this tree.
-    ensures taken { (tree : Data) (word : WordTree) → word_of tree ≡ Some word
+    ensures writes_back { (tree : Data) (word : WordTree) → word_of_tree tree ≡ Some word
         → (counts_fit word ≡ true) × (numbers_fit word ≡ true) × (tree_of_word word ≡ tree) }
 {}
 

@@ -13,8 +13,6 @@ pub mod laws;
 mod leaves;
 mod parts;
 pub mod read;
-#[cfg(test)]
-mod tests;
 pub mod text;
 mod values;
 pub mod write;

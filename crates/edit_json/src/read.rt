@@ -4,7 +4,7 @@ ghost use Rattle.std.specs.Prelude.{◌≡◌, true, IfOk, IsErrOf};
 ghost use Rattle.serde_json.specs.View.{view, items_view};
 ghost use Rattle.edit_module.specs.Words.{WordTree};
 ghost use Rattle.edit_module.specs.Views.{primitive_tree, word_tree};
-ghost use Rattle.edit_json.specs.WordJson.{tree_of_word, primitive_of, content_of, word_of, word_of_items, counts_fit, numbers_fit};
+ghost use Rattle.edit_json.specs.WordJson.{tree_of_word, primitive_of, content_of, word_of_tree, word_of_items, counts_fit, numbers_fit};
 ghost use Rattle.edit_json.specs.Reading.{Gives};
 ghost use Rattle.edit_json.specs.declared.fault.EditFault;
 ghost use Rattle.edit_json.specs.declared.kind.Kind.TheVariants as kinds;
@@ -25,11 +25,11 @@ use value_json::only_member;
 
 /// The word that has this tree.
 ///
-/// `NotAnEdit` exactly where no word has the tree; the page docs/FORMATS.md says which tree a word
+/// `NotAnEdit` if and only if no word has the tree; the page docs/FORMATS.md says which tree a word
 /// has. The tree may be any tree. Nothing of it is copied but its texts.
 pub fn read_word(alloc: Global, tree: &Value) -> Result<Word, EditFault>
     // The answer is the definition's, both ways.
-    ensures word { Gives word_tree result (word_of (view tree.now)) }
+    ensures word { Gives word_tree result (word_of_tree (view tree.now)) }
 
     // What is read has a tree, and has this tree.
     ensures fits { IfOk result (λ word. counts_fit (word_tree word) ≡ true) }
@@ -44,9 +44,9 @@ pub fn read_word(alloc: Global, tree: &Value) -> Result<Word, EditFault>
 }
 
 #[cycle(read)]
-#[tactic(auto, using(crate::proofs::ByParts::read_rules))]
+#[tactic(auto, using(crate::proofs::PrimitiveOf::read_rules))]
 fn read(alloc: Global, tree: &Value) -> Result<Word, EditFault>
-    ensures { Gives word_tree result (word_of (view tree.now)) }
+    ensures { Gives word_tree result (word_of_tree (view tree.now)) }
 {
     match tree.as_array() {
         Some(items) => read_items(alloc, items),
@@ -56,7 +56,7 @@ fn read(alloc: Global, tree: &Value) -> Result<Word, EditFault>
 
 // The word of an array's items.
 #[cycle(read)]
-#[tactic(auto, using(crate::proofs::ByParts::read_rules))]
+#[tactic(auto, using(crate::proofs::PrimitiveOf::read_rules))]
 fn read_items(alloc: Global, items: &[Value]) -> Result<Word, EditFault>
     ensures { Gives word_tree result (word_of_items (items_view items.now)) }
 {
@@ -69,7 +69,7 @@ fn read_items(alloc: Global, items: &[Value]) -> Result<Word, EditFault>
 
 // The primitive of an object with exactly one member.
 #[cycle(read)]
-#[tactic(auto, using(crate::proofs::ByParts::read_rules))]
+#[tactic(auto, using(crate::proofs::PrimitiveOf::read_rules))]
 fn read_primitive(alloc: Global, tree: &Value) -> Result<Primitive, EditFault>
     ensures { Gives primitive_tree result (primitive_of (view tree.now)) }
 {
@@ -113,7 +113,7 @@ fn read_content(alloc: Global, kind: Kind, content: &Value) -> Result<Primitive,
 // ---- primitives with an inner word
 
 #[cycle(read)]
-#[tactic(auto, using(crate::proofs::ByParts::read_rules))]
+#[tactic(auto, using(crate::proofs::PrimitiveOf::read_rules))]
 fn read_at(alloc: Global, content: &Value) -> Result<Primitive, EditFault>
     ensures { Gives primitive_tree result (content_of kinds.At (view content.now)) }
 {
@@ -126,7 +126,7 @@ fn read_at(alloc: Global, content: &Value) -> Result<Primitive, EditFault>
 }
 
 #[cycle(read)]
-#[tactic(auto, using(crate::proofs::ByParts::read_rules))]
+#[tactic(auto, using(crate::proofs::PrimitiveOf::read_rules))]
 fn read_stay(alloc: Global, content: &Value) -> Result<Primitive, EditFault>
     ensures { Gives primitive_tree result (content_of kinds.Stay (view content.now)) }
 {
@@ -139,7 +139,7 @@ fn read_stay(alloc: Global, content: &Value) -> Result<Primitive, EditFault>
 }
 
 #[cycle(read)]
-#[tactic(auto, using(crate::proofs::ByParts::read_rules))]
+#[tactic(auto, using(crate::proofs::PrimitiveOf::read_rules))]
 fn read_switch(alloc: Global, content: &Value) -> Result<Primitive, EditFault>
     ensures { Gives primitive_tree result (content_of kinds.Switch (view content.now)) }
 {
@@ -153,7 +153,7 @@ fn read_switch(alloc: Global, content: &Value) -> Result<Primitive, EditFault>
 }
 
 #[cycle(read)]
-#[tactic(auto, using(crate::proofs::ByParts::read_rules))]
+#[tactic(auto, using(crate::proofs::PrimitiveOf::read_rules))]
 fn read_mod(alloc: Global, content: &Value) -> Result<Primitive, EditFault>
     ensures { Gives primitive_tree result (content_of kinds.Mod (view content.now)) }
 {

@@ -15,7 +15,7 @@ use value_json::write_compact;
 /// The text of a word's tree, with no space between its parts.
 ///
 /// Each insertion and each deletion in the word is of 1 to 65,536 items, which `has_tree` tests.
-/// Fails where memory runs out, and not otherwise.
+/// Fails only if memory runs out.
 pub fn write_word_text(alloc: Global, word: &Word) -> Result<String, AllocError>
     requires counts_fit { counts_fit (word_tree word.now) ≡ true }
 

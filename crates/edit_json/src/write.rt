@@ -8,7 +8,7 @@ ghost use Rattle.hold_shapes.specs.declared.edit.ShapeEdit;
 ghost use Rattle.edit_module.specs.Views.{primitive_tree, word_tree};
 ghost use Rattle.edit_module.specs.Words.{splice, switch, modify};
 ghost use Rattle.edit_json.specs.Values.{tree_of_counts, tree_of_atom, tree_of_place, atom_fits, place_fits, all_fit_u64};
-ghost use Rattle.edit_json.specs.WordJson.{one, two, three, tree_of_shape_edit, tree_of_primitive, tree_of_word, word_of, counts_fit, edit_numbers_fit, primitive_numbers_fit, numbers_fit};
+ghost use Rattle.edit_json.specs.WordJson.{one, two, three, tree_of_shape_edit, tree_of_primitive, tree_of_word, word_of_tree, counts_fit, edit_numbers_fit, primitive_numbers_fit, numbers_fit};
 ghost use Rattle.edit_json.specs.Depths.{word_depth};
 
 use edit_module::word::Primitive;
@@ -16,19 +16,19 @@ use edit_module::{Atom, Word};
 use hold_shapes::{Name, Path, Place, ShapeEdit};
 use serde_json::{Map, Value};
 use std::alloc::{AllocError, Global};
-use value_json::write_counts;
+use value_json::{write_counts, write_text};
 
 /// The tree of a word; the page docs/FORMATS.md says which tree this is.
 ///
 /// Each insertion and each deletion in the word, inner words included, is of 1 to 65,536 items,
-/// which `has_tree` tests. Fails where memory runs out, and not otherwise.
+/// which `has_tree` tests. Fails only if memory runs out.
 pub fn write_word(alloc: Global, word: &Word) -> Result<Value, AllocError>
     requires counts_fit { counts_fit (word_tree word.now) ≡ true }
 
     ensures tree { IfOk result (λ tree. view tree ≡ tree_of_word (word_tree word.now)) }
 
     // What is written is read back as the same word.
-    ensures reads_back { IfOk result (λ tree. word_of (view tree) ≡ Some (word_tree word.now)) }
+    ensures reads_back { IfOk result (λ tree. word_of_tree (view tree) ≡ Some (word_tree word.now)) }
 
     // It has no float, so its text is told, and each level of words adds three levels to the tree.
     ensures no_float { IfOk result (λ tree. has_float (view tree) ≡ false) }
@@ -204,12 +204,6 @@ fn write_numbers(alloc: Global, numbers: &[u64]) -> Result<Value, AllocError>
     ensures whole { OnOk result (all_fit_u64 numbers.now ≡ true) }
 {
     write_counts(alloc, numbers)
-}
-
-fn write_text(alloc: Global, text: &str) -> Result<Value, AllocError>
-    ensures { IfOk result (λ tree. view tree ≡ string text.now) }
-{
-    Ok(Value::String(String::from_str(alloc, text)?))
 }
 
 // ---- objects with one member, and arrays of two and of three

@@ -6,15 +6,16 @@
 ghost use Rattle.std.specs.Prelude.{◌≡◌, ◌<◌, IfOk, MatchOption, MatchResult, option_map, length, true};
 ghost use Rattle.hold_shapes.specs.Shapes.{place_of};
 ghost use Rattle.doc_values.specs.Documents.{doc_tree, docs_tree, doc_list, alt};
-ghost use Rattle.doc_values.specs.Types.{ty_tree, fields_tree, is_well_formed, are_well_formed, ty_rec, ty_alt, ty_list, ty_keyed, ty_ordered};
-ghost use Rattle.doc_values.specs.Typing.{has, has_fields, spot, tag_ty};
+ghost use Rattle.doc_values.specs.Types.{ty_tree, fields_tree, is_well_formed, are_well_formed, ty_rec, ty_alt};
+ghost use Rattle.doc_values.specs.Typing.{has, has_fields, lookup_field, lookup_type};
 ghost use Rattle.doc_values.specs.Initial.{initial};
 ghost use Rattle.edit_module.specs.Views.{primitive_tree, word_tree};
-ghost use Rattle.edit_module.specs.Action.{act, act_primitive, inner, put_in, doc_at};
-ghost use Rattle.edit_module.specs.Held.{IsHeld, modified};
+ghost use Rattle.edit_module.specs.Action.{act, act_primitive, inner, act_at_place, put_result_at, doc_at};
+ghost use Rattle.edit_module.specs.Containers.{IsHeld, container_ty};
 ghost use Rattle.edit_module.specs.Words.{stay, switch};
 ghost use Rattle.edit_module.specs.Refusals.{IsRefusal, IsStepRefusal};
 
+use crate::container::Container;
 use crate::fault::{ActFault, Cause, StepFault};
 use crate::leaves::{on_bool, on_enum, on_int, on_text};
 use crate::reshape::reshape;
@@ -24,14 +25,14 @@ use hold_shapes::{Held, Name, Place, Shape, Twin};
 use std::alloc::Global;
 use std::mem;
 
-/// What a word makes of a document: its value after the primitives of the word in turn, which has the type. The empty
+/// What a word makes of a document: its value after the primitives of the word one after another, which has the type. The empty
 /// word gives the document itself.
 ///
-/// The type is well formed and the document has it. [`ActFault::NoApply`] comes exactly where a primitive fails; it
+/// The type is well formed and the document has it. [`ActFault::NoApply`] comes if and only if a primitive fails; it
 /// has the number, from 0, of the first one that does, and its cause. Where a word inside a primitive fails, the
 /// primitive fails with the cause inside. docs/EDITS.md has each primitive with its causes. The document stays as it
 /// is in any case.
-#[tactic(auto, using(crate::proofs::Keeps::act_rules))]
+#[tactic(auto, using(crate::proofs::ActionKeepsTypes::act_rules))]
 pub fn act(alloc: Global, ty: &Ty, word: &Word, doc: &Doc) -> Result<Doc, ActFault>
     requires well_formed { is_well_formed (ty_tree ty.now) ≡ true }
     requires typed { has (ty_tree ty.now) (doc_tree doc.now) ≡ true }
@@ -46,9 +47,9 @@ pub fn act(alloc: Global, ty: &Ty, word: &Word, doc: &Doc) -> Result<Doc, ActFau
     }
 }
 
-// The value of a document after the primitives of a word in turn.
+// The value of a document after the primitives of a word one after another.
 #[cycle(run)]
-#[tactic(auto, using(crate::proofs::Steps::steps))]
+#[tactic(auto, using(crate::proofs::WordSteps::steps))]
 fn run(alloc: Global, word: &Word, ty: &Ty, doc: Doc) -> Result<Doc, ActFault>
     requires well_formed { is_well_formed (ty_tree ty.now) ≡ true }
     requires typed { has (ty_tree ty.now) (doc_tree doc) ≡ true }
@@ -89,9 +90,9 @@ fn step(alloc: Global, primitive: &Primitive, ty: &Ty, doc: Doc) -> Result<Doc, 
         Ty::Enum(members) => on_enum(alloc, primitive, members, doc),
         Ty::Rec(fields) => on_record(alloc, primitive, fields, doc),
         Ty::Alt(tags) => on_alternatives(alloc, primitive, tags, doc),
-        Ty::List(inner) => on_list(alloc, primitive, inner, doc),
-        Ty::Keyed(inner) => on_keyed(alloc, primitive, inner, doc),
-        Ty::Tree(inner) => on_tree(alloc, primitive, inner, doc),
+        Ty::List(inner) => on_container(alloc, primitive, Container::List, inner, doc),
+        Ty::Keyed(inner) => on_container(alloc, primitive, Container::Keyed, inner, doc),
+        Ty::Tree(inner) => on_container(alloc, primitive, Container::Tree, inner, doc),
     }
 }
 
@@ -128,12 +129,12 @@ fn on_record(
 fn field_of<'a>(fields: &'a Fields, name: &Name, docs: &Docs) -> Option<(usize, &'a Ty)>
     requires well_formed { is_well_formed (ty_rec (fields_tree fields.now)) ≡ true }
     requires typed { has_fields (fields_tree fields.now) (docs_tree docs.now) ≡ true }
-    ensures spot { option_map (λ p. (p.0, ty_tree p.1.now)) result ≡ spot (fields_tree fields.now) name.now }
+    ensures place { option_map (λ p. (p.0, ty_tree p.1.now)) result ≡ lookup_field (fields_tree fields.now) name.now }
     ensures typed { MatchOption result (Unit {0}) (λ p. (p.0 < length (doc_list (docs_tree docs.now)))
         × (has (ty_tree p.1.now) (doc_at (docs_tree docs.now) p.0) ≡ true)
         × (is_well_formed (ty_tree p.1.now) ≡ true)) }
 {
-    fields.find(name)
+    fields.find(name.as_str())
 }
 
 // Acts on alternatives.
@@ -159,7 +160,7 @@ fn on_alternatives(
 
 // Acts on the content of the tag that is there.
 #[cycle(run)]
-#[tactic(auto, using(crate::proofs::Keeps::alternatives_rules))]
+#[tactic(auto, using(crate::proofs::ActionKeepsTypes::alternatives_rules))]
 fn stay(alloc: Global, tag: &Name, word: &Word, tags: &Fields, doc: Doc) -> Result<Doc, StepFault>
     requires well_formed { is_well_formed (ty_alt (fields_tree tags.now)) ≡ true }
     requires typed { has (ty_alt (fields_tree tags.now)) (doc_tree doc) ≡ true }
@@ -186,7 +187,7 @@ fn stay(alloc: Global, tag: &Name, word: &Word, tags: &Fields, doc: Doc) -> Resu
 
 // Goes to another tag, and acts on its initial content.
 #[cycle(run)]
-#[tactic(auto, using(crate::proofs::Keeps::alternatives_rules))]
+#[tactic(auto, using(crate::proofs::ActionKeepsTypes::alternatives_rules))]
 fn switch(
     alloc: Global,
     from: &Name,
@@ -220,10 +221,10 @@ fn switch(
 // The place and the type of a tag.
 fn tag_of<'a>(tags: &'a Fields, tag: &Name) -> Option<(usize, &'a Ty)>
     requires { is_well_formed (ty_alt (fields_tree tags.now)) ≡ true }
-    ensures tag { option_map (λ p. ty_tree p.1.now) result ≡ tag_ty (fields_tree tags.now) tag.now }
+    ensures tag { option_map (λ p. ty_tree p.1.now) result ≡ lookup_type (fields_tree tags.now) tag.now }
     ensures well_formed { MatchOption result (Unit {0}) (λ p. is_well_formed (ty_tree p.1.now) ≡ true) }
 {
-    tags.find(tag)
+    tags.find(tag.as_str())
 }
 
 // Takes the content out of a box, and leaves null there.
@@ -242,77 +243,33 @@ fn with_content(tag: Name, content: Box<Doc>, next: Doc) -> Doc
     Doc::Alt(tag, content)
 }
 
+// Acts on a container.
 #[cycle(run)]
-#[tactic(auto, using(crate::proofs::Keeps::held_rules))]
-fn on_list(alloc: Global, primitive: &Primitive, ty: &Ty, doc: Doc) -> Result<Doc, StepFault>
+#[tactic(auto, using(crate::proofs::ContainerRows::container_rules))]
+fn on_container(
+    alloc: Global,
+    primitive: &Primitive,
+    kind: Container,
+    ty: &Ty,
+    doc: Doc,
+) -> Result<Doc, StepFault>
     requires well_formed { is_well_formed (ty_tree ty.now) ≡ true }
-    requires typed { has (ty_list (ty_tree ty.now)) (doc_tree doc) ≡ true }
+    requires typed { has (container_ty kind (ty_tree ty.now)) (doc_tree doc) ≡ true }
     ensures { MatchResult result
-        (λ d. act_primitive (ty_list (ty_tree ty.now)) (primitive_tree primitive.now) (doc_tree doc) ≡ Ok (doc_tree d))
-        (λ fault. IsStepRefusal (act_primitive (ty_list (ty_tree ty.now)) (primitive_tree primitive.now) (doc_tree doc)) fault) }
+        (λ d. act_primitive (container_ty kind (ty_tree ty.now)) (primitive_tree primitive.now) (doc_tree doc) ≡ Ok (doc_tree d))
+        (λ fault. IsStepRefusal (act_primitive (container_ty kind (ty_tree ty.now)) (primitive_tree primitive.now) (doc_tree doc)) fault) }
 {
+    let Doc::Hold(shape, docs) = doc else {
+        unreachable!()
+    };
     match primitive {
-        Primitive::Mod(place, word) => match place {
-            Place::Index(_) => match doc {
-                Doc::Hold(shape, docs) => modify(alloc, place, word, ty, shape, docs),
-                _ => Err(StepFault::Fails(Cause::Kind)),
-            },
-            _ => Err(StepFault::Fails(Cause::Kind)),
-        },
-        Primitive::Shape(edit) => match doc {
-            Doc::Hold(shape, docs) => reshape(alloc, edit, ty, shape, docs),
-            _ => Err(StepFault::Fails(Cause::Kind)),
-        },
-        _ => Err(StepFault::Fails(Cause::Kind)),
-    }
-}
-
-#[cycle(run)]
-#[tactic(auto, using(crate::proofs::Keeps::held_rules))]
-fn on_keyed(alloc: Global, primitive: &Primitive, ty: &Ty, doc: Doc) -> Result<Doc, StepFault>
-    requires well_formed { is_well_formed (ty_tree ty.now) ≡ true }
-    requires typed { has (ty_keyed (ty_tree ty.now)) (doc_tree doc) ≡ true }
-    ensures { MatchResult result
-        (λ d. act_primitive (ty_keyed (ty_tree ty.now)) (primitive_tree primitive.now) (doc_tree doc) ≡ Ok (doc_tree d))
-        (λ fault. IsStepRefusal (act_primitive (ty_keyed (ty_tree ty.now)) (primitive_tree primitive.now) (doc_tree doc)) fault) }
-{
-    match primitive {
-        Primitive::Mod(place, word) => match place {
-            Place::Key(_) => match doc {
-                Doc::Hold(shape, docs) => modify(alloc, place, word, ty, shape, docs),
-                _ => Err(StepFault::Fails(Cause::Kind)),
-            },
-            _ => Err(StepFault::Fails(Cause::Kind)),
-        },
-        Primitive::Shape(edit) => match doc {
-            Doc::Hold(shape, docs) => reshape(alloc, edit, ty, shape, docs),
-            _ => Err(StepFault::Fails(Cause::Kind)),
-        },
-        _ => Err(StepFault::Fails(Cause::Kind)),
-    }
-}
-
-#[cycle(run)]
-#[tactic(auto, using(crate::proofs::Keeps::held_rules))]
-fn on_tree(alloc: Global, primitive: &Primitive, ty: &Ty, doc: Doc) -> Result<Doc, StepFault>
-    requires well_formed { is_well_formed (ty_tree ty.now) ≡ true }
-    requires typed { has (ty_ordered (ty_tree ty.now)) (doc_tree doc) ≡ true }
-    ensures { MatchResult result
-        (λ d. act_primitive (ty_ordered (ty_tree ty.now)) (primitive_tree primitive.now) (doc_tree doc) ≡ Ok (doc_tree d))
-        (λ fault. IsStepRefusal (act_primitive (ty_ordered (ty_tree ty.now)) (primitive_tree primitive.now) (doc_tree doc)) fault) }
-{
-    match primitive {
-        Primitive::Mod(place, word) => match place {
-            Place::Node(_) => match doc {
-                Doc::Hold(shape, docs) => modify(alloc, place, word, ty, shape, docs),
-                _ => Err(StepFault::Fails(Cause::Kind)),
-            },
-            _ => Err(StepFault::Fails(Cause::Kind)),
-        },
-        Primitive::Shape(edit) => match doc {
-            Doc::Hold(shape, docs) => reshape(alloc, edit, ty, shape, docs),
-            _ => Err(StepFault::Fails(Cause::Kind)),
-        },
+        Primitive::Mod(place, word) => {
+            if !kind.has_places_like(place) {
+                return Err(StepFault::Fails(Cause::Kind));
+            }
+            modify(alloc, place, word, ty, shape, docs)
+        }
+        Primitive::Shape(edit) => reshape(alloc, edit, ty, shape, docs),
         _ => Err(StepFault::Fails(Cause::Kind)),
     }
 }
@@ -330,8 +287,8 @@ fn modify(
     requires well_formed { is_well_formed (ty_tree ty.now) ≡ true }
     requires held { IsHeld (ty_tree ty.now) shape (docs_tree docs) }
     ensures { MatchResult result
-        (λ d. modified (ty_tree ty.now) place.now (word_tree word.now) shape (docs_tree docs) ≡ Ok (doc_tree d))
-        (λ fault. IsStepRefusal (modified (ty_tree ty.now) place.now (word_tree word.now) shape (docs_tree docs)) fault) }
+        (λ d. act_at_place (λ v. act (ty_tree ty.now) (word_tree word.now) v) shape (docs_tree docs) place.now ≡ Ok (doc_tree d))
+        (λ fault. IsStepRefusal (act_at_place (λ v. act (ty_tree ty.now) (word_tree word.now) v) shape (docs_tree docs) place.now) fault) }
 {
     match item_of(place, ty, &shape, &docs) {
         Some(at) => match at_place(alloc, word, ty, docs, at) {
@@ -357,7 +314,7 @@ fn item_of(place: &Place, ty: &Ty, shape: &Shape, docs: &Docs) -> Option<usize>
 
 // The documents with the one at a place acted on.
 #[cycle(run)]
-#[tactic(auto, using(crate::proofs::Steps::steps))]
+#[tactic(auto, using(crate::proofs::WordSteps::steps))]
 fn at_place(
     alloc: Global,
     word: &Word,
@@ -369,8 +326,8 @@ fn at_place(
     requires well_formed { is_well_formed (ty_tree ty.now) ≡ true }
     requires typed { has (ty_tree ty.now) (doc_at (docs_tree docs) place) ≡ true }
     ensures { MatchResult result
-        (λ ds. put_in (docs_tree docs) place (act (ty_tree ty.now) (word_tree word.now) (doc_at (docs_tree docs) place)) ≡ Ok (docs_tree ds))
-        (λ fault. IsStepRefusal (put_in (docs_tree docs) place (act (ty_tree ty.now) (word_tree word.now) (doc_at (docs_tree docs) place))) fault) }
+        (λ ds. put_result_at (docs_tree docs) place (act (ty_tree ty.now) (word_tree word.now) (doc_at (docs_tree docs) place)) ≡ Ok (docs_tree ds))
+        (λ fault. IsStepRefusal (put_result_at (docs_tree docs) place (act (ty_tree ty.now) (word_tree word.now) (doc_at (docs_tree docs) place))) fault) }
 {
     let mut docs = docs;
     let old = docs.replace(place, Doc::Unit);

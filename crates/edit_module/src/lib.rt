@@ -3,6 +3,7 @@
 
 pub mod action;
 pub mod atom;
+mod container;
 pub mod entry;
 pub mod fault;
 pub mod laws;
@@ -17,6 +18,3 @@ pub use crate::fault::{ActFault, Cause};
 pub use crate::laws::{action_keeps_types, joined_acts_in_turn};
 pub use crate::word::{Primitive as Prim, Word};
 pub use texts::Side;
-
-#[cfg(test)]
-mod tests;

@@ -2,7 +2,7 @@
 use Rattle.std.proofs.Common.{◌≡◌, pos, negsuc, true, false, [], ◌∷◌, Some, None, codes, refl}
 use Rattle.hold_shapes.specs.declared.shape.Shape.TheVariants.{List as ListOf, Keyed as KeyedOf, Tree as TreeOf}
 use Rattle.serde_json.specs.Data.{null, boolean, negative, string, array, object, no_items, item, no_members, member}
-use Rattle.doc_values.specs.Types.{ty_unit, ty_bool, ty_int, ty_text, ty_enum, ty_rec, ty_alt, ty_list, ty_keyed, ty_ordered, no_fields, field}
+use Rattle.doc_values.specs.Types.{ty_unit, ty_bool, ty_int, ty_text, ty_enum, ty_rec, ty_alt, ty_list, ty_keyed, ty_ordered, no_fields, more_fields}
 use Rattle.doc_values.specs.Documents.{unit, truth, int, pick, rec, alt, hold, no_docs, more_docs}
 use Rattle.value_json.specs.Numbers.{int_in, count_tree, int_tree}
 use Rattle.value_json.specs.DocumentJson.{tree_of_document, document_of}
@@ -28,22 +28,22 @@ above : document_of (ty_list ty_int) (array (item (count_tree 922337203685477580
 above = refl
 
 -- {"o":1,"p":""} has two members, and alternatives have one
-two_tags : document_of (ty_alt (field (codes "p") ty_text (field (codes "o") ty_int no_fields))) (object (member (codes "o") (count_tree 1) (member (codes "p") (string []) no_members))) ≡ None
+two_tags : document_of (ty_alt (more_fields (codes "p") ty_text (more_fields (codes "o") ty_int no_fields))) (object (member (codes "o") (count_tree 1) (member (codes "p") (string []) no_members))) ≡ None
 two_tags = refl
 
-one_tag : document_of (ty_alt (field (codes "p") ty_text (field (codes "o") ty_int no_fields))) (object (member (codes "o") (count_tree 1) no_members)) ≡ Some (alt (codes "o") (int (pos 1)))
+one_tag : document_of (ty_alt (more_fields (codes "p") ty_text (more_fields (codes "o") ty_int no_fields))) (object (member (codes "o") (count_tree 1) no_members)) ≡ Some (alt (codes "o") (int (pos 1)))
 one_tag = refl
 
-missing_field : document_of (ty_rec (field (codes "a") ty_bool (field (codes "b") ty_unit no_fields))) (object (member (codes "a") (boolean true) no_members)) ≡ None
+missing_field : document_of (ty_rec (more_fields (codes "a") ty_bool (more_fields (codes "b") ty_unit no_fields))) (object (member (codes "a") (boolean true) no_members)) ≡ None
 missing_field = refl
 
-extra_field : document_of (ty_rec (field (codes "a") ty_bool no_fields)) (object (member (codes "a") (boolean true) (member (codes "b") null no_members))) ≡ None
+extra_field : document_of (ty_rec (more_fields (codes "a") ty_bool no_fields)) (object (member (codes "a") (boolean true) (member (codes "b") null no_members))) ≡ None
 extra_field = refl
 
 no_member : document_of (ty_enum (codes "x" ∷ codes "y" ∷ [])) (string (codes "z")) ≡ None
 no_member = refl
 
-written : tree_of_document (ty_rec (field (codes "a") (ty_list ty_bool) (field (codes "b") (ty_enum (codes "x" ∷ [])) no_fields)))
+written : tree_of_document (ty_rec (more_fields (codes "a") (ty_list ty_bool) (more_fields (codes "b") (ty_enum (codes "x" ∷ [])) no_fields)))
     (rec (more_docs (hold (ListOf (record { count = 1 })) (more_docs (truth false) no_docs)) (more_docs (pick (codes "x")) no_docs)))
     ≡ object (member (codes "a") (array (item (boolean false) no_items)) (member (codes "b") (string (codes "x")) no_members))
 written = refl

@@ -1,19 +1,8 @@
 -- Small facts about tests and options.
-use Rattle.std.proofs.Common.{◌≡◌, ℕ, Bool, true, false, ◌&&◌, List, Option, Some, None, option_map, option_and_then, refl, not, bytes_eq, cond, sym, ◌∙◌, arith}
+use Rattle.std.proofs.Common.{◌≡◌, ℕ, Bool, true, false, List, Option, Some, None, option_map, option_and_then, refl, not, bytes_eq, cond, sym, ◌∙◌, arith}
 use Rattle.std.specs.Prelude.{nat_eq}
 use Rattle.std.proofs.lemmas.Bool.Decides.{nat_tests}
 use Rattle.std.proofs.lemmas.Slice.Eq.{bytes_eq-Decides}
-
-pub both : (x y : Bool) → x ≡ true → y ≡ true → (x && y) ≡ true
-both x y h k = rw (h, k) refl
-
-pub left : (x y : Bool) → (x && y) ≡ true → x ≡ true
-left true y h = refl
-left false y h = h
-
-pub right : (x y : Bool) → (x && y) ≡ true → y ≡ true
-right true y h = h
-right false y h = cc
 
 pub same_bytes : (s : List ℕ) → bytes_eq s s ≡ true
 same_bytes s = (bytes_eq-Decides s s).1 refl

@@ -13,7 +13,7 @@ use Rattle.serde_json.specs.Written.{compact_text}
 use Rattle.serde_json.specs.View.{view}
 use Rattle.serde_json.specs.declared.value.Value.{Value}
 use Rattle.value_json.specs.DocumentJson.{tree_of_document, document_of, holds_i64s}
-use Rattle.value_json.proofs.Again.{again}
+use Rattle.value_json.proofs.WritingReadsBack.{again}
 use Rattle.value_json.specs.Reading.{Refuses, Gives}
 use Rattle.value_json.specs.declared.fault.DocFault.{DocFault}
 use Rattle.value_json.specs.declared.fault.DocFault.TheVariants.{NotOfType, NoMemory}

@@ -3,11 +3,11 @@ pub mod Ranges
 pub mod Facts
 pub mod Counts
 pub mod Levels
-pub mod Loops
-pub mod ByParts
-pub mod Shallow
+pub mod ReadLoops
+pub mod DocumentOf
+pub mod TreeDepths
 pub mod Shapes
-pub mod Again
-pub mod Apart
-pub mod Takes
+pub mod WritingReadsBack
+pub mod TreesDiffer
+pub mod ReadingHasTree
 pub mod Writing

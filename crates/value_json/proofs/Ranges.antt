@@ -9,7 +9,8 @@ use Rattle.serde_json.specs.Find.{as_i64, as_u64}
 use Rattle.serde_json.specs.Number.{num_of, is_valid}
 use Rattle.serde_json.specs.declared.number.N.{N}
 use Rattle.serde_json.specs.declared.number.N.TheVariants.{PosInt, NegInt, Float}
-use Rattle.value_json.specs.Numbers.{int_in, count_in, fits_i64}
+use Rattle.doc_values.specs.Integers.{fits_i64}
+use Rattle.value_json.specs.Numbers.{int_in, count_in}
 
 pub count_some : (x : Num) (n : ℕ) → Some n ≡ as_u64 x → n < 2 ^ 64 → Some n ≡ count_in x
 count_some (unsigned m) n h fits = let same : m ≡ n = cc in rw (same, lt-ltb n (2 ^ 64) fits)

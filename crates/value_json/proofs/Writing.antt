@@ -9,14 +9,13 @@ use Rattle.texts.specs.Keys.{is_before, all_after, is_rising}
 use Rattle.serde_json.specs.Data.{Data, object, item, Members, no_members, member, put}
 use Rattle.serde_json.specs.View.{items_of}
 use Rattle.doc_values.specs.Documents.{DocTree, alt, docs_of, doc_tree}
-use Rattle.doc_values.specs.Types.{TyTree, ty_alt, FieldTrees, no_fields, field, fields_of, field_tree, ty_tree, names_of, is_well_formed, are_well_formed}
-use Rattle.doc_values.specs.Typing.{has, has_fields, has_each, tag_ty, spot, next_spot}
+use Rattle.doc_values.specs.Types.{TyTree, ty_alt, FieldTrees, no_fields, more_fields, type_fields_of, field_tree, ty_tree, names_of, is_well_formed, are_well_formed}
+use Rattle.doc_values.specs.Typing.{has, has_fields, has_each, lookup_type, lookup_field}
 use Rattle.doc_values.specs.declared.doc.Doc.{Doc}
 use Rattle.doc_values.specs.declared.ty.Ty.{Ty}
 use Rattle.value_json.specs.Numbers.{count_tree, count_items}
 use Rattle.value_json.specs.DocumentJson.{tree_of_document, field_members, key_members, content_items, holds_i64s, all_hold_i64s}
-use Rattle.value_json.proofs.Facts.{both, left, right, map_some}
-use Rattle.value_json.proofs.Loops.{spot_tag}
+use Rattle.texts.proofs.Conjunction.{both, first as left, second as right}
 
 -- ---- names in byte order
 
@@ -45,12 +44,12 @@ above x [] i n h rising = absurd (omega arith)
 above x (y ∷ ns) zero n h rising = after x y (left (is_before x y) (is_rising (y ∷ ns)) rising)
 above x (y ∷ ns) (suc i) n h rising = above x ns i n (omega arith) (skip_one x y ns rising)
 
-name_at : (fs : List (List ℕ × Ty)) (i : ℕ) (f : List ℕ × Ty) (n : List ℕ) → i < length fs → get_or (names_of (fields_of (map field_tree fs))) i n ≡ (get_or fs i f).0
+name_at : (fs : List (List ℕ × Ty)) (i : ℕ) (f : List ℕ × Ty) (n : List ℕ) → i < length fs → get_or (names_of (type_fields_of (map field_tree fs))) i n ≡ (get_or fs i f).0
 name_at [] i f n h = absurd (omega arith)
 name_at (x ∷ fs) zero f n h = refl
 name_at (x ∷ fs) (suc i) f n h = name_at fs i f n (omega arith)
 
-names_length : (fs : List (List ℕ × Ty)) → length (names_of (fields_of (map field_tree fs))) ≡ length fs
+names_length : (fs : List (List ℕ × Ty)) → length (names_of (type_fields_of (map field_tree fs))) ≡ length fs
 names_length [] = refl
 names_length (x ∷ fs) = ap suc (names_length fs)
 
@@ -62,24 +61,24 @@ rest_rising x ns h = right (all_after x ns) (is_rising ns) h
 put_at : (k l : List ℕ) (d e : Data) (ms rest : Members) → slice_cmp nat_cmp k l ≡ Greater → put k d ms ≡ rest → put k d (member l e ms) ≡ member l e rest
 put_at k l d e ms rest later is = rw (later, is) refl
 
-put_field_at : (fs : List (List ℕ × Ty)) (ds : List Doc) (i : ℕ) (f : List ℕ × Ty) (d : Doc) → i < length fs → i < length ds → is_rising (names_of (fields_of (map field_tree fs))) ≡ true
-    → put (get_or fs i f).0 (tree_of_document (ty_tree (get_or fs i f).1) (doc_tree (get_or ds i d))) (field_members (fields_of (map field_tree (take i fs))) (docs_of (map doc_tree (take i ds))))
-    ≡ field_members (fields_of (map field_tree (take (suc i) fs))) (docs_of (map doc_tree (take (suc i) ds)))
+put_field_at : (fs : List (List ℕ × Ty)) (ds : List Doc) (i : ℕ) (f : List ℕ × Ty) (d : Doc) → i < length fs → i < length ds → is_rising (names_of (type_fields_of (map field_tree fs))) ≡ true
+    → put (get_or fs i f).0 (tree_of_document (ty_tree (get_or fs i f).1) (doc_tree (get_or ds i d))) (field_members (type_fields_of (map field_tree (take i fs))) (docs_of (map doc_tree (take i ds))))
+    ≡ field_members (type_fields_of (map field_tree (take (suc i) fs))) (docs_of (map doc_tree (take (suc i) ds)))
 put_field_at [] ds i f d h k rising = absurd (omega arith)
 put_field_at (x ∷ fs) [] i f d h k rising = absurd (omega arith)
 put_field_at (x ∷ fs) (y ∷ ds) zero f d h k rising = refl
 put_field_at (x ∷ fs) (y ∷ ds) (suc i) f d h k rising =
-    let names = names_of (fields_of (map field_tree fs)) in
+    let names = names_of (type_fields_of (map field_tree fs)) in
     let within : i < length names = omega (arith, names_length fs) in
     let later : slice_cmp nat_cmp (get_or fs i f).0 x.0 ≡ Greater = ap (λ n. slice_cmp nat_cmp n x.0) (sym (name_at fs i f [] (omega arith))) ∙ above x.0 names i [] within rising in
     put_at _ _ _ _ _ _ later (put_field_at fs ds i f d (omega arith) (omega arith) (rest_rising x.0 names rising))
 
-pub put_field : (fs : List (List ℕ × Ty)) (ds : List Doc) (i : ℕ) (f : List ℕ × Ty) (d : Doc) → i < length fs → i < length ds → is_rising (names_of (fields_of (map field_tree fs))) ≡ true → f ≡ get_or fs i f → d ≡ get_or ds i d
-    → put f.0 (tree_of_document (ty_tree f.1) (doc_tree d)) (field_members (fields_of (map field_tree (take i fs))) (docs_of (map doc_tree (take i ds))))
-    ≡ field_members (fields_of (map field_tree (take (i + 1) fs))) (docs_of (map doc_tree (take (i + 1) ds)))
+pub put_field : (fs : List (List ℕ × Ty)) (ds : List Doc) (i : ℕ) (f : List ℕ × Ty) (d : Doc) → i < length fs → i < length ds → is_rising (names_of (type_fields_of (map field_tree fs))) ≡ true → f ≡ get_or fs i f → d ≡ get_or ds i d
+    → put f.0 (tree_of_document (ty_tree f.1) (doc_tree d)) (field_members (type_fields_of (map field_tree (take i fs))) (docs_of (map doc_tree (take i ds))))
+    ≡ field_members (type_fields_of (map field_tree (take (i + 1) fs))) (docs_of (map doc_tree (take (i + 1) ds)))
 put_field fs ds i f d h k rising is also =
-    let this = ap (λ (g : List ℕ × Ty). put g.0 (tree_of_document (ty_tree g.1) (doc_tree d)) (field_members (fields_of (map field_tree (take i fs))) (docs_of (map doc_tree (take i ds))))) is in
-    let that = ap (λ c. put (get_or fs i f).0 (tree_of_document (ty_tree (get_or fs i f).1) (doc_tree c)) (field_members (fields_of (map field_tree (take i fs))) (docs_of (map doc_tree (take i ds))))) also in
+    let this = ap (λ (g : List ℕ × Ty). put g.0 (tree_of_document (ty_tree g.1) (doc_tree d)) (field_members (type_fields_of (map field_tree (take i fs))) (docs_of (map doc_tree (take i ds))))) is in
+    let that = ap (λ c. put (get_or fs i f).0 (tree_of_document (ty_tree (get_or fs i f).1) (doc_tree c)) (field_members (type_fields_of (map field_tree (take i fs))) (docs_of (map doc_tree (take i ds))))) also in
     rw add-one (this ∙ that ∙ put_field_at fs ds i f d h k rising)
 
 put_key_at : (t : TyTree) (ks : List (List ℕ)) (ds : List Doc) (i : ℕ) (n : List ℕ) (d : Doc) → i < length ks → i < length ds → is_rising ks ≡ true
@@ -99,29 +98,29 @@ put_key t ks ds i n d h k rising is also =
 
 -- ---- the condition and the type of a part
 
-pub same_many : (fs : List (List ℕ × Ty)) (ds : List Doc) → has_fields (fields_of (map field_tree fs)) (docs_of (map doc_tree ds)) ≡ true → length fs ≡ length ds
+pub same_many : (fs : List (List ℕ × Ty)) (ds : List Doc) → has_fields (type_fields_of (map field_tree fs)) (docs_of (map doc_tree ds)) ≡ true → length fs ≡ length ds
 same_many [] [] h = refl
 same_many [] (y ∷ ds) h = cc
 same_many (x ∷ fs) [] h = cc
 same_many (x ∷ fs) (y ∷ ds) h = ap suc (same_many fs ds (right (has (ty_tree x.1) (doc_tree y)) _ h))
 
-field_typed_at : (fs : List (List ℕ × Ty)) (ds : List Doc) (i : ℕ) (f : List ℕ × Ty) (d : Doc) → i < length fs → has_fields (fields_of (map field_tree fs)) (docs_of (map doc_tree ds)) ≡ true
+field_typed_at : (fs : List (List ℕ × Ty)) (ds : List Doc) (i : ℕ) (f : List ℕ × Ty) (d : Doc) → i < length fs → has_fields (type_fields_of (map field_tree fs)) (docs_of (map doc_tree ds)) ≡ true
     → has (ty_tree (get_or fs i f).1) (doc_tree (get_or ds i d)) ≡ true
 field_typed_at [] ds i f d h k = absurd (omega arith)
 field_typed_at (x ∷ fs) [] i f d h k = cc
 field_typed_at (x ∷ fs) (y ∷ ds) zero f d h k = left (has (ty_tree x.1) (doc_tree y)) _ k
 field_typed_at (x ∷ fs) (y ∷ ds) (suc i) f d h k = field_typed_at fs ds i f d (omega arith) (right (has (ty_tree x.1) (doc_tree y)) _ k)
 
-pub field_typed : (fs : List (List ℕ × Ty)) (ds : List Doc) (i : ℕ) (f : List ℕ × Ty) (d : Doc) → i < length fs → f ≡ get_or fs i f → d ≡ get_or ds i d → has_fields (fields_of (map field_tree fs)) (docs_of (map doc_tree ds)) ≡ true
+pub field_typed : (fs : List (List ℕ × Ty)) (ds : List Doc) (i : ℕ) (f : List ℕ × Ty) (d : Doc) → i < length fs → f ≡ get_or fs i f → d ≡ get_or ds i d → has_fields (type_fields_of (map field_tree fs)) (docs_of (map doc_tree ds)) ≡ true
     → has (ty_tree f.1) (doc_tree d) ≡ true
 field_typed fs ds i f d h is also k = ap (λ (g : List ℕ × Ty). has (ty_tree g.1) (doc_tree d)) is ∙ ap (λ c. has (ty_tree (get_or fs i f).1) (doc_tree c)) also ∙ field_typed_at fs ds i f d h k
 
-field_formed_at : (fs : List (List ℕ × Ty)) (i : ℕ) (f : List ℕ × Ty) → i < length fs → are_well_formed (fields_of (map field_tree fs)) ≡ true → is_well_formed (ty_tree (get_or fs i f).1) ≡ true
+field_formed_at : (fs : List (List ℕ × Ty)) (i : ℕ) (f : List ℕ × Ty) → i < length fs → are_well_formed (type_fields_of (map field_tree fs)) ≡ true → is_well_formed (ty_tree (get_or fs i f).1) ≡ true
 field_formed_at [] i f h k = absurd (omega arith)
 field_formed_at (x ∷ fs) zero f h k = left (is_well_formed (ty_tree x.1)) _ k
 field_formed_at (x ∷ fs) (suc i) f h k = field_formed_at fs i f (omega arith) (right (is_well_formed (ty_tree x.1)) _ k)
 
-pub field_formed : (fs : List (List ℕ × Ty)) (i : ℕ) (f : List ℕ × Ty) → i < length fs → f ≡ get_or fs i f → are_well_formed (fields_of (map field_tree fs)) ≡ true → is_well_formed (ty_tree f.1) ≡ true
+pub field_formed : (fs : List (List ℕ × Ty)) (i : ℕ) (f : List ℕ × Ty) → i < length fs → f ≡ get_or fs i f → are_well_formed (type_fields_of (map field_tree fs)) ≡ true → is_well_formed (ty_tree f.1) ≡ true
 field_formed fs i f h is k = ap (λ (g : List ℕ × Ty). is_well_formed (ty_tree g.1)) is ∙ field_formed_at fs i f h k
 
 each_typed_at : (t : TyTree) (ds : List Doc) (i : ℕ) (d : Doc) → i < length ds → has_each t (docs_of (map doc_tree ds)) ≡ true → has t (doc_tree (get_or ds i d)) ≡ true
@@ -160,29 +159,17 @@ items_of_counts (n ∷ ns) = ap (item (count_tree n)) (items_of_counts ns)
 
 -- ---- the type at a tag
 
-tag_at : (fs : FieldTrees) (n : List ℕ) (s : ℕ × TyTree) → spot fs n ≡ Some s → tag_ty fs n ≡ Some s.1
-tag_at fs n s h = rw (spot_tag fs n, h) refl
+tag_at : (fs : FieldTrees) (n : List ℕ) (s : ℕ × TyTree) → lookup_field fs n ≡ Some s → lookup_type fs n ≡ Some s.1
+tag_at fs n s h = ap (option_map (λ (f : ℕ × TyTree). f.1)) h
 
-no_tag_at : (fs : FieldTrees) (n : List ℕ) → spot fs n ≡ None → tag_ty fs n ≡ None
-no_tag_at fs n h = rw (spot_tag fs n, h) refl
+no_tag_at : (fs : FieldTrees) (n : List ℕ) → lookup_field fs n ≡ None → lookup_type fs n ≡ None
+no_tag_at fs n h = ap (option_map (λ (f : ℕ × TyTree). f.1)) h
 
-pub tag_is_there : (fs : FieldTrees) (n : List ℕ) (d : DocTree) → has (ty_alt fs) (alt n d) ≡ true → spot fs n ≡ None → ⊥
+pub tag_is_there : (fs : FieldTrees) (n : List ℕ) (d : DocTree) → has (ty_alt fs) (alt n d) ≡ true → lookup_field fs n ≡ None → ⊥
 tag_is_there fs n d h none = let bad : false ≡ true = rw (no_tag_at fs n none, has) at h in cc
 
-pub content_typed : (fs : FieldTrees) (n : List ℕ) (d : DocTree) (s : ℕ × TyTree) → has (ty_alt fs) (alt n d) ≡ true → spot fs n ≡ Some s → has s.1 d ≡ true
+pub content_typed : (fs : FieldTrees) (n : List ℕ) (d : DocTree) (s : ℕ × TyTree) → has (ty_alt fs) (alt n d) ≡ true → lookup_field fs n ≡ Some s → has s.1 d ≡ true
 content_typed fs n d s h some = rw (tag_at fs n s some, has) at h
 
-pub content_tree : (fs : FieldTrees) (n : List ℕ) (d : DocTree) (s : ℕ × TyTree) → spot fs n ≡ Some s → tree_of_document (ty_alt fs) (alt n d) ≡ object (member n (tree_of_document s.1 d) no_members)
+pub content_tree : (fs : FieldTrees) (n : List ℕ) (d : DocTree) (s : ℕ × TyTree) → lookup_field fs n ≡ Some s → tree_of_document (ty_alt fs) (alt n d) ≡ object (member n (tree_of_document s.1 d) no_members)
 content_tree fs n d s some = rw (tag_at fs n s some, tree_of_document) refl
-
-content_formed_if : (fs : FieldTrees) (t : TyTree) (n : List ℕ) (s : ℕ × TyTree) (b : Bool) → is_well_formed t ≡ true → cond b (Some (0, t)) (option_map (next_spot 1) (spot fs n)) ≡ Some s
-    → ((r : ℕ × TyTree) → spot fs n ≡ Some r → is_well_formed r.1 ≡ true) → is_well_formed s.1 ≡ true
-content_formed_if fs t n s true formed h later = let e : (0, t) ≡ s = cc in ap (λ (r : ℕ × TyTree). is_well_formed r.1) (sym e) ∙ formed
-content_formed_if fs t n s false formed h later =
-    let r = map_some (next_spot 1) (spot fs n) s h in
-    ap (λ (q : ℕ × TyTree). is_well_formed q.1) (sym r.2) ∙ later r.0 r.1
-
-pub content_formed : (fs : FieldTrees) (n : List ℕ) (s : ℕ × TyTree) → are_well_formed fs ≡ true → spot fs n ≡ Some s → is_well_formed s.1 ≡ true
-content_formed no_fields n s h some = cc
-content_formed (field m t fs) n s h some =
-    content_formed_if fs t n s (bytes_eq m n) (left (is_well_formed t) (are_well_formed fs) h) some (λ r e. content_formed fs n r (right (is_well_formed t) (are_well_formed fs) h) e)

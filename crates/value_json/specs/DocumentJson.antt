@@ -4,10 +4,11 @@ use Rattle.serde_json.specs.Data.{Data, null, boolean, number, string, array, ob
 use Rattle.texts.specs.Keys.{is_rising, has_name}
 use Rattle.hold_shapes.specs.Trees.{is_valid}
 use Rattle.hold_shapes.specs.declared.shape.Shape.TheVariants.{List as ListOf, Keyed as KeyedOf, Tree as TreeOf}
-use Rattle.doc_values.specs.Types.{TyTree, ty_unit, ty_bool, ty_int, ty_text, ty_enum, ty_rec, ty_alt, ty_list, ty_keyed, ty_ordered, FieldTrees, no_fields, field}
+use Rattle.doc_values.specs.Types.{TyTree, ty_unit, ty_bool, ty_int, ty_text, ty_enum, ty_rec, ty_alt, ty_list, ty_keyed, ty_ordered, FieldTrees, no_fields, more_fields}
 use Rattle.doc_values.specs.Documents.{DocTree, unit, truth, int, text, pick, rec, alt, hold, DocTrees, no_docs, more_docs, doc_list}
-use Rattle.doc_values.specs.Typing.{tag_ty}
-use Rattle.value_json.specs.Numbers.{fits_i64, int_in, counts_of, int_tree, count_items}
+use Rattle.doc_values.specs.Typing.{lookup_type}
+use Rattle.doc_values.specs.Integers.{fits_i64}
+use Rattle.value_json.specs.Numbers.{int_in, counts_of, int_tree, count_items}
 
 -- The tree of a document of the type, a line for each type; `null` where the document is of another type.
 -- The members of a tree's object stand in byte order, and so do the names of its type or of its shape.
@@ -19,7 +20,7 @@ abbrev mutual
   tree_of_document ty_text (text s) = string s
   tree_of_document (ty_enum ms) (pick n) = string n
   tree_of_document (ty_rec fs) (rec ds) = object (field_members fs ds)
-  tree_of_document (ty_alt fs) (alt n d) = object (member n (elim (tag_ty fs n) [ None ↦ null | Some t ↦ tree_of_document t d ]) no_members)
+  tree_of_document (ty_alt fs) (alt n d) = object (member n (elim (lookup_type fs n) [ None ↦ null | Some t ↦ tree_of_document t d ]) no_members)
   tree_of_document (ty_list t) (hold (ListOf s) ds) = array (content_items t ds)
   tree_of_document (ty_keyed t) (hold (KeyedOf ks) ds) = object (key_members t ks ds)
   tree_of_document (ty_ordered t) (hold (TreeOf depths) ds) = object (member (codes "depths") (array (count_items depths)) (member (codes "items") (array (content_items t ds)) no_members))
@@ -27,7 +28,7 @@ abbrev mutual
 
   -- a member for each field: its name, and the tree of its content
   pub field_members : FieldTrees → DocTrees → Members
-  field_members (field n t fs) (more_docs d ds) = member n (tree_of_document t d) (field_members fs ds)
+  field_members (more_fields n t fs) (more_docs d ds) = member n (tree_of_document t d) (field_members fs ds)
   field_members _ _ = no_members
 
   -- a member for each key: the key, and the tree of its content
@@ -66,7 +67,7 @@ abbrev mutual
   document_of ty_text (string s) = Some (text s)
   document_of (ty_enum ms) (string s) = if has_name s ms then Some (pick s) else None
   document_of (ty_rec fs) (object ms) = option_map rec (field_documents fs ms)
-  document_of (ty_alt fs) (object (member k d no_members)) = elim (tag_ty fs k) [ None ↦ None | Some t ↦ option_map (alt k) (document_of t d) ]
+  document_of (ty_alt fs) (object (member k d no_members)) = elim (lookup_type fs k) [ None ↦ None | Some t ↦ option_map (alt k) (document_of t d) ]
   document_of (ty_list t) (array ds) = option_map list_document (item_documents t ds)
   document_of (ty_keyed t) (object ms) = option_and_then (keyed_document (member_names ms)) (member_documents t ms)
   document_of (ty_ordered t) (object (member k (array ns) (member l (array ds) no_members))) =
@@ -78,7 +79,7 @@ abbrev mutual
   -- exactly the fields as members, each with a content of its type
   pub field_documents : FieldTrees → Members → Option DocTrees
   field_documents no_fields no_members = Some no_docs
-  field_documents (field n t fs) (member k d ms) =
+  field_documents (more_fields n t fs) (member k d ms) =
       if bytes_eq n k
       then option_and_then (λ c. option_map (more_docs c) (field_documents fs ms)) (document_of t d)
       else None

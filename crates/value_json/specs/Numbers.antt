@@ -1,14 +1,9 @@
 -- The whole numbers of a tree. The specification type of trees has more numbers than a tree that was
 -- read can hold: here a whole number of 64 bits stands in it in one way alone, at or above zero as
 -- `unsigned`, below zero as `negative`.
-use Rattle.std.specs.Prelude.{ℕ, ℤ, pos, negsuc, ◌^◌, Bool, List, [], ◌∷◌, Option, Some, None, option_map, option_and_then, if◌then◌else◌, nat_lt}
+use Rattle.std.specs.Prelude.{ℕ, ℤ, pos, negsuc, ◌^◌, List, [], ◌∷◌, Option, Some, None, option_map, option_and_then, if◌then◌else◌, nat_lt}
 use Rattle.serde_json.specs.Data.{Num, unsigned, negative, float, Data, number, Items, no_items, item}
 use Rattle.serde_json.specs.Find.{as_number, of_integer}
-
--- the range of an i64: below 2 ^ 63, and from -2 ^ 63 on
-abbrev pub fits_i64 : ℤ → Bool
-fits_i64 (pos n) = nat_lt n (2 ^ 63)
-fits_i64 (negsuc n) = nat_lt n (2 ^ 63)
 
 -- a number that is an i64
 abbrev pub int_in : Num → Option ℤ

@@ -3,7 +3,7 @@ use Rattle.std.specs.Prelude.{◌≡◌, Option, Some, None, Result, Ok, Err}
 use Rattle.value_json.specs.declared.fault.DocFault.{DocFault}
 use Rattle.value_json.specs.declared.fault.DocFault.TheVariants.{NotOfType, NoMemory}
 
--- `NotOfType` exactly where there is nothing to read; want of memory says nothing
+-- `NotOfType` if and only if there is nothing to read; running out of memory says nothing
 abbrev pub Refuses : {Y : Type 0} → DocFault → Option Y → Type 0
 Refuses NotOfType read = read ≡ None
 Refuses NoMemory read = Unit {0}

@@ -1,6 +1,7 @@
 //! Why a tree was not read.
 
-use std::alloc::{AllocError, AllocFailed};
+use std::alloc::{AllocError, AllocFailed, Global};
+use texts::Twin;
 
 /// Why a tree was not read as a document.
 #[derive(Clone, Copy, Debug, PartialEq, Eq, Drop)]
@@ -30,5 +31,17 @@ impl<T: Drop> From<AllocFailed<T>> for DocFault {
 
     fn from(_: AllocFailed<T>) -> DocFault {
         DocFault::NoMemory
+    }
+}
+
+impl Twin for DocFault {
+    ghost use Rattle.value_json.specs.declared.fault.DocFault.{DocFault};
+
+    ghost Meaning = { DocFault };
+
+    ghost meaning = { λ f. f };
+
+    fn twin(&self, _alloc: Global) -> Result<Self, AllocError> {
+        Ok(*self)
     }
 }

@@ -19,11 +19,11 @@ pub fn trees_differ()
 /// Reading a tree and writing it are inverse.
 pub fn reading_inverts_writing()
     // A document whose ints are i64 is what its tree reads as.
-    ensures again { (ty : TyTree) (doc : DocTree) → has ty doc ≡ true → holds_i64s doc ≡ true
+    ensures reads_back { (ty : TyTree) (doc : DocTree) → has ty doc ≡ true → holds_i64s doc ≡ true
         → document_of ty (tree_of_document ty doc) ≡ Some doc }
 
     // What a tree reads as has the type, has i64 ints, and has this tree.
-    ensures taken { (ty : TyTree) (tree : Data) (doc : DocTree) → document_of ty tree ≡ Some doc
+    ensures writes_back { (ty : TyTree) (tree : Data) (doc : DocTree) → document_of ty tree ≡ Some doc
         → (has ty doc ≡ true) × (holds_i64s doc ≡ true) × (tree_of_document ty doc ≡ tree) }
 {}
 

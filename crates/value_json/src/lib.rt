@@ -12,8 +12,6 @@ pub mod laws;
 pub mod numbers;
 pub mod parts;
 pub mod read;
-#[cfg(test)]
-mod tests;
 pub mod text;
 pub mod write;
 
@@ -22,4 +20,4 @@ pub use crate::numbers::{read_count, read_counts, read_int};
 pub use crate::parts::{only_member, two_members};
 pub use crate::read::read_doc;
 pub use crate::text::{write_compact, write_doc_text};
-pub use crate::write::{write_counts, write_doc};
+pub use crate::write::{write_counts, write_doc, write_text};

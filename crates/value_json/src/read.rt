@@ -15,14 +15,14 @@ ghost use Rattle.value_json.specs.declared.fault.DocFault;
 use crate::fault::DocFault;
 use crate::numbers::{read_counts, read_int};
 use crate::parts::{only_member, two_members};
-use doc_values::{Doc, Docs, Fields, Ty};
+use doc_values::{Doc, Docs, Fields, Ty, has_text};
 use hold_shapes::{Depths, KeyedShape, ListShape, Name, Names, Shape, Str, TreeShape};
 use serde_json::{Map, Value};
 use std::alloc::{AllocError, Global};
 
 /// The document of the type that has this tree.
 ///
-/// `NotOfType` exactly where no document of the type has this tree; the page docs/FORMATS.md says
+/// `NotOfType` if and only if no document of the type has this tree; the page docs/FORMATS.md says
 /// which tree a document has. The type may be any type, and the tree any tree. Nothing of the tree
 /// is copied but its texts.
 pub fn read_doc(alloc: Global, ty: &Ty, tree: &Value) -> Result<Doc, DocFault>
@@ -43,7 +43,7 @@ pub fn read_doc(alloc: Global, ty: &Ty, tree: &Value) -> Result<Doc, DocFault>
 }
 
 #[cycle(read)]
-#[tactic(auto, using(crate::proofs::ByParts::read_rules))]
+#[tactic(auto, using(crate::proofs::DocumentOf::read_rules))]
 fn read(alloc: Global, ty: &Ty, tree: &Value) -> Result<Doc, DocFault>
     ensures { Gives doc_tree result (document_of (ty_tree ty.now) (view tree.now)) }
 {
@@ -61,7 +61,7 @@ fn read(alloc: Global, ty: &Ty, tree: &Value) -> Result<Doc, DocFault>
     }
 }
 
-#[tactic(auto, using(crate::proofs::ByParts::read_rules))]
+#[tactic(auto, using(crate::proofs::DocumentOf::read_rules))]
 fn read_unit(tree: &Value) -> Result<Doc, DocFault>
     ensures { Gives doc_tree result (document_of ty_unit (view tree.now)) }
 {
@@ -72,7 +72,7 @@ fn read_unit(tree: &Value) -> Result<Doc, DocFault>
     }
 }
 
-#[tactic(auto, using(crate::proofs::ByParts::read_rules))]
+#[tactic(auto, using(crate::proofs::DocumentOf::read_rules))]
 fn read_bool(tree: &Value) -> Result<Doc, DocFault>
     ensures { Gives doc_tree result (document_of ty_bool (view tree.now)) }
 {
@@ -82,7 +82,7 @@ fn read_bool(tree: &Value) -> Result<Doc, DocFault>
     }
 }
 
-#[tactic(auto, using(crate::proofs::ByParts::read_rules))]
+#[tactic(auto, using(crate::proofs::DocumentOf::read_rules))]
 fn read_whole(tree: &Value) -> Result<Doc, DocFault>
     ensures { Gives doc_tree result (document_of ty_int (view tree.now)) }
 {
@@ -92,7 +92,7 @@ fn read_whole(tree: &Value) -> Result<Doc, DocFault>
     }
 }
 
-#[tactic(auto, using(crate::proofs::ByParts::read_rules))]
+#[tactic(auto, using(crate::proofs::DocumentOf::read_rules))]
 fn read_text(alloc: Global, tree: &Value) -> Result<Doc, DocFault>
     ensures { Gives doc_tree result (document_of ty_text (view tree.now)) }
 {
@@ -102,22 +102,22 @@ fn read_text(alloc: Global, tree: &Value) -> Result<Doc, DocFault>
     }
 }
 
-#[tactic(auto, using(crate::proofs::ByParts::read_rules))]
+#[tactic(auto, using(crate::proofs::DocumentOf::read_rules))]
 fn read_pick(alloc: Global, members: &Names, tree: &Value) -> Result<Doc, DocFault>
     ensures { Gives doc_tree result (document_of (ty_enum members.now) (view tree.now)) }
 {
     let Some(text) = tree.as_str() else {
         return Err(DocFault::NotOfType);
     };
-    let name = Name::from_string(String::from_str(alloc, text)?);
-    if !members.has(&name) {
+    if !has_text(members, text) {
         return Err(DocFault::NotOfType);
     }
-    Ok(Doc::Pick(name))
+    let member = Name::from_string(String::from_str(alloc, text)?);
+    Ok(Doc::Pick(member))
 }
 
 #[cycle(read)]
-#[tactic(auto, using(crate::proofs::ByParts::read_rules))]
+#[tactic(auto, using(crate::proofs::DocumentOf::read_rules))]
 fn read_record(alloc: Global, fields: &Fields, tree: &Value) -> Result<Doc, DocFault>
     ensures { Gives doc_tree result (document_of (ty_rec (fields_tree fields.now)) (view tree.now)) }
 {
@@ -129,7 +129,7 @@ fn read_record(alloc: Global, fields: &Fields, tree: &Value) -> Result<Doc, DocF
 
 // The contents of a record, from exactly its fields as members.
 #[cycle(read)]
-#[tactic(auto, using(crate::proofs::ByParts::read_rules))]
+#[tactic(auto, using(crate::proofs::DocumentOf::read_rules))]
 fn read_fields(
     alloc: Global,
     fields: &Fields,
@@ -156,23 +156,23 @@ fn read_fields(
 }
 
 #[cycle(read)]
-#[tactic(auto, using(crate::proofs::ByParts::read_rules))]
+#[tactic(auto, using(crate::proofs::DocumentOf::read_rules))]
 fn read_tagged(alloc: Global, tags: &Fields, tree: &Value) -> Result<Doc, DocFault>
     ensures { Gives doc_tree result (document_of (ty_alt (fields_tree tags.now)) (view tree.now)) }
 {
     let Some((name, content)) = only_member(tree) else {
         return Err(DocFault::NotOfType);
     };
-    let tag = Name::from_string(String::from_str(alloc, name)?);
-    let Some((_, ty)) = tags.find(&tag) else {
+    let Some((_, ty)) = tags.find(name) else {
         return Err(DocFault::NotOfType);
     };
     let content = read(alloc, ty, content)?;
+    let tag = Name::from_string(String::from_str(alloc, name)?);
     Ok(Doc::Alt(tag, Box::new(alloc, content)?))
 }
 
 #[cycle(read)]
-#[tactic(auto, using(crate::proofs::ByParts::read_rules))]
+#[tactic(auto, using(crate::proofs::DocumentOf::read_rules))]
 fn read_list(alloc: Global, inner: &Ty, tree: &Value) -> Result<Doc, DocFault>
     ensures { Gives doc_tree result (document_of (ty_list (ty_tree inner.now)) (view tree.now)) }
 {
@@ -185,7 +185,7 @@ fn read_list(alloc: Global, inner: &Ty, tree: &Value) -> Result<Doc, DocFault>
 }
 
 #[cycle(read)]
-#[tactic(auto, using(crate::proofs::ByParts::read_rules))]
+#[tactic(auto, using(crate::proofs::DocumentOf::read_rules))]
 fn read_keyed(alloc: Global, inner: &Ty, tree: &Value) -> Result<Doc, DocFault>
     ensures { Gives doc_tree result (document_of (ty_keyed (ty_tree inner.now)) (view tree.now)) }
 {
@@ -201,7 +201,7 @@ fn read_keyed(alloc: Global, inner: &Ty, tree: &Value) -> Result<Doc, DocFault>
 }
 
 #[cycle(read)]
-#[tactic(auto, using(crate::proofs::ByParts::read_rules))]
+#[tactic(auto, using(crate::proofs::DocumentOf::read_rules))]
 fn read_ordered(alloc: Global, inner: &Ty, tree: &Value) -> Result<Doc, DocFault>
     ensures { Gives doc_tree result (document_of (ty_ordered (ty_tree inner.now)) (view tree.now)) }
 {
@@ -222,7 +222,7 @@ fn read_ordered(alloc: Global, inner: &Ty, tree: &Value) -> Result<Doc, DocFault
 }
 
 // The arrays of an object with exactly the members `depths` and `items`.
-#[tactic(auto, using(crate::proofs::ByParts::read_rules))]
+#[tactic(auto, using(crate::proofs::DocumentOf::read_rules))]
 fn depths_and_items(tree: &Value) -> Option<(&Vec<Value>, &Vec<Value>)>
     ensures { option_map (λ p. (items_view p.0.now.items, items_view p.1.now.items)) result
         ≡ depths_and_items (view tree.now) }
@@ -247,7 +247,7 @@ fn names_of(alloc: Global, members: &Map<String, Value>) -> Result<Names, AllocE
 
 // The contents of an object's members.
 #[cycle(read)]
-#[tactic(auto, using(crate::proofs::ByParts::read_rules))]
+#[tactic(auto, using(crate::proofs::DocumentOf::read_rules))]
 fn read_members(alloc: Global, inner: &Ty, members: &Map<String, Value>) -> Result<Docs, DocFault>
     ensures { Gives docs_tree result
         (member_documents (ty_tree inner.now) (members_view members.now.entries)) }
@@ -261,7 +261,7 @@ fn read_members(alloc: Global, inner: &Ty, members: &Map<String, Value>) -> Resu
 
 // The contents that an array's items are.
 #[cycle(read)]
-#[tactic(auto, using(crate::proofs::ByParts::read_rules))]
+#[tactic(auto, using(crate::proofs::DocumentOf::read_rules))]
 fn read_items(alloc: Global, inner: &Ty, items: &[Value]) -> Result<Docs, DocFault>
     ensures { Gives docs_tree result (item_documents (ty_tree inner.now) (items_view items.now)) }
 {

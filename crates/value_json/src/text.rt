@@ -17,7 +17,7 @@ use std::alloc::{AllocError, Global};
 
 /// The text of a tree without floats, with no space between its parts.
 ///
-/// Fails where memory runs out, and not otherwise.
+/// Fails only if memory runs out.
 pub fn write_compact(alloc: Global, tree: &Value) -> Result<String, AllocError>
     requires { has_float (view tree.now) ≡ false }
 
@@ -32,8 +32,7 @@ pub fn write_compact(alloc: Global, tree: &Value) -> Result<String, AllocError>
 
 /// The text of a document's tree, with no space between its parts.
 ///
-/// The document has the type, and the type is well formed. Fails where memory runs out, and not
-/// otherwise.
+/// The document has the type, and the type is well formed. Fails only if memory runs out.
 pub fn write_doc_text(alloc: Global, ty: &Ty, doc: &Doc) -> Result<String, AllocError>
     requires well_formed { is_well_formed (ty_tree ty.now) ≡ true }
     requires typed { has (ty_tree ty.now) (doc_tree doc.now) ≡ true }

@@ -17,8 +17,7 @@ use std::alloc::{AllocError, Global};
 
 /// The tree of a document of the type; the page docs/FORMATS.md says which tree this is.
 ///
-/// The document has the type, and the type is well formed. Fails where memory runs out, and not
-/// otherwise.
+/// The document has the type, and the type is well formed. Fails only if memory runs out.
 pub fn write_doc(alloc: Global, ty: &Ty, doc: &Doc) -> Result<Value, AllocError>
     requires well_formed { is_well_formed (ty_tree ty.now) ≡ true }
     requires typed { has (ty_tree ty.now) (doc_tree doc.now) ≡ true }
@@ -60,7 +59,8 @@ fn write(alloc: Global, ty: &Ty, doc: &Doc) -> Result<Value, AllocError>
     }
 }
 
-fn write_text(alloc: Global, text: &str) -> Result<Value, AllocError>
+/// The string of a text. Fails only if memory runs out.
+pub fn write_text(alloc: Global, text: &str) -> Result<Value, AllocError>
     ensures { IfOk result (λ tree. view tree ≡ string text.now) }
 {
     Ok(Value::String(String::from_str(alloc, text)?))
@@ -99,12 +99,13 @@ fn write_tagged(
         ≡ tree_of_document (ty_alt (fields_tree tags.now)) (alt tag.now (doc_tree content.now))) }
     ensures whole { OnOk result (holds_i64s (doc_tree content.now) ≡ true) }
 {
-    let Some((_, ty)) = tags.find(tag) else {
+    let name = tag.as_str();
+    let Some((_, ty)) = tags.find(name) else {
         unreachable!()
     };
     let content = write(alloc, ty, content)?;
     let mut members = Map::new(alloc);
-    put(&mut members, alloc, tag.as_str(), content)?;
+    put(&mut members, alloc, name, content)?;
     Ok(Value::Object(members))
 }
 
@@ -170,7 +171,7 @@ fn write_ordered(
     Ok(Value::Object(members))
 }
 
-/// The array of these numbers. Fails where memory runs out, and not otherwise.
+/// The array of these numbers. Fails only if memory runs out.
 
 pub fn write_counts(alloc: Global, counts: &[u64]) -> Result<Value, AllocError>
     ensures { IfOk result (λ tree. view tree ≡ array (count_items counts.now)) }

@@ -3,13 +3,13 @@ use Rattle.doc_values.specs.Documents.{docs_of}
 use Rattle.doc_values.specs.Typing.{has_fields, has_each}
 use Rattle.doc_values.specs.Types.{field_tree}
 use Rattle.doc_values.specs.Documents.{doc_tree}
-use Rattle.doc_values.specs.Types.{ty_tree, fields_of}
+use Rattle.doc_values.specs.Types.{ty_tree, type_fields_of}
 use Rattle.doc_values.proofs.typing.+fits.Given as goal
 
 abbrev pub invariant-fit_fields-loop-i : goal.invariant-fit_fields-loop-i
 invariant-fit_fields-loop-i l =
-    has_fields (fields_of (map field_tree (drop l.i l.fields.items.items))) (docs_of (map doc_tree (drop l.i l.docs.items.items)))
-    ≡ has_fields (fields_of (map field_tree l.fields.items.items)) (docs_of (map doc_tree l.docs.items.items))
+    has_fields (type_fields_of (map field_tree (drop l.i l.fields.items.items))) (docs_of (map doc_tree (drop l.i l.docs.items.items)))
+    ≡ has_fields (type_fields_of (map field_tree l.fields.items.items)) (docs_of (map doc_tree l.docs.items.items))
 
 abbrev pub invariant-fit_each-loop-doc : goal.invariant-fit_each-loop-doc
 invariant-fit_each-loop-doc l =

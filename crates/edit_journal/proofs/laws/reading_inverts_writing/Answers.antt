@@ -1,11 +1,11 @@
-use Rattle.edit_journal.proofs.Entries.{again, taken, parts_again}
+use Rattle.edit_journal.proofs.Entries.{reads_back, writes_back, parts_read_back}
 use Rattle.edit_journal.proofs.laws.reading_inverts_writing.Goals as goal
 
-pub returns-clause-again : goal.returns-clause-again
-returns-clause-again c = again
+pub returns-clause-reads_back : goal.returns-clause-reads_back
+returns-clause-reads_back c = reads_back
 
-pub returns-clause-taken : goal.returns-clause-taken
-returns-clause-taken c = taken
+pub returns-clause-writes_back : goal.returns-clause-writes_back
+returns-clause-writes_back c = writes_back
 
 pub returns-clause-parts : goal.returns-clause-parts
-returns-clause-parts c = parts_again
+returns-clause-parts c = parts_read_back

@@ -1,5 +1,5 @@
-use Rattle.edit_journal.proofs.Apart.{apart}
+use Rattle.edit_journal.proofs.TreesDiffer.{entries_differ}
 use Rattle.edit_journal.proofs.laws.trees_differ.Goals as goal
 
 pub returns : goal.returns
-returns c = apart
+returns c = entries_differ

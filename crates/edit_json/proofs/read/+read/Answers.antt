@@ -4,7 +4,7 @@ use Rattle.std.proofs.lemmas.Result.{err_from_is_err_and}
 use Rattle.serde_json.specs.Data.{depth}
 use Rattle.serde_json.specs.View.{view}
 use Rattle.edit_module.specs.Views.{primitive_tree}
-use Rattle.edit_json.proofs.ByParts.{item_depth}
+use Rattle.edit_json.proofs.PrimitiveOf.{item_depth}
 use Rattle.edit_json.proofs.Reading.{next_item, item_refused, items_done, refused_with}
 use Rattle.edit_json.proofs.read.+read.Goals as goal
 

@@ -1,4 +1,4 @@
-use Rattle.value_json.proofs.Shallow.{whole, shallow}
+use Rattle.value_json.proofs.TreeDepths.{whole, shallow}
 use Rattle.value_json.proofs.laws.trees_are_shallow.Goals as goal
 
 pub returns-clause-no_float : goal.returns-clause-no_float

@@ -1,4 +1,4 @@
-use Rattle.value_json.proofs.Apart.{apart}
+use Rattle.value_json.proofs.TreesDiffer.{apart}
 use Rattle.value_json.proofs.laws.trees_differ.Goals as goal
 
 pub returns : goal.returns

@@ -4,13 +4,14 @@ use Rattle.std.proofs.lemmas.Result.{err_from_is_err_and}
 use Rattle.value_json.proofs.Levels.{doc_tree-Hold, doc_tree-Alt, refused_with}
 use Rattle.serde_json.specs.View.{view, items_view, members_view}
 use Rattle.doc_values.specs.Documents.{alt, doc_tree, docs_tree, doc_list}
-use Rattle.doc_values.specs.Types.{ty_tree, fields_tree, fields_of, field_tree, highest}
+use Rattle.doc_values.specs.Types.{ty_tree, fields_tree, type_fields_of, field_tree, highest}
 use Rattle.hold_shapes.specs.Trees.{is_valid}
 use Rattle.value_json.specs.Numbers.{counts_of}
 use Rattle.value_json.specs.DocumentJson.{item_documents, member_documents, field_documents}
 use Rattle.value_json.proofs.Facts.{same_texts}
-use Rattle.value_json.proofs.Loops.{next_item, items_done, next_entry, entries_done, next_field, fields_done, field_height, spot_height, then_docs}
-use Rattle.value_json.proofs.ByParts.{ordered_of, ordered_by, ordered_found, alt_of, tagged_by, tag_none, tag_refused, tag_found}
+use Rattle.doc_values.proofs.FieldPlaces.{lookup_field-height}
+use Rattle.value_json.proofs.ReadLoops.{next_item, items_done, next_entry, entries_done, next_field, fields_done, field_height, then_docs}
+use Rattle.value_json.proofs.DocumentOf.{ordered_of, ordered_by, ordered_found, alt_of, tagged_by, tag_none, tag_refused, tag_found}
 use Rattle.value_json.proofs.read.+read.Goals as goal
 
 pub read_fields-read-requires : goal.read_fields-read-requires
@@ -25,7 +26,7 @@ read_fields-loop-field-preserved t c =
     let fields = c.as_slice-field-items.result.now in
     let name = string_bytes c.in-Some.name.now in
     let same : bytes_eq c.field-item.result.0 name ≡ true = same_texts c.ne.result _ _ _ _ c.if-ne.false c.ne.ensures c.as_str.ensures c.as_str-in-loop-field.ensures.value in
-    let next = ap (λ es. option_map (then_docs (map doc_tree l.docs.items)) (field_documents (fields_of (map field_tree (drop l.field-index fields))) (members_view es))) c.in-Some.ensures.steps in
+    let next = ap (λ es. option_map (then_docs (map doc_tree l.docs.items)) (field_documents (type_fields_of (map field_tree (drop l.field-index fields))) (members_view es))) c.in-Some.ensures.steps in
     rw (c.in_ok-push.ensures.items, map-append)
     (l.invariant ∙ next ∙ next_field fields l.field-index c.field-item.result name (view c.in-Some.content.now) (members_view c.next.new.self) (map doc_tree l.docs.items) _ c.loop-field-test.true c.field-item.is same c.in_ok-read.ensures)
 
@@ -33,7 +34,7 @@ pub read_fields-returns-in-None : goal.read_fields-returns-in-None
 read_fields-returns-in-None t c =
     let l = c.loop-field in
     let fields = c.as_slice-field-items.result.now in
-    let last = ap (λ es. option_map (then_docs (map doc_tree l.docs.items)) (field_documents (fields_of (map field_tree (drop l.field-index fields))) (members_view es))) c.in-None.ensures.steps.0 in
+    let last = ap (λ es. option_map (then_docs (map doc_tree l.docs.items)) (field_documents (type_fields_of (map field_tree (drop l.field-index fields))) (members_view es))) c.in-None.ensures.steps.0 in
     l.invariant ∙ last ∙ fields_done fields l.field-index (map doc_tree l.docs.items) c.loop-field-test.false ∙ ap Some (sym c.from_vec.ensures)
 
 pub read_items-loop-item-preserved : goal.read_items-loop-item-preserved
@@ -78,11 +79,11 @@ pub read_tagged-returns-in_default-find : goal.read_tagged-returns-in_default-fi
 read_tagged-returns-in_default-find t c =
     let tags = fields_tree c.args.tags.now in
     alt_of tags (view c.args.tree.now) ∙ sym (ap (tagged_by tags) c.in-Some.ensures)
-    ∙ tag_none tags _ c.from_string-tag.result _ (c.from_string-tag.ensures ∙ c.in_ok-from_str.ensures.ok) (sym c.in_default-find.ensures)
+    ∙ tag_none tags _ _ (sym c.in_default-find.ensures)
 
 pub read_tagged-read-requires : goal.read_tagged-read-requires
 read_tagged-read-requires t c =
-    let low = spot_height (fields_tree c.args.tags.now) c.from_string-tag.result _ (sym c.in-Some-find.ensures) in
+    let low = lookup_field-height (fields_tree c.args.tags.now) _ _ (sym c.in-Some-find.ensures) in
     (omega (arith, low), tt)
 
 pub read_tagged-returns-in_err-content : goal.read_tagged-returns-in_err-content
@@ -91,7 +92,7 @@ read_tagged-returns-in_err-content t c =
     let tags = fields_tree c.args.tags.now in
     rw (p.1, p.2) (refused_with c.in_err-content.field-0.0 _ _
     (λ none. alt_of tags (view c.args.tree.now) ∙ sym (ap (tagged_by tags) c.in-Some.ensures)
-    ∙ tag_refused tags _ c.from_string-tag.result _ _ (c.from_string-tag.ensures ∙ c.in_ok-from_str.ensures.ok) (sym c.in-Some-find.ensures) none)
+    ∙ tag_refused tags _ _ _ (sym c.in-Some-find.ensures) none)
     c.in_err-content.ensures)
 
 pub read_tagged-returns : goal.read_tagged-returns

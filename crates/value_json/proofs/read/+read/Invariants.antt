@@ -1,9 +1,9 @@
 use Rattle.std.proofs.Common.{◌≡◌, ◌+◌, ◌*◌, drop, map, option_map}
 use Rattle.serde_json.specs.View.{items_view, members_view}
 use Rattle.doc_values.specs.Documents.{doc_tree}
-use Rattle.doc_values.specs.Types.{ty_tree, fields_tree, fields_of, field_tree, height, highest}
+use Rattle.doc_values.specs.Types.{ty_tree, fields_tree, type_fields_of, field_tree, height, highest}
 use Rattle.value_json.specs.DocumentJson.{field_documents, member_documents, item_documents}
-use Rattle.value_json.proofs.Loops.{then_docs}
+use Rattle.value_json.proofs.ReadLoops.{then_docs}
 use Rattle.value_json.proofs.read.+read.Given as goal
 
 abbrev pub decreases-read : goal.decreases-read
@@ -37,7 +37,7 @@ decreases-read_items l = 3 * height (ty_tree l.inner.now) + 1
 abbrev pub invariant-read_fields-loop-field : goal.invariant-read_fields-loop-field
 invariant-read_fields-loop-field l =
     field_documents (fields_tree l.fields) (members_view l.members.entries)
-    ≡ option_map (then_docs (map doc_tree l.docs.items)) (field_documents (fields_of (map field_tree (drop l.field-index l.field-items))) (members_view l.rest))
+    ≡ option_map (then_docs (map doc_tree l.docs.items)) (field_documents (type_fields_of (map field_tree (drop l.field-index l.field-items))) (members_view l.rest))
 
 abbrev pub invariant-read_members-loop-content : goal.invariant-read_members-loop-content
 invariant-read_members-loop-content l =

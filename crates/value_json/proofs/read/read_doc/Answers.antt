@@ -4,8 +4,8 @@ use Rattle.doc_values.specs.Documents.{doc_tree}
 use Rattle.doc_values.specs.Types.{ty_tree}
 use Rattle.doc_values.specs.Typing.{has}
 use Rattle.value_json.specs.DocumentJson.{document_of, tree_of_document}
-use Rattle.value_json.proofs.Again.{again}
-use Rattle.value_json.proofs.Takes.{takes}
+use Rattle.value_json.proofs.WritingReadsBack.{again}
+use Rattle.value_json.proofs.ReadingHasTree.{takes}
 use Rattle.value_json.proofs.Levels.{given_some, refused_none}
 use Rattle.value_json.proofs.read.read_doc.Goals as goal
 

@@ -4,7 +4,7 @@ use Rattle.serde_json.specs.Written.{has_float}
 use Rattle.doc_values.specs.Documents.{doc_tree}
 use Rattle.doc_values.specs.Types.{ty_tree, height}
 use Rattle.value_json.proofs.Levels.{written_text, text_back}
-use Rattle.value_json.proofs.Shallow.{whole, shallow}
+use Rattle.value_json.proofs.TreeDepths.{whole, shallow}
 use Rattle.value_json.proofs.text.write_doc_text.Goals as goal
 
 pub write_compact-requires : goal.write_compact-requires

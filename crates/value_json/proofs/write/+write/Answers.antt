@@ -5,12 +5,13 @@ use Rattle.serde_json.specs.View.{view, items_of, members_view}
 use Rattle.serde_json.proofs.Views.{view-Array, view-Object}
 use Rattle.texts.specs.Keys.{is_rising}
 use Rattle.doc_values.specs.Documents.{doc_tree, docs_of, doc_list}
-use Rattle.doc_values.specs.Types.{ty_tree, fields_tree, fields_of, field_tree, names_of, are_well_formed, highest}
+use Rattle.doc_values.specs.Types.{ty_tree, fields_tree, type_fields_of, field_tree, names_of, are_well_formed, highest}
 use Rattle.doc_values.specs.Typing.{has_fields, has_each}
 use Rattle.doc_values.proofs.Lists.{length-doc_list}
 use Rattle.value_json.specs.DocumentJson.{tree_of_document, field_members, key_members, content_items, all_hold_i64s}
-use Rattle.value_json.proofs.Loops.{field_height, spot_height}
-use Rattle.value_json.proofs.Writing.{same_many, field_typed, field_formed, each_typed, put_field, put_key, whole_more, push_item, items_of_contents, tag_is_there, content_typed, content_formed, content_tree}
+use Rattle.doc_values.proofs.FieldPlaces.{lookup_field-height, lookup_field-well_formed}
+use Rattle.value_json.proofs.ReadLoops.{field_height}
+use Rattle.value_json.proofs.Writing.{same_many, field_typed, field_formed, each_typed, put_field, put_key, whole_more, push_item, items_of_contents, tag_is_there, content_typed, content_tree}
 use Rattle.value_json.proofs.write.+write.Goals as goal
 
 -- ---- records
@@ -49,7 +50,7 @@ write_record-returns-clause-tree t c =
     let contents = c.as_slice-contents.result.now in
     let typed = ap₂ has_fields c.as_slice-field-items.ensures c.as_slice-contents.ensures ∙ c.requires.typed in
     let past : length contents ≤ l.i = omega (arith, same_many fields contents typed) in
-    let all = ap₂ (λ fs ds. field_members (fields_of (map field_tree fs)) (docs_of (map doc_tree ds))) (take_all l.i fields c.loop-i-test.false) (take_all l.i contents past) in
+    let all = ap₂ (λ fs ds. field_members (type_fields_of (map field_tree fs)) (docs_of (map doc_tree ds))) (take_all l.i fields c.loop-i-test.false) (take_all l.i contents past) in
     view-Object l.members ∙ ap object (l.invariant.0 ∙ all ∙ ap₂ field_members c.as_slice-field-items.ensures c.as_slice-contents.ensures)
 
 pub write_record-returns-clause-whole : goal.write_record-returns-clause-whole
@@ -64,20 +65,20 @@ write_record-returns-clause-whole t c =
 -- ---- alternatives
 
 pub write_tagged-unreachable-requires : goal.write_tagged-unreachable-requires
-write_tagged-unreachable-requires t c = tag_is_there (fields_tree c.args.tags.now) c.args.tag.now _ c.requires.typed (sym c.in_default.ensures)
+write_tagged-unreachable-requires t c = tag_is_there (fields_tree c.args.tags.now) c.args.tag.now _ c.requires.typed (sym (rw c.as_str-name.ensures at c.in_default.ensures))
 
 pub write_tagged-write-requires : goal.write_tagged-write-requires
 write_tagged-write-requires t c =
     let tags = fields_tree c.args.tags.now in
-    let there = sym c.in-Some.ensures in
-    let low = spot_height tags c.args.tag.now _ there in
-    (omega (arith, low), (content_formed tags c.args.tag.now _ c.requires.well_formed there, content_typed tags c.args.tag.now (doc_tree c.args.content.now) _ c.requires.typed there))
+    let there = sym (rw c.as_str-name.ensures at c.in-Some.ensures) in
+    let low = lookup_field-height tags c.args.tag.now _ there in
+    (omega (arith, low), (lookup_field-well_formed tags c.args.tag.now _ c.requires.well_formed there, content_typed tags c.args.tag.now (doc_tree c.args.content.now) _ c.requires.typed there))
 
 pub write_tagged-returns-clause-tree : goal.write_tagged-returns-clause-tree
 write_tagged-returns-clause-tree t c =
     let tags = fields_tree c.args.tags.now in
-    let empty = ap (λ ms. put c.as_str.result.now (view c.in_ok-content.content) (members_view ms)) c.new-members.ensures.empty in
-    let name = ap (λ k. member k (view c.in_ok-content.content) no_members) c.as_str.ensures in
+    let empty = ap (λ ms. put c.as_str-name.result.now (view c.in_ok-content.content) (members_view ms)) c.new-members.ensures.empty in
+    let name = ap (λ k. member k (view c.in_ok-content.content) no_members) c.as_str-name.ensures in
     let content = ap (λ d. member c.args.tag.now d no_members) c.in_ok-content.ensures.tree in
     view-Object c.put.new.map ∙ ap object (c.in_ok-put.ensures.ok ∙ empty ∙ name ∙ content)
     ∙ sym (content_tree tags c.args.tag.now (doc_tree c.args.content.now) _ (sym c.in-Some.ensures))

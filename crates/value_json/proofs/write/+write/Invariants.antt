@@ -1,7 +1,7 @@
 use Rattle.std.proofs.Common.{◌≡◌, ◌+◌, ◌*◌, true, take, map}
 use Rattle.serde_json.specs.View.{view, members_view}
 use Rattle.doc_values.specs.Documents.{doc_tree, docs_of}
-use Rattle.doc_values.specs.Types.{ty_tree, fields_tree, fields_of, field_tree, height, highest}
+use Rattle.doc_values.specs.Types.{ty_tree, fields_tree, type_fields_of, field_tree, height, highest}
 use Rattle.value_json.specs.DocumentJson.{tree_of_document, field_members, key_members, all_hold_i64s}
 use Rattle.value_json.proofs.write.+write.Given as goal
 
@@ -25,7 +25,7 @@ decreases-write_ordered l = 3 * height (ty_tree l.inner.now) + 2
 
 abbrev pub invariant-write_record-loop-i : goal.invariant-write_record-loop-i
 invariant-write_record-loop-i l =
-    (members_view l.members.entries ≡ field_members (fields_of (map field_tree (take l.i l.field-items))) (docs_of (map doc_tree (take l.i l.contents))))
+    (members_view l.members.entries ≡ field_members (type_fields_of (map field_tree (take l.i l.field-items))) (docs_of (map doc_tree (take l.i l.contents))))
     × (all_hold_i64s (docs_of (map doc_tree (take l.i l.contents))) ≡ true)
 
 abbrev pub invariant-write_list-loop-content : goal.invariant-write_list-loop-content
