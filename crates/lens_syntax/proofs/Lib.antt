@@ -1,2 +1,2 @@
 mod Examples
-pub mod Telling
+pub mod GrammarAnswers

@@ -1,81 +1,101 @@
--- The program of a text, or why it is none.
+-- The program of a text, or the cause why it has none.
 use Rattle.std.specs.Prelude.{◌≡◌, ℕ, List, Option, Some, None, Result, Ok, Err, length, nat_le, if◌then◌else◌}
 use Rattle.program_tokens.specs.Tokens.{tokens_of}
 use Rattle.program_terms.specs.Terms.{ProgramTree}
-use Rattle.program_grammar.specs.Grammar.{whole}
-use Rattle.program_grammar.specs.Mentions.{NotedProgram, bare}
-use Rattle.program_grammar.specs.Misfits.{IsMisfit}
+use Rattle.program_grammar.specs.Grammar.{program_and_end}
+use Rattle.program_grammar.specs.Mentions.{NotedProgram, without_notes}
+use Rattle.program_grammar.specs.Unexpected.{IsUnexpectedToken}
 use Rattle.program_grammar.specs.Names.{first_fault}
 use Rattle.program_grammar.specs.Spelling.{IsProgram}
 use Rattle.program_grammar.specs.declared.mention.NameFault.{NameFault}
 use Rattle.program_grammar.specs.declared.mention.NameFault.TheVariants.{Unknown, Repeated}
-use Rattle.program_reader.specs.Answers.{answer_of}
-use Rattle.program_reader.specs.declared.fault.ProgramReadFault.{ProgramReadFault}
-use Rattle.program_reader.specs.declared.fault.ProgramReadFault.TheVariants as reader
+use Rattle.program_reader.specs.Causes.{ReadCause, program_of}
+use Rattle.program_reader.specs.Causes as tokens
 use Rattle.lens_syntax.specs.declared.fault.ProgramFault.{ProgramFault}
 use Rattle.lens_syntax.specs.declared.fault.ProgramFault.TheVariants.{ProgramTooLong, NotAProgram, UnknownName, RepeatedName, NoMemory}
 
--- ---- what an answer says of a text, in the words of the grammar
+-- Why a text is no program: it is too long, or this is the offset of the unexpected token, of the unknown or of the repeated name.
+pub data ProgramCause : Type 0 where
+  too_long : ProgramCause
+  not_a_program : ℕ → ProgramCause
+  unknown_name : ℕ → ProgramCause
+  repeated_name : ℕ → ProgramCause
+
+-- ---- what a result says of a text, in the words of the grammar
 
 -- The text is spelled as this program, and its names have no fault.
 pub record IsProgramOf (text : List ℕ) (program : ProgramTree) : Type 0 where
-  pub noted : NotedProgram
-  pub is : bare noted ≡ program
-  pub spelled : IsProgram noted (tokens_of text)
-  pub names : first_fault noted ≡ None
+  pub with_notes : NotedProgram
+  pub is : without_notes with_notes ≡ program
+  pub spelled : IsProgram with_notes (tokens_of text)
+  pub names : first_fault with_notes ≡ None
 
 -- The grammar does not have the text, and the token at this offset is the first that does not fit.
-pub record HasMisfit (text : List ℕ) (at : ℕ) : Type 0 where
-  pub misfit : IsMisfit whole (tokens_of text) at
-  pub none : (noted : NotedProgram) → IsProgram noted (tokens_of text) → ⊥
+pub record HasUnexpectedToken (text : List ℕ) (at : ℕ) : Type 0 where
+  pub unexpected : IsUnexpectedToken program_and_end (tokens_of text) at
+  pub none : (with_notes : NotedProgram) → IsProgram with_notes (tokens_of text) → ⊥
 
 -- The grammar has the text, and this is the first fault of its names.
 pub record HasNameFault (text : List ℕ) (fault : NameFault) : Type 0 where
-  pub noted : NotedProgram
-  pub spelled : IsProgram noted (tokens_of text)
-  pub first : first_fault noted ≡ Some fault
+  pub with_notes : NotedProgram
+  pub spelled : IsProgram with_notes (tokens_of text)
+  pub first : first_fault with_notes ≡ Some fault
 
--- an answer to a text of any length; want of memory says nothing
-abbrev pub Tells : List ℕ → Result ProgramTree ProgramFault → Type 0
+-- what the result for a text of any length says of it
+abbrev pub Tells : List ℕ → Result ProgramTree ProgramCause → Type 0
 Tells text (Ok program) = IsProgramOf text program
-Tells text (Err ProgramTooLong) = ⊥
-Tells text (Err (NotAProgram at)) = HasMisfit text at
-Tells text (Err (UnknownName at)) = HasNameFault text (Unknown at)
-Tells text (Err (RepeatedName at)) = HasNameFault text (Repeated at)
-Tells text (Err NoMemory) = Unit {0}
+Tells text (Err too_long) = ⊥
+Tells text (Err (not_a_program at)) = HasUnexpectedToken text at
+Tells text (Err (unknown_name at)) = HasNameFault text (Unknown at)
+Tells text (Err (repeated_name at)) = HasNameFault text (Repeated at)
 
--- ---- the same as one answer, which computes
+-- ---- the same as one result, which computes
 
-abbrev pub fault_of : ProgramReadFault → ProgramFault
-fault_of reader.NoMemory = NoMemory
-fault_of reader.Ended = NoMemory
-fault_of (reader.NotAProgram at) = NotAProgram at
-fault_of (reader.UnknownName at) = UnknownName at
-fault_of (reader.RepeatedName at) = RepeatedName at
+-- The cause of a text, from that of its tokens. Tokens never run out before a text ends, so the first row is never used.
+abbrev pub text_cause : List ℕ → ReadCause → ProgramCause
+text_cause text tokens.ended = not_a_program (length text)
+text_cause text (tokens.not_a_program at) = not_a_program at
+text_cause text (tokens.unknown_name at) = unknown_name at
+text_cause text (tokens.repeated_name at) = repeated_name at
 
--- tokens never run out before a text ends, so that the second line of `fault_of` is never used
-abbrev pub told : Result ProgramTree ProgramReadFault → Result ProgramTree ProgramFault
-told (Ok program) = Ok program
-told (Err fault) = Err (fault_of fault)
+abbrev pub text_result : List ℕ → Result ProgramTree ReadCause → Result ProgramTree ProgramCause
+text_result text (Ok program) = Ok program
+text_result text (Err cause) = Err (text_cause text cause)
 
--- the program of a text, or the first reason why it has none
-abbrev pub unbounded : List ℕ → Result ProgramTree ProgramFault
-unbounded text = told (answer_of (tokens_of text))
+-- the program of a text, or the first cause why it has none
+abbrev pub unbounded : List ℕ → Result ProgramTree ProgramCause
+unbounded text = text_result text (program_of (tokens_of text))
 
 -- the same of a text that has a limit of length
-abbrev pub bounded : List ℕ → Result ProgramTree ProgramFault
-bounded text = if nat_le (length text) 65536 then unbounded text else Err ProgramTooLong
+abbrev pub bounded : List ℕ → Result ProgramTree ProgramCause
+bounded text = if nat_le (length text) 65536 then unbounded text else Err too_long
 
--- an answer, as it is viewed
-abbrev pub seen : {X Y : Type 0} → (X → Y) → Result X ProgramFault → Result Y ProgramFault
-seen view (Ok x) = Ok (view x)
-seen view (Err fault) = Err fault
+-- ---- the faults of the code
 
--- what is answered, as it is viewed, is this answer; want of memory says nothing
-abbrev pub Gives : {X : Type 0} → (X → ProgramTree) → Result X ProgramFault → Result ProgramTree ProgramFault → Type 0
-Gives view (Ok x) answer = answer ≡ Ok (view x)
-Gives view (Err ProgramTooLong) answer = answer ≡ Err ProgramTooLong
-Gives view (Err (NotAProgram at)) answer = answer ≡ Err (NotAProgram at)
-Gives view (Err (UnknownName at)) answer = answer ≡ Err (UnknownName at)
-Gives view (Err (RepeatedName at)) answer = answer ≡ Err (RepeatedName at)
-Gives view (Err NoMemory) answer = Unit {0}
+-- the cause of a fault; running out of memory says nothing of the text
+abbrev pub cause_of : ProgramFault → Option ProgramCause
+cause_of ProgramTooLong = Some too_long
+cause_of (NotAProgram at) = Some (not_a_program at)
+cause_of (UnknownName at) = Some (unknown_name at)
+cause_of (RepeatedName at) = Some (repeated_name at)
+cause_of NoMemory = None
+
+-- the wanted result is this cause, where there is one
+abbrev pub IsRefusal : Option ProgramCause → Result ProgramTree ProgramCause → Type 0
+IsRefusal None wanted = Unit {0}
+IsRefusal (Some cause) wanted = wanted ≡ Err cause
+
+-- what the code returns, as it is viewed, is the wanted result
+abbrev pub Gives : {X : Type 0} → (X → ProgramTree) → Result X ProgramFault → Result ProgramTree ProgramCause → Type 0
+Gives view (Ok x) wanted = wanted ≡ Ok (view x)
+Gives view (Err fault) wanted = IsRefusal (cause_of fault) wanted
+
+-- what a cause says of a text, where there is one
+abbrev pub TellsCause : List ℕ → Option ProgramCause → Type 0
+TellsCause text None = Unit {0}
+TellsCause text (Some cause) = Tells text (Err cause)
+
+-- what the code returns, as it is viewed, says of a text
+abbrev pub TellsResult : {X : Type 0} → (X → ProgramTree) → List ℕ → Result X ProgramFault → Type 0
+TellsResult view text (Ok x) = Tells text (Ok (view x))
+TellsResult view text (Err fault) = TellsCause text (cause_of fault)

@@ -1,13 +1,14 @@
-//! Why a text is no program.
+//! Why a text is not a program.
 
-use std::alloc::AllocError;
+use std::alloc::{AllocError, Global};
+use texts::Twin;
 
-/// Why a text is no program. Offsets count bytes from the first of the text.
+/// Why a text is not a program. Offsets count bytes from the first of the text.
 #[derive(Clone, Copy, Debug, PartialEq, Eq, Drop)]
 pub enum ProgramFault {
     /// The text has more than 65,536 bytes.
     ProgramTooLong,
-    /// The grammar does not have the text: this is the offset of the first token that does not fit.
+    /// The grammar does not have the text: this is the offset of the unexpected token, the first that cannot continue.
     NotAProgram { at: u64 },
     /// The first fault of the names: no earlier definition of the wanted sort has the name at this offset.
     UnknownName { at: u64 },
@@ -25,5 +26,17 @@ impl From<AllocError> for ProgramFault {
 
     fn from(_: AllocError) -> ProgramFault {
         ProgramFault::NoMemory
+    }
+}
+
+impl Twin for ProgramFault {
+    ghost use Rattle.lens_syntax.specs.declared.fault.ProgramFault.{ProgramFault};
+
+    ghost Meaning = { ProgramFault };
+
+    ghost meaning = { λ x. x };
+
+    fn twin(&self, _alloc: Global) -> Result<Self, AllocError> {
+        Ok(*self)
     }
 }

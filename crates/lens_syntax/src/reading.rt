@@ -2,7 +2,7 @@
 
 ghost use Rattle.std.specs.Prelude.{◌≡◌, ◌↔◌, ◌<◌, ◌≤◌, IsErrOf, length};
 ghost use Rattle.program_terms.specs.Views.{program_tree};
-ghost use Rattle.lens_syntax.specs.Programs.{Gives, Tells, bounded, seen, unbounded};
+ghost use Rattle.lens_syntax.specs.Programs.{Gives, TellsResult, bounded, unbounded};
 ghost use Rattle.lens_syntax.specs.declared.fault.ProgramFault;
 
 use crate::fault::ProgramFault;
@@ -17,17 +17,17 @@ pub const LONGEST: usize = 65_536;
 /// The program of a text of at most 65,536 bytes.
 ///
 /// The refusals, in this order; docs/LANGUAGE.md has the rules:
-/// - `ProgramTooLong` exactly where the text has more bytes.
-/// - `NotAProgram` exactly where the grammar does not have the text, with the offset of the first token that does not
-///   fit: the tokens before it begin some program and its end, and with it they do not.
+/// - `ProgramTooLong` if and only if the text has more bytes.
+/// - `NotAProgram` if and only if the grammar does not have the text, with the offset of the unexpected token: the tokens
+///   before it begin some program and its end, and with it they do not.
 /// - `UnknownName` and `RepeatedName`, the first of either in written order, with the offset of the name.
-/// - `NoMemory` where memory is wanting, in place of any other answer but `ProgramTooLong`.
+/// - `NoMemory` when memory runs out, in place of any result but `ProgramTooLong`.
 pub fn read_program(alloc: Global, text: &[u8]) -> Result<Program, ProgramFault>
     ensures answer { Gives program_tree result (bounded text.now) }
     ensures too_long { IsErrOf result ProgramFault.ProgramTooLong ↔ 65536 < length text.now }
 
-    // What the answer says of the text, in the words of the grammar.
-    ensures tells { length text.now ≤ 65536 → Tells text.now (seen program_tree result) }
+    // What the result says of the text, in the words of the grammar.
+    ensures tells { length text.now ≤ 65536 → TellsResult program_tree text.now result }
 {
     if text.len() > LONGEST {
         return Err(ProgramFault::ProgramTooLong);
@@ -41,8 +41,8 @@ pub fn read_program(alloc: Global, text: &[u8]) -> Result<Program, ProgramFault>
 pub fn read_unbounded(alloc: Global, text: &[u8]) -> Result<Program, ProgramFault>
     ensures answer { Gives program_tree result (unbounded text.now) }
 
-    // What the answer says of the text, in the words of the grammar; so it is never `ProgramTooLong`.
-    ensures tells { Tells text.now (seen program_tree result) }
+    // What the result says of the text, in the words of the grammar; so it is never `ProgramTooLong`.
+    ensures tells { TellsResult program_tree text.now result }
 {
     let tokens = tokens(alloc, text)?;
     match read_tokens(alloc, tokens) {

@@ -1,4 +1,4 @@
--- The grammar of programs: symbols, productions, and the fronts of what they derive. docs/LANGUAGE.md has it in prose.
+-- The grammar of programs: symbols, productions, and the viable prefixes of what they derive. docs/LANGUAGE.md has it in prose.
 use Rattle.std.specs.Prelude.{◌≡◌, ℕ, zero, suc, List, [], ◌∷◌, ◌++◌, ◌⊎◌}
 use Rattle.program_tokens.specs.declared.keyword.Keyword.{Keyword}
 use Rattle.program_tokens.specs.declared.keyword.Keyword.TheVariants as words
@@ -7,8 +7,8 @@ use Rattle.program_tokens.specs.declared.mark.Mark.TheVariants.{Equals, Semicolo
 use Rattle.program_tokens.specs.declared.token.Token.{Token}
 use Rattle.program_tokens.specs.declared.token.Token.TheVariants as tokens
 
--- The rules. A type, a lens and a row are numbered by how many types and lenses may still stand one inside the other, itself among
--- them: a type with the number 0 is inside 100 others, and has no alternative.
+-- The rules. A type, a lens and a row are numbered by how many types and lenses may still be nested, itself among them: a type with
+-- the number 0 is inside 100 others, and has no alternative. The plain productions, without numbers, are in PlainGrammar.
 pub data Rule : Type 0 where
   program : Rule
   field : Rule
@@ -103,23 +103,24 @@ alternatives (row n) =
     ∷ []
 
 -- a program followed by the end
-abbrev pub whole : List Symbol
-whole = rule program ∷ the_end ∷ []
+abbrev pub program_and_end : List Symbol
+program_and_end = rule program ∷ the_end ∷ []
 
-abbrev pub IsAmong : List Symbol → List (List Symbol) → Type 0
+-- it is one of these
+abbrev pub IsAmong : {A : Type 0} → A → List A → Type 0
 IsAmong a [] = ⊥
 IsAmong a (b ∷ bs) = (a ≡ b) ⊎ IsAmong a bs
 
--- The tokens are a front of the symbols: they begin something that the symbols derive.
-pub data Front : List Symbol → List Token → Type 0 where
-  nothing : (s : List Symbol) → Front s []
-  a_mark : (m : Mark) (s : List Symbol) (ts : List Token) → Front s ts → Front (mark m ∷ s) (tokens.Mark m ∷ ts)
-  a_word : (k : Keyword) (s : List Symbol) (ts : List Token) → Front s ts → Front (word k ∷ s) (tokens.Keyword k ∷ ts)
-  the_name : (n : List ℕ) (s : List Symbol) (ts : List Token) → Front s ts → Front (a_name ∷ s) (tokens.Name n ∷ ts)
-  the_string : (n : List ℕ) (s : List Symbol) (ts : List Token) → Front s ts → Front (a_string ∷ s) (tokens.Text n ∷ ts)
-  it_ends : (s : List Symbol) (ts : List Token) → Front s ts → Front (the_end ∷ s) (tokens.End ∷ ts)
-  a_rule : (r : Rule) (a : List Symbol) (s : List Symbol) (ts : List Token) → IsAmong a (alternatives r) → Front (a ++ s) ts → Front (rule r ∷ s) ts
-  there : (p : Part) (a : List Symbol) (s : List Symbol) (ts : List Token) → IsAmong a (contents p) → Front (a ++ s) ts → Front (perhaps p ∷ s) ts
-  not_there : (p : Part) (s : List Symbol) (ts : List Token) → Front s ts → Front (perhaps p ∷ s) ts
-  again : (p : Part) (a : List Symbol) (s : List Symbol) (ts : List Token) → IsAmong a (contents p) → Front (a ++ (repeated p ∷ s)) ts → Front (repeated p ∷ s) ts
-  no_more : (p : Part) (s : List Symbol) (ts : List Token) → Front s ts → Front (repeated p ∷ s) ts
+-- The tokens are a viable prefix of the symbols: they begin something that the symbols derive.
+pub data IsViablePrefix : List Symbol → List Token → Type 0 where
+  no_tokens : (s : List Symbol) → IsViablePrefix s []
+  mark_first : (m : Mark) (s : List Symbol) (ts : List Token) → IsViablePrefix s ts → IsViablePrefix (mark m ∷ s) (tokens.Mark m ∷ ts)
+  word_first : (k : Keyword) (s : List Symbol) (ts : List Token) → IsViablePrefix s ts → IsViablePrefix (word k ∷ s) (tokens.Keyword k ∷ ts)
+  name_first : (n : List ℕ) (s : List Symbol) (ts : List Token) → IsViablePrefix s ts → IsViablePrefix (a_name ∷ s) (tokens.Name n ∷ ts)
+  string_first : (n : List ℕ) (s : List Symbol) (ts : List Token) → IsViablePrefix s ts → IsViablePrefix (a_string ∷ s) (tokens.Text n ∷ ts)
+  end_first : (s : List Symbol) (ts : List Token) → IsViablePrefix s ts → IsViablePrefix (the_end ∷ s) (tokens.End ∷ ts)
+  rule_replaced : (r : Rule) (a : List Symbol) (s : List Symbol) (ts : List Token) → IsAmong a (alternatives r) → IsViablePrefix (a ++ s) ts → IsViablePrefix (rule r ∷ s) ts
+  option_present : (p : Part) (a : List Symbol) (s : List Symbol) (ts : List Token) → IsAmong a (contents p) → IsViablePrefix (a ++ s) ts → IsViablePrefix (perhaps p ∷ s) ts
+  option_absent : (p : Part) (s : List Symbol) (ts : List Token) → IsViablePrefix s ts → IsViablePrefix (perhaps p ∷ s) ts
+  repeated_once_more : (p : Part) (a : List Symbol) (s : List Symbol) (ts : List Token) → IsAmong a (contents p) → IsViablePrefix (a ++ (repeated p ∷ s)) ts → IsViablePrefix (repeated p ∷ s) ts
+  repeated_no_more : (p : Part) (s : List Symbol) (ts : List Token) → IsViablePrefix s ts → IsViablePrefix (repeated p ∷ s) ts

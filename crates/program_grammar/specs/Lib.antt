@@ -1,5 +1,6 @@
 pub mod Grammar
-pub mod Misfits
+pub mod PlainGrammar
+pub mod Unexpected
 pub mod Mentions
 pub mod Names
 pub mod Spelling

@@ -12,8 +12,8 @@ mention sort name at = record { sort = sort; name = name; at = at }
 abbrev pub Point : Type 0
 Point = List Mention × List PlacedToken
 
--- a definition: its name, where that is written, what it stands for, and the names that it mentions, in written order
-pub record Noted : Type 0 where
+-- a definition: its name, the offset of the name, what it is defined as, and the names that it mentions, in written order
+pub record NotedDefinition : Type 0 where
   pub name : List ℕ
   pub at : ℕ
   pub def : DefTree
@@ -21,13 +21,13 @@ pub record Noted : Type 0 where
 
 -- a program with these notes: its definitions in written order, its main lens, and the names that this one mentions
 pub record NotedProgram : Type 0 where
-  pub definitions : List Noted
+  pub definitions : List NotedDefinition
   pub main : LensTree
   pub mentions : List Mention
 
 -- the program without its notes
-abbrev pub bare_definition : Noted → List ℕ × DefTree
-bare_definition d = (d.name, d.def)
+abbrev pub definition_without_notes : NotedDefinition → List ℕ × DefTree
+definition_without_notes d = (d.name, d.def)
 
-abbrev pub bare : NotedProgram → ProgramTree
-bare p = record { definitions = map bare_definition p.definitions; main = p.main }
+abbrev pub without_notes : NotedProgram → ProgramTree
+without_notes p = record { definitions = map definition_without_notes p.definitions; main = p.main }

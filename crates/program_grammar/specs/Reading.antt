@@ -1,5 +1,5 @@
--- Reading from left to right, without going back: the value and the point behind it, or the offset of the first token that does not
--- fit (none where the tokens ran out). A form for proofs: the laws show that it is what is spelled, and that it stops at the first misfit.
+-- Reading from left to right, without going back: the value and the point behind it, or the offset of the unexpected token (none if the
+-- tokens ran out). A form for proofs: the laws show that it reads what is spelled, and that it stops at the unexpected token.
 use Rattle.std.specs.Prelude.{◌≡◌, ℕ, zero, suc, ◌-◌, Bool, true, false, List, [], ◌∷◌, ◌++◌, length, Option, Some, None, Result, Ok, Err, ◌==◌, if◌then◌else◌}
 use Rattle.program_tokens.specs.Words.{mark_byte}
 use Rattle.program_tokens.specs.declared.keyword.Keyword.{Keyword}
@@ -9,12 +9,12 @@ use Rattle.program_tokens.specs.declared.mark.Mark.TheVariants.{Equals, Semicolo
 use Rattle.program_tokens.specs.declared.token.Token.{Token}
 use Rattle.program_tokens.specs.declared.token.Token.TheVariants as tokens
 use Rattle.program_tokens.specs.declared.token.PlacedToken.{PlacedToken}
-use Rattle.program_terms.specs.Terms.{TypeTree, FieldTrees, unit, bool, int, text, enum_of, record_of, one_of, list, keyed, tree, named, fields_of, LensTree, id_of, bij_of, disc_of, then_of, rec_lens, alt_lens, each_of, keyed_each, tree_each, part_of, inv_of, named_lens, RowTree, row_both, row_left, row_right, rows_of, arms_of, DefTree, type_def, lens_def}
+use Rattle.program_terms.specs.Terms.{TypeTree, FieldTrees, unit, bool, int, text, enum_of, record_of, one_of, list, keyed, tree, named, term_fields_of, LensTree, id_of, bij_of, disc_of, then_of, rec_lens, alt_lens, each_of, keyed_each, tree_each, part_of, inv_of, named_lens, RowTree, row_both, row_left, row_right, term_rows_of, term_arms_of, DefTree, type_def, lens_def}
 use Rattle.program_grammar.specs.declared.mention.Mention.{Mention}
 use Rattle.program_grammar.specs.declared.mention.Sort.TheVariants as sorts
-use Rattle.program_grammar.specs.Mentions.{Point, mention, Noted, NotedProgram}
+use Rattle.program_grammar.specs.Mentions.{Point, mention, NotedDefinition, NotedProgram}
 
--- what reading answers
+-- what reading gives
 abbrev pub Read : Type 0 → Type 0
 Read A = Result (A × Point) (Option ℕ)
 
@@ -23,9 +23,9 @@ abbrev pub ◌>>=◌ : {A B : Type 0} → Result A (Option ℕ) → (A → Resul
 (Ok x) >>= f = f x
 (Err e) >>= f = Err e
 
-abbrev pub stuck : List PlacedToken → Option ℕ
-stuck [] = None
-stuck (t ∷ ts) = Some t.at
+abbrev pub next_offset : List PlacedToken → Option ℕ
+next_offset [] = None
+next_offset (t ∷ ts) = Some t.at
 
 -- what the next token is
 
@@ -67,20 +67,20 @@ mark_in m ms (t ∷ ts) = if is_mark m t.token then Ok (ms, ts) else Err (Some t
 unfoldable pub mark_at : Mark → Point → Result Point (Option ℕ)
 mark_at m p = mark_in m p.0 p.1
 
-abbrev pub taken : {A : Type 0} → Option A → ℕ → List Mention → List PlacedToken → Read A
-taken (Some x) at ms ts = Ok (x, (ms, ts))
-taken None at ms ts = Err (Some at)
+abbrev pub token_value : {A : Type 0} → Option A → ℕ → List Mention → List PlacedToken → Read A
+token_value (Some x) at ms ts = Ok (x, (ms, ts))
+token_value None at ms ts = Err (Some at)
 
 abbrev pub string_from : List Mention → List PlacedToken → Read (List ℕ)
 string_from ms [] = Err None
-string_from ms (t ∷ ts) = taken (string_in t.token) t.at ms ts
+string_from ms (t ∷ ts) = token_value (string_in t.token) t.at ms ts
 
 unfoldable pub string_at : Point → Read (List ℕ)
 string_at p = string_from p.0 p.1
 
 abbrev pub field_from : List Mention → List PlacedToken → Read (List ℕ)
 field_from ms [] = Err None
-field_from ms (t ∷ ts) = taken (field_in t.token) t.at ms ts
+field_from ms (t ∷ ts) = token_value (field_in t.token) t.at ms ts
 
 unfoldable pub field_at : Point → Read (List ℕ)
 field_at p = field_from p.0 p.1
@@ -134,10 +134,10 @@ enum_at p = do
   Ok (enum_of ms.0, ms.1)
 
 unfoldable pub record_at : (Point → Read TypeTree) → Point → Read TypeTree
-record_at inner p = perhaps_at (typed_at inner) CloseBrace p >>= λ fs. Ok (record_of (fields_of fs.0), fs.1)
+record_at inner p = perhaps_at (typed_at inner) CloseBrace p >>= λ fs. Ok (record_of (term_fields_of fs.0), fs.1)
 
 unfoldable pub one_of_at : (Point → Read TypeTree) → Point → Read TypeTree
-one_of_at inner p = closed_at (typed_at inner) Greater p >>= λ fs. Ok (one_of (fields_of fs.0), fs.1)
+one_of_at inner p = closed_at (typed_at inner) Greater p >>= λ fs. Ok (one_of (term_fields_of fs.0), fs.1)
 
 unfoldable pub word_type : (Point → Read TypeTree) → Keyword → ℕ → Point → Read TypeTree
 word_type inner words.Unit at p = Ok (unit, p)
@@ -171,9 +171,9 @@ type_from inner ms (t ∷ ts) = begun_type inner t.token t.at (ms, ts)
 unfoldable pub type_step : (Point → Read TypeTree) → Point → Read TypeTree
 type_step inner p = type_from inner p.0 p.1
 
--- a type that may have so many types one inside the other, itself among them
+-- a type with at most this many types nested, itself among them
 unfoldable pub type_at : ℕ → Point → Read TypeTree
-type_at zero p = Err (stuck p.1)
+type_at zero p = Err (next_offset p.1)
 type_at (suc room) p = type_step (type_at room) p
 
 -- lenses
@@ -239,7 +239,7 @@ unfoldable pub part_at : (Point → Read TypeTree) → Point → Read LensTree
 part_at type p = do
   rest ← mark_at Less p
   fs ← closed_at (typed_at type) Greater rest
-  Ok (part_of (fields_of fs.0), fs.1)
+  Ok (part_of (term_fields_of fs.0), fs.1)
 
 unfoldable pub word_lens : (Point → Read TypeTree) → (Point → Read LensTree) → Keyword → ℕ → Point → Read LensTree
 word_lens type inner words.Id at p = type p >>= λ t. Ok (id_of t.0, t.1)
@@ -254,10 +254,10 @@ word_lens type inner words.Inv at p = inner p >>= λ l. Ok (inv_of l.0, l.1)
 word_lens type inner _ at p = Err (Some at)
 
 unfoldable pub rec_at : (Point → Read TypeTree) → (Point → Read LensTree) → Point → Read LensTree
-rec_at type inner p = perhaps_at (row_at type inner) CloseBrace p >>= λ rs. Ok (rec_lens (rows_of rs.0), rs.1)
+rec_at type inner p = perhaps_at (row_at type inner) CloseBrace p >>= λ rs. Ok (rec_lens (term_rows_of rs.0), rs.1)
 
 unfoldable pub alt_at : (Point → Read LensTree) → Point → Read LensTree
-alt_at inner p = closed_at (arm_at inner) Greater p >>= λ rs. Ok (alt_lens (arms_of rs.0), rs.1)
+alt_at inner p = closed_at (arm_at inner) Greater p >>= λ rs. Ok (alt_lens (term_arms_of rs.0), rs.1)
 
 unfoldable pub mark_lens : (Point → Read TypeTree) → (Point → Read LensTree) → Mark → ℕ → Point → Read LensTree
 mark_lens type inner OpenBrace at p = rec_at type inner p
@@ -280,9 +280,9 @@ lens_from type inner ms (t ∷ ts) = begun_lens type inner t.token t.at (ms, ts)
 unfoldable pub lens_step : (Point → Read TypeTree) → (Point → Read LensTree) → Point → Read LensTree
 lens_step type inner p = lens_from type inner p.0 p.1
 
--- a lens that may have so many types and lenses one inside the other, itself among them
+-- a lens with at most this many types and lenses nested, itself among them
 unfoldable pub lens_at : ℕ → Point → Read LensTree
-lens_at zero p = Err (stuck p.1)
+lens_at zero p = Err (next_offset p.1)
 lens_at (suc room) p = lens_step (type_at room) (lens_at room) p
 
 -- programs
@@ -294,12 +294,12 @@ name_in _ at = None
 
 abbrev pub name_from : List Mention → List PlacedToken → Read (List ℕ × ℕ)
 name_from ms [] = Err None
-name_from ms (t ∷ ts) = taken (name_in t.token t.at) t.at ms ts
+name_from ms (t ∷ ts) = token_value (name_in t.token t.at) t.at ms ts
 
 unfoldable pub name_at : Point → Read (List ℕ × ℕ)
 name_at p = name_from p.0 p.1
 
--- what a definition stands for, by the word before it
+-- what a name is defined as, by the word before it
 unfoldable pub type_term_at : Point → Read DefTree
 type_term_at p = type_at 100 p >>= λ t. Ok (type_def t.0, t.1)
 
@@ -307,7 +307,7 @@ unfoldable pub lens_term_at : Point → Read DefTree
 lens_term_at p = lens_at 100 p >>= λ l. Ok (lens_def l.0, l.1)
 
 -- the rest of a definition behind its first word; the mentions are those since it began
-unfoldable pub definition_at : (Point → Read DefTree) → List PlacedToken → Result (Noted × List PlacedToken) (Option ℕ)
+unfoldable pub definition_at : (Point → Read DefTree) → List PlacedToken → Result (NotedDefinition × List PlacedToken) (Option ℕ)
 definition_at term ts = do
   n ← name_at ([], ts)
   rest ← mark_at Equals n.1
@@ -322,7 +322,7 @@ definition_of (Some words.Lens) = Some lens_term_at
 definition_of _ = None
 
 -- the definitions in written order, after skipping some tokens
-unfoldable pub definitions_at : ℕ → List PlacedToken → Result (List Noted × List PlacedToken) (Option ℕ)
+unfoldable pub definitions_at : ℕ → List PlacedToken → Result (List NotedDefinition × List PlacedToken) (Option ℕ)
 definitions_at skip [] = Ok ([], [])
 definitions_at (suc skip) (t ∷ ts) = definitions_at skip ts
 definitions_at zero (t ∷ ts) = elim (definition_of (word_in t.token)) [
@@ -352,7 +352,7 @@ unfoldable pub end_at : List PlacedToken → Result (List PlacedToken) (Option �
 end_at [] = Err None
 end_at (t ∷ ts) = if is_end t.token then none_left ts else Err (Some t.at)
 
--- a whole program
+-- a complete program
 unfoldable pub program_at : List PlacedToken → Result NotedProgram (Option ℕ)
 program_at ts = do
   ds ← definitions_at 0 ts

@@ -9,7 +9,7 @@ use Rattle.program_tokens.specs.Tokens.{placed}
 use Rattle.program_terms.specs.Terms.{TypeTree, FieldTrees, unit, bool, int, text, enum_of, record_of, one_of, list, keyed, tree, named, no_fields, more_fields, LensTree, id_of, bij_of, disc_of, then_of, rec_lens, alt_lens, each_of, keyed_each, tree_each, part_of, inv_of, named_lens, RowTrees, no_rows, both, only_left, only_right, ArmTrees, no_arms, more_arms, DefTree, type_def, lens_def}
 use Rattle.program_grammar.specs.declared.mention.Sort.{Sort}
 use Rattle.program_grammar.specs.declared.mention.Sort.TheVariants as sorts
-use Rattle.program_grammar.specs.Mentions.{Point, mention, Noted, NotedProgram}
+use Rattle.program_grammar.specs.Mentions.{Point, mention, NotedDefinition, NotedProgram}
 
 -- one token, which mentions nothing
 pub record Is (k : Token) (here there : Point) : Type 0 where
@@ -48,7 +48,7 @@ abbrev pub ArePairs : List (List ℕ × List ℕ) → Point → Point → Type 0
 ArePairs [] here there = ⊥
 ArePairs (p ∷ ps) here there = (a : Point) × IsPair p here a × OtherPairs ps a there
 
--- a type with so many types and lenses one inside the other at most, itself among them
+-- a type with at most n types and lenses nested, itself among them
 abbrev mutual
   pub IsType : ℕ → TypeTree → Point → Point → Type 0
   IsType zero t here there = ⊥
@@ -76,7 +76,7 @@ abbrev mutual
   OtherFields n no_fields here there = here ≡ there
   OtherFields n (more_fields f t fs) here there = (a b c d : Point) × Is (Mark Comma) here a × IsField f a b × Is (Mark Colon) b c × IsType n t c d × OtherFields n fs d there
 
--- a lens with so many types and lenses one inside the other at most, itself among them
+-- a lens with at most n types and lenses nested, itself among them
 abbrev mutual
   pub IsLens : ℕ → LensTree → Point → Point → Type 0
   IsLens zero l here there = ⊥
@@ -113,13 +113,13 @@ abbrev mutual
   OtherArms n no_arms here there = here ≡ there
   OtherArms n (more_arms f g l arms) here there = (z a b c d e : Point) × Is (Mark Comma) here z × IsField f z a × Is (Mark Tilde) a b × IsField g b c × Is (Mark Colon) c d × IsLens n l d e × OtherArms n arms e there
 
--- what a definition stands for, with the word before it
+-- what a name is defined as, with the word before it
 abbrev pub IsStatement : DefTree → Token → Point → Point → Type 0
 IsStatement (type_def t) k here there = (k ≡ Keyword words.Type) × IsType 100 t here there
 IsStatement (lens_def l) k here there = (k ≡ Keyword words.Lens) × IsLens 100 l here there
 
--- A definition: `type` or `lens`, its name, `=`, what it stands for, `;`. Its mentions are those since it began.
-pub record IsDefinition (d : Noted) (here there : List PlacedToken) : Type 0 where
+-- A definition: `type` or `lens`, its name, `=`, what it is defined as, `;`. Its mentions are those since it began.
+pub record IsDefinition (d : NotedDefinition) (here there : List PlacedToken) : Type 0 where
   pub word : Token
   pub word_at : ℕ
   pub a : List PlacedToken
@@ -131,7 +131,7 @@ pub record IsDefinition (d : Noted) (here there : List PlacedToken) : Type 0 whe
   pub ends : Is (Mark Semicolon) c (d.mentions, there)
 
 -- definitions in written order
-abbrev pub AreDefinitions : List Noted → List PlacedToken → List PlacedToken → Type 0
+abbrev pub AreDefinitions : List NotedDefinition → List PlacedToken → List PlacedToken → Type 0
 AreDefinitions [] here there = here ≡ there
 AreDefinitions (d ∷ ds) here there = (a : List PlacedToken) × IsDefinition d here a × AreDefinitions ds a there
 

@@ -2,7 +2,8 @@
 ghost use Rattle.std.specs.Prelude.{◌≡◌};
 ghost use Rattle.program_grammar.specs.Mentions.{mention};
 
-use texts::Name;
+use std::alloc::{AllocError, Global};
+use texts::{Name, Twin};
 
 /// The two sorts of definitions.
 #[derive(Clone, Copy, Debug, PartialEq, Eq)]
@@ -20,7 +21,7 @@ pub struct Mention {
 }
 
 impl Mention {
-    /// A name of this sort, mentioned at this offset. Takes no memory.
+    /// A name of this sort, mentioned at this offset. Does not allocate.
     pub fn new(sort: Sort, name: Name, at: u64) -> Mention
         ensures { result ≡ mention sort name at }
     {
@@ -35,4 +36,44 @@ pub enum NameFault {
     Unknown { at: u64 },
     /// An earlier definition of either sort has the name that is defined.
     Repeated { at: u64 },
+}
+
+impl Twin for Sort {
+    ghost use Rattle.program_grammar.specs.declared.mention.Sort.{Sort};
+
+    ghost Meaning = { Sort };
+
+    ghost meaning = { λ x. x };
+
+    fn twin(&self, _alloc: Global) -> Result<Self, AllocError> {
+        Ok(*self)
+    }
+}
+
+impl Twin for NameFault {
+    ghost use Rattle.program_grammar.specs.declared.mention.NameFault.{NameFault};
+
+    ghost Meaning = { NameFault };
+
+    ghost meaning = { λ x. x };
+
+    fn twin(&self, _alloc: Global) -> Result<Self, AllocError> {
+        Ok(*self)
+    }
+}
+
+impl Twin for Mention {
+    ghost use Rattle.program_grammar.specs.declared.mention.Mention.{Mention};
+
+    ghost Meaning = { Mention };
+
+    ghost meaning = { λ x. x };
+
+    fn twin(&self, alloc: Global) -> Result<Self, AllocError> {
+        Ok(Mention {
+            sort: self.sort,
+            name: self.name.twin(alloc)?,
+            at: self.at,
+        })
+    }
 }

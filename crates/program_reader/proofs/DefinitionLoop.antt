@@ -6,34 +6,26 @@ use Rattle.program_terms.specs.Terms.{DefTree}
 use Rattle.program_grammar.specs.declared.mention.Sort.{Sort}
 use Rattle.program_grammar.specs.declared.mention.Sort.TheVariants as sorts
 use Rattle.program_grammar.specs.declared.mention.Mention.{Mention}
-use Rattle.program_grammar.specs.Mentions.{Point, Noted}
+use Rattle.program_grammar.specs.Mentions.{Point, NotedDefinition}
 use Rattle.program_grammar.specs.Reading.{Read, ◌>>=◌, next_word, definition_of, definition_at, definitions_at}
 use Rattle.program_reader.specs.declared.fault.ReadFault.{ReadFault}
 use Rattle.program_reader.specs.declared.fault.ReadFault.TheVariants as faults
 use Rattle.program_reader.specs.Gives.{Fails}
-use Rattle.program_reader.specs.Programs.{term_at, afresh}
-use Rattle.program_reader.proofs.Moves.{Trails, Moves, bind_ok, ok_is, type_term_moves, lens_term_moves, definition_moves}
-use Rattle.program_reader.proofs.Loops.{with_front, regroup}
+use Rattle.program_reader.specs.Programs.{term_at, with_no_mentions}
+use Rattle.program_grammar.proofs.ReadingResults.{bind_ok, ok_is}
+use Rattle.program_grammar.proofs.RestOfTokens.{definitions_after}
+use Rattle.program_grammar.proofs.TokensLeft.{LeavesFewer, type_term_leaves, lens_term_leaves, definition_leaves}
+use Rattle.program_reader.proofs.ListLoop.{with_front, regroup}
 
 -- a loop has so far read these definitions, and these tokens are left
-abbrev pub AreSoFar : List Noted → List PlacedToken → List PlacedToken → Type 0
+abbrev pub AreSoFar : List NotedDefinition → List PlacedToken → List PlacedToken → Type 0
 AreSoFar front left whole = with_front front (definitions_at 0 left) ≡ definitions_at 0 whole
 
-term_moves : (sort : Sort) → Moves (term_at sort)
-term_moves sorts.Type = type_term_moves
-term_moves sorts.Lens = lens_term_moves
+term_leaves : (sort : Sort) → LeavesFewer (term_at sort)
+term_leaves sorts.Type = type_term_leaves
+term_leaves sorts.Lens = lens_term_leaves
 
 -- ---- the definitions behind a definition
-
-all_skipped : (front rest : List PlacedToken) → definitions_at (length front) (front ++ rest) ≡ definitions_at 0 rest
-unfolding definitions_at
-all_skipped [] rest = refl
-all_skipped (t ∷ front) rest = all_skipped front rest
-
-behind : (ts rest : List PlacedToken) → Trails rest ts → definitions_at (length ts - length rest) ts ≡ definitions_at 0 rest
-behind ts rest h =
-    let n : length (h.front ++ rest) - length rest ≡ length h.front = omega (arith, length-append h.front rest) in
-    rw h.parts (rw n (all_skipped h.front rest))
 
 -- a definition comes next
 one_comes : (term : Point → Read DefTree) (ts : List PlacedToken) → definition_of (next_word ts) ≡ Some term
@@ -54,10 +46,10 @@ fewer : (term : Point → Read DefTree) (ts : List PlacedToken) → definition_o
 fewer term [] h = absurd cc
 fewer term (t ∷ ts) h = omega arith
 
--- ---- what is read afresh
+-- ---- what is read with_no_mentions
 
-pub afresh_ok : {A : Type 0} (read : Result (A × List PlacedToken) (Option ℕ)) (x : A) (q : Point) → afresh read ≡ Ok (x, q) → (read ≡ Ok (x, q.1)) × (q.0 ≡ [])
-afresh_ok {A = A} read x q e =
+pub no_mentions_ok : {A : Type 0} (read : Result (A × List PlacedToken) (Option ℕ)) (x : A) (q : Point) → with_no_mentions read ≡ Ok (x, q) → (read ≡ Ok (x, q.1)) × (q.0 ≡ [])
+no_mentions_ok {A = A} read x q e =
     let a = bind_ok read (λ x. Ok (x.0, ([], x.1))) (x, q) e in
     let same = ok_is (a.0.0, ([], a.0.1)) (x, q) a.2 in
     (a.1 ∙ ap (λ (y : A × Point). Ok (y.0, y.1.1)) same, sym (ap (λ (y : A × Point). y.1.0) same))
@@ -68,47 +60,47 @@ failed f = Err f
 err_is : {A : Type 0} (f g : Option ℕ) → failed {A = A} f ≡ failed g → f ≡ g
 err_is f g e = cc
 
-pub afresh_fails : {A B : Type 0} (read : Result (A × List PlacedToken) (Option ℕ)) (other : Result B (Option ℕ)) (fault : ReadFault)
-    → Fails fault (afresh read) → ((f : Option ℕ) → read ≡ Err f → other ≡ Err f) → Fails fault other
-afresh_fails {A = A} (Ok x) other faults.NoMemory h k = tt
-afresh_fails {A = A} (Ok x) other faults.Ended h k = absurd cc
-afresh_fails {A = A} (Ok x) other (faults.At at) h k = absurd cc
-afresh_fails {A = A} (Err f) other faults.NoMemory h k = tt
-afresh_fails {A = A} (Err f) other faults.Ended h k = k f refl ∙ ap (λ (g : Option ℕ). Err g) (err_is {A = A × Point} f None h)
-afresh_fails {A = A} (Err f) other (faults.At at) h k = k f refl ∙ ap (λ (g : Option ℕ). Err g) (err_is {A = A × Point} f (Some at) h)
+pub no_mentions_fails : {A B : Type 0} (read : Result (A × List PlacedToken) (Option ℕ)) (other : Result B (Option ℕ)) (fault : ReadFault)
+    → Fails fault (with_no_mentions read) → ((f : Option ℕ) → read ≡ Err f → other ≡ Err f) → Fails fault other
+no_mentions_fails {A = A} (Ok x) other faults.NoMemory h k = tt
+no_mentions_fails {A = A} (Ok x) other faults.Ended h k = absurd cc
+no_mentions_fails {A = A} (Ok x) other (faults.At at) h k = absurd cc
+no_mentions_fails {A = A} (Err f) other faults.NoMemory h k = tt
+no_mentions_fails {A = A} (Err f) other faults.Ended h k = k f refl ∙ ap (λ (g : Option ℕ). Err g) (err_is {A = A × Point} f None h)
+no_mentions_fails {A = A} (Err f) other (faults.At at) h k = k f refl ∙ ap (λ (g : Option ℕ). Err g) (err_is {A = A × Point} f (Some at) h)
 
 -- ---- a loop
 
 pub begins_empty : (ts : List PlacedToken) → AreSoFar [] ts ts
 begins_empty ts = by (definitions_at 0 ts)
   where
-    by : (read : Result (List Noted × List PlacedToken) (Option ℕ)) → with_front [] read ≡ read
+    by : (read : Result (List NotedDefinition × List PlacedToken) (Option ℕ)) → with_front [] read ≡ read
     by (Ok x) = refl
     by (Err f) = refl
 
-pub goes_on : (sort : Sort) (front : List Noted) (ts whole : List PlacedToken) (d : Noted) (q : Point) → definition_of (next_word ts) ≡ Some (term_at sort)
-    → afresh (definition_at (term_at sort) (drop 1 ts)) ≡ Ok (d, q) → AreSoFar front ts whole → AreSoFar (front ++ d ∷ []) q.1 whole
+pub goes_on : (sort : Sort) (front : List NotedDefinition) (ts whole : List PlacedToken) (d : NotedDefinition) (q : Point) → definition_of (next_word ts) ≡ Some (term_at sort)
+    → with_no_mentions (definition_at (term_at sort) (drop 1 ts)) ≡ Ok (d, q) → AreSoFar front ts whole → AreSoFar (front ++ d ∷ []) q.1 whole
 goes_on sort front ts whole d q next e so_far =
-    let found = (afresh_ok (definition_at (term_at sort) (drop 1 ts)) d q e).0 in
-    let trails = (definition_moves (term_at sort) (term_moves sort) (drop 1 ts) (d, q.1) found).trails in
-    let step : definitions_at 0 ts ≡ (definitions_at 0 q.1 >>= λ ds. Ok (d ∷ ds.0, ds.1)) = one_comes (term_at sort) ts next ∙ rw found (rw (behind (drop 1 ts) q.1 trails) refl) in
+    let found = (no_mentions_ok (definition_at (term_at sort) (drop 1 ts)) d q e).0 in
+    let rest = (definition_leaves (term_at sort) (term_leaves sort) (drop 1 ts) (d, q.1) found).rest in
+    let step : definitions_at 0 ts ≡ (definitions_at 0 q.1 >>= λ ds. Ok (d ∷ ds.0, ds.1)) = one_comes (term_at sort) ts next ∙ rw found (rw (definitions_after (drop 1 ts) q.1 rest) refl) in
     sym (regroup front d (definitions_at 0 q.1)) ∙ ap (with_front front) (sym step) ∙ so_far
 
-pub breaks : (sort : Sort) (front : List Noted) (ts whole : List PlacedToken) (fault : ReadFault) → definition_of (next_word ts) ≡ Some (term_at sort)
-    → Fails fault (afresh (definition_at (term_at sort) (drop 1 ts))) → AreSoFar front ts whole → Fails fault (afresh (definitions_at 0 whole))
+pub breaks : (sort : Sort) (front : List NotedDefinition) (ts whole : List PlacedToken) (fault : ReadFault) → definition_of (next_word ts) ≡ Some (term_at sort)
+    → Fails fault (with_no_mentions (definition_at (term_at sort) (drop 1 ts))) → AreSoFar front ts whole → Fails fault (with_no_mentions (definitions_at 0 whole))
 breaks sort front ts whole fault next h so_far =
-    afresh_fails (definition_at (term_at sort) (drop 1 ts)) (afresh (definitions_at 0 whole)) fault h
-    (λ f e. ap afresh (sym so_far ∙ ap (with_front front) (one_fails (term_at sort) ts f next e)))
+    no_mentions_fails (definition_at (term_at sort) (drop 1 ts)) (with_no_mentions (definitions_at 0 whole)) fault h
+    (λ f e. ap with_no_mentions (sym so_far ∙ ap (with_front front) (one_fails (term_at sort) ts f next e)))
 
-pub is_done : (front : List Noted) (p : Point) (whole : List PlacedToken) → definition_of (next_word p.1) ≡ None → p.0 ≡ [] → AreSoFar front p.1 whole
-    → afresh (definitions_at 0 whole) ≡ Ok (front, p)
+pub is_done : (front : List NotedDefinition) (p : Point) (whole : List PlacedToken) → definition_of (next_word p.1) ≡ None → p.0 ≡ [] → AreSoFar front p.1 whole
+    → with_no_mentions (definitions_at 0 whole) ≡ Ok (front, p)
 is_done front p whole none new so_far =
-    ap afresh (sym so_far ∙ ap (with_front front) (none_comes p.1 none))
-    ∙ ap (λ (ns : List Noted). Ok (ns, ([], p.1))) (append-nil front)
+    ap with_no_mentions (sym so_far ∙ ap (with_front front) (none_comes p.1 none))
+    ∙ ap (λ (ns : List NotedDefinition). Ok (ns, ([], p.1))) (append-nil front)
     ∙ ap (λ (ms : List Mention). Ok (front, (ms, p.1))) (sym new)
 
-pub shorter : (sort : Sort) (ts : List PlacedToken) (d : Noted) (q : Point) → definition_of (next_word ts) ≡ Some (term_at sort)
-    → afresh (definition_at (term_at sort) (drop 1 ts)) ≡ Ok (d, q) → length q.1 < length ts
+pub shorter : (sort : Sort) (ts : List PlacedToken) (d : NotedDefinition) (q : Point) → definition_of (next_word ts) ≡ Some (term_at sort)
+    → with_no_mentions (definition_at (term_at sort) (drop 1 ts)) ≡ Ok (d, q) → length q.1 < length ts
 shorter sort ts d q next e =
-    let found = (afresh_ok (definition_at (term_at sort) (drop 1 ts)) d q e).0 in
-    omega (arith, fewer (term_at sort) ts next, (definition_moves (term_at sort) (term_moves sort) (drop 1 ts) (d, q.1) found).less)
+    let found = (no_mentions_ok (definition_at (term_at sort) (drop 1 ts)) d q e).0 in
+    omega (arith, fewer (term_at sort) ts next, (definition_leaves (term_at sort) (term_leaves sort) (drop 1 ts) (d, q.1) found).less)

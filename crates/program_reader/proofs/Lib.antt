@@ -1,6 +1,5 @@
-pub mod Moves
-pub mod Loops
+pub mod ListLoop
 pub mod DefinitionLoop
-pub mod SameFaults
-pub mod Checked
+pub mod FirstFault
+pub mod CheckedNames
 mod Examples

@@ -1,11 +1,11 @@
--- What a reader answers, against what reading from left to right gives.
+-- What the code reads, against what reading from left to right gives.
 use Rattle.std.specs.Prelude.{◌≡◌, ℕ, Option, Some, None, Result, Ok, Err}
 use Rattle.program_grammar.specs.Mentions.{Point}
 use Rattle.program_grammar.specs.Reading.{Read}
 use Rattle.program_reader.specs.declared.fault.ReadFault.{ReadFault}
 use Rattle.program_reader.specs.declared.fault.ReadFault.TheVariants as faults
 
--- reading stops for this fault; want of memory says nothing
+-- reading stops for this fault; running out of memory says nothing
 abbrev pub Fails : {A : Type 0} → ReadFault → Result A (Option ℕ) → Type 0
 Fails faults.NoMemory read = Unit {0}
 Fails faults.Ended read = read ≡ Err None

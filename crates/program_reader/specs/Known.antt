@@ -5,7 +5,7 @@ use Rattle.program_grammar.specs.declared.mention.Sort.{Sort}
 use Rattle.program_grammar.specs.declared.mention.Mention.{Mention}
 use Rattle.program_grammar.specs.declared.mention.NameFault.{NameFault}
 use Rattle.program_grammar.specs.declared.mention.NameFault.TheVariants.{Unknown, Repeated}
-use Rattle.program_grammar.specs.Mentions.{Noted, bare_definition}
+use Rattle.program_grammar.specs.Mentions.{NotedDefinition, definition_without_notes}
 use Rattle.program_grammar.specs.Names.{is_of, or_else}
 
 -- a definition was found, and it is of this sort
@@ -23,13 +23,13 @@ first_unknown_among earlier [] = None
 first_unknown_among earlier (m ∷ ms) = if is_known_among earlier m then first_unknown_among earlier ms else Some (Unknown m.at)
 
 -- the first fault of a definition: its own name comes before those that it mentions
-abbrev pub definition_fault : List (List ℕ × DefTree) → Noted → Option NameFault
+abbrev pub definition_fault : List (List ℕ × DefTree) → NotedDefinition → Option NameFault
 definition_fault earlier d = if is_defined d.name earlier then Some (Repeated d.at) else first_unknown_among earlier d.mentions
 
 -- the first fault of definitions behind the earlier ones, and of the names that the main lens mentions
-abbrev pub first_fault_among : List (List ℕ × DefTree) → List Noted → List Mention → Option NameFault
+abbrev pub first_fault_among : List (List ℕ × DefTree) → List NotedDefinition → List Mention → Option NameFault
 first_fault_among earlier [] main = first_unknown_among earlier main
-first_fault_among earlier (d ∷ ds) main = or_else (definition_fault earlier d) (first_fault_among (earlier ++ bare_definition d ∷ []) ds main)
+first_fault_among earlier (d ∷ ds) main = or_else (definition_fault earlier d) (first_fault_among (earlier ++ definition_without_notes d ∷ []) ds main)
 
 -- a fault as an error
 abbrev pub or_fault : Option NameFault → Result (Unit {0}) NameFault

@@ -1,4 +1,4 @@
 pub mod Gives
 pub mod Programs
 pub mod Known
-pub mod Answers
+pub mod Causes

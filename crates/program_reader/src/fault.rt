@@ -1,28 +1,41 @@
-//! Why tokens are no program.
+//! Why tokens are not a program.
 ghost use Rattle.std.specs.Prelude.{◌≡◌};
 
 use program_grammar::NameFault;
-use std::alloc::{AllocError, AllocFailed};
+use std::alloc::{AllocError, AllocFailed, Global};
+use texts::Twin;
 
-/// Why the tokens of a text are no program. An offset counts the bytes of the text before a token.
+/// Why the tokens of a text are not a program. An offset counts the bytes of the text before a token.
 #[derive(Clone, Copy, Debug, PartialEq, Eq, Drop)]
 pub enum ProgramReadFault {
     /// The tokens fit, but run out before the end. No text has such tokens: its last one is its end or a bad one.
     Ended,
-    /// The token at this offset is the first that does not fit.
+    /// The token at this offset is the unexpected one: the first that cannot continue.
     NotAProgram { at: u64 },
     /// No earlier definition of the wanted sort has the name at this offset.
     UnknownName { at: u64 },
     /// An earlier definition, of either sort, has the name that is defined at this offset.
     RepeatedName { at: u64 },
-    /// Memory is wanting.
+    /// Memory ran out.
     NoMemory,
+}
+
+impl Twin for ProgramReadFault {
+    ghost use Rattle.program_reader.specs.declared.fault.ProgramReadFault.{ProgramReadFault};
+
+    ghost Meaning = { ProgramReadFault };
+
+    ghost meaning = { λ x. x };
+
+    fn twin(&self, _alloc: Global) -> Result<Self, AllocError> {
+        Ok(*self)
+    }
 }
 
 /// Why a part of a program is not read.
 #[derive(Clone, Copy, Debug, PartialEq, Eq, Drop)]
 pub(crate) enum ReadFault {
-    /// Memory is wanting.
+    /// Memory ran out.
     NoMemory,
     /// The tokens run out.
     Ended,
@@ -51,9 +64,9 @@ impl<T: Drop> From<AllocFailed<T>> for ReadFault {
 }
 
 impl From<ReadFault> for ProgramReadFault {
-    ghost use Rattle.program_reader.specs.Answers.{misfit};
+    ghost use Rattle.program_reader.specs.Causes.{public_fault};
 
-    ghost from_gives = { λ found fault. fault ≡ misfit found };
+    ghost from_gives = { λ found fault. fault ≡ public_fault found };
 
     fn from(found: ReadFault) -> ProgramReadFault {
         match found {
@@ -65,9 +78,9 @@ impl From<ReadFault> for ProgramReadFault {
 }
 
 impl From<NameFault> for ProgramReadFault {
-    ghost use Rattle.program_reader.specs.Answers.{refusal};
+    ghost use Rattle.program_reader.specs.Causes.{public_name_fault};
 
-    ghost from_gives = { λ found fault. fault ≡ refusal found };
+    ghost from_gives = { λ found fault. fault ≡ public_name_fault found };
 
     fn from(found: NameFault) -> ProgramReadFault {
         match found {

@@ -16,7 +16,7 @@ use std::alloc::Global;
 
 // ---- lenses with no lens inside
 
-/// Two types, of which no edit is carried, behind their word.
+/// Two types of which no edit is translated, behind their word.
 #[tactic(auto, unfolding(program_grammar::specs::Reading::disc_at))]
 fn read_disc(alloc: Global, reader: &mut Reader, room: u32) -> Result<Lens, ReadFault>
     ensures { Gives lens_tree result reader.new (disc_at (type_at room) reader.old) }
@@ -83,19 +83,19 @@ fn read_pair(reader: &mut Reader) -> Result<(Name, Name), ReadFault>
 
 // ---- lenses
 
-/// A lens that may have so many types and lenses one inside the other, itself among them.
+/// A lens with at most `room` types and lenses nested, itself among them.
 #[cycle(lenses)]
 #[tactic(auto, unfolding(program_grammar::specs::Reading::lens_at))]
 pub(crate) fn read_lens(alloc: Global, reader: &mut Reader, room: u32) -> Result<Lens, ReadFault>
     ensures { Gives lens_tree result reader.new (lens_at room reader.old) }
 {
     if room == 0 {
-        return Err(reader.stuck());
+        return Err(reader.next_fault());
     }
     read_begun_lens(alloc, reader, room - 1)
 }
 
-/// A lens whose parts may have so many types and lenses one inside the other.
+/// A lens whose parts have at most `room` types and lenses nested.
 #[cycle(lenses)]
 #[tactic(auto, unfolding(program_grammar::specs::Reading::lens_step, program_grammar::specs::Reading::begun_lens))]
 fn read_begun_lens(alloc: Global, reader: &mut Reader, room: u32) -> Result<Lens, ReadFault>

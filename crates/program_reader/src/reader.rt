@@ -1,7 +1,7 @@
-//! The tokens that are left of a text, taken from the front.
+//! The tokens that are left of a text, the first one first.
 ghost use Rattle.std.specs.Prelude.{◌≡◌, ◌∷◌, ◌++◌, [], Err, Ok, false, drop, IfOk, IfErr, OnOk, MatchBool};
 ghost use Rattle.program_grammar.specs.Mentions.{mention};
-ghost use Rattle.program_grammar.specs.Reading.{stuck, is_mark, next_is, word_in, next_word, mark_at, string_at, field_at, name_at, main_at, is_end, end_at};
+ghost use Rattle.program_grammar.specs.Reading.{next_offset, is_mark, next_is, word_in, next_word, mark_at, string_at, field_at, name_at, main_at, is_end, end_at};
 ghost use Rattle.program_reader.specs.Gives.{Fails, Gives, GivesRest};
 ghost use Rattle.program_reader.specs.declared.fault.ReadFault.TheVariants.{Ended};
 ghost use Rattle.program_tokens.specs.declared.mark.Mark.TheVariants.{Comma};
@@ -61,8 +61,8 @@ impl Reader {
     }
 
     /// The fault at the next token, whatever it is.
-    pub fn stuck(&self) -> ReadFault
-        ensures { Fails {A = Unit {0}} result (Err (stuck self.now.1)) }
+    pub fn next_fault(&self) -> ReadFault
+        ensures { Fails {A = Unit {0}} result (Err (next_offset self.now.1)) }
     {
         match self.left.first() {
             Some(token) => ReadFault::At(token.at),
@@ -158,7 +158,7 @@ impl Reader {
     /// Takes the word before the main lens.
     #[tactic(auto, unfolding(program_grammar::specs::Reading::main_at))]
     pub fn take_main(&mut self) -> Result<(), ReadFault>
-        ensures taken { GivesRest result self.new.1 (main_at self.old.1) }
+        ensures rest { GivesRest result self.new.1 (main_at self.old.1) }
         ensures mentions { OnOk result (self.new.0 ≡ self.old.0) }
     {
         let next = self.take()?;
@@ -171,7 +171,7 @@ impl Reader {
     /// Takes the end of the text, behind which no token may stand.
     #[tactic(auto, unfolding(program_grammar::specs::Reading::end_at))]
     pub fn take_end(&mut self) -> Result<(), ReadFault>
-        ensures taken { GivesRest result self.new.1 (end_at self.old.1) }
+        ensures rest { GivesRest result self.new.1 (end_at self.old.1) }
         ensures mentions { OnOk result (self.new.0 ≡ self.old.0) }
     {
         let next = self.take()?;
@@ -184,7 +184,7 @@ impl Reader {
         }
     }
 
-    /// Notes that a name that stands for a definition of this sort is mentioned at this offset.
+    /// Notes that the name of a definition of this sort is mentioned at this offset.
     pub fn mention(
         &mut self,
         alloc: Global,

@@ -47,19 +47,19 @@ fn read_enum(alloc: Global, reader: &mut Reader) -> Result<TyExpr, ReadFault>
     Ok(TyExpr::Enum(Names::from_vec(names)))
 }
 
-/// A type that may have so many types one inside the other, itself among them.
+/// A type with at most `room` types nested, itself among them.
 #[cycle(types)]
 #[tactic(auto, unfolding(program_grammar::specs::Reading::type_at))]
 pub(crate) fn read_type(alloc: Global, reader: &mut Reader, room: u32) -> Result<TyExpr, ReadFault>
     ensures { Gives type_tree result reader.new (type_at room reader.old) }
 {
     if room == 0 {
-        return Err(reader.stuck());
+        return Err(reader.next_fault());
     }
     read_begun_type(alloc, reader, room - 1)
 }
 
-/// A type whose parts may have so many types one inside the other.
+/// A type whose parts have at most `room` types nested.
 #[cycle(types)]
 #[tactic(auto, unfolding(program_grammar::specs::Reading::type_step, program_grammar::specs::Reading::begun_type))]
 fn read_begun_type(alloc: Global, reader: &mut Reader, room: u32) -> Result<TyExpr, ReadFault>

@@ -1,11 +1,11 @@
 -- The definitions on worked examples. Names are bytes: a is 97, b 98, f 102, t 116.
 use Rattle.std.proofs.Common.{◌≡◌, true, false, [], ◌∷◌, Some, None, refl}
-use Rattle.program_terms.specs.Terms.{unit, int, text, list, named, no_fields, more_fields, fields_of, field_list, id_of, each_of, rec_lens, named_lens, no_rows, both, only_left, only_right, row_both, row_left, row_right, with_row, rows_of, row_list, no_arms, more_arms, arms_of, arm_list, type_def, lens_def, def_named, is_defined, are_distinct}
+use Rattle.program_terms.specs.Terms.{unit, int, text, list, named, no_fields, more_fields, term_fields_of, field_list, id_of, each_of, rec_lens, named_lens, no_rows, both, only_left, only_right, row_both, row_left, row_right, with_row, term_rows_of, row_list, no_arms, more_arms, term_arms_of, arm_list, type_def, lens_def, def_named, is_defined, are_distinct}
 
 -- ---- lists of parts, there and back
 
 -- a: int, b: list text
-fields_in_order : fields_of ((97 ∷ [], int) ∷ (98 ∷ [], list text) ∷ []) ≡ more_fields (97 ∷ []) int (more_fields (98 ∷ []) (list text) no_fields)
+fields_in_order : term_fields_of ((97 ∷ [], int) ∷ (98 ∷ [], list text) ∷ []) ≡ more_fields (97 ∷ []) int (more_fields (98 ∷ []) (list text) no_fields)
 fields_in_order = refl
 
 fields_back : field_list (more_fields (97 ∷ []) int (more_fields (97 ∷ []) text no_fields)) ≡ (97 ∷ [], int) ∷ (97 ∷ [], text) ∷ []
@@ -16,14 +16,14 @@ row_in_front : with_row (row_left (102 ∷ []) unit) (both (97 ∷ []) (98 ∷ [
 row_in_front = refl
 
 -- a ~ b: id int, right f: unit
-rows_in_order : rows_of (row_both (97 ∷ []) (98 ∷ []) (id_of int) ∷ row_right (102 ∷ []) unit ∷ []) ≡ both (97 ∷ []) (98 ∷ []) (id_of int) (only_right (102 ∷ []) unit no_rows)
+rows_in_order : term_rows_of (row_both (97 ∷ []) (98 ∷ []) (id_of int) ∷ row_right (102 ∷ []) unit ∷ []) ≡ both (97 ∷ []) (98 ∷ []) (id_of int) (only_right (102 ∷ []) unit no_rows)
 rows_in_order = refl
 
 rows_back : row_list (only_right (102 ∷ []) unit (both (97 ∷ []) (98 ∷ []) (each_of (id_of int)) no_rows)) ≡ row_right (102 ∷ []) unit ∷ row_both (97 ∷ []) (98 ∷ []) (each_of (id_of int)) ∷ []
 rows_back = refl
 
 -- a ~ b: t
-arms_in_order : arms_of ((97 ∷ [], 98 ∷ [], named_lens (116 ∷ [])) ∷ []) ≡ more_arms (97 ∷ []) (98 ∷ []) (named_lens (116 ∷ [])) no_arms
+arms_in_order : term_arms_of ((97 ∷ [], 98 ∷ [], named_lens (116 ∷ [])) ∷ []) ≡ more_arms (97 ∷ []) (98 ∷ []) (named_lens (116 ∷ [])) no_arms
 arms_in_order = refl
 
 arms_back : arm_list (more_arms (97 ∷ []) (98 ∷ []) (rec_lens no_rows) no_arms) ≡ (97 ∷ [], 98 ∷ [], rec_lens no_rows) ∷ []

@@ -1,6 +1,6 @@
 mod Examples
-pub mod Distinct
-pub mod Found
+pub mod DistinctNames
+pub mod FindDefinition
 pub mod Levels
-pub mod Lists
-pub mod Rules
+pub mod TreeLists
+pub mod LemmaSets

@@ -2,7 +2,7 @@
 use Rattle.std.specs.Prelude.{ℕ, Bool, true, ◌&&◌, not, bytes_eq, is_some, Option, Some, None, if◌then◌else◌, List, [], ◌∷◌}
 
 -- an enum has its members in written order; a record and alternatives have names with types; a list, a keyed map and an
--- ordered tree have the type of their contents; a name stands for the type that is defined by it
+-- ordered tree have the type of their contents; a name refers to the type that it is defined as
 mutual
   pub data TypeTree : Type 0 where
     unit : TypeTree
@@ -22,16 +22,16 @@ mutual
     more_fields : List ℕ → TypeTree → FieldTrees → FieldTrees
 
 -- a list of names with types as fields, and back
-abbrev pub fields_of : List (List ℕ × TypeTree) → FieldTrees
-fields_of [] = no_fields
-fields_of (f ∷ fs) = more_fields f.0 f.1 (fields_of fs)
+abbrev pub term_fields_of : List (List ℕ × TypeTree) → FieldTrees
+term_fields_of [] = no_fields
+term_fields_of (f ∷ fs) = more_fields f.0 f.1 (term_fields_of fs)
 
 abbrev pub field_list : FieldTrees → List (List ℕ × TypeTree)
 field_list no_fields = []
 field_list (more_fields n t fs) = (n, t) ∷ field_list fs
 
 -- the lenses in the order of the grammar; a row of a record is paired, or stands on one side alone; an arm of
--- alternatives has its left tag, its right tag and its lens; a name stands for the lens that is defined by it
+-- alternatives has its left tag, its right tag and its lens; a name refers to the lens that it is defined as
 mutual
   pub data LensTree : Type 0 where
     id_of : TypeTree → LensTree
@@ -70,9 +70,9 @@ with_row (row_left a t) rows = only_left a t rows
 with_row (row_right a t) rows = only_right a t rows
 
 -- a list of rows as rows, and back
-abbrev pub rows_of : List RowTree → RowTrees
-rows_of [] = no_rows
-rows_of (r ∷ rs) = with_row r (rows_of rs)
+abbrev pub term_rows_of : List RowTree → RowTrees
+term_rows_of [] = no_rows
+term_rows_of (r ∷ rs) = with_row r (term_rows_of rs)
 
 abbrev pub row_list : RowTrees → List RowTree
 row_list no_rows = []
@@ -81,9 +81,9 @@ row_list (only_left a t rows) = row_left a t ∷ row_list rows
 row_list (only_right a t rows) = row_right a t ∷ row_list rows
 
 -- a list of two tags with a lens as arms, and back
-abbrev pub arms_of : List (List ℕ × List ℕ × LensTree) → ArmTrees
-arms_of [] = no_arms
-arms_of (a ∷ others) = more_arms a.0 a.1 a.2 (arms_of others)
+abbrev pub term_arms_of : List (List ℕ × List ℕ × LensTree) → ArmTrees
+term_arms_of [] = no_arms
+term_arms_of (a ∷ others) = more_arms a.0 a.1 a.2 (term_arms_of others)
 
 abbrev pub arm_list : ArmTrees → List (List ℕ × List ℕ × LensTree)
 arm_list no_arms = []

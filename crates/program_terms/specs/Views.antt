@@ -1,6 +1,6 @@
 -- How contracts see the values of programs: as their trees.
 use Rattle.std.specs.Prelude.{ℕ, List, map}
-use Rattle.program_terms.specs.Terms.{TypeTree, FieldTrees, unit, bool, int, text, enum_of, record_of, one_of, list, keyed, tree, named, fields_of, LensTree, RowTree, RowTrees, ArmTrees, id_of, bij_of, disc_of, then_of, rec_lens, alt_lens, each_of, keyed_each, tree_each, part_of, inv_of, named_lens, row_both, row_left, row_right, rows_of, arms_of, DefTree, type_def, lens_def, ProgramTree}
+use Rattle.program_terms.specs.Terms.{TypeTree, FieldTrees, unit, bool, int, text, enum_of, record_of, one_of, list, keyed, tree, named, term_fields_of, LensTree, RowTree, RowTrees, ArmTrees, id_of, bij_of, disc_of, then_of, rec_lens, alt_lens, each_of, keyed_each, tree_each, part_of, inv_of, named_lens, row_both, row_left, row_right, term_rows_of, term_arms_of, DefTree, type_def, lens_def, ProgramTree}
 use Rattle.program_terms.specs.declared.types.TyExpr.{TyExpr, fold-TyExpr}
 use Rattle.program_terms.specs.declared.types.TyFields.{TyFields, fold-TyFields}
 use Rattle.program_terms.specs.declared.types.TyExpr.TheOpen.{TyExpr-F, TyFields-F}
@@ -31,7 +31,7 @@ type_step (TyExpr-F.Tree t) = tree t.value
 type_step (TyExpr-F.Named n) = named n
 
 abbrev pub fields_step : TyFields-F TypeTree FieldTrees → FieldTrees
-fields_step fs = fields_of fs.items.items
+fields_step fs = term_fields_of fs.items.items
 
 -- the tree of a `TyExpr`, and the trees of a `TyFields`
 abbrev pub type_tree : TyExpr → TypeTree
@@ -67,10 +67,10 @@ row_step (Row-F.OnlyLeft a t) = row_left a (type_tree t)
 row_step (Row-F.OnlyRight a t) = row_right a (type_tree t)
 
 abbrev pub rows_step : Rows-F LensTree RowTree ArmTrees RowTrees → RowTrees
-rows_step rows = rows_of rows.items.items
+rows_step rows = term_rows_of rows.items.items
 
 abbrev pub arms_step : Arms-F LensTree RowTree ArmTrees RowTrees → ArmTrees
-arms_step arms = arms_of arms.items.items
+arms_step arms = term_arms_of arms.items.items
 
 -- the tree of a `Lens`, the tree of a `Row`, the trees of a `Rows` and of an `Arms`
 abbrev pub lens_tree : Lens → LensTree

@@ -25,7 +25,7 @@ pub enum Def {
 pub enum AddFault {
     /// The name is defined already, as a type or as a lens.
     Repeated,
-    /// Memory is wanting.
+    /// Memory ran out.
     NoMemory,
 }
 
@@ -39,6 +39,18 @@ impl From<AllocError> for AddFault {
     }
 }
 
+impl Twin for AddFault {
+    ghost use Rattle.program_terms.specs.declared.definitions.AddFault.{AddFault};
+
+    ghost Meaning = { AddFault };
+
+    ghost meaning = { λ x. x };
+
+    fn twin(&self, _alloc: Global) -> Result<Self, AllocError> {
+        Ok(*self)
+    }
+}
+
 /// Definitions in written order, each under a name of its own, types and lenses alike.
 ///
 /// Contracts see them as the list of the names with the trees of what they are defined as.
@@ -48,7 +60,7 @@ pub struct Definitions {
 }
 
 impl Definitions {
-    /// No definitions. Takes no memory until the first one is added.
+    /// No definitions. Does not allocate until the first one is added.
     pub fn new(alloc: Global) -> Definitions
         ensures { definitions_tree result ≡ [] }
     {
@@ -65,7 +77,7 @@ impl Definitions {
         self.entries.len()
     }
 
-    /// What a name is defined as. None exactly where no definition has the name.
+    /// What a name is defined as. None if and only if no definition has the name.
     pub fn find(&self, name: &Name) -> Option<&Def>
         ensures { option_map (λ d. def_tree d.now) result ≡ def_named name.now (definitions_tree self.now) }
     {
@@ -89,7 +101,7 @@ impl Definitions {
 
     /// Adds a definition behind the others.
     ///
-    /// `Repeated` exactly where a definition has the name already, and else `NoMemory` where memory is wanting.
+    /// `Repeated` if and only if a definition has the name already, and else `NoMemory` when memory runs out.
     /// On either fault the definitions are as they were.
     pub fn add(&mut self, name: Name, def: Def) -> Result<(), AddFault>
         ensures added { OnOk result (definitions_tree self.new ≡ definitions_tree self.old ++ (name, def_tree def) ∷ []) }

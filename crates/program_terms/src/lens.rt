@@ -1,7 +1,7 @@
 //! Lenses as they are written.
 
 ghost use Rattle.std.specs.Prelude.{◌≡◌, IfOk, map};
-ghost use Rattle.program_terms.specs.Terms.{rows_of, arms_of};
+ghost use Rattle.program_terms.specs.Terms.{term_rows_of, term_arms_of};
 ghost use Rattle.program_terms.specs.Views.{lens_tree, row_tree, rows_tree, arms_tree, arm_tree};
 
 use crate::pairs::Pairs;
@@ -9,7 +9,7 @@ use crate::types::{TyExpr, TyFields};
 use texts::{Name, Twin};
 use std::alloc::{AllocError, Global};
 
-/// A lens as a program writes it, in which a name may stand for a lens that is defined.
+/// A lens as a program writes it, in which a name may refer to a lens that is defined.
 ///
 /// Contracts see it as a `LensTree`. docs/LANGUAGE.md has the grammar and the types of each lens.
 #[derive(Drop)]
@@ -19,7 +19,7 @@ pub enum Lens {
     Id(TyExpr),
     /// Members of an enum joined to members of another: `bij["on"="yes", "off"="no"]`.
     Bij(Pairs),
-    /// Two types of which no edit is carried: `disc int text`.
+    /// Two types of which no edit is translated: `disc int text`.
     Disc(TyExpr, TyExpr),
     /// The first lens, and then the second: `then(id int, id int)`.
     Then(Box<Lens>, Box<Lens>),
@@ -68,46 +68,46 @@ pub struct Arms {
 }
 
 impl Rows {
-    /// These rows, in this order. Takes no memory.
+    /// These rows, in this order. Does not allocate.
     pub fn from_vec(items: Vec<Row>) -> Rows
-        ensures { rows_tree result ≡ rows_of (map row_tree items.items) }
+        ensures { rows_tree result ≡ term_rows_of (map row_tree items.items) }
     {
         Rows { items }
     }
 
     /// The rows in order.
     pub fn as_slice(&self) -> &[Row]
-        ensures { rows_of (map row_tree result.now) ≡ rows_tree self.now }
+        ensures { term_rows_of (map row_tree result.now) ≡ rows_tree self.now }
     {
         self.items.as_slice()
     }
 
-    /// The rows in order. Takes no memory.
+    /// The rows in order. Does not allocate.
     pub fn into_vec(self) -> Vec<Row>
-        ensures { rows_of (map row_tree result.items) ≡ rows_tree self }
+        ensures { term_rows_of (map row_tree result.items) ≡ rows_tree self }
     {
         self.items
     }
 }
 
 impl Arms {
-    /// These arms, in this order. Takes no memory.
+    /// These arms, in this order. Does not allocate.
     pub fn from_vec(items: Vec<(Name, Name, Lens)>) -> Arms
-        ensures { arms_tree result ≡ arms_of (map arm_tree items.items) }
+        ensures { arms_tree result ≡ term_arms_of (map arm_tree items.items) }
     {
         Arms { items }
     }
 
     /// The arms in order.
     pub fn as_slice(&self) -> &[(Name, Name, Lens)]
-        ensures { arms_of (map arm_tree result.now) ≡ arms_tree self.now }
+        ensures { term_arms_of (map arm_tree result.now) ≡ arms_tree self.now }
     {
         self.items.as_slice()
     }
 
-    /// The arms in order. Takes no memory.
+    /// The arms in order. Does not allocate.
     pub fn into_vec(self) -> Vec<(Name, Name, Lens)>
-        ensures { arms_of (map arm_tree result.items) ≡ arms_tree self }
+        ensures { term_arms_of (map arm_tree result.items) ≡ arms_tree self }
     {
         self.items
     }

@@ -1,6 +1,6 @@
 //! The terms of lens programs: types, lenses, definitions and whole programs, as they are written.
 //!
-//! A [`TyExpr`] is a type and a [`Lens`] a lens, in which names may stand for what a program defines; a [`Program`]
+//! A [`TyExpr`] is a type and a [`Lens`] a lens, in which names may refer to what a program defines; a [`Program`]
 //! is a list of definitions by name, in written order, and a main lens. Types and lenses hold themselves, so
 //! contracts see them as plain trees: `TypeTree` through `type_tree`, `LensTree` through `lens_tree`, and
 //! `ProgramTree` through `program_tree`.
@@ -20,6 +20,3 @@ pub use crate::lens::{Arms, Lens, Row, Rows};
 pub use crate::pairs::Pairs;
 pub use crate::program::Program;
 pub use crate::types::{TyExpr, TyFields};
-
-#[cfg(test)]
-mod tests;

@@ -23,7 +23,7 @@ impl Model for Pairs {
 }
 
 impl Pairs {
-    /// These pairs, in this order. Takes no memory.
+    /// These pairs, in this order. Does not allocate.
     pub fn from_vec(items: Vec<(Name, Name)>) -> Pairs
         ensures { result ≡ items.items }
     {
@@ -37,7 +37,7 @@ impl Pairs {
         self.items.as_slice()
     }
 
-    /// The pairs in order. Takes no memory.
+    /// The pairs in order. Does not allocate.
     pub fn into_vec(self) -> Vec<(Name, Name)>
         ensures { result.items ≡ self }
     {

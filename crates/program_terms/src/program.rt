@@ -1,4 +1,4 @@
-//! Whole programs.
+//! Complete programs.
 
 ghost use Rattle.std.specs.Prelude.{◌≡◌, ◌<◌, Some, IsTrue, option_map, slice_get, length};
 ghost use Rattle.program_terms.specs.Terms.{def_named, are_distinct};
@@ -19,7 +19,7 @@ pub struct Program {
 }
 
 impl Program {
-    /// The program of these definitions and this main lens. Takes no memory.
+    /// The program of these definitions and this main lens. Does not allocate.
     pub fn from_parts(definitions: Definitions, main: Lens) -> Program
         ensures { program_tree result ≡ record { definitions = definitions_tree definitions; main = lens_tree main } }
     {
@@ -50,7 +50,7 @@ impl Program {
         self.definitions.entry_at(at as usize).1
     }
 
-    /// What a name is defined as. None exactly where no definition has the name.
+    /// What a name is defined as. None if and only if no definition has the name.
     pub fn find(&self, name: &Name) -> Option<&Def>
         ensures { option_map (λ d. def_tree d.now) result ≡ def_named name.now (program_tree self.now).definitions }
     {

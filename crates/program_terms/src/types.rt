@@ -1,13 +1,13 @@
 //! Types as they are written.
 
 ghost use Rattle.std.specs.Prelude.{◌≡◌, IfOk, map};
-ghost use Rattle.program_terms.specs.Terms.{fields_of};
+ghost use Rattle.program_terms.specs.Terms.{term_fields_of};
 ghost use Rattle.program_terms.specs.Views.{type_tree, fields_tree, field_tree};
 
 use texts::{Name, Names, Twin};
 use std::alloc::{AllocError, Global};
 
-/// A type as a program writes it, in which a name may stand for a type that is defined.
+/// A type as a program writes it, in which a name may refer to a type that is defined.
 ///
 /// Contracts see it as a `TypeTree`. docs/LANGUAGE.md has the grammar.
 #[derive(Drop)]
@@ -47,23 +47,23 @@ pub struct TyFields {
 }
 
 impl TyFields {
-    /// The fields with these names and types, in this order. Takes no memory.
+    /// The fields with these names and types, in this order. Does not allocate.
     pub fn from_vec(items: Vec<(Name, TyExpr)>) -> TyFields
-        ensures { fields_tree result ≡ fields_of (map field_tree items.items) }
+        ensures { fields_tree result ≡ term_fields_of (map field_tree items.items) }
     {
         TyFields { items }
     }
 
     /// The names and types in order.
     pub fn as_slice(&self) -> &[(Name, TyExpr)]
-        ensures { fields_of (map field_tree result.now) ≡ fields_tree self.now }
+        ensures { term_fields_of (map field_tree result.now) ≡ fields_tree self.now }
     {
         self.items.as_slice()
     }
 
-    /// The names and types in order. Takes no memory.
+    /// The names and types in order. Does not allocate.
     pub fn into_vec(self) -> Vec<(Name, TyExpr)>
-        ensures { fields_of (map field_tree result.items) ≡ fields_tree self }
+        ensures { term_fields_of (map field_tree result.items) ≡ fields_tree self }
     {
         self.items
     }

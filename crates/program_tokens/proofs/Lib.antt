@@ -1,8 +1,8 @@
 mod Examples
-pub mod Ascii
-pub mod Begins
-pub mod Ending
-pub mod Held
-pub mod Sound
-pub mod Steps
-pub mod Texts
+pub mod WordUtf8
+pub mod FirstToken
+pub mod LastToken
+pub mod StringTexts
+pub mod TokenForms
+pub mod PieceTokens
+pub mod IsText

@@ -30,7 +30,7 @@ abbrev pub mark_piece : Option Mark → Piece
 mark_piece (Some m) = pieces.Token (tokens.Mark m) 0
 mark_piece None = pieces.Bad
 
--- how many bytes of a word stand at the front
+-- how many bytes of a word come first
 abbrev pub word_run : List ℕ → ℕ
 word_run bs = prefix_len in_word bs
 
@@ -64,7 +64,7 @@ tokens_from zero at (b ∷ bs) = elim (piece_of b bs) [
 abbrev pub tokens_of : List ℕ → List PlacedToken
 tokens_of text = tokens_from 0 0 text
 
--- A piece that begins a text where so many bytes follow its first ends within it.
+-- A piece that begins a text where n bytes follow its first ends within it.
 abbrev pub IsWithin : ℕ → Piece → Type 0
 IsWithin n (pieces.Gap others) = others ≤ n
 IsWithin n (pieces.Token t others) = others ≤ n

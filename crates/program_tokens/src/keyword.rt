@@ -2,6 +2,9 @@
 ghost use Rattle.std.specs.Prelude.{◌≡◌, bytes_eq, find};
 ghost use Rattle.program_tokens.specs.Words.{keyword_text, keyword_of};
 
+use std::alloc::{AllocError, Global};
+use texts::Twin;
+
 /// A word that the language keeps for itself, so that it is no name.
 #[derive(Clone, Copy, Debug, PartialEq, Eq)]
 pub enum Keyword {
@@ -86,6 +89,18 @@ impl Keyword {
         ensures { result ≡ keyword_of word.now }
     {
         find_keyword(&KEYWORDS, word)
+    }
+}
+
+impl Twin for Keyword {
+    ghost use Rattle.program_tokens.specs.declared.keyword.Keyword.{Keyword};
+
+    ghost Meaning = { Keyword };
+
+    ghost meaning = { λ x. x };
+
+    fn twin(&self, _alloc: Global) -> Result<Self, AllocError> {
+        Ok(*self)
     }
 }
 

@@ -21,6 +21,3 @@ pub use crate::reading::tokens;
 pub use crate::text::is_text;
 pub use crate::token::{PlacedToken, Token};
 pub use crate::word::is_name;
-
-#[cfg(test)]
-mod tests;

@@ -2,6 +2,9 @@
 ghost use Rattle.std.specs.Prelude.{◌≡◌};
 ghost use Rattle.program_tokens.specs.Words.{mark_byte, mark_of};
 
+use std::alloc::{AllocError, Global};
+use texts::Twin;
+
 /// A token of one byte.
 #[derive(Clone, Copy, Debug, PartialEq, Eq)]
 pub enum Mark {
@@ -63,5 +66,17 @@ impl Mark {
             b'~' => Some(Mark::Tilde),
             _ => None,
         }
+    }
+}
+
+impl Twin for Mark {
+    ghost use Rattle.program_tokens.specs.declared.mark.Mark.{Mark};
+
+    ghost Meaning = { Mark };
+
+    ghost meaning = { λ x. x };
+
+    fn twin(&self, _alloc: Global) -> Result<Self, AllocError> {
+        Ok(*self)
     }
 }

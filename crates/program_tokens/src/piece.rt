@@ -50,7 +50,7 @@ fn line_run(rest: &[u8]) -> usize
     rest.iter().take_while(|b| **b != b'\n').count()
 }
 
-/// How many bytes of a word stand at the front.
+/// How many bytes of a word come first.
 fn word_run(rest: &[u8]) -> usize
     ensures run { result ≡ word_run rest.now }
     ensures within { result ≤ length rest.now }
@@ -74,7 +74,7 @@ fn word_piece(alloc: Global, first: u8, others: &[u8]) -> Result<Piece, AllocErr
 }
 
 /// A word is a keyword or a name.
-#[tactic(auto, using(crate::proofs::Ascii::word_utf8))]
+#[tactic(auto, using(crate::proofs::WordUtf8::word_utf8))]
 fn word_token(word: Vec<u8>) -> Token
     requires { list_all in_word word.items ≡ true }
     ensures { result ≡ keyword_or_name (keyword_of word.items) word.items }

@@ -1,4 +1,4 @@
-//! The tokens that are left of a text, which are taken from the front.
+//! The tokens that are left of a text, the first one first.
 ghost use Rattle.std.specs.Prelude.{◌≡◌, ◌↔◌, ◌∷◌, ◌++◌, [], IsTrue, Some, MatchOption, OnOk, OnErr, length, slice_get};
 
 use crate::token::PlacedToken;
@@ -52,7 +52,7 @@ impl Tokens {
         self.items.front()
     }
 
-    /// Takes the first token that is left, or answers `None` where none is.
+    /// Takes the first token that is left, or returns `None` if none is.
     pub fn pop(&mut self) -> Option<PlacedToken>
         ensures { MatchOption result ((self.old ≡ []) × (self.new ≡ [])) (λ t. self.old ≡ t ∷ self.new) }
     {

@@ -10,7 +10,7 @@ use std::alloc::{AllocError, Global};
 /// The tokens of a text, with the offset of each in bytes.
 ///
 /// The last is the end of the text at the text's length, or a bad token, behind which nothing is
-/// read. Only want of memory is an error. docs/LANGUAGE.md has the rule.
+/// read. The only error is running out of memory. docs/LANGUAGE.md has the rule.
 pub fn tokens(alloc: Global, text: &[u8]) -> Result<Tokens, AllocError>
     ensures { IfOk result (λ t. t ≡ tokens_of text.now) }
 {

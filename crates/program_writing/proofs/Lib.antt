@@ -1,10 +1,10 @@
-pub mod Again
+pub mod CanonicalSpelling
 mod Examples
-pub mod Faults
-pub mod Growing
-pub mod Heights
-pub mod Kept
-pub mod Mentioned
-pub mod Printed
-pub mod Speakable
-pub mod Steps
+pub mod FirstFault
+pub mod DefinitionsText
+pub mod TypeHeights
+pub mod WritableSpelling
+pub mod MentionedNames
+pub mod CanonicalTokens
+pub mod WritableTypes
+pub mod TextSteps

@@ -33,7 +33,7 @@ abbrev pub HasArms : ArmTrees → Type 0
 HasArms no_arms = ⊥
 HasArms (more_arms f g l arms) = Unit {0}
 
--- a type with so many types and lenses one inside the other at most, itself among them: members, fields and tags may stand in
+-- a type with at most n types and lenses nested, itself among them: members, fields and tags may stand in
 -- strings, a name is one, and an enum and alternatives are not empty
 abbrev mutual
   pub IsWritableType : ℕ → TypeTree → Type 0
@@ -81,7 +81,7 @@ abbrev mutual
   AreWritableArms n no_arms = Unit {0}
   AreWritableArms n (more_arms f g l arms) = IsText f × IsText g × IsWritableLens n l × AreWritableArms n arms
 
--- a definition: 100 types and lenses may stand one inside the other
+-- a definition: 100 types and lenses may be nested
 abbrev pub IsWritableTerm : DefTree → Type 0
 IsWritableTerm (type_def t) = IsWritableType 100 t
 IsWritableTerm (lens_def l) = IsWritableLens 100 l

@@ -4,7 +4,7 @@ ghost use Rattle.program_tokens.specs.Tokens.{tokens_of};
 ghost use Rattle.program_tokens.specs.declared.token.PlacedToken.{PlacedToken};
 ghost use Rattle.program_tokens.specs.declared.token.Token.TheVariants.{End};
 ghost use Rattle.program_terms.specs.Terms.{ProgramTree};
-ghost use Rattle.program_grammar.specs.Mentions.{NotedProgram, Point, bare};
+ghost use Rattle.program_grammar.specs.Mentions.{NotedProgram, Point, without_notes};
 ghost use Rattle.program_grammar.specs.Names.{first_fault};
 ghost use Rattle.program_grammar.specs.Spelling.{Is, IsProgram, IsType};
 ghost use Rattle.doc_values.specs.Types.{TyTree, height, is_well_formed};
@@ -13,18 +13,18 @@ ghost use Rattle.program_writing.specs.Writable.{IsSpeakable, IsWritable};
 
 /// The tokens of the canonical text of a writable program spell this program, and no other token follows.
 pub fn canonical_text_is_spelled()
-    ensures spelled { (p : ProgramTree) → IsWritable p → (n : NotedProgram) × (bare n ≡ p) × IsProgram n (tokens_of (canonical p)) }
+    ensures spelled { (p : ProgramTree) → IsWritable p → (n : NotedProgram) × (without_notes n ≡ p) × IsProgram n (tokens_of (canonical p)) }
 {}
 
 /// A program that some text spells is writable.
 pub fn spelled_is_writable()
-    ensures writable { (n : NotedProgram) (text : List ℕ) → IsProgram n (tokens_of text) → IsWritable (bare n) }
+    ensures writable { (n : NotedProgram) (text : List ℕ) → IsProgram n (tokens_of text) → IsWritable (without_notes n) }
 {}
 
 /// Where the names of a program have no fault as one text has it, they have none as any other text has the same
 /// program: it is the offsets of names alone that differ.
 pub fn names_stay_good()
-    ensures known { (m n : NotedProgram) (ts us : List PlacedToken) → IsProgram m ts → IsProgram n us → bare m ≡ bare n
+    ensures known { (m n : NotedProgram) (ts us : List PlacedToken) → IsProgram m ts → IsProgram n us → without_notes m ≡ without_notes n
         → first_fault m ≡ None → first_fault n ≡ None }
 {}
 
@@ -41,5 +41,5 @@ pub fn type_text_is_spelled()
 /// canonical text, and its names have no fault there either.
 pub fn canonical_text_reads_back()
     ensures again { (n : NotedProgram) (text : List ℕ) → IsProgram n (tokens_of text) → first_fault n ≡ None
-        → (m : NotedProgram) × (bare m ≡ bare n) × IsProgram m (tokens_of (canonical (bare n))) × (first_fault m ≡ None) }
+        → (m : NotedProgram) × (without_notes m ≡ without_notes n) × IsProgram m (tokens_of (canonical (without_notes n))) × (first_fault m ≡ None) }
 {}

@@ -1,6 +1,6 @@
 //! The canonical text of programs, of types and of names.
 //!
-//! `write_program` gives the one text that stands for a program, `write_type` a type of documents as a program
+//! `write_program` returns the canonical text of a program, `write_type` a type of documents as a program
 //! writes it, and `write_name` a name as a field is written. A program that some text spells is spelled by its
 //! canonical text too: the laws of the module `laws` say so. docs/LANGUAGE.md has the rule.
 #![tactic(auto)]
@@ -15,6 +15,3 @@ mod type_text;
 pub use crate::name_text::write_name;
 pub use crate::program_text::write_program;
 pub use crate::ty_text::write_type;
-
-#[cfg(test)]
-mod tests;

@@ -8,7 +8,7 @@ use program_tokens::is_name;
 use std::alloc::{AllocError, Global};
 
 /// A name by itself, as a field is written in a program: as it is where it is a name of the language, and else as a
-/// string. Only want of memory is an error. docs/LANGUAGE.md has the rule.
+/// string. The only error is running out of memory. docs/LANGUAGE.md has the rule.
 pub fn write_name(alloc: Global, name: &Name) -> Result<Str, AllocError>
     ensures canonical { IfOk result (λ text. text ≡ canonical_name name.now) }
 {

@@ -13,8 +13,8 @@ use std::alloc::{AllocError, Global};
 
 /// The canonical text of a program.
 ///
-/// Each definition stands on a line of its own, and the main lens on the last line, which no line feed ends. Only
-/// want of memory is an error. docs/LANGUAGE.md has the rule.
+/// Each definition stands on a line of its own, and the main lens on the last line, which no line feed ends. The
+/// only error is running out of memory. docs/LANGUAGE.md has the rule.
 pub fn write_program(alloc: Global, program: &Program) -> Result<Str, AllocError>
     ensures canonical { IfOk result (λ text. text ≡ canonical (program_tree program.now)) }
 {

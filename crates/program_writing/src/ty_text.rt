@@ -11,7 +11,7 @@ use std::alloc::{AllocError, Global};
 
 /// The canonical text of a type, as a program writes it.
 ///
-/// Only want of memory is an error. Where each member, field and tag of the type may stand in a string, the tokens of
+/// The only error is running out of memory. Where each member, field and tag of the type may stand in a string, the tokens of
 /// the text spell the type, as `laws::type_text_is_spelled` says. docs/LANGUAGE.md has the rule.
 pub fn write_type(alloc: Global, ty: &Ty) -> Result<Str, AllocError>
     ensures canonical { IfOk result (λ text. text ≡ canonical_type (ty_tree ty.now)) }

@@ -6,13 +6,13 @@ use lib.Utf8.{encode}
 use Rattle.program_tokens.specs.Words.{is_space, begins_word, in_word, keyword_of, mark_of, in_text, is_text}
 use Rattle.program_tokens.specs.Tokens.{tokens_of, tokens_from, piece_of, placed}
 use Rattle.program_tokens.specs.declared.token.Token.TheVariants as tokens
-use Rattle.program_terms.specs.Terms.{TypeTree, int, bool, record_of, list, named, fields_of, LensTree, id_of, bij_of, disc_of, rec_lens, named_lens, row_both, row_left, rows_of, type_def, lens_def}
+use Rattle.program_terms.specs.Terms.{TypeTree, int, bool, record_of, list, named, term_fields_of, LensTree, id_of, bij_of, disc_of, rec_lens, named_lens, row_both, row_left, term_rows_of, type_def, lens_def}
 use Rattle.program_grammar.specs.declared.mention.Sort.TheVariants as sorts
 use Rattle.program_grammar.specs.Mentions.{mention, NotedProgram}
 use Rattle.program_grammar.specs.Reading.{Read, more_at, mark_at, string_at, field_at, list_at, closed_at, perhaps_at, typed_at, record_at, one_of_at, word_type, mark_type, begun_type, type_step, type_at, pair_at, bij_at, arm_at, left_row_at, both_row_at, row_at, disc_at, rec_at, word_lens, mark_lens, begun_lens, lens_step, lens_at, name_at, type_term_at, lens_term_at, definition_at, definitions_at, main_at, end_at, program_at}
 use Rattle.program_grammar.specs.Spelling.{IsType}
 
--- the program of a text, a type at its front, and a lens at its front
+-- the program of a text, a type that it begins with, and a lens that it begins with
 abbrev program_in : List ℕ → Result NotedProgram (Option ℕ)
 program_in text = program_at (tokens_of text)
 
@@ -50,7 +50,7 @@ unfolding tokens_from piece_of is_space begins_word in_word keyword_of lens_at l
 mentions_in_order = refl
 
 -- a field is a name or a string; no comma stands behind the last
-two_fields : type_in 2 (codes "{x:int,\"y\":bool}") ≡ Ok (record_of (fields_of ((codes "x", int) ∷ (codes "y", bool) ∷ [])), ([], placed tokens.End 16 ∷ []))
+two_fields : type_in 2 (codes "{x:int,\"y\":bool}") ≡ Ok (record_of (term_fields_of ((codes "x", int) ∷ (codes "y", bool) ∷ [])), ([], placed tokens.End 16 ∷ []))
 unfolding tokens_from piece_of is_space begins_word in_word keyword_of mark_of is_text in_text is_utf8 chars encode type_at
     type_step begun_type mark_type word_type record_at perhaps_at closed_at list_at more_at typed_at field_at mark_at
 two_fields = refl
@@ -61,7 +61,7 @@ unfolding tokens_from piece_of is_space begins_word in_word keyword_of mark_of t
 last_comma = refl
 
 -- a record may have no fields, and alternatives may not
-no_fields : type_in 1 (codes "{}") ≡ Ok (record_of (fields_of []), ([], placed tokens.End 2 ∷ []))
+no_fields : type_in 1 (codes "{}") ≡ Ok (record_of (term_fields_of []), ([], placed tokens.End 2 ∷ []))
 unfolding tokens_from piece_of is_space begins_word mark_of type_at type_step begun_type mark_type record_at perhaps_at mark_at
 no_fields = refl
 
@@ -78,7 +78,7 @@ unfolding tokens_from piece_of is_space begins_word in_word keyword_of mark_of l
 too_deep = refl
 
 two_rows : lens_in 3 (codes "{a~b:id int,left c:int}")
-    ≡ Ok (rec_lens (rows_of (row_both (codes "a") (codes "b") (id_of int) ∷ row_left (codes "c") int ∷ [])), ([], placed tokens.End 23 ∷ []))
+    ≡ Ok (rec_lens (term_rows_of (row_both (codes "a") (codes "b") (id_of int) ∷ row_left (codes "c") int ∷ [])), ([], placed tokens.End 23 ∷ []))
 unfolding tokens_from piece_of is_space begins_word in_word keyword_of mark_of lens_at lens_step begun_lens mark_lens word_lens
     rec_at perhaps_at closed_at list_at more_at row_at both_row_at left_row_at arm_at typed_at field_at mark_at type_at type_step
     begun_type word_type

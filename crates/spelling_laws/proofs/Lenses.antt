@@ -1,4 +1,4 @@
--- A lens is read exactly where it is spelled.
+-- A lens is read if and only if it is spelled.
 use Rattle.std.proofs.Common.{◌≡◌, ℕ, zero, suc, List, [], ◌∷◌, ◌++◌, Ok, refl, sym, ap, ◌∙◌}
 use Rattle.program_tokens.specs.declared.keyword.Keyword.{Keyword}
 use Rattle.program_tokens.specs.declared.keyword.Keyword.TheVariants as words
@@ -8,17 +8,19 @@ use Rattle.program_tokens.specs.declared.mark.Mark.TheVariants as marks
 use Rattle.program_tokens.specs.declared.token.Token.{Token}
 use Rattle.program_tokens.specs.declared.token.Token.TheVariants as tokens
 use Rattle.program_tokens.specs.declared.token.PlacedToken.{PlacedToken}
-use Rattle.program_terms.specs.Terms.{TypeTree, fields_of, field_list, LensTree, id_of, bij_of, disc_of, then_of, rec_lens, alt_lens, each_of, keyed_each, tree_each, part_of, inv_of, named_lens, rows_of, row_list, arms_of, arm_list}
+use Rattle.program_terms.specs.Terms.{TypeTree, term_fields_of, field_list, LensTree, id_of, bij_of, disc_of, then_of, rec_lens, alt_lens, each_of, keyed_each, tree_each, part_of, inv_of, named_lens, term_rows_of, row_list, term_arms_of, arm_list}
 use Rattle.program_grammar.specs.declared.mention.Mention.{Mention}
 use Rattle.program_grammar.specs.declared.mention.Sort.TheVariants as sorts
+use Rattle.program_terms.proofs.TreeLists.{term_fields_of-field_list, term_arms_of-arm_list, term_rows_of-row_list}
 use Rattle.program_grammar.specs.Mentions.{Point, mention}
 use Rattle.program_grammar.specs.Reading.{Read, ◌>>=◌, typed_at, closed_at, perhaps_at, type_at, pair_at, bij_at, arm_at, row_at, then_at, disc_at, part_at, word_lens, rec_at, alt_at, mark_lens, begun_lens, lens_from, lens_step, lens_at}
 use Rattle.program_grammar.specs.Spelling.{Is, IsPair, IsType, IsLens}
-use Rattle.spelling_laws.proofs.Steps.{Ahead, onward, is_ahead, Exact, done, read_as, read_first, made_of}
+use Rattle.program_grammar.proofs.ReadingResults.{done}
+use Rattle.spelling_laws.proofs.ReadingSteps.{ComesBefore, onward, is_ahead, Exact, read_as, read_first, made_of}
 use Rattle.spelling_laws.proofs.Marks.{before, it_is, point_is, mention_ahead, mark_again, mark_first}
 use Rattle.spelling_laws.proofs.Lists.{Closed, Perhaps}
-use Rattle.spelling_laws.proofs.Types.{Typed, fields_and_back, listed_are_fields, fields_are_listed, fields_exact, type_exact}
-use Rattle.spelling_laws.proofs.Rows.{listed_are_pairs, pairs_are_listed, pairs_exact, IsArm, arms_and_back, listed_are_arms, arms_are_listed, arms_exact, IsRow, rows_and_back, perhaps_are_rows, rows_are_perhaps, rows_exact}
+use Rattle.spelling_laws.proofs.Types.{Typed, listed_are_fields, fields_are_listed, fields_exact, type_exact}
+use Rattle.spelling_laws.proofs.Rows.{listed_are_pairs, pairs_are_listed, pairs_exact, IsArm, listed_are_arms, arms_are_listed, arms_exact, IsRow, perhaps_are_rows, rows_are_perhaps, rows_exact}
 
 -- the readers of what stands inside are exact
 record Inside (n : ℕ) (type : Point → Read TypeTree) (inner : Point → Read LensTree) : Type 0 where
@@ -29,7 +31,7 @@ part_fields : (n : ℕ) (type : Point → Read TypeTree) → Exact (IsType n) ty
 part_fields n type d = fields_exact n type Greater refl d
 
 -- what a lens spells is ahead of what is behind it
-lens_moves : (n : ℕ) (type : Point → Read TypeTree) (inner : Point → Read LensTree) → Inside n type inner → (l : LensTree) (here there : Point) → IsLens (suc n) l here there → Ahead here there
+lens_moves : (n : ℕ) (type : Point → Read TypeTree) (inner : Point → Read LensTree) → Inside n type inner → (l : LensTree) (here there : Point) → IsLens (suc n) l here there → ComesBefore here there
 lens_moves n type inner e (id_of t) here there h = onward (is_ahead h.1) (e.types.moves t h.0 there h.2)
 lens_moves n type inner e (disc_of t u) here there h = onward (is_ahead h.2) (onward (e.types.moves t h.0 h.1 h.3) (e.types.moves u h.1 there h.4))
 lens_moves n type inner e (bij_of ps) here there h = onward (is_ahead h.3) (onward (is_ahead h.4) (pairs_exact.moves ps h.1 there (h.2, pairs_are_listed ps h.1 h.2 h.5, h.6)))
@@ -81,7 +83,7 @@ part_found : (n : ℕ) (type : Point → Read TypeTree) → Exact (IsType n) typ
 unfolding part_at
 part_found n type d at here x h =
     mark_first Less here _ x _ h (λ a opens h.
-    made_of (Closed (Typed (IsType n)) Greater) (closed_at (typed_at type) Greater) (part_fields n type d) (IsLens (suc n)) (λ fs. part_of (fields_of fs)) (before (tokens.Keyword words.Part) at here) a x h (λ fs there so.
+    made_of (Closed (Typed (IsType n)) Greater) (closed_at (typed_at type) Greater) (part_fields n type d) (IsLens (suc n)) (λ fs. part_of (term_fields_of fs)) (before (tokens.Keyword words.Part) at here) a x h (λ fs there so.
     (here, a, so.0, it_is (tokens.Keyword words.Part) at here, opens, listed_are_fields n fs a so.0 so.1, so.2)))
 
 -- a word and a lens
@@ -108,11 +110,11 @@ word_found n type inner e _ at here x h = absurd cc
 mark_lens_found : (n : ℕ) (type : Point → Read TypeTree) (inner : Point → Read LensTree) → Inside n type inner → (m : Mark) (at : ℕ) → Begun n (tokens.Mark m) at (mark_lens type inner m at)
 unfolding mark_lens rec_at alt_at
 mark_lens_found n type inner e marks.OpenBrace at here x h =
-    made_of (Perhaps (IsRow n) CloseBrace) (perhaps_at (row_at type inner) CloseBrace) (rows_exact n type inner e.types e.lenses) (IsLens (suc n)) (λ rs. rec_lens (rows_of rs)) (before (tokens.Mark OpenBrace) at here) here x h (λ rs there so.
+    made_of (Perhaps (IsRow n) CloseBrace) (perhaps_at (row_at type inner) CloseBrace) (rows_exact n type inner e.types e.lenses) (IsLens (suc n)) (λ rs. rec_lens (term_rows_of rs)) (before (tokens.Mark OpenBrace) at here) here x h (λ rs there so.
     let braced = perhaps_are_rows n rs here there so in
     (here, braced.0, it_is (tokens.Mark OpenBrace) at here, braced.1, braced.2))
 mark_lens_found n type inner e marks.Less at here x h =
-    made_of (Closed (IsArm n) Greater) (closed_at (arm_at inner) Greater) (arms_exact n inner e.lenses) (IsLens (suc n)) (λ xs. alt_lens (arms_of xs)) (before (tokens.Mark Less) at here) here x h (λ xs there so.
+    made_of (Closed (IsArm n) Greater) (closed_at (arm_at inner) Greater) (arms_exact n inner e.lenses) (IsLens (suc n)) (λ xs. alt_lens (term_arms_of xs)) (before (tokens.Mark Less) at here) here x h (λ xs there so.
     (here, so.0, it_is (tokens.Mark Less) at here, listed_are_arms n xs here so.0 so.1, so.2))
 mark_lens_found n type inner e _ at here x h = absurd cc
 
@@ -144,15 +146,15 @@ lens_again n type inner e (then_of l k) here there h =
     ap (lens_step type inner) (point_is h.5)
     ∙ rw (mark_again OpenParen h.0 h.1 h.6, e.lenses.again l h.1 h.2 h.7, mark_again Comma h.2 h.3 h.8, e.lenses.again k h.3 h.4 h.9, mark_again CloseParen h.4 there h.10) refl
 lens_again n type inner e (rec_lens rows) here there h =
-    ap (lens_step type inner) (point_is h.2) ∙ rw ((rows_exact n type inner e.types e.lenses).again (row_list rows) h.0 there (rows_are_perhaps n rows h.0 there (h.1, h.3, h.4)), rows_and_back rows) refl
+    ap (lens_step type inner) (point_is h.2) ∙ rw ((rows_exact n type inner e.types e.lenses).again (row_list rows) h.0 there (rows_are_perhaps n rows h.0 there (h.1, h.3, h.4)), term_rows_of-row_list rows) refl
 lens_again n type inner e (alt_lens arms) here there h =
-    ap (lens_step type inner) (point_is h.2) ∙ rw ((arms_exact n inner e.lenses).again (arm_list arms) h.0 there (h.1, arms_are_listed n arms h.0 h.1 h.3, h.4), arms_and_back arms) refl
+    ap (lens_step type inner) (point_is h.2) ∙ rw ((arms_exact n inner e.lenses).again (arm_list arms) h.0 there (h.1, arms_are_listed n arms h.0 h.1 h.3, h.4), term_arms_of-arm_list arms) refl
 lens_again n type inner e (each_of l) here there h = ap (lens_step type inner) (point_is h.1) ∙ rw (e.lenses.again l h.0 there h.2) refl
 lens_again n type inner e (keyed_each l) here there h = ap (lens_step type inner) (point_is h.1) ∙ rw (e.lenses.again l h.0 there h.2) refl
 lens_again n type inner e (tree_each l) here there h = ap (lens_step type inner) (point_is h.1) ∙ rw (e.lenses.again l h.0 there h.2) refl
 lens_again n type inner e (part_of fs) here there h =
     ap (lens_step type inner) (point_is h.3)
-    ∙ rw (mark_again Less h.0 h.1 h.4, (part_fields n type e.types).again (field_list fs) h.1 there (h.2, fields_are_listed n fs h.1 h.2 h.5, h.6), fields_and_back fs) refl
+    ∙ rw (mark_again Less h.0 h.1 h.4, (part_fields n type e.types).again (field_list fs) h.1 there (h.2, fields_are_listed n fs h.1 h.2 h.5, h.6), term_fields_of-field_list fs) refl
 lens_again n type inner e (inv_of l) here there h = ap (lens_step type inner) (point_is h.1) ∙ rw (e.lenses.again l h.0 there h.2) refl
 lens_again n type inner e (named_lens s) here there h =
     ap (λ (ts : List PlacedToken). lens_step type inner (here.0, ts)) h.parts ∙ ap (λ (ms : List Mention). done (named_lens s, (ms, there.1))) (sym h.names)

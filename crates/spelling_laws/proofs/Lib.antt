@@ -1,4 +1,4 @@
-pub mod Steps
+pub mod ReadingSteps
 pub mod Marks
 pub mod Lists
 pub mod Types

@@ -9,7 +9,9 @@ use Rattle.program_grammar.specs.declared.mention.Mention.{Mention}
 use Rattle.program_grammar.specs.Mentions.{Point}
 use Rattle.program_grammar.specs.Reading.{Read, ◌>>=◌, is_mark, next_is, mark_at, more_at, list_at, closed_at, perhaps_at}
 use Rattle.program_grammar.specs.Spelling.{Is}
-use Rattle.spelling_laws.proofs.Steps.{Ahead, no_step, onward, is_ahead, rest_is, Exact, done, read_as, bind_ok, chosen, read_first}
+use Rattle.program_grammar.proofs.ReadingResults.{done, bind_ok, chosen}
+use Rattle.program_grammar.proofs.RestOfTokens.{drop_to_rest, more_after}
+use Rattle.spelling_laws.proofs.ReadingSteps.{ComesBefore, no_step, onward, is_ahead, Exact, read_as, read_first}
 use Rattle.spelling_laws.proofs.Marks.{point_is, this_mark, mark_again, mark_first, mark_next, other_mark}
 
 -- elements behind commas
@@ -33,7 +35,7 @@ Perhaps R close (x ∷ xs) here there = Closed R close (x ∷ xs) here there
 
 -- elements behind commas
 
-others_move : {A : Type 0} (R : A → Point → Point → Type 0) (element : Point → Read A) → Exact R element → (xs : List A) (here there : Point) → Others R xs here there → Ahead here there
+others_move : {A : Type 0} (R : A → Point → Point → Type 0) (element : Point → Read A) → Exact R element → (xs : List A) (here there : Point) → Others R xs here there → ComesBefore here there
 others_move R element e [] here there h = no_step h
 others_move R element e (x ∷ xs) here there h = onward (is_ahead h.2) (onward (e.moves x h.0 h.1 h.3) (others_move R element e xs h.1 there h.4))
 
@@ -50,22 +52,11 @@ more_found {A = A} R element e zero ms (t ∷ ts) x h =
           let b = bind_ok (more_at element (length ts - length a.0.1.1) a.0.1.0 ts) (λ ys. Ok (a.0.0 ∷ ys.0, ys.1)) x a.2 in
           let first = e.found (ms, ts) a.0 a.1 in
           let others = more_found R element e (length ts - length a.0.1.1) a.0.1.0 ts b.0 b.1 in
-          let rest = rest_is (ms, ts) a.0.1 (e.moves a.0.0 (ms, ts) a.0.1 first) in
+          let rest = drop_to_rest ts a.0.1.1 (e.moves a.0.0 (ms, ts) a.0.1 first) in
           read_as (Others R) (ms, t ∷ ts) (a.0.0 ∷ b.0.0, b.0.1) x b.2
           ((ms, ts), a.0.1, this_mark Comma ms t ts p.0, first, subst (λ (r : List PlacedToken). Others R b.0.0 (a.0.1.0, r) b.0.1) rest others)
       | inr p ↦ read_as (Others R) (ms, t ∷ ts) ([], (ms, t ∷ ts)) x p.1 refl
     ]
-
-more_skips : {A : Type 0} (element : Point → Read A) (ms : List Mention) (front rest : List PlacedToken) → more_at element (length front) ms (front ++ rest) ≡ more_at element 0 ms rest
-unfolding more_at
-more_skips element ms [] rest = refl
-more_skips element ms (t ∷ front) rest = more_skips element ms front rest
-
--- skipping the tokens up to a point goes on from there
-more_after : {A : Type 0} (element : Point → Read A) (ms : List Mention) (here there : Point) → Ahead here there → more_at element (length here.1 - length there.1) ms here.1 ≡ more_at element 0 ms there.1
-more_after element ms here there h =
-    let n : length (h.front ++ there.1) - length there.1 ≡ length h.front = omega (arith, length-append h.front there.1) in
-    rw h.parts (rw n (more_skips element ms h.front there.1))
 
 more_ends : {A : Type 0} (element : Point → Read A) (ms : List Mention) (ts : List PlacedToken) → next_is Comma ts ≡ false → more_at element 0 ms ts ≡ Ok ([], (ms, ts))
 unfolding more_at
@@ -73,13 +64,13 @@ more_ends element ms [] h = refl
 more_ends element ms (t ∷ ts) h = rw h refl
 
 -- behind a comma
-more_comma : {A : Type 0} (element : Point → Read A) (here a b : Point) (x : A) → Is (tokens.Mark Comma) here a → element a ≡ Ok (x, b) → Ahead a b
+more_comma : {A : Type 0} (element : Point → Read A) (here a b : Point) (x : A) → Is (tokens.Mark Comma) here a → element a ≡ Ok (x, b) → ComesBefore a b
     → more_at element 0 here.0 here.1 ≡ (more_at element 0 b.0 b.1 >>= λ ys. Ok (x ∷ ys.0, ys.1))
 unfolding more_at
 more_comma {A = A} element here a b x comma read h =
     ap (λ (p : Point). more_at element 0 p.0 p.1) (point_is comma)
     ∙ ap (λ (r : Read A). r >>= λ y. more_at element (length a.1 - length y.1.1) y.1.0 a.1 >>= λ ys. Ok (y.0 ∷ ys.0, ys.1)) read
-    ∙ ap (λ (r : Read (List A)). r >>= λ ys. Ok (x ∷ ys.0, ys.1)) (more_after element b.0 a b h)
+    ∙ ap (λ (r : Read (List A)). r >>= λ ys. Ok (x ∷ ys.0, ys.1)) (more_after element b.0 a.1 b.1 h)
 
 more_again : {A : Type 0} (R : A → Point → Point → Type 0) (element : Point → Read A) → Exact R element → (xs : List A) (here there : Point) → Others R xs here there → next_is Comma there.1 ≡ false
     → more_at element 0 here.0 here.1 ≡ Ok (xs, there)
@@ -90,7 +81,7 @@ more_again {A = A} R element e (x ∷ xs) here there h ends =
 
 -- elements with commas between them
 
-listed_move : {A : Type 0} (R : A → Point → Point → Type 0) (element : Point → Read A) → Exact R element → (xs : List A) (here there : Point) → Listed R xs here there → Ahead here there
+listed_move : {A : Type 0} (R : A → Point → Point → Type 0) (element : Point → Read A) → Exact R element → (xs : List A) (here there : Point) → Listed R xs here there → ComesBefore here there
 listed_move R element e [] here there h = absurd h
 listed_move R element e (x ∷ xs) here there h = onward (e.moves x here h.0 h.1) (others_move R element e xs h.0 there h.2)
 
@@ -136,7 +127,7 @@ closed_exact R element close no_comma e = record {
 
 -- a list that may be empty
 
-perhaps_moves : {A : Type 0} (R : A → Point → Point → Type 0) (element : Point → Read A) → Exact R element → (close : Mark) (xs : List A) (here there : Point) → Perhaps R close xs here there → Ahead here there
+perhaps_moves : {A : Type 0} (R : A → Point → Point → Type 0) (element : Point → Read A) → Exact R element → (close : Mark) (xs : List A) (here there : Point) → Perhaps R close xs here there → ComesBefore here there
 perhaps_moves R element e close [] here there h = is_ahead h
 perhaps_moves R element e close (x ∷ xs) here there h = onward (listed_move R element e (x ∷ xs) here h.0 h.1) (is_ahead h.2)
 

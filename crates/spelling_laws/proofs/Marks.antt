@@ -11,9 +11,11 @@ use Rattle.program_tokens.specs.declared.token.PlacedToken.{PlacedToken}
 use Rattle.program_grammar.specs.declared.mention.Mention.{Mention}
 use Rattle.program_grammar.specs.declared.mention.Sort.{Sort}
 use Rattle.program_grammar.specs.Mentions.{Point}
-use Rattle.program_grammar.specs.Reading.{◌>>=◌, is_mark, next_is, mark_in, mark_at, string_in, string_from, string_at, field_in, field_from, field_at, taken}
+use Rattle.program_grammar.specs.Reading.{◌>>=◌, is_mark, next_is, mark_in, mark_at, string_in, string_from, string_at, field_in, field_from, field_at, token_value}
 use Rattle.program_grammar.specs.Spelling.{Is, IsField, IsMention}
-use Rattle.spelling_laws.proofs.Steps.{Ahead, is_ahead, Exact, ok_is, read_as, bind_ok, chosen}
+use Rattle.program_grammar.proofs.ReadingResults.{ok_is, bind_ok, chosen}
+use Rattle.program_grammar.proofs.MarkTokens.{mark_is}
+use Rattle.spelling_laws.proofs.ReadingSteps.{ComesBefore, is_ahead, Exact, read_as}
 
 -- the point where this token stands before those of another point
 abbrev pub before : Token → ℕ → Point → Point
@@ -26,36 +28,6 @@ pub point_is : {k : Token} {here there : Point} → (h : Is k here there) → he
 point_is {k = k} {here = here} {there = there} h = ap (λ (ts : List PlacedToken). (here.0, ts)) h.parts ∙ ap (λ (ms : List Mention). (ms, placed k h.at ∷ there.1)) (sym h.names)
 
 -- marks have different bytes
-
-mark_of_byte : (m : Mark) → mark_of (mark_byte m) ≡ Some m
-unfolding mark_of
-mark_of_byte marks.Equals = refl
-mark_of_byte marks.Semicolon = refl
-mark_of_byte marks.OpenBrace = refl
-mark_of_byte marks.CloseBrace = refl
-mark_of_byte marks.Less = refl
-mark_of_byte marks.Greater = refl
-mark_of_byte marks.OpenBracket = refl
-mark_of_byte marks.CloseBracket = refl
-mark_of_byte marks.OpenParen = refl
-mark_of_byte marks.CloseParen = refl
-mark_of_byte marks.Colon = refl
-mark_of_byte marks.Comma = refl
-mark_of_byte marks.Tilde = refl
-
-some_is : (x y : Mark) → Some x ≡ Some y → x ≡ y
-some_is x y e = cc
-
-same_mark : (k m : Mark) → mark_byte k ≡ mark_byte m → k ≡ m
-same_mark k m e = some_is k m (sym (mark_of_byte k) ∙ ap mark_of e ∙ mark_of_byte m)
-
-mark_is : (m : Mark) (k : Token) → is_mark m k ≡ true → k ≡ tokens.Mark m
-mark_is m (tokens.Mark k) h = ap tokens.Mark (same_mark k m (eqb-true (mark_byte k) (mark_byte m) h))
-mark_is m (tokens.Keyword k) h = absurd cc
-mark_is m (tokens.Name n) h = absurd cc
-mark_is m (tokens.Text s) h = absurd cc
-mark_is m tokens.Bad h = absurd cc
-mark_is m tokens.End h = absurd cc
 
 pub is_token : (k : Token) (ms : List Mention) (t : PlacedToken) (ts : List PlacedToken) → t.token ≡ k → Is k (ms, t ∷ ts) (ms, ts)
 is_token k ms t ts h = subst (λ j. Is j (ms, t ∷ ts) (ms, ts)) h (it_is t.token t.at (ms, ts))
@@ -95,17 +67,17 @@ other_mark m k e h = ap (next_is m) h.parts ∙ e
 abbrev pub IsText : List ℕ → Point → Point → Type 0
 IsText s here there = Is (tokens.Text s) here there
 
-text_taken : (ms : List Mention) (k : Token) (at : ℕ) (ts : List PlacedToken) (x : List ℕ × Point) → taken (string_in k) at ms ts ≡ Ok x → IsText x.0 (ms, placed k at ∷ ts) x.1
-text_taken ms (tokens.Text s) at ts x e = read_as IsText (ms, placed (tokens.Text s) at ∷ ts) (s, (ms, ts)) x e (it_is (tokens.Text s) at (ms, ts))
-text_taken ms (tokens.Mark m) at ts x e = absurd cc
-text_taken ms (tokens.Keyword k) at ts x e = absurd cc
-text_taken ms (tokens.Name n) at ts x e = absurd cc
-text_taken ms tokens.Bad at ts x e = absurd cc
-text_taken ms tokens.End at ts x e = absurd cc
+text_value : (ms : List Mention) (k : Token) (at : ℕ) (ts : List PlacedToken) (x : List ℕ × Point) → token_value (string_in k) at ms ts ≡ Ok x → IsText x.0 (ms, placed k at ∷ ts) x.1
+text_value ms (tokens.Text s) at ts x e = read_as IsText (ms, placed (tokens.Text s) at ∷ ts) (s, (ms, ts)) x e (it_is (tokens.Text s) at (ms, ts))
+text_value ms (tokens.Mark m) at ts x e = absurd cc
+text_value ms (tokens.Keyword k) at ts x e = absurd cc
+text_value ms (tokens.Name n) at ts x e = absurd cc
+text_value ms tokens.Bad at ts x e = absurd cc
+text_value ms tokens.End at ts x e = absurd cc
 
 text_from : (ms : List Mention) (ts : List PlacedToken) (x : List ℕ × Point) → string_from ms ts ≡ Ok x → IsText x.0 (ms, ts) x.1
 text_from ms [] x e = absurd cc
-text_from ms (t ∷ ts) x e = text_taken ms t.token t.at ts x e
+text_from ms (t ∷ ts) x e = text_value ms t.token t.at ts x e
 
 pub string_exact : Exact IsText string_at
 unfolding string_at
@@ -117,19 +89,19 @@ string_exact = record {
 
 -- fields
 
-field_taken : (ms : List Mention) (k : Token) (at : ℕ) (ts : List PlacedToken) (x : List ℕ × Point) → taken (field_in k) at ms ts ≡ Ok x → IsField x.0 (ms, placed k at ∷ ts) x.1
-field_taken ms (tokens.Name s) at ts x e = read_as IsField (ms, placed (tokens.Name s) at ∷ ts) (s, (ms, ts)) x e (inl (it_is (tokens.Name s) at (ms, ts)))
-field_taken ms (tokens.Text s) at ts x e = read_as IsField (ms, placed (tokens.Text s) at ∷ ts) (s, (ms, ts)) x e (inr (it_is (tokens.Text s) at (ms, ts)))
-field_taken ms (tokens.Mark m) at ts x e = absurd cc
-field_taken ms (tokens.Keyword k) at ts x e = absurd cc
-field_taken ms tokens.Bad at ts x e = absurd cc
-field_taken ms tokens.End at ts x e = absurd cc
+field_value : (ms : List Mention) (k : Token) (at : ℕ) (ts : List PlacedToken) (x : List ℕ × Point) → token_value (field_in k) at ms ts ≡ Ok x → IsField x.0 (ms, placed k at ∷ ts) x.1
+field_value ms (tokens.Name s) at ts x e = read_as IsField (ms, placed (tokens.Name s) at ∷ ts) (s, (ms, ts)) x e (inl (it_is (tokens.Name s) at (ms, ts)))
+field_value ms (tokens.Text s) at ts x e = read_as IsField (ms, placed (tokens.Text s) at ∷ ts) (s, (ms, ts)) x e (inr (it_is (tokens.Text s) at (ms, ts)))
+field_value ms (tokens.Mark m) at ts x e = absurd cc
+field_value ms (tokens.Keyword k) at ts x e = absurd cc
+field_value ms tokens.Bad at ts x e = absurd cc
+field_value ms tokens.End at ts x e = absurd cc
 
 field_from_found : (ms : List Mention) (ts : List PlacedToken) (x : List ℕ × Point) → field_from ms ts ≡ Ok x → IsField x.0 (ms, ts) x.1
 field_from_found ms [] x e = absurd cc
-field_from_found ms (t ∷ ts) x e = field_taken ms t.token t.at ts x e
+field_from_found ms (t ∷ ts) x e = field_value ms t.token t.at ts x e
 
-field_moves : (f : List ℕ) (here there : Point) → IsField f here there → Ahead here there
+field_moves : (f : List ℕ) (here there : Point) → IsField f here there → ComesBefore here there
 field_moves f here there (inl h) = is_ahead h
 field_moves f here there (inr h) = is_ahead h
 
@@ -152,5 +124,5 @@ field_no_mark m f here there (inl h) = ap (next_is m) h.parts
 field_no_mark m f here there (inr h) = ap (next_is m) h.parts
 
 -- a name that is mentioned is one token
-pub mention_ahead : {sort : Sort} {s : List ℕ} {here there : Point} → IsMention sort s here there → Ahead here there
+pub mention_ahead : {sort : Sort} {s : List ℕ} {here there : Point} → IsMention sort s here there → ComesBefore here there
 mention_ahead {s = s} h = record { front = placed (tokens.Name s) h.at ∷ []; parts = h.parts }

@@ -1,4 +1,4 @@
--- A program is read exactly where it is spelled.
+-- A program is read if and only if it is spelled.
 use Rattle.std.proofs.Common.{◌≡◌, ℕ, List, [], ◌∷◌, Option, Ok, Err, sym, ap, subst, ◌∙◌}
 use Rattle.program_tokens.specs.Tokens.{placed}
 use Rattle.program_tokens.specs.declared.keyword.Keyword.TheVariants as words
@@ -9,7 +9,8 @@ use Rattle.program_grammar.specs.declared.mention.Mention.{Mention}
 use Rattle.program_grammar.specs.Mentions.{Point, NotedProgram}
 use Rattle.program_grammar.specs.Reading.{lens_at, definitions_at, main_at, end_at, program_at}
 use Rattle.program_grammar.specs.Spelling.{Is, IsLens, IsProgram}
-use Rattle.spelling_laws.proofs.Steps.{done, ok_is, bind_ok, read_first}
+use Rattle.program_grammar.proofs.ReadingResults.{done, ok_is, bind_ok}
+use Rattle.spelling_laws.proofs.ReadingSteps.{read_first}
 use Rattle.spelling_laws.proofs.Marks.{it_is}
 use Rattle.spelling_laws.proofs.Lenses.{lens_exact}
 use Rattle.spelling_laws.proofs.Definitions.{definitions_found, definitions_again}

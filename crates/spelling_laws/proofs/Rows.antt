@@ -1,4 +1,4 @@
--- Pairs, arms and rows are read exactly where they are spelled.
+-- Pairs, arms and rows are read if and only if they are spelled.
 use Rattle.std.proofs.Common.{◌≡◌, ℕ, false, List, [], ◌∷◌, Some, Ok, refl, sym, ap, subst, ◌∙◌, inl, inr}
 use Rattle.program_tokens.specs.declared.keyword.Keyword.{Keyword}
 use Rattle.program_tokens.specs.declared.keyword.Keyword.TheVariants as words
@@ -6,12 +6,12 @@ use Rattle.program_tokens.specs.declared.mark.Mark.TheVariants.{Equals, CloseBra
 use Rattle.program_tokens.specs.declared.token.Token.{Token}
 use Rattle.program_tokens.specs.declared.token.Token.TheVariants as tokens
 use Rattle.program_tokens.specs.declared.token.PlacedToken.{PlacedToken}
-use Rattle.program_terms.specs.Terms.{TypeTree, LensTree, RowTree, row_both, row_left, row_right, RowTrees, no_rows, both, only_left, only_right, rows_of, row_list, ArmTrees, no_arms, more_arms, arms_of, arm_list}
+use Rattle.program_terms.specs.Terms.{TypeTree, LensTree, RowTree, row_both, row_left, row_right, RowTrees, no_rows, both, only_left, only_right, term_rows_of, row_list, ArmTrees, no_arms, more_arms, term_arms_of, arm_list}
 use Rattle.program_grammar.specs.declared.mention.Mention.{Mention}
 use Rattle.program_grammar.specs.Mentions.{Point}
 use Rattle.program_grammar.specs.Reading.{Read, next_is, word_in, next_word, string_at, field_at, typed_at, closed_at, perhaps_at, pair_at, arm_at, left_row_at, right_row_at, both_row_at, row_by, row_at}
 use Rattle.program_grammar.specs.Spelling.{Is, IsField, IsPair, OtherPairs, ArePairs, IsType, IsLens, PerhapsRows, OtherRows, AreArms, OtherArms}
-use Rattle.spelling_laws.proofs.Steps.{Ahead, onward, is_ahead, Exact, read_as, read_first, made_of}
+use Rattle.spelling_laws.proofs.ReadingSteps.{ComesBefore, onward, is_ahead, Exact, read_as, read_first, made_of}
 use Rattle.spelling_laws.proofs.Marks.{before, it_is, point_is, mark_again, mark_first, IsText, string_exact, field_exact, field_no_mark}
 use Rattle.spelling_laws.proofs.Lists.{Others, Listed, Closed, Perhaps, closed_exact, perhaps_exact}
 use Rattle.spelling_laws.proofs.Types.{Typed, typed_exact}
@@ -76,22 +76,18 @@ unfolding arm_at
 arm_again n inner e x here there h =
     rw (field_exact.again x.0 here h.0 h.4, mark_again Tilde h.0 h.1 h.5, field_exact.again x.1 h.1 h.2 h.6, mark_again Colon h.2 h.3 h.7, e.again x.2 h.3 there h.8) refl
 
-arm_moves : (n : ℕ) (inner : Point → Read LensTree) → Exact (IsLens n) inner → (x : List ℕ × List ℕ × LensTree) (here there : Point) → IsArm n x here there → Ahead here there
+arm_moves : (n : ℕ) (inner : Point → Read LensTree) → Exact (IsLens n) inner → (x : List ℕ × List ℕ × LensTree) (here there : Point) → IsArm n x here there → ComesBefore here there
 arm_moves n inner e x here there h =
     onward (field_exact.moves x.0 here h.0 h.4) (onward (is_ahead h.5) (onward (field_exact.moves x.1 h.1 h.2 h.6) (onward (is_ahead h.7) (e.moves x.2 h.3 there h.8))))
 
 arm_exact : (n : ℕ) (inner : Point → Read LensTree) → Exact (IsLens n) inner → Exact (IsArm n) (arm_at inner)
 arm_exact n inner e = record { moves = arm_moves n inner e; found = arm_found n inner e; again = arm_again n inner e }
 
-pub arms_and_back : (arms : ArmTrees) → arms_of (arm_list arms) ≡ arms
-arms_and_back no_arms = refl
-arms_and_back (more_arms f g l arms) = ap (more_arms f g l) (arms_and_back arms)
-
-others_are_arms : (n : ℕ) (xs : List (List ℕ × List ℕ × LensTree)) (here there : Point) → Others (IsArm n) xs here there → OtherArms n (arms_of xs) here there
+others_are_arms : (n : ℕ) (xs : List (List ℕ × List ℕ × LensTree)) (here there : Point) → Others (IsArm n) xs here there → OtherArms n (term_arms_of xs) here there
 others_are_arms n [] here there h = h
 others_are_arms n (x ∷ xs) here there h = (h.0, h.3.0, h.3.1, h.3.2, h.3.3, h.1, h.2, h.3.4, h.3.5, h.3.6, h.3.7, h.3.8, others_are_arms n xs h.1 there h.4)
 
-pub listed_are_arms : (n : ℕ) (xs : List (List ℕ × List ℕ × LensTree)) (here there : Point) → Listed (IsArm n) xs here there → AreArms n (arms_of xs) here there
+pub listed_are_arms : (n : ℕ) (xs : List (List ℕ × List ℕ × LensTree)) (here there : Point) → Listed (IsArm n) xs here there → AreArms n (term_arms_of xs) here there
 listed_are_arms n [] here there h = h
 listed_are_arms n (x ∷ xs) here there h = (h.1.0, h.1.1, h.1.2, h.1.3, h.0, h.1.4, h.1.5, h.1.6, h.1.7, h.1.8, others_are_arms n xs h.0 there h.2)
 
@@ -116,7 +112,7 @@ IsRow n (row_both f g l) here there = IsArm n (f, g, l) here there
 IsRow n (row_left f t) here there = IsSide words.Left n (f, t) here there
 IsRow n (row_right f t) here there = IsSide words.Right n (f, t) here there
 
-row_moves : (n : ℕ) (type : Point → Read TypeTree) (inner : Point → Read LensTree) → Exact (IsType n) type → Exact (IsLens n) inner → (r : RowTree) (here there : Point) → IsRow n r here there → Ahead here there
+row_moves : (n : ℕ) (type : Point → Read TypeTree) (inner : Point → Read LensTree) → Exact (IsType n) type → Exact (IsLens n) inner → (r : RowTree) (here there : Point) → IsRow n r here there → ComesBefore here there
 row_moves n type inner d e (row_both f g l) here there h = arm_moves n inner e (f, g, l) here there h
 row_moves n type inner d e (row_left f t) here there h = onward (is_ahead h.1) ((typed_exact (IsType n) type d).moves (f, t) h.0 there h.2)
 row_moves n type inner d e (row_right f t) here there h = onward (is_ahead h.1) ((typed_exact (IsType n) type d).moves (f, t) h.0 there h.2)
@@ -180,13 +176,7 @@ row_no_brace n (row_both f g l) here there h = field_no_mark CloseBrace f here h
 row_no_brace n (row_left f t) here there h = ap (next_is CloseBrace) h.1.parts
 row_no_brace n (row_right f t) here there h = ap (next_is CloseBrace) h.1.parts
 
-pub rows_and_back : (rows : RowTrees) → rows_of (row_list rows) ≡ rows
-rows_and_back no_rows = refl
-rows_and_back (both f g l rows) = ap (both f g l) (rows_and_back rows)
-rows_and_back (only_left f t rows) = ap (only_left f t) (rows_and_back rows)
-rows_and_back (only_right f t rows) = ap (only_right f t) (rows_and_back rows)
-
-others_are_rows : (n : ℕ) (rs : List RowTree) (here there : Point) → Others (IsRow n) rs here there → OtherRows n (rows_of rs) here there
+others_are_rows : (n : ℕ) (rs : List RowTree) (here there : Point) → Others (IsRow n) rs here there → OtherRows n (term_rows_of rs) here there
 others_are_rows n [] here there h = h
 others_are_rows n (row_both f g l ∷ rs) here there h = (h.0, h.3.0, h.3.1, h.3.2, h.3.3, h.1, h.2, h.3.4, h.3.5, h.3.6, h.3.7, h.3.8, others_are_rows n rs h.1 there h.4)
 others_are_rows n (row_left f t ∷ rs) here there h = (h.0, h.3.0, h.3.2.0, h.3.2.1, h.1, h.2, h.3.1, h.3.2.2, h.3.2.3, h.3.2.4, others_are_rows n rs h.1 there h.4)
@@ -202,7 +192,7 @@ rows_are_others n (only_right f t rows) here there h = (h.0, h.4, h.5, (h.1, h.6
 abbrev pub BracedRows : ℕ → RowTrees → Point → Point → Type 0
 BracedRows n rows here there = (a : Point) × PerhapsRows n rows here a × Is (tokens.Mark CloseBrace) a there
 
-pub perhaps_are_rows : (n : ℕ) (rs : List RowTree) (here there : Point) → Perhaps (IsRow n) CloseBrace rs here there → BracedRows n (rows_of rs) here there
+pub perhaps_are_rows : (n : ℕ) (rs : List RowTree) (here there : Point) → Perhaps (IsRow n) CloseBrace rs here there → BracedRows n (term_rows_of rs) here there
 perhaps_are_rows n [] here there h = (here, refl, h)
 perhaps_are_rows n (row_both f g l ∷ rs) here there h =
     let r = h.1 in (h.0, (r.1.0, r.1.1, r.1.2, r.1.3, r.0, r.1.4, r.1.5, r.1.6, r.1.7, r.1.8, others_are_rows n rs r.0 h.0 r.2), h.2)

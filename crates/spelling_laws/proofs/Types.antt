@@ -1,4 +1,4 @@
--- A type is read exactly where it is spelled.
+-- A type is read if and only if it is spelled.
 use Rattle.std.proofs.Common.{◌≡◌, ℕ, zero, suc, List, [], ◌∷◌, ◌++◌, Ok, false, eqb, refl, sym, ap, subst, ◌∙◌}
 use Rattle.program_tokens.specs.Words.{mark_byte}
 use Rattle.program_tokens.specs.declared.keyword.Keyword.{Keyword}
@@ -9,13 +9,15 @@ use Rattle.program_tokens.specs.declared.mark.Mark.TheVariants as marks
 use Rattle.program_tokens.specs.declared.token.Token.{Token}
 use Rattle.program_tokens.specs.declared.token.Token.TheVariants as tokens
 use Rattle.program_tokens.specs.declared.token.PlacedToken.{PlacedToken}
-use Rattle.program_terms.specs.Terms.{TypeTree, FieldTrees, unit, bool, int, text, enum_of, record_of, one_of, list, keyed, tree, named, no_fields, more_fields, fields_of, field_list}
+use Rattle.program_terms.specs.Terms.{TypeTree, FieldTrees, unit, bool, int, text, enum_of, record_of, one_of, list, keyed, tree, named, no_fields, more_fields, term_fields_of, field_list}
 use Rattle.program_grammar.specs.declared.mention.Mention.{Mention}
 use Rattle.program_grammar.specs.declared.mention.Sort.TheVariants as sorts
+use Rattle.program_terms.proofs.TreeLists.{term_fields_of-field_list}
 use Rattle.program_grammar.specs.Mentions.{Point, mention}
 use Rattle.program_grammar.specs.Reading.{Read, string_at, field_at, typed_at, closed_at, perhaps_at, enum_at, record_at, one_of_at, word_type, mark_type, begun_type, type_from, type_step, type_at}
 use Rattle.program_grammar.specs.Spelling.{Is, IsField, OtherStrings, AreStrings, IsType, PerhapsFields, AreFields, OtherFields}
-use Rattle.spelling_laws.proofs.Steps.{Ahead, onward, is_ahead, Exact, done, read_as, read_first, made_of}
+use Rattle.program_grammar.proofs.ReadingResults.{done}
+use Rattle.spelling_laws.proofs.ReadingSteps.{ComesBefore, onward, is_ahead, Exact, read_as, read_first, made_of}
 use Rattle.spelling_laws.proofs.Marks.{before, it_is, point_is, mention_ahead, mark_again, mark_first, IsText, string_exact, field_exact, field_no_mark}
 use Rattle.spelling_laws.proofs.Lists.{Others, Listed, Closed, Perhaps, closed_exact, perhaps_exact}
 
@@ -66,15 +68,11 @@ typed_exact R inner e = record {
 
 -- fields
 
-pub fields_and_back : (fs : FieldTrees) → fields_of (field_list fs) ≡ fs
-fields_and_back no_fields = refl
-fields_and_back (more_fields f t fs) = ap (more_fields f t) (fields_and_back fs)
-
-others_are_fields : (n : ℕ) (fs : List (List ℕ × TypeTree)) (here there : Point) → Others (Typed (IsType n)) fs here there → OtherFields n (fields_of fs) here there
+others_are_fields : (n : ℕ) (fs : List (List ℕ × TypeTree)) (here there : Point) → Others (Typed (IsType n)) fs here there → OtherFields n (term_fields_of fs) here there
 others_are_fields n [] here there h = h
 others_are_fields n (f ∷ fs) here there h = (h.0, h.3.0, h.3.1, h.1, h.2, h.3.2, h.3.3, h.3.4, others_are_fields n fs h.1 there h.4)
 
-pub listed_are_fields : (n : ℕ) (fs : List (List ℕ × TypeTree)) (here there : Point) → Listed (Typed (IsType n)) fs here there → AreFields n (fields_of fs) here there
+pub listed_are_fields : (n : ℕ) (fs : List (List ℕ × TypeTree)) (here there : Point) → Listed (Typed (IsType n)) fs here there → AreFields n (term_fields_of fs) here there
 listed_are_fields n [] here there h = h
 listed_are_fields n (f ∷ fs) here there h = (h.1.0, h.1.1, h.0, h.1.2, h.1.3, h.1.4, others_are_fields n fs h.0 there h.2)
 
@@ -89,7 +87,7 @@ fields_are_listed n (more_fields f t fs) here there h = (h.2, (h.0, h.1, h.3, h.
 abbrev BracedFields : ℕ → FieldTrees → Point → Point → Type 0
 BracedFields n fs here there = (a : Point) × PerhapsFields n fs here a × Is (tokens.Mark CloseBrace) a there
 
-perhaps_are_fields : (n : ℕ) (fs : List (List ℕ × TypeTree)) (here there : Point) → Perhaps (Typed (IsType n)) CloseBrace fs here there → BracedFields n (fields_of fs) here there
+perhaps_are_fields : (n : ℕ) (fs : List (List ℕ × TypeTree)) (here there : Point) → Perhaps (Typed (IsType n)) CloseBrace fs here there → BracedFields n (term_fields_of fs) here there
 perhaps_are_fields n [] here there h = (here, refl, h)
 perhaps_are_fields n (f ∷ fs) here there h = (h.0, listed_are_fields n (f ∷ fs) here h.0 h.1, h.2)
 
@@ -105,7 +103,7 @@ braced_fields_exact n inner e =
     perhaps_exact (Typed (IsType n)) (typed_at inner) CloseBrace refl (λ x here there h. field_no_mark CloseBrace x.0 here h.0 h.2) (typed_exact (IsType n) inner e)
 
 -- what a type spells is ahead of what is behind it
-type_moves : (n : ℕ) (inner : Point → Read TypeTree) → Exact (IsType n) inner → (t : TypeTree) (here there : Point) → IsType (suc n) t here there → Ahead here there
+type_moves : (n : ℕ) (inner : Point → Read TypeTree) → Exact (IsType n) inner → (t : TypeTree) (here there : Point) → IsType (suc n) t here there → ComesBefore here there
 type_moves n inner e unit here there h = is_ahead h
 type_moves n inner e bool here there h = is_ahead h
 type_moves n inner e int here there h = is_ahead h
@@ -148,11 +146,11 @@ word_found n inner e _ at here x h = absurd cc
 mark_type_found : (n : ℕ) (inner : Point → Read TypeTree) → Exact (IsType n) inner → (m : Mark) (at : ℕ) → Begun n (tokens.Mark m) at (mark_type inner m at)
 unfolding mark_type record_at one_of_at
 mark_type_found n inner e marks.OpenBrace at here x h =
-    made_of (Perhaps (Typed (IsType n)) CloseBrace) (perhaps_at (typed_at inner) CloseBrace) (braced_fields_exact n inner e) (IsType (suc n)) (λ fs. record_of (fields_of fs)) (before (tokens.Mark OpenBrace) at here) here x h (λ fs there so.
+    made_of (Perhaps (Typed (IsType n)) CloseBrace) (perhaps_at (typed_at inner) CloseBrace) (braced_fields_exact n inner e) (IsType (suc n)) (λ fs. record_of (term_fields_of fs)) (before (tokens.Mark OpenBrace) at here) here x h (λ fs there so.
     let braced = perhaps_are_fields n fs here there so in
     (here, braced.0, it_is (tokens.Mark OpenBrace) at here, braced.1, braced.2))
 mark_type_found n inner e marks.Less at here x h =
-    made_of (Closed (Typed (IsType n)) Greater) (closed_at (typed_at inner) Greater) (fields_exact n inner Greater refl e) (IsType (suc n)) (λ fs. one_of (fields_of fs)) (before (tokens.Mark Less) at here) here x h (λ fs there so.
+    made_of (Closed (Typed (IsType n)) Greater) (closed_at (typed_at inner) Greater) (fields_exact n inner Greater refl e) (IsType (suc n)) (λ fs. one_of (term_fields_of fs)) (before (tokens.Mark Less) at here) here x h (λ fs there so.
     (here, so.0, it_is (tokens.Mark Less) at here, listed_are_fields n fs here so.0 so.1, so.2))
 mark_type_found n inner e _ at here x h = absurd cc
 
@@ -181,9 +179,9 @@ type_again n inner e text here there h = ap (type_step inner) (point_is h)
 type_again n inner e (enum_of ms) here there h =
     ap (type_step inner) (point_is h.3) ∙ rw (mark_again OpenBracket h.0 h.1 h.4, strings_exact.again ms h.1 there (h.2, strings_are_listed ms h.1 h.2 h.5, h.6)) refl
 type_again n inner e (record_of fs) here there h =
-    ap (type_step inner) (point_is h.2) ∙ rw ((braced_fields_exact n inner e).again (field_list fs) h.0 there (fields_are_perhaps n fs h.0 there (h.1, h.3, h.4)), fields_and_back fs) refl
+    ap (type_step inner) (point_is h.2) ∙ rw ((braced_fields_exact n inner e).again (field_list fs) h.0 there (fields_are_perhaps n fs h.0 there (h.1, h.3, h.4)), term_fields_of-field_list fs) refl
 type_again n inner e (one_of fs) here there h =
-    ap (type_step inner) (point_is h.2) ∙ rw ((fields_exact n inner Greater refl e).again (field_list fs) h.0 there (h.1, fields_are_listed n fs h.0 h.1 h.3, h.4), fields_and_back fs) refl
+    ap (type_step inner) (point_is h.2) ∙ rw ((fields_exact n inner Greater refl e).again (field_list fs) h.0 there (h.1, fields_are_listed n fs h.0 h.1 h.3, h.4), term_fields_of-field_list fs) refl
 type_again n inner e (list t) here there h = ap (type_step inner) (point_is h.1) ∙ rw (e.again t h.0 there h.2) refl
 type_again n inner e (keyed t) here there h = ap (type_step inner) (point_is h.1) ∙ rw (e.again t h.0 there h.2) refl
 type_again n inner e (tree t) here there h = ap (type_step inner) (point_is h.1) ∙ rw (e.again t h.0 there h.2) refl

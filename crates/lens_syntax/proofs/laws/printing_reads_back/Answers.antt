@@ -1,4 +1,4 @@
-use Rattle.lens_syntax.proofs.Telling.{one_of_text, read_again}
+use Rattle.lens_syntax.proofs.GrammarAnswers.{one_of_text, read_again}
 use Rattle.lens_syntax.proofs.laws.printing_reads_back.Goals as goal
 
 pub returns-clause-one_program : goal.returns-clause-one_program

@@ -1,7 +1,7 @@
 use Rattle.std.proofs.Common.{◌+◌, ◌*◌, length, map}
 use Rattle.program_terms.specs.Views.{row_tree, arm_tree}
 use Rattle.program_grammar.specs.Reading.{list_at, type_at, lens_at, row_at, arm_at}
-use Rattle.program_reader.proofs.Loops.{IsSoFar}
+use Rattle.program_reader.proofs.ListLoop.{IsSoFar}
 use Rattle.program_reader.proofs.lenses.+lenses.Given as goal
 
 abbrev pub decreases-read_lens : goal.decreases-read_lens

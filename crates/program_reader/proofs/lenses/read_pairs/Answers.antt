@@ -1,8 +1,8 @@
 use Rattle.std.proofs.Common.{◌≡◌, ◌++◌, ◌∷◌, [], refl}
 use Rattle.std.proofs.lemmas.Result.{err_from_is_err_and}
 use Rattle.program_grammar.specs.Reading.{pair_at, list_at}
-use Rattle.program_reader.proofs.Loops.{begins, begins_not, goes_on, breaks, is_done, shorter}
-use Rattle.program_reader.proofs.Moves.{pair_moves}
+use Rattle.program_reader.proofs.ListLoop.{begins, begins_not, goes_on, breaks, is_done, shorter}
+use Rattle.program_grammar.proofs.TokensLeft.{pair_leaves}
 use Rattle.program_reader.proofs.lenses.read_pairs.Goals as goal
 
 pub returns-in_err-first : goal.returns-in_err-first
@@ -21,12 +21,12 @@ returns-in_err-next c =
     rw (p.1, p.2) (breaks pair_at c.pairs.pairs.items c.pairs.reader c.take_comma.new.self c.in_err-next.field-0.0 (list_at pair_at c.args.reader.now) c.pairs-test.ensures c.in_err-next.ensures c.pairs.invariant)
 
 pub pairs-smaller : goal.pairs-smaller
-pairs-smaller c = shorter pair_at c.pairs.reader c.take_comma.new.self (c.in_ok-next.next, c.read_pair-in-pairs.new.reader) pair_moves c.pairs-test.ensures c.in_ok-next.ensures
+pairs-smaller c = shorter pair_at c.pairs.reader c.take_comma.new.self (c.in_ok-next.next, c.read_pair-in-pairs.new.reader) pair_leaves c.pairs-test.ensures c.in_ok-next.ensures
 
 pub pairs-preserved : goal.pairs-preserved
 pairs-preserved c =
     let e : c.push-in-pairs.new.self.items ≡ c.pairs.pairs.items ++ c.in_ok-next.next ∷ [] = c.in_ok-push-2.ensures.items in
-    rw e (goes_on pair_at c.pairs.pairs.items c.pairs.reader c.take_comma.new.self (c.in_ok-next.next, c.read_pair-in-pairs.new.reader) (list_at pair_at c.args.reader.now) pair_moves c.pairs-test.ensures c.in_ok-next.ensures c.pairs.invariant)
+    rw e (goes_on pair_at c.pairs.pairs.items c.pairs.reader c.take_comma.new.self (c.in_ok-next.next, c.read_pair-in-pairs.new.reader) (list_at pair_at c.args.reader.now) pair_leaves c.pairs-test.ensures c.in_ok-next.ensures c.pairs.invariant)
 
 pub returns : goal.returns
 returns c = is_done pair_at c.pairs.pairs.items c.pairs.reader c.take_comma.new.self (list_at pair_at c.args.reader.now) c.pairs-test.ensures c.pairs.invariant

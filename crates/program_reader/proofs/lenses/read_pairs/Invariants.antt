@@ -1,6 +1,6 @@
 use Rattle.std.proofs.Common.{length}
 use Rattle.program_grammar.specs.Reading.{pair_at, list_at}
-use Rattle.program_reader.proofs.Loops.{IsSoFar}
+use Rattle.program_reader.proofs.ListLoop.{IsSoFar}
 use Rattle.program_reader.proofs.lenses.read_pairs.Given as goal
 
 abbrev pub invariant-pairs : goal.invariant-pairs

@@ -1,17 +1,17 @@
 use Rattle.std.proofs.Common.{◌≡◌, ◌++◌, [], length, map}
 use Rattle.program_terms.specs.Views.{definitions_tree}
-use Rattle.program_grammar.specs.Mentions.{bare_definition}
+use Rattle.program_grammar.specs.Mentions.{definition_without_notes}
 use Rattle.program_reader.specs.Known.{first_fault_among}
-use Rattle.program_reader.specs.Programs.{noted}
+use Rattle.program_reader.specs.Programs.{definition_with_notes}
 use Rattle.program_reader.proofs.names.with_known_names.Given as goal
 
 abbrev pub invariant-definitions : goal.invariant-definitions
 invariant-definitions l = record {
   main : l.main ≡ l.fn.program.main;
-  fault : first_fault_among (definitions_tree l.known) (map noted l.definitions.items) l.fn.program.mentions.items
-      ≡ first_fault_among [] (map noted l.fn.program.definitions.items) l.fn.program.mentions.items;
-  whole : definitions_tree l.known ++ map bare_definition (map noted l.definitions.items)
-      ≡ map bare_definition (map noted l.fn.program.definitions.items);
+  fault : first_fault_among (definitions_tree l.known) (map definition_with_notes l.definitions.items) l.fn.program.mentions.items
+      ≡ first_fault_among [] (map definition_with_notes l.fn.program.definitions.items) l.fn.program.mentions.items;
+  whole : definitions_tree l.known ++ map definition_without_notes (map definition_with_notes l.definitions.items)
+      ≡ map definition_without_notes (map definition_with_notes l.fn.program.definitions.items);
 }
 
 abbrev pub decreases-definitions : goal.decreases-definitions

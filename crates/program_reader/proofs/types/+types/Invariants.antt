@@ -1,7 +1,7 @@
 use Rattle.std.proofs.Common.{◌+◌, ◌*◌, length, map}
 use Rattle.program_terms.specs.Views.{field_tree}
 use Rattle.program_grammar.specs.Reading.{list_at, typed_at, type_at}
-use Rattle.program_reader.proofs.Loops.{IsSoFar}
+use Rattle.program_reader.proofs.ListLoop.{IsSoFar}
 use Rattle.program_reader.proofs.types.+types.Given as goal
 
 abbrev pub decreases-read_type : goal.decreases-read_type

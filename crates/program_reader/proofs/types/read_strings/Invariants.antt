@@ -1,6 +1,6 @@
 use Rattle.std.proofs.Common.{length}
 use Rattle.program_grammar.specs.Reading.{string_at, list_at}
-use Rattle.program_reader.proofs.Loops.{IsSoFar}
+use Rattle.program_reader.proofs.ListLoop.{IsSoFar}
 use Rattle.program_reader.proofs.types.read_strings.Given as goal
 
 abbrev pub invariant-commas : goal.invariant-commas

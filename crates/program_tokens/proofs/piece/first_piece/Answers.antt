@@ -1,5 +1,5 @@
 use Rattle.program_tokens.specs.Words.{in_word}
-use Rattle.program_tokens.proofs.Ascii.{run_all}
+use Rattle.program_tokens.proofs.WordUtf8.{run_all}
 use Rattle.program_tokens.proofs.piece.first_piece.Goals as goal
 
 pub word_piece-requires-clause-goes_on : goal.word_piece-requires-clause-goes_on

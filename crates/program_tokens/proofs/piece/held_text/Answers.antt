@@ -1,4 +1,4 @@
-use Rattle.program_tokens.proofs.Texts.{not_utf8-not_text}
+use Rattle.program_tokens.proofs.IsText.{not_utf8-not_text}
 use Rattle.program_tokens.proofs.piece.held_text.Goals as goal
 
 pub returns-in-Err-clause-none : goal.returns-in-Err-clause-none

@@ -1,4 +1,4 @@
-use Rattle.program_tokens.proofs.Ascii.{word_goes_on}
+use Rattle.program_tokens.proofs.WordUtf8.{word_goes_on}
 use Rattle.program_tokens.proofs.piece.word_piece.Goals as goal
 
 pub word_token-requires : goal.word_token-requires

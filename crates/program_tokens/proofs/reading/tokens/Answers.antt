@@ -1,6 +1,6 @@
 use Rattle.std.proofs.Common.{◌∙◌, subst}
 use Rattle.program_tokens.specs.Tokens.{tokens_of}
-use Rattle.program_tokens.proofs.Steps.{Stands, stands, gap_within, token_within, after_gap, after_token, after_bad, after_all}
+use Rattle.program_tokens.proofs.PieceTokens.{Stands, stands, gap_within, token_within, after_gap, after_token, after_bad, after_all}
 use Rattle.program_tokens.proofs.reading.tokens.Goals as goal
 
 pub loop-at-preserved-in-Gap : goal.loop-at-preserved-in-Gap

@@ -1,5 +1,5 @@
 use Rattle.std.proofs.Common.{◌∙◌, sym}
-use Rattle.program_tokens.proofs.Texts.{text_of_length}
+use Rattle.program_tokens.proofs.IsText.{text_of_length}
 use Rattle.program_tokens.proofs.text.is_text.Goals as goal
 
 pub returns-then-count-le64 : goal.returns-then-count-le64

@@ -1,4 +1,4 @@
-use Rattle.program_writing.proofs.Printed.{program_spelt}
+use Rattle.program_writing.proofs.CanonicalTokens.{program_spelt}
 use Rattle.program_writing.proofs.laws.canonical_text_is_spelled.Goals as goal
 
 pub returns : goal.returns

@@ -1,4 +1,4 @@
-use Rattle.program_writing.proofs.Kept.{program_kept}
+use Rattle.program_writing.proofs.WritableSpelling.{program_kept}
 use Rattle.program_writing.proofs.laws.spelled_is_writable.Goals as goal
 
 pub returns : goal.returns

@@ -1,4 +1,4 @@
-use Rattle.program_writing.proofs.Speakable.{type_spelt}
+use Rattle.program_writing.proofs.WritableTypes.{type_spelt}
 use Rattle.program_writing.proofs.laws.type_text_is_spelled.Goals as goal
 
 pub returns : goal.returns

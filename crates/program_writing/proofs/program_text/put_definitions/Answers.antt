@@ -1,7 +1,7 @@
 use Rattle.std.proofs.Common.{◌+◌, ◌++◌, drop, string_bytes, sym, ap, ◌∙◌}
 use Rattle.program_terms.specs.Views.{def_tree, program_tree}
 use Rattle.program_writing.specs.Canonical.{put_definitions}
-use Rattle.program_writing.proofs.Growing.{left_from}
+use Rattle.program_writing.proofs.DefinitionsText.{left_from}
 use Rattle.program_writing.proofs.program_text.put_definitions.Goals as goal
 
 pub loop-at-preserved : goal.loop-at-preserved

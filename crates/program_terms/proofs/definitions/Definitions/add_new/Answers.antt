@@ -1,6 +1,6 @@
 use Rattle.std.proofs.Common.{sym, ◌∙◌}
 use Rattle.indexmap.proofs.CallerLemmas.{insert_entry-new}
-use Rattle.program_terms.proofs.Found.{absent, added}
+use Rattle.program_terms.proofs.FindDefinition.{absent, added}
 use Rattle.program_terms.proofs.definitions.Definitions.add_new.Goals as goal
 
 pub returns-clause-added : goal.returns-clause-added

@@ -1,5 +1,5 @@
 use Rattle.std.proofs.Common.{refl}
-use Rattle.program_terms.proofs.Found.{found}
+use Rattle.program_terms.proofs.FindDefinition.{found}
 use Rattle.program_terms.proofs.definitions.Definitions.find.Goals as goal
 
 pub returns : goal.returns

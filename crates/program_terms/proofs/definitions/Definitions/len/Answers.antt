@@ -1,4 +1,4 @@
-use Rattle.program_terms.proofs.Distinct.{keys_distinct}
+use Rattle.program_terms.proofs.DistinctNames.{keys_distinct}
 use Rattle.program_terms.proofs.definitions.Definitions.len.Goals as goal
 
 pub returns-clause-distinct : goal.returns-clause-distinct

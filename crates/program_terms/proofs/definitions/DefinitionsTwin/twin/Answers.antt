@@ -1,7 +1,7 @@
 use Rattle.std.proofs.Common.{◌∷◌, ◌++◌, [], ap₂, ◌∙◌}
 use Rattle.program_terms.specs.Terms.{is_defined}
 use Rattle.program_terms.specs.Views.{def_tree, definitions_tree}
-use Rattle.program_terms.proofs.Distinct.{not_before, one_more}
+use Rattle.program_terms.proofs.DistinctNames.{not_before, one_more}
 use Rattle.program_terms.proofs.definitions.DefinitionsTwin.twin.Goals as goal
 
 pub add_new-requires : goal.add_new-requires

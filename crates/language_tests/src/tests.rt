@@ -1,0 +1,83 @@
+//! Each call once, over ample memory.
+use lens_syntax::{
+    ProgramFault, read_program, read_unbounded, write_name, write_program, write_type,
+};
+use program_grammar::{Mention, NameFault, Sort};
+use program_reader::{ProgramReadFault, read_tokens};
+use program_terms::{AddFault, Def, Definitions, Lens, TyExpr};
+use program_tokens::{Token, Tokens, tokens};
+use std::alloc::{AllocError, Global};
+use std::process::Abort;
+use texts::{Name, Twin};
+
+/// A program with each construct of the language, in canonical text.
+const EACH_CONSTRUCT: &str = "type t = {a: enum[\"on\", \"off\"], b: <p: unit, o: list keyed tree bool>};\nlens l = then(id t, inv disc text int);\nmain {a ~ b: each keyed tree l, left f: t, right g: text, c ~ d: <p ~ q: bij[\"on\"=\"yes\"], r ~ s: part <p: text, o: int>>}";
+
+fn name(alloc: Global, text: &str) -> Result<Name, AllocError> {
+    Ok(Name::from_string(String::from_str(alloc, text)?))
+}
+
+#[test]
+fn texts_and_programs(rt: HostRuntime) {
+    let alloc = rt.alloc();
+    let program = read_program(alloc, EACH_CONSTRUCT.as_bytes()).expect(&rt, "a program");
+    let copy = program.twin(alloc).expect(&rt, "memory for a copy");
+    let text = write_program(alloc, &copy).expect(&rt, "memory for the text");
+    assert_eq!(rt; text.as_str(), EACH_CONSTRUCT);
+    let again = read_unbounded(alloc, text.as_str().as_bytes()).expect(&rt, "a program");
+    let text = write_program(alloc, &again).expect(&rt, "memory for the text");
+    assert_eq!(rt; text.as_str(), EACH_CONSTRUCT);
+    let fault = read_program(alloc, b"main id t").err();
+    assert_eq!(rt; fault, Some(ProgramFault::UnknownName { at: 8 }));
+}
+
+#[test]
+fn tokens_and_faults(rt: HostRuntime) {
+    let alloc = rt.alloc();
+    let mut left = tokens(alloc, b"a \"b\"").expect(&rt, "memory for the tokens");
+    assert_eq!(rt; left.len(), 3);
+    let first = left.pop().expect(&rt, "a name");
+    assert_eq!(rt; first.at, 0);
+    left.push(first).expect(&rt, "memory for a token");
+    let text = left.pop().expect(&rt, "a string");
+    assert!(rt; matches!(text.token, Token::Text(_)));
+    let fault = read_tokens(alloc, Tokens::new(alloc)).err();
+    assert_eq!(rt; fault, Some(ProgramReadFault::Ended));
+}
+
+#[test]
+fn definitions_by_name(rt: HostRuntime) {
+    let alloc = rt.alloc();
+    let mut all = Definitions::new(alloc);
+    let t = name(alloc, "t").expect(&rt, "memory for a name");
+    assert_eq!(rt; all.add(t, Def::OfType(TyExpr::Int)), Ok(()));
+    let t = name(alloc, "t").expect(&rt, "memory for a name");
+    let again = Def::OfLens(Lens::Id(TyExpr::Int));
+    assert_eq!(rt; all.add(t, again), Err(AddFault::Repeated));
+    assert_eq!(rt; all.len(), 1);
+}
+
+#[test]
+fn types_and_names(rt: HostRuntime) {
+    let alloc = rt.alloc();
+    let inner = Box::new(alloc, doc_values::Ty::Int).expect(&rt, "memory for a type");
+    let text = write_type(alloc, &doc_values::Ty::List(inner)).expect(&rt, "memory for the text");
+    assert_eq!(rt; text.as_str(), "list int");
+    let inv = name(alloc, "inv").expect(&rt, "memory for a name");
+    let text = write_name(alloc, &inv).expect(&rt, "memory for the text");
+    assert_eq!(rt; text.as_str(), "\"inv\"");
+}
+
+#[test]
+fn copies(rt: HostRuntime) {
+    let alloc = rt.alloc();
+    let mentioned = Mention::new(Sort::Lens, name(alloc, "l").expect(&rt, "memory for a name"), 7);
+    let copy = mentioned.twin(alloc).expect(&rt, "memory for a copy");
+    assert_eq!(rt; copy.at, 7);
+    assert_eq!(rt; copy.name.as_str(), "l");
+    assert_eq!(rt; copy.sort, Sort::Lens);
+    let fault = NameFault::Repeated { at: 3 };
+    assert_eq!(rt; fault.twin(alloc).ok(), Some(fault));
+    let fault = ProgramFault::NotAProgram { at: 4 };
+    assert_eq!(rt; fault.twin(alloc).ok(), Some(fault));
+}

@@ -1,0 +1,320 @@
+-- The machine goes on with every viable prefix.
+use Rattle.std.proofs.Common.{◌≡◌, ℕ, zero, suc, true, false, List, [], ◌∷◌, ◌++◌, Option, Some, None, refl, sym, ap, subst, ◌∙◌, eqb, inl, inr}
+use Rattle.std.proofs.lemmas.Bool.{eq-eqb}
+use Rattle.program_tokens.specs.declared.keyword.Keyword.{Keyword}
+use Rattle.program_tokens.specs.declared.keyword.Keyword.TheVariants as words
+use Rattle.program_tokens.specs.declared.mark.Mark.{Mark}
+use Rattle.program_tokens.specs.declared.mark.Mark.TheVariants.{OpenBrace, Less}
+use Rattle.program_tokens.specs.declared.token.Token.{Token}
+use Rattle.program_tokens.specs.declared.token.Token.TheVariants as tokens
+use Rattle.program_tokens.specs.Words.{mark_byte}
+use Rattle.program_grammar.specs.Grammar.{Rule, program, field, type, lens, row, Part, definitions, other_members, other_pairs, fields, other_fields, rows, other_rows, other_arms, Symbol, mark, word, a_name, a_string, the_end, rule, perhaps, repeated, an_arm, contents, alternatives, IsAmong, IsViablePrefix, no_tokens, mark_first, word_first, name_first, string_first, end_first, rule_replaced, option_present, option_absent, repeated_once_more, repeated_no_more}
+use Rattle.program_grammar.specs.Reading.{is_mark}
+use Rattle.prefix_laws.proofs.Machine.{is_name, is_string, is_word, code, or_else, first_of, take_inside, take_one, goes}
+use Rattle.program_grammar.proofs.MarkTokens.{mark_is}
+use Rattle.prefix_laws.proofs.SymbolTokens.{nothing_there, word_is, chosen, name_is, string_is}
+
+-- Fine symbols: what follows a part begins with `main` or with a mark other than a comma, and no part that may come again ends in
+-- another. So the next token alone says whether a part is there.
+
+abbrev pub Closes : List Symbol → Type 0
+Closes [] = ⊥
+Closes (mark m ∷ s) = eqb (mark_byte m) 44 ≡ false
+Closes (word k ∷ s) = k ≡ words.Main
+Closes (a_name ∷ s) = ⊥
+Closes (a_string ∷ s) = ⊥
+Closes (the_end ∷ s) = ⊥
+Closes (rule r ∷ s) = ⊥
+Closes (perhaps p ∷ s) = ⊥
+Closes (repeated p ∷ s) = ⊥
+
+abbrev EndsPlain : Part → Type 0
+EndsPlain definitions = Unit {0}
+EndsPlain other_members = Unit {0}
+EndsPlain other_pairs = Unit {0}
+EndsPlain (fields n) = ⊥
+EndsPlain (other_fields n) = Unit {0}
+EndsPlain (rows n) = ⊥
+EndsPlain (other_rows n) = Unit {0}
+EndsPlain (other_arms n) = Unit {0}
+
+abbrev pub Fine : List Symbol → Type 0
+Fine [] = Unit {0}
+Fine (mark m ∷ s) = Fine s
+Fine (word k ∷ s) = Fine s
+Fine (a_name ∷ s) = Fine s
+Fine (a_string ∷ s) = Fine s
+Fine (the_end ∷ s) = Fine s
+Fine (rule r ∷ s) = Fine s
+Fine (perhaps p ∷ s) = Closes s × Fine s
+Fine (repeated p ∷ s) = EndsPlain p × Closes s × Fine s
+
+-- a fact of each of some lists of symbols
+
+abbrev pub Each : {A : Type 0} → (A → Type 0) → List A → Type 0
+Each P [] = Unit {0}
+Each P (b ∷ bs) = P b × Each P bs
+
+infixr 4 ◌also◌
+abbrev pub ◌also◌ : {A B : Type 0} → A → B → A × B
+a also b = (a, b)
+
+pub each : {A : Type 0} (P : A → Type 0) (all : List A) → Each P all → (a : A) → IsAmong a all → P a
+each P [] h a k = absurd k
+each P (b ∷ bs) h a (inl e) = subst P (sym e) h.0
+each P (b ∷ bs) h a (inr k) = each P bs h.1 a k
+
+pub fine_rule : (r : Rule) (s : List Symbol) → Fine s → Each (λ a. Fine (a ++ s)) (alternatives r)
+fine_rule program s f = (tt, refl, f) also tt
+fine_rule field s f = f also f also tt
+fine_rule (type zero) s f = tt
+fine_rule (type (suc n)) s f = f also f also f also f also (tt, refl, f) also (refl, f) also (tt, refl, f) also f also f also f also f also tt
+fine_rule (lens zero) s f = tt
+fine_rule (lens (suc n)) s f = f also f also (tt, refl, f) also f also (refl, f) also (tt, refl, f) also f also f also f also (tt, refl, f) also f also f also tt
+fine_rule (row n) s f = f also f also f also tt
+
+pub fine_part : (p : Part) (s : List Symbol) → Closes s → Fine s → Each (λ a. Fine (a ++ s)) (contents p)
+fine_part definitions s c f = f also f also tt
+fine_part other_members s c f = f also tt
+fine_part other_pairs s c f = f also tt
+fine_part (fields n) s c f = (tt, c, f) also tt
+fine_part (other_fields n) s c f = f also tt
+fine_part (rows n) s c f = (tt, c, f) also tt
+fine_part (other_rows n) s c f = f also tt
+fine_part (other_arms n) s c f = f also tt
+
+pub fine_again : (p : Part) (s : List Symbol) → Fine (repeated p ∷ s) → Each (λ a. Fine (a ++ (repeated p ∷ s))) (contents p)
+fine_again definitions s f = f also f also tt
+fine_again other_members s f = f also tt
+fine_again other_pairs s f = f also tt
+fine_again (fields n) s f = absurd f.0
+fine_again (other_fields n) s f = f also tt
+fine_again (rows n) s f = absurd f.0
+fine_again (other_rows n) s f = f also tt
+fine_again (other_arms n) s f = f also tt
+
+-- What one of some lists of symbols takes, the machine takes where it has the choice of all.
+
+pub record Lifts (all : List (List Symbol)) (s : List Symbol) (t : Token) (a : List Symbol) : Type 0 where
+  pub lifted : (q : List Symbol) → take_one (a ++ s) t ≡ Some q → first_of (λ b. take_inside (b ++ s) t) all ≡ Some q
+
+by_word : (all : List (List Symbol)) (k : Keyword) (b s : List Symbol) (t : Token) → first_of (λ a. take_inside (a ++ s) (tokens.Keyword k)) all ≡ Some (b ++ s) → Lifts all s t (word k ∷ b)
+unfolding take_one
+by_word all k b s t h = record {
+  lifted = λ q e.
+      let c = chosen (is_word k t) (b ++ s) q e in
+      subst (λ x. first_of (λ a. take_inside (a ++ s) x) all ≡ Some q) (sym (word_is k t c.0)) (h ∙ ap Some c.1);
+}
+
+by_mark : (all : List (List Symbol)) (m : Mark) (b s : List Symbol) (t : Token) → first_of (λ a. take_inside (a ++ s) (tokens.Mark m)) all ≡ Some (b ++ s) → Lifts all s t (mark m ∷ b)
+unfolding take_one
+by_mark all m b s t h = record {
+  lifted = λ q e.
+      let c = chosen (is_mark m t) (b ++ s) q e in
+      subst (λ x. first_of (λ a. take_inside (a ++ s) x) all ≡ Some q) (sym (mark_is m t c.0)) (h ∙ ap Some c.1);
+}
+
+by_name : (all : List (List Symbol)) (s : List Symbol) (t : Token) → ((n : List ℕ) → first_of (λ a. take_inside (a ++ s) (tokens.Name n)) all ≡ Some s) → Lifts all s t (a_name ∷ [])
+unfolding take_one
+by_name all s t h = record {
+  lifted = λ q e.
+      let c = chosen (is_name t) s q e in
+      let n = name_is t c.0 in
+      subst (λ x. first_of (λ a. take_inside (a ++ s) x) all ≡ Some q) (sym n.1) (h n.0 ∙ ap Some c.1);
+}
+
+by_string : (all : List (List Symbol)) (s : List Symbol) (t : Token) → ((n : List ℕ) → first_of (λ a. take_inside (a ++ s) (tokens.Text n)) all ≡ Some s) → Lifts all s t (a_string ∷ [])
+unfolding take_one
+by_string all s t h = record {
+  lifted = λ q e.
+      let c = chosen (is_string t) s q e in
+      let n = string_is t c.0 in
+      subst (λ x. first_of (λ a. take_inside (a ++ s) x) all ≡ Some q) (sym n.1) (h n.0 ∙ ap Some c.1);
+}
+
+pub or_none : (o : Option (List Symbol)) → or_else o None ≡ o
+or_none (Some a) = refl
+or_none None = refl
+
+alone : (a s : List Symbol) (t : Token) → take_inside (a ++ s) t ≡ take_one (a ++ s) t → Lifts (a ∷ []) s t a
+alone a s t h = record { lifted = λ q e. or_none (take_inside (a ++ s) t) ∙ h ∙ e }
+
+arm_lifted : (n : ℕ) (s : List Symbol) (t : Token) (q : List Symbol) → take_one (an_arm n ++ s) t ≡ Some q → first_of (λ b. take_inside (b ++ s) t) (alternatives (row n)) ≡ Some q
+unfolding take_one
+arm_lifted n s (tokens.Name c) q e = e
+arm_lifted n s (tokens.Text c) q e = e
+arm_lifted n s (tokens.Keyword c) q e = absurd (nothing_there q e)
+arm_lifted n s (tokens.Mark c) q e = absurd (nothing_there q e)
+arm_lifted n s tokens.Bad q e = absurd (nothing_there q e)
+arm_lifted n s tokens.End q e = absurd (nothing_there q e)
+
+lifts_type : (n : ℕ) (s : List Symbol) (t : Token) → Each (Lifts (alternatives (type (suc n))) s t) (alternatives (type (suc n)))
+lifts_type n s t =
+    let all = alternatives (type (suc n)) in
+    by_word all words.Unit _ s t refl
+    also by_word all words.Bool _ s t refl
+    also by_word all words.Int _ s t refl
+    also by_word all words.Text _ s t refl
+    also by_word all words.Enum _ s t refl
+    also by_mark all OpenBrace _ s t refl
+    also by_mark all Less _ s t refl
+    also by_word all words.List _ s t refl
+    also by_word all words.Keyed _ s t refl
+    also by_word all words.Tree _ s t refl
+    also by_name all s t (λ _. refl)
+    also tt
+
+lifts_lens : (n : ℕ) (s : List Symbol) (t : Token) → Each (Lifts (alternatives (lens (suc n))) s t) (alternatives (lens (suc n)))
+lifts_lens n s t =
+    let all = alternatives (lens (suc n)) in
+    by_word all words.Id _ s t refl
+    also by_word all words.Disc _ s t refl
+    also by_word all words.Bij _ s t refl
+    also by_word all words.Then _ s t refl
+    also by_mark all OpenBrace _ s t refl
+    also by_mark all Less _ s t refl
+    also by_word all words.Each _ s t refl
+    also by_word all words.Keyed _ s t refl
+    also by_word all words.Tree _ s t refl
+    also by_word all words.Part _ s t refl
+    also by_word all words.Inv _ s t refl
+    also by_name all s t (λ _. refl)
+    also tt
+
+pub lifts_rule : (r : Rule) (s : List Symbol) (t : Token) → Each (Lifts (alternatives r) s t) (alternatives r)
+unfolding take_one
+lifts_rule program s t = alone _ s t refl also tt
+lifts_rule field s t = by_name (alternatives field) s t (λ _. refl) also by_string (alternatives field) s t (λ _. refl) also tt
+lifts_rule (type zero) s t = tt
+lifts_rule (type (suc n)) s t = lifts_type n s t
+lifts_rule (lens zero) s t = tt
+lifts_rule (lens (suc n)) s t = lifts_lens n s t
+lifts_rule (row n) s t =
+    let all = alternatives (row n) in
+    record { lifted = arm_lifted n s t } also by_word all words.Left _ s t refl also by_word all words.Right _ s t refl also tt
+
+pub lifts_part : (p : Part) (s : List Symbol) (t : Token) → Each (Lifts (contents p) s t) (contents p)
+unfolding take_one
+lifts_part definitions s t =
+    let all = contents definitions in
+    by_word all words.Type _ s t refl also by_word all words.Lens _ s t refl also tt
+lifts_part other_members s t = alone _ s t refl also tt
+lifts_part other_pairs s t = alone _ s t refl also tt
+lifts_part (fields n) s t = alone _ s t refl also tt
+lifts_part (other_fields n) s t = alone _ s t refl also tt
+lifts_part (rows n) s t = alone _ s t refl also tt
+lifts_part (other_rows n) s t = alone _ s t refl also tt
+lifts_part (other_arms n) s t = alone _ s t refl also tt
+
+-- A part is not there where the next token is one that closes.
+
+mark_shuts : (p : Part) (s : List Symbol) (m : Mark) → eqb (mark_byte m) 44 ≡ false → first_of (λ a. take_inside (a ++ s) (tokens.Mark m)) (contents p) ≡ None
+mark_shuts definitions s m h = refl
+mark_shuts other_members s m h = rw h refl
+mark_shuts other_pairs s m h = rw h refl
+mark_shuts (fields n) s m h = refl
+mark_shuts (other_fields n) s m h = rw h refl
+mark_shuts (rows n) s m h = refl
+mark_shuts (other_rows n) s m h = rw h refl
+mark_shuts (other_arms n) s m h = rw h refl
+
+main_shuts : (p : Part) (s : List Symbol) → first_of (λ a. take_inside (a ++ s) (tokens.Keyword words.Main)) (contents p) ≡ None
+main_shuts definitions s = refl
+main_shuts other_members s = refl
+main_shuts other_pairs s = refl
+main_shuts (fields n) s = refl
+main_shuts (other_fields n) s = refl
+main_shuts (rows n) s = refl
+main_shuts (other_rows n) s = refl
+main_shuts (other_arms n) s = refl
+
+pub passed_by : (p : Part) (behind s q : List Symbol) (t : Token) → Closes s → take_one s t ≡ Some q → first_of (λ a. take_inside (a ++ behind) t) (contents p) ≡ None
+unfolding take_one
+passed_by p behind [] q t c e = absurd c
+passed_by p behind (mark m ∷ s) q t c e = subst (λ x. first_of (λ a. take_inside (a ++ behind) x) (contents p) ≡ None) (sym (mark_is m t (chosen (is_mark m t) s q e).0)) (mark_shuts p behind m c)
+passed_by p behind (word k ∷ s) q t c e = subst (λ x. first_of (λ a. take_inside (a ++ behind) x) (contents p) ≡ None) (sym (word_is k t (chosen (is_word k t) s q e).0 ∙ ap tokens.Keyword c)) (main_shuts p behind)
+passed_by p behind (a_name ∷ s) q t c e = absurd c
+passed_by p behind (a_string ∷ s) q t c e = absurd c
+passed_by p behind (the_end ∷ s) q t c e = absurd c
+passed_by p behind (rule r ∷ s) q t c e = absurd c
+passed_by p behind (perhaps r ∷ s) q t c e = absurd c
+passed_by p behind (repeated r ∷ s) q t c e = absurd c
+
+-- The machine goes on, symbol by symbol.
+
+pub goes_nothing : (s : List Symbol) → goes s [] ≡ true
+unfolding goes
+goes_nothing s = refl
+
+-- where some symbols go on, so do others that take the same tokens or more
+goes_by : (a b : List Symbol) (t : Token) (ts : List Token) → ((q : List Symbol) → take_one a t ≡ Some q → take_one b t ≡ Some q) → goes a (t ∷ ts) ≡ true → goes b (t ∷ ts) ≡ true
+unfolding goes
+goes_by a b t ts h =
+    elim (take_one a t) as (λ o. ((q : List Symbol) → o ≡ Some q → take_one b t ≡ Some q) → (elim o [ Some r ↦ goes r ts | None ↦ false ]) ≡ true → (elim (take_one b t) [ Some r ↦ goes r ts | None ↦ false ]) ≡ true) [
+      | Some r ↦ λ k g. rw (k r refl, goes) g
+      | None ↦ λ k g. absurd cc
+    ] h
+
+goes_first : (s q : List Symbol) (t : Token) (ts : List Token) → take_one s t ≡ Some q → goes q ts ≡ true → goes s (t ∷ ts) ≡ true
+unfolding goes
+goes_first s q t ts h g = rw (h, goes) g
+
+goes_mark : (m : Mark) (s : List Symbol) (ts : List Token) → goes s ts ≡ true → goes (mark m ∷ s) (tokens.Mark m ∷ ts) ≡ true
+unfolding take_one
+goes_mark m s ts g = goes_first (mark m ∷ s) s (tokens.Mark m) ts (rw (eq-eqb (mark_byte m) (mark_byte m) refl) refl) g
+
+goes_word : (k : Keyword) (s : List Symbol) (ts : List Token) → goes s ts ≡ true → goes (word k ∷ s) (tokens.Keyword k ∷ ts) ≡ true
+unfolding take_one
+goes_word k s ts g = goes_first (word k ∷ s) s (tokens.Keyword k) ts (rw (eq-eqb (code k) (code k) refl) refl) g
+
+goes_name : (n : List ℕ) (s : List Symbol) (ts : List Token) → goes s ts ≡ true → goes (a_name ∷ s) (tokens.Name n ∷ ts) ≡ true
+unfolding take_one
+goes_name n s ts g = goes_first (a_name ∷ s) s (tokens.Name n) ts refl g
+
+goes_string : (n : List ℕ) (s : List Symbol) (ts : List Token) → goes s ts ≡ true → goes (a_string ∷ s) (tokens.Text n ∷ ts) ≡ true
+unfolding take_one
+goes_string n s ts g = goes_first (a_string ∷ s) s (tokens.Text n) ts refl g
+
+goes_end : (s : List Symbol) (ts : List Token) → goes s ts ≡ true → goes (the_end ∷ s) (tokens.End ∷ ts) ≡ true
+unfolding take_one
+goes_end s ts g = goes_first (the_end ∷ s) s tokens.End ts refl g
+
+goes_rule : (r : Rule) (a s : List Symbol) (ts : List Token) → IsAmong a (alternatives r) → goes (a ++ s) ts ≡ true → goes (rule r ∷ s) ts ≡ true
+unfolding take_one
+goes_rule r a s [] k g = goes_nothing (rule r ∷ s)
+goes_rule r a s (t ∷ ts) k g = goes_by (a ++ s) (rule r ∷ s) t ts ((each (Lifts (alternatives r) s t) (alternatives r) (lifts_rule r s t) a k).lifted) g
+
+goes_there : (p : Part) (a s : List Symbol) (ts : List Token) → IsAmong a (contents p) → goes (a ++ s) ts ≡ true → goes (perhaps p ∷ s) ts ≡ true
+unfolding take_one
+goes_there p a s [] k g = goes_nothing (perhaps p ∷ s)
+goes_there p a s (t ∷ ts) k g =
+    goes_by (a ++ s) (perhaps p ∷ s) t ts (λ q e. ap (λ o. or_else o (take_one s t)) ((each (Lifts (contents p) s t) (contents p) (lifts_part p s t) a k).lifted q e)) g
+
+goes_again : (p : Part) (a s : List Symbol) (ts : List Token) → IsAmong a (contents p) → goes (a ++ (repeated p ∷ s)) ts ≡ true → goes (repeated p ∷ s) ts ≡ true
+unfolding take_one
+goes_again p a s [] k g = goes_nothing (repeated p ∷ s)
+goes_again p a s (t ∷ ts) k g =
+    goes_by (a ++ (repeated p ∷ s)) (repeated p ∷ s) t ts (λ q e. ap (λ o. or_else o (take_one s t)) ((each (Lifts (contents p) (repeated p ∷ s) t) (contents p) (lifts_part p (repeated p ∷ s) t) a k).lifted q e)) g
+
+goes_past : (p : Part) (s : List Symbol) (ts : List Token) → Closes s → goes s ts ≡ true → goes (perhaps p ∷ s) ts ≡ true
+unfolding take_one
+goes_past p s [] c g = goes_nothing (perhaps p ∷ s)
+goes_past p s (t ∷ ts) c g = goes_by s (perhaps p ∷ s) t ts (λ q e. ap (λ o. or_else o (take_one s t)) (passed_by p s s q t c e) ∙ e) g
+
+goes_out : (p : Part) (s : List Symbol) (ts : List Token) → Closes s → goes s ts ≡ true → goes (repeated p ∷ s) ts ≡ true
+unfolding take_one
+goes_out p s [] c g = goes_nothing (repeated p ∷ s)
+goes_out p s (t ∷ ts) c g = goes_by s (repeated p ∷ s) t ts (λ q e. ap (λ o. or_else o (take_one s t)) (passed_by p (repeated p ∷ s) s q t c e) ∙ e) g
+
+pub viable_goes : {s : List Symbol} {ts : List Token} → IsViablePrefix s ts → Fine s → goes s ts ≡ true
+viable_goes (no_tokens s) f = goes_nothing s
+viable_goes (mark_first m s ts h) f = goes_mark m s ts (viable_goes h f)
+viable_goes (word_first k s ts h) f = goes_word k s ts (viable_goes h f)
+viable_goes (name_first n s ts h) f = goes_name n s ts (viable_goes h f)
+viable_goes (string_first n s ts h) f = goes_string n s ts (viable_goes h f)
+viable_goes (end_first s ts h) f = goes_end s ts (viable_goes h f)
+viable_goes (rule_replaced r a s ts k h) f = goes_rule r a s ts k (viable_goes h (each (λ a. Fine (a ++ s)) (alternatives r) (fine_rule r s f) a k))
+viable_goes (option_present p a s ts k h) f = goes_there p a s ts k (viable_goes h (each (λ a. Fine (a ++ s)) (contents p) (fine_part p s f.0 f.1) a k))
+viable_goes (option_absent p s ts h) f = goes_past p s ts f.0 (viable_goes h f.1)
+viable_goes (repeated_once_more p a s ts k h) f = goes_again p a s ts k (viable_goes h (each (λ a. Fine (a ++ (repeated p ∷ s))) (contents p) (fine_again p s f) a k))
+viable_goes (repeated_no_more p s ts h) f = goes_out p s ts f.1 (viable_goes h f.2)

@@ -1,0 +1,19 @@
+use Rattle.std.proofs.Common.{[], refl}
+use Rattle.program_grammar.specs.Grammar.{program_and_end}
+use Rattle.prefix_laws.proofs.MachineCompleteness.{viable_goes}
+use Rattle.prefix_laws.proofs.NestingBound.{nested_below}
+use Rattle.prefix_laws.proofs.NumberedSymbols.{viable}
+use Rattle.prefix_laws.proofs.PlainPrefixes.{plain_prefix}
+use Rattle.prefix_laws.proofs.nesting_is_bounded.Goals as goal
+
+pub returns-clause-plain : goal.returns-clause-plain
+returns-clause-plain c = λ ts h. plain_prefix h
+
+pub returns-clause-nested_below : goal.returns-clause-nested_below
+returns-clause-nested_below c = λ ts d h. nested_below d [] tt (viable_goes h tt)
+
+pub returns-clause-viable : goal.returns-clause-viable
+returns-clause-viable c = λ ts d b. viable d [] b
+
+pub returns-clause-unexpected : goal.returns-clause-unexpected
+returns-clause-unexpected c = λ ts at m d b. m.not_viable (viable d [] b)

@@ -1,0 +1,4 @@
+pub mod ReadingResults
+pub mod RestOfTokens
+pub mod MarkTokens
+pub mod TokensLeft
