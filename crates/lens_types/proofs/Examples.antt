@@ -2,9 +2,9 @@
 use Rattle.std.proofs.Common.{◌≡◌, ℕ, List, [], ◌∷◌, Some, None, refl}
 use Rattle.doc_values.specs.Types.{ty_int, ty_text, ty_rec, ty_alt, ty_list, no_fields, field}
 use Rattle.program_terms.specs.Terms as Term
-use Rattle.lens_types.specs.Forms.{form_id, form_rec, form_part, form_each, form_inv, no_rows, both, left_type, right_type}
-use Rattle.lens_types.specs.Measures.{form_parts, form_height}
-use Rattle.lens_types.specs.Earlier.{known_type, type_of, main_form}
+use Rattle.lens_forms.specs.Forms.{form_id, form_rec, form_part, form_each, form_inv, no_rows, both, left_type, right_type}
+use Rattle.lens_forms.specs.Measures.{form_parts, form_height}
+use Rattle.lens_types.specs.Earlier.{known_type, expanded_type, main_form}
 use Rattle.lens_types.specs.Checking.{middle_differs, repeated_field, repeated_tag, repeated_member, first_failure}
 
 abbrev a : List ℕ
@@ -57,7 +57,7 @@ two_levels = refl
 -- ---- names put in
 
 -- the record type {b: t, a: int} with t = text
-type_put_in : type_of ((t, known_type ty_text) ∷ []) (Term.record_of (Term.more_fields b (Term.named t) (Term.more_fields a Term.int Term.no_fields)))
+type_put_in : expanded_type ((t, known_type ty_text) ∷ []) (Term.record_of (Term.more_fields b (Term.named t) (Term.more_fields a Term.int Term.no_fields)))
     ≡ ty_rec (field a ty_int (field b ty_text no_fields))
 type_put_in = refl
 

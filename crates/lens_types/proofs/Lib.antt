@@ -1,14 +1,12 @@
-pub mod Apart
-pub mod Checked
+pub mod DefinitionSteps
+pub mod Entries
 mod Examples
-pub mod Inserts
-pub mod Lengths
-pub mod Levels
+pub mod Heights
 pub mod Lists
 pub mod Nodes
-pub mod Rising
-pub mod Rooms
+pub mod PartCounts
+pub mod RepeatedNames
 pub mod SideTypes
 pub mod Sizes
-pub mod Turns
-pub mod Typings
+pub mod SoundForms
+pub mod StableSort

@@ -9,16 +9,16 @@ use Rattle.program_terms.specs.Views as View
 use Rattle.program_terms.specs.declared.types.TyExpr.{TyExpr}
 use Rattle.program_terms.specs.declared.lens.Lens.{Lens}
 use Rattle.program_terms.specs.declared.lens.Row.{Row}
-use Rattle.lens_types.specs.Forms.{form_alt, RowTrees, no_rows, both, only_left, only_right, rows_of, row_list, rows_tree, row_tree, ArmTrees, no_arms, more_arms, arms_of, arm_list, arms_tree, arm_tree, form_tree, lists_of}
+use Rattle.lens_forms.specs.Forms.{form_alt, RowTrees, no_rows, both, only_left, only_right, rows_of, row_list, rows_tree, row_tree, ArmTrees, no_arms, more_arms, arms_of, arm_list, arms_tree, arm_tree, form_tree, lists_of}
 use Rattle.lens_types.specs.Earlier.{Definitions, alternatives, fields_of as put_fields, rows_of as put_rows, arms_of as put_arms}
 use Rattle.lens_types.specs.Checking.{fields_failure, rows_failure, arms_failure}
 use Rattle.lens_types.specs.Walks.{tags_on}
 use Rattle.lens_types.specs.declared.names.End.{End}
-use Rattle.lens_types.specs.declared.form.Form.{Form, the_lemmas as form_lemmas}
-use Rattle.lens_types.specs.declared.form.Form.TheVariants.{Alt}
-use Rattle.lens_types.specs.declared.form.FormRow.{FormRow}
-use Rattle.lens_types.specs.declared.form.FormRows.{FormRows, out-FormRows, the_lemmas as rows_lemmas}
-use Rattle.lens_types.specs.declared.form.FormArms.{FormArms, out-FormArms, the_lemmas as arms_lemmas}
+use Rattle.lens_forms.specs.declared.form.Form.{Form, the_lemmas as form_lemmas}
+use Rattle.lens_forms.specs.declared.form.Form.TheVariants.{Alt}
+use Rattle.lens_forms.specs.declared.form.FormRow.{FormRow}
+use Rattle.lens_forms.specs.declared.form.FormRows.{FormRows, out-FormRows, the_lemmas as rows_lemmas}
+use Rattle.lens_forms.specs.declared.form.FormArms.{FormArms, out-FormArms, the_lemmas as arms_lemmas}
 
 -- ---- the wrappers
 

@@ -1,9 +1,9 @@
 -- The type of a side, for both sides at once, is the left or the right type.
-use Rattle.std.proofs.Common.{◌≡◌, refl, ap}
-use Rattle.doc_values.specs.Types.{ty_rec, ty_alt, ty_list, ty_keyed, ty_ordered}
-use Rattle.lens_types.specs.Forms.{FormTree, form_id, form_bij, form_disc, form_then, form_rec, form_alt, form_each, form_keyed, form_ordered, form_part, form_inv, RowTrees, no_rows, both, only_left, only_right, ArmTrees, no_arms, more_arms, insert_field, left_type, right_type, left_fields, right_fields, left_tags, right_tags}
-use Rattle.lens_types.specs.Walks.{type_on, fields_on, tags_on}
-use Rattle.lens_types.specs.declared.names.End.TheVariants.{Left, Right}
+use Rattle.std.proofs.Common.{◌≡◌, refl, ap, ap₂, ◌∙◌}
+use Rattle.doc_values.specs.Types.{ty_rec, ty_alt, ty_list, ty_keyed, ty_ordered, field}
+use Rattle.lens_forms.specs.Forms.{FormTree, form_id, form_bij, form_disc, form_then, form_rec, form_alt, form_each, form_keyed, form_ordered, form_part, form_inv, RowTrees, no_rows, both, only_left, only_right, ArmTrees, no_arms, more_arms, insert_field, sorted, left_type, right_type, left_fields, right_fields, left_tags, right_tags}
+use Rattle.lens_types.specs.SideTypes.{type_on, fields_on, tags_on}
+use Rattle.texts.specs.declared.side.Side.TheVariants.{Left, Right}
 
 mutual
   pub type_on-left : (f : FormTree) → type_on Left f ≡ left_type f
@@ -32,24 +32,22 @@ mutual
   type_on-right (form_part fs) = refl
   type_on-right (form_inv l) = type_on-left l
 
-  fields_on-left : (rows : RowTrees) → fields_on Left rows ≡ left_fields rows
+  fields_on-left : (rows : RowTrees) → sorted (fields_on Left rows) ≡ left_fields rows
   fields_on-left no_rows = refl
-  fields_on-left (both a b l rows) = rw (type_on-left l, fields_on-left rows) refl
+  fields_on-left (both a b l rows) = ap₂ (insert_field a) (type_on-left l) (fields_on-left rows)
   fields_on-left (only_left a t rows) = ap (insert_field a t) (fields_on-left rows)
   fields_on-left (only_right b t rows) = fields_on-left rows
 
-  fields_on-right : (rows : RowTrees) → fields_on Right rows ≡ right_fields rows
+  fields_on-right : (rows : RowTrees) → sorted (fields_on Right rows) ≡ right_fields rows
   fields_on-right no_rows = refl
-  fields_on-right (both a b l rows) = rw (type_on-right l, fields_on-right rows) refl
+  fields_on-right (both a b l rows) = ap₂ (insert_field b) (type_on-right l) (fields_on-right rows)
   fields_on-right (only_left a t rows) = fields_on-right rows
   fields_on-right (only_right b t rows) = ap (insert_field b t) (fields_on-right rows)
 
   tags_on-left : (arms : ArmTrees) → tags_on Left arms ≡ left_tags arms
   tags_on-left no_arms = refl
-  tags_on-left (more_arms a b l arms) = rw (type_on-left l, tags_on-left arms) refl
+  tags_on-left (more_arms a b l arms) = ap₂ (field a) (type_on-left l) (tags_on-left arms)
 
   tags_on-right : (arms : ArmTrees) → tags_on Right arms ≡ right_tags arms
   tags_on-right no_arms = refl
-  tags_on-right (more_arms a b l arms) = rw (type_on-right l, tags_on-right arms) refl
-
-pub ruleset side_rules = (type_on-left, type_on-right)
+  tags_on-right (more_arms a b l arms) = ap₂ (field b) (type_on-right l) (tags_on-right arms)

@@ -1,10 +1,10 @@
 use Rattle.std.proofs.Common.{◌∙◌, true, sym, subst, ◌≡◌}
 use Rattle.doc_values.proofs.Typed.{first_and}
 use Rattle.doc_values.specs.Types.{TyTree, is_well_formed}
-use Rattle.lens_types.specs.Forms.{form_tree}
-use Rattle.lens_types.specs.Typing.{is_typed}
+use Rattle.lens_forms.specs.Forms.{form_tree}
+use Rattle.lens_forms.specs.Typing.{is_typed}
 use Rattle.lens_types.proofs.SideTypes.{type_on-left, type_on-right}
-use Rattle.lens_types.proofs.Typings.{left_formed, right_formed}
+use Rattle.lens_forms.proofs.TypingLaws.{left_formed, right_formed}
 use Rattle.lens_types.proofs.typed.Typed.new.Goals as goal
 
 pub invariant_of-result : goal.invariant_of-result
