@@ -4,8 +4,8 @@ use Rattle.std.specs.Fmt.{digits}
 use Rattle.serde_json.specs.Data.{null}
 use Rattle.serde_json.proofs.OnLiterals.{serde_json_on_literals}
 use Rattle.program_tokens.specs.Words.{is_name, is_word, begins_word, in_word, keyword_of}
-use Rattle.doc_values.specs.Types.{ty_int, ty_text, ty_enum, ty_rec, ty_alt, no_fields, field}
-use Rattle.edit_module.specs.Words.{set, at, done, then}
+use Rattle.doc_values.specs.Types.{ty_int, ty_text, ty_enum, ty_rec, ty_alt, no_fields, more_fields}
+use Rattle.edit_module.specs.Words.{set, at, no_primitives, more_primitives}
 use Rattle.edit_module.specs.declared.atom.Atom.TheVariants.{Number}
 use Rattle.texts.specs.declared.side.Side.TheVariants.{Left, Right}
 use Rattle.edit_module.specs.declared.fault.Cause.TheVariants.{Place}
@@ -14,11 +14,11 @@ use Rattle.lens_syntax.specs.declared.fault.ProgramFault.TheVariants.{ProgramToo
 use Rattle.lens_types.specs.Checking.{middle_differs, repeated_field, repeated_member, too_deep}
 use Rattle.answer_text.specs.Lines.{ok_line, no_apply_line, fault_line, syntax_line, typing_line, type_line, tree_line}
 
-nothing_carried : ok_line 1 Right done ≡ codes "ok 1 right []\n"
+nothing_carried : ok_line 1 Right no_primitives ≡ codes "ok 1 right []\n"
 unfolding digits serde_json_on_literals
 nothing_carried = refl
 
-carried : ok_line 12 Left (then (at (codes "b") (then (set (Number (negsuc 0))) done)) done) ≡ codes "ok 12 left [{\"at\":[\"b\",[{\"set\":-1}]]}]\n"
+carried : ok_line 12 Left (more_primitives (at (codes "b") (more_primitives (set (Number (negsuc 0))) no_primitives)) no_primitives) ≡ codes "ok 12 left [{\"at\":[\"b\",[{\"set\":-1}]]}]\n"
 unfolding digits serde_json_on_literals
 carried = refl
 
@@ -43,7 +43,7 @@ unfolding digits
 twice_defined = refl
 
 -- the order of tags counts
-other_order : typing_line (middle_differs (ty_alt (field (codes "p") ty_text (field (codes "o") ty_int no_fields))) (ty_alt (field (codes "o") ty_int (field (codes "p") ty_text no_fields)))) ≡ codes "program refused: middle-differs <p: text, o: int> <o: int, p: text>\n"
+other_order : typing_line (middle_differs (ty_alt (more_fields (codes "p") ty_text (more_fields (codes "o") ty_int no_fields))) (ty_alt (more_fields (codes "o") ty_int (more_fields (codes "p") ty_text no_fields)))) ≡ codes "program refused: middle-differs <p: text, o: int> <o: int, p: text>\n"
 unfolding is_name is_word begins_word in_word keyword_of
 other_order = refl
 
@@ -60,7 +60,7 @@ deep : typing_line too_deep ≡ codes "program refused: too-deep\n"
 deep = refl
 
 -- members of an enum are strings
-types : type_line Right (ty_rec (field (codes "age") (ty_enum (codes "old" ∷ [])) no_fields)) ≡ codes "right {age: enum[\"old\"]}\n"
+types : type_line Right (ty_rec (more_fields (codes "age") (ty_enum (codes "old" ∷ [])) no_fields)) ≡ codes "right {age: enum[\"old\"]}\n"
 unfolding is_name is_word begins_word in_word keyword_of
 types = refl
 

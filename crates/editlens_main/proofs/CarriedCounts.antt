@@ -2,10 +2,10 @@
 use Rattle.std.proofs.Common.{◌≡◌, List, ℕ, Bool, true, false, cond, Option, None, Some, option_map, IsTrue, refl, subst}
 use Rattle.std.specs.Prelude.{option_and_then, ◌&&◌}
 use Rattle.doc_values.specs.Types.{TyTree, ty_int}
-use Rattle.edit_module.specs.Words.{PrimitiveTree, at, WordTree, done, then, joined}
+use Rattle.edit_module.specs.Words.{PrimitiveTree, at, WordTree, no_primitives, more_primitives, joined}
 use Rattle.texts.specs.declared.side.Side.{Side}
 use Rattle.edit_json.specs.WordJson.{counts_fit, primitive_counts_fit}
-use Rattle.lens_types.specs.Forms.{FormTree, form_id}
+use Rattle.lens_forms.specs.Forms.{FormTree, form_id}
 use Rattle.lens_core.specs.Built.{paired_int, is_paired_int}
 use Rattle.lens_core.specs.Complements.{CompTree, nil, rec_comp, CompTrees, no_comps, more_comps}
 use Rattle.lens_core.specs.Translation.{Translated, at_word, behind, in_turn, in_row, past_row, in_record, translate_one, translate}
@@ -20,12 +20,12 @@ and_right true b h = h
 and_right false b h = cc
 
 joined_fits : (u w : WordTree) → counts_fit u ≡ true → counts_fit w ≡ true → counts_fit (joined u w) ≡ true
-joined_fits done w one other = other
-joined_fits (then p u) w one other = rw (and_left (primitive_counts_fit p) (counts_fit u) one) (joined_fits u w (and_right (primitive_counts_fit p) (counts_fit u) one) other)
+joined_fits no_primitives w one other = other
+joined_fits (more_primitives p u) w one other = rw (and_left (primitive_counts_fit p) (counts_fit u) one) (joined_fits u w (and_right (primitive_counts_fit p) (counts_fit u) one) other)
 
 at_fits : (n : List ℕ) (w : WordTree) → counts_fit w ≡ true → counts_fit (at_word n w) ≡ true
-at_fits n done h = refl
-at_fits n (then p w) h = rw h refl
+at_fits n no_primitives h = refl
+at_fits n (more_primitives p w) h = rw h refl
 
 given : {A : Type 0} (x y : A) → Some x ≡ Some y → x ≡ y
 given x y e = cc
@@ -46,8 +46,8 @@ one_more rule w None r one others e = cc
 one_more rule w (Some s) r one others e = behind_fits s.0 (in_turn rule s.1 w) r (one s refl) (others s.1) e
 
 turn_fits : (rule : CompTree → PrimitiveTree → Option Translated) → Keeps rule → (c : CompTree) (w : WordTree) (r : Translated) → counts_fit w ≡ true → in_turn rule c w ≡ Some r → counts_fit r.0 ≡ true
-turn_fits rule keeps c done r h e = subst (λ (q : Translated). counts_fit q.0 ≡ true) (given _ r e) refl
-turn_fits rule keeps c (then p w) r h e =
+turn_fits rule keeps c no_primitives r h e = subst (λ (q : Translated). counts_fit q.0 ≡ true) (given _ r e) refl
+turn_fits rule keeps c (more_primitives p w) r h e =
     one_more rule w (rule c p) r (λ s is. keeps c p s (and_left (primitive_counts_fit p) (counts_fit w) h) is)
     (λ d t is. turn_fits rule keeps d w t (and_right (primitive_counts_fit p) (counts_fit w) h) is) e
 

@@ -7,7 +7,7 @@ use Rattle.lens_io.specs.Content.{AppendsFront}
 use Rattle.lens_io.specs.Takes.{Takes}
 use Rattle.lens_io.specs.declared.failed.TakeFault.{TakeFault}
 use Rattle.lens_io.specs.declared.failed.TakeFault.TheVariants as taking
-use Rattle.lens_types.specs.Forms.{FormTree}
+use Rattle.lens_forms.specs.Forms.{FormTree}
 use Rattle.lens_core.specs.Built.{is_paired_int}
 use Rattle.editlens_main.specs.Lines.{program_part}
 use Rattle.program_terms.specs.Terms.{ProgramTree}

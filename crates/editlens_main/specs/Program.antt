@@ -3,7 +3,7 @@ use Rattle.std.specs.Prelude.{ℕ, List, Option, Some, None, Result, Ok, Err, if
 use Rattle.program_terms.specs.Terms.{ProgramTree}
 use Rattle.lens_syntax.specs.Programs.{bounded}
 use Rattle.lens_syntax.specs.declared.fault.ProgramFault.{ProgramFault}
-use Rattle.lens_types.specs.Forms.{FormTree}
+use Rattle.lens_forms.specs.Forms.{FormTree}
 use Rattle.lens_types.specs.Checking.{Failure, first_failure}
 use Rattle.lens_types.specs.Earlier.{main_form}
 use Rattle.lens_core.specs.Built.{is_paired_int}

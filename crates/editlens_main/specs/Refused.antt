@@ -1,6 +1,6 @@
 -- What a refusal of the code says of a program part.
 use Rattle.std.specs.Prelude.{◌≡◌, Result, Err}
-use Rattle.lens_types.specs.Forms.{FormTree}
+use Rattle.lens_forms.specs.Forms.{FormTree}
 use Rattle.lens_types.specs.Faults.{IsFaultOf}
 use Rattle.lens_types.specs.Checking.{Failure}
 use Rattle.lens_types.specs.declared.fault.TypeFault.{TypeFault}

@@ -1,7 +1,7 @@
 -- The report of a whole input: all that a command writes for it, and how it ends.
 use Rattle.std.specs.Prelude.{ℕ, ◌+◌, List, [], ◌∷◌, ◌++◌, Bool, true, false, Option, Some, option_map, Result, Ok, Err, map, codes}
 use Rattle.texts.specs.declared.side.Side.TheVariants.{Left, Right}
-use Rattle.lens_types.specs.Forms.{FormTree, left_type, right_type}
+use Rattle.lens_forms.specs.Forms.{FormTree, left_type, right_type}
 use Rattle.value_json.specs.DocumentJson.{tree_of_document}
 use Rattle.edit_journal.specs.EntryJson.{entry_of_line}
 use Rattle.answer_text.specs.Lines.{ok_line, no_apply_line, fault_line, syntax_line, typing_line, type_line, tree_line}

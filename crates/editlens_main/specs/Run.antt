@@ -3,7 +3,7 @@ use Rattle.std.specs.Prelude.{List, [], ◌∷◌, Bool, true, false, Option, So
 use Rattle.std.specs.List.{list_any}
 use Rattle.edit_module.specs.Words.{WordTree}
 use Rattle.texts.specs.declared.side.Side.{Side}
-use Rattle.lens_types.specs.Forms.{FormTree}
+use Rattle.lens_forms.specs.Forms.{FormTree}
 use Rattle.edit_journal.specs.declared.fault.EntryFault.{EntryFault}
 use Rattle.editlens_main.specs.Step.{TripleTree, first, AnswerTree, carried, no_apply, no_entry, step}
 

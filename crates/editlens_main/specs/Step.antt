@@ -8,7 +8,7 @@ use Rattle.texts.specs.declared.side.Side.{Side}
 use Rattle.texts.specs.declared.side.Side.TheVariants.{Left, Right}
 use Rattle.edit_module.specs.declared.fault.Cause.{Cause}
 use Rattle.edit_journal.specs.declared.fault.EntryFault.{EntryFault}
-use Rattle.lens_types.specs.Forms.{FormTree, left_type, right_type}
+use Rattle.lens_forms.specs.Forms.{FormTree, left_type, right_type}
 use Rattle.lens_core.specs.Complements.{CompTree, missing}
 use Rattle.lens_core.specs.Consistency.{IsConsistent}
 use Rattle.lens_core.specs.Translation.{translate, Translated}

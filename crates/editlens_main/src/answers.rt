@@ -5,7 +5,7 @@ ghost use Rattle.doc_values.specs.Types.{ty_tree, is_well_formed};
 ghost use Rattle.doc_values.specs.Typing.{has};
 ghost use Rattle.answer_text.specs.Lines.{tree_line};
 ghost use Rattle.lens_core.specs.Complements.{comp_tree};
-ghost use Rattle.lens_types.specs.Forms.{form_tree};
+ghost use Rattle.lens_forms.specs.Forms.{form_tree};
 ghost use Rattle.value_json.specs.DocumentJson.{tree_of_document};
 ghost use Rattle.editlens_main.specs.ComplementJson.{complement_json};
 ghost use Rattle.editlens_main.specs.Report.{answer_line, state_lines};

@@ -1,7 +1,7 @@
 //! The lens of a program part.
 ghost use Rattle.std.specs.Prelude.{◌≡◌, MatchResult, IfOk, IsTrue, Ok};
 ghost use Rattle.lens_core.specs.Built.{is_paired_int};
-ghost use Rattle.lens_types.specs.Forms.{form_tree};
+ghost use Rattle.lens_forms.specs.Forms.{form_tree};
 ghost use Rattle.program_terms.specs.Views.{program_tree};
 ghost use Rattle.editlens_main.specs.Program.{form_for_command, form_of_program, lens_of};
 ghost use Rattle.editlens_main.specs.Refused.{IsRefusal};

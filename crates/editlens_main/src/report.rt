@@ -1,6 +1,6 @@
 //! The report of a whole input.
 ghost use Rattle.std.specs.Prelude.{◌≡◌, ◌+◌, ◌^◌, ◌<◌, List, ℕ, ◌∷◌, false, ◌||◌, IsTrue, IfOk, Some, Result, Ok, map, ◌≤◌};
-ghost use Rattle.lens_types.specs.Forms.{FormTree, form_tree};
+ghost use Rattle.lens_forms.specs.Forms.{FormTree, form_tree};
 ghost use Rattle.lens_core.specs.Built.{is_paired_int};
 ghost use Rattle.edit_journal.specs.Lines.{line_of, is_blank};
 ghost use Rattle.edit_journal.specs.EntryJson.{entry_of_line};

@@ -2,7 +2,7 @@
 ghost use Rattle.std.specs.Prelude.{◌≡◌, true, IsTrue, IfOk, OnErr, Some};
 ghost use Rattle.edit_json.specs.WordJson.{counts_fit};
 ghost use Rattle.edit_module.specs.Views.{word_tree};
-ghost use Rattle.lens_types.specs.Forms.{form_tree};
+ghost use Rattle.lens_forms.specs.Forms.{form_tree};
 ghost use Rattle.lens_core.specs.Built.{is_paired_int};
 ghost use Rattle.editlens_main.specs.Step.{IsInStep, step, after_left_action};
 ghost use Rattle.editlens_main.specs.AnswerLines.{HasAnswerLine};

@@ -4,11 +4,11 @@ use Rattle.std.proofs.lemmas.List.{drop_all}
 use Rattle.std.proofs.lemmas.Bool.Decides.{nat_tests}
 use Rattle.std.specs.Prelude.{bytes_eq, nat_eq}
 use Rattle.doc_values.specs.Types.{TyTree, ty_int}
-use Rattle.edit_module.specs.Words.{PrimitiveTree, at, WordTree, done, then, word_of, joined}
+use Rattle.edit_module.specs.Words.{PrimitiveTree, at, WordTree, no_primitives, more_primitives, word_of, joined}
 use Rattle.edit_module.specs.Views.{primitive_tree}
 use Rattle.texts.specs.declared.side.Side.{Side}
 use Rattle.edit_module.specs.declared.word.Primitive.{Primitive}
-use Rattle.lens_types.specs.Forms.{FormTree, form_id}
+use Rattle.lens_forms.specs.Forms.{FormTree, form_id}
 use Rattle.lens_core.specs.Built.{paired_int}
 use Rattle.lens_core.specs.Complements.{CompTree, nil, rec_comp, CompTrees, no_comps, more_comps, count, comps_of, comp_tree}
 use Rattle.lens_core.specs.Parts.{only_part, passes}
@@ -22,8 +22,8 @@ use Rattle.lens_core.proofs.WordTranslation.{joined-done, in_turn-next, in_turn-
 in_turn-passes : (t : TyTree) (side : Side) (c : CompTree) (u : WordTree)
     → in_turn (λ d p. translate_one (form_id t) side d p) c u ≡ cond (passes c u) (Some (u, c)) None
 in_turn-passes t side nil u = in_turn-id t side u
-in_turn-passes t side (rec_comp cs) done = refl
-in_turn-passes t side (rec_comp cs) (then p u) = refl
+in_turn-passes t side (rec_comp cs) no_primitives = refl
+in_turn-passes t side (rec_comp cs) (more_primitives p u) = refl
 
 pub one_at : (a b : List ℕ) (side : Side) (part : CompTree) (f : List ℕ) (u : WordTree)
     → translate_one (paired_int a b) side (rec_comp (more_comps part no_comps)) (at f u)
@@ -66,12 +66,12 @@ pub passes_none : (cs : CompTrees) (ps : List Primitive) → passes (rec_comp cs
 passes_none cs [] = refl
 passes_none cs (p ∷ ps) = sym (is_none_long (length ps))
 
-pub at_word_none : (f : List ℕ) (ps : List Primitive) → nat_eq (length ps) 0 ≡ true → at_word f (word_of (map primitive_tree ps)) ≡ done
+pub at_word_none : (f : List ℕ) (ps : List Primitive) → nat_eq (length ps) 0 ≡ true → at_word f (word_of (map primitive_tree ps)) ≡ no_primitives
 at_word_none f [] e = refl
 at_word_none f (p ∷ ps) e = let long = is_none_long (length ps) in cc
 
 pub at_word_some : (f : List ℕ) (ps : List Primitive) → nat_eq (length ps) 0 ≡ false
-    → at_word f (word_of (map primitive_tree ps)) ≡ then (at f (word_of (map primitive_tree ps))) done
+    → at_word f (word_of (map primitive_tree ps)) ≡ more_primitives (at f (word_of (map primitive_tree ps))) no_primitives
 at_word_some f [] e = cc
 at_word_some f (p ∷ ps) e = refl
 

@@ -8,15 +8,15 @@ use Rattle.edit_module.specs.declared.word.Primitive.{the_lemmas as primitive_le
 use Rattle.edit_module.specs.declared.word.Primitive.TheVariants.{At}
 use Rattle.edit_module.specs.declared.word.Word.{Word}
 use Rattle.lens_core.specs.Complements.{rec_comp, CompTrees, no_comps, more_comps, comps_of, comp_list, comp_tree, comps_tree}
-use Rattle.lens_types.specs.Forms.{form_rec, form_tree, row_both, row_left, row_right, row_tree, rows_tree}
+use Rattle.lens_forms.specs.Forms.{form_rec, form_tree, row_both, row_left, row_right, row_tree, rows_tree}
 use Rattle.lens_core.specs.declared.comp.Comp.{the_lemmas as comp_lemmas}
 use Rattle.lens_core.specs.declared.comp.Comp.TheVariants.{Rec}
 use Rattle.lens_core.specs.declared.comp.Comps.{Comps, out-Comps, the_lemmas as comps_lemmas}
-use Rattle.lens_types.specs.declared.form.Form.{Form, the_lemmas as form_lemmas}
-use Rattle.lens_types.specs.declared.form.Form.TheVariants.{Rec as RecForm}
-use Rattle.lens_types.specs.declared.form.FormRow.{the_lemmas as row_lemmas}
-use Rattle.lens_types.specs.declared.form.FormRow.TheVariants.{Both, OnlyLeft, OnlyRight}
-use Rattle.lens_types.specs.declared.form.FormRows.{FormRows}
+use Rattle.lens_forms.specs.declared.form.Form.{Form, the_lemmas as form_lemmas}
+use Rattle.lens_forms.specs.declared.form.Form.TheVariants.{Rec as RecForm}
+use Rattle.lens_forms.specs.declared.form.FormRow.{the_lemmas as row_lemmas}
+use Rattle.lens_forms.specs.declared.form.FormRow.TheVariants.{Both, OnlyLeft, OnlyRight}
+use Rattle.lens_forms.specs.declared.form.FormRows.{FormRows}
 
 pub comps_tree-out : (cs : Comps) → comps_tree cs ≡ comps_of (map comp_tree (out-Comps cs).items.items)
 comps_tree-out cs = search (rules, comps_lemmas)

@@ -1,7 +1,7 @@
 -- How large a form is, for the recursion into the paired rows of records.
 use Rattle.std.proofs.Common.{◌≡◌, ℕ, zero, suc, ◌+◌, ◌<◌, List, [], ◌∷◌, length, map, get_or, arith}
-use Rattle.lens_types.specs.Forms.{FormTree, form_rec, RowTrees, no_rows, both, only_left, only_right, RowTree, row_both, row_left, row_right, with_row, rows_of, row_tree}
-use Rattle.lens_types.specs.declared.form.FormRow.{FormRow}
+use Rattle.lens_forms.specs.Forms.{FormTree, form_rec, RowTrees, no_rows, both, only_left, only_right, RowTree, row_both, row_left, row_right, with_row, form_rows_of, row_tree}
+use Rattle.lens_forms.specs.declared.form.FormRow.{FormRow}
 
 abbrev mutual
   pub form_size : FormTree → ℕ
@@ -27,9 +27,9 @@ with_row-size (row_right b t) rows = omega arith
 
 -- a row is smaller than the rows that have it
 pub row_smaller : (rows : List FormRow) (i : ℕ) (r : FormRow) → i < length rows → r ≡ get_or rows i r
-    → row_size (row_tree r) < rows_size (rows_of (map row_tree rows))
+    → row_size (row_tree r) < rows_size (form_rows_of (map row_tree rows))
 row_smaller [] i r h e = absurd (omega arith)
-row_smaller (q ∷ rows) zero r h e = rw e (omega (arith, with_row-size (row_tree q) (rows_of (map row_tree rows))))
+row_smaller (q ∷ rows) zero r h e = rw e (omega (arith, with_row-size (row_tree q) (form_rows_of (map row_tree rows))))
 row_smaller (q ∷ rows) (suc i) r h e =
-    let rest : row_size (row_tree r) < rows_size (rows_of (map row_tree rows)) = row_smaller rows i r (omega arith) e in
-    omega (arith, with_row-size (row_tree q) (rows_of (map row_tree rows)))
+    let rest : row_size (row_tree r) < rows_size (form_rows_of (map row_tree rows)) = row_smaller rows i r (omega arith) e in
+    omega (arith, with_row-size (row_tree q) (form_rows_of (map row_tree rows)))

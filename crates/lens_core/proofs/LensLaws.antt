@@ -2,7 +2,7 @@
 use Rattle.std.proofs.Common.{refl, sym, subst}
 use Rattle.std.specs.Prelude.{IsTrue}
 use Rattle.doc_values.specs.Documents.{rec}
-use Rattle.lens_types.specs.Forms.{FormTree, form_id, form_rec}
+use Rattle.lens_forms.specs.Forms.{FormTree, form_id, form_rec}
 use Rattle.lens_core.specs.Built.{is_paired_int}
 use Rattle.lens_core.specs.Complements.{nil, rec_comp}
 use Rattle.lens_core.specs.Translation.{translate_one}

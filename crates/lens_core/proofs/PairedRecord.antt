@@ -3,16 +3,16 @@ use Rattle.std.proofs.Common.{◌≡◌, ℕ, ℤ, Bool, true, false, cond, None
 use Rattle.std.specs.Prelude.{bytes_eq, pos}
 use Rattle.std.proofs.lemmas.Slice.Eq.{bytes_eq-Decides}
 use Rattle.doc_values.specs.Documents.{DocTree, int, rec, DocTrees, no_docs, more_docs}
-use Rattle.doc_values.specs.Types.{TyTree, ty_int, ty_rec, no_fields, field}
-use Rattle.doc_values.specs.Typing.{has, next_spot}
-use Rattle.edit_module.specs.Action.{Why, act, act_primitive, around, inner, put_in, found, tested, doc_at}
-use Rattle.edit_module.specs.Words.{PrimitiveTree, set, add, at, WordTree, done, joined}
-use Rattle.edit_module.specs.Words.{then}
+use Rattle.doc_values.specs.Types.{TyTree, ty_int, ty_rec, no_fields, more_fields}
+use Rattle.doc_values.specs.Typing.{has, later_field}
+use Rattle.edit_module.specs.Action.{Why, act, act_primitive, map_ok, inner, put_result_at, if_present, doc_at}
+use Rattle.edit_module.specs.Words.{PrimitiveTree, set, add, at, WordTree, no_primitives, joined}
+use Rattle.edit_module.specs.Words.{more_primitives}
 use Rattle.edit_module.specs.declared.atom.Atom.TheVariants.{Number}
 use Rattle.edit_module.specs.declared.fault.Cause.{Cause}
 use Rattle.texts.specs.declared.side.Side.{Side}
 use Rattle.texts.specs.declared.side.Side.TheVariants.{Left, Right}
-use Rattle.lens_types.specs.Forms.{form_id, no_rows, both}
+use Rattle.lens_forms.specs.Forms.{form_id, no_rows, both}
 use Rattle.lens_core.specs.Built.{paired_int}
 use Rattle.lens_core.specs.Complements.{CompTree, nil, rec_comp, CompTrees, no_comps, more_comps}
 use Rattle.lens_core.specs.Consistency.{IsConsistent, AreConsistent, content}
@@ -27,7 +27,7 @@ bytes_eq-refl n = (bytes_eq-Decides n n).1 refl
 
 -- the record with one field of ints, and one of its documents
 abbrev pub one_type : List ℕ → TyTree
-one_type f = ty_rec (field f ty_int no_fields)
+one_type f = ty_rec (more_fields f ty_int no_fields)
 
 abbrev pub one : ℤ → DocTree
 one n = rec (more_docs (int n) no_docs)
@@ -58,8 +58,8 @@ int_step p v x e = cc
 
 -- a word on an int leaves an int
 int_stays : (u : WordTree) (n : ℤ) (x : DocTree) → act ty_int u (int n) ≡ Ok x → IsInt x
-int_stays done n x e = record { value = n; is = cc }
-int_stays (then p u) n x e =
+int_stays no_primitives n x e = record { value = n; is = cc }
+int_stays (more_primitives p u) n x e =
     let a = acts_then ty_int p u (int n) x e in
     let m = int_step p (int n) a.middle a.first in
     int_stays u m.value x (subst (λ z. act ty_int u z ≡ Ok x) m.is a.rest)
@@ -70,7 +70,7 @@ int_stays (then p u) n x e =
 data ActsAt (f : List ℕ) (n : ℤ) (x : DocTree) : PrimitiveTree → Type 0 where
   acts_at : (g : List ℕ) (u : WordTree) (m : ℤ) → bytes_eq f g ≡ true → act ty_int u (int n) ≡ Ok (int m) → x ≡ one m → ActsAt f n x (at g u)
 
-put_one : (r : Result DocTree Why) (n : ℤ) (x : DocTree) → around rec (put_in (more_docs (int n) no_docs) 0 r) ≡ Ok x
+put_one : (r : Result DocTree Why) (n : ℤ) (x : DocTree) → map_ok rec (put_result_at (more_docs (int n) no_docs) 0 r) ≡ Ok x
     → (v : DocTree) × (r ≡ Ok v) × (x ≡ rec (more_docs v no_docs))
 put_one (Ok v) n x e = (v, refl, cc)
 put_one (Err why) n x e = cc
@@ -79,7 +79,7 @@ acts_on_one : (f : List ℕ) (p : PrimitiveTree) (n : ℤ) (x : DocTree) → act
 acts_on_one f (at g u) n x e = go (bytes_eq f g) refl e
   where
     go : (b : Bool) → bytes_eq f g ≡ b
-        → found (cond b (Some (0, ty_int)) (option_map (next_spot 1) None)) Cause.Place (λ s. around rec (put_in (more_docs (int n) no_docs) s.0 (act s.1 u (doc_at (more_docs (int n) no_docs) s.0)))) ≡ Ok x
+        → if_present (cond b (Some (0, ty_int)) (option_map (later_field 1) None)) Cause.Place (λ s. map_ok rec (put_result_at (more_docs (int n) no_docs) s.0 (act s.1 u (doc_at (more_docs (int n) no_docs) s.0)))) ≡ Ok x
         → ActsAt f n x (at g u)
     go true same e =
         let r = put_one (act ty_int u (int n)) n x e in
@@ -90,13 +90,13 @@ acts_on_one f p n x e = cc
 
 -- an At of the field acts as its inner word does on the int; where the inner word is empty it may be left out
 at_word_acts : (f : List ℕ) (u : WordTree) (n m : ℤ) → act ty_int u (int n) ≡ Ok (int m) → act (one_type f) (at_word f u) (one n) ≡ Ok (one m)
-at_word_acts f done n m e = let same : int n ≡ int m = cc in ap (λ z. Ok (rec (more_docs z no_docs))) same
-at_word_acts f (then p u) n m e = rw (bytes_eq-refl f, e) refl
+at_word_acts f no_primitives n m e = let same : int n ≡ int m = cc in ap (λ z. Ok (rec (more_docs z no_docs))) same
+at_word_acts f (more_primitives p u) n m e = rw (bytes_eq-refl f, e) refl
 
 -- the identity passes on each word as it is
 pub in_turn-id : (t : TyTree) (side : Side) (u : WordTree) → in_turn (λ d p. translate_one (form_id t) side d p) nil u ≡ Some (u, nil)
-in_turn-id t side done = refl
-in_turn-id t side (then p u) = rw (in_turn-id t side u) refl
+in_turn-id t side no_primitives = refl
+in_turn-id t side (more_primitives p u) = rw (in_turn-id t side u) refl
 
 -- a primitive of one side is carried to a word of the other; the complement stays
 record Step (side : Side) (a b : List ℕ) (p : PrimitiveTree) (n : ℤ) (x : DocTree) : Type 0 where
@@ -128,8 +128,8 @@ record Turn (side : Side) (a b : List ℕ) (w : WordTree) (n : ℤ) (x : DocTree
   is : x ≡ one value
 
 turn : (side : Side) (a b : List ℕ) (w : WordTree) (n : ℤ) (x : DocTree) → act (one_type (near side a b)) w (one n) ≡ Ok x → Turn side a b w n x
-turn side a b done n x e = record { word = done; value = n; translated = refl; acts = refl; is = cc }
-turn side a b (then p w) n x e =
+turn side a b no_primitives n x e = record { word = no_primitives; value = n; translated = refl; acts = refl; is = cc }
+turn side a b (more_primitives p w) n x e =
     let h = acts_then (one_type (near side a b)) p w (one n) x e in
     let s = step side a b p n h.middle h.first in
     let r = turn side a b w s.value x (subst (λ z. act (one_type (near side a b)) w z ≡ Ok x) s.is h.rest) in
@@ -157,7 +157,7 @@ pub record AreOnes (x : DocTree) (c : CompTree) (y : DocTree) : Type 0 where
   pub right_is : y ≡ one value
 
 -- the content of the only field
-content_one : (f : List ℕ) (xs : DocTrees) (n : ℤ) (x : DocTree) → rec xs ≡ one n → content (field f ty_int no_fields) xs f ≡ Some x → x ≡ int n
+content_one : (f : List ℕ) (xs : DocTrees) (n : ℤ) (x : DocTree) → rec xs ≡ one n → content (more_fields f ty_int no_fields) xs f ≡ Some x → x ≡ int n
 content_one f (more_docs d ds) n x is e =
     let here : Some d ≡ Some x = rw (bytes_eq-refl f) at e in
     cc
@@ -170,7 +170,7 @@ ones_of a b (rec xs) (rec_comp cs) (rec ys) h = go cs h.1
     same nil x y k = (refl, k.1)
     same (rec_comp ds) x y k = absurd k
 
-    go : (cs : CompTrees) → AreConsistent (both a b (form_id ty_int) no_rows) (field a ty_int no_fields) xs cs (field b ty_int no_fields) ys → AreOnes (rec xs) (rec_comp cs) (rec ys)
+    go : (cs : CompTrees) → AreConsistent (both a b (form_id ty_int) no_rows) (more_fields a ty_int no_fields) xs cs (more_fields b ty_int no_fields) ys → AreOnes (rec xs) (rec_comp cs) (rec ys)
     go no_comps k = absurd k
     go (more_comps c no_comps) k =
         let l = has_one a (rec xs) h.0.left_has in

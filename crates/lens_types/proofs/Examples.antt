@@ -1,6 +1,6 @@
 -- The definitions on small programs. The names are "a", "b", "c" and "t".
 use Rattle.std.proofs.Common.{◌≡◌, ℕ, List, [], ◌∷◌, Some, None, refl}
-use Rattle.doc_values.specs.Types.{ty_int, ty_text, ty_rec, ty_alt, ty_list, no_fields, field}
+use Rattle.doc_values.specs.Types.{ty_int, ty_text, ty_rec, ty_alt, ty_list, no_fields, more_fields}
 use Rattle.program_terms.specs.Terms as Term
 use Rattle.lens_forms.specs.Forms.{form_id, form_rec, form_part, form_each, form_inv, no_rows, both, left_type, right_type}
 use Rattle.lens_forms.specs.Measures.{form_parts, form_height}
@@ -35,14 +35,14 @@ b_or_a = Term.one_of (Term.more_fields b Term.int (Term.more_fields a Term.text 
 -- ---- the two types
 
 -- {b ~ a: id int, a ~ c: id int}: fields are sorted
-fields_are_sorted : left_type (form_rec (both b a (form_id ty_int) (both a c (form_id ty_text) no_rows))) ≡ ty_rec (field a ty_text (field b ty_int no_fields))
+fields_are_sorted : left_type (form_rec (both b a (form_id ty_int) (both a c (form_id ty_text) no_rows))) ≡ ty_rec (more_fields a ty_text (more_fields b ty_int no_fields))
 fields_are_sorted = refl
 
 -- inv part <b: text, a: int>: from the record of two lists, sorted, to the list of the alternatives, as written
-part_lists : left_type (form_inv (form_part (field b ty_text (field a ty_int no_fields)))) ≡ ty_rec (field a (ty_list ty_int) (field b (ty_list ty_text) no_fields))
+part_lists : left_type (form_inv (form_part (more_fields b ty_text (more_fields a ty_int no_fields)))) ≡ ty_rec (more_fields a (ty_list ty_int) (more_fields b (ty_list ty_text) no_fields))
 part_lists = refl
 
-part_tags : right_type (form_inv (form_part (field b ty_text (field a ty_int no_fields)))) ≡ ty_list (ty_alt (field b ty_text (field a ty_int no_fields)))
+part_tags : right_type (form_inv (form_part (more_fields b ty_text (more_fields a ty_int no_fields)))) ≡ ty_list (ty_alt (more_fields b ty_text (more_fields a ty_int no_fields)))
 part_tags = refl
 
 -- ---- parts and heights
@@ -58,7 +58,7 @@ two_levels = refl
 
 -- the record type {b: t, a: int} with t = text
 type_put_in : expanded_type ((t, known_type ty_text) ∷ []) (Term.record_of (Term.more_fields b (Term.named t) (Term.more_fields a Term.int Term.no_fields)))
-    ≡ ty_rec (field a ty_int (field b ty_text no_fields))
+    ≡ ty_rec (more_fields a ty_int (more_fields b ty_text no_fields))
 type_put_in = refl
 
 -- lens t = id int; main each t
@@ -69,7 +69,7 @@ lens_put_in = refl
 
 -- the written order of tags counts, that of fields does not
 tags_differ : first_failure (main_alone (Term.then_of (Term.id_of a_or_b) (Term.id_of b_or_a)))
-    ≡ Some (middle_differs (ty_alt (field a ty_text (field b ty_int no_fields))) (ty_alt (field b ty_int (field a ty_text no_fields))))
+    ≡ Some (middle_differs (ty_alt (more_fields a ty_text (more_fields b ty_int no_fields))) (ty_alt (more_fields b ty_int (more_fields a ty_text no_fields))))
 tags_differ = refl
 
 -- {a ~ c: id int, b ~ c: id int, b ~ c: id int}: the second c stands before the second b

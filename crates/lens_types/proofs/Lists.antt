@@ -1,9 +1,9 @@
 -- Lists of trees, and the folds at the types that wrap a list.
 use Rattle.std.proofs.Common.{◌≡◌, ℕ, ◌≤◌, false, nat_eq, List, [], ◌∷◌, ◌++◌, length, map, drop, None, rules, refl, ap, sym, ◌∙◌, append-nil}
 use Rattle.std.proofs.lemmas.List.{drop_all}
-use Rattle.doc_values.specs.Types.{field_list, fields_of as ty_fields, field_tree as ty_field}
+use Rattle.doc_values.specs.Types.{field_list, type_fields_of as ty_fields, field_tree as ty_field}
 use Rattle.doc_values.specs.declared.ty.Ty.{Ty}
-use Rattle.doc_values.proofs.Lists.{fields_of-field_list}
+use Rattle.doc_values.proofs.Lists.{type_fields_of-field_list}
 use Rattle.program_terms.specs.Terms as Term
 use Rattle.program_terms.specs.Views as View
 use Rattle.program_terms.specs.declared.types.TyExpr.{TyExpr}
@@ -54,12 +54,12 @@ some_arms (a ∷ arms) h = refl
 pub lists_done : (fs out : List (List ℕ × Ty)) (i : ℕ) → length fs ≤ i
     → map ty_field out ++ field_list (lists_of (ty_fields (map ty_field (drop i fs)))) ≡ field_list (lists_of (ty_fields (map ty_field fs)))
     → ty_fields (map ty_field out) ≡ lists_of (ty_fields (map ty_field fs))
-lists_done fs out i h e = ap ty_fields (rw (drop_all i fs h, append-nil) at e) ∙ fields_of-field_list _
+lists_done fs out i h e = ap ty_fields (rw (drop_all i fs h, append-nil) at e) ∙ type_fields_of-field_list _
 
 pub tags_done : (end : End) (arms : List (List ℕ × List ℕ × Form)) (out : List (List ℕ × Ty)) (i : ℕ) → length arms ≤ i
     → map ty_field out ++ field_list (tags_on end (arms_of (map arm_tree (drop i arms)))) ≡ field_list (tags_on end (arms_of (map arm_tree arms)))
     → ty_fields (map ty_field out) ≡ tags_on end (arms_of (map arm_tree arms))
-tags_done end arms out i h e = ap ty_fields (rw (drop_all i arms h, append-nil) at e) ∙ fields_of-field_list _
+tags_done end arms out i h e = ap ty_fields (rw (drop_all i arms h, append-nil) at e) ∙ type_fields_of-field_list _
 
 -- the same with no failure on the way
 pub fields_done : (ds : Definitions) (fs : List (List ℕ × TyExpr)) (out : List (List ℕ × Ty)) (i : ℕ) → length fs ≤ i
@@ -67,7 +67,7 @@ pub fields_done : (ds : Definitions) (fs : List (List ℕ × TyExpr)) (out : Lis
     → map ty_field out ++ field_list (put_fields ds (Term.fields_of (map View.field_tree (drop i fs)))) ≡ field_list (put_fields ds (Term.fields_of (map View.field_tree fs)))
     → (fields_failure (Term.fields_of (map View.field_tree fs)) ≡ None) × (ty_fields (map ty_field out) ≡ put_fields ds (Term.fields_of (map View.field_tree fs)))
 fields_done ds fs out i h f e =
-    (sym (rw (drop_all i fs h) at f), ap ty_fields (rw (drop_all i fs h, append-nil) at e) ∙ fields_of-field_list _)
+    (sym (rw (drop_all i fs h) at f), ap ty_fields (rw (drop_all i fs h, append-nil) at e) ∙ type_fields_of-field_list _)
 
 pub rows_done : (ds : Definitions) (rows : List Row) (out : List FormRow) (i : ℕ) → length rows ≤ i
     → rows_failure ds (Term.rows_of (map View.row_tree (drop i rows))) ≡ rows_failure ds (Term.rows_of (map View.row_tree rows))

@@ -4,7 +4,8 @@ use Rattle.std.specs.Prelude.{bytes_eq, if◌then◌else◌}
 use Rattle.std.proofs.lemmas.Slice.Eq.{bytes_eq-Decides}
 use Rattle.texts.specs.Keys.{has_name}
 use Rattle.doc_values.specs.Types.{names_of, are_distinct}
-use Rattle.doc_values.proofs.Typed.{first_and, second_and, bytes_eq-refl}
+use Rattle.texts.proofs.Conjunction.{first as first_and, second as second_and}
+use Rattle.doc_values.proofs.InitialTypes.{bytes_eq-refl}
 use Rattle.program_terms.specs.Terms as Term
 use Rattle.lens_forms.specs.Forms.{lefts, rights}
 use Rattle.lens_forms.specs.Typing.{left_names, right_names, left_arms, right_arms}

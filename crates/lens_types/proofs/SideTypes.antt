@@ -1,6 +1,6 @@
 -- The type of a side, for both sides at once, is the left or the right type.
 use Rattle.std.proofs.Common.{◌≡◌, refl, ap, ap₂, ◌∙◌}
-use Rattle.doc_values.specs.Types.{ty_rec, ty_alt, ty_list, ty_keyed, ty_ordered, field}
+use Rattle.doc_values.specs.Types.{ty_rec, ty_alt, ty_list, ty_keyed, ty_ordered, more_fields}
 use Rattle.lens_forms.specs.Forms.{FormTree, form_id, form_bij, form_disc, form_then, form_rec, form_alt, form_each, form_keyed, form_ordered, form_part, form_inv, RowTrees, no_rows, both, only_left, only_right, ArmTrees, no_arms, more_arms, insert_field, sorted, left_type, right_type, left_fields, right_fields, left_tags, right_tags}
 use Rattle.lens_types.specs.SideTypes.{type_on, fields_on, tags_on}
 use Rattle.texts.specs.declared.side.Side.TheVariants.{Left, Right}
@@ -46,8 +46,8 @@ mutual
 
   tags_on-left : (arms : ArmTrees) → tags_on Left arms ≡ left_tags arms
   tags_on-left no_arms = refl
-  tags_on-left (more_arms a b l arms) = ap₂ (field a) (type_on-left l) (tags_on-left arms)
+  tags_on-left (more_arms a b l arms) = ap₂ (more_fields a) (type_on-left l) (tags_on-left arms)
 
   tags_on-right : (arms : ArmTrees) → tags_on Right arms ≡ right_tags arms
   tags_on-right no_arms = refl
-  tags_on-right (more_arms a b l arms) = ap₂ (field b) (type_on-right l) (tags_on-right arms)
+  tags_on-right (more_arms a b l arms) = ap₂ (more_fields b) (type_on-right l) (tags_on-right arms)

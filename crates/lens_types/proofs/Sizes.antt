@@ -1,6 +1,6 @@
 -- An element takes fewer steps than the list that has it.
 use Rattle.std.proofs.Common.{◌≡◌, ℕ, zero, suc, ◌+◌, ◌<◌, List, [], ◌∷◌, length, map, get_or, arith}
-use Rattle.program_terms.specs.Terms.{fields_of, RowTree, row_both, row_left, row_right, RowTrees, with_row, rows_of, arms_of}
+use Rattle.program_terms.specs.Terms.{term_fields_of, RowTree, row_both, row_left, row_right, RowTrees, with_row, term_rows_of, term_arms_of}
 use Rattle.program_terms.specs.Views.{type_tree, field_tree, lens_tree, row_tree, arm_tree}
 use Rattle.program_terms.specs.declared.types.TyExpr.{TyExpr}
 use Rattle.program_terms.specs.declared.lens.Lens.{Lens}

@@ -1,5 +1,5 @@
 use Rattle.std.proofs.Common.{◌++◌, codes, ap, ap₂, ◌∙◌}
-use Rattle.lens_types.specs.Forms.{form_tree}
+use Rattle.lens_forms.specs.Forms.{form_tree}
 use Rattle.value_json.specs.DocumentJson.{tree_of_document}
 use Rattle.answer_text.specs.Lines.{tree_line}
 use Rattle.editlens_main.specs.Views.{triple_tree}

@@ -1,5 +1,5 @@
 use Rattle.std.proofs.Common.{◌++◌, ◌∷◌, false, Some, map, length, refl, sym, ap, ap₂, ◌∙◌, length-append, arith}
-use Rattle.lens_types.specs.Forms.{form_tree}
+use Rattle.lens_forms.specs.Forms.{form_tree}
 use Rattle.editlens_main.specs.Lines.{cut, up_to_line_end}
 use Rattle.editlens_main.specs.Running.{items_among, report_at}
 use Rattle.editlens_main.specs.Views.{triple_tree}

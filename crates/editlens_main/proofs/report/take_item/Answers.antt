@@ -1,5 +1,5 @@
 use Rattle.std.proofs.Common.{◌+◌, ◌++◌, ◌||◌, refl, ap, ◌∙◌}
-use Rattle.lens_types.specs.Forms.{form_tree}
+use Rattle.lens_forms.specs.Forms.{form_tree}
 use Rattle.edit_journal.specs.EntryJson.{entry_of_line}
 use Rattle.editlens_main.specs.Views.{triple_tree, answer_tree}
 use Rattle.editlens_main.specs.declared.report.Running.{Running}

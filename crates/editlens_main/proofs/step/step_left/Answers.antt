@@ -1,6 +1,6 @@
 use Rattle.doc_values.specs.Documents.{doc_tree}
 use Rattle.edit_module.specs.Views.{word_tree}
-use Rattle.lens_types.specs.Forms.{form_tree}
+use Rattle.lens_forms.specs.Forms.{form_tree}
 use Rattle.lens_core.specs.Complements.{comp_tree}
 use Rattle.editlens_main.specs.Views.{triple_tree}
 use Rattle.texts.specs.declared.side.Side.TheVariants.{Left}

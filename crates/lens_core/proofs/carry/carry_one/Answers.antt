@@ -1,7 +1,7 @@
 use Rattle.std.proofs.Common.{◌≡◌, true, rules}
 use Rattle.std.specs.Prelude.{bytes_eq}
 use Rattle.edit_module.specs.Views.{word_tree}
-use Rattle.lens_types.specs.Forms.{form_tree}
+use Rattle.lens_forms.specs.Forms.{form_tree}
 use Rattle.lens_core.specs.Complements.{comp_tree}
 use Rattle.lens_core.specs.Parts.{passes}
 use Rattle.lens_core.specs.Translation.{near}

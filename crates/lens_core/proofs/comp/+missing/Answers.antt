@@ -1,5 +1,5 @@
 use Rattle.std.proofs.Common.{ap, ◌∙◌, arith}
-use Rattle.lens_types.specs.Forms.{row_tree}
+use Rattle.lens_forms.specs.Forms.{row_tree}
 use Rattle.lens_core.specs.Complements.{missing_rows}
 use Rattle.lens_core.proofs.ComplementTrees.{row_tree-both}
 use Rattle.lens_core.proofs.MissingRows.{missing_done, paired_next, left_next, right_next, made_next}

@@ -1,5 +1,5 @@
 use Rattle.std.proofs.Common.{◌≡◌, ◌++◌, map, drop}
-use Rattle.program_terms.specs.Terms.{arms_of}
+use Rattle.program_terms.specs.Terms.{term_arms_of}
 use Rattle.program_terms.specs.Views.{arm_tree}
 use Rattle.lens_types.specs.Repeats.{arm_names}
 use Rattle.lens_types.specs.SidedNames.{sided}

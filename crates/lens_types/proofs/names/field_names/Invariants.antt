@@ -1,5 +1,5 @@
 use Rattle.std.proofs.Common.{◌≡◌, ◌++◌, map, drop}
-use Rattle.program_terms.specs.Terms.{fields_of}
+use Rattle.program_terms.specs.Terms.{term_fields_of}
 use Rattle.program_terms.specs.Views.{field_tree}
 use Rattle.lens_types.specs.Repeats.{field_names}
 use Rattle.lens_types.specs.SidedNames.{sided}

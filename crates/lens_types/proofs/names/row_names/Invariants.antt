@@ -1,5 +1,5 @@
 use Rattle.std.proofs.Common.{◌≡◌, ◌++◌, map, drop}
-use Rattle.program_terms.specs.Terms.{rows_of}
+use Rattle.program_terms.specs.Terms.{term_rows_of}
 use Rattle.program_terms.specs.Views.{row_tree}
 use Rattle.lens_types.specs.Repeats.{row_names}
 use Rattle.lens_types.specs.SidedNames.{sided}

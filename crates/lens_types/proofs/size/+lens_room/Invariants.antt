@@ -1,5 +1,5 @@
 use Rattle.std.proofs.Common.{◌≡◌, map, drop}
-use Rattle.program_terms.specs.Terms.{rows_of, arms_of}
+use Rattle.program_terms.specs.Terms.{term_rows_of, term_arms_of}
 use Rattle.program_terms.specs.Views.{arm_tree, arms_tree, lens_tree, row_tree, rows_tree}
 use Rattle.lens_types.specs.Sizes.{type_size, fields_size, lens_size, rows_size, row_size, arms_size}
 use Rattle.lens_types.specs.Entries.{earlier_tree}

@@ -1,5 +1,5 @@
 use Rattle.std.proofs.Common.{◌≡◌, map, drop}
-use Rattle.program_terms.specs.Terms.{fields_of}
+use Rattle.program_terms.specs.Terms.{term_fields_of}
 use Rattle.program_terms.specs.Views.{field_tree, fields_tree, type_tree}
 use Rattle.lens_types.specs.Sizes.{type_size, fields_size, lens_size, rows_size, row_size, arms_size}
 use Rattle.lens_types.specs.Entries.{earlier_tree}

@@ -1,5 +1,5 @@
 use Rattle.std.proofs.Common.{◌∙◌, true, sym, subst, ◌≡◌}
-use Rattle.doc_values.proofs.Typed.{first_and}
+use Rattle.texts.proofs.Conjunction.{first as first_and}
 use Rattle.doc_values.specs.Types.{TyTree, is_well_formed}
 use Rattle.lens_forms.specs.Forms.{form_tree}
 use Rattle.lens_forms.specs.Typing.{is_typed}
