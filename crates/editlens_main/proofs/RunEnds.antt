@@ -11,8 +11,7 @@ use Rattle.lens_forms.specs.Forms.{FormTree}
 use Rattle.lens_core.specs.Built.{is_paired_int}
 use Rattle.editlens_main.specs.Lines.{program_part}
 use Rattle.program_terms.specs.Terms.{ProgramTree}
-use Rattle.lens_syntax.specs.Programs.{bounded}
-use Rattle.lens_syntax.specs.declared.fault.ProgramFault.{ProgramFault}
+use Rattle.lens_syntax.specs.Programs.{ProgramCause, bounded}
 use Rattle.lens_types.specs.Checking.{Failure, first_failure}
 use Rattle.lens_types.specs.Earlier.{main_form}
 use Rattle.editlens_main.specs.Program.{Refusal, not_built, form_without_failure, form_of_program, lens_of}
@@ -38,7 +37,7 @@ run_program_is_paired : (program : ProgramTree) (o : Option Failure) (f : FormTr
 run_program_is_paired program None f h = run_form_is_paired (main_form program) f (is_paired_int (main_form program)) refl h
 run_program_is_paired program (Some failure) f h = absurd cc
 
-run_result_is_paired : (r : Result ProgramTree ProgramFault) (f : FormTree) → form_of_program Run r ≡ Ok f → IsTrue (is_paired_int f)
+run_result_is_paired : (r : Result ProgramTree ProgramCause) (f : FormTree) → form_of_program Run r ≡ Ok f → IsTrue (is_paired_int f)
 run_result_is_paired (Ok program) f h = run_program_is_paired program (first_failure program) f h
 run_result_is_paired (Err fault) f h = absurd cc
 

@@ -4,9 +4,13 @@ use Rattle.lens_forms.specs.Forms.{FormTree}
 use Rattle.edit_journal.specs.Lines.{line_of, is_blank}
 use Rattle.edit_journal.specs.EntryJson.{entry_of_line}
 use Rattle.editlens_main.specs.Lines.{cut, up_to_line_end, journal_of, lines_behind, program_part}
-use Rattle.std.specs.Prelude.{IfOk}
-use Rattle.editlens_main.specs.Program.{Refusal, lens_of}
-use Rattle.editlens_main.specs.Refused.{IsRefusal, IsKnown}
+use Rattle.std.specs.Prelude.{IfOk, IfSome}
+use Rattle.editlens_main.specs.Program.{Refusal, form_of_program, lens_of}
+use Rattle.editlens_main.specs.Refused.{IsRefusal, IsKnown, IsSyntaxRefusal}
+use Rattle.program_terms.specs.Terms.{ProgramTree}
+use Rattle.lens_syntax.specs.Programs.{ProgramCause, too_long, not_a_program, unknown_name, repeated_name, cause_of, IsRefusal as IsSyntaxFault}
+use Rattle.lens_syntax.specs.declared.fault.ProgramFault.{ProgramFault}
+use Rattle.lens_syntax.specs.declared.fault.ProgramFault.TheVariants as reading
 use Rattle.editlens_main.specs.declared.program.Refused.{Refused}
 use Rattle.editlens_main.specs.declared.program.Refused.TheVariants.{Syntax, Typing, NotBuilt, NoMemory}
 use Rattle.editlens_main.specs.Step.{TripleTree, first, AnswerTree}
@@ -106,6 +110,19 @@ of_parts command bytes program lines outcome answer is lens behind run =
     sym (items_among-lines (lines_behind (cut bytes))) ∙ ap (λ ls. items_among (map up_to_line_end ls)) (sym behind) in
     ap₂ (report_with command) (ap (lens_of command) (sym is) ∙ lens) items ∙ run
 
+-- a fault of the reader that is not memory is the refusal of the program part
+pub syntax_refused : (command : Command) (wanted : Result ProgramTree ProgramCause) (fault : ProgramFault) → IsSyntaxFault (cause_of fault) wanted → (fault ≡ reading.NoMemory → ⊥)
+    → IsSyntaxRefusal (form_of_program command wanted) fault
+syntax_refused command wanted reading.ProgramTooLong h known = record { cause = too_long; is = ap (form_of_program command) h; is_fault = refl }
+syntax_refused command wanted (reading.NotAProgram at) h known = record { cause = not_a_program at; is = ap (form_of_program command) h; is_fault = refl }
+syntax_refused command wanted (reading.UnknownName at) h known = record { cause = unknown_name at; is = ap (form_of_program command) h; is_fault = refl }
+syntax_refused command wanted (reading.RepeatedName at) h known = record { cause = repeated_name at; is = ap (form_of_program command) h; is_fault = refl }
+syntax_refused command wanted reading.NoMemory h known = absurd (known refl)
+
+-- what is said of the cause of a fault is so of the cause that it has
+pub if_cause : (o : Option ProgramCause) (P : ProgramCause → Type 0) (cause : ProgramCause) → IfSome o P → o ≡ Some cause → P cause
+if_cause o P cause h e = subst (λ q. IfSome q P) e h
+
 -- the line of a refusal is the report, whatever the items
 pub refused_parts : (command : Command) (bytes program lines : List ℕ) (answer : List ℕ × Status) → program ≡ program_part bytes → cut lines ≡ lines_behind (cut bytes)
     → report_with command (lens_of command program) (items_among (map up_to_line_end (cut lines))) ≡ Some answer → report command bytes ≡ Some answer
@@ -123,7 +140,7 @@ refused_report command outcome items r text status is line ends =
     ap (λ f. report_with command f items) is ∙ refused_is command r items ∙ ap₂ (λ x s. Some (x, s)) (sym line) (sym ends)
 
 pub known : (outcome : Result FormTree Refusal) (refused : Refused) → IsRefusal outcome refused → IsKnown refused
-known outcome (Syntax fault) h = h.1
+known outcome (Syntax fault) h = λ e. let bad = subst (λ f. cause_of f ≡ Some h.cause) e h.is_fault in cc
 known outcome (Typing fault) h = h.known
 known outcome NotBuilt h = tt
 known outcome NoMemory h = tt

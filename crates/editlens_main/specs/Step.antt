@@ -26,15 +26,15 @@ first form = record { left = initial (left_type form); comp = missing form; righ
 abbrev pub IsInStep : FormTree → TripleTree → Type 0
 IsInStep form t = IsConsistent form t.left t.comp t.right
 
--- an edit is carried to a word of the other side, which is named; or it does not apply, with the number of the first primitive that
--- fails and its cause; or the line is no entry, for this fault
+-- an edit is translated to a word of the other side, which is named; or it does not apply, with the number of the first primitive
+-- that fails and its cause; or the line is not an entry, for this fault
 pub data AnswerTree : Type 0 where
   carried : Side → WordTree → AnswerTree
   no_apply : ℕ → Cause → AnswerTree
   no_entry : EntryFault → AnswerTree
 
--- An edit of the left side acts on the left document. Where it has no value there, the triple stays. Where it has, it is translated, and
--- the carried word acts on the right document. Where there is no translation, or the carried word does not act, there is no step.
+-- An edit of the left side acts on the left document. If it has no value there, the triple stays. Else it is translated, and the
+-- translated word acts on the right document. If there is no translation, or the translated word does not act, there is no step.
 abbrev pub after_left_translation : DocTree → Translated → Result DocTree Why → Option (TripleTree × AnswerTree)
 after_left_translation x r (Ok y) = Some (record { left = x; comp = r.1; right = y }, carried Right r.0)
 after_left_translation x r (Err why) = None

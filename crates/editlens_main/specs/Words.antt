@@ -7,7 +7,7 @@ use Rattle.editlens_main.specs.declared.words.Command.TheVariants.{Run, Check}
 abbrev pub command_named : List ℕ → Option Command
 command_named word = if bytes_eq word (codes "run") then Some Run else if bytes_eq word (codes "check") then Some Check else None
 
--- any name, then the word of a command, and no further word
+-- any name, then the word of a command, and no more words
 abbrev pub command_of : List (String Global) → Option Command
 command_of [] = None
 command_of (name ∷ []) = None

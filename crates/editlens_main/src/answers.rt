@@ -1,4 +1,4 @@
-//! The answers to the items of a journal, and the state of a run, as lines.
+//! The answers to the items of a journal and the state of a run, as lines.
 ghost use Rattle.std.specs.Prelude.{◌≡◌, ◌++◌, true, false, codes, IfOk, IsTrue};
 ghost use Rattle.doc_values.specs.Documents.{doc_tree};
 ghost use Rattle.doc_values.specs.Types.{ty_tree, is_well_formed};
@@ -19,9 +19,9 @@ use crate::step::{Answer, Triple};
 use answer_text::{fault_line, no_apply_line, ok_line, tree_line};
 use doc_values::{Doc, Ty};
 use lens_core::Comp;
-use lens_io::Bytes;
 use lens_types::Typed;
 use std::alloc::{AllocError, Global};
+use texts::Bytes;
 use value_json::write_doc;
 
 impl Answer {
@@ -37,7 +37,7 @@ impl Answer {
     }
 }
 
-/// The answer line of the item with this number. Only want of memory is an error.
+/// The answer line of the item with this number. The only error is running out of memory.
 pub fn answer_line(alloc: Global, number: u64, answer: &Answer) -> Result<Bytes, AllocError>
     requires { HasAnswerLine (answer_tree answer.now) }
     ensures { IfOk result (λ line. line ≡ answer_line number (answer_tree answer.now)) }
@@ -49,7 +49,7 @@ pub fn answer_line(alloc: Global, number: u64, answer: &Answer) -> Result<Bytes,
     }
 }
 
-/// The state lines of a triple. Only want of memory is an error.
+/// The state lines of a triple. The only error is running out of memory.
 pub fn state_lines(alloc: Global, lens: &Typed, triple: &Triple) -> Result<Vec<u8>, AllocError>
     requires { IsInStep (form_tree lens.now) (triple_tree triple.now) }
     ensures { IfOk result (λ text. text.items ≡ state_lines (form_tree lens.now) (triple_tree triple.now)) }
@@ -64,7 +64,7 @@ pub fn state_lines(alloc: Global, lens: &Typed, triple: &Triple) -> Result<Vec<u
 }
 
 // A label, and the compact text of a document.
-#[tactic(auto, using(value_json::proofs::Shallow::whole))]
+#[tactic(auto, using(value_json::proofs::TreeDepths::whole))]
 fn document_line(alloc: Global, label: &str, ty: &Ty, doc: &Doc) -> Result<Bytes, AllocError>
     requires well_formed { IsTrue (is_well_formed (ty_tree ty.now)) }
     requires typed { IsTrue (has (ty_tree ty.now) (doc_tree doc.now)) }

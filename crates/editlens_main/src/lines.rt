@@ -9,7 +9,7 @@ pub struct Script<'a> {
     pub journal: &'a [u8],
 }
 
-/// Parts a script at its first line that is `---`. Where there is none, all of it is the program part.
+/// Splits a script at its first line that is `---`. If there is no such line, all of it is the program part.
 pub fn part_script(bytes: &[u8]) -> Script<'_>
     ensures program { result.program.now ≡ program_part bytes.now }
     ensures journal { cut result.journal.now ≡ lines_behind (cut bytes.now) }

@@ -13,20 +13,21 @@ use lens_syntax::{Program, ProgramFault, read_program};
 use lens_types::{TypeFault, Typed, check};
 use std::alloc::Global;
 
-/// Why there is no lens.
+/// Why a program part has no lens that the command can use.
 #[derive(Drop)]
 pub enum Refused {
-    /// The text is no program, for this cause, which is not want of memory.
+    /// The text is not a program, for this cause, which is not that memory ran out.
     Syntax(ProgramFault),
-    /// The program has no type, for this cause, which is not want of memory.
+    /// The program has no type, for this cause, which is not that memory ran out.
     Typing(TypeFault),
-    /// The lens is none that is carried today.
+    /// The lens is not one that is carried today.
     NotBuilt,
     /// Memory ran out.
     NoMemory,
 }
 
-/// The lens of a program part, as the command wants it: a run, one that is carried today.
+/// The lens of a program part. For a run it is one that is carried today.
+#[tactic(auto, using(crate::proofs::RunReports::syntax_refused))]
 pub fn read_lens(alloc: Global, command: Command, text: &[u8]) -> Result<Typed, Refused>
     ensures lens { MatchResult result
         (λ lens. lens_of command text.now ≡ Ok (form_tree lens)) (λ refused. IsRefusal (lens_of command text.now) refused) }
@@ -57,7 +58,7 @@ fn check_lens(alloc: Global, command: Command, program: &Program) -> Result<Type
     }
 }
 
-// A lens that is typed, where the command can use it.
+// A lens that has a type, if the command can use it.
 fn lens_for_command(command: Command, lens: Typed) -> Result<Typed, Refused>
     ensures lens { MatchResult result
         (λ lens'. form_for_command command (form_tree lens) ≡ Ok (form_tree lens')) (λ refused. IsRefusal (form_for_command command (form_tree lens)) refused) }
@@ -69,7 +70,7 @@ fn lens_for_command(command: Command, lens: Typed) -> Result<Typed, Refused>
     }
 }
 
-// A lens that is carried today.
+// A lens that has a type, if it is one that is carried today.
 fn lens_for_run(lens: Typed) -> Result<Typed, Refused>
     ensures lens { MatchResult result
         (λ lens'. form_for_command Command.Run (form_tree lens) ≡ Ok (form_tree lens')) (λ refused. IsRefusal (form_for_command Command.Run (form_tree lens)) refused) }

@@ -23,23 +23,22 @@ use crate::words::Command;
 use answer_text::{syntax_line, type_line, typing_line};
 use doc_values::init;
 use edit_journal::{EntryFault, Line, is_blank, read_entry};
-use edit_module::Side;
 use lens_core::missing;
-use lens_io::Bytes;
 use lens_types::Typed;
 use std::alloc::{AllocError, Global};
+use texts::{Bytes, Side};
 
-/// What is written where the lens is none that is carried today.
+/// The line that is written if the lens is not one that is carried today.
 const NOT_BUILT: &str = "program refused: not-built\n";
 
-/// What is written for an input, and how the run ends.
+/// What is written for an input, and the status.
 #[derive(Drop)]
 pub struct Report {
     pub text: Vec<u8>,
     pub status: Status,
 }
 
-/// How far a run has come: its triple, how many items it took, whether it refused one, and what it has written.
+/// The state of a run: its triple, how many items it has read, whether it refused one, and what it has written.
 #[derive(Drop)]
 pub struct Running {
     pub triple: Triple,
@@ -48,7 +47,7 @@ pub struct Running {
     pub text: Vec<u8>,
 }
 
-/// The report of an input, as the command wants it. Only want of memory is an error.
+/// The command's report of an input. The only error is running out of memory.
 pub fn make_report(alloc: Global, command: Command, bytes: &[u8]) -> Result<Report, AllocError>
     ensures { IfOk result (λ r. report command bytes.now ≡ Some (r.text.items, r.status)) }
 {
@@ -67,7 +66,7 @@ pub fn make_report(alloc: Global, command: Command, bytes: &[u8]) -> Result<Repo
     }
 }
 
-// The report where there is a lens.
+// The report if there is a lens.
 fn lens_report(
     alloc: Global,
     command: Command,
@@ -97,7 +96,7 @@ fn type_report(alloc: Global, lens: &Typed) -> Result<Report, AllocError>
     })
 }
 
-// The report where the program part is refused. Want of memory is no refusal.
+// The report if the program part is refused. Running out of memory is not a refusal.
 fn refusal_report(alloc: Global, refused: &Refused) -> Result<Report, AllocError>
     requires { IsKnown refused.now }
     ensures { IfOk result (λ r. (outcome : Result FormTree Refusal) (command : Command) (items : List Item) → IsRefusal outcome refused.now
@@ -122,7 +121,7 @@ fn refused_with(line: Bytes) -> Report
     }
 }
 
-// The report where the lens is none that is carried today.
+// The report if the lens is not one that is carried today.
 fn not_built_report(alloc: Global) -> Result<Report, AllocError>
     ensures { IfOk result (λ r. (r.text.items ≡ refusal_line not_built) × (r.status ≡ Status.ProgramRefused)) }
 {
@@ -156,7 +155,7 @@ fn run_journal(alloc: Global, lens: &Typed, journal: &[u8]) -> Result<Report, Al
     Ok(Report { text, status })
 }
 
-// How a run ends that nothing stopped.
+// The status of a run that came to its end.
 fn ending(refused: bool) -> Status
     ensures { result ≡ ending refused }
 {
@@ -178,7 +177,7 @@ fn first_triple(alloc: Global, lens: &Typed) -> Result<Triple, AllocError>
     })
 }
 
-// Takes a line without its LF: a blank one is passed over, any other is an item.
+// Handles a line without its LF: a blank line is skipped, any other is an item.
 #[tactic(auto, using(crate::proofs::RunReports::blank_line_step, crate::proofs::RunReports::line_step))]
 fn take_line(
     alloc: Global,
@@ -201,7 +200,7 @@ fn take_line(
     take_item(alloc, lens, running, &line)
 }
 
-// Takes a line that is not blank.
+// Handles a line that is not blank.
 fn take_item(
     alloc: Global,
     lens: &Typed,

@@ -10,10 +10,11 @@ ghost use Rattle.editlens_main.specs.Views.{triple_tree, answer_tree};
 
 use doc_values::Doc;
 use edit_journal::EntryFault;
-use edit_module::{ActFault, Cause, Entry, Side, Word, act};
+use edit_module::{ActFault, Cause, Entry, Word, act};
 use lens_core::{Carried, CarryFault, Comp, record_carry};
 use lens_types::Typed;
 use std::alloc::{AllocError, Global};
+use texts::Side;
 
 /// A left document, a complement and a right document.
 #[derive(Drop)]
@@ -23,18 +24,19 @@ pub struct Triple {
     pub right: Doc,
 }
 
-/// What is answered to an item of a journal.
+/// The answer to an item of a journal.
 #[derive(Drop)]
 pub enum Answer {
-    /// The edit was carried to this word of this side.
+    /// The edit was translated to this word of this side.
     Carried(Side, Word),
     /// The edit does not apply: the number of the first primitive that fails, and its cause.
     NoApply { at: u64, cause: Cause },
-    /// The line is no entry, for this fault, which is not want of memory.
+    /// The line is not an entry, for this fault, which is not that memory ran out.
     NoEntry(EntryFault),
 }
 
-/// Takes an entry, and answers to it. Only want of memory is an error, which leaves the triple as it was.
+/// Applies an entry to the triple, and returns the answer to it. The only error is running out of memory, which leaves the
+/// triple as it was.
 pub fn step(
     alloc: Global,
     lens: &Typed,

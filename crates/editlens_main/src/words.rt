@@ -2,19 +2,19 @@
 ghost use Rattle.std.specs.Prelude.{◌≡◌};
 ghost use Rattle.editlens_main.specs.Words.{command_of, command_named};
 
-/// What is written where the words name no command.
+/// The line that is written if the words name no command.
 pub const USAGE: &str = "usage: editlens run|check|init|apply|show|verify|pack|gen N SEED\n";
 
-/// What the program is asked to do.
+/// The command that the words name.
 #[derive(Clone, Copy, Debug, PartialEq, Eq)]
 pub enum Command {
-    /// Carry the entries of a journal.
+    /// Translate the entries of a journal.
     Run,
     /// Show the two types of a lens.
     Check,
 }
 
-/// The command that the words name: the program's name, one word, and no more. None where they name none.
+/// The command that the words name: the program's name, one word, and no more. None if they name no command.
 pub fn read_command(words: &[String]) -> Option<Command>
     ensures { result ≡ command_of words.now }
 {
