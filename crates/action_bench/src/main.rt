@@ -27,7 +27,7 @@ fn main(rt: HostRuntime) -> anyhow::Result<()> {
     Ok(())
 }
 
-// A list of so many zeros.
+// A list of this many zeros.
 fn zeros(alloc: Global, count: u64) -> Result<Doc, AllocError> {
     let mut items = Vec::new(alloc);
     for _ in 0..count {
@@ -36,7 +36,7 @@ fn zeros(alloc: Global, count: u64) -> Result<Doc, AllocError> {
     Ok(Doc::Hold(Shape::List(ListShape { count }), Docs::from_vec(items)))
 }
 
-// A word that adds 1 to so many items, each at a place 7 further, from the front again at the end.
+// A word that adds 1 to this many items, each at a place 7 further, from the front again at the end.
 fn steps(alloc: Global, items: u64, primitives: u64) -> Result<Word, AllocError> {
     let mut all = Vec::new(alloc);
     let mut place = 0;

@@ -29,7 +29,7 @@ tree_of_entry e = object (member (codes "edit") (tree_of_word e.1) (member (code
 abbrev pub side_of : List ℕ → Option Side
 side_of s = if bytes_eq s (codes "left") then Some Left else if bytes_eq s (codes "right") then Some Right else None
 
--- The side and the tree of the edit, where the tree is an object with exactly the members `edit` and `side`, which stand in byte order,
+-- The side and the tree of the edit, where the tree is an object with exactly the members `edit` and `side`, which are in byte order,
 -- and `side` is the name of a side.
 abbrev pub parts_of : Data → Option (Side × Data)
 parts_of (object (member k edit (member l (string s) no_members))) =

@@ -8,11 +8,11 @@ use texts::Twin;
 pub enum EntryFault {
     /// The line is too long.
     LineTooLong,
-    /// The text of the line is no JSON.
+    /// The text of the line is not JSON.
     NotJson,
     /// The tree of the line is not the form of an entry.
     NotAnEntry,
-    /// The tree is the form of an entry, and its edit is no word.
+    /// The tree has the form of an entry, but its edit is not a word.
     NotAnEdit,
     /// Memory ran out, which says nothing of the line.
     NoMemory,

@@ -21,10 +21,10 @@ use value_json::two_members;
 /// The entry that a line is; the page docs/FORMATS.md has the form.
 ///
 /// The line may have any bytes. It is refused by the first of these that holds: `LineTooLong`
-/// if and only if it is too long, `NotJson` if and only if its bytes are no text that the reader of
-/// JSON gives a tree for, `NotAnEntry` if and only if the tree is not an object with exactly the
+/// if and only if it is too long, `NotJson` if and only if its bytes are not a text that the reader
+/// of JSON has a tree for, `NotAnEntry` if and only if the tree is not an object with exactly the
 /// members `edit` and `side` of which `side` is `left` or `right`, and `NotAnEdit` if and only if
-/// `edit` is the tree of no word. `NoMemory` says nothing of the line.
+/// `edit` is not the tree of a word. `NoMemory` says nothing of the line.
 pub fn read_entry(alloc: Global, line: &Line) -> Result<Entry, EntryFault>
     // The entry and each refusal are the definition's, both ways.
     ensures entry { Gives entry_tree result (entry_of_line line.now) }

@@ -29,7 +29,7 @@ pub fn write_entry(alloc: Global, entry: &Entry) -> Result<Value, AllocError>
     ensures reads_back { IfOk result
         (λ tree. entry_of_tree (view tree) ≡ Ok (entry_tree entry.now)) }
 
-    // It has no float, so its text is told, and nests one deeper than the tree of the word may.
+    // It has no float, so its text is defined, and it nests one deeper than the tree of the word may.
     ensures no_float { IfOk result (λ tree. has_float (view tree) ≡ false) }
     ensures nests { IfOk result (λ tree.
         depth (view tree) ≤ 3 * word_depth (word_tree entry.now.word) + 2) }
@@ -42,8 +42,8 @@ pub fn write_entry(alloc: Global, entry: &Entry) -> Result<Value, AllocError>
     Ok(Value::Object(members))
 }
 
-// The name of a side.
-fn side_text(side: Side) -> &'static str
+/// The name of a side, as entries and lines of output have it: `left` or `right`.
+pub fn side_text(side: Side) -> &'static str
     ensures { result.now ≡ side_text side }
 {
     match side {

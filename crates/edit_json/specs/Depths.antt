@@ -1,4 +1,4 @@
--- How deep words stand inside one another.
+-- How deep words are nested in one another.
 use Rattle.std.specs.Prelude.{ℕ, ◌+◌, max}
 use Rattle.edit_module.specs.Words.{PrimitiveTree, at, stay, switch, modify, WordTree, no_primitives, more_primitives}
 

@@ -1,4 +1,4 @@
--- What a reader answers.
+-- What a reader returns.
 use Rattle.std.specs.Prelude.{◌≡◌, Option, Some, None, Result, Ok, Err}
 use Rattle.edit_json.specs.declared.fault.EditFault.{EditFault}
 use Rattle.edit_json.specs.declared.fault.EditFault.TheVariants.{NotAnEdit, NoMemory}
@@ -8,7 +8,7 @@ abbrev pub Refuses : {Y : Type 0} → EditFault → Option Y → Type 0
 Refuses NotAnEdit read = read ≡ None
 Refuses NoMemory read = Unit {0}
 
--- what is given is what there is to read
+-- what is returned is what there is to read
 abbrev pub Gives : {X Y : Type 0} → (X → Y) → Result X EditFault → Option Y → Type 0
 Gives view (Ok x) read = read ≡ Some (view x)
 Gives view (Err fault) read = Refuses fault read

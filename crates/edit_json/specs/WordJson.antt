@@ -128,7 +128,7 @@ abbrev mutual
 
 -- ---- the numbers of a word
 
--- the numbers of items that an edit inserts or deletes are told by their own word, `counts_fit`
+-- the numbers of items that an edit inserts or deletes have a definition of their own, `counts_fit`
 abbrev pub edit_numbers_fit : ShapeEdit → Bool
 edit_numbers_fit (edits.MoveItem i j) = fits_u64 i && fits_u64 j
 edit_numbers_fit (edits.Reorder ns) = all_fit_u64 ns

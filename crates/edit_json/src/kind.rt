@@ -1,4 +1,4 @@
-//! What a primitive does, which its tree tells by the name of a member.
+//! What a primitive does, which the name of the member of its tree says.
 
 ghost use Rattle.std.specs.Prelude.{◌≡◌};
 ghost use Rattle.edit_json.specs.Kinds.{kind_of};

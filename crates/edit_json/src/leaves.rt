@@ -17,7 +17,7 @@ use hold_shapes::{Path, Places, ShapeEdit};
 use serde_json::Value;
 use std::alloc::Global;
 
-// Each function here reads the content of the member that its name tells.
+// Each function here reads the content of the member that its own name says.
 
 pub(crate) fn read_set(alloc: Global, content: &Value) -> Result<Primitive, EditFault>
     ensures { Gives primitive_tree result (leaf_of kinds.Set (view content.now)) }

@@ -1,9 +1,9 @@
 //! Words of edits as JSON trees, both ways.
 //!
-//! `read_word` gives the word that has a tree, and `write_word` the tree of a word. Both answer
-//! definitions that stand in specs/WordJson.antt, a line for each primitive, and that are inverse to
+//! `read_word` returns the word that has a tree, and `write_word` the tree of a word. Both are
+//! defined in specs/WordJson.antt, a line for each primitive, and the two definitions are inverse to
 //! each other (`laws`). A word whose insertions and deletions are not all of 1 to 65,536 items has
-//! no tree, which `has_tree` tells. The page docs/FORMATS.md has the forms with examples.
+//! no tree, which `has_tree` tests. The page docs/FORMATS.md has the forms with examples.
 #![tactic(auto)]
 
 pub mod fault;

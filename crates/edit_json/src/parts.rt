@@ -6,7 +6,7 @@ ghost use Rattle.edit_json.specs.Parts.{two_items, three_items};
 
 use serde_json::Value;
 
-// The items of an array of two. None if and only if the tree is no such array.
+// The items of an array of two. None if and only if the tree is not such an array.
 pub(crate) fn two_items(tree: &Value) -> Option<(&Value, &Value)>
     ensures { option_map (λ p. (view p.0.now, view p.1.now)) result ≡ two_items (view tree.now) }
 {
@@ -17,7 +17,7 @@ pub(crate) fn two_items(tree: &Value) -> Option<(&Value, &Value)>
     Some((&items[0], &items[1]))
 }
 
-// The items of an array of three. None if and only if the tree is no such array.
+// The items of an array of three. None if and only if the tree is not such an array.
 pub(crate) fn three_items(tree: &Value) -> Option<(&Value, &Value, &Value)>
     ensures { option_map (λ p. (view p.0.now, view p.1.now, view p.2.now)) result
         ≡ three_items (view tree.now) }

@@ -28,7 +28,7 @@ use value_json::only_member;
 /// `NotAnEdit` if and only if no word has the tree; the page docs/FORMATS.md says which tree a word
 /// has. The tree may be any tree. Nothing of it is copied but its texts.
 pub fn read_word(alloc: Global, tree: &Value) -> Result<Word, EditFault>
-    // The answer is the definition's, both ways.
+    // The word and the refusal are the definition's, both ways.
     ensures word { Gives word_tree result (word_of_tree (view tree.now)) }
 
     // What is read has a tree, and has this tree.

@@ -22,7 +22,7 @@ pub fn write_word_text(alloc: Global, word: &Word) -> Result<String, AllocError>
     ensures text { IfOk result (λ text. string_bytes text
         ≡ compact_text (tree_of_word (word_tree word.now))) }
 
-    // A reader of JSON gives the word's tree back, unless words stand too deep in one another for it.
+    // A reader of JSON gives the word's tree back, unless words are nested too deep for it.
     ensures reads_back { IfOk result (λ text. 3 * word_depth (word_tree word.now) + 1 ≤ max_depth
         → read (string_bytes text) ≡ Some (tree_of_word (word_tree word.now))) }
 {

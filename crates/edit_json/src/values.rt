@@ -15,7 +15,7 @@ use serde_json::Value;
 use std::alloc::Global;
 use value_json::{read_count, read_counts, read_int};
 
-// Each function here fails with `NotAnEdit` if and only if the tree is no such value.
+// Each function here fails with `NotAnEdit` if and only if the tree is not such a value.
 
 pub(crate) fn read_name(alloc: Global, tree: &Value) -> Result<Name, EditFault>
     ensures { Gives (λ name. name) result (as_str (view tree.now)) }

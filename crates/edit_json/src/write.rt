@@ -30,7 +30,7 @@ pub fn write_word(alloc: Global, word: &Word) -> Result<Value, AllocError>
     // What is written is read back as the same word.
     ensures reads_back { IfOk result (λ tree. word_of_tree (view tree) ≡ Some (word_tree word.now)) }
 
-    // It has no float, so its text is told, and each level of words adds three levels to the tree.
+    // It has no float, so its text is defined, and each level of words adds three levels to the tree.
     ensures no_float { IfOk result (λ tree. has_float (view tree) ≡ false) }
     ensures nests { IfOk result (λ tree.
         depth (view tree) ≤ 3 * word_depth (word_tree word.now) + 1) }

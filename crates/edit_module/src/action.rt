@@ -26,7 +26,7 @@ use std::alloc::Global;
 use std::mem;
 
 /// What a word makes of a document: its value after the primitives of the word one after another, which has the type. The empty
-/// word gives the document itself.
+/// word returns the document itself.
 ///
 /// The type is well formed and the document has it. [`ActFault::NoApply`] comes if and only if a primitive fails; it
 /// has the number, from 0, of the first one that does, and its cause. Where a word inside a primitive fails, the
@@ -299,7 +299,7 @@ fn modify(
     }
 }
 
-// Where the content at a place of a container stands.
+// The number of a place of a container.
 fn item_of(place: &Place, ty: &Ty, shape: &Shape, docs: &Docs) -> Option<usize>
     requires { IsHeld (ty_tree ty.now) shape.now (docs_tree docs.now) }
     ensures place { result ≡ place_of shape.now place.now }

@@ -11,7 +11,7 @@ use Rattle.doc_values.specs.Integers.{fits_i64}
 use Rattle.value_json.specs.Numbers.{int_in, counts_of, int_tree, count_items}
 
 -- The tree of a document of the type, a line for each type; `null` where the document is of another type.
--- The members of a tree's object stand in byte order, and so do the names of its type or of its shape.
+-- The members of a tree's object are in byte order, and so are the names of its type or of its shape.
 abbrev mutual
   pub tree_of_document : TyTree → DocTree → Data
   tree_of_document ty_unit unit = null

@@ -1,5 +1,5 @@
 -- The whole numbers of a tree. The specification type of trees has more numbers than a tree that was
--- read can hold: here a whole number of 64 bits stands in it in one way alone, at or above zero as
+-- read can hold: here a whole number of 64 bits is in it in one way alone, at or above zero as
 -- `unsigned`, below zero as `negative`.
 use Rattle.std.specs.Prelude.{ℕ, ℤ, pos, negsuc, ◌^◌, List, [], ◌∷◌, Option, Some, None, option_map, option_and_then, if◌then◌else◌, nat_lt}
 use Rattle.serde_json.specs.Data.{Num, unsigned, negative, float, Data, number, Items, no_items, item}

@@ -1,7 +1,7 @@
 //! Documents as JSON trees, both ways.
 //!
-//! `read_doc` gives the document of a type that has a tree, and `write_doc` the tree of a document.
-//! Both answer definitions that stand in specs/DocumentJson.antt, a line for each type, and that are
+//! `read_doc` returns the document of a type that has a tree, and `write_doc` the tree of a document.
+//! Both are defined in specs/DocumentJson.antt, a line for each type, and the two definitions are
 //! inverse to each other (`laws`). The words and readers for whole numbers (`numbers`) and for
 //! objects with one member and with two (`parts`) serve every crate that reads JSON. The page
 //! docs/FORMATS.md has the forms with examples.

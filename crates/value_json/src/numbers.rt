@@ -11,21 +11,21 @@ ghost use Rattle.value_json.specs.Numbers.{int_in, count_in, int_of, count_of, c
 use serde_json::{Number, Value};
 use std::alloc::{AllocError, Global};
 
-/// The i64 that a tree is. None if and only if it is no number, or a number that is no i64.
+/// The i64 that a tree is. None if and only if it is not a number, or a number that is not an i64.
 pub fn read_int(tree: &Value) -> Option<i64>
     ensures { result ≡ int_of (view tree.now) }
 {
     tree.as_number().and_then(int_in)
 }
 
-/// The u64 that a tree is. None if and only if it is no number, or a number that is no u64.
+/// The u64 that a tree is. None if and only if it is not a number, or a number that is not a u64.
 pub fn read_count(tree: &Value) -> Option<u64>
     ensures { result ≡ count_of (view tree.now) }
 {
     tree.as_number().and_then(count_in)
 }
 
-/// The i64 that a number is. None if and only if it is none.
+/// The i64 that a number is. None if and only if it is not an i64.
 #[tactic(auto, using(crate::proofs::Ranges::int_some, crate::proofs::Ranges::int_none))]
 pub fn int_in(number: &Number) -> Option<i64>
     ensures { result ≡ int_in (number_view number.now) }
@@ -36,7 +36,7 @@ pub fn int_in(number: &Number) -> Option<i64>
     }
 }
 
-/// The u64 that a number is. None if and only if it is none.
+/// The u64 that a number is. None if and only if it is not a u64.
 #[tactic(auto, using(crate::proofs::Ranges::count_some, crate::proofs::Ranges::count_none))]
 pub fn count_in(number: &Number) -> Option<u64>
     ensures { result ≡ count_in (number_view number.now) }
@@ -47,7 +47,7 @@ pub fn count_in(number: &Number) -> Option<u64>
     }
 }
 
-/// The u64 numbers that the items of an array are. None if and only if an item is no u64.
+/// The u64 numbers that the items of an array are. None if and only if an item is not a u64.
 #[tactic(auto, using(crate::proofs::Counts::count_rules))]
 pub fn read_counts(alloc: Global, items: &[Value]) -> Result<Option<Vec<u64>>, AllocError>
     ensures { IfOk result

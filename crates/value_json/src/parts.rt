@@ -8,7 +8,7 @@ use serde_json::Value;
 
 /// The name and the content of the one member of an object.
 ///
-/// None if and only if the tree is no object with one member.
+/// None if and only if the tree is not an object with one member.
 pub fn only_member(tree: &Value) -> Option<(&str, &Value)>
     ensures { option_map (λ p. (p.0.now, view p.1.now)) result ≡ only_member (view tree.now) }
 {
@@ -22,7 +22,7 @@ pub fn only_member(tree: &Value) -> Option<(&str, &Value)>
 
 /// The names and the contents of the two members of an object, in byte order of the names.
 ///
-/// None if and only if the tree is no object with two members.
+/// None if and only if the tree is not an object with two members.
 pub fn two_members(tree: &Value) -> Option<((&str, &Value), (&str, &Value))>
     ensures { option_map (λ p. ((p.0.0.now, view p.0.1.now), (p.1.0.now, view p.1.1.now))) result
         ≡ two_members (view tree.now) }

@@ -26,7 +26,7 @@ use std::alloc::{AllocError, Global};
 /// which tree a document has. The type may be any type, and the tree any tree. Nothing of the tree
 /// is copied but its texts.
 pub fn read_doc(alloc: Global, ty: &Ty, tree: &Value) -> Result<Doc, DocFault>
-    // The answer is the definition's, both ways.
+    // The document and the refusal are the definition's, both ways.
     ensures document { Gives doc_tree result (document_of (ty_tree ty.now) (view tree.now)) }
 
     // What is read has the type and has this tree.

@@ -88,7 +88,7 @@ read_tagged-read-requires t c =
 
 pub read_tagged-returns-in_err-content : goal.read_tagged-returns-in_err-content
 read_tagged-returns-in_err-content t c =
-    let p = err_from_is_err_and c.from_residual-in_err-content.result c.from_residual-in_err-content.ensures.1 in
+    let p = err_from_is_err_and c.from_residual.result c.from_residual.ensures.1 in
     let tags = fields_tree c.args.tags.now in
     rw (p.1, p.2) (refused_with c.in_err-content.field-0.0 _ _
     (λ none. alt_of tags (view c.args.tree.now) ∙ sym (ap (tagged_by tags) c.in-Some.ensures)
@@ -100,4 +100,4 @@ read_tagged-returns t c =
     let tags = fields_tree c.args.tags.now in
     alt_of tags (view c.args.tree.now) ∙ sym (ap (tagged_by tags) c.in-Some.ensures)
     ∙ tag_found tags _ c.from_string-tag.result _ _ _ (c.from_string-tag.ensures ∙ c.in_ok-from_str.ensures.ok) (sym c.in-Some-find.ensures) c.in_ok-content.ensures
-    ∙ ap Some (sym (doc_tree-Alt _ c.in_ok-new.field-0 ∙ ap₂ alt c.tag.view_is (ap doc_tree c.in_ok-new.ensures.ok)))
+    ∙ ap Some (sym (doc_tree-Alt _ c.in_ok-new.field-0 ∙ ap (alt c.from_string-tag.result) (ap doc_tree c.in_ok-new.ensures.ok)))

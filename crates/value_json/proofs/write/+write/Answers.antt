@@ -81,7 +81,7 @@ write_tagged-returns-clause-tree t c =
     let name = ap (λ k. member k (view c.in_ok-content.content) no_members) c.as_str-name.ensures in
     let content = ap (λ d. member c.args.tag.now d no_members) c.in_ok-content.ensures.tree in
     view-Object c.put.new.map ∙ ap object (c.in_ok-put.ensures.ok ∙ empty ∙ name ∙ content)
-    ∙ sym (content_tree tags c.args.tag.now (doc_tree c.args.content.now) _ (sym c.in-Some.ensures))
+    ∙ sym (content_tree tags c.args.tag.now (doc_tree c.args.content.now) _ (sym (rw c.as_str-name.ensures at c.in-Some.ensures)))
 
 -- ---- lists
 
