@@ -103,16 +103,16 @@ fn is_order(alloc: Global, places: &[u64], size: u64) -> Result<bool, AllocError
     requires { length places.now ≡ size }
     ensures { IfOk result (λ b. b ≡ is_each_new size [] places.now) }
 {
-    let mut seen = vec![in alloc; false; places.len()]?;
+    let mut is_used = vec![in alloc; false; places.len()]?;
     for place in places {
         if *place >= size {
             return Ok(false);
         }
         let at = *place as usize;
-        if seen[at] {
+        if is_used[at] {
             return Ok(false);
         }
-        seen[at] = true;
+        is_used[at] = true;
     }
     Ok(true)
 }
