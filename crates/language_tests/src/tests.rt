@@ -11,7 +11,8 @@ use std::process::Abort;
 use texts::{Name, Twin};
 
 /// A program with each construct of the language, in canonical text.
-const EACH_CONSTRUCT: &str = "type t = {a: enum[\"on\", \"off\"], b: <p: unit, o: list keyed tree bool>};\nlens l = then(id t, inv disc text int);\nmain {a ~ b: each keyed tree l, left f: t, right g: text, c ~ d: <p ~ q: bij[\"on\"=\"yes\"], r ~ s: part <p: text, o: int>>}";
+const EACH_CONSTRUCT: &str =
+    "type t = {a: enum[\"on\", \"off\"], b: <p: unit, o: list keyed tree bool>};\nlens l = then(id t, inv disc text int);\nmain {a ~ b: each keyed tree l, left f: t, right g: text, c ~ d: <p ~ q: bij[\"on\"=\"yes\"], r ~ s: part <p: text, o: int>>}";
 
 fn name(alloc: Global, text: &str) -> Result<Name, AllocError> {
     Ok(Name::from_string(String::from_str(alloc, text)?))
@@ -71,7 +72,11 @@ fn types_and_names(rt: HostRuntime) {
 #[test]
 fn copies(rt: HostRuntime) {
     let alloc = rt.alloc();
-    let mentioned = Mention::new(Sort::Lens, name(alloc, "l").expect(&rt, "memory for a name"), 7);
+    let mentioned = Mention::new(
+        Sort::Lens,
+        name(alloc, "l").expect(&rt, "memory for a name"),
+        7,
+    );
     let copy = mentioned.twin(alloc).expect(&rt, "memory for a copy");
     assert_eq!(rt; copy.at, 7);
     assert_eq!(rt; copy.name.as_str(), "l");

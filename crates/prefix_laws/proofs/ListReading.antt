@@ -11,7 +11,8 @@ use Rattle.program_grammar.specs.Grammar.{Symbol, mark, Part, perhaps, repeated,
 use Rattle.program_grammar.specs.Mentions.{Point}
 use Rattle.program_grammar.specs.Reading.{Read, is_mark, mark_at, more_at, list_at, closed_at, perhaps_at}
 use Rattle.prefix_laws.proofs.Machine.{or_else, first_of, take_inside, take_one, stop}
-use Rattle.prefix_laws.proofs.MachineSteps.{Trails, Takes, Reads, stop_nothing, takes_ok, takes_then, none_as, takes_first, takes_as, either_way}
+use Rattle.program_grammar.proofs.RestOfTokens.{drop_to_rest}
+use Rattle.prefix_laws.proofs.MachineSteps.{Takes, Reads, stop_nothing, takes_ok, takes_then, none_as, takes_first, takes_as, either_way}
 use Rattle.program_grammar.proofs.MarkTokens.{mark_is}
 use Rattle.prefix_laws.proofs.TokenReading.{mark_takes}
 

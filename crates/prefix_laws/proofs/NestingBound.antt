@@ -266,11 +266,12 @@ nested_below (plain.rule_replaced r a s t ts k h) ns f g =
     let inner = inside_rule r n in
     let behind = numbered (other_depths ns) s in
     let same = sym (numbered_before inner a (other_depths ns) s) in
-    let b = allowed r n behind t ts g in
-    (b,
+    let b = allowed r n behind t ts g in (
+      b,
       nested_below h (depths_before inner a (other_depths ns))
-      (subst Fine same (fine_alternative r n a behind b k f))
-      (subst (λ q. goes q (t ∷ ts) ≡ true) same (alternative_goes r n a s t ts behind b k (takes_first h) g)))
+          (subst Fine same (fine_alternative r n a behind b k f))
+          (subst (λ q. goes q (t ∷ ts) ≡ true) same (alternative_goes r n a s t ts behind b k (takes_first h) g)),
+    )
 nested_below (plain.option_present p a s t ts k h) ns f g =
     let n = first_depth ns in
     let inner = inside_part p n in

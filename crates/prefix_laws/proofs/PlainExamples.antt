@@ -39,7 +39,7 @@ derived =
 
 -- `each l` is inside nothing, and `l` is inside one lens
 below_two : IsNestedBelow 2 [] derived
-below_two = (tt, omega arith, omega arith, tt)
+below_two = (tt, (omega arith, (omega arith, tt)))
 
 not_below_one : IsNestedBelow 1 [] derived → ⊥
-not_below_one h = absurd (omega (arith, h.2))
+not_below_one h = absurd (omega (arith, h.1.1.0))

@@ -15,7 +15,8 @@ use Rattle.program_grammar.specs.Reading.{Read, ◌>>=◌, mark_at, token_value,
 use Rattle.prefix_laws.proofs.Machine.{or_else, take_one, stop}
 use Rattle.prefix_laws.proofs.MachineSteps.{through, Takes, Reads, takes_ok, takes_then, takes_mapped, takes_none, takes_first, takes_not, takes_as, stop_nothing}
 use Rattle.prefix_laws.proofs.TokenReading.{mark_takes}
-use Rattle.prefix_laws.proofs.ListReading.{rest_is, done_takes}
+use Rattle.program_grammar.proofs.RestOfTokens.{drop_to_rest}
+use Rattle.prefix_laws.proofs.ListReading.{done_takes}
 use Rattle.prefix_laws.proofs.TypeReading.{type_takes}
 use Rattle.prefix_laws.proofs.LensReading.{lens_takes}
 
@@ -62,7 +63,7 @@ more_take e term h s k at ts first others =
     let one = definition_takes e term h (repeated definitions ∷ s) ts in
     takes_first k at ts (a_name ∷ mark Equals ∷ e ∷ mark Semicolon ∷ repeated definitions ∷ s) first (takes_then (definition_at term ts) _ one (λ d e.
     takes_then (definitions_at (length ts - length d.1) ts) _
-    (subst (λ rest. Takes (List NotedDefinition × List PlacedToken) (λ x. x.1) (repeated definitions ∷ s) s rest (definitions_at (length ts - length d.1) ts)) (rest_is ts d.1 (one.leaves d e)) (others (length ts - length d.1)))
+    (subst (λ rest. Takes (List NotedDefinition × List PlacedToken) (λ x. x.1) (repeated definitions ∷ s) s rest (definitions_at (length ts - length d.1) ts)) (drop_to_rest ts d.1 (one.leaves d e)) (others (length ts - length d.1)))
     (λ ds _. takes_ok s (d.0 ∷ ds.0, ds.1))))
 
 definitions_by_word : (s : List Symbol) (k : Keyword) (at : ℕ) (ts : List PlacedToken) → ((skip : ℕ) → Definitions s skip ts) → Definitions s 0 (placed (tokens.Keyword k) at ∷ ts)

@@ -14,7 +14,7 @@ use Rattle.program_terms.specs.Terms.{TypeTree, LensTree, RowTree, DefTree}
 use Rattle.program_grammar.specs.declared.mention.Mention.{Mention}
 use Rattle.program_grammar.specs.Mentions.{Point, NotedDefinition, NotedProgram}
 use Rattle.program_grammar.specs.Reading.{Read, ◌>>=◌, is_mark, next_is, word_in, next_word, string_in, field_in, mark_in, mark_at, token_value, string_from, string_at, field_from, field_at, more_at, list_at, closed_at, perhaps_at, typed_at, enum_at, record_at, one_of_at, word_type, mark_type, begun_type, type_from, type_step, type_at, pair_at, bij_at, arm_at, left_row_at, right_row_at, both_row_at, row_by, row_at, then_at, disc_at, part_at, word_lens, rec_at, alt_at, mark_lens, begun_lens, lens_from, lens_step, lens_at, name_in, name_from, name_at, type_term_at, lens_term_at, definition_at, definition_of, definitions_at, is_main, main_at, is_end, none_left, end_at, program_at, next_offset}
-use Rattle.program_grammar.proofs.RestOfTokens.{IsRest, rest_self, rest_cons, rest_then, drop_to_rest}
+use Rattle.program_grammar.proofs.RestOfTokens.{IsRest, drop_to_rest}
 
 -- a token that is neither the end nor bad
 abbrev pub is_free : Token → Bool
@@ -35,13 +35,16 @@ free_append [] b h k = k
 free_append (t ∷ a) b h k = (h.0, free_append a b h.1 k)
 
 pub free_self : (ts : List PlacedToken) → PassesFree ts ts
-free_self ts = record { rest = rest_self ts; free = tt }
+free_self ts = record { rest = record { front = []; parts = refl }; free = tt }
 
 free_cons : (t : PlacedToken) (ts left : List PlacedToken) → is_free t.token ≡ true → PassesFree ts left → PassesFree (t ∷ ts) left
-free_cons t ts left f h = record { rest = rest_cons t left ts h.rest; free = (f, h.free) }
+free_cons t ts left f h = record { rest = record { front = t ∷ h.rest.front; parts = ap (λ x. t ∷ x) h.rest.parts }; free = (f, h.free) }
 
 free_then : (a b c : List PlacedToken) → PassesFree a b → PassesFree b c → PassesFree a c
-free_then a b c p q = record { rest = rest_then c b a q.rest p.rest; free = free_append p.rest.front q.rest.front p.free q.free }
+free_then a b c p q = record {
+  rest = record { front = p.rest.front ++ q.rest.front; parts = p.rest.parts ∙ ap (λ x. p.rest.front ++ x) q.rest.parts ∙ sym (append_assoc p.rest.front q.rest.front c) };
+  free = free_append p.rest.front q.rest.front p.free q.free;
+}
 
 free_before : (a b : List PlacedToken) → PassesFree a b → Free b → Free a
 free_before a b p h = subst Free (sym p.rest.parts) (free_append p.rest.front b p.free h)

@@ -8,11 +8,11 @@ ghost use Rattle.program_tokens.specs.declared.mark.Mark.TheVariants.{CloseBrack
 use crate::fault::ReadFault;
 use crate::reader::Reader;
 use crate::types::{read_closed_fields, read_field, read_type};
-use texts::Name;
 use program_grammar::Sort;
 use program_terms::{Arms, Lens, Pairs, Row, Rows, TyFields};
 use program_tokens::{Keyword, Mark, Token};
 use std::alloc::Global;
+use texts::Name;
 
 // ---- lenses with no lens inside
 

@@ -9,12 +9,12 @@ use crate::fault::ReadFault;
 use crate::lenses::read_lens;
 use crate::reader::Reader;
 use crate::types::read_type;
-use texts::Name;
 use program_grammar::{Mention, Sort};
 use program_terms::{Def, Lens};
 use program_tokens::{Keyword, Mark, Tokens};
 use std::alloc::Global;
 use std::collections::VecDeque;
+use texts::Name;
 
 /// How many types and lenses may be nested.
 const NESTED: u32 = 100;

@@ -7,12 +7,12 @@ ghost use Rattle.program_reader.specs.declared.fault.ReadFault.TheVariants.{Ende
 ghost use Rattle.program_tokens.specs.declared.mark.Mark.TheVariants.{Comma};
 
 use crate::fault::ReadFault;
-use texts::{Name, Twin};
 use program_grammar::{Mention, Sort};
 use program_tokens::{Keyword, Mark, PlacedToken, Token, Tokens};
 use std::alloc::{AllocError, Global};
 use std::marker::Model;
 use std::mem;
+use texts::{Name, Twin};
 
 /// The tokens that are left of a text, and the names that those before them mentioned.
 ///

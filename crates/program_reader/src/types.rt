@@ -7,11 +7,11 @@ ghost use Rattle.program_tokens.specs.declared.mark.Mark.TheVariants.{CloseBrack
 
 use crate::fault::ReadFault;
 use crate::reader::Reader;
-use texts::{Name, Names};
 use program_grammar::Sort;
 use program_terms::{TyExpr, TyFields};
 use program_tokens::{Keyword, Mark, Token};
 use std::alloc::Global;
+use texts::{Name, Names};
 
 /// Strings with commas between them, at least one.
 fn read_strings(alloc: Global, reader: &mut Reader) -> Result<Vec<Name>, ReadFault>

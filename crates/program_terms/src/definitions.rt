@@ -7,9 +7,9 @@ ghost use Rattle.program_terms.specs.declared.definitions.AddFault;
 
 use crate::lens::Lens;
 use crate::types::TyExpr;
-use texts::{Name, Twin};
 use indexmap::IndexMap;
 use std::alloc::{AllocError, Global};
+use texts::{Name, Twin};
 
 /// What a name is defined as. Contracts see it as a `DefTree`.
 #[derive(Drop)]

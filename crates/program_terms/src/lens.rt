@@ -6,8 +6,8 @@ ghost use Rattle.program_terms.specs.Views.{lens_tree, row_tree, rows_tree, arms
 
 use crate::pairs::Pairs;
 use crate::types::{TyExpr, TyFields};
-use texts::{Name, Twin};
 use std::alloc::{AllocError, Global};
+use texts::{Name, Twin};
 
 /// A lens as a program writes it, in which a name may refer to a lens that is defined.
 ///

@@ -2,9 +2,9 @@
 
 ghost use Rattle.std.specs.Prelude.{◌≡◌};
 
-use texts::{Name, Twin};
 use std::alloc::{AllocError, Global};
 use std::marker::Model;
+use texts::{Name, Twin};
 
 /// A list of two names each, the left one first, with or without repeats: the members that a bijection joins.
 ///

@@ -6,8 +6,8 @@ ghost use Rattle.program_terms.specs.Views.{lens_tree, def_tree, definitions_tre
 
 use crate::definitions::{Def, Definitions};
 use crate::lens::Lens;
-use texts::{Name, Twin};
 use std::alloc::{AllocError, Global};
+use texts::{Name, Twin};
 
 /// A program: definitions in written order, no two of one name, and a main lens.
 ///

@@ -4,8 +4,8 @@ ghost use Rattle.std.specs.Prelude.{◌≡◌, IfOk, map};
 ghost use Rattle.program_terms.specs.Terms.{term_fields_of};
 ghost use Rattle.program_terms.specs.Views.{type_tree, fields_tree, field_tree};
 
-use texts::{Name, Names, Twin};
 use std::alloc::{AllocError, Global};
+use texts::{Name, Names, Twin};
 
 /// A type as a program writes it, in which a name may refer to a type that is defined.
 ///

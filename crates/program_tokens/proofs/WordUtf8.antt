@@ -15,7 +15,6 @@ byte_ascii b h = grind (arith, nat_tests)
 suc_of : (n : ℕ) → 1 + n ≡ suc n
 suc_of n = omega arith
 
-
 word_ascii : (bs : List ℕ) → list_all in_word bs ≡ true → IsAscii bs
 word_ascii [] h = IsAscii-nil
 word_ascii (b ∷ bs) h = let p = split (in_word b) (list_all in_word bs) h in IsAscii-cons b bs (byte_ascii b p.0) (word_ascii bs p.1)

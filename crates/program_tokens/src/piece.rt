@@ -9,8 +9,8 @@ use crate::mark::Mark;
 use crate::text::is_text;
 use crate::token::Token;
 use crate::word::{begins_word, in_word, is_space};
-use texts::Name;
 use std::alloc::{AllocError, Global};
+use texts::Name;
 
 /// A piece of text, with the number of bytes behind its first.
 #[derive(Drop)]

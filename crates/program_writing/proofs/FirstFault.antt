@@ -23,7 +23,29 @@ abbrev all_known : List (List ℕ × DefTree) → List (Sort × List ℕ) → Bo
 all_known earlier [] = true
 all_known earlier (m ∷ ms) = known m earlier && all_known earlier ms
 
-abbrev good_after : (earlier : List (List ℕ × DefTree)) (ds : List NotedDefinition) (main : List Mention) (ts rest : List PlacedToken) → AreDefinitions ds ts rest
+abbrev good_after : List (List ℕ × DefTree) → List (List ℕ × DefTree) → List (Sort × List ℕ) → Bool
+good_after earlier [] main = all_known earlier main
+good_after earlier (d ∷ ds) main = not (is_defined d.0 earlier) && (all_known earlier (def_names d.1) && good_after (earlier ++ d ∷ []) ds main)
+
+abbrev good_names : ProgramTree → Bool
+good_names p = good_after [] p.definitions (lens_names p.main)
+
+-- ---- they find a fault where there is one
+
+is_none-cond : (b : Bool) (fault : NameFault) (o : Option NameFault) → is_none (cond b o (Some fault)) ≡ (b && is_none o)
+is_none-cond true fault o = refl
+is_none-cond false fault o = refl
+
+unknown : (earlier : List (List ℕ × DefTree)) (ms : List Mention) → is_none (first_unknown earlier ms) ≡ all_known earlier (map unplaced ms)
+unknown earlier [] = refl
+unknown earlier (m ∷ ms) = is_none-cond (is_known m earlier) (Unknown m.at) (first_unknown earlier ms) ∙ ap (λ b. is_known m earlier && b) (unknown earlier ms)
+
+neither : (b : Bool) (fault : NameFault) (o p : Option NameFault) → is_none (cond b (Some fault) (or_else o p)) ≡ (not b && (is_none o && is_none p))
+neither true fault o p = refl
+neither false fault None p = refl
+neither false fault (Some f) p = refl
+
+after : (earlier : List (List ℕ × DefTree)) (ds : List NotedDefinition) (main : List Mention) (ts rest : List PlacedToken) → AreDefinitions ds ts rest
     → is_none (first_after earlier ds main) ≡ good_after earlier (map definition_without_notes ds) (map unplaced main)
 after earlier [] main ts rest h = unknown earlier main
 after earlier (d ∷ ds) main ts rest h =

@@ -105,8 +105,8 @@ definition_again term d here there h read = rw (mark_again Equals ([], h.a) h.b 
 -- behind its first word a definition is ahead of what is behind it
 definition_ahead : (d : NotedDefinition) (here there : List PlacedToken) (h : IsDefinition d here there) → ComesBefore ([], placed (tokens.Name d.name) d.at ∷ h.a) ([], there)
 definition_ahead d here there h =
-    let name : ComesBefore ([], placed (tokens.Name d.name) d.at ∷ h.a) ([], h.a) = record { front = placed (tokens.Name d.name) d.at ∷ []; parts = refl } in
-    let last : ComesBefore (d.mentions, there) ([], there) = record { front = []; parts = refl } in
+    let name : ComesBefore ([], placed (tokens.Name d.name) d.at ∷ h.a) ([], h.a) = record { rest = record { front = placed (tokens.Name d.name) d.at ∷ []; parts = refl } } in
+    let last : ComesBefore (d.mentions, there) ([], there) = record { rest = record { front = []; parts = refl } } in
     onward name (onward (is_ahead h.equals) (onward (statement_ahead d.def h.word h.b h.c h.stands) (onward (is_ahead h.ends) last)))
 
 -- definitions in written order
@@ -134,7 +134,7 @@ with_found k term e at ts gathered x h =
     let ahead : ComesBefore ([], ts) ([], a.0.1) = subst (λ (r : List PlacedToken). ComesBefore ([], r) ([], a.0.1)) (sym behind) (definition_ahead a.0.0 (placed (tokens.Keyword k) at ∷ ts) a.0.1 one) in
     let others = gathered (length ts - length a.0.1) b.0 b.1 in
     gathered_as (placed (tokens.Keyword k) at ∷ ts) (a.0.0 ∷ b.0.0, b.0.1) x b.2
-    (a.0.1, one, subst (λ (r : List PlacedToken). AreDefinitions b.0.0 r b.0.1) (drop_to_rest ts a.0.1 ahead) others)
+    (a.0.1, one, subst (λ (r : List PlacedToken). AreDefinitions b.0.0 r b.0.1) (drop_to_rest ts a.0.1 ahead.rest) others)
 
 begun_found : (k : Token) (at : ℕ) (ts : List PlacedToken) → Gathered ts → (x : List NotedDefinition × List PlacedToken) → definitions_at 0 (placed k at ∷ ts) ≡ Ok x → AreDefinitions x.0 (placed k at ∷ ts) x.1
 unfolding definitions_at
@@ -155,7 +155,7 @@ with_again : (term : Point → Read DefTree) (d : NotedDefinition) (here there :
 with_again term d here there h read =
     let ts = placed (tokens.Name d.name) d.at ∷ h.a in
     ap (λ (r : Result (NotedDefinition × List PlacedToken) (Option ℕ)). r >>= λ y. definitions_at (length ts - length y.1) ts >>= λ ds. done (y.0 ∷ ds.0, ds.1)) (definition_again term d here there h read)
-    ∙ ap (λ (r : Result (List NotedDefinition × List PlacedToken) (Option ℕ)). r >>= λ ds. done (d ∷ ds.0, ds.1)) (definitions_after ts there (definition_ahead d here there h))
+    ∙ ap (λ (r : Result (List NotedDefinition × List PlacedToken) (Option ℕ)). r >>= λ ds. done (d ∷ ds.0, ds.1)) (definitions_after ts there (definition_ahead d here there h).rest)
 
 type_word : (at : ℕ) (ts : List PlacedToken) → definitions_at 0 (placed (tokens.Keyword words.Type) at ∷ ts) ≡ with_definition type_term_at ts
 unfolding definitions_at

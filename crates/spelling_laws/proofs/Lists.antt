@@ -52,7 +52,7 @@ more_found {A = A} R element e zero ms (t ∷ ts) x h =
           let b = bind_ok (more_at element (length ts - length a.0.1.1) a.0.1.0 ts) (λ ys. Ok (a.0.0 ∷ ys.0, ys.1)) x a.2 in
           let first = e.found (ms, ts) a.0 a.1 in
           let others = more_found R element e (length ts - length a.0.1.1) a.0.1.0 ts b.0 b.1 in
-          let rest = drop_to_rest ts a.0.1.1 (e.moves a.0.0 (ms, ts) a.0.1 first) in
+          let rest = drop_to_rest ts a.0.1.1 (e.moves a.0.0 (ms, ts) a.0.1 first).rest in
           read_as (Others R) (ms, t ∷ ts) (a.0.0 ∷ b.0.0, b.0.1) x b.2
           ((ms, ts), a.0.1, this_mark Comma ms t ts p.0, first, subst (λ (r : List PlacedToken). Others R b.0.0 (a.0.1.0, r) b.0.1) rest others)
       | inr p ↦ read_as (Others R) (ms, t ∷ ts) ([], (ms, t ∷ ts)) x p.1 refl
@@ -70,7 +70,7 @@ unfolding more_at
 more_comma {A = A} element here a b x comma read h =
     ap (λ (p : Point). more_at element 0 p.0 p.1) (point_is comma)
     ∙ ap (λ (r : Read A). r >>= λ y. more_at element (length a.1 - length y.1.1) y.1.0 a.1 >>= λ ys. Ok (y.0 ∷ ys.0, ys.1)) read
-    ∙ ap (λ (r : Read (List A)). r >>= λ ys. Ok (x ∷ ys.0, ys.1)) (more_after element b.0 a.1 b.1 h)
+    ∙ ap (λ (r : Read (List A)). r >>= λ ys. Ok (x ∷ ys.0, ys.1)) (more_after element b.0 a.1 b.1 h.rest)
 
 more_again : {A : Type 0} (R : A → Point → Point → Type 0) (element : Point → Read A) → Exact R element → (xs : List A) (here there : Point) → Others R xs here there → next_is Comma there.1 ≡ false
     → more_at element 0 here.0 here.1 ≡ Ok (xs, there)

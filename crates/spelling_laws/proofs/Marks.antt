@@ -125,4 +125,4 @@ field_no_mark m f here there (inr h) = ap (next_is m) h.parts
 
 -- a name that is mentioned is one token
 pub mention_ahead : {sort : Sort} {s : List ℕ} {here there : Point} → IsMention sort s here there → ComesBefore here there
-mention_ahead {s = s} h = record { front = placed (tokens.Name s) h.at ∷ []; parts = h.parts }
+mention_ahead {s = s} h = record { rest = record { front = placed (tokens.Name s) h.at ∷ []; parts = h.parts } }

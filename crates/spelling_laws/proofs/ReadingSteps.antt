@@ -11,22 +11,22 @@ use Rattle.program_grammar.proofs.ReadingResults.{done, ok_is, bind_ok}
 use Rattle.program_grammar.proofs.RestOfTokens.{IsRest, rest_self, rest_then}
 
 -- the tokens that are left at the second point end those that are left at the first
-abbrev pub ComesBefore : Point → Point → Type 0
-ComesBefore here there = IsRest there.1 here.1
+pub record ComesBefore (here there : Point) : Type 0 where
+  pub rest : IsRest there.1 here.1
 
 pub no_step : {here there : Point} → here ≡ there → ComesBefore here there
-no_step {here = here} e = subst (λ (p : Point). IsRest p.1 here.1) e (rest_self here.1)
+no_step {here = here} e = record { rest = subst (λ (p : Point). IsRest p.1 here.1) e (rest_self here.1) }
 
 pub onward : {a b c : Point} → ComesBefore a b → ComesBefore b c → ComesBefore a c
-onward {a = a} {b = b} {c = c} p q = rest_then c.1 b.1 a.1 q p
+onward {a = a} {b = b} {c = c} p q = record { rest = rest_then c.1 b.1 a.1 q.rest p.rest }
 
 pub is_ahead : {k : Token} {here there : Point} → Is k here there → ComesBefore here there
-is_ahead {k = k} h = record { front = placed k h.at ∷ []; parts = h.parts }
+is_ahead {k = k} h = record { rest = record { front = placed k h.at ∷ []; parts = h.parts } }
 
 -- The relation holds of a value and two points if and only if the reader reads the value at the first and leaves the second, and the
 -- second is ahead of the first.
 pub record Exact {A : Type 0} (R : A → Point → Point → Type 0) (reader : Point → Read A) : Type 0 where
-  pub moves : (x : A) (here there : Point) → R x here there → Ahead here there
+  pub moves : (x : A) (here there : Point) → R x here there → ComesBefore here there
   pub found : (here : Point) (x : A × Point) → reader here ≡ Ok x → R x.0 here x.1
   pub again : (x : A) (here there : Point) → R x here there → reader here ≡ Ok (x, there)
 
