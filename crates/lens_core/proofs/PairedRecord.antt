@@ -47,7 +47,7 @@ record IsInt (x : DocTree) : Type 0 where
   value : ℤ
   is : x ≡ int value
 
-tested_int : (b : Bool) (c : Cause) (n : ℤ) (x : DocTree) → tested b c (Ok (int n)) ≡ Ok x → IsInt x
+tested_int : (b : Bool) (c : Cause) (n : ℤ) (x : DocTree) → cond b (Ok (int n)) (Err c) ≡ Ok x → IsInt x
 tested_int true c n x e = record { value = n; is = cc }
 tested_int false c n x e = cc
 

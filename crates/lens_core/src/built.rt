@@ -5,7 +5,7 @@ ghost use Rattle.lens_forms.specs.Forms.{form_tree, row_tree, with_row, no_rows,
 ghost use Rattle.lens_core.specs.Built.{is_paired_int, paired_int};
 
 use doc_values::Ty;
-use lens_types::{Form, FormRow};
+use lens_forms::{Form, FormRow};
 use texts::Name;
 
 /// Whether a form is the one that is carried today: the record of one paired row with `id int`, whatever its two fields.

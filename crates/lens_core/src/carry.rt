@@ -12,7 +12,7 @@ use crate::built::paired_fields;
 use crate::comp::Comp;
 use edit_module::word::Primitive;
 use edit_module::Word;
-use lens_types::Form;
+use lens_forms::Form;
 use std::alloc::{AllocError, AllocFailed, Global};
 use texts::{Name, Side, Twin};
 

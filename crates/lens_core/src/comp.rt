@@ -4,7 +4,7 @@ ghost use Rattle.std.specs.Prelude.{◌≡◌, map, IfOk};
 ghost use Rattle.lens_core.specs.Complements.{comp_tree, comps_tree, comps_of, missing, missing_rows};
 ghost use Rattle.lens_forms.specs.Forms.{form_tree, rows_tree};
 
-use lens_types::{Form, FormRow, FormRows};
+use lens_forms::{Form, FormRow, FormRows};
 use std::alloc::{AllocError, Global};
 use texts::Twin;
 

@@ -34,7 +34,7 @@ fn is_one_nil(comp: &Comp) -> bool {
 fn a_word_is_translated(rt: HostRuntime) -> Result<(), Fail> {
     let alloc = rt.alloc();
     let program = read_program(alloc, b"main {a ~ b: id int}")?;
-    let lens = check(alloc, &program)?;
+    let lens = check(alloc, &program).ok().ok_or("no type")?;
     assert!(rt; is_built(lens.form()));
     let comp = missing(alloc, lens.form())?.twin(alloc)?;
     assert!(rt; is_one_nil(&comp));
