@@ -3,11 +3,7 @@ pub use Rattle.lens_forms.specs.Measures
 pub use Rattle.lens_forms.specs.Typing
 pub mod Checking
 pub mod Earlier
-pub mod Entries
 pub mod Faults
-pub mod Heights
-pub mod Nodes
-pub mod PartRooms
 pub mod Repeats
 pub mod SideTypes
 pub mod Sizes

@@ -6,18 +6,9 @@
 #![tactic(auto)]
 
 mod checking;
-mod earlier;
-mod expansion;
 mod fault;
-mod heights;
-mod known;
-mod lenses;
 mod limits;
-mod names;
-mod sides;
-mod size;
 mod typed;
-mod types;
 
 pub use crate::checking::check;
 pub use crate::fault::TypeFault;

@@ -5,7 +5,6 @@ ghost use Rattle.doc_values.specs.Types.{ty_tree, height, is_well_formed};
 ghost use Rattle.lens_forms.specs.Forms.{form_tree, left_type, right_type};
 ghost use Rattle.lens_forms.specs.Measures.{form_parts, form_height, longest_list, most_parts, greatest_height};
 ghost use Rattle.lens_forms.specs.Typing.{IsTyped, is_typed};
-ghost use Rattle.lens_types.specs.Sound.{is_sound};
 
 use doc_values::Ty;
 use lens_forms::Form;
@@ -41,16 +40,6 @@ impl Model for Typed {
 }
 
 impl Typed {
-    // A sound form with its two types. It does not allocate.
-    pub(crate) fn new(form: Form, left: Ty, right: Ty) -> Typed
-        requires sound { IsTrue (is_sound (form_tree form)) }
-        requires left_is { ty_tree left ≡ left_type (form_tree form) }
-        requires right_is { ty_tree right ≡ right_type (form_tree form) }
-        ensures { form_tree result ≡ form_tree form }
-    {
-        Typed { form, left, right }
-    }
-
     /// The form.
     ///
     /// It is typed, with [`left`](Typed::left) and [`right`](Typed::right): in all its parts names are distinct on each
