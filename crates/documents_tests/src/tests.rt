@@ -63,7 +63,10 @@ fn words(rt: HostRuntime) -> Result<(), Fail> {
     let both = first.joined(second)?;
     assert!(rt; has_tree(&both));
     let text = write_word_text(alloc, &both)?;
-    assert_eq!(rt; text.as_str(), "[{\"put\":\"k\"},{\"mod\":[\"k\",[{\"set\":true}]]}]");
+    assert_eq!(rt;
+        text.as_str(),
+        "[{\"put\":\"k\"},{\"mod\":[\"k\",[{\"set\":true}]]}]"
+    );
     Ok(())
 }
 
