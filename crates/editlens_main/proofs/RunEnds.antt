@@ -41,7 +41,7 @@ run_result_is_paired : (r : Result ProgramTree ProgramCause) (f : FormTree) → 
 run_result_is_paired (Ok program) f h = run_program_is_paired program (first_failure program) f h
 run_result_is_paired (Err fault) f h = absurd cc
 
-pub form_for_command : (text : List ℕ) (f : FormTree) → lens_of Run text ≡ Ok f → IsTrue (is_paired_int f)
+pub run_lens_is_paired : (text : List ℕ) (f : FormTree) → lens_of Run text ≡ Ok f → IsTrue (is_paired_int f)
 run_lens_is_paired text f h = run_result_is_paired (bounded text) f h
 
 finished : (b : Bool) → IsFinished (ending b)

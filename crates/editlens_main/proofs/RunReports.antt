@@ -1,5 +1,5 @@
 -- The report in the form of the code is the report.
-use Rattle.std.proofs.Common.{◌≡◌, ℕ, ◌+◌, List, [], ◌∷◌, ◌++◌, Bool, true, false, not, ◌||◌, cond, Option, Some, None, option_map, option_and_then, Result, Ok, Err, map, refl, sym, ap, ap₂, ◌∙◌, append_assoc}
+use Rattle.std.proofs.Common.{◌≡◌, ℕ, ◌+◌, List, [], ◌∷◌, ◌++◌, Bool, true, false, not, ◌||◌, cond, Option, Some, None, option_map, option_and_then, Result, Ok, Err, map, refl, sym, ap, ap₂, ◌∙◌, append_assoc, subst}
 use Rattle.lens_forms.specs.Forms.{FormTree}
 use Rattle.edit_journal.specs.Lines.{line_of, is_blank}
 use Rattle.edit_journal.specs.EntryJson.{entry_of_line}

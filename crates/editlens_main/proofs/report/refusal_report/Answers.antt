@@ -11,7 +11,7 @@ pub returns-in_ok-syntax_line-in-Syntax : goal.returns-in_ok-syntax_line-in-Synt
 returns-in_ok-syntax_line-in-Syntax c = λ outcome command items h.
     let t = subst (IsRefusal outcome) c.in-Syntax.is h in
     refused_report command outcome items (syntax t.cause) _ _ t.is
-    (c.refused_with.ensures.text ∙ if_cause _ _ t.cause c.in_ok-syntax_line.ensures.line t.is_fault) c.refused_with.ensures.status
+    (c.refused_with.ensures.text ∙ if_cause _ _ t.cause c.in_ok-syntax_line-in-Syntax.ensures.line t.is_fault) c.refused_with.ensures.status
 
 pub typing_line-requires : goal.typing_line-requires
 typing_line-requires c = record { of_the_program = subst IsKnown c.in-Typing.is c.requires }
