@@ -30,7 +30,11 @@ pub fn run_step(alloc: Global, step: &Step) -> Result<Outcome> {
     }
     let input = Bytes::from_vec(step.input.clone()?);
     let mut source = MemSource::new(input, pieces, step.head.source_fails.clone()?);
-    let mut sink = MemSink::new(alloc, step.head.takes.clone()?, step.head.sink_fails.clone()?);
+    let mut sink = MemSink::new(
+        alloc,
+        step.head.takes.clone()?,
+        step.head.sink_fails.clone()?,
+    );
     let status = editlens(alloc, &step.head.words, &mut source, &mut sink);
     if sink.memory_faults() > 0 {
         bail!("the output does not fit in memory");

@@ -10,8 +10,8 @@ ghost use Rattle.lens_core.specs.Parts.{only_part, passes};
 
 use crate::built::paired_fields;
 use crate::comp::Comp;
-use edit_module::word::Primitive;
 use edit_module::Word;
+use edit_module::word::Primitive;
 use lens_forms::Form;
 use std::alloc::{AllocError, AllocFailed, Global};
 use texts::{Name, Side, Twin};
