@@ -4,7 +4,7 @@ use answer_text::{
 };
 use doc_values::Ty;
 use edit_journal::EntryFault;
-use edit_json::{read_word, write_word_text};
+use edit_json::{has_tree, read_word, write_word_text};
 use edit_module::{Cause, Word};
 use editlens_main::{Status, run_sure};
 use lens_core::{Comp, is_built, missing, record_carry};
@@ -40,6 +40,7 @@ fn a_word_is_translated(rt: HostRuntime) -> Result<(), Fail> {
     assert!(rt; is_one_nil(&comp));
     let edit = word(alloc, "[{\"at\":[\"a\",[{\"set\":5}]]}]")?;
     let carried = record_carry(alloc, lens.form(), Side::Left, &comp, &edit)?.twin(alloc)?;
+    assert!(rt; has_tree(&carried.word));
     let text = write_word_text(alloc, &carried.word)?;
     assert_eq!(rt; text.as_str(), "[{\"at\":[\"b\",[{\"set\":5}]]}]");
     assert!(rt; is_one_nil(&carried.comp));
@@ -58,6 +59,7 @@ fn shows(line: Result<Bytes, AllocError>, text: &str) -> bool {
 fn answers_are_lines(rt: HostRuntime) -> Result<(), Fail> {
     let alloc = rt.alloc();
     let edit = word(alloc, "[{\"at\":[\"b\",[{\"set\":-5}]]}]")?;
+    assert!(rt; has_tree(&edit));
     let text = "ok 12 left [{\"at\":[\"b\",[{\"set\":-5}]]}]\n";
     assert!(rt; shows(ok_line(alloc, 12, Side::Left, &edit), text));
     let text = "refused 18446744073709551615 no-apply 20 deep\n";
