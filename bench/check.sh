@@ -1,6 +1,6 @@
 #!/usr/bin/env bash
-# Times `editlens check` on programs that are large or hostile: bash bench/check.sh. It prints the milliseconds of each and the first
-# words of its answer. It is run by hand.
+# Times `editlens check` on programs that are large or hostile: bash bench/check.sh. It prints the milliseconds of each, its greatest
+# memory and the first words of its output. It is run by hand.
 set -eu
 
 here=$(cd "$(dirname "${BASH_SOURCE[0]}")/.." && pwd)
@@ -34,18 +34,49 @@ def named(size):
     return text + 'main b\n'
 
 
+def descending(rows):
+    """A record whose names are written in descending order."""
+    return '{' + ', '.join('f%04d ~ g%04d: id int' % (rows - k, rows - k) for k in range(rows)) + '}'
+
+
+def pairs(count):
+    return 'main bij[' + ', '.join('"%x"="%x"' % (k, k) for k in range(count)) + ']\n'
+
+
+def chained(count):
+    """Definitions each of which is an alias of the one before."""
+    text = 'lens l0 = each id int;\n'
+    for k in range(1, count + 1):
+        text += 'lens l%d = l%d;\n' % (k, k - 1)
+    return text + 'main each l%d\n' % count
+
+
+def compared(count):
+    """Definitions each of which compares both sides of one record of 1,000 rows."""
+    text = 'lens b = {' + ', '.join('f%x ~ f%x: id int' % (k, k) for k in range(1000)) + '};\n'
+    for k in range(count):
+        text += 'lens l%x=then(b,b);' % k
+    return text + 'main b\n'
+
+
 def measure(name, text):
     best = None
     for _ in range(3):
         started = time.monotonic()
-        ran = subprocess.run([program, 'check'], input=text, capture_output=True, text=True)
-        taken = time.monotonic() - started
-        best = taken if best is None else min(best, taken)
-    print('%s, %d bytes: %.0f ms, %s' % (name, len(text), best * 1000, ran.stdout[:30].split('\n')[0]))
+        ran = subprocess.run(['/usr/bin/time', '-f', '%M', program, 'check'], input=text, capture_output=True, text=True)
+        elapsed = time.monotonic() - started
+        best = elapsed if best is None else min(best, elapsed)
+    memory = int(ran.stderr.split()[-1]) / 1024
+    print('%s, %d bytes: %.0f ms, %.0f MB, %s' % (name, len(text), best * 1000, memory, ran.stdout[:30].split('\n')[0]))
 
 
 measure('a record doubled 16 times by names', ''.join(doubled(16)))
 measure('a record of 1,365 rows, the most that fit', 'main ' + record(1365) + '\n')
 measure('a record of one row more', 'main ' + record(1366) + '\n')
 measure('definitions that each stand for 1,000 rows', named(65536))
+measure('a record of 1,300 rows in descending order of names', 'main ' + descending(1300) + '\n')
+measure('30 nested `each` around 1,000 rows', 'main ' + 'each ' * 30 + record(1000) + '\n')
+measure('4,095 pairs, the most that fit', pairs(4095))
+measure('2,000 definitions, each an alias of the one before', chained(2000))
+measure('2,500 definitions that compare 1,000 fields', compared(2500))
 PYTHON

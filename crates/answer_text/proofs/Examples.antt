@@ -4,50 +4,50 @@ use Rattle.std.specs.Fmt.{digits}
 use Rattle.serde_json.specs.Data.{null}
 use Rattle.serde_json.proofs.OnLiterals.{serde_json_on_literals}
 use Rattle.program_tokens.specs.Words.{is_name, is_word, begins_word, in_word, keyword_of}
-use Rattle.doc_values.specs.Types.{ty_int, ty_text, ty_enum, ty_rec, ty_alt, no_fields, field}
-use Rattle.edit_module.specs.Words.{set, at, done, then}
+use Rattle.doc_values.specs.Types.{ty_int, ty_text, ty_enum, ty_rec, ty_alt, no_fields, more_fields}
+use Rattle.edit_module.specs.Words.{set, at, no_primitives, more_primitives}
 use Rattle.edit_module.specs.declared.atom.Atom.TheVariants.{Number}
 use Rattle.texts.specs.declared.side.Side.TheVariants.{Left, Right}
 use Rattle.edit_module.specs.declared.fault.Cause.TheVariants.{Place}
 use Rattle.edit_journal.specs.declared.fault.EntryFault.TheVariants.{NotAnEdit}
-use Rattle.lens_syntax.specs.declared.fault.ProgramFault.TheVariants.{ProgramTooLong, NotAProgram, RepeatedName}
+use Rattle.lens_syntax.specs.Programs.{too_long, not_a_program, repeated_name}
 use Rattle.lens_types.specs.Checking.{middle_differs, repeated_field, repeated_member, too_deep}
 use Rattle.answer_text.specs.Lines.{ok_line, no_apply_line, fault_line, syntax_line, typing_line, type_line, tree_line}
 
-nothing_carried : ok_line 1 Right done ≡ codes "ok 1 right []\n"
+empty_word : ok_line 1 Right no_primitives ≡ codes "ok 1 right []\n"
 unfolding digits serde_json_on_literals
-nothing_carried = refl
+empty_word = refl
 
-carried : ok_line 12 Left (then (at (codes "b") (then (set (Number (negsuc 0))) done)) done) ≡ codes "ok 12 left [{\"at\":[\"b\",[{\"set\":-1}]]}]\n"
+one_set : ok_line 12 Left (more_primitives (at (codes "b") (more_primitives (set (Number (negsuc 0))) no_primitives)) no_primitives) ≡ codes "ok 12 left [{\"at\":[\"b\",[{\"set\":-1}]]}]\n"
 unfolding digits serde_json_on_literals
-carried = refl
+one_set = refl
 
 -- the number of the entry stands before that of the primitive
-refused : no_apply_line 3 0 Place ≡ codes "refused 3 no-apply 0 place\n"
+number_before_place : no_apply_line 3 0 Place ≡ codes "refused 3 no-apply 0 place\n"
 unfolding digits
-refused = refl
+number_before_place = refl
 
 no_edit : fault_line 4 NotAnEdit ≡ codes "refused 4 not-an-edit\n"
 unfolding digits
 no_edit = refl
 
-too_long : syntax_line ProgramTooLong ≡ codes "program refused: program-too-long\n"
-too_long = refl
+program_too_long : syntax_line too_long ≡ codes "program refused: program-too-long\n"
+program_too_long = refl
 
-no_program : syntax_line (NotAProgram 7) ≡ codes "program refused: not-a-program 7\n"
+no_program : syntax_line (not_a_program 7) ≡ codes "program refused: not-a-program 7\n"
 unfolding digits
 no_program = refl
 
-twice_defined : syntax_line (RepeatedName 19) ≡ codes "program refused: repeated-name 19\n"
+twice_defined : syntax_line (repeated_name 19) ≡ codes "program refused: repeated-name 19\n"
 unfolding digits
 twice_defined = refl
 
 -- the order of tags counts
-other_order : typing_line (middle_differs (ty_alt (field (codes "p") ty_text (field (codes "o") ty_int no_fields))) (ty_alt (field (codes "o") ty_int (field (codes "p") ty_text no_fields)))) ≡ codes "program refused: middle-differs <p: text, o: int> <o: int, p: text>\n"
+other_order : typing_line (middle_differs (ty_alt (more_fields (codes "p") ty_text (more_fields (codes "o") ty_int no_fields))) (ty_alt (more_fields (codes "o") ty_int (more_fields (codes "p") ty_text no_fields)))) ≡ codes "program refused: middle-differs <p: text, o: int> <o: int, p: text>\n"
 unfolding is_name is_word begins_word in_word keyword_of
 other_order = refl
 
--- a keyword, and what is no word, stands as a string, as a field does; so does a member that is one
+-- a keyword is written as a string, as a field is; a member that is a word is written as it is
 keyword_twice : typing_line (repeated_field (codes "left")) ≡ codes "program refused: repeated-field \"left\"\n"
 unfolding is_name is_word begins_word in_word keyword_of
 keyword_twice = refl
@@ -60,7 +60,7 @@ deep : typing_line too_deep ≡ codes "program refused: too-deep\n"
 deep = refl
 
 -- members of an enum are strings
-types : type_line Right (ty_rec (field (codes "age") (ty_enum (codes "old" ∷ [])) no_fields)) ≡ codes "right {age: enum[\"old\"]}\n"
+types : type_line Right (ty_rec (more_fields (codes "age") (ty_enum (codes "old" ∷ [])) no_fields)) ≡ codes "right {age: enum[\"old\"]}\n"
 unfolding is_name is_word begins_word in_word keyword_of
 types = refl
 

@@ -7,13 +7,14 @@ use Rattle.texts.specs.declared.side.Side.{Side}
 use Rattle.edit_module.specs.declared.fault.Cause.{Cause}
 use Rattle.edit_module.specs.Words.{WordTree}
 use Rattle.edit_json.specs.WordJson.{tree_of_word}
+use Rattle.edit_journal.specs.EntryJson.{side_text}
 use Rattle.edit_journal.specs.declared.fault.EntryFault.{EntryFault}
-use Rattle.lens_syntax.specs.declared.fault.ProgramFault.{ProgramFault}
+use Rattle.lens_syntax.specs.Programs.{ProgramCause}
 use Rattle.lens_types.specs.Checking.{Failure}
 use Rattle.program_writing.specs.Canonical.{canonical_type}
-use Rattle.answer_text.specs.Reasons.{side_text, cause_text, fault_text, syntax_reason, typing_reason}
+use Rattle.answer_text.specs.Reasons.{cause_text, fault_text, syntax_reason, typing_reason}
 
--- `ok N SIDE WORD`: an entry was accepted, and this word was carried to this side
+-- `ok N SIDE WORD`: an entry was accepted, and it was translated to this word of this side
 abbrev pub ok_line : ℕ → Side → WordTree → List ℕ
 ok_line number side word = codes "ok " ++ decimal number ++ codes " " ++ side_text side ++ codes " " ++ compact_text (tree_of_word word) ++ codes "\n"
 
@@ -21,21 +22,21 @@ ok_line number side word = codes "ok " ++ decimal number ++ codes " " ++ side_te
 abbrev pub no_apply_line : ℕ → ℕ → Cause → List ℕ
 no_apply_line number at cause = codes "refused " ++ decimal number ++ codes " no-apply " ++ decimal at ++ codes " " ++ cause_text cause ++ codes "\n"
 
--- `refused N FAULT`: the line is no entry
+-- `refused N FAULT`: the line is not an entry
 abbrev pub fault_line : ℕ → EntryFault → List ℕ
 fault_line number fault = codes "refused " ++ decimal number ++ codes " " ++ fault_text fault ++ codes "\n"
 
 -- `program refused: REASON`
-abbrev pub refusal_line : List ℕ → List ℕ
-refusal_line reason = codes "program refused: " ++ reason ++ codes "\n"
+abbrev pub program_refused_line : List ℕ → List ℕ
+program_refused_line reason = codes "program refused: " ++ reason ++ codes "\n"
 
--- the text is no program
-abbrev pub syntax_line : ProgramFault → List ℕ
-syntax_line fault = refusal_line (syntax_reason fault)
+-- the text is not a program
+abbrev pub syntax_line : ProgramCause → List ℕ
+syntax_line cause = program_refused_line (syntax_reason cause)
 
 -- the program has no type
 abbrev pub typing_line : Failure → List ℕ
-typing_line failure = refusal_line (typing_reason failure)
+typing_line failure = program_refused_line (typing_reason failure)
 
 -- `left TYPE` or `right TYPE`, the type in canonical text
 abbrev pub type_line : Side → TyTree → List ℕ

@@ -1,19 +1,12 @@
--- The words for sides, causes and reasons that stand in a line.
+-- The words for causes and reasons in the lines that the program writes.
 use Rattle.std.specs.Prelude.{ℕ, List, [], ◌++◌, codes, decimal}
-use Rattle.texts.specs.declared.side.Side.{Side}
-use Rattle.texts.specs.declared.side.Side.TheVariants.{Left, Right}
 use Rattle.edit_module.specs.declared.fault.Cause.{Cause}
 use Rattle.edit_module.specs.declared.fault.Cause.TheVariants.{Kind, Place, Tag, Range, Overflow, Value, Present, Length, Deep}
 use Rattle.edit_journal.specs.declared.fault.EntryFault.{EntryFault}
 use Rattle.edit_journal.specs.declared.fault.EntryFault.TheVariants as of_entries
-use Rattle.lens_syntax.specs.declared.fault.ProgramFault.{ProgramFault}
-use Rattle.lens_syntax.specs.declared.fault.ProgramFault.TheVariants as of_texts
+use Rattle.lens_syntax.specs.Programs.{ProgramCause, too_long, not_a_program, unknown_name, repeated_name}
 use Rattle.lens_types.specs.Checking.{Failure, middle_differs, repeated_field, repeated_tag, repeated_member, too_large, too_deep}
 use Rattle.program_writing.specs.Canonical.{canonical_name, canonical_type}
-
-abbrev pub side_text : Side → List ℕ
-side_text Left = codes "left"
-side_text Right = codes "right"
 
 -- why a primitive does not apply
 abbrev pub cause_text : Cause → List ℕ
@@ -27,7 +20,7 @@ cause_text Present = codes "present"
 cause_text Length = codes "length"
 cause_text Deep = codes "deep"
 
--- why a line of a journal is no entry; want of memory says nothing of the line
+-- why a line of a journal is not an entry; running out of memory says nothing of the line
 abbrev pub fault_text : EntryFault → List ℕ
 fault_text of_entries.LineTooLong = codes "line-too-long"
 fault_text of_entries.NotJson = codes "not-json"
@@ -35,15 +28,14 @@ fault_text of_entries.NotAnEntry = codes "not-an-entry"
 fault_text of_entries.NotAnEdit = codes "not-an-edit"
 fault_text of_entries.NoMemory = []
 
--- why a text is no program, and the offset where that is seen; want of memory says nothing of the text
-abbrev pub syntax_reason : ProgramFault → List ℕ
-syntax_reason of_texts.ProgramTooLong = codes "program-too-long"
-syntax_reason (of_texts.NotAProgram at) = codes "not-a-program " ++ decimal at
-syntax_reason (of_texts.UnknownName at) = codes "unknown-name " ++ decimal at
-syntax_reason (of_texts.RepeatedName at) = codes "repeated-name " ++ decimal at
-syntax_reason of_texts.NoMemory = []
+-- why a text is not a program, with the offset of the unexpected token or of the name
+abbrev pub syntax_reason : ProgramCause → List ℕ
+syntax_reason too_long = codes "program-too-long"
+syntax_reason (not_a_program at) = codes "not-a-program " ++ decimal at
+syntax_reason (unknown_name at) = codes "unknown-name " ++ decimal at
+syntax_reason (repeated_name at) = codes "repeated-name " ++ decimal at
 
--- why a program has no type: types in canonical text, and a name, a member too, as a field is written there
+-- why a program has no type: types in canonical text, and a name or a member as a field is written there
 abbrev pub typing_reason : Failure → List ℕ
 typing_reason (middle_differs left right) = codes "middle-differs " ++ canonical_type left ++ codes " " ++ canonical_type right
 typing_reason (repeated_field name) = codes "repeated-field " ++ canonical_name name

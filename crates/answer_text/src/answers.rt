@@ -4,18 +4,18 @@ ghost use Rattle.edit_module.specs.Views.{word_tree};
 ghost use Rattle.edit_json.specs.WordJson.{counts_fit};
 ghost use Rattle.answer_text.specs.Lines.{ok_line, no_apply_line, fault_line};
 
-use crate::words::{bytes_of, cause_text, fault_text, side_text};
-use edit_journal::EntryFault;
+use crate::words::{bytes_of, cause_text, fault_text};
+use edit_journal::{EntryFault, side_text};
 use edit_json::write_word_text;
-use edit_module::{Cause, Side, Word};
-use lens_io::Bytes;
+use edit_module::{Cause, Word};
 use std::alloc::{AllocError, Global};
+use texts::{Bytes, Side};
 
-/// `ok N SIDE WORD` and a line feed: the entry with this number was accepted, and this word was
-/// carried to this side. The word stands there as compact JSON.
+/// `ok N SIDE WORD` and a line feed: the entry with this number was accepted, and translated to this
+/// word of this side. The word is written as compact JSON.
 ///
 /// Each insertion and each deletion in the word is of 1 to 65,536 items, which
-/// `edit_json::has_tree` tests. Only want of memory is an error.
+/// `edit_json::has_tree` tests. The only error is running out of memory.
 pub fn ok_line(alloc: Global, number: u64, side: Side, word: &Word) -> Result<Bytes, AllocError>
     requires counts_fit { counts_fit (word_tree word.now) ≡ true }
     ensures line { IfOk result (λ line. line ≡ ok_line number side (word_tree word.now)) }
@@ -30,7 +30,7 @@ pub fn ok_line(alloc: Global, number: u64, side: Side, word: &Word) -> Result<By
 /// the number `at`, from 0, is the first that does not apply, for this cause.
 ///
 /// The causes are `kind`, `place`, `tag`, `range`, `overflow`, `value`, `present`, `length` and
-/// `deep`. Only want of memory is an error.
+/// `deep`. The only error is running out of memory.
 pub fn no_apply_line(alloc: Global, number: u64, at: u64, cause: Cause) -> Result<Bytes, AllocError>
     ensures line { IfOk result (λ line. line ≡ no_apply_line number at cause) }
 {
@@ -39,10 +39,10 @@ pub fn no_apply_line(alloc: Global, number: u64, at: u64, cause: Cause) -> Resul
     Ok(bytes_of(line))
 }
 
-/// `refused N FAULT` and a line feed: the line with this number is no entry.
+/// `refused N FAULT` and a line feed: the line with this number is not an entry.
 ///
-/// The faults are `line-too-long`, `not-json`, `not-an-entry` and `not-an-edit`. Want of memory is
-/// no fault of a line and has no answer. Only want of memory for the answer is an error.
+/// The faults are `line-too-long`, `not-json`, `not-an-entry` and `not-an-edit`. The fault is not
+/// that memory ran out, which says nothing of the line. The only error is running out of memory.
 pub fn fault_line(alloc: Global, number: u64, fault: &EntryFault) -> Result<Bytes, AllocError>
     requires of_the_line { fault.now ≢ EntryFault.NoMemory }
     ensures line { IfOk result (λ line. line ≡ fault_line number fault.now) }

@@ -2,16 +2,13 @@
 //!
 //! Answers to entries (`ok_line`, `no_apply_line`, `fault_line`), refusals of programs
 //! (`syntax_line`, `typing_line`), and what a program and a session show (`type_line`,
-//! `tree_line`). Each line ends with its line feed. The lines stand as definitions in
-//! specs/Lines.antt, and the words in them in specs/Reasons.antt; docs/FORMATS.md has them with
-//! what each says.
+//! `tree_line`). Each line ends with its line feed. The lines are defined in specs/Lines.antt, and
+//! the words in them in specs/Reasons.antt. docs/FORMATS.md says what each line means.
 #![tactic(auto)]
 
 mod answers;
 mod refusals;
 mod shown;
-#[cfg(test)]
-mod tests;
 mod words;
 
 pub use crate::answers::{fault_line, no_apply_line, ok_line};

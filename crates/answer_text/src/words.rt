@@ -1,19 +1,10 @@
-//! The words for sides, causes and faults, and the bytes of a text.
+//! The words for causes and faults, and the bytes of a text.
 ghost use Rattle.std.specs.Prelude.{◌≡◌, ◌≢◌, string_bytes};
-ghost use Rattle.answer_text.specs.Reasons.{side_text, cause_text, fault_text};
+ghost use Rattle.answer_text.specs.Reasons.{cause_text, fault_text};
 
 use edit_journal::EntryFault;
-use edit_module::{Cause, Side};
-use lens_io::Bytes;
-
-pub(crate) fn side_text(side: Side) -> &'static str
-    ensures { result.now ≡ side_text side }
-{
-    match side {
-        Side::Left => "left",
-        Side::Right => "right",
-    }
-}
+use edit_module::Cause;
+use texts::Bytes;
 
 pub(crate) fn cause_text(cause: Cause) -> &'static str
     ensures { result.now ≡ cause_text cause }
@@ -44,7 +35,7 @@ pub(crate) fn fault_text(fault: EntryFault) -> &'static str
     }
 }
 
-// The bytes of a text. It takes no memory.
+// The bytes of a text. The call does not allocate.
 pub(crate) fn bytes_of(text: String) -> Bytes
     ensures { result ≡ string_bytes text }
 {

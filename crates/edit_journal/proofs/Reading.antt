@@ -1,5 +1,5 @@
 -- What is read has the tree of the line, and where a line is refused no entry has its tree.
-use Rattle.std.proofs.Common.{◌≡◌, ℕ, List, true, Option, Some, None, Result, Ok, Err, IfOk, refl, sym, ap, ◌∙◌}
+use Rattle.std.proofs.Common.{◌≡◌, true, Option, Some, None, Result, Ok, Err, IfOk, refl, sym, ap, ◌∙◌}
 use Rattle.std.specs.Prelude.{IfErr, ◌≢◌}
 use Rattle.serde_json.specs.Data.{Data}
 use Rattle.texts.specs.declared.side.Side.{Side}

@@ -1,5 +1,5 @@
 -- Two entries never have the same tree.
-use Rattle.std.proofs.Common.{◌≡◌, Option, Some, refl, sym, ap, ap₂, ◌∙◌}
+use Rattle.std.proofs.Common.{◌≡◌, sym, ap, ap₂, ◌∙◌}
 use Rattle.std.proofs.lemmas.Option.{same_Some}
 use Rattle.serde_json.specs.Data.{Data}
 use Rattle.edit_module.specs.Words.{WordTree}

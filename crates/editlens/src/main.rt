@@ -1,15 +1,16 @@
-//! The program: the top call over the standard input and the standard output. It ends with the status as its exit code, and
-//! writes nothing to standard error.
+//! The program: the top call over standard input and standard output. It ends with the status as its exit code, and writes
+//! nothing to standard error.
 #![tactic(auto)]
 
 use editlens_main::{Status, editlens};
 use lens_io::{RealSink, RealSource};
 use std::alloc::AllocError;
+use std::env;
+use std::io::{self, ErrorKind};
 use std::process::ExitCode;
-use std::{env, io};
 
 fn main(rt: HostRuntime) -> ExitCode {
-    let Ok(words) = words(&rt) else {
+    let Ok(words) = read_words(&rt) else {
         return ExitCode::from(Status::NoMemory.code());
     };
     let mut source = RealSource::new(rt.stdin());
@@ -18,13 +19,12 @@ fn main(rt: HostRuntime) -> ExitCode {
     ExitCode::from(status.code())
 }
 
-// The words of the command line, the program's name first. Where they are no text, none.
-fn words(rt: &HostRuntime) -> Result<Vec<String>, AllocError> {
-    let mut words = Vec::new(rt.alloc());
-    if let Ok(args) = env::args(rt) {
-        for word in args {
-            words.push(word)?;
-        }
+// The words of the command line, the program's name first. Words that are not text are given as no words, which name no
+// command.
+fn read_words(rt: &HostRuntime) -> Result<Vec<String>, AllocError> {
+    match env::args(rt) {
+        Ok(words) => words.collect(rt.alloc()),
+        Err(fault) if fault.kind() == ErrorKind::OutOfMemory => Err(AllocError),
+        Err(_) => Ok(Vec::new(rt.alloc())),
     }
-    Ok(words)
 }

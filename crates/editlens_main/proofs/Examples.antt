@@ -1,11 +1,11 @@
 -- The definitions, tried on small examples.
 use Rattle.std.proofs.Common.{◌≡◌, ℕ, pos, negsuc, [], ◌∷◌, ◌++◌, true, false, Some, Ok, Err, codes, refl}
 use Rattle.doc_values.specs.Documents.{rec, int, more_docs, no_docs}
-use Rattle.edit_module.specs.Words.{set, at, done, then}
+use Rattle.edit_module.specs.Words.{set, at, no_primitives, more_primitives}
 use Rattle.edit_module.specs.declared.atom.Atom.TheVariants.{Truth, Number}
 use Rattle.texts.specs.declared.side.Side.TheVariants.{Left, Right}
 use Rattle.edit_module.specs.declared.fault.Cause.TheVariants.{Kind, Place}
-use Rattle.lens_types.specs.Forms.{FormTree}
+use Rattle.lens_forms.specs.Forms.{FormTree}
 use Rattle.lens_core.specs.Built.{paired_int}
 use Rattle.lens_core.specs.Complements.{nil, rec_comp, more_comps, no_comps}
 use Rattle.std.specs.Fmt.{digits}
@@ -48,23 +48,23 @@ abbrev both : ℕ → TripleTree
 both n = record { left = rec (more_docs (int (pos n)) no_docs); comp = rec_comp (more_comps nil no_comps); right = rec (more_docs (int (pos n)) no_docs) }
 
 -- a left edit is carried to the right
-carried_right : step ab (first ab) Left (then (at (codes "a") (then (set (Number (pos 5))) done)) done)
-    ≡ Some (both 5, carried Right (then (at (codes "b") (then (set (Number (pos 5))) done)) done))
+carried_right : step ab (first ab) Left (more_primitives (at (codes "a") (more_primitives (set (Number (pos 5))) no_primitives)) no_primitives)
+    ≡ Some (both 5, carried Right (more_primitives (at (codes "b") (more_primitives (set (Number (pos 5))) no_primitives)) no_primitives))
 carried_right = refl
 
 -- an edit of a field that is not there, and one of another kind, leave the triple
-no_such_field : step ab (both 3) Right (then (at (codes "a") done) done) ≡ Some (both 3, no_apply 0 Place)
+no_such_field : step ab (both 3) Right (more_primitives (at (codes "a") no_primitives) no_primitives) ≡ Some (both 3, no_apply 0 Place)
 no_such_field = refl
 
-no_truth : step ab (both 3) Left (then (at (codes "a") (then (set (Truth true)) done)) done) ≡ Some (both 3, no_apply 0 Kind)
+no_truth : step ab (both 3) Left (more_primitives (at (codes "a") (more_primitives (set (Truth true)) no_primitives)) no_primitives) ≡ Some (both 3, no_apply 0 Kind)
 no_truth = refl
 
 -- the run of a line that is no entry, and of an edit
-run_of_two : run ab (first ab) (Err NotAnEdit ∷ Ok (Right, then (at (codes "b") (then (set (Number (pos 1))) done)) done) ∷ [])
-    ≡ Some ((first ab, no_entry NotAnEdit) ∷ (both 1, carried Left (then (at (codes "a") (then (set (Number (pos 1))) done)) done)) ∷ [])
+run_of_two : run ab (first ab) (Err NotAnEdit ∷ Ok (Right, more_primitives (at (codes "b") (more_primitives (set (Number (pos 1))) no_primitives)) no_primitives) ∷ [])
+    ≡ Some ((first ab, no_entry NotAnEdit) ∷ (both 1, carried Left (more_primitives (at (codes "a") (more_primitives (set (Number (pos 1))) no_primitives)) no_primitives)) ∷ [])
 run_of_two = refl
 
-line_of_an_edit : answer_line 12 (carried Right (then (at (codes "b") (then (set (Number (negsuc 0))) done)) done)) ≡ codes "ok 12 right [{\"at\":[\"b\",[{\"set\":-1}]]}]" ++ 10 ∷ []
+line_of_an_edit : answer_line 12 (carried Right (more_primitives (at (codes "b") (more_primitives (set (Number (negsuc 0))) no_primitives)) no_primitives)) ≡ codes "ok 12 right [{\"at\":[\"b\",[{\"set\":-1}]]}]" ++ 10 ∷ []
 unfolding digits serde_json_on_literals
 line_of_an_edit = refl
 

@@ -1,10 +1,10 @@
-pub mod Cutting
-pub mod Ending
+pub mod CarriedCounts
+pub mod ComplementFloats
+pub mod ComplementItems
+pub mod ComplementSizes
 mod Examples
-pub mod Fitting
-pub mod InStep
-pub mod NoFloats
-pub mod Parting
-pub mod Reports
-pub mod Sizes
-pub mod Written
+pub mod FirstLines
+pub mod RunEnds
+pub mod RunInStep
+pub mod RunReports
+pub mod ScriptParts

@@ -1,11 +1,11 @@
--- How a call ends, and what stands then: the clauses of the top call.
+-- How a call ends, and what holds then: the clauses of the top call.
 use Rattle.std.specs.Prelude.{◌≡◌, ◌⊎◌, ◌↔◌, ℕ, ◌+◌, ◌^◌, ◌<◌, ◌≤◌, List, [], length, Some, Ok, Err}
 use Rattle.std.specs.List.{All}
 use Rattle.std.specs.declared.option.Option.{Option}
 use Rattle.std.specs.Io.KnownBytes.{Appends, Consumes, IsAtEnd}
-use Rattle.lens_io.specs.Causes.{Rose}
+use Rattle.lens_io.specs.Causes.{Increased}
 use Rattle.lens_io.specs.Content.{IsFull, AppendsFront}
-use Rattle.lens_types.specs.Forms.{FormTree}
+use Rattle.lens_forms.specs.Forms.{FormTree}
 use Rattle.editlens_main.specs.Lines.{program_part}
 use Rattle.editlens_main.specs.Program.{Refusal, lens_of}
 use Rattle.editlens_main.specs.Report.{items_of, report, refusal_line}
@@ -17,33 +17,34 @@ use Rattle.editlens_main.specs.declared.words.Command.TheVariants.{Run, Check}
 use Rattle.editlens_main.specs.declared.status.Status.{Status}
 use Rattle.editlens_main.specs.declared.status.Status.TheVariants.{Done, SomeRefused, Usage, ProgramRefused, SourceFault, SinkFault, InputTooLong, NoMemory}
 
--- the run came to its end: nothing stopped it
+-- the command came to its end: nothing stopped it
 abbrev pub IsFinished : Status → Type 0
 IsFinished status = (status ≡ Done) ⊎ (status ≡ SomeRefused)
 
--- Every triple of a run is in the lens's consistency relation. To check a lens makes no triple.
+-- Every triple of a run is in the lens's consistency relation. The command `check` makes no triple.
 abbrev pub StaysInStep : Command → FormTree → List Item → Type 0
 StaysInStep Run form items = (all : List TripleTree) × (triples form items ≡ Some all) × All (IsInStep form) all
 StaysInStep Check form items = Unit {0}
 
--- The source was read to its end and gave these bytes. The sink was given their report, which has this status. The program part is
--- accepted, and every triple stays in step.
+-- The source was read to its end and gave these bytes, at most 2^30. Their report, with this status, was written to the sink. The
+-- program part is accepted, and every triple stays in step. Whether it is accepted is said by `bounded` of lens_syntax, which is the
+-- grammar's: the law `reading_follows_the_grammar` there.
 pub record Reports (command : Command) (left left' held held' : Option (List ℕ)) (status : Status) : Type 0 where
   pub bytes : List ℕ
-  pub taken : Consumes left left' bytes
-  pub whole : IsAtEnd left'
+  pub consumes : Consumes left left' bytes
+  pub at_end : IsAtEnd left'
   pub within : length bytes ≤ 2 ^ 30
   pub text : List ℕ
-  pub reported : report command bytes ≡ Some (text, status)
-  pub given : Appends held held' text
+  pub is_report : report command bytes ≡ Some (text, status)
+  pub appends : Appends held held' text
   pub form : FormTree
-  pub accepted : lens_of command (program_part bytes) ≡ Ok form
+  pub has_lens : lens_of command (program_part bytes) ≡ Ok form
   pub in_step : StaysInStep command form (items_of bytes)
 
--- What stands after each status of a call that is not finished. The source gave some bytes.
--- ProgramRefused: it was read to its end, its program part is refused, and the sink was given the line of that refusal.
--- SourceFault, InputTooLong, NoMemory: the sink was given nothing.
--- SinkFault: the source was read to its end, and the sink took a front of the report, and not all of it.
+-- What holds after each status of a call that is not finished. The source gave these bytes.
+-- ProgramRefused: the source was read to its end, the program part is refused, and the line of that refusal was written to the sink.
+-- SourceFault, InputTooLong, NoMemory: nothing was written to the sink.
+-- SinkFault: the source was read to its end, and a prefix of the report, and not all of it, was written to the sink.
 abbrev pub IsCleanStop : Command → Option (List ℕ) → Option (List ℕ) → Option (List ℕ) → Option (List ℕ) → List ℕ → Status → Type 0
 IsCleanStop command left left' held held' bytes Done = Unit {0}
 IsCleanStop command left left' held held' bytes SomeRefused = Unit {0}
@@ -56,23 +57,23 @@ IsCleanStop command left left' held held' bytes SinkFault =
 IsCleanStop command left left' held held' bytes InputTooLong = Appends held held' []
 IsCleanStop command left left' held held' bytes NoMemory = Appends held held' []
 
--- These bytes were taken, at most 2^30 + 1, and InputTooLong comes exactly where they are more than 2^30.
+-- These bytes were taken, at most 2^30 + 1. The status is InputTooLong if and only if they are more than 2^30.
 pub record Stops (command : Command) (left left' held held' : Option (List ℕ)) (status : Status) : Type 0 where
   pub bytes : List ℕ
-  pub taken : Consumes left left' bytes
+  pub consumes : Consumes left left' bytes
   pub at_most : length bytes ≤ 2 ^ 30 + 1
   pub too_long : (status ≡ InputTooLong) ↔ (2 ^ 30 < length bytes)
   pub clean : IsCleanStop command left left' held held' bytes status
 
--- the sink failed, or took 0 bytes of a piece that is not empty: then a sink that tells its room is full
+-- the sink failed, or took 0 bytes of a piece that is not empty; in the latter case a sink whose room is known is full
 abbrev pub SinkFailed : {K : Type 0} (faults empty_takes : K → ℕ) (room : K → Option ℕ) (held : K → Option (List ℕ)) → K → K → Type 0
-SinkFailed faults empty_takes room held old new = Rose (faults old) (faults new) ⊎ Rose (empty_takes old) (empty_takes new) × IsFull (room new) (held new)
+SinkFailed faults empty_takes room held old new = Increased (faults old) (faults new) ⊎ Increased (empty_takes old) (empty_takes new) × IsFull (room new) (held new)
 
--- where the words name no command, the source is left alone, and the usage line is given, or a front of it and the sink failed
+-- the usage line was written to the sink, or a prefix of it and the sink failed
 abbrev pub GivesUsage : Option (List ℕ) → Option (List ℕ) → Status → Type 0
 GivesUsage held held' status = (status ≡ Usage) × Appends held held' usage_line ⊎ (status ≡ SinkFault) × AppendsFront held held' usage_line
 
--- a command over these bytes that met no fault comes to its end, or is refused where the program part is refused, or memory ran out
+-- A command over these bytes came to its end if the program part is accepted, and refused it if it is refused; or memory ran out.
 abbrev pub IsComplete : Command → List ℕ → Status → Type 0
 IsComplete command bytes status =
     (((form : FormTree) → lens_of command (program_part bytes) ≡ Ok form → IsFinished status ⊎ (status ≡ NoMemory))

@@ -1,3 +1,4 @@
+pub mod AnswerLines
 pub mod ComplementJson
 pub mod Ends
 pub mod Lines
@@ -8,6 +9,5 @@ pub mod Run
 pub mod Running
 pub mod Status
 pub mod Step
-pub mod Telling
 pub mod Views
 pub mod Words

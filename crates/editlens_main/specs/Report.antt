@@ -1,7 +1,7 @@
 -- The report of a whole input: all that a command writes for it, and how it ends.
 use Rattle.std.specs.Prelude.{ℕ, ◌+◌, List, [], ◌∷◌, ◌++◌, Bool, true, false, Option, Some, option_map, Result, Ok, Err, map, codes}
 use Rattle.texts.specs.declared.side.Side.TheVariants.{Left, Right}
-use Rattle.lens_types.specs.Forms.{FormTree, left_type, right_type}
+use Rattle.lens_forms.specs.Forms.{FormTree, left_type, right_type}
 use Rattle.value_json.specs.DocumentJson.{tree_of_document}
 use Rattle.edit_journal.specs.EntryJson.{entry_of_line}
 use Rattle.answer_text.specs.Lines.{ok_line, no_apply_line, fault_line, syntax_line, typing_line, type_line, tree_line}
@@ -33,7 +33,7 @@ state_lines form t =
     ++ tree_line (codes "right") (tree_of_document (right_type form) t.right)
     ++ tree_line (codes "complement") (complement_json t.comp)
 
--- how a run ends that nothing stopped
+-- the status of a run that came to its end
 abbrev pub ending : Bool → Status
 ending true = SomeRefused
 ending false = Done
@@ -48,7 +48,7 @@ run_report form items =
 abbrev pub type_lines : FormTree → List ℕ
 type_lines form = type_line Left (left_type form) ++ type_line Right (right_type form)
 
--- the line that is written where the program part is refused
+-- the line that is written if the program part is refused
 abbrev pub refusal_line : Refusal → List ℕ
 refusal_line (syntax fault) = syntax_line fault
 refusal_line (typing failure) = typing_line failure
@@ -58,11 +58,12 @@ refusal_line not_built = codes "program refused: not-built" ++ 10 ∷ []
 abbrev pub items_of : List ℕ → List Item
 items_of bytes = map entry_of_line (journal bytes)
 
--- what is written for these bytes, and the status
+-- what is written and the status, from the lens or the refusal, and the items
 abbrev pub report_with : Command → Result FormTree Refusal → List Item → Option (List ℕ × Status)
 report_with Run (Ok form) items = run_report form items
 report_with Check (Ok form) items = Some (type_lines form, Done)
 report_with command (Err refusal) items = Some (refusal_line refusal, ProgramRefused)
 
+-- what a command writes for these bytes, and the status
 abbrev pub report : Command → List ℕ → Option (List ℕ × Status)
 report command bytes = report_with command (lens_of command (program_part bytes)) (items_of bytes)

@@ -1,17 +1,17 @@
--- A run: the items of a journal, taken in turn.
+-- A run: the items of a journal, one after another.
 use Rattle.std.specs.Prelude.{List, [], ◌∷◌, Bool, true, false, Option, Some, option_map, option_and_then, Result, Ok, Err, map}
 use Rattle.std.specs.List.{list_any}
 use Rattle.edit_module.specs.Words.{WordTree}
 use Rattle.texts.specs.declared.side.Side.{Side}
-use Rattle.lens_types.specs.Forms.{FormTree}
+use Rattle.lens_forms.specs.Forms.{FormTree}
 use Rattle.edit_journal.specs.declared.fault.EntryFault.{EntryFault}
 use Rattle.editlens_main.specs.Step.{TripleTree, first, AnswerTree, carried, no_apply, no_entry, step}
 
--- an item is an entry, or the fault of a line that is none
+-- an item is an entry, or the fault of a line that is not an entry
 abbrev pub Item : Type 0
 Item = Result (Side × WordTree) EntryFault
 
--- an entry steps the triple; a line that is no entry leaves it
+-- an entry steps the triple; a line that is not an entry leaves it as it was
 abbrev pub take_item : FormTree → TripleTree → Item → Option (TripleTree × AnswerTree)
 take_item form t (Ok entry) = step form t entry.0 entry.1
 take_item form t (Err fault) = Some (t, no_entry fault)

@@ -1,7 +1,7 @@
 -- The report once more, in the form of the code: what a run has written, and what it will write for the items that are left.
 -- proofs/Reports.antt shows that it is the report.
 use Rattle.std.specs.Prelude.{ℕ, ◌+◌, List, [], ◌∷◌, ◌++◌, Bool, ◌||◌, Option, option_map, if◌then◌else◌}
-use Rattle.lens_types.specs.Forms.{FormTree}
+use Rattle.lens_forms.specs.Forms.{FormTree}
 use Rattle.edit_journal.specs.Lines.{line_of, is_blank}
 use Rattle.edit_journal.specs.EntryJson.{entry_of_line}
 use Rattle.editlens_main.specs.Step.{TripleTree}

@@ -4,14 +4,14 @@ use Rattle.std.specs.declared.alloc.Global.{Global}
 use Rattle.editlens_main.specs.declared.words.Command.{Command}
 use Rattle.editlens_main.specs.declared.words.Command.TheVariants.{Run, Check}
 
-abbrev pub named : List ℕ → Option Command
-named word = if bytes_eq word (codes "run") then Some Run else if bytes_eq word (codes "check") then Some Check else None
+abbrev pub command_named : List ℕ → Option Command
+command_named word = if bytes_eq word (codes "run") then Some Run else if bytes_eq word (codes "check") then Some Check else None
 
--- any name, then the word of a command, and no further word
+-- any name, then the word of a command, and no more words
 abbrev pub command_of : List (String Global) → Option Command
 command_of [] = None
 command_of (name ∷ []) = None
-command_of (name ∷ word ∷ []) = named (string_bytes word)
+command_of (name ∷ word ∷ []) = command_named (string_bytes word)
 command_of (name ∷ word ∷ another ∷ words) = None
 
 -- the line that is written for all other words

@@ -1,17 +1,17 @@
-//! The answers to the items of a journal, and the state of a run, as lines.
+//! The answers to the items of a journal and the state of a run, as lines.
 ghost use Rattle.std.specs.Prelude.{◌≡◌, ◌++◌, true, false, codes, IfOk, IsTrue};
 ghost use Rattle.doc_values.specs.Documents.{doc_tree};
 ghost use Rattle.doc_values.specs.Types.{ty_tree, is_well_formed};
 ghost use Rattle.doc_values.specs.Typing.{has};
 ghost use Rattle.answer_text.specs.Lines.{tree_line};
 ghost use Rattle.lens_core.specs.Complements.{comp_tree};
-ghost use Rattle.lens_types.specs.Forms.{form_tree};
+ghost use Rattle.lens_forms.specs.Forms.{form_tree};
 ghost use Rattle.value_json.specs.DocumentJson.{tree_of_document};
 ghost use Rattle.editlens_main.specs.ComplementJson.{complement_json};
 ghost use Rattle.editlens_main.specs.Report.{answer_line, state_lines};
 ghost use Rattle.editlens_main.specs.Run.{is_refused};
 ghost use Rattle.editlens_main.specs.Step.{IsInStep};
-ghost use Rattle.editlens_main.specs.Telling.{CanBeTold};
+ghost use Rattle.editlens_main.specs.AnswerLines.{HasAnswerLine};
 ghost use Rattle.editlens_main.specs.Views.{triple_tree, answer_tree};
 
 use crate::complements::write_complement;
@@ -19,9 +19,9 @@ use crate::step::{Answer, Triple};
 use answer_text::{fault_line, no_apply_line, ok_line, tree_line};
 use doc_values::{Doc, Ty};
 use lens_core::Comp;
-use lens_io::Bytes;
 use lens_types::Typed;
 use std::alloc::{AllocError, Global};
+use texts::Bytes;
 use value_json::write_doc;
 
 impl Answer {
@@ -37,9 +37,9 @@ impl Answer {
     }
 }
 
-/// The answer line of the item with this number. Only want of memory is an error.
+/// The answer line of the item with this number. The only error is running out of memory.
 pub fn answer_line(alloc: Global, number: u64, answer: &Answer) -> Result<Bytes, AllocError>
-    requires { CanBeTold (answer_tree answer.now) }
+    requires { HasAnswerLine (answer_tree answer.now) }
     ensures { IfOk result (λ line. line ≡ answer_line number (answer_tree answer.now)) }
 {
     match answer {
@@ -49,7 +49,7 @@ pub fn answer_line(alloc: Global, number: u64, answer: &Answer) -> Result<Bytes,
     }
 }
 
-/// The state lines of a triple. Only want of memory is an error.
+/// The state lines of a triple. The only error is running out of memory.
 pub fn state_lines(alloc: Global, lens: &Typed, triple: &Triple) -> Result<Vec<u8>, AllocError>
     requires { IsInStep (form_tree lens.now) (triple_tree triple.now) }
     ensures { IfOk result (λ text. text.items ≡ state_lines (form_tree lens.now) (triple_tree triple.now)) }
@@ -64,7 +64,7 @@ pub fn state_lines(alloc: Global, lens: &Typed, triple: &Triple) -> Result<Vec<u
 }
 
 // A label, and the compact text of a document.
-#[tactic(auto, using(value_json::proofs::Shallow::whole))]
+#[tactic(auto, using(value_json::proofs::TreeDepths::whole))]
 fn document_line(alloc: Global, label: &str, ty: &Ty, doc: &Doc) -> Result<Bytes, AllocError>
     requires well_formed { IsTrue (is_well_formed (ty_tree ty.now)) }
     requires typed { IsTrue (has (ty_tree ty.now) (doc_tree doc.now)) }
@@ -74,7 +74,7 @@ fn document_line(alloc: Global, label: &str, ty: &Ty, doc: &Doc) -> Result<Bytes
     tree_line(alloc, label, &tree)
 }
 
-#[tactic(auto, using(crate::proofs::NoFloats::complement_whole))]
+#[tactic(auto, using(crate::proofs::ComplementFloats::complement_whole))]
 fn complement_line(alloc: Global, comp: &Comp) -> Result<Bytes, AllocError>
     ensures { IfOk result (λ line. line ≡ tree_line (codes "complement") (complement_json (comp_tree comp.now))) }
 {

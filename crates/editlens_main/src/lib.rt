@@ -1,9 +1,9 @@
 //! The top call: what the program does with its words, its input and its output.
 //!
-//! [`editlens`] is the whole program but for its real streams, and its contract is the main theorem: what is written is the
-//! report of what was read, as the command wants it, and every triple of a run is in the lens's consistency relation. The
-//! report stands in specs/Report.antt over a run (specs/Run.antt) of steps (specs/Step.antt), why a program part is refused
-//! in specs/Program.antt, and what stands after every status in specs/Ends.antt.
+//! [`editlens`] is the complete program apart from its real streams. Its contract is the main theorem: the output is the
+//! command's report of the input, and every triple of a run is in the lens's consistency relation. The report is defined in
+//! specs/Report.antt, over a run (specs/Run.antt) of steps (specs/Step.antt). specs/Program.antt says why a program part is
+//! refused, and specs/Ends.antt what holds after each status.
 #![tactic(auto)]
 
 mod answers;
@@ -21,6 +21,3 @@ pub use status::Status;
 pub use sure::run_sure;
 pub use top::editlens;
 pub use words::Command;
-
-#[cfg(test)]
-mod tests;

@@ -1,6 +1,6 @@
 // The lines of a script, and its parts before and behind the separator.
 ghost use Rattle.std.specs.Prelude.{◌≡◌, ◌<◌, ◌∷◌, ◌++◌, ◌==◌, [], length, MatchOption, IfSome, position};
-ghost use Rattle.editlens_main.specs.Lines.{cut, bare, is_separator, program_part, lines_behind};
+ghost use Rattle.editlens_main.specs.Lines.{cut, up_to_line_end, is_separator, program_part, lines_behind};
 
 /// A script's program part, and the bytes behind its separator line.
 #[derive(Clone, Copy)]
@@ -9,7 +9,7 @@ pub struct Script<'a> {
     pub journal: &'a [u8],
 }
 
-/// Parts a script at its first line that is `---`. Where there is none, all of it is the program part.
+/// Splits a script at its first line that is `---`. If there is no such line, all of it is the program part.
 pub fn part_script(bytes: &[u8]) -> Script<'_>
     ensures program { result.program.now ≡ program_part bytes.now }
     ensures journal { cut result.journal.now ≡ lines_behind (cut bytes.now) }
@@ -31,7 +31,7 @@ pub fn part_script(bytes: &[u8]) -> Script<'_>
 }
 
 /// The first line with its LF, and the bytes behind it.
-#[tactic(auto, using(crate::proofs::Cutting::cut_at, crate::proofs::Cutting::cut_whole))]
+#[tactic(auto, using(crate::proofs::FirstLines::cut_at, crate::proofs::FirstLines::cut_whole))]
 pub fn first_line(bytes: &[u8]) -> Option<(&[u8], &[u8])>
     ensures { MatchOption result (cut bytes.now ≡ []) (λ p. (cut bytes.now ≡ p.0.now ∷ cut p.1.now)
         × (bytes.now ≡ p.0.now ++ p.1.now) × (0 < length p.0.now)) }
@@ -46,9 +46,9 @@ pub fn first_line(bytes: &[u8]) -> Option<(&[u8], &[u8])>
 }
 
 /// The line without its LF.
-#[tactic(auto, using(crate::proofs::Cutting::bare_at, crate::proofs::Cutting::bare_whole))]
+#[tactic(auto, using(crate::proofs::FirstLines::up_to_line_end_at, crate::proofs::FirstLines::up_to_line_end_whole))]
 pub fn without_end(line: &[u8]) -> &[u8]
-    ensures { result.now ≡ bare line.now }
+    ensures { result.now ≡ up_to_line_end line.now }
 {
     match line_feed(line) {
         Some(at) => &line[..at],

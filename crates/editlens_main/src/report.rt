@@ -1,17 +1,17 @@
 //! The report of a whole input.
 ghost use Rattle.std.specs.Prelude.{◌≡◌, ◌+◌, ◌^◌, ◌<◌, List, ℕ, ◌∷◌, false, ◌||◌, IsTrue, IfOk, Some, Result, Ok, map, ◌≤◌};
-ghost use Rattle.lens_types.specs.Forms.{FormTree, form_tree};
+ghost use Rattle.lens_forms.specs.Forms.{FormTree, form_tree};
 ghost use Rattle.lens_core.specs.Built.{is_paired_int};
 ghost use Rattle.edit_journal.specs.Lines.{line_of, is_blank};
 ghost use Rattle.edit_journal.specs.EntryJson.{entry_of_line};
-ghost use Rattle.editlens_main.specs.Lines.{cut, bare};
+ghost use Rattle.editlens_main.specs.Lines.{cut, up_to_line_end};
 ghost use Rattle.editlens_main.specs.Program.{Refusal, not_built};
 ghost use Rattle.editlens_main.specs.Refused.{IsKnown, IsRefusal};
 ghost use Rattle.editlens_main.specs.Report.{ending, report, refusal_line, report_with, run_report, type_lines};
 ghost use Rattle.editlens_main.specs.Run.{Item, take_item};
 ghost use Rattle.editlens_main.specs.Running.{items_among, report_at};
 ghost use Rattle.editlens_main.specs.Step.{IsInStep, first};
-ghost use Rattle.editlens_main.specs.Telling.{CanBeTold};
+ghost use Rattle.editlens_main.specs.AnswerLines.{HasAnswerLine};
 ghost use Rattle.editlens_main.specs.Views.{triple_tree, answer_tree};
 
 use crate::Status;
@@ -23,23 +23,22 @@ use crate::words::Command;
 use answer_text::{syntax_line, type_line, typing_line};
 use doc_values::init;
 use edit_journal::{EntryFault, Line, is_blank, read_entry};
-use edit_module::Side;
 use lens_core::missing;
-use lens_io::Bytes;
 use lens_types::Typed;
 use std::alloc::{AllocError, Global};
+use texts::{Bytes, Side};
 
-/// What is written where the lens is none that is carried today.
+/// The line that is written if the lens is not one that is carried today.
 const NOT_BUILT: &str = "program refused: not-built\n";
 
-/// What is written for an input, and how the run ends.
+/// What is written for an input, and the status.
 #[derive(Drop)]
 pub struct Report {
     pub text: Vec<u8>,
     pub status: Status,
 }
 
-/// How far a run has come: its triple, how many items it took, whether it refused one, and what it has written.
+/// The state of a run: its triple, how many items it has read, whether it refused one, and what it has written.
 #[derive(Drop)]
 pub struct Running {
     pub triple: Triple,
@@ -48,7 +47,7 @@ pub struct Running {
     pub text: Vec<u8>,
 }
 
-/// The report of an input, as the command wants it. Only want of memory is an error.
+/// The command's report of an input. The only error is running out of memory.
 pub fn make_report(alloc: Global, command: Command, bytes: &[u8]) -> Result<Report, AllocError>
     ensures { IfOk result (λ r. report command bytes.now ≡ Some (r.text.items, r.status)) }
 {
@@ -67,7 +66,7 @@ pub fn make_report(alloc: Global, command: Command, bytes: &[u8]) -> Result<Repo
     }
 }
 
-// The report where there is a lens.
+// The report if there is a lens.
 fn lens_report(
     alloc: Global,
     command: Command,
@@ -75,7 +74,7 @@ fn lens_report(
     journal: &[u8],
 ) -> Result<Report, AllocError>
     requires { command ≡ Command.Run → IsTrue (is_paired_int (form_tree lens.now)) }
-    ensures { IfOk result (λ r. report_with command (Ok (form_tree lens.now)) (items_among (map bare (cut journal.now))) ≡ Some (r.text.items, r.status)) }
+    ensures { IfOk result (λ r. report_with command (Ok (form_tree lens.now)) (items_among (map up_to_line_end (cut journal.now))) ≡ Some (r.text.items, r.status)) }
 {
     match command {
         Command::Run => run_journal(alloc, lens, journal),
@@ -97,11 +96,11 @@ fn type_report(alloc: Global, lens: &Typed) -> Result<Report, AllocError>
     })
 }
 
-// The report where the program part is refused. Want of memory is no refusal.
+// The report if the program part is refused. Running out of memory is not a refusal.
 fn refusal_report(alloc: Global, refused: &Refused) -> Result<Report, AllocError>
     requires { IsKnown refused.now }
-    ensures { IfOk result (λ r. (found : Result FormTree Refusal) (command : Command) (items : List Item) → IsRefusal found refused.now
-        → report_with command found items ≡ Some (r.text.items, r.status)) }
+    ensures { IfOk result (λ r. (outcome : Result FormTree Refusal) (command : Command) (items : List Item) → IsRefusal outcome refused.now
+        → report_with command outcome items ≡ Some (r.text.items, r.status)) }
 {
     match refused {
         Refused::Syntax(fault) => Ok(refused_with(syntax_line(alloc, fault)?)),
@@ -122,7 +121,7 @@ fn refused_with(line: Bytes) -> Report
     }
 }
 
-// The report where the lens is none that is carried today.
+// The report if the lens is not one that is carried today.
 fn not_built_report(alloc: Global) -> Result<Report, AllocError>
     ensures { IfOk result (λ r. (r.text.items ≡ refusal_line not_built) × (r.status ≡ Status.ProgramRefused)) }
 {
@@ -135,7 +134,7 @@ fn not_built_report(alloc: Global) -> Result<Report, AllocError>
 // The report of the items among the lines of a journal.
 fn run_journal(alloc: Global, lens: &Typed, journal: &[u8]) -> Result<Report, AllocError>
     requires { IsTrue (is_paired_int (form_tree lens.now)) }
-    ensures { IfOk result (λ r. run_report (form_tree lens.now) (items_among (map bare (cut journal.now))) ≡ Some (r.text.items, r.status)) }
+    ensures { IfOk result (λ r. run_report (form_tree lens.now) (items_among (map up_to_line_end (cut journal.now))) ≡ Some (r.text.items, r.status)) }
 {
     let most = journal.len() as u64;
     let mut running = Running {
@@ -156,7 +155,7 @@ fn run_journal(alloc: Global, lens: &Typed, journal: &[u8]) -> Result<Report, Al
     Ok(Report { text, status })
 }
 
-// How a run ends that nothing stopped.
+// The status of a run that came to its end.
 fn ending(refused: bool) -> Status
     ensures { result ≡ ending refused }
 {
@@ -178,8 +177,8 @@ fn first_triple(alloc: Global, lens: &Typed) -> Result<Triple, AllocError>
     })
 }
 
-// Takes a line without its LF: a blank one is passed over, any other is an item.
-#[tactic(auto, using(crate::proofs::Reports::line_passed, crate::proofs::Reports::line_taken))]
+// Handles a line without its LF: a blank line is skipped, any other is an item.
+#[tactic(auto, using(crate::proofs::RunReports::blank_line_step, crate::proofs::RunReports::line_step))]
 fn take_line(
     alloc: Global,
     lens: &Typed,
@@ -201,7 +200,7 @@ fn take_line(
     take_item(alloc, lens, running, &line)
 }
 
-// Takes a line that is not blank.
+// Handles a line that is not blank.
 fn take_item(
     alloc: Global,
     lens: &Typed,
@@ -219,9 +218,9 @@ fn take_item(
     let mut triple = running.triple;
     let answer = answer_to(alloc, lens, &mut triple, line)?;
     let number = running.number + 1;
-    let said = answer_line(alloc, number, &answer)?;
+    let next_line = answer_line(alloc, number, &answer)?;
     let mut text = running.text;
-    text.extend_from_slice(said.as_slice())?;
+    text.extend_from_slice(next_line.as_slice())?;
     let refused = either(running.refused, answer.is_refused());
     Ok(Running {
         triple,
@@ -248,7 +247,7 @@ fn answer_to(
     requires in_step { IsInStep (form_tree lens.now) (triple_tree triple.old) }
     ensures answer { IfOk result (λ answer. take_item (form_tree lens.now) (triple_tree triple.old) (entry_of_line line.now)
         ≡ Some (triple_tree triple.new, answer_tree answer)) }
-    ensures told { IfOk result (λ answer. CanBeTold (answer_tree answer)) }
+    ensures has_line { IfOk result (λ answer. HasAnswerLine (answer_tree answer)) }
 {
     match read_entry(alloc, line) {
         Ok(entry) => step(alloc, lens, triple, &entry),

@@ -2,18 +2,19 @@
 ghost use Rattle.std.specs.Prelude.{◌≡◌, true, IsTrue, IfOk, OnErr, Some};
 ghost use Rattle.edit_json.specs.WordJson.{counts_fit};
 ghost use Rattle.edit_module.specs.Views.{word_tree};
-ghost use Rattle.lens_types.specs.Forms.{form_tree};
+ghost use Rattle.lens_forms.specs.Forms.{form_tree};
 ghost use Rattle.lens_core.specs.Built.{is_paired_int};
-ghost use Rattle.editlens_main.specs.Step.{IsInStep, step, left_acted};
-ghost use Rattle.editlens_main.specs.Telling.{CanBeTold};
+ghost use Rattle.editlens_main.specs.Step.{IsInStep, step, after_left_action};
+ghost use Rattle.editlens_main.specs.AnswerLines.{HasAnswerLine};
 ghost use Rattle.editlens_main.specs.Views.{triple_tree, answer_tree};
 
 use doc_values::Doc;
 use edit_journal::EntryFault;
-use edit_module::{ActFault, Cause, Entry, Side, Word, act};
+use edit_module::{ActFault, Cause, Entry, Word, act};
 use lens_core::{Carried, CarryFault, Comp, record_carry};
 use lens_types::Typed;
 use std::alloc::{AllocError, Global};
+use texts::Side;
 
 /// A left document, a complement and a right document.
 #[derive(Drop)]
@@ -23,18 +24,19 @@ pub struct Triple {
     pub right: Doc,
 }
 
-/// What is answered to an item of a journal.
+/// The answer to an item of a journal.
 #[derive(Drop)]
 pub enum Answer {
-    /// The edit was carried to this word of this side.
+    /// The edit was translated to this word of this side.
     Carried(Side, Word),
     /// The edit does not apply: the number of the first primitive that fails, and its cause.
     NoApply { at: u64, cause: Cause },
-    /// The line is no entry, for this fault, which is not want of memory.
+    /// The line is not an entry, for this fault, which is not that memory ran out.
     NoEntry(EntryFault),
 }
 
-/// Takes an entry, and answers to it. Only want of memory is an error, which leaves the triple as it was.
+/// Applies an entry to the triple, and returns the answer to it. The only error is running out of memory, which leaves the
+/// triple as it was.
 pub fn step(
     alloc: Global,
     lens: &Typed,
@@ -46,7 +48,7 @@ pub fn step(
     requires fits { counts_fit (word_tree entry.now.word) ≡ true }
     ensures steps { IfOk result (λ answer. step (form_tree lens.now) (triple_tree triple.old) entry.now.side (word_tree entry.now.word)
         ≡ Some (triple_tree triple.new, answer_tree answer)) }
-    ensures told { IfOk result (λ answer. CanBeTold (answer_tree answer)) }
+    ensures has_line { IfOk result (λ answer. HasAnswerLine (answer_tree answer)) }
     ensures err { OnErr result (triple.new ≡ triple.old) }
 {
     match entry.side {
@@ -67,7 +69,7 @@ fn step_left(
     requires fits { counts_fit (word_tree word.now) ≡ true }
     ensures steps { IfOk result (λ answer. step (form_tree lens.now) (triple_tree triple.old) Side.Left (word_tree word.now)
         ≡ Some (triple_tree triple.new, answer_tree answer)) }
-    ensures told { IfOk result (λ answer. CanBeTold (answer_tree answer)) }
+    ensures has_line { IfOk result (λ answer. HasAnswerLine (answer_tree answer)) }
     ensures err { OnErr result (triple.new ≡ triple.old) }
 {
     let left = match act(alloc, lens.left(), word, &triple.left) {
@@ -107,7 +109,7 @@ fn step_right(
     requires fits { counts_fit (word_tree word.now) ≡ true }
     ensures steps { IfOk result (λ answer. step (form_tree lens.now) (triple_tree triple.old) Side.Right (word_tree word.now)
         ≡ Some (triple_tree triple.new, answer_tree answer)) }
-    ensures told { IfOk result (λ answer. CanBeTold (answer_tree answer)) }
+    ensures has_line { IfOk result (λ answer. HasAnswerLine (answer_tree answer)) }
     ensures err { OnErr result (triple.new ≡ triple.old) }
 {
     let right = match act(alloc, lens.right(), word, &triple.right) {

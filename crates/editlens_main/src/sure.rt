@@ -9,11 +9,12 @@ use crate::{Status, editlens};
 use lens_io::{SureSink, SureSource};
 use std::alloc::Global;
 
-/// A command over devices that do not fail is complete, unless the sink is full.
+/// The top call over devices that do not fail: a command is complete, unless the sink's room is full.
 ///
-/// With at most 2^30 bytes and an accepted program part the status is `Done` or `SomeRefused`, with one that is refused it
-/// is `ProgramRefused`; in place of either stands `NoMemory` where memory ran out, and `SinkFault` where the sink's room is
-/// full. After `Done` and `SomeRefused` the sink holds what [`editlens`] says.
+/// - `sure`: with at most 2^30 bytes, the status is `Done` or `SomeRefused` if the program part is accepted, and
+///   `ProgramRefused` if it is refused. It is `NoMemory` instead if memory ran out, and `SinkFault` only if the sink's room
+///   is full.
+/// - `run_reports`, `check_types`: after `Done` and `SomeRefused` the sink holds what [`editlens`] says.
 pub fn run_sure(
     alloc: Global,
     words: &[String],

@@ -1,6 +1,6 @@
 //! The top call.
 ghost use Rattle.std.specs.Prelude.{◌≡◌, ◌⊎◌, ◌^◌, ◌<◌, ◌≤◌, IfSome, Some, None, length};
-ghost use Rattle.lens_io.specs.Causes.{Rose};
+ghost use Rattle.lens_io.specs.Causes.{Increased};
 ghost use Rattle.lens_io.specs.Content.{IsFull};
 ghost use Rattle.editlens_main.specs.Ends.{IsFinished, Reports, Stops, SinkFailed, GivesUsage, IsComplete};
 ghost use Rattle.editlens_main.specs.Words.{command_of};
@@ -12,20 +12,28 @@ use crate::words::{Command, USAGE, read_command};
 use lens_io::{Sink, Source, TakeFault, give_all, take_all};
 use std::alloc::Global;
 
-// The most bytes that are taken from a source, but for one more that shows that there are too many.
+// The most bytes of an input. One more is asked for, which shows that there are too many.
 const MOST: u64 = 1 << 30;
 
-/// What the program does with its words, its input and its output.
+/// Does what the program's words say, with its input and its output.
 ///
-/// With the words `NAME run` and `NAME check` the source is read to its end, and the sink is given the report of what was
-/// read: docs/FORMATS.md says what a script is, docs/MEANING.md what its report says. All other words give the usage line
-/// and the status `Usage`. The status says how the call ended, and the clauses say what stands then:
-/// - *run reports*: after `Done` and `SomeRefused` the sink holds the report of all that the source had, and every triple of
-///   the run is in the lens's consistency relation.
-/// - *check types*: after `Done` the sink holds the two types of the lens of the program part.
-/// - *stops are clean*: what the sink holds, and what the source has left, after every other status.
-/// - *causes*: when each of the other statuses comes. Want of memory alone has no cause.
-/// - *complete*: where the source and the sink give no fault, the whole report is given.
+/// For the words `NAME run` and `NAME check` the source is read to its end, and the report of what was read is written to
+/// the sink. docs/FORMATS.md says what a script is, and docs/MEANING.md what its report says. For all other words the usage
+/// line is written. The status says how the call ended, and the clauses say what holds then:
+///
+/// - `run_reports`: after `Done` and `SomeRefused` the complete report of the input was written, and every triple of the run
+///   is in the lens's consistency relation.
+/// - `check_types`: after `Done` the two types of the lens of the program part were written.
+/// - `stops_are_clean`: what was taken from the source and written to the sink for every other status, and that
+///   `ProgramRefused` comes only if the program part is refused and `InputTooLong` if and only if the input is too long.
+/// - `usage`, `no_usage`: the words name no command if and only if the status is `Usage`, or `SinkFault` at the usage line.
+///   The source is then left as it was.
+/// - `source_fault`, `sink_fault`: these statuses come only if the source, or the sink, failed.
+/// - `complete`: if neither device failed, the command comes to its end, or the program part is refused, or memory ran out.
+///
+/// `NoMemory` comes only if memory ran out, which no clause can say. Whether a program part is accepted is said by a
+/// definition that follows the reader (`bounded` of lens_syntax). It is the grammar's: the law
+/// `lens_syntax::laws::reading_follows_the_grammar`.
 pub fn editlens<S: Source, K: Sink>(
     alloc: Global,
     words: &[String],
@@ -39,16 +47,16 @@ pub fn editlens<S: Source, K: Sink>(
     ensures stops_are_clean { (command : Command) → command_of words.now ≡ Some command
         → Stops command (S.left source.old) (S.left source.new) (K.held sink.old) (K.held sink.new) result }
 
-    // Words that name no command, and no others, give the usage line; the source is then left alone.
+    // If and only if the words name no command, the usage line is written; the source is then left as it was.
     ensures usage { command_of words.now ≡ None → GivesUsage (K.held sink.old) (K.held sink.new) result
         × (S.left source.new ≡ S.left source.old) × (S.faults source.new ≡ S.faults source.old) }
     ensures no_usage { result ≡ Status.Usage → command_of words.now ≡ None }
 
-    ensures source_fault { result ≡ Status.SourceFault → Rose (S.faults source.old) (S.faults source.new) }
+    ensures source_fault { result ≡ Status.SourceFault → Increased (S.faults source.old) (S.faults source.new) }
     ensures sink_fault { result ≡ Status.SinkFault → SinkFailed K.faults K.empty_takes K.room K.held sink.old sink.new }
 
     ensures complete { (command : Command) → command_of words.now ≡ Some command → IfSome (S.left source.old) (λ bytes. length bytes ≤ 2 ^ 30
-        → (Rose (S.faults source.old) (S.faults source.new) → ⊥)
+        → (Increased (S.faults source.old) (S.faults source.new) → ⊥)
         → (SinkFailed K.faults K.empty_takes K.room K.held sink.old sink.new → ⊥)
         → IsComplete command bytes result) }
 {
@@ -61,14 +69,14 @@ pub fn editlens<S: Source, K: Sink>(
     run(alloc, command, source, sink)
 }
 
-// Reads all there is, and gives the report of it.
+// Reads the complete input, and writes the report of it.
 fn run<S: Source, K: Sink>(alloc: Global, command: Command, source: &mut S, sink: &mut K) -> Status
     ensures stops { Stops command (S.left source.old) (S.left source.new) (K.held sink.old) (K.held sink.new) result }
     ensures reports { IsFinished result → Reports command (S.left source.old) (S.left source.new) (K.held sink.old) (K.held sink.new) result }
-    ensures source_fault { result ≡ Status.SourceFault → Rose (S.faults source.old) (S.faults source.new) }
+    ensures source_fault { result ≡ Status.SourceFault → Increased (S.faults source.old) (S.faults source.new) }
     ensures sink_fault { result ≡ Status.SinkFault → SinkFailed K.faults K.empty_takes K.room K.held sink.old sink.new }
     ensures complete { IfSome (S.left source.old) (λ bytes. length bytes ≤ 2 ^ 30
-        → (Rose (S.faults source.old) (S.faults source.new) → ⊥)
+        → (Increased (S.faults source.old) (S.faults source.new) → ⊥)
         → (SinkFailed K.faults K.empty_takes K.room K.held sink.old sink.new → ⊥)
         → IsComplete command bytes result) }
 {

@@ -1,31 +1,31 @@
 // The command line.
 ghost use Rattle.std.specs.Prelude.{◌≡◌};
-ghost use Rattle.editlens_main.specs.Words.{command_of, named};
+ghost use Rattle.editlens_main.specs.Words.{command_of, command_named};
 
-/// What is written where the words name no command.
+/// The line that is written if the words name no command.
 pub const USAGE: &str = "usage: editlens run|check|init|apply|show|verify|pack|gen N SEED\n";
 
-/// What the program is asked to do.
+/// The command that the words name.
 #[derive(Clone, Copy, Debug, PartialEq, Eq)]
 pub enum Command {
-    /// Carry the entries of a journal.
+    /// Translate the entries of a journal.
     Run,
     /// Show the two types of a lens.
     Check,
 }
 
-/// The command that the words name: the program's name, one word, and no more. None where they name none.
+/// The command that the words name: the program's name, one word, and no more. None if they name no command.
 pub fn read_command(words: &[String]) -> Option<Command>
     ensures { result ≡ command_of words.now }
 {
     match words {
-        [_, word] => named(word.as_str()),
+        [_, word] => command_named(word.as_str()),
         _ => None,
     }
 }
 
-fn named(word: &str) -> Option<Command>
-    ensures { result ≡ named word.now }
+fn command_named(word: &str) -> Option<Command>
+    ensures { result ≡ command_named word.now }
 {
     match word {
         "run" => Some(Command::Run),

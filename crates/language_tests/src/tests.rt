@@ -7,7 +7,6 @@ use program_reader::{ProgramReadFault, read_tokens};
 use program_terms::{AddFault, Def, Definitions, Lens, TyExpr};
 use program_tokens::{Token, Tokens, tokens};
 use std::alloc::{AllocError, Global};
-use std::process::Abort;
 use texts::{Name, Twin};
 
 /// A program with each construct of the language, in canonical text.
@@ -19,21 +18,24 @@ fn name(alloc: Global, text: &str) -> Result<Name, AllocError> {
 }
 
 #[test]
-fn texts_and_programs(rt: HostRuntime) {
+fn a_program_and_its_copy(rt: HostRuntime) {
     let alloc = rt.alloc();
     let program = read_program(alloc, EACH_CONSTRUCT.as_bytes()).expect(&rt, "a program");
     let copy = program.twin(alloc).expect(&rt, "memory for a copy");
     let text = write_program(alloc, &copy).expect(&rt, "memory for the text");
     assert_eq!(rt; text.as_str(), EACH_CONSTRUCT);
-    let again = read_unbounded(alloc, text.as_str().as_bytes()).expect(&rt, "a program");
-    let text = write_program(alloc, &again).expect(&rt, "memory for the text");
-    assert_eq!(rt; text.as_str(), EACH_CONSTRUCT);
-    let fault = read_program(alloc, b"main id t").err();
-    assert_eq!(rt; fault, Some(ProgramFault::UnknownName { at: 8 }));
 }
 
 #[test]
-fn tokens_and_faults(rt: HostRuntime) {
+fn a_text_of_any_length(rt: HostRuntime) {
+    let alloc = rt.alloc();
+    let program = read_unbounded(alloc, EACH_CONSTRUCT.as_bytes()).expect(&rt, "a program");
+    assert_eq!(rt; program.count(), 2);
+    assert_eq!(rt; program.name(1).as_str(), "l");
+}
+
+#[test]
+fn tokens_one_by_one(rt: HostRuntime) {
     let alloc = rt.alloc();
     let mut left = tokens(alloc, b"a \"b\"").expect(&rt, "memory for the tokens");
     assert_eq!(rt; left.len(), 3);
@@ -42,6 +44,13 @@ fn tokens_and_faults(rt: HostRuntime) {
     left.push(first).expect(&rt, "memory for a token");
     let text = left.pop().expect(&rt, "a string");
     assert!(rt; matches!(text.token, Token::Text(_)));
+}
+
+#[test]
+fn faults(rt: HostRuntime) {
+    let alloc = rt.alloc();
+    let fault = read_program(alloc, b"main id t").err();
+    assert_eq!(rt; fault, Some(ProgramFault::UnknownName { at: 8 }));
     let fault = read_tokens(alloc, Tokens::new(alloc)).err();
     assert_eq!(rt; fault, Some(ProgramReadFault::Ended));
 }

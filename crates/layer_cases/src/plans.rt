@@ -7,7 +7,7 @@ use crate::case::Case;
 use crate::objects::{named, object, pair, text};
 use crate::values;
 use anyhow::{Result, bail};
-use edit_module::Prim;
+use edit_module::word::Primitive;
 use hold_shapes::{
     Depths, Held, KeyedShape, Origin, Origins, Plan, PlanFault, Shape, TreeShape, gather,
 };
@@ -47,7 +47,7 @@ fn shape(alloc: Global, case: &Case<'_>, name: &str) -> Result<Shape> {
 fn plan(alloc: Global, case: &Case<'_>) -> Result<Value> {
     let shape = shape(alloc, case, "shape")?;
     let word = values::one_word(alloc, case.argument("edit")?)?;
-    let [Prim::Shape(edit)] = word.as_slice() else {
+    let [Primitive::Shape(edit)] = word.as_slice() else {
         bail!("no edit of a shape");
     };
     match shape.plan(alloc, edit) {

@@ -4,7 +4,8 @@ use crate::programs::typed;
 use anyhow::{Context, Result, bail};
 use doc_values::{Doc, Docs, Fields, Ty};
 use edit_json::read_word;
-use edit_module::{Prim, Word};
+use edit_module::Word;
+use edit_module::word::Primitive;
 use hold_shapes::{
     Depths, Held, KeyedShape, ListShape, Origin, Origins, Path, Place, Shape, ShapeEdit, TreeShape,
 };
@@ -113,7 +114,7 @@ pub fn word(alloc: Global, tree: &Value) -> Result<Word> {
 /// The word of one primitive. It may insert and delete any number of items below 2^32, also none.
 pub fn one_word(alloc: Global, tree: &Value) -> Result<Word> {
     if let Some(edit) = any_count(tree) {
-        return Ok(Word::from_vec(vec![in alloc; Prim::Shape(edit)]?));
+        return Ok(Word::from_vec(vec![in alloc; Primitive::Shape(edit)]?));
     }
     let mut items = Vec::new(alloc);
     items.push(tree.clone()?)?;

@@ -2,8 +2,8 @@
 use Rattle.std.proofs.Common.{◌≡◌, ℕ, Bool, true, false, List, [], ◌∷◌, length, map, get_or, refl, sym, ap}
 use Rattle.std.specs.Prelude.{IsTrue}
 use Rattle.doc_values.specs.Types.{ty_int}
-use Rattle.lens_types.specs.Forms.{FormTree, form_id, form_rec, RowTrees, no_rows, both, RowTree, row_both, row_left, row_right, with_row, rows_of, row_tree}
-use Rattle.lens_types.specs.declared.form.FormRow.{FormRow}
+use Rattle.lens_forms.specs.Forms.{FormTree, form_id, form_rec, RowTrees, no_rows, both, RowTree, row_both, row_left, row_right, with_row, form_rows_of, row_tree}
+use Rattle.lens_forms.specs.declared.form.FormRow.{FormRow}
 use Rattle.lens_core.specs.Built.{paired_int, is_paired_int}
 
 -- the fields of the record of one paired row with `id int`
@@ -31,12 +31,12 @@ not_built form other = go (is_paired_int form) refl
     go true is = let p = paired_fields form is in absurd (other p.left p.right p.is)
     go false is = refl
 
-pub rows_not_one : (rows : List FormRow) → (length rows ≡ 1 → ⊥) → is_paired_int (form_rec (rows_of (map row_tree rows))) ≡ false
+pub rows_not_one : (rows : List FormRow) → (length rows ≡ 1 → ⊥) → is_paired_int (form_rec (form_rows_of (map row_tree rows))) ≡ false
 rows_not_one [] h = refl
 rows_not_one (r ∷ []) h = absurd (h refl)
-rows_not_one (r ∷ (s ∷ rows)) h = not_built _ (two_rows (row_tree r) (row_tree s) (rows_of (map row_tree rows)))
+rows_not_one (r ∷ (s ∷ rows)) h = not_built _ (two_rows (row_tree r) (row_tree s) (form_rows_of (map row_tree rows)))
 
-pub rows_one : (rows : List FormRow) (r : FormRow) → length rows ≡ 1 → r ≡ get_or rows 0 r → rows_of (map row_tree rows) ≡ with_row (row_tree r) no_rows
+pub rows_one : (rows : List FormRow) (r : FormRow) → length rows ≡ 1 → r ≡ get_or rows 0 r → form_rows_of (map row_tree rows) ≡ with_row (row_tree r) no_rows
 rows_one [] r h is = cc
 rows_one (q ∷ []) r h is = ap (λ z. with_row (row_tree z) no_rows) (sym is)
 rows_one (q ∷ (s ∷ rows)) r h is = cc

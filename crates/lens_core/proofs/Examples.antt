@@ -3,10 +3,10 @@ use Rattle.std.proofs.Common.{◌≡◌, ℕ, true, List, [], ◌∷◌, None, S
 use Rattle.std.specs.Prelude.{pos}
 use Rattle.doc_values.specs.Documents.{DocTree, truth, int, rec, no_docs, more_docs}
 use Rattle.doc_values.specs.Types.{ty_int, ty_bool}
-use Rattle.edit_module.specs.Words.{WordTree, set, at, done, then}
+use Rattle.edit_module.specs.Words.{WordTree, set, at, no_primitives, more_primitives}
 use Rattle.edit_module.specs.declared.atom.Atom.TheVariants.{Truth, Number}
 use Rattle.texts.specs.declared.side.Side.TheVariants.{Left, Right}
-use Rattle.lens_types.specs.Forms.{FormTree, form_id, form_disc, form_rec, no_rows, both, only_left, only_right}
+use Rattle.lens_forms.specs.Forms.{FormTree, form_id, form_disc, form_rec, no_rows, both, only_left, only_right}
 use Rattle.lens_core.specs.Built.{paired_int}
 use Rattle.lens_core.specs.Complements.{CompTree, nil, rec_comp, no_comps, more_comps, missing}
 use Rattle.lens_core.specs.Consistency.{IsConsistent}
@@ -41,10 +41,10 @@ start = rec_comp (more_comps nil no_comps)
 
 -- set n, and a word of it in a field
 abbrev set_to : ℕ → WordTree
-set_to n = then (set (Number (pos n))) done
+set_to n = more_primitives (set (Number (pos n))) no_primitives
 
 abbrev in_field : List ℕ → WordTree → WordTree
-in_field f w = then (at f w) done
+in_field f w = more_primitives (at f w) no_primitives
 
 -- ---- complements
 
@@ -65,28 +65,28 @@ set_from_the_right = refl
 far_field : translate one_row Left start (in_field b (set_to 5)) ≡ None
 far_field = refl
 
-empty_inner_word : translate one_row Left start (in_field a done) ≡ Some (done, start)
+empty_inner_word : translate one_row Left start (in_field a no_primitives) ≡ Some (no_primitives, start)
 empty_inner_word = refl
 
-of_the_identity : translate (form_id ty_int) Left nil (in_field a done) ≡ Some (in_field a done, nil)
+of_the_identity : translate (form_id ty_int) Left nil (in_field a no_primitives) ≡ Some (in_field a no_primitives, nil)
 of_the_identity = refl
 
-empty_word : translate one_row Left nil done ≡ Some (done, nil)
+empty_word : translate one_row Left nil no_primitives ≡ Some (no_primitives, nil)
 empty_word = refl
 
-one_after_another : translate one_row Left start (then (at a (set_to 5)) (in_field a (set_to 6))) ≡ Some (then (at b (set_to 5)) (in_field b (set_to 6)), start)
+one_after_another : translate one_row Left start (more_primitives (at a (set_to 5)) (in_field a (set_to 6))) ≡ Some (more_primitives (at b (set_to 5)) (in_field b (set_to 6)), start)
 one_after_another = refl
 
-second_is_none : translate one_row Left start (then (at a (set_to 5)) (set_to 6)) ≡ None
+second_is_none : translate one_row Left start (more_primitives (at a (set_to 5)) (set_to 6)) ≡ None
 second_is_none = refl
 
-second_row : translate two_rows Right (missing two_rows) (in_field c (then (set (Truth true)) done)) ≡ Some (in_field a (then (set (Truth true)) done), missing two_rows)
+second_row : translate two_rows Right (missing two_rows) (in_field c (more_primitives (set (Truth true)) no_primitives)) ≡ Some (in_field a (more_primitives (set (Truth true)) no_primitives), missing two_rows)
 second_row = refl
 
 behind_one_side : translate mixed Right start (in_field b (set_to 5)) ≡ Some (in_field a (set_to 5), start)
 behind_one_side = refl
 
-one_side_alone : translate mixed Left start (in_field c (set_to 5)) ≡ Some (done, start)
+one_side_alone : translate mixed Left start (in_field c (set_to 5)) ≡ Some (no_primitives, start)
 one_side_alone = refl
 
 not_on_the_other : translate mixed Right start (in_field c (set_to 5)) ≡ None
@@ -95,10 +95,10 @@ not_on_the_other = refl
 other_variant : translate one_row Left nil (in_field a (set_to 5)) ≡ None
 other_variant = refl
 
-too_many_parts : translate one_row Left (missing two_rows) (in_field a done) ≡ None
+too_many_parts : translate one_row Left (missing two_rows) (in_field a no_primitives) ≡ None
 too_many_parts = refl
 
-parts_are_not_looked_at : translate one_row Left (rec_comp (more_comps start no_comps)) (in_field a done) ≡ Some (done, rec_comp (more_comps start no_comps))
+parts_are_not_looked_at : translate one_row Left (rec_comp (more_comps start no_comps)) (in_field a no_primitives) ≡ Some (no_primitives, rec_comp (more_comps start no_comps))
 parts_are_not_looked_at = refl
 
 -- ---- the relation

@@ -1,10 +1,10 @@
-mod Examples
 pub mod BuiltForms
-pub mod Carries
-pub mod Lawful
-pub mod Lists
+pub mod CarriedWords
+pub mod ComplementTrees
+mod Examples
+pub mod FormSizes
+pub mod LensLaws
 pub mod MissingRows
-pub mod Paired
-pub mod Sizes
-pub mod Steps
-pub mod Turns
+pub mod PairedRecord
+pub mod WordSteps
+pub mod WordTranslation

@@ -2,22 +2,22 @@
 use Rattle.std.proofs.Common.{◌≡◌, ℕ, suc, ◌+◌, ◌<◌, ◌≤◌, List, [], ◌∷◌, ◌++◌, length, map, drop, drop-cons, get_or, add-one, append-nil, append_assoc, refl, sym, ap, ◌∙◌}
 use Rattle.std.proofs.lemmas.List.{drop_all, map-append}
 use Rattle.doc_values.specs.declared.ty.Ty.{Ty}
-use Rattle.lens_types.specs.Forms.{form_tree, row_tree, rows_of, with_row}
-use Rattle.lens_types.specs.declared.form.Form.{Form}
-use Rattle.lens_types.specs.declared.form.FormRow.{FormRow}
-use Rattle.lens_types.specs.declared.form.FormRow.TheVariants.{Both, OnlyLeft, OnlyRight}
+use Rattle.lens_forms.specs.Forms.{form_tree, row_tree, form_rows_of, with_row}
+use Rattle.lens_forms.specs.declared.form.Form.{Form}
+use Rattle.lens_forms.specs.declared.form.FormRow.{FormRow}
+use Rattle.lens_forms.specs.declared.form.FormRow.TheVariants.{Both, OnlyLeft, OnlyRight}
 use Rattle.lens_core.specs.Complements.{CompTree, comps_of, comp_list, comp_tree, missing, missing_rows}
 use Rattle.lens_core.specs.declared.comp.Comp.{Comp}
-use Rattle.lens_core.proofs.Lists.{comps_of-comp_list, row_tree-both, row_tree-left, row_tree-right}
+use Rattle.lens_core.proofs.ComplementTrees.{comps_of-comp_list, row_tree-both, row_tree-left, row_tree-right}
 
 -- the missing complements of the rows from one on
 abbrev pub missing_from : List FormRow → ℕ → List CompTree
-missing_from rows i = comp_list (missing_rows (rows_of (map row_tree (drop i rows))))
+missing_from rows i = comp_list (missing_rows (form_rows_of (map row_tree (drop i rows))))
 
 rows_next : (rows : List FormRow) (i : ℕ) (r : FormRow) → i < length rows → r ≡ get_or rows i r
-    → rows_of (map row_tree (drop i rows)) ≡ with_row (row_tree r) (rows_of (map row_tree (drop (i + 1) rows)))
+    → form_rows_of (map row_tree (drop i rows)) ≡ with_row (row_tree r) (form_rows_of (map row_tree (drop (i + 1) rows)))
 rows_next rows i r h is =
-    rw (drop-cons rows i r h, add-one) (ap (λ (q : FormRow). with_row (row_tree q) (rows_of (map row_tree (drop (suc i) rows)))) (sym is))
+    rw (drop-cons rows i r h, add-one) (ap (λ (q : FormRow). with_row (row_tree q) (form_rows_of (map row_tree (drop (suc i) rows)))) (sym is))
 
 -- a paired row has the missing one of its lens
 pub paired_next : (rows : List FormRow) (i : ℕ) (r : FormRow) (a b : List ℕ) (l : Form) → i < length rows → r ≡ get_or rows i r → r ≡ Both a b l
@@ -40,6 +40,6 @@ made_next cs c rest whole e = rw (map-append comp_tree cs (c ∷ []), append_ass
 
 -- once every row is done, the complements made are the missing ones
 pub missing_done : (cs : List Comp) (rows : List FormRow) (i : ℕ) → length rows ≤ i
-    → map comp_tree cs ++ missing_from rows i ≡ comp_list (missing_rows (rows_of (map row_tree rows)))
-    → comps_of (map comp_tree cs) ≡ missing_rows (rows_of (map row_tree rows))
+    → map comp_tree cs ++ missing_from rows i ≡ comp_list (missing_rows (form_rows_of (map row_tree rows)))
+    → comps_of (map comp_tree cs) ≡ missing_rows (form_rows_of (map row_tree rows))
 missing_done cs rows i h e = ap comps_of (rw (drop_all i rows h, append-nil) at e) ∙ comps_of-comp_list _

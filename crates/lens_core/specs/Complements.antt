@@ -1,6 +1,6 @@
 -- Complements as plain trees, which of them fit a form, and the missing one.
 use Rattle.std.specs.Prelude.{ℕ, ◌+◌, List, [], ◌∷◌}
-use Rattle.lens_types.specs.Forms.{FormTree, form_id, form_rec, RowTrees, no_rows, both, only_left, only_right}
+use Rattle.lens_forms.specs.Forms.{FormTree, form_id, form_rec, RowTrees, no_rows, both, only_left, only_right}
 use Rattle.lens_core.specs.declared.comp.Comp.{Comp, fold-Comp}
 use Rattle.lens_core.specs.declared.comp.Comps.{Comps, fold-Comps}
 use Rattle.lens_core.specs.declared.comp.Comp.TheOpen.{Comp-F, Comps-F}

@@ -1,9 +1,9 @@
 -- The consistency relation: which left document, complement and right document belong together.
 use Rattle.std.specs.Prelude.{◌≡◌, ℕ, IsTrue, bytes_eq, if◌then◌else◌, List, Option, None, Some}
 use Rattle.doc_values.specs.Documents.{DocTree, rec, DocTrees, more_docs}
-use Rattle.doc_values.specs.Types.{FieldTrees, field}
+use Rattle.doc_values.specs.Types.{FieldTrees, more_fields}
 use Rattle.doc_values.specs.Typing.{has}
-use Rattle.lens_types.specs.Forms.{FormTree, form_id, form_rec, RowTrees, no_rows, both, only_left, only_right, left_type, left_fields, right_type, right_fields}
+use Rattle.lens_forms.specs.Forms.{FormTree, form_id, form_rec, RowTrees, no_rows, both, only_left, only_right, left_type, left_fields, right_type, right_fields}
 use Rattle.lens_core.specs.Complements.{CompTree, nil, rec_comp, CompTrees, no_comps, more_comps, Fits}
 
 -- the left document has the left type, the complement fits, and the right document has the right type
@@ -14,7 +14,7 @@ pub record AreTyped (form : FormTree) (left : DocTree) (comp : CompTree) (right 
 
 -- the content of a record at a field
 abbrev pub content : FieldTrees → DocTrees → List ℕ → Option DocTree
-content (field m t fs) (more_docs d ds) n = if bytes_eq m n then Some d else content fs ds n
+content (more_fields m t fs) (more_docs d ds) n = if bytes_eq m n then Some d else content fs ds n
 content _ _ n = None
 
 -- The relation holds only where the documents have their types and the complement fits. Beyond that, by the form:

@@ -3,10 +3,10 @@ use Rattle.std.specs.Prelude.{◌≡◌, Some, option_map, option_and_then, Ok}
 use Rattle.doc_values.specs.Documents.{DocTree}
 use Rattle.doc_values.specs.Initial.{initial}
 use Rattle.edit_module.specs.Action.{act}
-use Rattle.edit_module.specs.Words.{WordTree, done, joined}
+use Rattle.edit_module.specs.Words.{WordTree, no_primitives, joined}
 use Rattle.texts.specs.declared.side.Side.{Side}
 use Rattle.texts.specs.declared.side.Side.TheVariants.{Left, Right}
-use Rattle.lens_types.specs.Forms.{FormTree, left_type, right_type}
+use Rattle.lens_forms.specs.Forms.{FormTree, left_type, right_type}
 use Rattle.lens_core.specs.Complements.{CompTree, missing}
 use Rattle.lens_core.specs.Consistency.{IsConsistent, AreTyped}
 use Rattle.lens_core.specs.Translation.{translate, behind}
@@ -51,7 +51,7 @@ RightEditsCarry form = (x : DocTree) (c : CompTree) (y : DocTree) (w : WordTree)
 
 -- words compose: the empty word is carried to the empty word with the same complement
 abbrev pub EmptyStays : FormTree → Type 0
-EmptyStays form = (side : Side) (c : CompTree) → translate form side c done ≡ Some (done, c)
+EmptyStays form = (side : Side) (c : CompTree) → translate form side c no_primitives ≡ Some (no_primitives, c)
 
 -- and a joined word by carrying its first part, then the second with the complement that the first left, and joining the words
 abbrev pub WordsCompose : FormTree → Type 0

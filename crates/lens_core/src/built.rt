@@ -1,23 +1,23 @@
 //! The form that is carried today: the record of one paired row with `id int`.
 
 ghost use Rattle.std.specs.Prelude.{◌≡◌, false, MatchOption};
-ghost use Rattle.lens_types.specs.Forms.{form_tree, row_tree, with_row, no_rows, form_rec};
+ghost use Rattle.lens_forms.specs.Forms.{form_tree, row_tree, with_row, no_rows, form_rec};
 ghost use Rattle.lens_core.specs.Built.{is_paired_int, paired_int};
 
 use doc_values::Ty;
-use hold_shapes::Name;
-use lens_types::{Form, FormRow};
+use lens_forms::{Form, FormRow};
+use texts::Name;
 
 /// Whether a form is the one that is carried today: the record of one paired row with `id int`, whatever its two fields.
 ///
-/// [`record_carry`](crate::record_carry) takes such forms alone. Takes no memory.
+/// [`record_carry`](crate::record_carry) takes such forms alone. The call does not allocate.
 pub fn is_built(form: &Form) -> bool
     ensures { result ≡ is_paired_int (form_tree form.now) }
 {
     paired_fields(form).is_some()
 }
 
-// The left and the right field, where the form is the one that is carried today.
+// The left and the right field, if the form is the one that is carried today.
 pub(crate) fn paired_fields(form: &Form) -> Option<(&Name, &Name)>
     ensures { MatchOption result
         (is_paired_int (form_tree form.now) ≡ false)
@@ -33,7 +33,7 @@ pub(crate) fn paired_fields(form: &Form) -> Option<(&Name, &Name)>
     int_fields(&rows[0])
 }
 
-// The left and the right field, where the row is paired by `id int`.
+// The left and the right field, if the row is paired by `id int`.
 fn int_fields(row: &FormRow) -> Option<(&Name, &Name)>
     ensures { MatchOption result
         (is_paired_int (form_rec (with_row (row_tree row.now) no_rows)) ≡ false)

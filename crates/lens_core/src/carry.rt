@@ -1,22 +1,22 @@
-//! Carrying a word from one side to the other.
+//! Translating a word of one side to a word of the other.
 
 ghost use Rattle.std.specs.Prelude.{◌≡◌, IsTrue, MatchResult, MatchOption, IfOk, Some, None};
 ghost use Rattle.edit_module.specs.Views.{primitive_tree, word_tree};
 ghost use Rattle.lens_core.specs.Complements.{comp_tree, rec_comp, more_comps, no_comps};
-ghost use Rattle.lens_types.specs.Forms.{form_tree};
+ghost use Rattle.lens_forms.specs.Forms.{form_tree};
 ghost use Rattle.lens_core.specs.Built.{is_paired_int};
 ghost use Rattle.lens_core.specs.Translation.{near, far, at_word, translate_one, translate, carried_tree, IsCarryFault};
 ghost use Rattle.lens_core.specs.Parts.{only_part, passes};
 
 use crate::built::paired_fields;
 use crate::comp::Comp;
+use edit_module::Word;
 use edit_module::word::Primitive;
-use edit_module::{Side, Word};
-use hold_shapes::{Name, Twin};
-use lens_types::Form;
+use lens_forms::Form;
 use std::alloc::{AllocError, AllocFailed, Global};
+use texts::{Name, Side, Twin};
 
-/// What a word is carried to.
+/// The result of a translation.
 #[derive(Drop)]
 pub struct Carried {
     /// The word of the other side.
@@ -25,13 +25,40 @@ pub struct Carried {
     pub comp: Comp,
 }
 
-/// Why a word is not carried.
+/// Why a word has no translation.
 #[derive(Clone, Copy, Debug, PartialEq, Eq)]
 pub enum CarryFault {
-    /// The translation has no value: the complement is none of the form's, or a primitive is none of the side's type.
+    /// The translation has no value: the complement does not fit the form, or a primitive does not fit the side's type.
     Unfit,
-    /// There was not enough memory.
+    /// Memory ran out.
     NoMemory,
+}
+
+impl Twin for Carried {
+    ghost use Rattle.lens_core.specs.Translation.{Translated, carried_tree};
+
+    ghost Meaning = { Translated };
+
+    ghost meaning = { carried_tree };
+
+    fn twin(&self, alloc: Global) -> Result<Self, AllocError> {
+        Ok(Carried {
+            word: self.word.twin(alloc)?,
+            comp: self.comp.twin(alloc)?,
+        })
+    }
+}
+
+impl Twin for CarryFault {
+    ghost use Rattle.lens_core.specs.declared.carry.CarryFault.{CarryFault};
+
+    ghost Meaning = { CarryFault };
+
+    ghost meaning = { λ fault. fault };
+
+    fn twin(&self, _alloc: Global) -> Result<Self, AllocError> {
+        Ok(*self)
+    }
 }
 
 impl From<AllocError> for CarryFault {
@@ -56,11 +83,15 @@ impl<T: Drop> From<AllocFailed<T>> for CarryFault {
     }
 }
 
-/// What a word of a side is carried to from a complement, by the record of one paired row with `id int`; a caller tests
-/// with [`is_built`](crate::is_built) that the form is one.
+/// Translates a word of a side, with a complement, by the record of one paired row with `id int`. A caller tests with
+/// [`is_built`](crate::is_built) that the form is one.
 ///
-/// The answer is the translation of the word (docs/MEANING.md): each primitive in turn, the complement handed along.
-/// `Unfit` comes exactly where the translation has no value, `NoMemory` besides. What is passed in stays as it is.
+/// docs/MEANING.md says what a translation is: each primitive after the other, the complement handed along.
+///
+/// - `Unfit`: if and only if the translation has no value.
+/// - `NoMemory`: only if memory ran out.
+///
+/// The arguments stay as they are.
 pub fn record_carry(
     alloc: Global,
     form: &Form,
@@ -84,8 +115,8 @@ pub fn record_carry(
     })
 }
 
-// What one primitive is carried to. The complement stays.
-#[tactic(auto, using(crate::proofs::Carries::one_rules))]
+// Translates one primitive. The complement stays.
+#[tactic(auto, using(crate::proofs::CarriedWords::one_rules))]
 fn carry_one(
     alloc: Global,
     form: &Form,
@@ -114,8 +145,8 @@ fn carry_one(
     Ok(in_field(alloc, far, inner)?)
 }
 
-// Whether the identity passes on a word: at a complement other than Nil the empty one alone.
-#[tactic(auto, using(crate::proofs::Carries::word_rules))]
+// Whether the identity passes a word on: at a complement other than Nil the empty word alone.
+#[tactic(auto, using(crate::proofs::CarriedWords::word_rules))]
 fn is_passed(part: &Comp, inner: &Word) -> bool
     ensures { result ≡ passes (comp_tree part.now) (word_tree inner.now) }
 {
@@ -126,7 +157,7 @@ fn is_passed(part: &Comp, inner: &Word) -> bool
 }
 
 // An At of a field with a word inside, left out where that word is empty.
-#[tactic(auto, using(crate::proofs::Carries::word_rules))]
+#[tactic(auto, using(crate::proofs::CarriedWords::word_rules))]
 fn in_field(alloc: Global, field: &Name, inner: &Word) -> Result<Word, AllocError>
     ensures { IfOk result (λ w. word_tree w ≡ at_word field.now (word_tree inner.now)) }
 {
@@ -148,8 +179,8 @@ fn ends<'a>(side: Side, left: &'a Name, right: &'a Name) -> (&'a Name, &'a Name)
     }
 }
 
-// The part of a record's complement, where it has one and no more.
-#[tactic(auto, using(crate::proofs::Carries::part_rules))]
+// The part of a record's complement, if it has exactly one.
+#[tactic(auto, using(crate::proofs::CarriedWords::part_rules))]
 fn only_part(comp: &Comp) -> Option<&Comp>
     ensures { MatchOption result
         (only_part (comp_tree comp.now) ≡ None)

@@ -2,19 +2,19 @@
 
 ghost use Rattle.std.specs.Prelude.{◌≡◌, map, IfOk};
 ghost use Rattle.lens_core.specs.Complements.{comp_tree, comps_tree, comps_of, missing, missing_rows};
-ghost use Rattle.lens_types.specs.Forms.{form_tree, rows_tree};
+ghost use Rattle.lens_forms.specs.Forms.{form_tree, rows_tree};
 
-use hold_shapes::Twin;
-use lens_types::{Form, FormRow, FormRows};
+use lens_forms::{Form, FormRow, FormRows};
 use std::alloc::{AllocError, Global};
+use texts::Twin;
 
-/// A complement. docs/FORMATS.md says which complements a form has.
+/// A complement. docs/FORMATS.md says which complements fit a form.
 #[derive(Drop)]
 #[cycle(comp)]
 pub enum Comp {
     /// Nothing is kept.
     Nil,
-    /// One for each paired row of a record, in written order.
+    /// One complement for each paired row of a record, in written order.
     Rec(Comps),
 }
 
@@ -26,7 +26,7 @@ pub struct Comps {
 }
 
 impl Comps {
-    /// These complements, in this order. Takes no memory.
+    /// These complements, in this order. The call does not allocate.
     pub fn from_vec(items: Vec<Comp>) -> Comps
         ensures { comps_tree result ≡ comps_of (map comp_tree items.items) }
     {
@@ -40,7 +40,7 @@ impl Comps {
         self.items.as_slice()
     }
 
-    /// The complements, in order. Takes no memory.
+    /// The complements, in order. The call does not allocate.
     pub fn into_vec(self) -> Vec<Comp>
         ensures { comps_of (map comp_tree result.items) ≡ comps_tree self }
     {
@@ -93,9 +93,9 @@ impl Twin for Comps {
     }
 }
 
-/// The first complement of a form: Nil of the identity, for a record the first one of each paired row, in written order.
+/// The first complement of a form: Nil for the identity, and for a record the first one of each paired row, in written order.
 ///
-/// Of the forms that are not carried yet it is Nil. It is refused for want of memory alone. See docs/MEANING.md.
+/// For a form that is not carried yet it is Nil. The only error is running out of memory. See docs/MEANING.md.
 #[cycle(missing)]
 pub fn missing(alloc: Global, form: &Form) -> Result<Comp, AllocError>
     ensures { IfOk result (λ c. comp_tree c ≡ missing (form_tree form.now)) }

@@ -1,20 +1,20 @@
--- What a source tells of the bytes that it has left, and a sink of the bytes that it holds.
+-- What contracts know of the bytes that a source has left, and of the bytes that a sink holds.
 use Rattle.std.specs.Prelude.{◌≡◌, ◌↔◌, ℕ, ◌+◌, ◌<◌, ◌≤◌, List, [], length, take, Result, IfOk, IfSome, IsSomeAnd}
 use Rattle.std.specs.declared.option.Option.{Option}
 use Rattle.std.specs.Io.KnownBytes.{Appends}
 
--- over a source that tells what it has left, a call that does not fail answers 0 for room that is not empty exactly where nothing is left
+-- if the bytes that are left are known, a call that does not fail returns 0 for an `into` that is not empty if and only if nothing is left
 abbrev pub EndsExactly : {E : Type 0} → Option (List ℕ) → Result ℕ E → List ℕ → Type 0
 EndsExactly left result into = IfSome left (λ bytes. IfOk result (λ count. 0 < length into → (count ≡ 0) ↔ (bytes ≡ [])))
 
--- a sink that tells a room and what it holds holds as many bytes as its room
+-- a sink whose room and content are known holds as many bytes as its room
 abbrev pub IsFull : Option ℕ → Option (List ℕ) → Type 0
 IsFull room held = IfSome room (λ most. IfSome held (λ bytes. length bytes ≡ most))
 
--- the sink tells a room and what it holds, and so many bytes more fit
+-- the sink's room and content are known, and this many more bytes fit
 abbrev pub HasRoom : Option ℕ → Option (List ℕ) → ℕ → Type 0
 HasRoom room held count = IsSomeAnd room (λ most. IsSomeAnd held (λ bytes. length bytes + count ≤ most))
 
--- the sink holds a front of these bytes more than before, and not all of them
+-- a prefix of these bytes, and not all of them, was appended to what the sink held
 abbrev pub AppendsFront : Option (List ℕ) → Option (List ℕ) → List ℕ → Type 0
 AppendsFront old new bytes = (count : ℕ) × (count < length bytes) × Appends old new (take count bytes)

@@ -14,7 +14,8 @@ pub record MemSourceState : Type 0 where
   pub faults : ℕ
 
 -- a sink that fails on demand: the bytes that it holds, its piece lengths, the numbers of the calls that fail,
--- the number of its next call, how often it has failed, and how often it took nothing of a piece that is not empty
+-- the number of its next call, how often it has failed, how often it took nothing of a piece that is not empty,
+-- and how often it has run out of memory
 pub record MemSinkState : Type 0 where
   pub held : List ℕ
   pub takes : List ℕ
@@ -22,6 +23,7 @@ pub record MemSinkState : Type 0 where
   pub calls : ℕ
   pub faults : ℕ
   pub empty_takes : ℕ
+  pub memory_faults : ℕ
 
 -- a sink that does not fail: the bytes that it holds, how many it has room for, and how often it took nothing of a piece that is not empty
 pub record SureSinkState : Type 0 where
@@ -38,12 +40,12 @@ pub record RealSinkState : Type 0 where
 abbrev pub is_to_fail : List ℕ → ℕ → Bool
 is_to_fail fails call = list_any (λ number. number == call) fails
 
--- this count, and at most the length of the call's own piece where it has one
+-- this count, or the length of the call's own piece if that is less
 abbrev pub within_piece : Option ℕ → ℕ → ℕ
 within_piece None count = count
 within_piece (Some most) count = min count most
 
--- how many bytes a source moves into room for so many: none is a failed call
+-- how many bytes a source gives into room for this many: none if the call is to fail
 abbrev pub source_moves : MemSourceState → ℕ → Option ℕ
 source_moves s room =
     if is_to_fail s.fails s.calls then None else Some (within_piece (slice_get s.pieces s.calls) (min (length s.left) room))
@@ -53,25 +55,29 @@ abbrev pub source_after : MemSourceState → Option ℕ → MemSourceState
 source_after s None = record s { calls = raised s.calls; faults = raised s.faults }
 source_after s (Some count) = record s { left = drop count s.left; calls = raised s.calls }
 
--- how many of so many bytes a sink moves: none is a failed call
+-- how many of the offered bytes a sink takes: none if the call is to fail
 abbrev pub sink_moves : MemSinkState → ℕ → Option ℕ
 sink_moves s offered =
     if is_to_fail s.fails s.calls then None else Some (within_piece (slice_get s.takes s.calls) offered)
 
--- a count of empty takes after a call that moved so many of so many bytes
+-- the count of empty takes after a call that took `count` of `offered` bytes
 abbrev pub empty_takes_after : ℕ → ℕ → ℕ → ℕ
 empty_takes_after empty_takes count offered = if count == 0 && nat_lt 0 offered then raised empty_takes else empty_takes
 
+-- the count of memory faults after a failed call: a call that is not to fail has run out of memory
+abbrev pub memory_faults_after : MemSinkState → ℕ
+memory_faults_after s = if is_to_fail s.fails s.calls then s.memory_faults else raised s.memory_faults
+
 -- the sink after a call over these bytes: a failed one raises the count of faults and takes no byte
 abbrev pub sink_after : MemSinkState → List ℕ → Option ℕ → MemSinkState
-sink_after s bytes None = record s { calls = raised s.calls; faults = raised s.faults }
+sink_after s bytes None = record s { calls = raised s.calls; faults = raised s.faults; memory_faults = memory_faults_after s }
 sink_after s bytes (Some count) = record s {
   held = s.held ++ take count bytes;
   calls = raised s.calls;
   empty_takes = empty_takes_after s.empty_takes count (length bytes);
 }
 
--- how many of so many bytes a sink that does not fail moves: those that its room still holds
+-- how many of the offered bytes a sink that does not fail takes: those that still fit in its room
 abbrev pub sure_moves : SureSinkState → ℕ → ℕ
 sure_moves s offered = min offered (s.room - length s.held)
 
@@ -82,12 +88,12 @@ sure_after s bytes count = record s {
   empty_takes = empty_takes_after s.empty_takes count (length bytes);
 }
 
--- a slice after a call that moved a count from the front of these bytes to its front, or failed
+-- a slice after a call that copied `count` bytes from the front of these bytes to its front, or failed
 abbrev pub front_filled : List ℕ → List ℕ → Option ℕ → List ℕ
 front_filled into bytes None = into
 front_filled into bytes (Some count) = take count bytes ++ drop count into
 
--- a sink over a writer after a call over so many bytes
+-- a sink over a writer after a call over `offered` bytes
 abbrev pub real_after : {E : Type 0} → RealSinkState → ℕ → Result ℕ E → RealSinkState
 real_after s offered (Err _) = record s { faults = raised s.faults }
 real_after s offered (Ok count) = record s { empty_takes = empty_takes_after s.empty_takes count offered }

@@ -1,8 +1,8 @@
 -- The definitions, tried on small texts.
-use Rattle.std.proofs.Common.{◌≡◌, List, [], ◌∷◌, Ok, Err, codes, refl}
+use Rattle.std.proofs.Common.{◌≡◌, [], ◌∷◌, Ok, Err, codes, refl}
 use Rattle.program_tokens.specs.Words.{is_space, begins_word, in_word, keyword_of, mark_of}
 use Rattle.program_tokens.specs.Tokens.{piece_of, tokens_from}
-use Rattle.program_terms.specs.Terms.{ProgramTree, int, named, id_of, type_def}
+use Rattle.program_terms.specs.Terms.{int, named, id_of, type_def}
 use Rattle.program_grammar.specs.Reading.{mark_at, name_at, type_at, type_step, begun_type, word_type, lens_at, lens_step, begun_lens, word_lens, type_term_at, lens_term_at, definition_at, definitions_at, main_at, end_at, program_at}
 use Rattle.lens_syntax.specs.Programs.{unbounded, not_a_program, unknown_name, repeated_name}
 

@@ -3,7 +3,6 @@ use Rattle.std.proofs.Common.{◌≡◌, ℕ, List, Option, Some, None, Result, 
 use Rattle.program_tokens.specs.Tokens.{tokens_of}
 use Rattle.program_tokens.specs.declared.token.PlacedToken.{PlacedToken}
 use Rattle.program_terms.specs.Terms.{ProgramTree}
-use Rattle.program_grammar.specs.Grammar.{program_and_end}
 use Rattle.program_grammar.specs.Mentions.{NotedProgram, without_notes}
 use Rattle.program_grammar.specs.Names.{first_fault}
 use Rattle.program_grammar.specs.Spelling.{IsProgram}
@@ -20,7 +19,7 @@ use Rattle.program_writing.specs.Writable.{IsWritable}
 use Rattle.program_writing.proofs.CanonicalTokens.{program_spelt}
 use Rattle.program_writing.proofs.WritableSpelling.{program_kept}
 use Rattle.program_writing.proofs.FirstFault.{still_faultless}
-use Rattle.lens_syntax.specs.Programs.{ProgramCause, too_long, not_a_program, unknown_name, repeated_name, IsProgramOf, HasUnexpectedToken, HasNameFault, Tells, text_result, unbounded, cause_of, IsRefusal, Gives, TellsResult}
+use Rattle.lens_syntax.specs.Programs.{ProgramCause, too_long, not_a_program, unknown_name, repeated_name, IsProgramOf, Tells, text_result, unbounded, Gives, TellsResult}
 use Rattle.lens_syntax.specs.declared.fault.ProgramFault.{ProgramFault}
 use Rattle.lens_syntax.specs.declared.fault.ProgramFault.TheVariants.{ProgramTooLong, NotAProgram, UnknownName, RepeatedName, NoMemory}
 

@@ -1,10 +1,9 @@
 -- The definitions on small programs. The names are "a", "b", "c" and "t".
 use Rattle.std.proofs.Common.{◌≡◌, ℕ, List, [], ◌∷◌, Some, None, refl}
-use Rattle.doc_values.specs.Types.{ty_int, ty_text, ty_rec, ty_alt, ty_list, no_fields, field}
+use Rattle.doc_values.specs.Types.{ty_int, ty_text, ty_rec, ty_alt, no_fields, field}
 use Rattle.program_terms.specs.Terms as Term
-use Rattle.lens_types.specs.Forms.{form_id, form_rec, form_part, form_each, form_inv, no_rows, both, left_type, right_type}
-use Rattle.lens_types.specs.Measures.{form_parts, form_height}
-use Rattle.lens_types.specs.Earlier.{known_type, type_of, main_form}
+use Rattle.lens_forms.specs.Forms.{form_id, form_each}
+use Rattle.lens_types.specs.Earlier.{known_type, expanded_type, main_form}
 use Rattle.lens_types.specs.Checking.{middle_differs, repeated_field, repeated_tag, repeated_member, first_failure}
 
 abbrev a : List ℕ
@@ -32,38 +31,16 @@ a_or_b = Term.one_of (Term.more_fields a Term.text (Term.more_fields b Term.int 
 abbrev b_or_a : Term.TypeTree
 b_or_a = Term.one_of (Term.more_fields b Term.int (Term.more_fields a Term.text Term.no_fields))
 
--- ---- the two types
-
--- {b ~ a: id int, a ~ c: id int}: fields are sorted
-fields_are_sorted : left_type (form_rec (both b a (form_id ty_int) (both a c (form_id ty_text) no_rows))) ≡ ty_rec (field a ty_text (field b ty_int no_fields))
-fields_are_sorted = refl
-
--- inv part <b: text, a: int>: from the record of two lists, sorted, to the list of the alternatives, as written
-part_lists : left_type (form_inv (form_part (field b ty_text (field a ty_int no_fields)))) ≡ ty_rec (field a (ty_list ty_int) (field b (ty_list ty_text) no_fields))
-part_lists = refl
-
-part_tags : right_type (form_inv (form_part (field b ty_text (field a ty_int no_fields)))) ≡ ty_list (ty_alt (field b ty_text (field a ty_int no_fields)))
-part_tags = refl
-
--- ---- parts and heights
-
--- {a ~ b: id int}: the record, the row, id and int
-four_parts : form_parts (form_rec (both a b (form_id ty_int) no_rows)) ≡ 4
-four_parts = refl
-
-two_levels : form_height (form_each (form_id (ty_list ty_int))) ≡ 2
-two_levels = refl
-
--- ---- names put in
+-- ---- names expanded
 
 -- the record type {b: t, a: int} with t = text
-type_put_in : type_of ((t, known_type ty_text) ∷ []) (Term.record_of (Term.more_fields b (Term.named t) (Term.more_fields a Term.int Term.no_fields)))
+type_expanded : expanded_type ((t, known_type ty_text) ∷ []) (Term.record_of (Term.more_fields b (Term.named t) (Term.more_fields a Term.int Term.no_fields)))
     ≡ ty_rec (field a ty_int (field b ty_text no_fields))
-type_put_in = refl
+type_expanded = refl
 
 -- lens t = id int; main each t
-lens_put_in : main_form (record { definitions = (t, Term.lens_def id_int) ∷ []; main = Term.each_of (Term.named_lens t) }) ≡ form_each (form_id ty_int)
-lens_put_in = refl
+lens_expanded : main_form (record { definitions = (t, Term.lens_def id_int) ∷ []; main = Term.each_of (Term.named_lens t) }) ≡ form_each (form_id ty_int)
+lens_expanded = refl
 
 -- ---- faults
 
@@ -76,9 +53,9 @@ tags_differ = refl
 second_name : first_failure (main_alone (Term.rec_lens (Term.both a c id_int (Term.both b c id_int (Term.both b c id_int Term.no_rows))))) ≡ Some (repeated_field c)
 second_name = refl
 
--- {a ~ b: id int, left b: int}: the sides are apart
-sides_apart : first_failure (main_alone (Term.rec_lens (Term.both a b id_int (Term.only_left b Term.int Term.no_rows)))) ≡ None
-sides_apart = refl
+-- {a ~ b: id int, left b: int}: each name stands once on its side
+one_on_each_side : first_failure (main_alone (Term.rec_lens (Term.both a b id_int (Term.only_left b Term.int Term.no_rows)))) ≡ None
+one_on_each_side = refl
 
 -- bij["a"="b", "a"="b"]: the left one comes first
 left_first : first_failure (main_alone (Term.bij_of ((a, b) ∷ (a, b) ∷ []))) ≡ Some (repeated_member a)

@@ -1,14 +1,13 @@
-pub mod Apart
-pub mod Checked
+pub mod CappedHeights
+pub mod DefinitionSteps
+pub mod Entries
 mod Examples
-pub mod Inserts
-pub mod Lengths
-pub mod Levels
 pub mod Lists
+pub mod NodeHeights
 pub mod Nodes
-pub mod Rising
-pub mod Rooms
+pub mod PartCounts
+pub mod RepeatedNames
 pub mod SideTypes
 pub mod Sizes
-pub mod Turns
-pub mod Typings
+pub mod SoundForms
+pub mod StableSort

@@ -1,5 +1,5 @@
 -- Lists of trees, and the folds at the types that wrap a list.
-use Rattle.std.proofs.Common.{◌≡◌, ℕ, ◌≤◌, false, nat_eq, List, [], ◌∷◌, ◌++◌, length, map, drop, None, rules, refl, ap, sym, ◌∙◌, append-nil}
+use Rattle.std.proofs.Common.{◌≡◌, ℕ, ◌≤◌, false, nat_eq, List, [], ◌∷◌, ◌++◌, length, map, drop, rules, refl, ap, ◌∙◌, append-nil}
 use Rattle.std.proofs.lemmas.List.{drop_all}
 use Rattle.doc_values.specs.Types.{field_list, fields_of as ty_fields, field_tree as ty_field}
 use Rattle.doc_values.specs.declared.ty.Ty.{Ty}
@@ -9,43 +9,33 @@ use Rattle.program_terms.specs.Views as View
 use Rattle.program_terms.specs.declared.types.TyExpr.{TyExpr}
 use Rattle.program_terms.specs.declared.lens.Lens.{Lens}
 use Rattle.program_terms.specs.declared.lens.Row.{Row}
-use Rattle.lens_types.specs.Forms.{form_alt, RowTrees, no_rows, both, only_left, only_right, rows_of, row_list, rows_tree, row_tree, ArmTrees, no_arms, more_arms, arms_of, arm_list, arms_tree, arm_tree, form_tree, lists_of}
-use Rattle.lens_types.specs.Earlier.{Definitions, alternatives, fields_of as put_fields, rows_of as put_rows, arms_of as put_arms}
-use Rattle.lens_types.specs.Checking.{fields_failure, rows_failure, arms_failure}
-use Rattle.lens_types.specs.Walks.{tags_on}
-use Rattle.lens_types.specs.declared.names.End.{End}
-use Rattle.lens_types.specs.declared.form.Form.{Form, the_lemmas as form_lemmas}
-use Rattle.lens_types.specs.declared.form.Form.TheVariants.{Alt}
-use Rattle.lens_types.specs.declared.form.FormRow.{FormRow}
-use Rattle.lens_types.specs.declared.form.FormRows.{FormRows, out-FormRows, the_lemmas as rows_lemmas}
-use Rattle.lens_types.specs.declared.form.FormArms.{FormArms, out-FormArms, the_lemmas as arms_lemmas}
-
--- ---- the wrappers
-
-pub rows_tree-out : (rows : FormRows) → rows_tree rows ≡ rows_of (map row_tree (out-FormRows rows).items.items)
-rows_tree-out rows = search (rules, rows_lemmas)
-
-pub arms_tree-out : (arms : FormArms) → arms_tree arms ≡ arms_of (map arm_tree (out-FormArms arms).items.items)
-arms_tree-out arms = search (rules, arms_lemmas)
+use Rattle.lens_forms.specs.Forms.{form_alt, RowTrees, no_rows, both, only_left, only_right, form_rows_of, row_list, row_tree, ArmTrees, no_arms, more_arms, form_arms_of, arm_list, arms_tree, arm_tree, form_tree, lists_of}
+use Rattle.lens_types.specs.Earlier.{Definitions, alternatives, expanded_fields, expanded_rows, expanded_arms}
+use Rattle.lens_types.specs.SideTypes.{fields_on, tags_on}
+use Rattle.texts.specs.declared.side.Side.{Side}
+use Rattle.lens_forms.specs.declared.form.Form.{Form, the_lemmas as form_lemmas}
+use Rattle.lens_forms.specs.declared.form.Form.TheVariants.{Alt}
+use Rattle.lens_forms.specs.declared.form.FormRow.{FormRow}
+use Rattle.lens_forms.specs.declared.form.FormArms.{FormArms}
 
 -- ---- trees and lists, there and back
 
-pub rows_of-row_list : (rows : RowTrees) → rows_of (row_list rows) ≡ rows
-rows_of-row_list no_rows = refl
-rows_of-row_list (both a b l rows) = ap (both a b l) (rows_of-row_list rows)
-rows_of-row_list (only_left a t rows) = ap (only_left a t) (rows_of-row_list rows)
-rows_of-row_list (only_right b t rows) = ap (only_right b t) (rows_of-row_list rows)
+pub rows-there_and_back : (rows : RowTrees) → form_rows_of (row_list rows) ≡ rows
+rows-there_and_back no_rows = refl
+rows-there_and_back (both a b l rows) = ap (both a b l) (rows-there_and_back rows)
+rows-there_and_back (only_left a t rows) = ap (only_left a t) (rows-there_and_back rows)
+rows-there_and_back (only_right b t rows) = ap (only_right b t) (rows-there_and_back rows)
 
-pub arms_of-arm_list : (arms : ArmTrees) → arms_of (arm_list arms) ≡ arms
-arms_of-arm_list no_arms = refl
-arms_of-arm_list (more_arms a b l arms) = ap (more_arms a b l) (arms_of-arm_list arms)
+pub arms-there_and_back : (arms : ArmTrees) → form_arms_of (arm_list arms) ≡ arms
+arms-there_and_back no_arms = refl
+arms-there_and_back (more_arms a b l arms) = ap (more_arms a b l) (arms-there_and_back arms)
 
 pub form_tree-alt : (arms : FormArms) → form_tree (Alt arms) ≡ form_alt (arms_tree arms)
 form_tree-alt arms = search (rules, form_lemmas)
 
 -- arms of which there is one are alternatives
 pub some_arms : (arms : List (List ℕ × List ℕ × Form)) → nat_eq (length arms) 0 ≡ false
-    → form_alt (arms_of (map arm_tree arms)) ≡ alternatives (arms_of (map arm_tree arms))
+    → form_alt (form_arms_of (map arm_tree arms)) ≡ alternatives (form_arms_of (map arm_tree arms))
 some_arms [] h = cc
 some_arms (a ∷ arms) h = refl
 
@@ -56,29 +46,27 @@ pub lists_done : (fs out : List (List ℕ × Ty)) (i : ℕ) → length fs ≤ i
     → ty_fields (map ty_field out) ≡ lists_of (ty_fields (map ty_field fs))
 lists_done fs out i h e = ap ty_fields (rw (drop_all i fs h, append-nil) at e) ∙ fields_of-field_list _
 
-pub tags_done : (end : End) (arms : List (List ℕ × List ℕ × Form)) (out : List (List ℕ × Ty)) (i : ℕ) → length arms ≤ i
-    → map ty_field out ++ field_list (tags_on end (arms_of (map arm_tree (drop i arms)))) ≡ field_list (tags_on end (arms_of (map arm_tree arms)))
-    → ty_fields (map ty_field out) ≡ tags_on end (arms_of (map arm_tree arms))
-tags_done end arms out i h e = ap ty_fields (rw (drop_all i arms h, append-nil) at e) ∙ fields_of-field_list _
-
--- the same with no failure on the way
 pub fields_done : (ds : Definitions) (fs : List (List ℕ × TyExpr)) (out : List (List ℕ × Ty)) (i : ℕ) → length fs ≤ i
-    → fields_failure (Term.fields_of (map View.field_tree (drop i fs))) ≡ fields_failure (Term.fields_of (map View.field_tree fs))
-    → map ty_field out ++ field_list (put_fields ds (Term.fields_of (map View.field_tree (drop i fs)))) ≡ field_list (put_fields ds (Term.fields_of (map View.field_tree fs)))
-    → (fields_failure (Term.fields_of (map View.field_tree fs)) ≡ None) × (ty_fields (map ty_field out) ≡ put_fields ds (Term.fields_of (map View.field_tree fs)))
-fields_done ds fs out i h f e =
-    (sym (rw (drop_all i fs h) at f), ap ty_fields (rw (drop_all i fs h, append-nil) at e) ∙ fields_of-field_list _)
+    → map ty_field out ++ field_list (expanded_fields ds (Term.fields_of (map View.field_tree (drop i fs)))) ≡ field_list (expanded_fields ds (Term.fields_of (map View.field_tree fs)))
+    → ty_fields (map ty_field out) ≡ expanded_fields ds (Term.fields_of (map View.field_tree fs))
+fields_done ds fs out i h e = ap ty_fields (rw (drop_all i fs h, append-nil) at e) ∙ fields_of-field_list _
 
 pub rows_done : (ds : Definitions) (rows : List Row) (out : List FormRow) (i : ℕ) → length rows ≤ i
-    → rows_failure ds (Term.rows_of (map View.row_tree (drop i rows))) ≡ rows_failure ds (Term.rows_of (map View.row_tree rows))
-    → map row_tree out ++ row_list (put_rows ds (Term.rows_of (map View.row_tree (drop i rows)))) ≡ row_list (put_rows ds (Term.rows_of (map View.row_tree rows)))
-    → (rows_failure ds (Term.rows_of (map View.row_tree rows)) ≡ None) × (rows_of (map row_tree out) ≡ put_rows ds (Term.rows_of (map View.row_tree rows)))
-rows_done ds rows out i h f e =
-    (sym (rw (drop_all i rows h) at f), ap rows_of (rw (drop_all i rows h, append-nil) at e) ∙ rows_of-row_list _)
+    → map row_tree out ++ row_list (expanded_rows ds (Term.rows_of (map View.row_tree (drop i rows)))) ≡ row_list (expanded_rows ds (Term.rows_of (map View.row_tree rows)))
+    → form_rows_of (map row_tree out) ≡ expanded_rows ds (Term.rows_of (map View.row_tree rows))
+rows_done ds rows out i h e = ap form_rows_of (rw (drop_all i rows h, append-nil) at e) ∙ rows-there_and_back _
 
 pub arms_done : (ds : Definitions) (arms : List (List ℕ × List ℕ × Lens)) (out : List (List ℕ × List ℕ × Form)) (i : ℕ) → length arms ≤ i
-    → arms_failure ds (Term.arms_of (map View.arm_tree (drop i arms))) ≡ arms_failure ds (Term.arms_of (map View.arm_tree arms))
-    → map arm_tree out ++ arm_list (put_arms ds (Term.arms_of (map View.arm_tree (drop i arms)))) ≡ arm_list (put_arms ds (Term.arms_of (map View.arm_tree arms)))
-    → (arms_failure ds (Term.arms_of (map View.arm_tree arms)) ≡ None) × (arms_of (map arm_tree out) ≡ put_arms ds (Term.arms_of (map View.arm_tree arms)))
-arms_done ds arms out i h f e =
-    (sym (rw (drop_all i arms h) at f), ap arms_of (rw (drop_all i arms h, append-nil) at e) ∙ arms_of-arm_list _)
+    → map arm_tree out ++ arm_list (expanded_arms ds (Term.arms_of (map View.arm_tree (drop i arms)))) ≡ arm_list (expanded_arms ds (Term.arms_of (map View.arm_tree arms)))
+    → form_arms_of (map arm_tree out) ≡ expanded_arms ds (Term.arms_of (map View.arm_tree arms))
+arms_done ds arms out i h e = ap form_arms_of (rw (drop_all i arms h, append-nil) at e) ∙ arms-there_and_back _
+
+pub side_fields_done : (side : Side) (ds : Definitions) (rows : List Row) (out : List (List ℕ × Ty)) (i : ℕ) → length rows ≤ i
+    → map ty_field out ++ field_list (fields_on side (expanded_rows ds (Term.rows_of (map View.row_tree (drop i rows))))) ≡ field_list (fields_on side (expanded_rows ds (Term.rows_of (map View.row_tree rows))))
+    → ty_fields (map ty_field out) ≡ fields_on side (expanded_rows ds (Term.rows_of (map View.row_tree rows)))
+side_fields_done side ds rows out i h e = ap ty_fields (rw (drop_all i rows h, append-nil) at e) ∙ fields_of-field_list _
+
+pub side_tags_done : (side : Side) (ds : Definitions) (arms : List (List ℕ × List ℕ × Lens)) (out : List (List ℕ × Ty)) (i : ℕ) → length arms ≤ i
+    → map ty_field out ++ field_list (tags_on side (expanded_arms ds (Term.arms_of (map View.arm_tree (drop i arms))))) ≡ field_list (tags_on side (expanded_arms ds (Term.arms_of (map View.arm_tree arms))))
+    → ty_fields (map ty_field out) ≡ tags_on side (expanded_arms ds (Term.arms_of (map View.arm_tree arms)))
+side_tags_done side ds arms out i h e = ap ty_fields (rw (drop_all i arms h, append-nil) at e) ∙ fields_of-field_list _

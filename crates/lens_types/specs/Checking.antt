@@ -2,9 +2,9 @@
 use Rattle.std.specs.Prelude.{ℕ, ◌&&◌, nat_le, max, if◌then◌else◌, List, [], ◌∷◌, ◌++◌, Option, Some, None, option_map}
 use Rattle.doc_values.specs.Types.{TyTree, height, highest, is_same_ty}
 use Rattle.program_terms.specs.Terms as Term
-use Rattle.lens_types.specs.Forms.{FormTree, left_type, right_type}
-use Rattle.lens_types.specs.Earlier.{Definitions, type_of, fields_of, form_of, known_of}
-use Rattle.lens_types.specs.Measures.{type_parts, form_parts, form_height, most_parts, greatest_height}
+use Rattle.lens_forms.specs.Forms.{FormTree, left_type, right_type}
+use Rattle.lens_types.specs.Earlier.{Definitions, expanded_type, expanded_fields, expanded_form, known_of}
+use Rattle.lens_forms.specs.Measures.{type_parts, form_parts, form_height, most_parts, greatest_height}
 use Rattle.lens_types.specs.Repeats.{first_repeat, member_names, field_names, pair_names, row_names, arm_names}
 
 -- why a program is refused
@@ -57,27 +57,27 @@ sides_failure f =
 -- first the failures in the parts, then the node's own condition, then the heights of its two sides
 abbrev mutual
   pub lens_failure : Definitions → Term.LensTree → Option Failure
-  lens_failure ds (Term.id_of t) = or_else (type_failure t) (sides_failure (form_of ds (Term.id_of t)))
+  lens_failure ds (Term.id_of t) = or_else (type_failure t) (sides_failure (expanded_form ds (Term.id_of t)))
   lens_failure ds (Term.bij_of ps) =
-      or_else (option_map repeated_member (first_repeat (pair_names ps))) (sides_failure (form_of ds (Term.bij_of ps)))
+      or_else (option_map repeated_member (first_repeat (pair_names ps))) (sides_failure (expanded_form ds (Term.bij_of ps)))
   lens_failure ds (Term.disc_of t u) =
-      or_else (type_failure t) (or_else (type_failure u) (sides_failure (form_of ds (Term.disc_of t u))))
+      or_else (type_failure t) (or_else (type_failure u) (sides_failure (expanded_form ds (Term.disc_of t u))))
   lens_failure ds (Term.then_of l k) =
       or_else (lens_failure ds l) (or_else (lens_failure ds k)
-      (or_else (middle_failure (form_of ds l) (form_of ds k)) (sides_failure (form_of ds (Term.then_of l k)))))
+      (or_else (middle_failure (expanded_form ds l) (expanded_form ds k)) (sides_failure (expanded_form ds (Term.then_of l k)))))
   lens_failure ds (Term.rec_lens rows) =
       or_else (rows_failure ds rows)
-      (or_else (option_map repeated_field (first_repeat (row_names rows))) (sides_failure (form_of ds (Term.rec_lens rows))))
+      (or_else (option_map repeated_field (first_repeat (row_names rows))) (sides_failure (expanded_form ds (Term.rec_lens rows))))
   lens_failure ds (Term.alt_lens arms) =
       or_else (arms_failure ds arms)
-      (or_else (option_map repeated_tag (first_repeat (arm_names arms))) (sides_failure (form_of ds (Term.alt_lens arms))))
-  lens_failure ds (Term.each_of l) = or_else (lens_failure ds l) (sides_failure (form_of ds (Term.each_of l)))
-  lens_failure ds (Term.keyed_each l) = or_else (lens_failure ds l) (sides_failure (form_of ds (Term.keyed_each l)))
-  lens_failure ds (Term.tree_each l) = or_else (lens_failure ds l) (sides_failure (form_of ds (Term.tree_each l)))
+      (or_else (option_map repeated_tag (first_repeat (arm_names arms))) (sides_failure (expanded_form ds (Term.alt_lens arms))))
+  lens_failure ds (Term.each_of l) = or_else (lens_failure ds l) (sides_failure (expanded_form ds (Term.each_of l)))
+  lens_failure ds (Term.keyed_each l) = or_else (lens_failure ds l) (sides_failure (expanded_form ds (Term.keyed_each l)))
+  lens_failure ds (Term.tree_each l) = or_else (lens_failure ds l) (sides_failure (expanded_form ds (Term.tree_each l)))
   lens_failure ds (Term.part_of fs) =
       or_else (fields_failure fs)
-      (or_else (option_map repeated_tag (first_repeat (field_names fs))) (sides_failure (form_of ds (Term.part_of fs))))
-  lens_failure ds (Term.inv_of l) = or_else (lens_failure ds l) (sides_failure (form_of ds (Term.inv_of l)))
+      (or_else (option_map repeated_tag (first_repeat (field_names fs))) (sides_failure (expanded_form ds (Term.part_of fs))))
+  lens_failure ds (Term.inv_of l) = or_else (lens_failure ds l) (sides_failure (expanded_form ds (Term.inv_of l)))
   -- a name counts as passed
   lens_failure ds (Term.named_lens n) = None
 
@@ -93,27 +93,27 @@ abbrev mutual
 
 -- ---- definitions
 
--- the greatest height of a type that is written in a lens, names put in; a name of a lens writes none
+-- the greatest height of a type that is written in a lens, names expanded; a name of a lens writes none
 abbrev mutual
   pub written_height : Definitions → Term.LensTree → ℕ
-  written_height ds (Term.id_of t) = height (type_of ds t)
+  written_height ds (Term.id_of t) = height (expanded_type ds t)
   written_height ds (Term.bij_of ps) = 0
-  written_height ds (Term.disc_of t u) = max (height (type_of ds t)) (height (type_of ds u))
+  written_height ds (Term.disc_of t u) = max (height (expanded_type ds t)) (height (expanded_type ds u))
   written_height ds (Term.then_of l k) = max (written_height ds l) (written_height ds k)
   written_height ds (Term.rec_lens rows) = rows_written ds rows
   written_height ds (Term.alt_lens arms) = arms_written ds arms
   written_height ds (Term.each_of l) = written_height ds l
   written_height ds (Term.keyed_each l) = written_height ds l
   written_height ds (Term.tree_each l) = written_height ds l
-  written_height ds (Term.part_of fs) = highest (fields_of ds fs)
+  written_height ds (Term.part_of fs) = highest (expanded_fields ds fs)
   written_height ds (Term.inv_of l) = written_height ds l
   written_height ds (Term.named_lens n) = 0
 
   pub rows_written : Definitions → Term.RowTrees → ℕ
   rows_written ds Term.no_rows = 0
   rows_written ds (Term.both a b l rows) = max (written_height ds l) (rows_written ds rows)
-  rows_written ds (Term.only_left a t rows) = max (height (type_of ds t)) (rows_written ds rows)
-  rows_written ds (Term.only_right b t rows) = max (height (type_of ds t)) (rows_written ds rows)
+  rows_written ds (Term.only_left a t rows) = max (height (expanded_type ds t)) (rows_written ds rows)
+  rows_written ds (Term.only_right b t rows) = max (height (expanded_type ds t)) (rows_written ds rows)
 
   pub arms_written : Definitions → Term.ArmTrees → ℕ
   arms_written ds Term.no_arms = 0
@@ -129,10 +129,10 @@ height_failure levels = if nat_le levels greatest_height then None else Some too
 -- a definition: its parts are counted, then its heights are tested, then its nodes
 abbrev pub def_failure : Definitions → Term.DefTree → Option Failure
 def_failure ds (Term.type_def t) =
-    or_else (size_failure (type_parts (type_of ds t))) (or_else (height_failure (height (type_of ds t))) (type_failure t))
+    or_else (size_failure (type_parts (expanded_type ds t))) (or_else (height_failure (height (expanded_type ds t))) (type_failure t))
 def_failure ds (Term.lens_def l) =
-    or_else (size_failure (form_parts (form_of ds l)))
-    (or_else (height_failure (form_height (form_of ds l))) (or_else (height_failure (written_height ds l)) (lens_failure ds l)))
+    or_else (size_failure (form_parts (expanded_form ds l)))
+    (or_else (height_failure (form_height (expanded_form ds l))) (or_else (height_failure (written_height ds l)) (lens_failure ds l)))
 
 -- definitions in written order, each with what the earlier ones stand for, and the main lens last
 abbrev pub failure_after : Definitions → List (List ℕ × Term.DefTree) → Term.LensTree → Option Failure

@@ -1,8 +1,8 @@
--- Names put in: what a type and a lens stand for, where earlier definitions say what their names stand for.
+-- Names expanded: what a type and a lens stand for, where earlier definitions say what their names stand for.
 use Rattle.std.specs.Prelude.{ℕ, bytes_eq, if◌then◌else◌, List, [], ◌∷◌, ◌++◌, Option, Some, None}
 use Rattle.doc_values.specs.Types.{TyTree, ty_unit, ty_bool, ty_int, ty_text, ty_enum, ty_rec, ty_alt, ty_list, ty_keyed, ty_ordered, FieldTrees, no_fields, field}
 use Rattle.program_terms.specs.Terms as Term
-use Rattle.lens_types.specs.Forms.{FormTree, form_id, form_bij, form_disc, form_then, form_rec, form_alt, form_each, form_keyed, form_ordered, form_part, form_inv, RowTrees, no_rows, both, only_left, only_right, ArmTrees, no_arms, more_arms, sorted}
+use Rattle.lens_forms.specs.Forms.{FormTree, form_id, form_bij, form_disc, form_then, form_rec, form_alt, form_each, form_keyed, form_ordered, form_part, form_inv, RowTrees, no_rows, both, only_left, only_right, ArmTrees, no_arms, more_arms, sorted}
 
 -- what a definition stands for: a type, or a form
 pub data KnownTree : Type 0 where
@@ -56,62 +56,62 @@ abbrev pub partition : FieldTrees → FormTree
 partition no_fields = form_rec no_rows
 partition (field n t fs) = form_part (field n t fs)
 
--- a type with its names put in; the fields of a record are sorted by bytes
+-- a type with its names expanded; the fields of a record are sorted by bytes
 abbrev mutual
-  pub type_of : Definitions → Term.TypeTree → TyTree
-  type_of ds Term.unit = ty_unit
-  type_of ds Term.bool = ty_bool
-  type_of ds Term.int = ty_int
-  type_of ds Term.text = ty_text
-  type_of ds (Term.enum_of ms) = enum_type ms
-  type_of ds (Term.record_of fs) = ty_rec (sorted (fields_of ds fs))
-  type_of ds (Term.one_of fs) = alternatives_type (fields_of ds fs)
-  type_of ds (Term.list t) = ty_list (type_of ds t)
-  type_of ds (Term.keyed t) = ty_keyed (type_of ds t)
-  type_of ds (Term.tree t) = ty_ordered (type_of ds t)
-  type_of ds (Term.named n) = type_named ds n
+  pub expanded_type : Definitions → Term.TypeTree → TyTree
+  expanded_type ds Term.unit = ty_unit
+  expanded_type ds Term.bool = ty_bool
+  expanded_type ds Term.int = ty_int
+  expanded_type ds Term.text = ty_text
+  expanded_type ds (Term.enum_of ms) = enum_type ms
+  expanded_type ds (Term.record_of fs) = ty_rec (sorted (expanded_fields ds fs))
+  expanded_type ds (Term.one_of fs) = alternatives_type (expanded_fields ds fs)
+  expanded_type ds (Term.list t) = ty_list (expanded_type ds t)
+  expanded_type ds (Term.keyed t) = ty_keyed (expanded_type ds t)
+  expanded_type ds (Term.tree t) = ty_ordered (expanded_type ds t)
+  expanded_type ds (Term.named n) = type_named ds n
 
   -- fields, or tags, in written order
-  pub fields_of : Definitions → Term.FieldTrees → FieldTrees
-  fields_of ds Term.no_fields = no_fields
-  fields_of ds (Term.more_fields n t fs) = field n (type_of ds t) (fields_of ds fs)
+  pub expanded_fields : Definitions → Term.FieldTrees → FieldTrees
+  expanded_fields ds Term.no_fields = no_fields
+  expanded_fields ds (Term.more_fields n t fs) = field n (expanded_type ds t) (expanded_fields ds fs)
 
--- a lens with its names put in
+-- a lens with its names expanded
 abbrev mutual
-  pub form_of : Definitions → Term.LensTree → FormTree
-  form_of ds (Term.id_of t) = form_id (type_of ds t)
-  form_of ds (Term.bij_of ps) = bijection ps
-  form_of ds (Term.disc_of t u) = form_disc (type_of ds t) (type_of ds u)
-  form_of ds (Term.then_of l k) = form_then (form_of ds l) (form_of ds k)
-  form_of ds (Term.rec_lens rows) = form_rec (rows_of ds rows)
-  form_of ds (Term.alt_lens arms) = alternatives (arms_of ds arms)
-  form_of ds (Term.each_of l) = form_each (form_of ds l)
-  form_of ds (Term.keyed_each l) = form_keyed (form_of ds l)
-  form_of ds (Term.tree_each l) = form_ordered (form_of ds l)
-  form_of ds (Term.part_of fs) = partition (fields_of ds fs)
-  form_of ds (Term.inv_of l) = form_inv (form_of ds l)
-  form_of ds (Term.named_lens n) = form_named ds n
+  pub expanded_form : Definitions → Term.LensTree → FormTree
+  expanded_form ds (Term.id_of t) = form_id (expanded_type ds t)
+  expanded_form ds (Term.bij_of ps) = bijection ps
+  expanded_form ds (Term.disc_of t u) = form_disc (expanded_type ds t) (expanded_type ds u)
+  expanded_form ds (Term.then_of l k) = form_then (expanded_form ds l) (expanded_form ds k)
+  expanded_form ds (Term.rec_lens rows) = form_rec (expanded_rows ds rows)
+  expanded_form ds (Term.alt_lens arms) = alternatives (expanded_arms ds arms)
+  expanded_form ds (Term.each_of l) = form_each (expanded_form ds l)
+  expanded_form ds (Term.keyed_each l) = form_keyed (expanded_form ds l)
+  expanded_form ds (Term.tree_each l) = form_ordered (expanded_form ds l)
+  expanded_form ds (Term.part_of fs) = partition (expanded_fields ds fs)
+  expanded_form ds (Term.inv_of l) = form_inv (expanded_form ds l)
+  expanded_form ds (Term.named_lens n) = form_named ds n
 
-  pub rows_of : Definitions → Term.RowTrees → RowTrees
-  rows_of ds Term.no_rows = no_rows
-  rows_of ds (Term.both a b l rows) = both a b (form_of ds l) (rows_of ds rows)
-  rows_of ds (Term.only_left a t rows) = only_left a (type_of ds t) (rows_of ds rows)
-  rows_of ds (Term.only_right b t rows) = only_right b (type_of ds t) (rows_of ds rows)
+  pub expanded_rows : Definitions → Term.RowTrees → RowTrees
+  expanded_rows ds Term.no_rows = no_rows
+  expanded_rows ds (Term.both a b l rows) = both a b (expanded_form ds l) (expanded_rows ds rows)
+  expanded_rows ds (Term.only_left a t rows) = only_left a (expanded_type ds t) (expanded_rows ds rows)
+  expanded_rows ds (Term.only_right b t rows) = only_right b (expanded_type ds t) (expanded_rows ds rows)
 
-  pub arms_of : Definitions → Term.ArmTrees → ArmTrees
-  arms_of ds Term.no_arms = no_arms
-  arms_of ds (Term.more_arms a b l arms) = more_arms a b (form_of ds l) (arms_of ds arms)
+  pub expanded_arms : Definitions → Term.ArmTrees → ArmTrees
+  expanded_arms ds Term.no_arms = no_arms
+  expanded_arms ds (Term.more_arms a b l arms) = more_arms a b (expanded_form ds l) (expanded_arms ds arms)
 
--- what a definition stands for, with the names of the earlier ones put in
+-- what a definition stands for, with the names of the earlier ones expanded
 abbrev pub known_of : Definitions → Term.DefTree → KnownTree
-known_of ds (Term.type_def t) = known_type (type_of ds t)
-known_of ds (Term.lens_def l) = known_lens (form_of ds l)
+known_of ds (Term.type_def t) = known_type (expanded_type ds t)
+known_of ds (Term.lens_def l) = known_lens (expanded_form ds l)
 
--- the earlier definitions, and then those that a program goes on with, each with the names of those before it put in
+-- the earlier definitions, and then those that a program goes on with, each with the names of those before it expanded
 abbrev pub all_known : Definitions → List (List ℕ × Term.DefTree) → Definitions
 all_known ds [] = ds
 all_known ds (d ∷ rest) = all_known (ds ++ (d.0, known_of ds d.1) ∷ []) rest
 
--- the form of a program: its main lens with all names put in
+-- the form of a program: its main lens with all names expanded
 abbrev pub main_form : Term.ProgramTree → FormTree
-main_form p = form_of (all_known [] p.definitions) p.main
+main_form p = expanded_form (all_known [] p.definitions) p.main

@@ -1,21 +1,22 @@
 -- The first name, in written order, that equals an earlier one of its side.
 use Rattle.std.specs.Prelude.{ℕ, Bool, true, false, ◌&&◌, ◌||◌, bytes_eq, if◌then◌else◌, List, [], ◌∷◌, ◌++◌, Option, Some, None}
+use Rattle.std.specs.Borrow.{Bor}
 use Rattle.program_terms.specs.Terms as Term
-use Rattle.lens_types.specs.declared.names.End.{End}
-use Rattle.lens_types.specs.declared.names.End.TheVariants.{Left, Right}
+use Rattle.texts.specs.declared.side.Side.{Side}
+use Rattle.texts.specs.declared.side.Side.TheVariants.{Left, Right}
 
 -- a name with the side on which it stands
 abbrev pub SidedName : Type 0
-SidedName = End × List ℕ
+SidedName = Side × List ℕ
 
 -- two names stand on the same side and are equal
-abbrev pub is_same_end : End → End → Bool
-is_same_end Left Left = true
-is_same_end Right Right = true
-is_same_end _ _ = false
+abbrev pub is_same_side : Side → Side → Bool
+is_same_side Left Left = true
+is_same_side Right Right = true
+is_same_side _ _ = false
 
 abbrev pub is_same_name : SidedName → SidedName → Bool
-is_same_name m n = is_same_end m.0 n.0 && bytes_eq m.1 n.1
+is_same_name m n = is_same_side m.0 n.0 && bytes_eq m.1 n.1
 
 abbrev pub is_among : SidedName → List SidedName → Bool
 is_among n [] = false
@@ -52,3 +53,7 @@ row_names (Term.only_right b t rows) = (Right, b) ∷ row_names rows
 abbrev pub arm_names : Term.ArmTrees → List SidedName
 arm_names Term.no_arms = []
 arm_names (Term.more_arms a b l arms) = (Left, a) ∷ (Right, b) ∷ arm_names arms
+
+-- a name with its side, and what its reference points to
+abbrev pub sided : Side × Bor (List ℕ) → SidedName
+sided n = (n.0, n.1.now)

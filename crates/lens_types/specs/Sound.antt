@@ -1,9 +1,9 @@
 -- What every form that was checked keeps.
 use Rattle.std.specs.Prelude.{◌≡◌, IsTrue, Bool, ◌&&◌, nat_le}
 use Rattle.doc_values.specs.Types.{TyTree, height, is_well_formed}
-use Rattle.lens_types.specs.Forms.{FormTree, left_type, right_type}
-use Rattle.lens_types.specs.Measures.{form_parts, form_height, most_parts, greatest_height}
-use Rattle.lens_types.specs.Typing.{is_typed}
+use Rattle.lens_forms.specs.Forms.{FormTree, left_type, right_type}
+use Rattle.lens_forms.specs.Measures.{form_parts, form_height, most_parts, greatest_height}
+use Rattle.lens_forms.specs.Typing.{is_typed}
 
 -- it is typed, it has at most so many parts, and it and the types of its sides are at most so high
 abbrev pub is_sound : FormTree → Bool

@@ -1,105 +1,138 @@
 //! The definitions that stand before the one that is checked.
 
-ghost use Rattle.std.specs.Prelude.{◌≡◌, ◌∷◌, ◌++◌, [], nat_le, IfOk, OnOk, option_map};
-ghost use Rattle.doc_values.specs.Types.{ty_tree, height};
-ghost use Rattle.lens_types.specs.Forms.{form_tree};
+ghost use Rattle.std.specs.Prelude.{◌≡◌, ◌≤◌, ◌∷◌, ◌++◌, [], IsTrue, None, OnOk, MatchOption, length, take};
+ghost use Rattle.doc_values.specs.Types.{ty_unit, height};
+ghost use Rattle.lens_forms.specs.Forms.{form_id, left_type, right_type};
+ghost use Rattle.lens_forms.specs.Measures.{type_parts, form_parts, form_height};
 ghost use Rattle.lens_types.specs.Earlier.{known, type_named, form_named};
-ghost use Rattle.lens_types.specs.Measures.{type_parts, form_parts, form_height};
-ghost use Rattle.lens_types.specs.Walks.{known_tree, earlier_tree};
+ghost use Rattle.lens_types.specs.Entries.{earlier_tree, stands_for, is_measured, IsFound, IsTypeFound, IsLensFound};
+ghost use Rattle.lens_types.specs.Heights.{capped, HasHeights};
 
-use crate::form::Form;
-use crate::heights;
-use crate::known::Known;
-use doc_values::Ty;
-use hold_shapes::{Name, Twin};
+use crate::known::{Known, KnownLens, KnownType, SideHeights};
+use indexmap::IndexMap;
 use std::alloc::{AllocError, Global};
+use std::marker::Model;
+use texts::Name;
 
 // Definitions in written order, each with what it stands for.
 #[derive(Drop)]
-pub(crate) struct Earlier {
-    items: Vec<(Name, Known)>,
+pub(crate) struct Earlier<'a> {
+    entries: IndexMap<Name, Known<'a>>,
 }
 
-impl Earlier {
-    pub(crate) fn new(alloc: Global) -> Earlier
-        ensures { earlier_tree result ≡ [] }
+impl<'a> Model for Earlier<'a> {
+    ghost use Rattle.std.specs.Prelude.{List, ℕ, IsTrue, []};
+    ghost use Rattle.lens_types.specs.declared.known.Known.{Known};
+    ghost use Rattle.lens_types.specs.Entries.{are_measured};
+
+    ghost use Rattle.std.specs.Coded.{codes};
+    ghost use Rattle.program_terms.specs.contracts.types.TyExpr as type_code;
+    ghost use Rattle.program_terms.specs.contracts.lens.Lens as lens_code;
+
+    ghost Value = { List (List ℕ × Known) };
+
+    ghost coded = { Prim.hlevel (codes, type_code.the_row.coded, lens_code.the_row.coded) };
+
+    ghost view = { λ e. e.entries.entries };
+
+    ghost invariant = { λ e. IsTrue (are_measured [] e.entries.entries) };
+}
+
+impl<'a> Earlier<'a> {
+    pub(crate) fn new(alloc: Global) -> Earlier<'a>
+        ensures { result ≡ [] }
     {
         Earlier {
-            items: Vec::new(alloc),
+            entries: IndexMap::new(alloc),
         }
     }
 
-    pub(crate) fn add(&mut self, name: Name, known: Known) -> Result<(), AllocError>
-        ensures { OnOk result (earlier_tree self.new ≡ earlier_tree self.old ++ (name, known_tree known) ∷ []) }
+    pub(crate) fn len(&self) -> usize
+        ensures { result ≡ length self.now }
     {
-        self.items.push((name, known))?;
+        self.entries.len()
+    }
+
+    // Adds a definition behind the others, none of which has its name.
+    pub(crate) fn add(&mut self, name: Name, meaning: Known<'a>) -> Result<(), AllocError>
+        requires is_new { known (earlier_tree self.old) name ≡ None }
+        requires measured { IsTrue (is_measured (earlier_tree self.old) meaning) }
+        ensures { OnOk result (earlier_tree self.new ≡ earlier_tree self.old ++ (name, stands_for (earlier_tree self.old) meaning.entry) ∷ []) }
+    {
+        self.entries.insert(name, meaning)?;
         Ok(())
     }
 
-    fn find(&self, name: &Name) -> Option<&Known>
-        ensures { option_map (λ k. known_tree k.now) result ≡ known (earlier_tree self.now) name.now }
+    // What a name stands for among the first definitions, as many as `scope`.
+    fn find(&self, name: &Name, scope: usize) -> Option<Known<'a>>
+        ensures { MatchOption result (known (take scope (earlier_tree self.now)) name.now ≡ None) (λ k. IsFound self.now scope name.now k) }
     {
-        for item in &self.items {
-            if name.is_same(&item.0) {
-                return Some(&item.1);
-            }
-        }
-        None
+        let (place, _, known) = self.entries.get_full(name)?;
+        if place < scope { Some(*known) } else { None }
     }
 
-    // A copy of the type that a name stands for.
-    pub(crate) fn type_named(&self, alloc: Global, name: &Name) -> Result<Ty, AllocError>
-        ensures { IfOk result (λ t. ty_tree t ≡ type_named (earlier_tree self.now) name.now) }
+    // The type that a name stands for.
+    pub(crate) fn type_named(&self, name: &Name, scope: usize) -> Option<KnownType<'a>>
+        ensures { MatchOption result (type_named (take scope (earlier_tree self.now)) name.now ≡ ty_unit) (λ k. IsTypeFound self.now scope name.now k) }
     {
-        match self.find(name) {
-            Some(Known::OfType(known)) => known.ty.twin(alloc),
-            _ => Ok(Ty::Unit),
+        match self.find(name, scope)? {
+            Known::OfType(known) => Some(known),
+            Known::OfLens(_) => None,
         }
     }
 
-    // A copy of the form that a name stands for.
-    pub(crate) fn form_named(&self, alloc: Global, name: &Name) -> Result<Form, AllocError>
-        ensures { IfOk result (λ f. form_tree f ≡ form_named (earlier_tree self.now) name.now) }
+    // The lens that a name stands for.
+    pub(crate) fn lens_named(&self, name: &Name, scope: usize) -> Option<KnownLens<'a>>
+        ensures { MatchOption result (form_named (take scope (earlier_tree self.now)) name.now ≡ form_id ty_unit) (λ k. IsLensFound self.now scope name.now k) }
     {
-        match self.find(name) {
-            Some(Known::OfLens(known)) => known.form.twin(alloc),
-            _ => Ok(Form::Id(Ty::Unit)),
+        match self.find(name, scope)? {
+            Known::OfType(_) => None,
+            Known::OfLens(known) => Some(known),
         }
     }
 
     pub(crate) fn type_parts(&self, name: &Name) -> usize
         ensures { result ≡ type_parts (type_named (earlier_tree self.now) name.now) }
     {
-        match self.find(name) {
-            Some(Known::OfType(known)) => known.parts,
-            _ => 1,
+        match self.type_named(name, self.len()) {
+            Some(known) => known.parts,
+            None => 1,
         }
     }
 
-    pub(crate) fn form_parts(&self, name: &Name) -> usize
+    pub(crate) fn lens_parts(&self, name: &Name) -> usize
         ensures { result ≡ form_parts (form_named (earlier_tree self.now) name.now) }
     {
-        match self.find(name) {
-            Some(Known::OfLens(known)) => known.parts,
-            _ => 2,
+        match self.lens_named(name, self.len()) {
+            Some(known) => known.parts,
+            None => 2,
         }
     }
 
-    pub(crate) fn is_type_within(&self, name: &Name, levels: u32) -> bool
-        ensures { result ≡ nat_le (height (type_named (earlier_tree self.now) name.now)) levels }
+    pub(crate) fn type_height(&self, name: &Name) -> u32
+        ensures { result ≡ capped (height (type_named (earlier_tree self.now) name.now)) }
     {
-        match self.find(name) {
-            Some(Known::OfType(known)) => known.ty.is_within(levels),
-            _ => levels >= 1,
+        match self.type_named(name, self.len()) {
+            Some(known) => known.height,
+            None => 1,
         }
     }
 
-    pub(crate) fn is_form_within(&self, name: &Name, levels: u32) -> bool
-        ensures { result ≡ nat_le (form_height (form_named (earlier_tree self.now) name.now)) levels }
+    pub(crate) fn lens_height(&self, name: &Name) -> u32
+        ensures { result ≡ capped (form_height (form_named (earlier_tree self.now) name.now)) }
     {
-        match self.find(name) {
-            Some(Known::OfLens(known)) => heights::is_form_within(&known.form, levels),
-            _ => levels >= 1,
+        match self.lens_named(name, self.len()) {
+            Some(known) => known.height,
+            None => 1,
+        }
+    }
+
+    pub(crate) fn side_heights(&self, name: &Name) -> SideHeights
+        ensures { HasHeights (form_named (earlier_tree self.now) name.now) result }
+    {
+        match self.lens_named(name, self.len()) {
+            Some(known) => known.sides,
+            None => SideHeights { left: 1, right: 1 },
         }
     }
 }

@@ -1,8 +1,8 @@
 //! Why a program is refused.
 
 use doc_values::Ty;
-use hold_shapes::Name;
-use std::alloc::{AllocError, AllocFailed};
+use std::alloc::{AllocError, AllocFailed, Global};
+use texts::{Name, Twin};
 
 /// Why a program is refused. docs/TYPING.md has the condition of each, with an example, and their order.
 #[derive(Drop)]
@@ -14,22 +14,22 @@ pub enum TypeFault {
         /// The left type of the second lens.
         right: Ty,
     },
-    /// A field of a record stands twice on one side.
+    /// A field of a record appears twice on one side.
     RepeatedField {
         /// The first field, in written order, that equals an earlier one of its side.
         name: Name,
     },
-    /// A tag of alternatives or of a partition stands twice on one side.
+    /// A tag of alternatives or of a partition appears twice on one side.
     RepeatedTag {
         /// The first tag, in written order, that equals an earlier one of its side.
         name: Name,
     },
-    /// A member of an enum or of a bijection stands twice on one side.
+    /// A member of an enum or of a bijection appears twice on one side.
     RepeatedMember {
         /// The first member, in written order, that equals an earlier one of its side.
         name: Name,
     },
-    /// A definition has more than 4,096 parts, names put in.
+    /// A definition has more than 4,096 parts, names expanded.
     TooLarge,
     /// A lens, a type written in it, or the type of a side is higher than 32.
     TooDeep,
@@ -56,5 +56,36 @@ impl<T: Drop> From<AllocFailed<T>> for TypeFault {
 
     fn from(_: AllocFailed<T>) -> TypeFault {
         TypeFault::NoMemory
+    }
+}
+
+impl Twin for TypeFault {
+    ghost use Rattle.std.specs.Prelude.{Option};
+    ghost use Rattle.lens_types.specs.Checking.{Failure};
+    ghost use Rattle.lens_types.specs.Faults.{failure_of};
+
+    ghost Meaning = { Option Failure };
+
+    ghost meaning = { failure_of };
+
+    fn twin(&self, alloc: Global) -> Result<Self, AllocError> {
+        match self {
+            TypeFault::MiddleDiffers { left, right } => Ok(TypeFault::MiddleDiffers {
+                left: left.twin(alloc)?,
+                right: right.twin(alloc)?,
+            }),
+            TypeFault::RepeatedField { name } => Ok(TypeFault::RepeatedField {
+                name: name.twin(alloc)?,
+            }),
+            TypeFault::RepeatedTag { name } => Ok(TypeFault::RepeatedTag {
+                name: name.twin(alloc)?,
+            }),
+            TypeFault::RepeatedMember { name } => Ok(TypeFault::RepeatedMember {
+                name: name.twin(alloc)?,
+            }),
+            TypeFault::TooLarge => Ok(TypeFault::TooLarge),
+            TypeFault::TooDeep => Ok(TypeFault::TooDeep),
+            TypeFault::NoMemory => Ok(TypeFault::NoMemory),
+        }
     }
 }

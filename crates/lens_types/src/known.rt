@@ -1,30 +1,36 @@
-//! What a definition stands for, with its counted parts.
+//! What a definition stands for: a term whose names are expanded, with its parts and heights.
 
-ghost use Rattle.std.specs.Prelude.{IsTrue, nat_eq};
-ghost use Rattle.doc_values.specs.Types.{ty_tree};
-ghost use Rattle.lens_types.specs.Forms.{form_tree};
-ghost use Rattle.lens_types.specs.Measures.{type_parts, form_parts};
+use program_terms::{Lens, TyExpr};
 
-use crate::form::Form;
-use doc_values::Ty;
-
-// What a definition stands for, all names put in.
-#[derive(Drop)]
-pub(crate) enum Known {
-    OfType(KnownType),
-    OfLens(KnownLens),
+// What a definition stands for. An alias of an earlier definition stands for the same as that one.
+#[derive(Clone, Copy)]
+pub(crate) enum Known<'a> {
+    OfType(KnownType<'a>),
+    OfLens(KnownLens<'a>),
 }
 
-#[derive(Drop)]
-pub(crate) struct KnownType {
-    pub(crate) ty: Ty,
+// A type whose names are those of the first definitions of the program, as many as `scope`.
+#[derive(Clone, Copy)]
+pub(crate) struct KnownType<'a> {
+    pub(crate) ty: &'a TyExpr,
+    pub(crate) scope: usize,
     pub(crate) parts: usize,
-    ghost counted: { IsTrue (nat_eq parts (type_parts (ty_tree ty))) },
+    pub(crate) height: u32,
 }
 
-#[derive(Drop)]
-pub(crate) struct KnownLens {
-    pub(crate) form: Form,
+// A lens whose names are those of the first definitions of the program, as many as `scope`.
+#[derive(Clone, Copy)]
+pub(crate) struct KnownLens<'a> {
+    pub(crate) lens: &'a Lens,
+    pub(crate) scope: usize,
     pub(crate) parts: usize,
-    ghost counted: { IsTrue (nat_eq parts (form_parts (form_tree form))) },
+    pub(crate) height: u32,
+    pub(crate) sides: SideHeights,
+}
+
+// The heights of the types of both sides, or of the highest among some fields of both sides.
+#[derive(Clone, Copy)]
+pub(crate) struct SideHeights {
+    pub(crate) left: u32,
+    pub(crate) right: u32,
 }

@@ -1,7 +1,20 @@
-//! The limits of definitions.
+//! The limits of definitions, and heights up to one more than the limit.
 
-/// The most parts that a definition may have, names put in.
+ghost use Rattle.std.specs.Prelude.{◌≡◌, ◌+◌, max};
+ghost use Rattle.lens_types.specs.Heights.{capped};
+
+/// The most parts that a definition may have, names expanded.
 pub const MOST_PARTS: usize = 4096;
 
 /// The greatest height of a lens, of a type written in it, and of the type of a side.
 pub const GREATEST_HEIGHT: u32 = 32;
+
+// Heights over the limit all count as one more than the limit, so that no height overflows.
+const CAP: u32 = GREATEST_HEIGHT + 1;
+
+// The height of what has a highest part of this height.
+pub(crate) fn next_height(height: u32) -> u32
+    ensures { result ≡ capped (height + 1) }
+{
+    if height < CAP { height + 1 } else { CAP }
+}

@@ -1,116 +1,203 @@
-//! The two types of a form.
+//! The type of a side of a lens, all names expanded.
 
-ghost use Rattle.std.specs.Prelude.{◌≡◌, IfOk, OnOk, map, option_map};
-ghost use Rattle.doc_values.specs.Types.{ty_tree, fields_tree, fields_of, field_tree};
-ghost use Rattle.lens_types.specs.Forms.{form_tree, form_part, row_tree, rows_tree, arms_tree, lefts, rights, insert_field, sorted, lists_of};
-ghost use Rattle.lens_types.specs.Inserts.{place_among};
-ghost use Rattle.lens_types.specs.SidedNames.{pick};
-ghost use Rattle.lens_types.specs.Walks.{type_on, fields_on, field_on, tags_on};
+ghost use Rattle.std.specs.Prelude.{◌≡◌, IfOk, map, take, option_map};
+ghost use Rattle.doc_values.specs.Types.{ty_tree, ty_list, ty_alt, ty_rec, fields_of as ty_fields_of, field_tree as ty_field};
+ghost use Rattle.program_terms.specs.Views.{lens_tree, row_tree, rows_tree, arms_tree};
+ghost use Rattle.lens_forms.specs.Forms.{sorted, lists_of};
+ghost use Rattle.lens_types.specs.Earlier.{expanded_form, expanded_rows, expanded_arms, alternatives_type, bijection, partition};
+ghost use Rattle.lens_types.specs.Entries.{earlier_tree};
+ghost use Rattle.lens_types.specs.SideTypes.{pick, type_on, fields_on, tags_on, field_on, members_on};
 
-use crate::form::{Form, FormArms, FormRow, FormRows};
-use crate::names::End;
+use crate::earlier::Earlier;
+use crate::expansion::{alternatives_type, expanded_fields, expanded_type, sorted};
 use doc_values::{Fields, Ty};
-use hold_shapes::{Name, Names, Twin};
+use program_terms::{Arms, Lens, Pairs, Row, Rows};
 use std::alloc::{AllocError, Global};
+use texts::{Name, Names, Side, Twin};
 
-// The type of a side of a form.
-#[cycle(type_on)]
-pub(crate) fn type_on(alloc: Global, end: End, form: &Form) -> Result<Ty, AllocError>
-    ensures { IfOk result (λ t. ty_tree t ≡ type_on end (form_tree form.now)) }
+// The type of a side of a lens.
+#[cycle(side_type)]
+pub(crate) fn side_type(
+    alloc: Global,
+    earlier: &Earlier<'_>,
+    scope: usize,
+    side: Side,
+    lens: &Lens,
+) -> Result<Ty, AllocError>
+    ensures { IfOk result (λ t. ty_tree t ≡ type_on side (expanded_form (take scope (earlier_tree earlier.now)) (lens_tree lens.now))) }
 {
-    match form {
-        Form::Id(ty) => ty.twin(alloc),
-        Form::Bij(pairs) => Ok(Ty::Enum(members_on(alloc, end, pairs.as_slice())?)),
-        Form::Disc(left, right) => end.pick(left, right).twin(alloc),
-        Form::Then(first, second) => match end {
-            End::Left => type_on(alloc, end, first),
-            End::Right => type_on(alloc, end, second),
+    match lens {
+        Lens::Id(ty) => expanded_type(alloc, earlier, scope, ty),
+        Lens::Bij(pairs) => bijection_side(alloc, side, pairs),
+        Lens::Disc(left, right) => expanded_type(alloc, earlier, scope, pick(side, left, right)),
+        Lens::Then(first, second) => match side {
+            Side::Left => side_type(alloc, earlier, scope, side, first),
+            Side::Right => side_type(alloc, earlier, scope, side, second),
         },
-        Form::Rec(rows) => Ok(Ty::Rec(Fields::from_vec(fields_on(alloc, end, rows)?))),
-        Form::Alt(arms) => Ok(Ty::Alt(Fields::from_vec(tags_on(alloc, end, arms)?))),
-        Form::Each(inner) => Ok(Ty::List(Box::new(alloc, type_on(alloc, end, inner)?)?)),
-        Form::Keyed(inner) => Ok(Ty::Keyed(Box::new(alloc, type_on(alloc, end, inner)?)?)),
-        Form::Tree(inner) => Ok(Ty::Tree(Box::new(alloc, type_on(alloc, end, inner)?)?)),
-        Form::Part(fields) => part_type(alloc, end, fields),
-        Form::Inv(inner) => type_on(alloc, end.other(), inner),
+        Lens::Rec(rows) => {
+            let fields = side_fields(alloc, earlier, scope, side, rows)?;
+            Ok(Ty::Rec(Fields::from_vec(sorted(fields)?)))
+        }
+        Lens::Alt(arms) => {
+            let tags = side_tags(alloc, earlier, scope, side, arms)?;
+            Ok(alternatives_type(Fields::from_vec(tags)))
+        }
+        Lens::Each(inner) => {
+            let inner = side_type(alloc, earlier, scope, side, inner)?;
+            Ok(Ty::List(Box::new(alloc, inner)?))
+        }
+        Lens::Keyed(inner) => {
+            let inner = side_type(alloc, earlier, scope, side, inner)?;
+            Ok(Ty::Keyed(Box::new(alloc, inner)?))
+        }
+        Lens::Tree(inner) => {
+            let inner = side_type(alloc, earlier, scope, side, inner)?;
+            Ok(Ty::Tree(Box::new(alloc, inner)?))
+        }
+        Lens::Part(fields) => {
+            let tags = expanded_fields(alloc, earlier, scope, fields)?;
+            partition_side(alloc, side, tags)
+        }
+        Lens::Inv(inner) => side_type(alloc, earlier, scope, side.other(), inner),
+        Lens::Named(name) => match earlier.lens_named(name, scope) {
+            Some(known) => side_type(alloc, earlier, known.scope, side, known.lens),
+            None => Ok(Ty::Unit),
+        },
     }
 }
 
-// The fields of a side of a record, sorted by bytes.
-#[cycle(type_on)]
-fn fields_on(alloc: Global, end: End, rows: &FormRows) -> Result<Vec<(Name, Ty)>, AllocError>
-    ensures { IfOk result (λ fs. fields_of (map field_tree fs.items) ≡ fields_on end (rows_tree rows.now)) }
+// The fields of a side of a record, in written order.
+#[cycle(side_type)]
+fn side_fields(
+    alloc: Global,
+    earlier: &Earlier<'_>,
+    scope: usize,
+    side: Side,
+    rows: &Rows,
+) -> Result<Vec<(Name, Ty)>, AllocError>
+    ensures { IfOk result (λ fs. ty_fields_of (map ty_field fs.items)
+        ≡ fields_on side (expanded_rows (take scope (earlier_tree earlier.now)) (rows_tree rows.now))) }
 {
     let mut fields = Vec::new(alloc);
-    for i in (0..rows.items.len()).rev() {
-        if let Some(field) = field_on(alloc, end, &rows.items[i])? {
-            insert_field(&mut fields, field)?;
+    for row in rows.as_slice() {
+        if let Some(field) = side_field(alloc, earlier, scope, side, row)? {
+            fields.push(field)?;
         }
     }
     Ok(fields)
 }
 
 // The field that a row has on a side.
-#[cycle(type_on)]
-fn field_on(alloc: Global, end: End, row: &FormRow) -> Result<Option<(Name, Ty)>, AllocError>
-    ensures { IfOk result (λ f. option_map field_tree f ≡ field_on end (row_tree row.now)) }
+#[cycle(side_type)]
+fn side_field(
+    alloc: Global,
+    earlier: &Earlier<'_>,
+    scope: usize,
+    side: Side,
+    row: &Row,
+) -> Result<Option<(Name, Ty)>, AllocError>
+    ensures { IfOk result (λ f. option_map ty_field f ≡ field_on side (take scope (earlier_tree earlier.now)) (row_tree row.now)) }
 {
-    match (row, end) {
-        (FormRow::Both(left, right, form), _) => {
-            let name = end.pick(left, right).twin(alloc)?;
-            Ok(Some((name, type_on(alloc, end, form)?)))
+    match (row, side) {
+        (Row::Both(left, right, lens), _) => {
+            let name = pick(side, left, right).twin(alloc)?;
+            let ty = side_type(alloc, earlier, scope, side, lens)?;
+            Ok(Some((name, ty)))
         }
-        (FormRow::OnlyLeft(name, ty), End::Left) => {
-            Ok(Some((name.twin(alloc)?, ty.twin(alloc)?)))
+        (Row::OnlyLeft(name, ty), Side::Left) => {
+            let ty = expanded_type(alloc, earlier, scope, ty)?;
+            Ok(Some((name.twin(alloc)?, ty)))
         }
-        (FormRow::OnlyRight(name, ty), End::Right) => {
-            Ok(Some((name.twin(alloc)?, ty.twin(alloc)?)))
+        (Row::OnlyRight(name, ty), Side::Right) => {
+            let ty = expanded_type(alloc, earlier, scope, ty)?;
+            Ok(Some((name.twin(alloc)?, ty)))
         }
         _ => Ok(None),
     }
 }
 
 // The tags of a side of alternatives, in written order.
-#[cycle(type_on)]
-fn tags_on(alloc: Global, end: End, arms: &FormArms) -> Result<Vec<(Name, Ty)>, AllocError>
-    ensures { IfOk result (λ fs. fields_of (map field_tree fs.items) ≡ tags_on end (arms_tree arms.now)) }
+#[cycle(side_type)]
+fn side_tags(
+    alloc: Global,
+    earlier: &Earlier<'_>,
+    scope: usize,
+    side: Side,
+    arms: &Arms,
+) -> Result<Vec<(Name, Ty)>, AllocError>
+    ensures { IfOk result (λ fs. ty_fields_of (map ty_field fs.items)
+        ≡ tags_on side (expanded_arms (take scope (earlier_tree earlier.now)) (arms_tree arms.now))) }
 {
     let mut tags = Vec::new(alloc);
-    for arm in &arms.items {
-        let name = end.pick(&arm.0, &arm.1).twin(alloc)?;
-        let ty = type_on(alloc, end, &arm.2)?;
+    for arm in arms.as_slice() {
+        let name = pick(side, &arm.0, &arm.1).twin(alloc)?;
+        let ty = side_type(alloc, earlier, scope, side, &arm.2)?;
         tags.push((name, ty))?;
     }
     Ok(tags)
 }
 
+// Of two things of the two sides, that of a side.
+fn pick<'a, T>(side: Side, left: &'a T, right: &'a T) -> &'a T
+    ensures { result.now ≡ pick side left.now right.now }
+{
+    match side {
+        Side::Left => left,
+        Side::Right => right,
+    }
+}
+
+// The type of a side of a bijection; that of nothing is the record of nothing.
+fn bijection_side(alloc: Global, side: Side, pairs: &Pairs) -> Result<Ty, AllocError>
+    ensures { IfOk result (λ t. ty_tree t ≡ type_on side (bijection pairs.now)) }
+{
+    let pairs = pairs.as_slice();
+    if pairs.is_empty() {
+        return Ok(Ty::Rec(Fields::from_vec(Vec::new(alloc))));
+    }
+    Ok(Ty::Enum(side_members(alloc, side, pairs)?))
+}
+
 // The members of a side of a bijection.
-fn members_on(alloc: Global, end: End, pairs: &[(Name, Name)]) -> Result<Names, AllocError>
-    ensures { IfOk result (λ ns. ns ≡ pick end (lefts pairs.now) (rights pairs.now)) }
+fn side_members(alloc: Global, side: Side, pairs: &[(Name, Name)]) -> Result<Names, AllocError>
+    ensures { IfOk result (λ ns. ns ≡ members_on side pairs.now) }
 {
     let mut members = Vec::new(alloc);
     for pair in pairs {
-        members.push(end.pick(&pair.0, &pair.1).twin(alloc)?)?;
+        members.push(pick(side, &pair.0, &pair.1).twin(alloc)?)?;
     }
     Ok(Names::from_vec(members))
 }
 
-// The type of a side of a partition.
-fn part_type(alloc: Global, end: End, fields: &Fields) -> Result<Ty, AllocError>
-    ensures { IfOk result (λ t. ty_tree t ≡ type_on end (form_part (fields_tree fields.now))) }
+// The type of a side of a partition; that of nothing is the record of nothing.
+fn partition_side(alloc: Global, side: Side, tags: Vec<(Name, Ty)>) -> Result<Ty, AllocError>
+    ensures { IfOk result (λ t. ty_tree t ≡ type_on side (partition (ty_fields_of (map ty_field tags.items)))) }
 {
-    match end {
-        End::Left => Ok(Ty::List(Box::new(alloc, Ty::Alt(fields.twin(alloc)?))?)),
-        End::Right => {
-            let lists = lists_of(alloc, fields.as_slice())?;
-            Ok(Ty::Rec(Fields::from_vec(sorted(alloc, lists)?)))
-        }
+    if tags.as_slice().is_empty() {
+        return Ok(Ty::Rec(Fields::from_vec(tags)));
     }
+    match side {
+        Side::Left => list_of_alternatives(alloc, tags),
+        Side::Right => record_of_lists(alloc, tags),
+    }
+}
+
+fn list_of_alternatives(alloc: Global, tags: Vec<(Name, Ty)>) -> Result<Ty, AllocError>
+    ensures { IfOk result (λ t. ty_tree t ≡ ty_list (ty_alt (ty_fields_of (map ty_field tags.items)))) }
+{
+    Ok(Ty::List(Box::new(alloc, Ty::Alt(Fields::from_vec(tags)))?))
+}
+
+fn record_of_lists(alloc: Global, tags: Vec<(Name, Ty)>) -> Result<Ty, AllocError>
+    ensures { IfOk result (λ t. ty_tree t ≡ ty_rec (sorted (lists_of (ty_fields_of (map ty_field tags.items))))) }
+{
+    let lists = lists_of(alloc, tags.as_slice())?;
+    Ok(Ty::Rec(Fields::from_vec(sorted(lists)?)))
 }
 
 // The same names, each with a list of its type.
 fn lists_of(alloc: Global, fields: &[(Name, Ty)]) -> Result<Vec<(Name, Ty)>, AllocError>
-    ensures { IfOk result (λ fs. fields_of (map field_tree fs.items) ≡ lists_of (fields_of (map field_tree fields.now))) }
+    ensures { IfOk result (λ fs. ty_fields_of (map ty_field fs.items) ≡ lists_of (ty_fields_of (map ty_field fields.now))) }
 {
     let mut lists = Vec::new(alloc);
     for field in fields {
@@ -119,38 +206,4 @@ fn lists_of(alloc: Global, fields: &[(Name, Ty)]) -> Result<Vec<(Name, Ty)>, All
         lists.push((name, list))?;
     }
     Ok(lists)
-}
-
-// The fields sorted by bytes.
-pub(crate) fn sorted(alloc: Global, fields: Vec<(Name, Ty)>) -> Result<Vec<(Name, Ty)>, AllocError>
-    ensures { IfOk result (λ fs. fields_of (map field_tree fs.items) ≡ sorted (fields_of (map field_tree fields.items))) }
-{
-    let mut unsorted = fields;
-    let mut sorted = Vec::new(alloc);
-    while let Some(field) = unsorted.pop() {
-        insert_field(&mut sorted, field)?;
-    }
-    Ok(sorted)
-}
-
-// Puts a field at its place among fields that are sorted by bytes.
-fn insert_field(fields: &mut Vec<(Name, Ty)>, field: (Name, Ty)) -> Result<(), AllocError>
-    ensures { OnOk result (fields_of (map field_tree fields.new.items)
-        ≡ insert_field field.0 (ty_tree field.1) (fields_of (map field_tree fields.old.items))) }
-{
-    let place = place_among(fields.as_slice(), &field.0);
-    fields.insert(place, field)?;
-    Ok(())
-}
-
-// How many of the fields stand before a name, up to the first that does not.
-fn place_among(fields: &[(Name, Ty)], name: &Name) -> usize
-    ensures { result ≡ place_among name.now fields.now }
-{
-    for i in 0..fields.len() {
-        if !fields[i].0.is_before(name) {
-            return i;
-        }
-    }
-    fields.len()
 }

@@ -1,30 +1,31 @@
-//! The counted parts of a definition, names put in, which are counted before any name is put in.
+//! The counted parts of a definition, names expanded, which are counted before any name is expanded.
 //!
-//! A count is given the room that there is for parts, and answers the room that is left. So it stops as soon as there are
+//! A count is given the room that there is for parts, and returns the room that is left. So it stops as soon as there are
 //! too many.
 
 ghost use Rattle.std.specs.Prelude.{◌≡◌, map};
 ghost use Rattle.program_terms.specs.Terms.{fields_of, rows_of, arms_of};
 ghost use Rattle.program_terms.specs.Views.{type_tree, fields_tree, lens_tree, row_tree, rows_tree, arms_tree};
-ghost use Rattle.lens_types.specs.Earlier.{type_of, form_of};
-ghost use Rattle.lens_types.specs.Measures.{type_parts, form_parts};
-ghost use Rattle.lens_types.specs.Walks.{IsCountOf, earlier_tree, room_after, type_room, fields_room, lens_room, row_room, rows_room, arms_room};
+ghost use Rattle.lens_types.specs.Earlier.{expanded_type, expanded_form};
+ghost use Rattle.lens_forms.specs.Measures.{type_parts, form_parts};
+ghost use Rattle.lens_types.specs.Entries.{earlier_tree};
+ghost use Rattle.lens_types.specs.PartRooms.{IsCountOf, room_after, type_room, fields_room, lens_room, row_room, rows_room, arms_room};
 
 use crate::earlier::Earlier;
 use crate::limits::MOST_PARTS;
 use program_terms::{Arms, Lens, Row, Rows, TyExpr, TyFields};
 
 // The parts of a type. None where there are too many.
-pub(crate) fn counted_type(earlier: &Earlier, ty: &TyExpr) -> Option<usize>
-    ensures { IsCountOf (type_parts (type_of (earlier_tree earlier.now) (type_tree ty.now))) result }
+pub(crate) fn counted_type(earlier: &Earlier<'_>, ty: &TyExpr) -> Option<usize>
+    ensures { IsCountOf (type_parts (expanded_type (earlier_tree earlier.now) (type_tree ty.now))) result }
 {
     let room = type_room(earlier, ty, MOST_PARTS)?;
     Some(MOST_PARTS - room)
 }
 
 // The parts of a lens. None where there are too many.
-pub(crate) fn counted_lens(earlier: &Earlier, lens: &Lens) -> Option<usize>
-    ensures { IsCountOf (form_parts (form_of (earlier_tree earlier.now) (lens_tree lens.now))) result }
+pub(crate) fn counted_lens(earlier: &Earlier<'_>, lens: &Lens) -> Option<usize>
+    ensures { IsCountOf (form_parts (expanded_form (earlier_tree earlier.now) (lens_tree lens.now))) result }
 {
     let room = lens_room(earlier, lens, MOST_PARTS)?;
     Some(MOST_PARTS - room)
@@ -41,7 +42,7 @@ fn room_after(parts: usize, room: usize) -> Option<usize>
 }
 
 #[cycle(type_room)]
-fn type_room(earlier: &Earlier, ty: &TyExpr, room: usize) -> Option<usize>
+fn type_room(earlier: &Earlier<'_>, ty: &TyExpr, room: usize) -> Option<usize>
     ensures { result ≡ type_room (earlier_tree earlier.now) (type_tree ty.now) room }
 {
     match ty {
@@ -60,7 +61,7 @@ fn type_room(earlier: &Earlier, ty: &TyExpr, room: usize) -> Option<usize>
 }
 
 #[cycle(type_room)]
-fn fields_room(earlier: &Earlier, fields: &TyFields, room: usize) -> Option<usize>
+fn fields_room(earlier: &Earlier<'_>, fields: &TyFields, room: usize) -> Option<usize>
     ensures { result ≡ fields_room (earlier_tree earlier.now) (fields_tree fields.now) room }
 {
     let mut left = room;
@@ -71,7 +72,7 @@ fn fields_room(earlier: &Earlier, fields: &TyFields, room: usize) -> Option<usiz
 }
 
 #[cycle(lens_room)]
-fn lens_room(earlier: &Earlier, lens: &Lens, room: usize) -> Option<usize>
+fn lens_room(earlier: &Earlier<'_>, lens: &Lens, room: usize) -> Option<usize>
     ensures { result ≡ lens_room (earlier_tree earlier.now) (lens_tree lens.now) room }
 {
     match lens {
@@ -92,12 +93,12 @@ fn lens_room(earlier: &Earlier, lens: &Lens, room: usize) -> Option<usize>
         Lens::Tree(inner) => lens_room(earlier, inner, room_after(1, room)?),
         Lens::Part(fields) => fields_room(earlier, fields, room_after(1, room)?),
         Lens::Inv(inner) => lens_room(earlier, inner, room_after(1, room)?),
-        Lens::Named(name) => room_after(earlier.form_parts(name), room),
+        Lens::Named(name) => room_after(earlier.lens_parts(name), room),
     }
 }
 
 #[cycle(lens_room)]
-fn rows_room(earlier: &Earlier, rows: &Rows, room: usize) -> Option<usize>
+fn rows_room(earlier: &Earlier<'_>, rows: &Rows, room: usize) -> Option<usize>
     ensures { result ≡ rows_room (earlier_tree earlier.now) (rows_tree rows.now) room }
 {
     let mut left = room;
@@ -108,7 +109,7 @@ fn rows_room(earlier: &Earlier, rows: &Rows, room: usize) -> Option<usize>
 }
 
 #[cycle(lens_room)]
-fn row_room(earlier: &Earlier, row: &Row, room: usize) -> Option<usize>
+fn row_room(earlier: &Earlier<'_>, row: &Row, room: usize) -> Option<usize>
     ensures { result ≡ row_room (earlier_tree earlier.now) (row_tree row.now) room }
 {
     match row {
@@ -119,7 +120,7 @@ fn row_room(earlier: &Earlier, row: &Row, room: usize) -> Option<usize>
 }
 
 #[cycle(lens_room)]
-fn arms_room(earlier: &Earlier, arms: &Arms, room: usize) -> Option<usize>
+fn arms_room(earlier: &Earlier<'_>, arms: &Arms, room: usize) -> Option<usize>
     ensures { result ≡ arms_room (earlier_tree earlier.now) (arms_tree arms.now) room }
 {
     let mut left = room;

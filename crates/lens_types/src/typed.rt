@@ -1,19 +1,17 @@
 //! A form with its two types.
 
-ghost use Rattle.std.specs.Prelude.{◌≡◌, ◌≤◌, IsTrue, IfOk};
+ghost use Rattle.std.specs.Prelude.{◌≡◌, ◌≤◌, IsTrue};
 ghost use Rattle.doc_values.specs.Types.{ty_tree, height, is_well_formed};
-ghost use Rattle.lens_types.specs.Forms.{form_tree, left_type, right_type};
-ghost use Rattle.lens_types.specs.Measures.{form_parts, form_height, longest_list, most_parts, greatest_height};
-ghost use Rattle.lens_types.specs.Typing.{IsTyped, is_typed};
+ghost use Rattle.lens_forms.specs.Forms.{form_tree, left_type, right_type};
+ghost use Rattle.lens_forms.specs.Measures.{form_parts, form_height, longest_list, most_parts, greatest_height};
+ghost use Rattle.lens_forms.specs.Typing.{IsTyped, is_typed};
 ghost use Rattle.lens_types.specs.Sound.{is_sound};
 
-use crate::form::Form;
-use crate::names::End;
-use crate::sides::type_on;
 use doc_values::Ty;
-use hold_shapes::Twin;
+use lens_forms::Form;
 use std::alloc::{AllocError, Global};
 use std::marker::Model;
+use texts::Twin;
 
 /// A form that is typed, with its two types. Contracts see it as its form.
 ///
@@ -28,9 +26,9 @@ pub struct Typed {
 impl Model for Typed {
     ghost use Rattle.std.specs.Coded.{codes};
     ghost use Rattle.doc_values.specs.Types.{ty_tree};
-    ghost use Rattle.lens_types.specs.declared.form.Form.{Form};
-    ghost use Rattle.lens_types.specs.contracts.form.Form as form_type;
-    ghost use Rattle.lens_types.specs.Forms.{form_tree};
+    ghost use Rattle.lens_forms.specs.declared.form.Form.{Form};
+    ghost use Rattle.lens_forms.specs.contracts.form.Form as form_type;
+    ghost use Rattle.lens_forms.specs.Forms.{form_tree};
     ghost use Rattle.lens_types.specs.Sound.{IsSoundWith};
 
     ghost Value = { Form };
@@ -43,14 +41,14 @@ impl Model for Typed {
 }
 
 impl Typed {
-    // A sound form with its two types.
-    pub(crate) fn new(alloc: Global, form: Form) -> Result<Typed, AllocError>
-        requires { IsTrue (is_sound (form_tree form)) }
-        ensures { IfOk result (λ t. form_tree t ≡ form_tree form) }
+    // A sound form with its two types. It does not allocate.
+    pub(crate) fn new(form: Form, left: Ty, right: Ty) -> Typed
+        requires sound { IsTrue (is_sound (form_tree form)) }
+        requires left_is { ty_tree left ≡ left_type (form_tree form) }
+        requires right_is { ty_tree right ≡ right_type (form_tree form) }
+        ensures { form_tree result ≡ form_tree form }
     {
-        let left = type_on(alloc, End::Left, &form)?;
-        let right = type_on(alloc, End::Right, &form)?;
-        Ok(Typed { form, left, right })
+        Typed { form, left, right }
     }
 
     /// The form.
@@ -89,7 +87,7 @@ impl Typed {
 }
 
 impl Twin for Typed {
-    ghost use Rattle.lens_types.specs.Forms.{FormTree, form_tree};
+    ghost use Rattle.lens_forms.specs.Forms.{FormTree, form_tree};
 
     ghost Meaning = { FormTree };
 

@@ -3,6 +3,8 @@
 //! Words: what is done, how many items the list has, and how often it is done.
 #![tactic(auto)]
 
+mod refusals;
+
 use anyhow::bail;
 use shared_lists::SharedList;
 use std::alloc::{AllocError, Global};
@@ -13,6 +15,11 @@ fn main(rt: HostRuntime) -> anyhow::Result<()> {
     let words: Vec<String> = env::args(&rt)?.collect(alloc)?;
     if words.len() != 4 {
         bail!("give what is to be done, a number of items and a number of times");
+    }
+    if words[1].as_str() == "refusals" {
+        let kept = are_kept_below(alloc, words[2].as_str().parse::<u32>()?).unwrap_or(true);
+        println!(rt; "kept: {kept}")?;
+        return Ok(());
     }
     let Some(task) = Task::named(words[1].as_str()) else {
         bail!("there is no such task");
@@ -25,13 +32,18 @@ fn main(rt: HostRuntime) -> anyhow::Result<()> {
     Ok(())
 }
 
+// Whether a list of the numbers below a size, and lists made of it, are kept where memory runs out.
+fn are_kept_below(alloc: Global, size: u32) -> Result<bool, AllocError> {
+    let list = SharedList::from_vec(alloc, numbers(alloc, size)?)?;
+    refusals::are_lists_kept(alloc, &list)
+}
+
 // What is done to a list, again and again.
 #[derive(Drop)]
 enum Task {
     Get,
     Set,
-    Insert,
-    Delete,
+    Move,
     Append,
     Halve,
     Read,
@@ -43,8 +55,7 @@ impl Task {
         match name {
             "get" => Some(Task::Get),
             "set" => Some(Task::Set),
-            "insert" => Some(Task::Insert),
-            "delete" => Some(Task::Delete),
+            "move" => Some(Task::Move),
             "append" => Some(Task::Append),
             "halve" => Some(Task::Halve),
             "read" => Some(Task::Read),
@@ -84,12 +95,11 @@ impl Task {
                 list.set(alloc, place, seed)?;
                 Ok(0)
             }
-            Task::Insert => insert_one(alloc, list, place, seed),
-            Task::Append => insert_one(alloc, list, len, seed),
-            Task::Delete => {
+            Task::Move => {
                 list.delete(alloc, place, 1)?;
-                Ok(0)
+                insert_one(alloc, list, len / 2, seed)
             }
+            Task::Append => insert_one(alloc, list, len, seed),
             Task::Halve => {
                 let front = list.part(alloc, 0, place)?;
                 let back = list.part(alloc, place, len - place)?;
@@ -108,8 +118,7 @@ fn insert_one(
     place: usize,
     number: u64,
 ) -> Result<u64, AllocError> {
-    let mut items = Vec::new(alloc);
-    items.push(number)?;
+    let items = vec![in alloc; number]?;
     if place <= list.len() && list.len() < 1_000_000_000 && items.len() == 1 {
         list.insert_many(alloc, place, items)?;
     }
@@ -149,5 +158,7 @@ fn numbers(alloc: Global, size: u32) -> Result<Vec<u64>, AllocError> {
 
 // Another number, for places that are spread.
 fn next_seed(seed: u64) -> u64 {
-    seed.wrapping_mul(6_364_136_223_846_793_005).wrapping_add(1_442_695_040_888_963_407) >> 1
+    seed.wrapping_mul(6_364_136_223_846_793_005)
+        .wrapping_add(1_442_695_040_888_963_407)
+        >> 1
 }

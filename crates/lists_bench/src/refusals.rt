@@ -1,69 +1,79 @@
 //! Each call of a list made once, so that any allocation in it can be made to fail.
 //!
-//! Run by hand: `rt try --fail-alloc 1.. -- refusals 100 1` prints the same line for each allocation
-//! that fails.
+//! Run by hand, with each allocation failing one after another: the line that is printed stays the same.
 
 use shared_lists::SharedList;
 use std::alloc::{AllocError, Global};
 
-/// Whether each call that ran out of memory left the lists as they were.
-///
-/// The list has the numbers below its length, of which there are more than 10 and fewer than 1,000,000.
+/// Whether each call that runs out of memory leaves the lists as they were.
 pub fn are_lists_kept(alloc: Global, list: &SharedList<u64>) -> Result<bool, AllocError> {
-    let len = list.len();
-    if len <= 10 || len >= 1_000_000 {
+    if list.len() < 10 || list.len() > 1_000_000 {
         return Ok(false);
     }
-    let mut kept = is_kept(list, len);
-    let copy = list.copy(alloc);
-    kept = kept && is_kept(list, len);
-    let mut copy = copy?;
-    kept = kept && copy.len() == len && is_kept_on_error(copy.set(alloc, 3, 3), &copy, len);
-    kept = kept && is_kept(list, len);
-    if copy.len() == len {
-        let deleted = copy.delete(alloc, 5, 2);
-        kept = kept && (deleted.is_ok() || is_kept(&copy, len));
-        deleted?;
-    }
-    if copy.len() < len {
-        let inserted = copy.insert_many(alloc, 5, two_numbers(alloc)?);
-        kept = kept && (inserted.is_ok() || copy.len() + 2 == len);
-        inserted?;
-    }
-    kept = kept && is_kept(&copy, len) && is_kept(list, len);
-    let both = list.concat(alloc, &copy);
-    kept = kept && is_kept(&copy, len) && is_kept(list, len);
-    kept = kept && both?.len() == len + len;
-    let part = list.part(alloc, 7, 3);
-    kept = kept && is_kept(list, len);
-    kept = kept && part?.len() == 3;
-    Ok(kept)
+    let set = is_kept_by_set(alloc, list)?;
+    let inserted = is_kept_by_insert_many(alloc, list)?;
+    let deleted = is_kept_by_delete(alloc, list)?;
+    let joined = are_kept_by_concat(alloc, list)?;
+    Ok(set && inserted && deleted && joined && is_kept_by_part(alloc, list)?)
 }
 
-// Whether a call worked, or left the numbers as they were.
-fn is_kept_on_error(result: Result<(), AllocError>, list: &SharedList<u64>, len: usize) -> bool {
-    result.is_ok() || is_kept(list, len)
+fn is_kept_by_set(alloc: Global, list: &SharedList<u64>) -> Result<bool, AllocError> {
+    let mut copy = list.copy(alloc)?;
+    if copy.len() < 10 {
+        return Ok(false);
+    }
+    match copy.set(alloc, 3, 70) {
+        Ok(()) => Ok(!is_same(list, &copy)),
+        Err(_) => Ok(is_same(list, &copy)),
+    }
 }
 
-// Whether a list has the numbers below a length.
-fn is_kept(list: &SharedList<u64>, len: usize) -> bool {
-    if list.len() != len {
-        return false;
+fn is_kept_by_insert_many(alloc: Global, list: &SharedList<u64>) -> Result<bool, AllocError> {
+    let mut copy = list.copy(alloc)?;
+    let items = vec![in alloc; 70]?;
+    if copy.len() < 10 || copy.len() > 1_000_000 || items.len() != 1 {
+        return Ok(false);
     }
-    let mut number = 0;
-    for item in list {
-        if *item != number {
-            return false;
-        }
-        number = number.wrapping_add(1);
+    match copy.insert_many(alloc, 3, items) {
+        Ok(()) => Ok(!is_same(list, &copy)),
+        Err(_) => Ok(is_same(list, &copy)),
     }
-    true
 }
 
-// The numbers that were removed.
-fn two_numbers(alloc: Global) -> Result<Vec<u64>, AllocError> {
-    let mut numbers = Vec::new(alloc);
-    numbers.push(5)?;
-    numbers.push(6)?;
-    Ok(numbers)
+fn is_kept_by_delete(alloc: Global, list: &SharedList<u64>) -> Result<bool, AllocError> {
+    let mut copy = list.copy(alloc)?;
+    if copy.len() < 10 {
+        return Ok(false);
+    }
+    match copy.delete(alloc, 3, 2) {
+        Ok(()) => Ok(!is_same(list, &copy)),
+        Err(_) => Ok(is_same(list, &copy)),
+    }
+}
+
+fn are_kept_by_concat(alloc: Global, list: &SharedList<u64>) -> Result<bool, AllocError> {
+    let copy = list.copy(alloc)?;
+    if list.len() > 1_000_000 || copy.len() > 1_000_000 {
+        return Ok(false);
+    }
+    match list.concat(alloc, &copy) {
+        Ok(both) => Ok(is_same(list, &copy) && !is_same(list, &both)),
+        Err(_) => Ok(is_same(list, &copy)),
+    }
+}
+
+fn is_kept_by_part(alloc: Global, list: &SharedList<u64>) -> Result<bool, AllocError> {
+    let copy = list.copy(alloc)?;
+    if copy.len() < 10 {
+        return Ok(false);
+    }
+    match copy.part(alloc, 3, 2) {
+        Ok(part) => Ok(is_same(list, &copy) && part.len() == 2),
+        Err(_) => Ok(is_same(list, &copy)),
+    }
+}
+
+// Whether two lists have the same numbers.
+fn is_same(left: &SharedList<u64>, right: &SharedList<u64>) -> bool {
+    left.len() == right.len() && left.iter().zip(right.iter()).all(|(a, b)| *a == *b)
 }

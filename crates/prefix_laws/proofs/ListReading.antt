@@ -1,6 +1,5 @@
 -- Lists with commas, read beside the machine.
-use Rattle.std.proofs.Common.{◌≡◌, ℕ, zero, suc, ◌-◌, true, false, cond, List, [], ◌∷◌, ◌++◌, length, drop, Some, None, Ok, refl, sym, ap, subst, ◌∙◌, arith, length-append, inl, inr}
-use Rattle.std.proofs.lemmas.List.{drop_at}
+use Rattle.std.proofs.Common.{◌≡◌, ℕ, zero, suc, ◌-◌, true, false, cond, List, [], ◌∷◌, ◌++◌, length, drop, Some, None, Ok, refl, sym, ap, subst, ◌∙◌, inl, inr}
 use Rattle.program_tokens.specs.declared.mark.Mark.{Mark}
 use Rattle.program_tokens.specs.declared.mark.Mark.TheVariants.{Comma}
 use Rattle.program_tokens.specs.declared.token.Token.{Token}

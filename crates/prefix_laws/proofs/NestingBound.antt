@@ -1,5 +1,5 @@
 -- In a prefix that the numbered grammar has, each type and each lens is inside fewer than 100 others, however the plain grammar derives it.
-use Rattle.std.proofs.Common.{◌≡◌, ℕ, zero, suc, ◌-◌, ◌<◌, Bool, true, false, List, [], ◌∷◌, ◌++◌, Option, Some, None, refl, sym, ap, subst, ◌∙◌, arith, ◌⊎◌, inl, inr}
+use Rattle.std.proofs.Common.{◌≡◌, ℕ, zero, suc, ◌-◌, ◌<◌, true, false, List, [], ◌∷◌, ◌++◌, Option, Some, None, refl, sym, ap, subst, ◌∙◌, arith, inl, inr}
 use Rattle.std.proofs.lemmas.Bool.{eq-eqb}
 use Rattle.program_tokens.specs.declared.keyword.Keyword.{Keyword}
 use Rattle.program_tokens.specs.declared.keyword.Keyword.TheVariants as words
@@ -10,8 +10,7 @@ use Rattle.program_tokens.specs.Words.{mark_byte}
 use Rattle.program_grammar.specs.Grammar.{Rule, program, type, lens, Part, definitions, Symbol, mark, word, a_name, a_string, the_end, rule, perhaps, repeated, contents, alternatives, IsAmong}
 use Rattle.program_grammar.specs.PlainGrammar.{PlainRule, PlainPart, PlainSymbol, IsPlainPrefix, inside_rule, inside_part, first_depth, other_depths, depths_before, IsAllowed, IsNestedBelow}
 use Rattle.program_grammar.specs.PlainGrammar as plain
-use Rattle.program_grammar.specs.Reading.{is_mark}
-use Rattle.prefix_laws.proofs.Machine.{code, is_word, or_else, first_of, take_inside, take_one, goes}
+use Rattle.prefix_laws.proofs.Machine.{code, or_else, take_inside, take_one, goes}
 use Rattle.prefix_laws.proofs.MachineCompleteness.{Closes, Fine, Each, ◌also◌, each, fine_rule, fine_part, fine_again, Lifts, lifts_rule, lifts_part, passed_by, or_none}
 use Rattle.prefix_laws.proofs.NumberedSymbols.{number_rule, number_part, number, number_all, numbered, numbered_before, numbered_alternative, numbered_content}
 

@@ -1,5 +1,5 @@
 -- Plain symbols with their numbers: a symbol inside n types and lenses has the number 100 - n.
-use Rattle.std.proofs.Common.{◌≡◌, ℕ, zero, suc, ◌-◌, ◌<◌, List, [], ◌∷◌, ◌++◌, map, refl, sym, ap, subst, arith}
+use Rattle.std.proofs.Common.{◌≡◌, ℕ, suc, ◌-◌, ◌<◌, List, [], ◌∷◌, ◌++◌, map, refl, sym, ap, subst, arith}
 use Rattle.program_tokens.specs.declared.token.Token.{Token}
 use Rattle.program_grammar.specs.Grammar.{Rule, program, field, type, lens, row, Part, definitions, other_members, other_pairs, fields, other_fields, rows, other_rows, other_arms, Symbol, mark, word, a_name, a_string, the_end, rule, perhaps, repeated, contents, alternatives, IsAmong, IsViablePrefix, no_tokens, mark_first, word_first, name_first, string_first, end_first, rule_replaced, option_present, option_absent, repeated_once_more, repeated_no_more}
 use Rattle.program_grammar.specs.PlainGrammar.{PlainRule, PlainPart, PlainSymbol, IsPlainPrefix, inside_rule, inside_part, first_depth, other_depths, depths_before, IsAllowed, IsNestedBelow}

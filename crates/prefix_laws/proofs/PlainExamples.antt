@@ -1,5 +1,5 @@
 -- The plain grammar on a small text: `main each l`, in which the lens `l` is inside one other.
-use Rattle.std.proofs.Common.{ℕ, List, [], ◌∷◌, refl, arith, inl, inr}
+use Rattle.std.proofs.Common.{List, [], ◌∷◌, refl, arith, inl, inr}
 use Rattle.program_tokens.specs.declared.keyword.Keyword.TheVariants as words
 use Rattle.program_tokens.specs.declared.token.Token.{Token}
 use Rattle.program_tokens.specs.declared.token.Token.TheVariants as tokens

@@ -1,5 +1,5 @@
 -- A viable prefix of the numbered grammar is a prefix of the plain one: the numbers are left out.
-use Rattle.std.proofs.Common.{◌≡◌, ℕ, zero, suc, List, [], ◌∷◌, ◌++◌, map, refl, sym, ap, subst, inl, inr}
+use Rattle.std.proofs.Common.{◌≡◌, zero, suc, List, [], ◌∷◌, ◌++◌, map, refl, ap, subst, inl, inr}
 use Rattle.program_tokens.specs.declared.token.Token.{Token}
 use Rattle.program_grammar.specs.Grammar.{Rule, program, field, type, lens, row, Part, definitions, other_members, other_pairs, fields, other_fields, rows, other_rows, other_arms, Symbol, mark, word, a_name, a_string, the_end, rule, perhaps, repeated, contents, alternatives, IsAmong, IsViablePrefix, no_tokens, mark_first, word_first, name_first, string_first, end_first, rule_replaced, option_present, option_absent, repeated_once_more, repeated_no_more}
 use Rattle.program_grammar.specs.PlainGrammar.{PlainRule, PlainPart, PlainSymbol, IsPlainPrefix}

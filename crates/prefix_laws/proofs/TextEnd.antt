@@ -1,5 +1,5 @@
 -- Reading passes tokens that are neither the end nor bad; so the tokens of a text never run out.
-use Rattle.std.proofs.Common.{◌≡◌, ℕ, zero, suc, ◌+◌, ◌-◌, Bool, true, false, cond, List, [], ◌∷◌, ◌++◌, length, drop, Option, Some, None, Result, Ok, Err, refl, sym, ap, subst, ◌∙◌, append_assoc, length-append, arith}
+use Rattle.std.proofs.Common.{◌≡◌, ℕ, zero, suc, ◌-◌, Bool, true, false, cond, List, [], ◌∷◌, ◌++◌, length, drop, Option, Some, None, Result, Ok, Err, refl, sym, ap, subst, ◌∙◌, append_assoc}
 use Rattle.std.specs.List.{AllByRecursion}
 use Rattle.program_tokens.specs.declared.keyword.Keyword.{Keyword}
 use Rattle.program_tokens.specs.declared.keyword.Keyword.TheVariants as words
@@ -10,9 +10,9 @@ use Rattle.program_tokens.specs.declared.token.Token.TheVariants as tokens
 use Rattle.program_tokens.specs.declared.token.PlacedToken.{PlacedToken}
 use Rattle.program_tokens.specs.Tokens.{tokens_of}
 use Rattle.program_tokens.proofs.LastToken.{text_ends}
-use Rattle.program_terms.specs.Terms.{TypeTree, LensTree, RowTree, DefTree}
+use Rattle.program_terms.specs.Terms.{TypeTree, LensTree, DefTree}
 use Rattle.program_grammar.specs.declared.mention.Mention.{Mention}
-use Rattle.program_grammar.specs.Mentions.{Point, NotedDefinition, NotedProgram}
+use Rattle.program_grammar.specs.Mentions.{Point, NotedDefinition}
 use Rattle.program_grammar.specs.Reading.{Read, ◌>>=◌, is_mark, next_is, word_in, next_word, string_in, field_in, mark_in, mark_at, token_value, string_from, string_at, field_from, field_at, more_at, list_at, closed_at, perhaps_at, typed_at, enum_at, record_at, one_of_at, word_type, mark_type, begun_type, type_from, type_step, type_at, pair_at, bij_at, arm_at, left_row_at, right_row_at, both_row_at, row_by, row_at, then_at, disc_at, part_at, word_lens, rec_at, alt_at, mark_lens, begun_lens, lens_from, lens_step, lens_at, name_in, name_from, name_at, type_term_at, lens_term_at, definition_at, definition_of, definitions_at, is_main, main_at, is_end, none_left, end_at, program_at, next_offset}
 use Rattle.program_grammar.proofs.RestOfTokens.{IsRest, drop_to_rest}
 

@@ -1,5 +1,5 @@
 -- One token, read beside the machine.
-use Rattle.std.proofs.Common.{◌≡◌, ℕ, true, cond, List, [], ◌∷◌, Some, None, refl, sym, ap, ◌∙◌, eqb, inl, inr}
+use Rattle.std.proofs.Common.{◌≡◌, ℕ, cond, List, [], ◌∷◌, Some, None, refl, ◌∙◌, inl, inr}
 use Rattle.program_tokens.specs.declared.mark.Mark.{Mark}
 use Rattle.program_tokens.specs.declared.token.Token.{Token}
 use Rattle.program_tokens.specs.declared.token.Token.TheVariants as tokens
@@ -9,7 +9,6 @@ use Rattle.program_grammar.specs.declared.mention.Mention.{Mention}
 use Rattle.program_grammar.specs.Grammar.{Symbol, mark, a_string, rule, field}
 use Rattle.program_grammar.specs.Mentions.{Point}
 use Rattle.program_grammar.specs.Reading.{is_mark, mark_in, mark_at, string_in, field_in, token_value, string_from, string_at, field_from, field_at}
-use Rattle.program_grammar.proofs.MarkTokens.{mark_is}
 use Rattle.prefix_laws.proofs.Machine.{take_one}
 use Rattle.prefix_laws.proofs.MachineSteps.{Takes, Reads, takes_ok, takes_none, takes_first, takes_not, either_way}
 

@@ -1,5 +1,5 @@
 -- What a text says besides its terms: the names that are mentioned, with their offsets.
-use Rattle.std.specs.Prelude.{ℕ, List, [], ◌∷◌, ◌++◌, map}
+use Rattle.std.specs.Prelude.{ℕ, List, map}
 use Rattle.program_tokens.specs.declared.token.PlacedToken.{PlacedToken}
 use Rattle.program_terms.specs.Terms.{DefTree, LensTree, ProgramTree}
 use Rattle.program_grammar.specs.declared.mention.Sort.{Sort}

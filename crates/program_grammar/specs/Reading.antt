@@ -1,6 +1,6 @@
 -- Reading from left to right, without going back: the value and the point behind it, or the offset of the unexpected token (none if the
 -- tokens ran out). A form for proofs: the laws show that it reads what is spelled, and that it stops at the unexpected token.
-use Rattle.std.specs.Prelude.{◌≡◌, ℕ, zero, suc, ◌-◌, Bool, true, false, List, [], ◌∷◌, ◌++◌, length, Option, Some, None, Result, Ok, Err, ◌==◌, if◌then◌else◌}
+use Rattle.std.specs.Prelude.{ℕ, zero, suc, ◌-◌, Bool, true, false, List, [], ◌∷◌, ◌++◌, length, Option, Some, None, Result, Ok, Err, ◌==◌, if◌then◌else◌}
 use Rattle.program_tokens.specs.Words.{mark_byte}
 use Rattle.program_tokens.specs.declared.keyword.Keyword.{Keyword}
 use Rattle.program_tokens.specs.declared.keyword.Keyword.TheVariants as words
@@ -9,7 +9,7 @@ use Rattle.program_tokens.specs.declared.mark.Mark.TheVariants.{Equals, Semicolo
 use Rattle.program_tokens.specs.declared.token.Token.{Token}
 use Rattle.program_tokens.specs.declared.token.Token.TheVariants as tokens
 use Rattle.program_tokens.specs.declared.token.PlacedToken.{PlacedToken}
-use Rattle.program_terms.specs.Terms.{TypeTree, FieldTrees, unit, bool, int, text, enum_of, record_of, one_of, list, keyed, tree, named, term_fields_of, LensTree, id_of, bij_of, disc_of, then_of, rec_lens, alt_lens, each_of, keyed_each, tree_each, part_of, inv_of, named_lens, RowTree, row_both, row_left, row_right, term_rows_of, term_arms_of, DefTree, type_def, lens_def}
+use Rattle.program_terms.specs.Terms.{TypeTree, unit, bool, int, text, enum_of, record_of, one_of, list, keyed, tree, named, term_fields_of, LensTree, id_of, bij_of, disc_of, then_of, rec_lens, alt_lens, each_of, keyed_each, tree_each, part_of, inv_of, named_lens, RowTree, row_both, row_left, row_right, term_rows_of, term_arms_of, DefTree, type_def, lens_def}
 use Rattle.program_grammar.specs.declared.mention.Mention.{Mention}
 use Rattle.program_grammar.specs.declared.mention.Sort.TheVariants as sorts
 use Rattle.program_grammar.specs.Mentions.{Point, mention, NotedDefinition, NotedProgram}

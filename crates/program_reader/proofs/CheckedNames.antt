@@ -10,7 +10,7 @@ use Rattle.program_grammar.specs.Mentions.{NotedDefinition, NotedProgram, defini
 use Rattle.program_grammar.specs.Reading.{program_at}
 use Rattle.program_reader.specs.declared.fault.ProgramReadFault.{ProgramReadFault}
 use Rattle.program_reader.specs.Known.{first_unknown_among, first_fault_among, or_fault}
-use Rattle.program_reader.specs.Causes.{ReadCause, if_no_fault, program_or_cause, program_of, IsResult}
+use Rattle.program_reader.specs.Causes.{if_no_fault, program_or_cause, program_of, IsResult}
 use Rattle.program_reader.proofs.FirstFault.{first_fault_same}
 
 none_found : (fault : Option NameFault) → Ok tt ≡ or_fault fault → fault ≡ None

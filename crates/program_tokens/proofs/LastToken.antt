@@ -1,5 +1,5 @@
 -- The last token of a text is its end, or a bad one.
-use Rattle.std.proofs.Common.{◌≡◌, ℕ, zero, suc, ◌+◌, List, [], ◌∷◌}
+use Rattle.std.proofs.Common.{ℕ, zero, suc, ◌+◌, List, [], ◌∷◌}
 use Rattle.std.specs.List.{AllByRecursion}
 use Rattle.program_tokens.specs.declared.piece.Piece.{Piece}
 use Rattle.program_tokens.specs.declared.piece.Piece.TheVariants as pieces

@@ -56,6 +56,6 @@ program : canonical (record { definitions = (codes "t", type_def (list int)) ∷
 unfolding is_name is_word begins_word in_word keyword_of
 program = refl
 
-of_a_document : canonical_type (ty_rec (of_documents.field (codes "id") (ty_list ty_int) of_documents.no_fields)) ≡ codes "{\"id\": list int}"
+of_a_document : canonical_type (ty_rec (of_documents.more_fields (codes "id") (ty_list ty_int) of_documents.no_fields)) ≡ codes "{\"id\": list int}"
 unfolding is_name is_word begins_word in_word keyword_of
 of_a_document = refl

@@ -1,7 +1,7 @@
 -- A type of documents whose names may stand in strings is writable.
 use Rattle.std.proofs.Common.{◌≡◌, ℕ, zero, suc, ◌≤◌, true, List, [], ◌∷◌, arith, refl}
 use Rattle.texts.specs.Keys.{is_rising}
-use Rattle.doc_values.specs.Types.{TyTree, ty_unit, ty_bool, ty_int, ty_text, ty_enum, ty_rec, ty_alt, ty_list, ty_keyed, ty_ordered, FieldTrees, no_fields, field, height, highest, names_of, are_choices, is_well_formed, are_well_formed}
+use Rattle.doc_values.specs.Types.{TyTree, ty_unit, ty_bool, ty_int, ty_text, ty_enum, ty_rec, ty_alt, ty_list, ty_keyed, ty_ordered, FieldTrees, no_fields, more_fields, height, highest, names_of, are_choices, is_well_formed, are_well_formed}
 use Rattle.program_tokens.specs.Tokens.{tokens_of}
 use Rattle.program_tokens.specs.declared.token.Token.TheVariants as tokens
 use Rattle.program_tokens.proofs.FirstToken.{lex_end}
@@ -31,7 +31,7 @@ has_members (m ∷ ms) h = tt
 
 has_tags : (fs : FieldTrees) → are_choices (names_of fs) ≡ true → HasFields (terms_of_fields fs)
 has_tags no_fields h = absurd cc
-has_tags (field f t fs) h = tt
+has_tags (more_fields f t fs) h = tt
 
 mutual
   writable : (n : ℕ) (t : TyTree) → height t ≤ n → is_well_formed t ≡ true → IsSpeakable t → IsWritableType n (term_of_type t)
@@ -52,7 +52,7 @@ mutual
 
   all_writable : (n : ℕ) (fs : FieldTrees) → highest fs ≤ n → are_well_formed fs ≡ true → AreSpeakable fs → AreWritableFields n (terms_of_fields fs)
   all_writable n no_fields h w s = tt
-  all_writable n (field f t fs) h w s =
+  all_writable n (more_fields f t fs) h w s =
       let one : height t ≤ n = omega arith in
       let others : highest fs ≤ n = omega arith in
       let p = split (is_well_formed t) (are_well_formed fs) w in

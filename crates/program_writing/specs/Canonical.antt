@@ -97,7 +97,7 @@ abbrev mutual
 
   pub terms_of_fields : of_documents.FieldTrees → FieldTrees
   terms_of_fields of_documents.no_fields = no_fields
-  terms_of_fields (of_documents.field f t fs) = more_fields f (term_of_type t) (terms_of_fields fs)
+  terms_of_fields (of_documents.more_fields f t fs) = more_fields f (term_of_type t) (terms_of_fields fs)
 
 -- the canonical text of a type of documents
 abbrev pub canonical_type : TyTree → List ℕ

@@ -110,4 +110,4 @@ abbrev mutual
 
   pub AreSpeakable : of_documents.FieldTrees → Type 0
   AreSpeakable of_documents.no_fields = Unit {0}
-  AreSpeakable (of_documents.field f t fs) = IsText f × IsSpeakable t × AreSpeakable fs
+  AreSpeakable (of_documents.more_fields f t fs) = IsText f × IsSpeakable t × AreSpeakable fs

@@ -3,9 +3,9 @@ ghost use Rattle.std.specs.Prelude.{◌≡◌, [], ◌++◌, IfOk, OnOk, string_
 ghost use Rattle.program_writing.specs.Canonical.{put_string, put_name, put_strings, put_pairs, canonical_name};
 ghost use Rattle.program_writing.specs.Puts.{Puts, comma};
 
-use texts::{Name, Str};
 use program_tokens::is_name;
 use std::alloc::{AllocError, Global};
+use texts::{Name, Str};
 
 /// A name by itself, as a field is written in a program: as it is where it is a name of the language, and else as a
 /// string. The only error is running out of memory. docs/LANGUAGE.md has the rule.

@@ -7,9 +7,9 @@ ghost use Rattle.program_writing.specs.Puts.{Puts};
 use crate::lens_text::put_lens;
 use crate::name_text::{put_name, put_text};
 use crate::type_text::put_type;
-use texts::{Name, Str};
 use program_terms::{Def, Program};
 use std::alloc::{AllocError, Global};
+use texts::{Name, Str};
 
 /// The canonical text of a program.
 ///

@@ -6,8 +6,8 @@ ghost use Rattle.program_writing.specs.Puts.{Puts};
 
 use crate::name_text::{put_comma, put_name, put_strings, put_text};
 use doc_values::{Fields, Ty};
-use texts::Str;
 use std::alloc::{AllocError, Global};
+use texts::Str;
 
 /// The canonical text of a type, as a program writes it.
 ///

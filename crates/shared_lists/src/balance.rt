@@ -24,14 +24,14 @@ pub(crate) fn join<T: Drop>(
         match &left.node {
             Node::Chunk(_) => pair(alloc, left.clone()?, right.clone()?),
             Node::Join(outer, inner, _, _) => {
-                balanced(alloc, outer.clone()?, join(alloc, inner, right)?)
+                rebalance(alloc, outer.clone()?, join(alloc, inner, right)?)
             }
         }
     } else if is_higher(right, left) {
         match &right.node {
             Node::Chunk(_) => pair(alloc, left.clone()?, right.clone()?),
             Node::Join(inner, outer, _, _) => {
-                balanced(alloc, join(alloc, left, inner)?, outer.clone()?)
+                rebalance(alloc, join(alloc, left, inner)?, outer.clone()?)
             }
         }
     } else {
@@ -45,7 +45,7 @@ fn is_higher<T>(first: &Rc<Tree<T>>, second: &Rc<Tree<T>>) -> bool {
 }
 
 // Two trees whose heights differ by at most two, with a rotation where they differ by two.
-fn balanced<T: Drop>(
+fn rebalance<T: Drop>(
     alloc: Global,
     left: Rc<Tree<T>>,
     right: Rc<Tree<T>>,
@@ -54,16 +54,16 @@ fn balanced<T: Drop>(
     ensures { IfOk result (λ t. t.value ≡ left.value ++ right.value) }
 {
     if is_higher(&left, &right) {
-        rotated_right(alloc, left, right)
+        rotate_right(alloc, left, right)
     } else if is_higher(&right, &left) {
-        rotated_left(alloc, left, right)
+        rotate_left(alloc, left, right)
     } else {
         pair(alloc, left, right)
     }
 }
 
 // Two trees of which the left one is too high.
-fn rotated_right<T: Drop>(
+fn rotate_right<T: Drop>(
     alloc: Global,
     left: Rc<Tree<T>>,
     right: Rc<Tree<T>>,
@@ -84,7 +84,7 @@ fn rotated_right<T: Drop>(
 }
 
 // Two trees of which the right one is too high.
-fn rotated_left<T: Drop>(
+fn rotate_left<T: Drop>(
     alloc: Global,
     left: Rc<Tree<T>>,
     right: Rc<Tree<T>>,

@@ -101,7 +101,7 @@ impl<T: Drop> SharedList<T> {
         ensures unchanged { OnErr result (self.new ≡ self.old) }
     {
         let _len = self.len();
-        let more = splices::single(alloc, item)?;
+        let more = splices::tree_of_one(alloc, item)?;
         self.splice(alloc, place, place + 1, &more)
     }
 
@@ -200,7 +200,7 @@ impl<T: Drop> SharedList<T> {
         ensures unchanged { OnErr result (self.new ≡ self.old) }
     {
         let tree = match &self.root {
-            None => splices::owned(more)?,
+            None => splices::owner_of(more)?,
             Some(root) => splices::splice(alloc, root.tree(), from, to, more)?,
         };
         *self = SharedList::from_tree(alloc, tree)?;

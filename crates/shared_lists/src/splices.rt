@@ -24,7 +24,10 @@ pub(crate) fn from_vec<T: Drop>(
 }
 
 /// A tree of one item.
-pub(crate) fn single<T: Drop>(alloc: Global, item: T) -> Result<Option<Rc<Tree<T>>>, AllocError>
+pub(crate) fn tree_of_one<T: Drop>(
+    alloc: Global,
+    item: T,
+) -> Result<Option<Rc<Tree<T>>>, AllocError>
     ensures { IfOk result (λ t. optional_items t ≡ item ∷ []) }
 {
     let mut owners = Vec::with_capacity(alloc, 1)?;
@@ -56,7 +59,7 @@ fn build<T: Drop>(alloc: Global, items: &[Rc<T>]) -> Result<Rc<Tree<T>>, AllocEr
     ensures { IfOk result (λ t. t.value ≡ items_of items.now) }
 {
     if items.len() <= CHUNK {
-        return chunk(alloc, shared(alloc, items)?);
+        return chunk(alloc, owners_of(alloc, items)?);
     }
     let (front, back) = items.split_at(items.len() / 2);
     let left = build(alloc, front)?;
@@ -65,7 +68,7 @@ fn build<T: Drop>(alloc: Global, items: &[Rc<T>]) -> Result<Rc<Tree<T>>, AllocEr
 }
 
 // One more owner of each item.
-fn shared<T: Drop>(alloc: Global, items: &[Rc<T>]) -> Result<Vec<Rc<T>>, AllocError>
+fn owners_of<T: Drop>(alloc: Global, items: &[Rc<T>]) -> Result<Vec<Rc<T>>, AllocError>
     ensures { IfOk result (λ v. items_of v.items ≡ items_of items.now) }
 {
     let mut owners = Vec::with_capacity(alloc, items.len())?;
@@ -94,7 +97,7 @@ pub(crate) fn splice<T: Drop>(
         ≡ length tree.now.value - (to - from) + length (optional_items more.now)) }
 {
     if from == 0 && to == tree.len() {
-        return owned(more);
+        return owner_of(more);
     }
     match &tree.node {
         Node::Chunk(items) => splice_chunk(alloc, items.as_slice(), from, to, more),
@@ -116,7 +119,9 @@ pub(crate) fn splice<T: Drop>(
 }
 
 /// One more owner of a tree, where there is one.
-pub(crate) fn owned<T: Drop>(tree: &Option<Rc<Tree<T>>>) -> Result<Option<Rc<Tree<T>>>, AllocError>
+pub(crate) fn owner_of<T: Drop>(
+    tree: &Option<Rc<Tree<T>>>,
+) -> Result<Option<Rc<Tree<T>>>, AllocError>
     ensures { IfOk result (λ t. optional_items t ≡ optional_items tree.now) }
 {
     match tree {
@@ -166,9 +171,9 @@ fn splice_chunk<T: Drop>(
         share(&mut owners, back)?;
         return build_optional(alloc, owners);
     }
-    let front = build_optional(alloc, shared(alloc, front)?)?;
-    let back = build_optional(alloc, shared(alloc, back)?)?;
-    let front = join_optional(alloc, front, owned(more)?)?;
+    let front = build_optional(alloc, owners_of(alloc, front)?)?;
+    let back = build_optional(alloc, owners_of(alloc, back)?)?;
+    let front = join_optional(alloc, front, owner_of(more)?)?;
     join_optional(alloc, front, back)
 }
 

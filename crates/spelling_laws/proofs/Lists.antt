@@ -1,5 +1,5 @@
 -- Lists of elements with commas between them.
-use Rattle.std.proofs.Common.{◌≡◌, ℕ, zero, suc, ◌-◌, false, cond, List, [], ◌∷◌, ◌++◌, length, drop, Option, Result, Ok, refl, ap, subst, ◌∙◌, arith, length-append, eqb, inl, inr}
+use Rattle.std.proofs.Common.{◌≡◌, ℕ, zero, suc, ◌-◌, false, cond, List, [], ◌∷◌, length, drop, Option, Result, Ok, refl, ap, subst, ◌∙◌, eqb, inl, inr}
 use Rattle.program_tokens.specs.Words.{mark_byte}
 use Rattle.program_tokens.specs.declared.mark.Mark.{Mark}
 use Rattle.program_tokens.specs.declared.mark.Mark.TheVariants.{Comma}

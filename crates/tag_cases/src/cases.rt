@@ -110,7 +110,9 @@ impl<L: Ledger> Lists<L> {
             ("rank", [tag, upto, _]) if *upto <= len => {
                 Ok(Some(self.now.rank(u32::try_from(*tag)?, *upto, &mut self.steps)))
             }
-            ("place", [tag, k, _]) => Ok(self.now.select(u32::try_from(*tag)?, *k, &mut self.steps)),
+            ("place", [tag, k, _]) => Ok(
+                self.now.select(u32::try_from(*tag)?, *k, &mut self.steps),
+            ),
             ("none", [tag, k]) => Ok(self.now.select(u32::try_from(*tag)?, *k, &mut self.steps)),
             ("below", [bound, _]) => {
                 let is_below = self.now.is_below(u32::try_from(*bound)?);

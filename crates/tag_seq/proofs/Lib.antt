@@ -1,3 +1,4 @@
+mod Examples
 pub mod Heights
 pub mod Making
 pub mod Numbers

@@ -1,10 +1,10 @@
 -- Maps from tags to numbers as lists of pairs.
-use Rattle.std.proofs.Common.{◌≡◌, ℕ, suc, ◌+◌, ◌-◌, ◌<◌, ◌≤◌, List, [], ◌∷◌, ◌++◌, length, get_or, drop, take, zero, refl, ap, sym, ◌∙◌, true, false, arith, ◌⊎◌, inl, inr, cond, append_assoc}
+use Rattle.std.proofs.Common.{◌≡◌, ℕ, suc, ◌+◌, ◌-◌, ◌<◌, ◌≤◌, List, [], ◌∷◌, ◌++◌, length, get_or, drop, take, zero, refl, ap, sym, ◌∙◌, true, false, arith, ◌⊎◌, inl, inr, cond}
 use Rattle.std.proofs.lemmas.Bool.{ltb-true, lt-ltb, le-ltb, eq-eqb, ne_eqb, cases_order, cases_lt, cases_eq}
 use Rattle.std.proofs.lemmas.List.{append-nil, take_rest}
 use Rattle.std.proofs.Math.ListN.{drop_of_length-le}
 use Rattle.std.specs.Prelude.{nat_eq, nat_lt}
-use Rattle.tag_seq.specs.Numbers.{number, merged, merged_behind, IsMap, AreAbove, reduced, with_pair, pairs_before}
+use Rattle.tag_seq.specs.Numbers.{number, merged, IsMap, AreAbove, reduced, with_pair, pairs_before}
 use Rattle.tag_seq.specs.MergeLaws.{merged-nothing, merged-less, merged-more, merged-same}
 
 pub number-append : (t : ℕ) (a b : List (ℕ × ℕ)) → number t (a ++ b) ≡ number t a + number t b
@@ -17,9 +17,9 @@ number-merged_behind t p ps ih [] = omega (arith, ih [])
 number-merged_behind t p ps ih (q ∷ b) =
     elim (cases_order p.0 q.0) [
       | inl e ↦ rw (merged-same p q ps b e) (rw e (elim (cases_eq q.0 t) [
-          | inl f ↦ rw (eq-eqb q.0 t f) (omega (arith, ih b))
-          | inr f ↦ rw (ne_eqb q.0 t f) (omega (arith, ih b))
-        ]))
+        | inl f ↦ rw (eq-eqb q.0 t f) (omega (arith, ih b))
+        | inr f ↦ rw (ne_eqb q.0 t f) (omega (arith, ih b))
+      ]))
       | inr o ↦ elim o [
         | inl l ↦ rw (merged-less p q ps b l) (omega (arith, ih (q ∷ b)))
         | inr m ↦ rw (merged-more p q ps b m) (omega (arith, number-merged_behind t p ps ih b))
@@ -163,7 +163,7 @@ value_some (p ∷ ps) (suc i) d m h = value_some ps i d m.1.1 (omega arith)
 pub is_below_last : (ps : List (ℕ × ℕ)) (i b : ℕ) (d : ℕ × ℕ) → IsMap ps → length ps ≡ i + 1 → ((get_or ps i d).0 < b → (t : ℕ) → 0 < number t ps → t < b) × (((t : ℕ) → 0 < number t ps → t < b) → (get_or ps i d).0 < b)
 is_below_last ps i b d m e = (
   λ h t k. omega (arith, last_is_largest t ps i d m e k),
-  λ h. h (get_or ps i d).0 (omega (arith, number_found (get_or ps i d).0 ps i d m (omega arith) refl, value_some ps i d m (omega arith)))
+  λ h. h (get_or ps i d).0 (omega (arith, number_found (get_or ps i d).0 ps i d m (omega arith) refl, value_some ps i d m (omega arith))),
 )
 
 above-reduced : (k : ℕ) (a b : List (ℕ × ℕ)) → AreAbove k a → AreAbove k (reduced a b)
@@ -184,9 +184,9 @@ map-reduced (p ∷ a) [] h = h
 map-reduced (p ∷ a) (q ∷ b) h =
     elim (cases_eq p.0 q.0) [
       | inl e ↦ rw (eq-eqb p.0 q.0 e) (elim (cases_eq (p.1 - q.1) 0) [
-          | inl z ↦ rw (eq-eqb (p.1 - q.1) 0 z) (map-reduced a b h.1.1)
-          | inr z ↦ rw (ne_eqb (p.1 - q.1) 0 z) (omega arith, (above-reduced p.0 a b h.1.0, map-reduced a b h.1.1))
-        ])
+        | inl z ↦ rw (eq-eqb (p.1 - q.1) 0 z) (map-reduced a b h.1.1)
+        | inr z ↦ rw (ne_eqb (p.1 - q.1) 0 z) (omega arith, (above-reduced p.0 a b h.1.0, map-reduced a b h.1.1))
+      ])
       | inr f ↦ rw (ne_eqb p.0 q.0 f) (h.0, (above-reduced p.0 a (q ∷ b) h.1.0, map-reduced a (q ∷ b) h.1.1))
     ]
 
@@ -223,9 +223,9 @@ number-reduced (p ∷ a) [] m k h t = omega arith
 number-reduced (p ∷ a) (q ∷ b) m k h t =
     elim (cases_eq p.0 q.0) [
       | inl e ↦ rw (eq-eqb p.0 q.0 e, number-with_pair t p.0 (p.1 - q.1) (reduced a b)) (elim (cases_eq p.0 t) [
-          | inl f ↦ rw (eq-eqb p.0 t f, eq-eqb q.0 t (sym e ∙ f)) (omega (arith, number-reduced a b m.1.1 k.1.1 (among_behind p q a b e k h) t, number-above t q.0 b (omega arith) k.1.0, number-above t p.0 a (omega arith) m.1.0, rw (eq-eqb p.0 t f, eq-eqb q.0 t (sym e ∙ f)) at (h t)))
-          | inr f ↦ rw (ne_eqb p.0 t f, ne_eqb q.0 t (λ g. f (e ∙ g))) (omega (arith, number-reduced a b m.1.1 k.1.1 (among_behind p q a b e k h) t))
-        ])
+        | inl f ↦ rw (eq-eqb p.0 t f, eq-eqb q.0 t (sym e ∙ f)) (omega (arith, number-reduced a b m.1.1 k.1.1 (among_behind p q a b e k h) t, number-above t q.0 b (omega arith) k.1.0, number-above t p.0 a (omega arith) m.1.0, rw (eq-eqb p.0 t f, eq-eqb q.0 t (sym e ∙ f)) at (h t)))
+        | inr f ↦ rw (ne_eqb p.0 t f, ne_eqb q.0 t (λ g. f (e ∙ g))) (omega (arith, number-reduced a b m.1.1 k.1.1 (among_behind p q a b e k h) t))
+      ])
       | inr f ↦ rw (ne_eqb p.0 q.0 f) (omega (arith, number-reduced a (q ∷ b) m.1.1 k (among_later p q a b f m k h) t))
     ]
 

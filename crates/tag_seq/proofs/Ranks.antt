@@ -1,8 +1,8 @@
 -- Rank and place in lists with a tag between two parts, and their laws.
-use Rattle.std.proofs.Common.{◌≡◌, ℕ, zero, suc, ◌+◌, ◌-◌, ◌<◌, ◌≤◌, List, [], ◌∷◌, ◌++◌, length, take, refl, ap, sym, ◌∙◌, true, false, arith, cond, inl, inr, Option, Some, None}
+use Rattle.std.proofs.Common.{◌≡◌, ℕ, zero, suc, ◌+◌, ◌-◌, ◌<◌, ◌≤◌, List, [], ◌∷◌, ◌++◌, length, take, refl, ap, sym, ◌∙◌, arith, inl, inr, Option, Some, None}
 use Rattle.std.proofs.lemmas.Bool.{cases_eq, cases_lt, eq-eqb, ne_eqb, true≢false}
 use Rattle.std.proofs.lemmas.List.{append-nil}
-use Rattle.std.specs.Prelude.{nat_eq, slice_get, IsSome, is_some}
+use Rattle.std.specs.Prelude.{slice_get, IsSome, is_some}
 use Rattle.tag_seq.specs.Tags.{count, one_if_same, rank, place, further}
 use Rattle.tag_seq.proofs.Totals.{count-append, count-le-length}
 use Rattle.tag_seq.proofs.Sides.{take_left, take_right}
@@ -75,6 +75,7 @@ place_right t xs ys x n k e h l =
     ]
 
 pub ruleset rank_rules = (rank_left, rank_right, count-le-length)
+
 pub ruleset place_rules = (place_left, place_here, place_right)
 
 -- a place is that of a tag of the list
@@ -115,9 +116,9 @@ place-rises (x ∷ xs) t q r p s d e h =
     elim (cases_eq x t) [
       | inl f ↦ let later = further_some 1 s (place t (r - 1) xs) (sym (place_later t x r (r - 1) xs f (omega arith)) ∙ e) in
           elim (cases_eq q 0) [
-          | inl z ↦ let same : Some 0 ≡ Some p = sym (place_first t x xs f) ∙ (ap (λ k. place t k (x ∷ xs)) (sym z) ∙ d) in let zero_is : 0 ≡ p = cc in omega (arith, later.1.1)
-          | inr z ↦ let sooner = further_some 1 p (place t (q - 1) xs) (sym (place_later t x q (q - 1) xs f (omega arith)) ∙ d) in omega (arith, later.1.1, sooner.1.1, place-rises xs t (q - 1) (r - 1) sooner.0 later.0 sooner.1.0 later.1.0 (omega arith))
-        ]
+            | inl z ↦ let same : Some 0 ≡ Some p = sym (place_first t x xs f) ∙ (ap (λ k. place t k (x ∷ xs)) (sym z) ∙ d) in let zero_is : 0 ≡ p = cc in omega (arith, later.1.1)
+            | inr z ↦ let sooner = further_some 1 p (place t (q - 1) xs) (sym (place_later t x q (q - 1) xs f (omega arith)) ∙ d) in omega (arith, later.1.1, sooner.1.1, place-rises xs t (q - 1) (r - 1) sooner.0 later.0 sooner.1.0 later.1.0 (omega arith))
+          ]
       | inr f ↦ let later = further_some 1 s (place t r xs) (sym (place_other t x r xs f) ∙ e) in
           let sooner = further_some 1 p (place t q xs) (sym (place_other t x q xs f) ∙ d) in
           omega (arith, later.1.1, sooner.1.1, place-rises xs t q r sooner.0 later.0 sooner.1.0 later.1.0 h)
@@ -130,5 +131,5 @@ place_found t k xs = (
     | inl l ↦ l
     | inr h ↦ let none : place t k xs ≡ None = ap (place t k) (sym (append-nil xs)) ∙ place_behind t xs [] k (k - count t xs) (omega arith) in absurd (true≢false (sym s ∙ ap is_some none))
   ],
-  λ l. let d = rank-after-place xs t k l in ap is_some d.1
+  λ l. let d = rank-after-place xs t k l in ap is_some d.1,
 )

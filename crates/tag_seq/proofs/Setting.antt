@@ -1,5 +1,5 @@
 -- Counts of a list of tags once one of them is another one.
-use Rattle.std.proofs.Common.{◌≡◌, ℕ, zero, suc, ◌+◌, ◌<◌, ◌≤◌, List, [], ◌∷◌, length, get_or, refl, ap, sym, ◌∙◌, arith}
+use Rattle.std.proofs.Common.{◌≡◌, ℕ, zero, suc, ◌+◌, ◌<◌, ◌≤◌, List, [], ◌∷◌, length, get_or, ap, sym, ◌∙◌, arith}
 use Rattle.std.specs.Prelude.{slice_set}
 use Rattle.std.proofs.Math.ListN.{length-set}
 use Rattle.tag_seq.specs.Tags.{count, one_if_same}
@@ -21,5 +21,5 @@ count_set (x ∷ xs) (suc i) v t h = omega (arith, count_set xs i v t (omega ari
 pub totals_set : (n m i v old : ℕ) (c e : List (ℕ × ℕ)) (xs ys : List ℕ) → AreTotals n c xs → i < n → old ≡ get_or xs i 0 → ys ≡ slice_set xs i v → m ≡ n → ((t : ℕ) → number t e + one_if_same old t ≡ number t c + one_if_same v t) → AreTotals m e ys
 totals_set n m i v old c e xs ys a h o s z f = record {
   all = z ∙ (a.all ∙ sym (ap length s ∙ length-set xs i v));
-  each = λ t. let there : i < length xs = omega (arith, a.all) in let same = ap (λ x. one_if_same x t) o in let new = ap (count t) s in omega (arith, f t, a.each t, count_set xs i v t there)
+  each = λ t. let there : i < length xs = omega (arith, a.all) in let same = ap (λ x. one_if_same x t) o in let new = ap (count t) s in omega (arith, f t, a.each t, count_set xs i v t there);
 }

@@ -1,5 +1,5 @@
 -- Lists with an item between two parts, read and changed at a place of one of the parts. n is the length of the left part.
-use Rattle.std.proofs.Common.{◌≡◌, ℕ, zero, suc, ◌+◌, ◌-◌, ◌<◌, ◌≤◌, List, [], ◌∷◌, ◌++◌, length, take, drop, get_or, refl, ap, ◌∙◌, arith}
+use Rattle.std.proofs.Common.{◌≡◌, ℕ, zero, suc, ◌-◌, ◌<◌, ◌≤◌, List, [], ◌∷◌, ◌++◌, length, take, drop, get_or, refl, ap, ◌∙◌, arith}
 use Rattle.std.specs.Prelude.{slice_set}
 
 pub take_left : {X : Type 0} (xs ys : List X) (n i : ℕ) → n ≡ length xs → i ≤ n → take i (xs ++ ys) ≡ take i xs

@@ -1,5 +1,5 @@
 -- Sizes and counts of lists of tags.
-use Rattle.std.proofs.Common.{◌≡◌, ℕ, zero, suc, ◌+◌, ◌-◌, ◌*◌, ◌^◌, ◌<◌, ◌≤◌, max, List, [], ◌∷◌, ◌++◌, length, refl, ap, sym, ◌∙◌, true, false, arith, cond, inl, inr, length-append, IfOk}
+use Rattle.std.proofs.Common.{◌≡◌, ℕ, zero, suc, ◌+◌, ◌-◌, ◌<◌, ◌≤◌, List, [], ◌∷◌, ◌++◌, length, refl, sym, ◌∙◌, true, false, arith, cond, inl, inr, length-append}
 use Rattle.std.proofs.lemmas.Bool.{cases_eq, cases_Bool, eq-eqb, ne_eqb, ltb-true, lt-ltb, and_parts, and_from}
 use Rattle.std.specs.Prelude.{nat_eq, nat_lt, replicate, ◌&&◌, ◌↔◌, Bool}
 use Rattle.tag_seq.specs.Tags.{count, one_if_same, are_below}
@@ -33,21 +33,21 @@ totals_within n c xs a t = omega (arith, a.all, a.each t, count-le-length t xs)
 pub totals_around : (n m s x : ℕ) (c e r : List (ℕ × ℕ)) (xs ys : List ℕ) → AreTotals n c xs → AreTotals m e ys → s ≡ n + 1 + m → ((t : ℕ) → number t r ≡ (number t c + one_if_same x t) + number t e) → AreTotals s r (xs ++ x ∷ ys)
 totals_around n m s x c e r xs ys a b h f = record {
   all = omega (arith, a.all, b.all, length-append xs (x ∷ ys));
-  each = λ t. omega (arith, f t, a.each t, b.each t, count-append t xs (x ∷ ys))
+  each = λ t. omega (arith, f t, a.each t, b.each t, count-append t xs (x ∷ ys));
 }
 
 -- the total of the part behind a part and a tag
 pub totals_behind : (n m s x : ℕ) (c e r : List (ℕ × ℕ)) (xs ys : List ℕ) → AreTotals n c (xs ++ x ∷ ys) → AreTotals m e xs → s ≡ n - m - 1 → ((t : ℕ) → (number t r + one_if_same x t) + number t e ≡ number t c) → AreTotals s r ys
 totals_behind n m s x c e r xs ys a b h f = record {
   all = omega (arith, a.all, b.all, length-append xs (x ∷ ys));
-  each = λ t. omega (arith, f t, a.each t, b.each t, count-append t xs (x ∷ ys))
+  each = λ t. omega (arith, f t, a.each t, b.each t, count-append t xs (x ∷ ys));
 }
 
 -- what is in front of a tag is among the whole
 pub front_within : (n m x : ℕ) (c e : List (ℕ × ℕ)) (xs ys : List ℕ) → AreTotals n c (xs ++ x ∷ ys) → AreTotals m e xs → (m < n) × ((t : ℕ) → number t e + one_if_same x t ≤ number t c)
 front_within n m x c e xs ys a b = (
   omega (arith, a.all, b.all, length-append xs (x ∷ ys)),
-  λ t. omega (arith, a.each t, b.each t, count-append t xs (x ∷ ys))
+  λ t. omega (arith, a.each t, b.each t, count-append t xs (x ∷ ys)),
 )
 
 -- tags that occur are below a bound if and only if all tags are
@@ -64,8 +64,8 @@ below_from : (b : ℕ) (xs : List ℕ) → ((t : ℕ) → 0 < count t xs → t <
 below_from b [] h = refl
 below_from b (x ∷ xs) h =
     and_from (nat_lt x b) (are_below b xs)
-      (lt-ltb x b (h x (rw (eq-eqb x x refl) (omega arith))))
-      (below_from b xs (λ t k. h t (omega arith)))
+    (lt-ltb x b (h x (rw (eq-eqb x x refl) (omega arith))))
+    (below_from b xs (λ t k. h t (omega arith)))
 
 -- a test of the tags that have a number is the test of all tags
 pub below_counts : (b : ℕ) (r : Bool) (c : List (ℕ × ℕ)) (xs : List ℕ) → ((r ≡ true) ↔ ((t : ℕ) → 0 < number t c → t < b)) → ((t : ℕ) → number t c ≡ count t xs) → are_below b xs ≡ r

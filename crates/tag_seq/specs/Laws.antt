@@ -1,5 +1,5 @@
 -- The laws of measures, and the laws of rank and place.
-use Rattle.std.specs.Prelude.{◌≡◌, ℕ, ◌<◌, List, [], Option, Some, None, slice_get}
+use Rattle.std.specs.Prelude.{◌≡◌, ℕ, ◌<◌, List, Some, slice_get}
 use Rattle.tag_seq.specs.Tags.{count, rank, place}
 
 -- a sum of measures has nothing as its neutral part on either side, and may be grouped in any way

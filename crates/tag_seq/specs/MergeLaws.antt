@@ -1,8 +1,8 @@
 -- The sum of two maps keeps the laws of measures. These are lemmas, and stand here since a law of an `impl` cites them.
-use Rattle.std.specs.Prelude.{◌≡◌, ℕ, ◌+◌, ◌<◌, List, [], ◌∷◌, refl, true, false, nat_lt}
-use Rattle.std.proofs.Common.{ap, ◌∙◌, sym, arith, ◌⊎◌, inl, inr, add_assoc}
+use Rattle.std.specs.Prelude.{◌≡◌, ℕ, ◌+◌, ◌<◌, List, [], ◌∷◌, refl}
+use Rattle.std.proofs.Common.{ap, ◌∙◌, sym, arith, inl, inr, add_assoc}
 use Rattle.std.proofs.lemmas.Bool.{lt-ltb, le-ltb, cases_order}
-use Rattle.tag_seq.specs.Numbers.{merged, merged_behind}
+use Rattle.tag_seq.specs.Numbers.{merged}
 use Rattle.tag_seq.specs.Laws.{MeasureLaws}
 
 pub merged-nothing : (ps : List (ℕ × ℕ)) → merged ps [] ≡ ps
@@ -17,7 +17,6 @@ merged-more p q ps qs h = rw (le-ltb p.0 q.0 (omega arith), lt-ltb q.0 p.0 h)
 
 pub merged-same : (p q : ℕ × ℕ) (ps qs : List (ℕ × ℕ)) → p.0 ≡ q.0 → merged (p ∷ ps) (q ∷ qs) ≡ (p.0, p.1 + q.1) ∷ merged ps qs
 merged-same p q ps qs e = rw (le-ltb p.0 q.0 (omega arith), le-ltb q.0 p.0 (omega arith))
-
 
 -- what the sum of three maps with the first pairs x, y and z needs of the sums of what is left of them
 record Shorter (x : ℕ × ℕ) (xs : List (ℕ × ℕ)) (y : ℕ × ℕ) (ys : List (ℕ × ℕ)) (z : ℕ × ℕ) (zs : List (ℕ × ℕ)) : Type 0 where

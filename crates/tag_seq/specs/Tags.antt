@@ -1,5 +1,5 @@
 -- Lists of tags: how often a tag stands there, its rank at a place, and the place of one of its occurrences.
-use Rattle.std.specs.Prelude.{ℕ, suc, ◌+◌, ◌-◌, ◌<◌, Bool, true, List, [], ◌∷◌, take, Option, Some, None, nat_eq, nat_lt, ◌&&◌, if◌then◌else◌, slice_index}
+use Rattle.std.specs.Prelude.{ℕ, ◌+◌, ◌-◌, Bool, true, List, [], ◌∷◌, take, Option, Some, None, nat_eq, nat_lt, ◌&&◌, if◌then◌else◌, slice_index}
 use Rattle.std.specs.List.{insert, remove}
 
 -- 1 where two tags are the same, and 0 otherwise

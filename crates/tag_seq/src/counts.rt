@@ -108,7 +108,9 @@ impl Measure for Counts {
     ghost laws = { merged_laws };
 
     fn zero(alloc: Global) -> Counts {
-        Counts { pairs: Vec::new(alloc) }
+        Counts {
+            pairs: Vec::new(alloc),
+        }
     }
 
     fn plus(&self, alloc: Global, other: &Counts) -> Result<Counts, AllocError>

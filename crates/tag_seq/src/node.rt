@@ -157,3 +157,6 @@ fn fork(
     };
     Ok(TagTree::Node(Rc::new(alloc, node)?))
 }
+
+#[cfg(test)]
+mod tests;

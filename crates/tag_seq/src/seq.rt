@@ -18,9 +18,9 @@ use std::sync::ledger::Ledger;
 /// A list of tags, kept as a height-balanced tree whose copies share. Contracts see it as the list.
 #[derive(Drop)]
 pub struct TagSeq {
-    root: TagTree,
-    len: u64,
-    alloc: Global,
+    pub(crate) root: TagTree,
+    pub(crate) len: u64,
+    pub(crate) alloc: Global,
 }
 
 impl Model for TagSeq {

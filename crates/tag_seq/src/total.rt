@@ -31,7 +31,10 @@ impl Total {
         ensures { IfOk result (λ r. AreTotals r.size r.counts (replicate count tag)) }
     {
         let counts = Counts::of_one(alloc, tag, count)?;
-        Ok(Total { size: count, counts })
+        Ok(Total {
+            size: count,
+            counts,
+        })
     }
 
     /// Of a part whose size and counts are kept elsewhere.
@@ -54,11 +57,9 @@ impl Total {
         requires fits { self.now.size + size + 1 < 2 ^ 64 }
         requires ours { (t : ℕ) → number t self.now.counts ≤ self.now.size }
         requires theirs { (t : ℕ) → number t counts.now ≤ size }
-        ensures {
-            IfOk result (λ r.
-                (xs ys : List ℕ) → AreTotals self.now.size self.now.counts xs → AreTotals size counts.now ys →
-                AreTotals r.size r.counts (xs ++ tag ∷ ys))
-        }
+        ensures { IfOk result (λ r.
+            (xs ys : List ℕ) → AreTotals self.now.size self.now.counts xs → AreTotals size counts.now ys →
+            AreTotals r.size r.counts (xs ++ tag ∷ ys)) }
     {
         let one = Counts::of_one(alloc, tag, 1)?;
         let front = self.counts.plus(alloc, &one)?;
@@ -79,11 +80,9 @@ impl Total {
     ) -> Result<Total, AllocError>
         requires size { size < self.now.size }
         requires each { (t : ℕ) → number t counts.now + one_if_same tag t ≤ number t self.now.counts }
-        ensures {
-            IfOk result (λ r.
-                (xs ys : List ℕ) → AreTotals self.now.size self.now.counts (xs ++ tag ∷ ys) →
-                AreTotals size counts.now xs → AreTotals r.size r.counts ys)
-        }
+        ensures { IfOk result (λ r.
+            (xs ys : List ℕ) → AreTotals self.now.size self.now.counts (xs ++ tag ∷ ys) →
+            AreTotals size counts.now xs → AreTotals r.size r.counts ys) }
     {
         let one = Counts::of_one(alloc, tag, 1)?;
         let back = self.counts.minus(alloc, counts)?;

@@ -45,10 +45,10 @@ pub(crate) fn rank<L: Ledger>(tree: &TagTree, tag: u32, upto: u64, steps: &mut S
             if upto <= seen.left_size {
                 return rank(seen.left, tag, upto, steps);
             }
-            let before = seen.left_counts.number(tag);
+            let ahead = seen.left_counts.number(tag);
             let here = count_here(seen.tag, tag);
             let behind = rank(seen.right, tag, upto - seen.left_size - 1, steps);
-            before + here + behind
+            ahead + here + behind
         }
     }
 }

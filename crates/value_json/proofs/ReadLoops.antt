@@ -1,16 +1,15 @@
 -- Loops that read contents one after another: the contents so far, and those of what is left.
 use Rattle.std.proofs.Math.Seq.{drop-cons}
 use Rattle.std.proofs.lemmas.List.{drop_all}
-use Rattle.std.proofs.Common.{◌≡◌, ℕ, zero, suc, ◌+◌, add-one, ◌<◌, ◌≤◌, Bool, true, false, bytes_eq, cond, List, [], ◌∷◌, ◌++◌, map, drop, length, get_or, Option, Some, None, option_map, option_and_then, refl, sym, ap, ◌∙◌, arith}
+use Rattle.std.proofs.Common.{◌≡◌, ℕ, zero, suc, ◌+◌, add-one, ◌<◌, ◌≤◌, true, bytes_eq, cond, List, [], ◌∷◌, ◌++◌, map, drop, length, get_or, Option, Some, None, option_map, option_and_then, refl, sym, ap, ◌∙◌, arith}
 use Rattle.serde_json.specs.Data.{Data, Members, no_members, member}
 use Rattle.serde_json.specs.View.{view, items_view}
 use Rattle.serde_json.specs.declared.value.Value.{Value}
 use Rattle.doc_values.specs.Documents.{DocTree, DocTrees, no_docs, more_docs, docs_of}
-use Rattle.doc_values.specs.Types.{TyTree, FieldTrees, no_fields, more_fields, type_fields_of, field_tree, ty_tree, height, highest}
+use Rattle.doc_values.specs.Types.{TyTree, type_fields_of, field_tree, ty_tree, height, highest}
 use Rattle.doc_values.specs.declared.ty.Ty.{Ty}
 use Rattle.value_json.specs.DocumentJson.{document_of, field_documents, member_documents, item_documents}
 use Rattle.value_json.proofs.Counts.{left_items}
-use Rattle.value_json.proofs.Facts.{map_some}
 
 -- the contents, and then those
 abbrev pub then_docs : List DocTree → DocTrees → DocTrees

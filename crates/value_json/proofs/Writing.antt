@@ -2,14 +2,14 @@
 use Rattle.std.proofs.Math.Seq.{take-suc}
 use Rattle.std.proofs.lemmas.List.{map-append}
 use Rattle.std.proofs.lemmas.Cmp.{nat_list_cmp_total}
-use Rattle.std.proofs.Common.{◌≡◌, ℕ, zero, suc, ◌+◌, add-one, ◌<◌, Bool, true, false, ◌&&◌, List, [], ◌∷◌, ◌++◌, map, take, bytes_eq, cond, length, get_or, Ordering, Less, Equal, Greater, Some, None, option_map, refl, sym, ap, ◌∙◌, arith}
+use Rattle.std.proofs.Common.{◌≡◌, ℕ, zero, suc, ◌+◌, add-one, ◌<◌, true, false, ◌&&◌, List, [], ◌∷◌, ◌++◌, map, take, length, get_or, Ordering, Less, Equal, Greater, Some, None, option_map, refl, sym, ap, ◌∙◌, arith}
 use Rattle.std.specs.Ordering.{nat_cmp, is_lt, ordering_reverse}
 use Rattle.std.specs.Cmp.Lexicographic.{slice_cmp}
 use Rattle.texts.specs.Keys.{is_before, all_after, is_rising}
 use Rattle.serde_json.specs.Data.{Data, object, item, Members, no_members, member, put}
 use Rattle.serde_json.specs.View.{items_of}
 use Rattle.doc_values.specs.Documents.{DocTree, alt, docs_of, doc_tree}
-use Rattle.doc_values.specs.Types.{TyTree, ty_alt, FieldTrees, no_fields, more_fields, type_fields_of, field_tree, ty_tree, names_of, is_well_formed, are_well_formed}
+use Rattle.doc_values.specs.Types.{TyTree, ty_alt, FieldTrees, type_fields_of, field_tree, ty_tree, names_of, is_well_formed, are_well_formed}
 use Rattle.doc_values.specs.Typing.{has, has_fields, has_each, lookup_type, lookup_field}
 use Rattle.doc_values.specs.declared.doc.Doc.{Doc}
 use Rattle.doc_values.specs.declared.ty.Ty.{Ty}

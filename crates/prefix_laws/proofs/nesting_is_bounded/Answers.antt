@@ -1,5 +1,4 @@
-use Rattle.std.proofs.Common.{[], refl}
-use Rattle.program_grammar.specs.Grammar.{program_and_end}
+use Rattle.std.proofs.Common.{[]}
 use Rattle.prefix_laws.proofs.MachineCompleteness.{viable_goes}
 use Rattle.prefix_laws.proofs.NestingBound.{nested_below}
 use Rattle.prefix_laws.proofs.NumberedSymbols.{viable}

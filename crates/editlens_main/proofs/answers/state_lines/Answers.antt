@@ -1,9 +1,9 @@
 use Rattle.std.proofs.Common.{◌++◌, codes, ap, ap₂, ◌∙◌}
-use Rattle.lens_types.specs.Forms.{form_tree}
+use Rattle.lens_forms.specs.Forms.{form_tree}
 use Rattle.value_json.specs.DocumentJson.{tree_of_document}
 use Rattle.answer_text.specs.Lines.{tree_line}
 use Rattle.editlens_main.specs.Views.{triple_tree}
-use Rattle.editlens_main.proofs.InStep.{left_typed, right_typed}
+use Rattle.editlens_main.proofs.RunInStep.{left_typed, right_typed}
 use Rattle.editlens_main.proofs.answers.state_lines.Goals as goal
 
 pub document_line-requires-clause-typed : goal.document_line-requires-clause-typed

@@ -4,8 +4,8 @@ use Rattle.serde_json.specs.View.{items_of}
 use Rattle.serde_json.proofs.Views.{view-Array}
 use Rattle.lens_core.specs.Complements.{comp_tree}
 use Rattle.editlens_main.specs.ComplementJson.{complement_items}
-use Rattle.editlens_main.proofs.Sizes.{comp_size, comps_size, part_size}
-use Rattle.editlens_main.proofs.Written.{items_of_parts}
+use Rattle.editlens_main.proofs.ComplementSizes.{comp_size, comps_size, part_size}
+use Rattle.editlens_main.proofs.ComplementItems.{items_of_parts}
 use Rattle.editlens_main.proofs.complements.+write_complement.Goals as goal
 
 pub write_parts-write_complement-requires : goal.write_parts-write_complement-requires

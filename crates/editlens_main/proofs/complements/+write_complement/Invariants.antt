@@ -2,7 +2,7 @@ use Rattle.std.proofs.Common.{◌≡◌, take, map}
 use Rattle.serde_json.specs.View.{view}
 use Rattle.lens_core.specs.Complements.{comp_tree, comps_tree}
 use Rattle.editlens_main.specs.ComplementJson.{complement_json}
-use Rattle.editlens_main.proofs.Sizes.{comp_size, comps_size}
+use Rattle.editlens_main.proofs.ComplementSizes.{comp_size, comps_size}
 use Rattle.editlens_main.proofs.complements.+write_complement.Given as goal
 
 abbrev pub decreases-write_complement : goal.decreases-write_complement

@@ -1,6 +1,6 @@
 use Rattle.std.proofs.Common.{◌<◌, length, sym, ◌∙◌, append-nil, arith}
 use Rattle.std.proofs.lemmas.Grind.{common_steps}
-use Rattle.editlens_main.proofs.Cutting.{cut_whole}
+use Rattle.editlens_main.proofs.FirstLines.{cut_whole}
 use Rattle.editlens_main.proofs.lines.first_line.Goals as goal
 
 pub returns-in-None : goal.returns-in-None

@@ -1,11 +1,11 @@
 use Rattle.doc_values.specs.Documents.{doc_tree}
 use Rattle.edit_module.specs.Views.{word_tree}
-use Rattle.lens_types.specs.Forms.{form_tree}
+use Rattle.lens_forms.specs.Forms.{form_tree}
 use Rattle.lens_core.specs.Complements.{comp_tree}
 use Rattle.editlens_main.specs.Views.{triple_tree}
 use Rattle.texts.specs.declared.side.Side.TheVariants.{Left}
-use Rattle.editlens_main.proofs.Fitting.{carried_fits}
-use Rattle.editlens_main.proofs.InStep.{left_unfit, left_refused}
+use Rattle.editlens_main.proofs.CarriedCounts.{carried_fits}
+use Rattle.editlens_main.proofs.RunInStep.{left_unfit, left_refused}
 use Rattle.editlens_main.proofs.step.step_left.Goals as goal
 
 pub unreachable-requires : goal.unreachable-requires
@@ -22,8 +22,8 @@ unreachable-requires-in-Err-NoApply-act c =
     left_refused (form_tree c.args.lens.now) c.requires.built (triple_tree c.args.triple.now) (word_tree c.args.word.now) (doc_tree c.in-Ok.left)
     (word_tree c.in-Ok-record_carry.carried.word) (comp_tree c.in-Ok-record_carry.carried.comp) _ c.requires.in_step acts some refused
 
-pub returns-clause-told : goal.returns-clause-told
-returns-clause-told c =
+pub returns-clause-has_line : goal.returns-clause-has_line
+returns-clause-has_line c =
     let some = rw c.form.ensures.is at c.in-Ok-record_carry.ensures in
     carried_fits (form_tree c.args.lens.now) Left (triple_tree c.args.triple.now).comp (word_tree c.args.word.now)
     (word_tree c.in-Ok-record_carry.carried.word, comp_tree c.in-Ok-record_carry.carried.comp) c.requires.built c.requires.fits some

@@ -1,4 +1,4 @@
-use Rattle.editlens_main.proofs.Ending.{sure, never, by_room, reports_for}
+use Rattle.editlens_main.proofs.RunEnds.{sure, never, by_room, reports_for}
 use Rattle.editlens_main.proofs.sure.run_sure.Goals as goal
 
 pub returns-clause-sure : goal.returns-clause-sure

@@ -1,5 +1,5 @@
 use Rattle.std.proofs.Common.{inr, refl, sym, ◌∙◌}
-use Rattle.editlens_main.proofs.Ending.{complete_for}
+use Rattle.editlens_main.proofs.RunEnds.{complete_for}
 use Rattle.editlens_main.proofs.top.editlens.Goals as goal
 
 pub returns-in-Err-clause-usage : goal.returns-in-Err-clause-usage

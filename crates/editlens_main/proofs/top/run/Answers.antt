@@ -1,4 +1,4 @@
-use Rattle.editlens_main.proofs.Ending.{stops_given, stops_sink, reports_given, no_fault, complete, complete_sink}
+use Rattle.editlens_main.proofs.RunEnds.{stops_given, stops_sink, reports_given, no_fault, complete, complete_sink}
 use Rattle.editlens_main.proofs.top.run.Goals as goal
 
 pub returns-in-Ok-give_all-clause-stops : goal.returns-in-Ok-give_all-clause-stops

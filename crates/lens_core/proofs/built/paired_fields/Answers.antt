@@ -1,5 +1,5 @@
 use Rattle.lens_core.proofs.BuiltForms.{rows_not_one, rows_one}
-use Rattle.lens_core.proofs.Lists.{form_tree-rec}
+use Rattle.lens_core.proofs.ComplementTrees.{form_tree-rec}
 use Rattle.lens_core.proofs.built.paired_fields.Goals as goal
 
 pub returns-then-rows-ne1 : goal.returns-then-rows-ne1

@@ -1,12 +1,12 @@
 use Rattle.std.proofs.Common.{◌≡◌, true, rules}
 use Rattle.std.specs.Prelude.{bytes_eq}
 use Rattle.edit_module.specs.Views.{word_tree}
-use Rattle.lens_types.specs.Forms.{form_tree}
+use Rattle.lens_forms.specs.Forms.{form_tree}
 use Rattle.lens_core.specs.Complements.{comp_tree}
 use Rattle.lens_core.specs.Parts.{passes}
 use Rattle.lens_core.specs.Translation.{near}
-use Rattle.lens_core.proofs.Carries.{one_carried}
-use Rattle.lens_core.proofs.Lists.{primitive_tree-at}
+use Rattle.lens_core.proofs.CarriedWords.{one_carried}
+use Rattle.lens_core.proofs.ComplementTrees.{primitive_tree-at}
 use Rattle.lens_core.proofs.carry.carry_one.Goals as goal
 
 pub returns : goal.returns

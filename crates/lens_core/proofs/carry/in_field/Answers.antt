@@ -1,6 +1,6 @@
 use Rattle.std.proofs.Common.{sym, ◌∙◌}
-use Rattle.lens_core.proofs.Carries.{at_word_some}
-use Rattle.lens_core.proofs.Lists.{primitive_tree-at}
+use Rattle.lens_core.proofs.CarriedWords.{at_word_some}
+use Rattle.lens_core.proofs.ComplementTrees.{primitive_tree-at}
 use Rattle.lens_core.proofs.carry.in_field.Goals as goal
 
 pub returns : goal.returns

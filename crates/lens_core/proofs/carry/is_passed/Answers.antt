@@ -1,7 +1,7 @@
 use Rattle.std.proofs.Common.{sym, ◌∙◌}
 use Rattle.lens_core.specs.Complements.{comps_tree}
-use Rattle.lens_core.proofs.Carries.{passes_none}
-use Rattle.lens_core.proofs.Lists.{comp_tree-rec}
+use Rattle.lens_core.proofs.CarriedWords.{passes_none}
+use Rattle.lens_core.proofs.ComplementTrees.{comp_tree-rec}
 use Rattle.lens_core.proofs.carry.is_passed.Goals as goal
 
 pub returns-in-Rec : goal.returns-in-Rec

@@ -1,8 +1,8 @@
 use Rattle.std.proofs.Common.{ap, arith}
 use Rattle.lens_core.specs.Complements.{rec_comp}
 use Rattle.lens_core.specs.declared.comp.Comps.{out-Comps}
-use Rattle.lens_core.proofs.Carries.{only_part_other, only_part_one}
-use Rattle.lens_core.proofs.Lists.{comp_tree-rec, comps_tree-out}
+use Rattle.lens_core.proofs.CarriedWords.{only_part_other, only_part_one}
+use Rattle.lens_core.proofs.ComplementTrees.{comp_tree-rec, comps_tree-out}
 use Rattle.lens_core.proofs.carry.only_part.Goals as goal
 
 pub returns-then-len-ne1 : goal.returns-then-len-ne1

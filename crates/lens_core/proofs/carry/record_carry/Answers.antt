@@ -1,8 +1,8 @@
 use Rattle.std.proofs.Common.{sym, ◌∙◌, arith}
 use Rattle.lens_core.specs.Complements.{comp_tree}
-use Rattle.lens_types.specs.Forms.{form_tree}
+use Rattle.lens_forms.specs.Forms.{form_tree}
 use Rattle.edit_module.specs.Views.{word_tree}
-use Rattle.lens_core.proofs.Carries.{turn_more, turn_all}
+use Rattle.lens_core.proofs.CarriedWords.{turn_more, turn_all}
 use Rattle.lens_core.proofs.carry.record_carry.Goals as goal
 
 pub loop-primitive-preserved : goal.loop-primitive-preserved

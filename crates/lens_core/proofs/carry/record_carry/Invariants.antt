@@ -2,7 +2,7 @@ use Rattle.std.proofs.Common.{◌≡◌, option_map, map, drop}
 use Rattle.edit_module.specs.Words.{word_of}
 use Rattle.edit_module.specs.Views.{primitive_tree, word_tree}
 use Rattle.lens_core.specs.Complements.{comp_tree}
-use Rattle.lens_types.specs.Forms.{form_tree}
+use Rattle.lens_forms.specs.Forms.{form_tree}
 use Rattle.lens_core.specs.Translation.{behind, translate}
 use Rattle.lens_core.proofs.carry.record_carry.Given as goal
 

@@ -1,9 +1,9 @@
 use Rattle.std.proofs.Common.{ap, ◌∙◌, arith}
-use Rattle.lens_types.specs.Forms.{row_tree}
+use Rattle.lens_forms.specs.Forms.{row_tree}
 use Rattle.lens_core.specs.Complements.{missing_rows}
-use Rattle.lens_core.proofs.Lists.{row_tree-both}
+use Rattle.lens_core.proofs.ComplementTrees.{row_tree-both}
 use Rattle.lens_core.proofs.MissingRows.{missing_done, paired_next, left_next, right_next, made_next}
-use Rattle.lens_core.proofs.Sizes.{row_size, row_smaller, rows_size}
+use Rattle.lens_core.proofs.FormSizes.{row_size, row_smaller, rows_size}
 use Rattle.lens_core.proofs.comp.+missing.Goals as goal
 use Rattle.lens_core.proofs.comp.+missing.Goals.{missing_rows-in-Both+in_ok-missing-in-Both+in_ok-push-in-Both, missing_rows-in-OnlyLeft, missing_rows-in-OnlyRight}
 

@@ -1,7 +1,7 @@
 use Rattle.std.proofs.Common.{◌≡◌, ◌++◌, map, drop}
-use Rattle.lens_types.specs.Forms.{form_tree, row_tree, rows_of, rows_tree}
+use Rattle.lens_forms.specs.Forms.{form_tree, row_tree, form_rows_of, rows_tree}
 use Rattle.lens_core.specs.Complements.{comp_tree, comp_list, missing_rows}
-use Rattle.lens_core.proofs.Sizes.{form_size, rows_size}
+use Rattle.lens_core.proofs.FormSizes.{form_size, rows_size}
 use Rattle.lens_core.proofs.comp.+missing.Given as goal
 
 abbrev pub decreases-missing : goal.decreases-missing
@@ -12,5 +12,5 @@ decreases-missing_rows l = rows_size (rows_tree l.rows.now)
 
 abbrev pub invariant-missing_rows-loop-row : goal.invariant-missing_rows-loop-row
 invariant-missing_rows-loop-row l =
-    map comp_tree l.items.items ++ comp_list (missing_rows (rows_of (map row_tree (drop l.row-index l.row-items))))
-    ≡ comp_list (missing_rows (rows_of (map row_tree l.row-items)))
+    map comp_tree l.items.items ++ comp_list (missing_rows (form_rows_of (map row_tree (drop l.row-index l.row-items))))
+    ≡ comp_list (missing_rows (form_rows_of (map row_tree l.row-items)))

@@ -1,8 +1,7 @@
 use Rattle.std.proofs.Common.{◌≡◌, ◌++◌, map, drop}
 use Rattle.program_terms.specs.Terms.{arms_of}
 use Rattle.program_terms.specs.Views.{arm_tree}
-use Rattle.lens_types.specs.Repeats.{arm_names}
-use Rattle.lens_types.specs.SidedNames.{sided}
+use Rattle.lens_types.specs.Repeats.{sided, arm_names}
 use Rattle.lens_types.proofs.names.arm_names.Given as goal
 
 abbrev pub invariant-loop-arm : goal.invariant-loop-arm

@@ -1,8 +1,7 @@
 use Rattle.std.proofs.Common.{◌≡◌, ◌++◌, map, drop}
 use Rattle.program_terms.specs.Terms.{fields_of}
 use Rattle.program_terms.specs.Views.{field_tree}
-use Rattle.lens_types.specs.Repeats.{field_names}
-use Rattle.lens_types.specs.SidedNames.{sided}
+use Rattle.lens_types.specs.Repeats.{sided, field_names}
 use Rattle.lens_types.proofs.names.field_names.Given as goal
 
 abbrev pub invariant-loop-field : goal.invariant-loop-field

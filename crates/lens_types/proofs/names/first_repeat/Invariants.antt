@@ -1,8 +1,10 @@
 use Rattle.std.proofs.Common.{◌≡◌, map, take, drop}
-use Rattle.lens_types.specs.Repeats.{first_repeat, repeat_after}
-use Rattle.lens_types.specs.SidedNames.{sided}
+use Rattle.lens_types.specs.Repeats.{sided, first_repeat, repeat_after}
+use Rattle.lens_types.proofs.RepeatedNames.{key_name}
 use Rattle.lens_types.proofs.names.first_repeat.Given as goal
 
-abbrev pub invariant-loop-i : goal.invariant-loop-i
-invariant-loop-i l =
-    repeat_after (map sided (take l.i l.names)) (map sided (drop l.i l.names)) ≡ first_repeat (map sided l.names)
+abbrev pub invariant-loop-name : goal.invariant-loop-name
+invariant-loop-name l = record {
+  so_far : map key_name l.known.keys ≡ map sided (take l.name-index l.names);
+  repeat : repeat_after (map sided (take l.name-index l.names)) (map sided (drop l.name-index l.names)) ≡ first_repeat (map sided l.names);
+}

@@ -1,6 +1,5 @@
 use Rattle.std.proofs.Common.{◌≡◌, ◌++◌, map, drop}
-use Rattle.lens_types.specs.Repeats.{member_names}
-use Rattle.lens_types.specs.SidedNames.{sided}
+use Rattle.lens_types.specs.Repeats.{sided, member_names}
 use Rattle.lens_types.proofs.names.member_names.Given as goal
 
 abbrev pub invariant-loop-member : goal.invariant-loop-member

@@ -1,6 +1,5 @@
 use Rattle.std.proofs.Common.{◌≡◌, ◌++◌, map, drop}
-use Rattle.lens_types.specs.Repeats.{pair_names}
-use Rattle.lens_types.specs.SidedNames.{sided}
+use Rattle.lens_types.specs.Repeats.{sided, pair_names}
 use Rattle.lens_types.proofs.names.pair_names.Given as goal
 
 abbrev pub invariant-loop-pair : goal.invariant-loop-pair

@@ -1,8 +1,7 @@
 use Rattle.std.proofs.Common.{◌≡◌, ◌++◌, map, drop}
 use Rattle.program_terms.specs.Terms.{rows_of}
 use Rattle.program_terms.specs.Views.{row_tree}
-use Rattle.lens_types.specs.Repeats.{row_names}
-use Rattle.lens_types.specs.SidedNames.{sided}
+use Rattle.lens_types.specs.Repeats.{sided, row_names}
 use Rattle.lens_types.proofs.names.row_names.Given as goal
 
 abbrev pub invariant-loop-row : goal.invariant-loop-row

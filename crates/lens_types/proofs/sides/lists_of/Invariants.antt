@@ -1,6 +1,6 @@
 use Rattle.std.proofs.Common.{◌≡◌, ◌++◌, map, drop}
 use Rattle.doc_values.specs.Types.{fields_of, field_list, field_tree}
-use Rattle.lens_types.specs.Forms.{lists_of}
+use Rattle.lens_forms.specs.Forms.{lists_of}
 use Rattle.lens_types.proofs.sides.lists_of.Given as goal
 
 abbrev pub invariant-loop-field : goal.invariant-loop-field

@@ -1,5 +1,6 @@
 use Rattle.std.proofs.Common.{ap, arith}
-use Rattle.lens_types.proofs.Sizes.{arm_smaller, arms_size, row_smaller, rows_size}
+use Rattle.lens_types.proofs.Sizes.{arm_smaller, row_smaller}
+use Rattle.lens_types.specs.Sizes.{arms_size, rows_size}
 use Rattle.lens_types.proofs.size.+lens_room.Goals as goal
 
 pub rows_room-row_room-requires : goal.rows_room-row_room-requires

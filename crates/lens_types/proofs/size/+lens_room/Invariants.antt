@@ -1,8 +1,9 @@
 use Rattle.std.proofs.Common.{◌≡◌, map, drop}
 use Rattle.program_terms.specs.Terms.{rows_of, arms_of}
 use Rattle.program_terms.specs.Views.{arm_tree, arms_tree, lens_tree, row_tree, rows_tree}
-use Rattle.lens_types.proofs.Sizes.{arms_size, lens_size, row_size, rows_size}
-use Rattle.lens_types.specs.Walks.{earlier_tree, rows_room, arms_room}
+use Rattle.lens_types.specs.Sizes.{lens_size, rows_size, row_size, arms_size}
+use Rattle.lens_types.specs.Entries.{earlier_tree}
+use Rattle.lens_types.specs.PartRooms.{rows_room, arms_room}
 use Rattle.lens_types.proofs.size.+lens_room.Given as goal
 
 abbrev pub invariant-rows_room-loop-row : goal.invariant-rows_room-loop-row

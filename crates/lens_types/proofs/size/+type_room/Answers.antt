@@ -1,5 +1,6 @@
 use Rattle.std.proofs.Common.{ap, arith}
-use Rattle.lens_types.proofs.Sizes.{field_smaller, fields_size}
+use Rattle.lens_types.proofs.Sizes.{field_smaller}
+use Rattle.lens_types.specs.Sizes.{fields_size}
 use Rattle.lens_types.proofs.size.+type_room.Goals as goal
 
 pub fields_room-type_room-requires : goal.fields_room-type_room-requires

@@ -1,8 +1,9 @@
 use Rattle.std.proofs.Common.{◌≡◌, map, drop}
 use Rattle.program_terms.specs.Terms.{fields_of}
 use Rattle.program_terms.specs.Views.{field_tree, fields_tree, type_tree}
-use Rattle.lens_types.proofs.Sizes.{fields_size, type_size}
-use Rattle.lens_types.specs.Walks.{earlier_tree, fields_room}
+use Rattle.lens_types.specs.Sizes.{type_size, fields_size}
+use Rattle.lens_types.specs.Entries.{earlier_tree}
+use Rattle.lens_types.specs.PartRooms.{fields_room}
 use Rattle.lens_types.proofs.size.+type_room.Given as goal
 
 abbrev pub invariant-fields_room-loop-field : goal.invariant-fields_room-loop-field

@@ -1,7 +1,7 @@
 use Rattle.std.proofs.Common.{sym}
 use Rattle.program_terms.specs.Views.{lens_tree}
-use Rattle.lens_types.specs.Walks.{earlier_tree}
-use Rattle.lens_types.proofs.Rooms.{lens_count_none, lens_count_some}
+use Rattle.lens_types.specs.Entries.{earlier_tree}
+use Rattle.lens_types.proofs.PartCounts.{lens_count_none, lens_count_some}
 use Rattle.lens_types.proofs.size.counted_lens.Goals as goal
 
 pub overflow_sub-result : goal.overflow_sub-result

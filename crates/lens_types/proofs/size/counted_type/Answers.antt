@@ -1,7 +1,7 @@
 use Rattle.std.proofs.Common.{sym}
 use Rattle.program_terms.specs.Views.{type_tree}
-use Rattle.lens_types.specs.Walks.{earlier_tree}
-use Rattle.lens_types.proofs.Rooms.{type_count_none, type_count_some}
+use Rattle.lens_types.specs.Entries.{earlier_tree}
+use Rattle.lens_types.proofs.PartCounts.{type_count_none, type_count_some}
 use Rattle.lens_types.proofs.size.counted_type.Goals as goal
 
 pub overflow_sub-result : goal.overflow_sub-result

@@ -6,7 +6,7 @@ abbrev pub invariant-loop-i : goal.invariant-loop-i
 invariant-loop-i l = record {
   our_place : l.i ≤ length l.ours;
   their_place : l.j ≤ length l.theirs;
-  sum : merged l.ours l.theirs ≡ l.pairs.items ++ merged (drop l.i l.ours) (drop l.j l.theirs)
+  sum : merged l.ours l.theirs ≡ l.pairs.items ++ merged (drop l.i l.ours) (drop l.j l.theirs);
 }
 
 abbrev pub decreases-loop-i : goal.decreases-loop-i

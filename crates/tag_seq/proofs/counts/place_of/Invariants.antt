@@ -6,7 +6,7 @@ abbrev pub invariant-loop-low : goal.invariant-loop-low
 invariant-loop-low l = record {
   low : l.low ≤ pairs_before l.tag l.pairs;
   high : pairs_before l.tag l.pairs ≤ l.high;
-  within : l.high ≤ length l.pairs
+  within : l.high ≤ length l.pairs;
 }
 
 abbrev pub decreases-loop-low : goal.decreases-loop-low

@@ -1,4 +1,4 @@
-use Rattle.std.proofs.Common.{inl, inr, ◌≡◌, ◌≤◌, ◌⊎◌, length}
+use Rattle.std.proofs.Common.{inl, inr, ◌≤◌, ◌⊎◌, length}
 use Rattle.tag_seq.proofs.Numbers.{reduced_end}
 use Rattle.tag_seq.proofs.counts.subtract.Goals as goal
 use Rattle.tag_seq.proofs.counts.subtract.Goals.{then-loop-i-test+else-j-theirs, else-loop-i-test}

@@ -1,5 +1,5 @@
-use Rattle.std.proofs.Common.{rules, arith, length-append, length, ◌∷◌, ◌+◌}
-use Rattle.tag_seq.specs.Trees.{tags, height}
+use Rattle.std.proofs.Common.{rules, arith, length-append, length, ◌∷◌}
+use Rattle.tag_seq.specs.Trees.{tags}
 use Rattle.tag_seq.proofs.Heights.{short_node, short_fits}
 use Rattle.tag_seq.proofs.node.fork.Goals as goal
 
@@ -14,5 +14,5 @@ invariant_of-node c = record {
   higher = search rules;
   balanced = c.requires.balanced;
   short = short_node (length (tags c.args.left)) (length (tags c.args.right)) c.height.result c.height-2.result _ _ c.height.ensures.short c.height-2.ensures.short (rw (c.height.ensures.value, c.height-2.ensures.value) c.requires.balanced) (omega (arith, length-append (tags c.args.left) (c.args.tag ∷ tags c.args.right))) (omega arith);
-  small = c.requires.small
+  small = c.requires.small;
 }

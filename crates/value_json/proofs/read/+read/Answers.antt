@@ -1,4 +1,4 @@
-use Rattle.std.proofs.Common.{◌≡◌, true, map, option_map, Some, ap, ap₂, sym, ◌∙◌, arith, drop, bytes_eq, string_bytes, length}
+use Rattle.std.proofs.Common.{◌≡◌, true, map, option_map, Some, ap, sym, ◌∙◌, arith, drop, bytes_eq, string_bytes, length}
 use Rattle.std.proofs.lemmas.List.{map-append}
 use Rattle.std.proofs.lemmas.Result.{err_from_is_err_and}
 use Rattle.value_json.proofs.Levels.{doc_tree-Hold, doc_tree-Alt, refused_with}

@@ -1,12 +1,12 @@
 use Rattle.std.proofs.Common.{arith}
 use Rattle.std.specs.Prelude.{nat_le}
 use Rattle.std.proofs.lemmas.Bool.Decides.{nat_tests}
-use Rattle.lens_types.specs.Forms.{form_tree}
-use Rattle.lens_types.specs.Typing.{is_typed}
-use Rattle.lens_types.specs.Measures.{form_parts, most_parts}
-use Rattle.doc_values.proofs.Typed.{first_and, second_and}
-use Rattle.lens_types.proofs.Lengths.{form_longest}
-use Rattle.lens_types.proofs.Typings.{typed_is}
+use Rattle.lens_forms.specs.Forms.{form_tree}
+use Rattle.lens_forms.specs.Typing.{is_typed}
+use Rattle.lens_forms.specs.Measures.{form_parts, most_parts}
+use Rattle.texts.proofs.Conjunction.{first as first_and, second as second_and}
+use Rattle.lens_forms.proofs.ListLengths.{form_longest}
+use Rattle.lens_forms.proofs.TypingLaws.{typed_is}
 use Rattle.lens_types.proofs.typed.Typed.form.Goals as goal
 
 pub returns-clause-typed : goal.returns-clause-typed

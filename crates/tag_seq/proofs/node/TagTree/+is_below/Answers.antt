@@ -1,6 +1,5 @@
-use Rattle.std.proofs.Common.{rules, ◌≡◌, ◌++◌, ◌∷◌, ◌&&◌, true, false, nat_lt, refl}
+use Rattle.std.proofs.Common.{rules, ◌≡◌, ◌++◌, ◌∷◌, true, false, refl}
 use Rattle.std.proofs.lemmas.Bool.{le-ltb, lt-ltb}
-use Rattle.tag_seq.specs.Tags.{are_below}
 use Rattle.tag_seq.specs.Trees.{tags}
 use Rattle.tag_seq.proofs.Totals.{below_counts, below-append}
 use Rattle.tag_seq.proofs.node.TagTree.+is_below.Goals as goal

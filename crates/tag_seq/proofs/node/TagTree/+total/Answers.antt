@@ -1,4 +1,4 @@
-use Rattle.std.proofs.Common.{rules, arith, ◌≡◌, ◌++◌, length-append, length, ◌∷◌}
+use Rattle.std.proofs.Common.{rules, arith, ◌≡◌, ◌++◌, length-append, ◌∷◌}
 use Rattle.tag_seq.specs.Trees.{tags}
 use Rattle.tag_seq.specs.Totals.{AreTotals}
 use Rattle.tag_seq.proofs.Totals.{totals_within}

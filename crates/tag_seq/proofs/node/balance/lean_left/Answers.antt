@@ -1,6 +1,5 @@
 use Rattle.std.proofs.Common.{rules, ◌≡◌, ◌++◌, ◌∷◌}
 use Rattle.tag_seq.specs.Trees.{tags}
-use Rattle.tag_seq.specs.Totals.{AreTotals}
 use Rattle.tag_seq.proofs.Totals.{front_within}
 use Rattle.tag_seq.proofs.node.balance.lean_left.Goals as goal
 

@@ -1,6 +1,5 @@
 use Rattle.std.proofs.Common.{rules, arith, ap, length, length-append, ◌≡◌, ◌++◌, ◌∷◌, append_assoc}
 use Rattle.tag_seq.specs.Trees.{tags}
-use Rattle.tag_seq.specs.Totals.{AreTotals}
 use Rattle.tag_seq.proofs.Totals.{totals_within, front_within}
 use Rattle.tag_seq.proofs.node.balance.lean_twice_left.Goals as goal
 

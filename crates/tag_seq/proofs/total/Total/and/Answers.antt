@@ -1,4 +1,4 @@
-use Rattle.std.proofs.Common.{refl, arith, ◌+◌}
+use Rattle.std.proofs.Common.{refl, arith}
 use Rattle.tag_seq.proofs.Totals.{totals_around}
 use Rattle.tag_seq.proofs.total.Total.and.Goals as goal
 

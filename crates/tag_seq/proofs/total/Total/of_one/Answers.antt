@@ -1,4 +1,4 @@
-use Rattle.std.proofs.Common.{arith, sym, ◌∙◌}
+use Rattle.std.proofs.Common.{sym, ◌∙◌}
 use Rattle.std.proofs.lemmas.List.{length-replicate}
 use Rattle.tag_seq.proofs.Totals.{count-replicate}
 use Rattle.tag_seq.proofs.total.Total.of_one.Goals as goal

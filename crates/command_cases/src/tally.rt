@@ -1,0 +1,122 @@
+//! All cases of a file, and how many of them differ.
+
+use crate::compare::{run_step, write_difference};
+use crate::step::{Step, read_step};
+use anyhow::{Result, bail};
+use std::alloc::{AllocError, Global};
+
+// How many differing steps of a file are shown.
+const MOST_SHOWN: u64 = 10;
+
+/// How the cases of a file have come out.
+#[derive(Drop)]
+pub struct Tally {
+    /// How many cases have begun.
+    cases: u64,
+    /// How many cases have a step that differs.
+    differ: u64,
+    /// How many cases have a step that cannot be run yet.
+    not_run: u64,
+    /// The number of the next step of the last case.
+    next_step: u64,
+    /// Whether the last case has a step that differs, or one that cannot be run yet.
+    last_differs: bool,
+    last_is_not_run: bool,
+    /// What was wanted and what came, for the first steps that differ.
+    text: Vec<u8>,
+}
+
+impl Tally {
+    fn new(alloc: Global) -> Self {
+        Tally {
+            cases: 0,
+            differ: 0,
+            not_run: 0,
+            next_step: 0,
+            last_differs: false,
+            last_is_not_run: false,
+            text: Vec::new(alloc),
+        }
+    }
+
+    /// What was wanted and what came, for the first steps that differ.
+    pub fn differences(&self) -> &[u8] {
+        &self.text
+    }
+
+    /// Whether there are cases, each was run, and each agrees.
+    pub fn is_passed(&self) -> bool {
+        self.cases > 0 && self.differ == 0 && self.not_run == 0
+    }
+
+    /// How many cases there are and how many differ, and how many could not be run, if any.
+    pub fn line(&self, alloc: Global, name: &str) -> Result<String, AllocError> {
+        let (cases, differ, not_run) = (self.cases, self.differ, self.not_run);
+        if not_run > 0 {
+            return format!(in alloc; "{name}: {cases} cases, {differ} differ, {not_run} not run");
+        }
+        format!(in alloc; "{name}: {cases} cases, {differ} differ")
+    }
+
+    // Counts a step, which begins a case if its number is 0. Any other number is one more than that of the step before.
+    fn count_step(&mut self, number: u64) -> Result<()> {
+        if number == 0 {
+            self.cases = self.cases.saturating_add(1);
+            self.last_differs = false;
+            self.last_is_not_run = false;
+        } else if number != self.next_step {
+            bail!("a step of case {} is missing", self.cases);
+        }
+        self.next_step = number.saturating_add(1);
+        Ok(())
+    }
+
+    // Counts the last case among those that differ, once.
+    fn count_difference(&mut self) {
+        if !self.last_differs {
+            self.differ = self.differ.saturating_add(1);
+        }
+        self.last_differs = true;
+    }
+
+    // Counts the last case among those that cannot be run yet, once.
+    fn count_not_run(&mut self) {
+        if !self.last_is_not_run {
+            self.not_run = self.not_run.saturating_add(1);
+        }
+        self.last_is_not_run = true;
+    }
+
+    // Runs a step of the last case.
+    fn take_step(&mut self, alloc: Global, step: &Step) -> Result<()> {
+        if step.has_store() {
+            self.count_not_run();
+            return Ok(());
+        }
+        let outcome = run_step(alloc, step)?;
+        if outcome.agrees(step) {
+            return Ok(());
+        }
+        self.count_difference();
+        if self.differ <= MOST_SHOWN {
+            write_difference(alloc, &mut self.text, self.cases, step, &outcome)?;
+        }
+        Ok(())
+    }
+}
+
+/// Runs all cases of a file. A case begins with each step whose number is 0.
+pub fn run_file(alloc: Global, bytes: &[u8]) -> Result<Tally> {
+    let mut tally = Tally::new(alloc);
+    let mut place = 0;
+    for _ in 0..bytes.len() {
+        if place >= bytes.len() {
+            break;
+        }
+        let (step, length) = read_step(alloc, &bytes[place..])?;
+        tally.count_step(step.head.step)?;
+        tally.take_step(alloc, &step)?;
+        place = place.saturating_add(length);
+    }
+    Ok(tally)
+}

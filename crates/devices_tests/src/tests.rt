@@ -1,0 +1,124 @@
+//! Each call that allocates once with its result compared, devices that fail on demand, and a reader and a writer that fail.
+ghost use Rattle.std.specs.Prelude.{◌≡◌, ◌<◌, All};
+
+use lens_io::{
+    Bytes, GiveFault, MemSink, MemSource, RealSink, RealSource, Sink, SureSink, SureSource,
+    TakeFault, give_all, take_all,
+};
+use std::alloc::{AllocError, Global};
+use std::io::{self, ErrorKind, Read, Write};
+use std::test::Fail;
+
+// A source of five bytes whose first two pieces have 1 and 2 bytes, and whose call with this number fails.
+fn five(alloc: Global, fails: u64) -> Result<MemSource, AllocError> {
+    let bytes = Bytes::from_vec(b"abcde".as_slice().to_vec(alloc)?);
+    let pieces = vec![in alloc; 1, 2]?;
+    Ok(MemSource::new(bytes, pieces, vec![in alloc; fails]?))
+}
+
+#[test]
+fn a_source_gives_pieces_and_fails(rt: HostRuntime) -> Result<(), Fail> {
+    let alloc = rt.alloc();
+    // three pieces and the end are four calls
+    let bytes = take_all(alloc, &mut five(alloc, 4)?, 5)?;
+    assert_eq!(rt; bytes.as_slice(), b"abcde".as_slice());
+    for fails in 0..4 {
+        let fault = take_all(alloc, &mut five(alloc, fails)?, 5);
+        assert_eq!(rt; fault.err(), Some(TakeFault::SourceFault));
+    }
+    let fault = take_all(alloc, &mut five(alloc, 4)?, 4);
+    assert_eq!(rt; fault.err(), Some(TakeFault::TooLong));
+    Ok(())
+}
+
+#[test]
+fn a_sink_takes_pieces_and_fails(rt: HostRuntime) -> Result<(), Fail> {
+    let alloc = rt.alloc();
+    // the lengths of the first pieces, the call that fails, and how many bytes the sink has at the end
+    for (second, fails, held) in [(1, 3, 5), (0, 9, 2), (1, 1, 2), (1, 0, 0)] {
+        let mut sink = MemSink::new(alloc, vec![in alloc; 2, second]?, vec![in alloc; fails]?);
+        let result = give_all(&mut sink, b"abcde");
+        assert_eq!(rt; result.is_ok(), held == 5, "at {fails}");
+        assert_eq!(rt; sink.bytes().len(), held);
+        assert_eq!(rt; sink.memory_faults(), 0);
+    }
+    Ok(())
+}
+
+#[test]
+fn sure_devices_never_fail(rt: HostRuntime) -> Result<(), Fail> {
+    let alloc = rt.alloc();
+    let mut source = SureSource::new(Bytes::from_vec(b"abc".as_slice().to_vec(alloc)?));
+    let bytes = take_all(alloc, &mut source, 3)?;
+    assert_eq!(rt; bytes.as_slice(), b"abc".as_slice());
+    let mut sink = SureSink::new(alloc, 2)?;
+    assert_eq!(rt; sink.give(b"abc"), Ok(2));
+    assert_eq!(rt; give_all(&mut sink, b"d"), Err(GiveFault::SinkFault));
+    assert_eq!(rt; sink.bytes(), b"ab".as_slice());
+    Ok(())
+}
+
+// Pieces have 65,536 and 131,072 bytes, so the rest and the end are the third and the fourth call.
+#[test]
+fn pieces_grow(rt: HostRuntime) -> Result<(), Fail> {
+    let alloc = rt.alloc();
+    for fails in [3, 4] {
+        let bytes = Bytes::from_vec(vec![in alloc; 7; 250_000]?);
+        let mut source = MemSource::new(bytes, Vec::new(alloc), vec![in alloc; fails]?);
+        let result = take_all(alloc, &mut source, 250_000);
+        assert_eq!(rt; result.is_ok(), fails == 4);
+    }
+    Ok(())
+}
+
+// A reader and a writer that fail at their third call.
+#[derive(Drop)]
+struct Broken {
+    calls: u8,
+}
+
+impl Read for Broken {
+    fn read(&mut self, into: &mut [u8]) -> io::Result<usize> {
+        self.calls = self.calls.saturating_add(1);
+        if self.calls == 3 || into.is_empty() {
+            return Err(io::Error::from(ErrorKind::BrokenPipe));
+        }
+        into[0] = b'r';
+        Ok(1)
+    }
+}
+
+impl Write for Broken {
+    fn write(&mut self, bytes: &[u8]) -> io::Result<usize> {
+        self.calls = self.calls.saturating_add(1);
+        if self.calls == 3 {
+            return Err(io::Error::from(ErrorKind::BrokenPipe));
+        }
+        Ok(bytes.len().min(1))
+    }
+
+    fn flush(&mut self) -> io::Result<()> {
+        Ok(())
+    }
+}
+
+#[test]
+fn a_reader_is_a_source(rt: HostRuntime) -> Result<(), Fail> {
+    let alloc = rt.alloc();
+    let bytes = take_all(alloc, &mut RealSource::new(b"ab\nc".as_slice()), 4)?;
+    assert_eq!(rt; bytes.as_slice(), b"ab\nc".as_slice());
+    let fault = take_all(alloc, &mut RealSource::new(Broken { calls: 0 }), 9);
+    assert_eq!(rt; fault.err(), Some(TakeFault::SourceFault));
+    Ok(())
+}
+
+#[test]
+fn a_writer_is_a_sink(rt: HostRuntime) -> Result<(), Fail> {
+    let mut out = Vec::new(rt.alloc());
+    give_all(&mut RealSink::new(&mut out), b"ab\nc")?;
+    assert_eq!(rt; out.as_slice(), b"ab\nc".as_slice());
+    let mut broken = RealSink::new(Broken { calls: 0 });
+    assert_eq!(rt; give_all(&mut broken, b"abc"), Err(GiveFault::SinkFault));
+    assert_eq!(rt; broken.give(b"d"), Ok(1));
+    Ok(())
+}

@@ -1,0 +1,4 @@
+mod Examples
+pub mod ListLengths
+pub mod SortedFields
+pub mod TypingLaws

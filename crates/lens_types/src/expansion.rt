@@ -1,0 +1,266 @@
+//! Types, forms and sides with all names expanded.
+//!
+//! A lens is seen among the first definitions of a program, as many as `scope`. Only the main lens is expanded to its
+//! form; a side is expanded where a composition compares it, and for the main lens.
+
+ghost use Rattle.std.specs.Prelude.{◌≡◌, IfOk, map, take};
+ghost use Rattle.doc_values.specs.Types.{ty_tree, fields_tree as ty_fields, fields_of as ty_fields_of, field_tree as ty_field};
+ghost use Rattle.program_terms.specs.Views.{type_tree, fields_tree, lens_tree, row_tree as lens_row, rows_tree as lens_rows, arms_tree as lens_arms};
+ghost use Rattle.lens_forms.specs.Forms.{form_tree, form_rec, no_rows, row_tree, rows_tree, arms_tree, sorted};
+ghost use Rattle.lens_types.specs.Earlier.{expanded_type, expanded_fields, expanded_form, expanded_rows, expanded_arms, enum_type, alternatives_type, bijection, alternatives, partition};
+ghost use Rattle.lens_types.specs.Entries.{earlier_tree};
+ghost use Rattle.lens_types.specs.Nodes.{expanded_row};
+
+use crate::earlier::Earlier;
+use doc_values::{Fields, Ty};
+use lens_forms::{Form, FormArms, FormRow, FormRows};
+use program_terms::{Arms, Lens, Pairs, Row, Rows, TyExpr, TyFields};
+use std::alloc::{AllocError, Global};
+use texts::{Name, Names, Twin};
+
+// ---- types
+
+// The type with its names expanded.
+#[cycle(expanded_type)]
+pub(crate) fn expanded_type(
+    alloc: Global,
+    earlier: &Earlier<'_>,
+    scope: usize,
+    ty: &TyExpr,
+) -> Result<Ty, AllocError>
+    ensures { IfOk result (λ t. ty_tree t ≡ expanded_type (take scope (earlier_tree earlier.now)) (type_tree ty.now)) }
+{
+    match ty {
+        TyExpr::Unit => Ok(Ty::Unit),
+        TyExpr::Bool => Ok(Ty::Bool),
+        TyExpr::Int => Ok(Ty::Int),
+        TyExpr::Text => Ok(Ty::Text),
+        TyExpr::Enum(members) => enum_type(alloc, members),
+        TyExpr::Rec(fields) => {
+            let items = expanded_fields(alloc, earlier, scope, fields)?;
+            Ok(Ty::Rec(Fields::from_vec(sorted(items)?)))
+        }
+        TyExpr::Alt(fields) => {
+            let items = expanded_fields(alloc, earlier, scope, fields)?;
+            Ok(alternatives_type(Fields::from_vec(items)))
+        }
+        TyExpr::List(inner) => {
+            let inner = expanded_type(alloc, earlier, scope, inner)?;
+            Ok(Ty::List(Box::new(alloc, inner)?))
+        }
+        TyExpr::Keyed(inner) => {
+            let inner = expanded_type(alloc, earlier, scope, inner)?;
+            Ok(Ty::Keyed(Box::new(alloc, inner)?))
+        }
+        TyExpr::Tree(inner) => {
+            let inner = expanded_type(alloc, earlier, scope, inner)?;
+            Ok(Ty::Tree(Box::new(alloc, inner)?))
+        }
+        TyExpr::Named(name) => match earlier.type_named(name, scope) {
+            Some(known) => expanded_type(alloc, earlier, known.scope, known.ty),
+            None => Ok(Ty::Unit),
+        },
+    }
+}
+
+// Fields, or tags, with the names in their types expanded, in written order.
+#[cycle(expanded_type)]
+pub(crate) fn expanded_fields(
+    alloc: Global,
+    earlier: &Earlier<'_>,
+    scope: usize,
+    fields: &TyFields,
+) -> Result<Vec<(Name, Ty)>, AllocError>
+    ensures { IfOk result (λ fs. ty_fields_of (map ty_field fs.items)
+        ≡ expanded_fields (take scope (earlier_tree earlier.now)) (fields_tree fields.now)) }
+{
+    let mut items = Vec::new(alloc);
+    for field in fields.as_slice() {
+        let ty = expanded_type(alloc, earlier, scope, &field.1)?;
+        items.push((field.0.twin(alloc)?, ty))?;
+    }
+    Ok(items)
+}
+
+// An enum; that of nothing is the record of nothing.
+fn enum_type(alloc: Global, members: &Names) -> Result<Ty, AllocError>
+    ensures { IfOk result (λ t. ty_tree t ≡ enum_type members.now) }
+{
+    if members.is_empty() {
+        return Ok(Ty::Rec(Fields::from_vec(Vec::new(alloc))));
+    }
+    Ok(Ty::Enum(members.twin(alloc)?))
+}
+
+// Alternatives; those of nothing are the record of nothing.
+pub(crate) fn alternatives_type(tags: Fields) -> Ty
+    ensures { ty_tree result ≡ alternatives_type (ty_fields tags) }
+{
+    if tags.is_empty() {
+        Ty::Rec(tags)
+    } else {
+        Ty::Alt(tags)
+    }
+}
+
+// The fields sorted by bytes.
+pub(crate) fn sorted(fields: Vec<(Name, Ty)>) -> Result<Vec<(Name, Ty)>, AllocError>
+    ensures { IfOk result (λ fs. ty_fields_of (map ty_field fs.items) ≡ sorted (ty_fields_of (map ty_field fields.items))) }
+{
+    let mut sorted = fields;
+    sorted.sort_by(|a, b| a.0.as_str().cmp(b.0.as_str()))?;
+    Ok(sorted)
+}
+
+// ---- forms
+
+// The lens with its names expanded.
+#[cycle(expanded_lens)]
+pub(crate) fn expanded_lens(
+    alloc: Global,
+    earlier: &Earlier<'_>,
+    scope: usize,
+    lens: &Lens,
+) -> Result<Form, AllocError>
+    ensures { IfOk result (λ f. form_tree f ≡ expanded_form (take scope (earlier_tree earlier.now)) (lens_tree lens.now)) }
+{
+    match lens {
+        Lens::Id(ty) => Ok(Form::Id(expanded_type(alloc, earlier, scope, ty)?)),
+        Lens::Bij(pairs) => bijection(alloc, pairs),
+        Lens::Disc(left, right) => {
+            let left = expanded_type(alloc, earlier, scope, left)?;
+            let right = expanded_type(alloc, earlier, scope, right)?;
+            Ok(Form::Disc(left, right))
+        }
+        Lens::Then(first, second) => {
+            let first = expanded_lens(alloc, earlier, scope, first)?;
+            let second = expanded_lens(alloc, earlier, scope, second)?;
+            Ok(Form::Then(Box::new(alloc, first)?, Box::new(alloc, second)?))
+        }
+        Lens::Rec(rows) => Ok(Form::Rec(expanded_rows(alloc, earlier, scope, rows)?)),
+        Lens::Alt(arms) => Ok(alternatives(
+            alloc,
+            expanded_arms(alloc, earlier, scope, arms)?,
+        )),
+        Lens::Each(inner) => {
+            let inner = expanded_lens(alloc, earlier, scope, inner)?;
+            Ok(Form::Each(Box::new(alloc, inner)?))
+        }
+        Lens::Keyed(inner) => {
+            let inner = expanded_lens(alloc, earlier, scope, inner)?;
+            Ok(Form::Keyed(Box::new(alloc, inner)?))
+        }
+        Lens::Tree(inner) => {
+            let inner = expanded_lens(alloc, earlier, scope, inner)?;
+            Ok(Form::Tree(Box::new(alloc, inner)?))
+        }
+        Lens::Part(fields) => {
+            let tags = expanded_fields(alloc, earlier, scope, fields)?;
+            Ok(partition(alloc, Fields::from_vec(tags)))
+        }
+        Lens::Inv(inner) => {
+            let inner = expanded_lens(alloc, earlier, scope, inner)?;
+            Ok(Form::Inv(Box::new(alloc, inner)?))
+        }
+        Lens::Named(name) => match earlier.lens_named(name, scope) {
+            Some(known) => expanded_lens(alloc, earlier, known.scope, known.lens),
+            None => Ok(Form::Id(Ty::Unit)),
+        },
+    }
+}
+
+#[cycle(expanded_lens)]
+fn expanded_rows(
+    alloc: Global,
+    earlier: &Earlier<'_>,
+    scope: usize,
+    rows: &Rows,
+) -> Result<FormRows, AllocError>
+    ensures { IfOk result (λ rs. rows_tree rs ≡ expanded_rows (take scope (earlier_tree earlier.now)) (lens_rows rows.now)) }
+{
+    let mut items = Vec::new(alloc);
+    for row in rows.as_slice() {
+        items.push(expanded_row(alloc, earlier, scope, row)?)?;
+    }
+    Ok(FormRows::from_vec(items))
+}
+
+#[cycle(expanded_lens)]
+fn expanded_row(
+    alloc: Global,
+    earlier: &Earlier<'_>,
+    scope: usize,
+    row: &Row,
+) -> Result<FormRow, AllocError>
+    ensures { IfOk result (λ r. row_tree r ≡ expanded_row (take scope (earlier_tree earlier.now)) (lens_row row.now)) }
+{
+    match row {
+        Row::Both(left, right, lens) => {
+            let form = expanded_lens(alloc, earlier, scope, lens)?;
+            Ok(FormRow::Both(left.twin(alloc)?, right.twin(alloc)?, form))
+        }
+        Row::OnlyLeft(name, ty) => {
+            let ty = expanded_type(alloc, earlier, scope, ty)?;
+            Ok(FormRow::OnlyLeft(name.twin(alloc)?, ty))
+        }
+        Row::OnlyRight(name, ty) => {
+            let ty = expanded_type(alloc, earlier, scope, ty)?;
+            Ok(FormRow::OnlyRight(name.twin(alloc)?, ty))
+        }
+    }
+}
+
+#[cycle(expanded_lens)]
+fn expanded_arms(
+    alloc: Global,
+    earlier: &Earlier<'_>,
+    scope: usize,
+    arms: &Arms,
+) -> Result<FormArms, AllocError>
+    ensures { IfOk result (λ others. arms_tree others ≡ expanded_arms (take scope (earlier_tree earlier.now)) (lens_arms arms.now)) }
+{
+    let mut items = Vec::new(alloc);
+    for arm in arms.as_slice() {
+        let form = expanded_lens(alloc, earlier, scope, &arm.2)?;
+        items.push((arm.0.twin(alloc)?, arm.1.twin(alloc)?, form))?;
+    }
+    Ok(FormArms::from_vec(items))
+}
+
+// A bijection; that of nothing is the record of nothing.
+fn bijection(alloc: Global, pairs: &Pairs) -> Result<Form, AllocError>
+    ensures { IfOk result (λ f. form_tree f ≡ bijection pairs.now) }
+{
+    if pairs.as_slice().is_empty() {
+        return Ok(empty_record(alloc));
+    }
+    Ok(Form::Bij(pairs.twin(alloc)?))
+}
+
+// Alternatives; those of nothing are the record of nothing.
+fn alternatives(alloc: Global, arms: FormArms) -> Form
+    ensures { form_tree result ≡ alternatives (arms_tree arms) }
+{
+    if arms.as_slice().is_empty() {
+        empty_record(alloc)
+    } else {
+        Form::Alt(arms)
+    }
+}
+
+// A partition; that of nothing is the record of nothing.
+fn partition(alloc: Global, tags: Fields) -> Form
+    ensures { form_tree result ≡ partition (ty_fields tags) }
+{
+    if tags.is_empty() {
+        empty_record(alloc)
+    } else {
+        Form::Part(tags)
+    }
+}
+
+fn empty_record(alloc: Global) -> Form
+    ensures { form_tree result ≡ form_rec no_rows }
+{
+    Form::Rec(FormRows::from_vec(Vec::new(alloc)))
+}

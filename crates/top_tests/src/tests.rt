@@ -1,0 +1,112 @@
+//! Each call that allocates once, over ample memory, with its result compared. Whole commands are cases of command_cases.
+use answer_text::{
+    fault_line, no_apply_line, ok_line, syntax_line, tree_line, type_line, typing_line,
+};
+use doc_values::Ty;
+use edit_journal::EntryFault;
+use edit_json::{read_word, write_word_text};
+use edit_module::{Cause, Word};
+use editlens_main::{Status, run_sure};
+use lens_core::{Comp, is_built, missing, record_carry};
+use lens_io::{Bytes, SureSink, SureSource};
+use lens_syntax::{ProgramFault, read_program};
+use lens_types::{TypeFault, check};
+use serde_json::Value;
+use std::alloc::{AllocError, Global};
+use std::test::Fail;
+use texts::{Side, Twin};
+
+// The word of a JSON text.
+fn word(alloc: Global, text: &str) -> Result<Word, Fail> {
+    let tree = Value::from_str(alloc, text)?;
+    Ok(read_word(alloc, &tree)?)
+}
+
+// The complement of one paired row.
+fn is_one_nil(comp: &Comp) -> bool {
+    match comp {
+        Comp::Nil => false,
+        Comp::Rec(comps) => matches!(comps.as_slice(), [Comp::Nil]),
+    }
+}
+
+#[test]
+fn a_word_is_translated(rt: HostRuntime) -> Result<(), Fail> {
+    let alloc = rt.alloc();
+    let program = read_program(alloc, b"main {a ~ b: id int}")?;
+    let lens = check(alloc, &program).ok().ok_or("no type")?;
+    assert!(rt; is_built(lens.form()));
+    let comp = missing(alloc, lens.form())?.twin(alloc)?;
+    assert!(rt; is_one_nil(&comp));
+    let edit = word(alloc, "[{\"at\":[\"a\",[{\"set\":5}]]}]")?;
+    let carried = record_carry(alloc, lens.form(), Side::Left, &comp, &edit)?.twin(alloc)?;
+    let text = write_word_text(alloc, &carried.word)?;
+    assert_eq!(rt; text.as_str(), "[{\"at\":[\"b\",[{\"set\":5}]]}]");
+    assert!(rt; is_one_nil(&carried.comp));
+    Ok(())
+}
+
+// Whether a line is this text.
+fn shows(line: Result<Bytes, AllocError>, text: &str) -> bool {
+    match line {
+        Ok(line) => line.as_slice() == text.as_bytes(),
+        Err(_) => false,
+    }
+}
+
+#[test]
+fn answers_are_lines(rt: HostRuntime) -> Result<(), Fail> {
+    let alloc = rt.alloc();
+    let edit = word(alloc, "[{\"at\":[\"b\",[{\"set\":-5}]]}]")?;
+    let text = "ok 12 left [{\"at\":[\"b\",[{\"set\":-5}]]}]\n";
+    assert!(rt; shows(ok_line(alloc, 12, Side::Left, &edit), text));
+    let text = "refused 18446744073709551615 no-apply 20 deep\n";
+    assert!(rt; shows(no_apply_line(alloc, u64::MAX, 20, Cause::Deep), text));
+    let line = fault_line(alloc, 4, &EntryFault::NotAnEdit);
+    assert!(rt; shows(line, "refused 4 not-an-edit\n"));
+    Ok(())
+}
+
+#[test]
+fn refusals_and_types_are_lines(rt: HostRuntime) -> Result<(), Fail> {
+    let alloc = rt.alloc();
+    let line = syntax_line(alloc, &ProgramFault::RepeatedName { at: 19 });
+    assert!(rt; shows(line, "program refused: repeated-name 19\n"));
+    let fault = TypeFault::MiddleDiffers {
+        left: Ty::Int,
+        right: Ty::Text,
+    };
+    let line = typing_line(alloc, &fault);
+    assert!(rt; shows(line, "program refused: middle-differs int text\n"));
+    assert!(rt; shows(type_line(alloc, Side::Right, &Ty::Bool), "right bool\n"));
+    assert!(rt;
+        shows(
+            tree_line(alloc, "complement", &Value::Null),
+            "complement null\n"
+        )
+    );
+    Ok(())
+}
+
+const SCRIPT: &[u8] = b"main {a ~ b: id int}\n---\n{\"side\":\"left\",\"edit\":[{\"add\":1}]}";
+
+const REPORT: &[u8] =
+    b"refused 1 no-apply 0 kind\nleft {\"a\":0}\nright {\"b\":0}\ncomplement {\"rec\":[null]}\n";
+
+// A run over devices that do not fail: its report, and what a sink with less room holds.
+#[test]
+fn a_run_over_sure_devices(rt: HostRuntime) -> Result<(), Fail> {
+    let alloc = rt.alloc();
+    let mut words = Vec::new(alloc);
+    words.push(String::from_str(alloc, "editlens")?)?;
+    words.push(String::from_str(alloc, "run")?)?;
+    for (room, status) in [(78, Status::SinkFault), (79, Status::SomeRefused)] {
+        let mut source = SureSource::new(Bytes::from_vec(SCRIPT.to_vec(alloc)?));
+        assert!(rt; SCRIPT.len() < 1000);
+        let mut sink = SureSink::new(alloc, room)?;
+        assert_eq!(rt; run_sure(alloc, &words, &mut source, &mut sink), status);
+        assert_eq!(rt; sink.bytes().len(), room as usize);
+        assert!(rt; REPORT.starts_with(sink.bytes()));
+    }
+    Ok(())
+}
