@@ -51,11 +51,17 @@ def chained(count):
     return text + 'main each l%d\n' % count
 
 
+def short(number):
+    """The name of a number, of four characters."""
+    digits = '0123456789abcdefghijklmnopqrstuvwxyz'
+    return 'q' + digits[number // 36 // 36] + digits[number // 36 % 36] + digits[number % 36]
+
+
 def compared(count):
     """Definitions each of which compares both sides of one record of 1,000 rows."""
-    text = 'lens b = {' + ', '.join('f%x ~ f%x: id int' % (k, k) for k in range(1000)) + '};\n'
+    text = 'lens b={' + ','.join('%s~%s:id int' % (short(k)[1:], short(k)[1:]) for k in range(15000, 16000)) + '};\n'
     for k in range(count):
-        text += 'lens l%x=then(b,b);' % k
+        text += 'lens %s=then(b,b);' % short(k)
     return text + 'main b\n'
 
 

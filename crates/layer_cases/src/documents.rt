@@ -108,8 +108,7 @@ fn has_type(alloc: Global, case: &Case<'_>) -> Result<bool> {
 
 fn find(alloc: Global, case: &Case<'_>) -> Result<Value> {
     let fields = values::fields(alloc, case.argument("fields")?)?;
-    let name = values::name(alloc, case.argument("name")?)?;
-    match fields.find(&name) {
+    match fields.find(case.text("name")?) {
         Some((place, ty)) => {
             let ty = text(alloc, write_type(alloc, ty)?.as_str())?;
             let place = Value::from(place as u64);

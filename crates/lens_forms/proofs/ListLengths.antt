@@ -1,6 +1,6 @@
 -- No list in a type or in a form is longer than the type or the form has parts.
 use Rattle.std.proofs.Common.{◌≤◌, length, arith}
-use Rattle.doc_values.specs.Types.{TyTree, ty_unit, ty_bool, ty_int, ty_text, ty_enum, ty_rec, ty_alt, ty_list, ty_keyed, ty_ordered, FieldTrees, no_fields, field, names_of}
+use Rattle.doc_values.specs.Types.{TyTree, ty_unit, ty_bool, ty_int, ty_text, ty_enum, ty_rec, ty_alt, ty_list, ty_keyed, ty_ordered, FieldTrees, no_fields, more_fields, names_of}
 use Rattle.lens_forms.specs.Forms.{FormTree, form_id, form_bij, form_disc, form_then, form_rec, form_alt, form_each, form_keyed, form_ordered, form_part, form_inv, RowTrees, no_rows, both, only_left, only_right, row_list, ArmTrees, no_arms, more_arms, arm_list}
 use Rattle.lens_forms.specs.Measures.{type_parts, fields_parts, form_parts, rows_parts, arms_parts, longest_in_type, longest_in_fields, longest_list, longest_in_rows, longest_in_arms}
 
@@ -8,7 +8,7 @@ use Rattle.lens_forms.specs.Measures.{type_parts, fields_parts, form_parts, rows
 
 fields_within : (fs : FieldTrees) → length (names_of fs) ≤ fields_parts fs
 fields_within no_fields = omega arith
-fields_within (field n t fs) = omega (arith, fields_within fs)
+fields_within (more_fields n t fs) = omega (arith, fields_within fs)
 
 rows_within : (rows : RowTrees) → length (row_list rows) ≤ rows_parts rows
 rows_within no_rows = omega arith
@@ -37,7 +37,7 @@ mutual
 
   fields_longest : (fs : FieldTrees) → longest_in_fields fs ≤ fields_parts fs
   fields_longest no_fields = omega arith
-  fields_longest (field n t fs) = omega (arith, type_longest t, fields_longest fs)
+  fields_longest (more_fields n t fs) = omega (arith, type_longest t, fields_longest fs)
 
 mutual
   pub form_longest : (f : FormTree) → longest_list f ≤ form_parts f

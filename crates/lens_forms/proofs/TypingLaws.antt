@@ -2,7 +2,7 @@
 use Rattle.std.proofs.Common.{◌≡◌, ℕ, true, ◌&&◌, List, [], ◌∷◌, refl, ap, ap₂, sym, ◌∙◌, subst}
 use Rattle.std.specs.Prelude.{not}
 use Rattle.texts.specs.Keys.{is_rising, has_name}
-use Rattle.doc_values.specs.Types.{TyTree, ty_rec, ty_alt, ty_list, ty_keyed, ty_ordered, FieldTrees, no_fields, field, names_of, are_distinct, are_choices, is_well_formed, are_well_formed, is_same_ty}
+use Rattle.doc_values.specs.Types.{TyTree, ty_rec, ty_alt, ty_list, ty_keyed, ty_ordered, FieldTrees, no_fields, more_fields, names_of, are_distinct, are_choices, is_well_formed, are_well_formed, is_same_ty}
 use Rattle.doc_values.proofs.SameTypes.{is_same_ty-equal, is_same_ty-refl}
 use Rattle.texts.proofs.Conjunction.{both as both_true, first as first_and, second as second_and}
 use Rattle.lens_forms.specs.Forms.{FormTree, form_id, form_bij, form_disc, form_then, form_rec, form_alt, form_each, form_keyed, form_ordered, form_part, form_inv, RowTrees, no_rows, both, only_left, only_right, ArmTrees, no_arms, more_arms, lefts, rights, insert_field, sorted, lists_of, left_type, right_type, left_fields, right_fields, left_tags, right_tags}
@@ -113,7 +113,7 @@ mutual
   typed_arm_tags (more_arms a b l arms) ls rs h =
       let inner = typed_types l h.0 h.1 h.4 in
       let rest = typed_arm_tags arms h.2 h.3 h.5 in
-      (h.6 ∙ ap₂ (field a) inner.0 rest.0, h.7 ∙ ap₂ (field b) inner.1 rest.1)
+      (h.6 ∙ ap₂ (more_fields a) inner.0 rest.0, h.7 ∙ ap₂ (more_fields b) inner.1 rest.1)
 
 -- ---- what is typed passes the test
 
@@ -187,11 +187,11 @@ right_tags-names (more_arms a b l arms) = ap (λ ns. b ∷ ns) (right_tags-names
 
 lists_of-names : (fs : FieldTrees) → names_of (lists_of fs) ≡ names_of fs
 lists_of-names no_fields = refl
-lists_of-names (field n t fs) = ap (λ ns. n ∷ ns) (lists_of-names fs)
+lists_of-names (more_fields n t fs) = ap (λ ns. n ∷ ns) (lists_of-names fs)
 
 lists_of-well_formed : (fs : FieldTrees) → are_well_formed fs ≡ true → are_well_formed (lists_of fs) ≡ true
 lists_of-well_formed no_fields h = refl
-lists_of-well_formed (field n t fs) h =
+lists_of-well_formed (more_fields n t fs) h =
     both_true _ _ (first_and (is_well_formed t) (are_well_formed fs) h) (lists_of-well_formed fs (second_and (is_well_formed t) (are_well_formed fs) h))
 
 choices_distinct : (names : List (List ℕ)) → are_choices names ≡ true → are_distinct names ≡ true

@@ -1,7 +1,7 @@
 -- Forms of lenses as plain trees, and the two types of a form.
 use Rattle.std.specs.Prelude.{ℕ, ◌+◌, if◌then◌else◌, List, [], ◌∷◌}
 use Rattle.texts.specs.Keys.{is_before}
-use Rattle.doc_values.specs.Types.{TyTree, ty_enum, ty_rec, ty_alt, ty_list, ty_keyed, ty_ordered, FieldTrees, no_fields, field, ty_tree, fields_tree}
+use Rattle.doc_values.specs.Types.{TyTree, ty_enum, ty_rec, ty_alt, ty_list, ty_keyed, ty_ordered, FieldTrees, no_fields, more_fields, ty_tree, fields_tree}
 use Rattle.lens_forms.specs.declared.form.Form.{Form, fold-Form}
 use Rattle.lens_forms.specs.declared.form.FormRow.{FormRow, fold-FormRow}
 use Rattle.lens_forms.specs.declared.form.FormRows.{FormRows, fold-FormRows}
@@ -52,18 +52,18 @@ rights (p ∷ ps) = p.1 ∷ rights ps
 
 -- a field put at its place among fields that are sorted by bytes
 abbrev pub insert_field : List ℕ → TyTree → FieldTrees → FieldTrees
-insert_field n t no_fields = field n t no_fields
-insert_field n t (field m u fs) = if is_before m n then field m u (insert_field n t fs) else field n t (field m u fs)
+insert_field n t no_fields = more_fields n t no_fields
+insert_field n t (more_fields m u fs) = if is_before m n then more_fields m u (insert_field n t fs) else more_fields n t (more_fields m u fs)
 
 -- fields in written order, sorted by bytes
 abbrev pub sorted : FieldTrees → FieldTrees
 sorted no_fields = no_fields
-sorted (field n t fs) = insert_field n t (sorted fs)
+sorted (more_fields n t fs) = insert_field n t (sorted fs)
 
 -- the same names, each with a list of its type
 abbrev pub lists_of : FieldTrees → FieldTrees
 lists_of no_fields = no_fields
-lists_of (field n t fs) = field n (ty_list t) (lists_of fs)
+lists_of (more_fields n t fs) = more_fields n (ty_list t) (lists_of fs)
 
 -- the two types of a form, a line each for the left and for the right; the fields of a record are sorted by bytes, tags
 -- stand in written order
@@ -110,11 +110,11 @@ abbrev mutual
   -- the tags of each side of alternatives
   pub left_tags : ArmTrees → FieldTrees
   left_tags no_arms = no_fields
-  left_tags (more_arms a b l arms) = field a (left_type l) (left_tags arms)
+  left_tags (more_arms a b l arms) = more_fields a (left_type l) (left_tags arms)
 
   pub right_tags : ArmTrees → FieldTrees
   right_tags no_arms = no_fields
-  right_tags (more_arms a b l arms) = field b (right_type l) (right_tags arms)
+  right_tags (more_arms a b l arms) = more_fields b (right_type l) (right_tags arms)
 
 -- ---- how contracts see a `Form`
 

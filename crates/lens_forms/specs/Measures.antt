@@ -1,6 +1,6 @@
 -- How large and how high types and forms are, all names put in.
 use Rattle.std.specs.Prelude.{ℕ, ◌+◌, length, max}
-use Rattle.doc_values.specs.Types.{TyTree, ty_unit, ty_bool, ty_int, ty_text, ty_enum, ty_rec, ty_alt, ty_list, ty_keyed, ty_ordered, FieldTrees, no_fields, field, names_of}
+use Rattle.doc_values.specs.Types.{TyTree, ty_unit, ty_bool, ty_int, ty_text, ty_enum, ty_rec, ty_alt, ty_list, ty_keyed, ty_ordered, FieldTrees, no_fields, more_fields, names_of}
 use Rattle.lens_forms.specs.Forms.{FormTree, form_id, form_bij, form_disc, form_then, form_rec, form_alt, form_each, form_keyed, form_ordered, form_part, form_inv, RowTrees, no_rows, both, only_left, only_right, row_list, ArmTrees, no_arms, more_arms, arm_list}
 
 -- the counted parts of a type: one for each constructor, and one for each field, tag and member
@@ -19,7 +19,7 @@ abbrev mutual
 
   pub fields_parts : FieldTrees → ℕ
   fields_parts no_fields = 0
-  fields_parts (field n t fs) = type_parts t + 1 + fields_parts fs
+  fields_parts (more_fields n t fs) = type_parts t + 1 + fields_parts fs
 
 -- the counted parts of a form: one for each constructor of a form or a type, and one for each pair, row, arm, field, tag
 -- and member; the two names of a pair, a row or an arm add nothing
@@ -88,7 +88,7 @@ abbrev mutual
 
   pub longest_in_fields : FieldTrees → ℕ
   longest_in_fields no_fields = 0
-  longest_in_fields (field n t fs) = max (longest_in_type t) (longest_in_fields fs)
+  longest_in_fields (more_fields n t fs) = max (longest_in_type t) (longest_in_fields fs)
 
 -- the length of the longest list in a form: of pairs, of rows, of arms or of tags, or of a list in a type of the form
 abbrev mutual

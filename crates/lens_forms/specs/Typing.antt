@@ -1,6 +1,6 @@
 -- Typing: which forms are lenses, and from which type to which.
 use Rattle.std.specs.Prelude.{◌≡◌, IsTrue, ℕ, Bool, true, ◌&&◌, List, [], ◌∷◌}
-use Rattle.doc_values.specs.Types.{TyTree, ty_enum, ty_rec, ty_alt, ty_list, ty_keyed, ty_ordered, FieldTrees, no_fields, field, names_of, are_distinct, are_choices, is_well_formed, are_well_formed, is_same_ty}
+use Rattle.doc_values.specs.Types.{TyTree, ty_enum, ty_rec, ty_alt, ty_list, ty_keyed, ty_ordered, FieldTrees, no_fields, more_fields, names_of, are_distinct, are_choices, is_well_formed, are_well_formed, is_same_ty}
 use Rattle.lens_forms.specs.Forms.{FormTree, form_id, form_bij, form_disc, form_then, form_rec, form_alt, form_each, form_keyed, form_ordered, form_part, form_inv, RowTrees, no_rows, both, only_left, only_right, ArmTrees, no_arms, more_arms, lefts, rights, insert_field, sorted, lists_of, left_type, right_type}
 
 -- the names of the left and of the right fields of a record, in written order
@@ -69,7 +69,7 @@ abbrev mutual
   AreTypedArms no_arms ls rs = (ls ≡ no_fields) × (rs ≡ no_fields)
   AreTypedArms (more_arms a b l arms) ls rs =
       (t : TyTree) × (u : TyTree) × (ls' : FieldTrees) × (rs' : FieldTrees) × IsTyped l t u × AreTypedArms arms ls' rs'
-      × (ls ≡ field a t ls') × (rs ≡ field b u rs')
+      × (ls ≡ more_fields a t ls') × (rs ≡ more_fields b u rs')
 
 -- the same as a test: a form is typed, with its two types, exactly where this is true
 abbrev mutual

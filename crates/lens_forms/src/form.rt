@@ -4,9 +4,9 @@ ghost use Rattle.std.specs.Prelude.{◌≡◌, IfOk, map};
 ghost use Rattle.lens_forms.specs.Forms.{form_tree, row_tree, rows_tree, form_rows_of, arm_tree, arms_tree, form_arms_of};
 
 use doc_values::{Fields, Ty};
-use texts::{Name, Twin};
 use program_terms::Pairs;
 use std::alloc::{AllocError, Global};
+use texts::{Name, Twin};
 
 /// A lens with all names expanded. Each list is in written order.
 ///

@@ -3,7 +3,7 @@ use Rattle.std.proofs.Common.{◌≡◌, ℕ, ◌+◌, true, false, List, [], �
 use Rattle.std.specs.Prelude.{nat_le, max, if◌then◌else◌}
 use Rattle.std.proofs.lemmas.Bool.Decides.{nat_tests}
 use Rattle.texts.specs.Keys.{is_before}
-use Rattle.doc_values.specs.Types.{TyTree, ty_rec, FieldTrees, no_fields, field, height, highest}
+use Rattle.doc_values.specs.Types.{TyTree, ty_rec, FieldTrees, no_fields, more_fields, height, highest}
 use Rattle.lens_forms.specs.Forms.{ArmTrees, no_arms, more_arms, insert_field, sorted}
 use Rattle.lens_forms.specs.Measures.{form_height, highest_arm, greatest_height}
 use Rattle.lens_types.specs.Earlier.{enum_type, alternatives_type, bijection, alternatives, partition}
@@ -26,13 +26,13 @@ max_swap a b c = omega arith
 
 pub highest-insert : (n : List ℕ) (t : TyTree) (fs : FieldTrees) → highest (insert_field n t fs) ≡ max (height t) (highest fs)
 highest-insert n t no_fields = refl
-highest-insert n t (field m u fs) =
-    elim (is_before m n) as (λ b. highest (if b then field m u (insert_field n t fs) else field n t (field m u fs)) ≡ max (height t) (max (height u) (highest fs)))
+highest-insert n t (more_fields m u fs) =
+    elim (is_before m n) as (λ b. highest (if b then more_fields m u (insert_field n t fs) else more_fields n t (more_fields m u fs)) ≡ max (height t) (max (height u) (highest fs)))
     [ true ↦ ap (max (height u)) (highest-insert n t fs) ∙ max_swap (height u) (height t) (highest fs) | false ↦ refl ]
 
 pub highest-sorted : (fs : FieldTrees) → highest (sorted fs) ≡ highest fs
 highest-sorted no_fields = refl
-highest-sorted (field n t fs) = highest-insert n t (sorted fs) ∙ ap (max (height t)) (highest-sorted fs)
+highest-sorted (more_fields n t fs) = highest-insert n t (sorted fs) ∙ ap (max (height t)) (highest-sorted fs)
 
 pub height-record : (fs : FieldTrees) → height (ty_rec (sorted fs)) ≡ highest fs + 1
 height-record fs = ap (λ k. k + 1) (highest-sorted fs)
@@ -45,7 +45,7 @@ height-enum_type (m ∷ ms) = refl
 
 pub height-alternatives_type : (fs : FieldTrees) → height (alternatives_type fs) ≡ highest fs + 1
 height-alternatives_type no_fields = refl
-height-alternatives_type (field n t fs) = refl
+height-alternatives_type (more_fields n t fs) = refl
 
 pub height-bijection : (ps : List (List ℕ × List ℕ)) → form_height (bijection ps) ≡ 1
 height-bijection [] = refl
@@ -57,7 +57,7 @@ height-alternatives (more_arms a b l arms) = refl
 
 pub height-partition : (fs : FieldTrees) → form_height (partition fs) ≡ 1
 height-partition no_fields = refl
-height-partition (field n t fs) = refl
+height-partition (more_fields n t fs) = refl
 
 pub ruleset type_height_rules = (capped-next, capped-max, height-record, height-enum_type, height-alternatives_type)
 

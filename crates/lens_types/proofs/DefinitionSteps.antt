@@ -4,7 +4,7 @@ use Rattle.std.specs.Prelude.{option_map, unwrap_or, slice_get, if◌then◌else
 use Rattle.std.proofs.lemmas.List.{drop_all, map-append}
 use Rattle.texts.specs.Keys.{has_name}
 use Rattle.program_terms.specs.Terms as Term
-use Rattle.program_terms.proofs.Distinct.{not_before, one_more}
+use Rattle.program_terms.proofs.DistinctNames.{not_before, one_more}
 use Rattle.lens_types.specs.Earlier.{KnownTree, Definitions, known, known_of, all_known}
 use Rattle.lens_types.specs.Checking.{Failure, or_else, def_failure, failure_after}
 use Rattle.lens_types.specs.Faults.{IsFaultOf}
@@ -70,21 +70,21 @@ after_next ds new defs i n d k main whole all name def none known made h =
     let from = drop_at defs i (n, d) at in
     let is : new ≡ ds ++ (n, known_of ds d) ∷ [] = made ∙ ap (λ x. ds ++ (n, x) ∷ []) known in
     let names : map (λ x. x.0) (ds ++ (n, known_of ds d) ∷ []) ≡ map (λ x. x.0) (take (i + 1) defs) =
-        map-append (λ (x : List ℕ × KnownTree). x.0) ds ((n, known_of ds d) ∷ [])
-        ∙ ap (λ ns. ns ++ n ∷ []) h.names
-        ∙ sym (map-append (λ (x : List ℕ × Term.DefTree). x.0) (take i defs) ((n, d) ∷ []))
-        ∙ ap (map (λ x. x.0)) (one_more defs i (n, d) at) in
+    map-append (λ (x : List ℕ × KnownTree). x.0) ds ((n, known_of ds d) ∷ [])
+    ∙ ap (λ ns. ns ++ n ∷ []) h.names
+    ∙ sym (map-append (λ (x : List ℕ × Term.DefTree). x.0) (take i defs) ((n, d) ∷ []))
+    ∙ ap (map (λ x. x.0)) (one_more defs i (n, d) at) in
     let next : drop (i + 1) defs ≡ drop (suc i) defs = ap (λ j. drop j defs) (add-one i) in
     let made_so : IsAfter (ds ++ (n, known_of ds d) ∷ []) defs (i + 1) main whole all =
-        record {
-          failure =
-              ap (λ xs. failure_after (ds ++ (n, known_of ds d) ∷ []) xs main) next
-              ∙ ap (λ o. or_else o (failure_after (ds ++ (n, known_of ds d) ∷ []) (drop (suc i) defs) main)) (sym none)
-              ∙ ap (λ xs. failure_after ds xs main) (sym from) ∙ h.failure;
-          known = ap (all_known (ds ++ (n, known_of ds d) ∷ [])) next ∙ ap (all_known ds) (sym from) ∙ h.known;
-          sound = sound_more ds n (known_of ds d) h.sound (def_sound ds h.sound d none);
-          names = names;
-        } in
+    record {
+      failure =
+          ap (λ xs. failure_after (ds ++ (n, known_of ds d) ∷ []) xs main) next
+          ∙ ap (λ o. or_else o (failure_after (ds ++ (n, known_of ds d) ∷ []) (drop (suc i) defs) main)) (sym none)
+          ∙ ap (λ xs. failure_after ds xs main) (sym from) ∙ h.failure;
+      known = ap (all_known (ds ++ (n, known_of ds d) ∷ [])) next ∙ ap (all_known ds) (sym from) ∙ h.known;
+      sound = sound_more ds n (known_of ds d) h.sound (def_sound ds h.sound d none);
+      names = names;
+    } in
     let P : Definitions → Type 0 = λ x. IsAfter x defs (i + 1) main whole all in
     subst P (sym is) made_so
 

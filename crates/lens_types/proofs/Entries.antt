@@ -325,19 +325,19 @@ no_lens es scope name h all = ap (λ ds. form_named ds name) (sym (all_of es sco
 
 pub type_alias : (es : List Entry) (scope : ℕ) (name : List ℕ) (k : KnownType) → IsTypeFound es scope name k → scope ≡ length es
     → IsKnownType (earlier_tree es) (Term.named name) k
-type_alias es scope name k h all = record { stands = h.stands ∙ ap (λ ds. type_named ds name) (all_of es scope all); measured = h.measured; }
+type_alias es scope name k h all = record { stands = h.stands ∙ ap (λ ds. type_named ds name) (all_of es scope all); measured = h.measured }
 
 pub type_itself : (es : List Entry) (k : KnownType) → k.scope ≡ length es → is_measured_type (earlier_tree es) k ≡ true
     → IsKnownType (earlier_tree es) (type_tree k.ty.now) k
-type_itself es k all h = record { stands = ap (λ ds. expanded_type ds (type_tree k.ty.now)) (all_of es k.scope all); measured = h; }
+type_itself es k all h = record { stands = ap (λ ds. expanded_type ds (type_tree k.ty.now)) (all_of es k.scope all); measured = h }
 
 pub lens_alias : (es : List Entry) (scope : ℕ) (name : List ℕ) (k : KnownLens) → IsLensFound es scope name k → scope ≡ length es
     → IsKnownLens (earlier_tree es) (Term.named_lens name) k
-lens_alias es scope name k h all = record { stands = h.stands ∙ ap (λ ds. form_named ds name) (all_of es scope all); measured = h.measured; }
+lens_alias es scope name k h all = record { stands = h.stands ∙ ap (λ ds. form_named ds name) (all_of es scope all); measured = h.measured }
 
 pub lens_itself : (es : List Entry) (k : KnownLens) → k.scope ≡ length es → is_measured_lens (earlier_tree es) k ≡ true
     → IsKnownLens (earlier_tree es) (lens_tree k.lens.now) k
-lens_itself es k all h = record { stands = ap (λ ds. expanded_form ds (lens_tree k.lens.now)) (all_of es k.scope all); measured = h; }
+lens_itself es k all h = record { stands = ap (λ ds. expanded_form ds (lens_tree k.lens.now)) (all_of es k.scope all); measured = h }
 
 -- ---- the measures of a new entry are those that were counted
 

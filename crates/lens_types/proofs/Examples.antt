@@ -1,6 +1,6 @@
 -- The definitions on small programs. The names are "a", "b", "c" and "t".
 use Rattle.std.proofs.Common.{◌≡◌, ℕ, List, [], ◌∷◌, Some, None, refl}
-use Rattle.doc_values.specs.Types.{ty_int, ty_text, ty_rec, ty_alt, no_fields, field}
+use Rattle.doc_values.specs.Types.{ty_int, ty_text, ty_rec, ty_alt, no_fields, more_fields}
 use Rattle.program_terms.specs.Terms as Term
 use Rattle.lens_forms.specs.Forms.{form_id, form_each}
 use Rattle.lens_types.specs.Earlier.{known_type, expanded_type, main_form}
@@ -35,7 +35,7 @@ b_or_a = Term.one_of (Term.more_fields b Term.int (Term.more_fields a Term.text 
 
 -- the record type {b: t, a: int} with t = text
 type_expanded : expanded_type ((t, known_type ty_text) ∷ []) (Term.record_of (Term.more_fields b (Term.named t) (Term.more_fields a Term.int Term.no_fields)))
-    ≡ ty_rec (field a ty_int (field b ty_text no_fields))
+    ≡ ty_rec (more_fields a ty_int (more_fields b ty_text no_fields))
 type_expanded = refl
 
 -- lens t = id int; main each t
@@ -46,7 +46,7 @@ lens_expanded = refl
 
 -- the written order of tags counts, that of fields does not
 tags_differ : first_failure (main_alone (Term.then_of (Term.id_of a_or_b) (Term.id_of b_or_a)))
-    ≡ Some (middle_differs (ty_alt (field a ty_text (field b ty_int no_fields))) (ty_alt (field b ty_int (field a ty_text no_fields))))
+    ≡ Some (middle_differs (ty_alt (more_fields a ty_text (more_fields b ty_int no_fields))) (ty_alt (more_fields b ty_int (more_fields a ty_text no_fields))))
 tags_differ = refl
 
 -- {a ~ c: id int, b ~ c: id int, b ~ c: id int}: the second c stands before the second b

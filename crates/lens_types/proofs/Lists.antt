@@ -1,7 +1,7 @@
 -- Lists of trees, and the folds at the types that wrap a list.
 use Rattle.std.proofs.Common.{◌≡◌, ℕ, ◌≤◌, false, nat_eq, List, [], ◌∷◌, ◌++◌, length, map, drop, rules, refl, ap, ◌∙◌, append-nil}
 use Rattle.std.proofs.lemmas.List.{drop_all}
-use Rattle.doc_values.specs.Types.{field_list, fields_of as ty_fields, field_tree as ty_field}
+use Rattle.doc_values.specs.Types.{field_list, type_fields_of as ty_fields, field_tree as ty_field}
 use Rattle.doc_values.specs.declared.ty.Ty.{Ty}
 use Rattle.doc_values.proofs.Lists.{fields_of-field_list}
 use Rattle.program_terms.specs.Terms as Term
@@ -47,26 +47,26 @@ pub lists_done : (fs out : List (List ℕ × Ty)) (i : ℕ) → length fs ≤ i
 lists_done fs out i h e = ap ty_fields (rw (drop_all i fs h, append-nil) at e) ∙ fields_of-field_list _
 
 pub fields_done : (ds : Definitions) (fs : List (List ℕ × TyExpr)) (out : List (List ℕ × Ty)) (i : ℕ) → length fs ≤ i
-    → map ty_field out ++ field_list (expanded_fields ds (Term.fields_of (map View.field_tree (drop i fs)))) ≡ field_list (expanded_fields ds (Term.fields_of (map View.field_tree fs)))
-    → ty_fields (map ty_field out) ≡ expanded_fields ds (Term.fields_of (map View.field_tree fs))
+    → map ty_field out ++ field_list (expanded_fields ds (Term.term_fields_of (map View.field_tree (drop i fs)))) ≡ field_list (expanded_fields ds (Term.term_fields_of (map View.field_tree fs)))
+    → ty_fields (map ty_field out) ≡ expanded_fields ds (Term.term_fields_of (map View.field_tree fs))
 fields_done ds fs out i h e = ap ty_fields (rw (drop_all i fs h, append-nil) at e) ∙ fields_of-field_list _
 
 pub rows_done : (ds : Definitions) (rows : List Row) (out : List FormRow) (i : ℕ) → length rows ≤ i
-    → map row_tree out ++ row_list (expanded_rows ds (Term.rows_of (map View.row_tree (drop i rows)))) ≡ row_list (expanded_rows ds (Term.rows_of (map View.row_tree rows)))
-    → form_rows_of (map row_tree out) ≡ expanded_rows ds (Term.rows_of (map View.row_tree rows))
+    → map row_tree out ++ row_list (expanded_rows ds (Term.term_rows_of (map View.row_tree (drop i rows)))) ≡ row_list (expanded_rows ds (Term.term_rows_of (map View.row_tree rows)))
+    → form_rows_of (map row_tree out) ≡ expanded_rows ds (Term.term_rows_of (map View.row_tree rows))
 rows_done ds rows out i h e = ap form_rows_of (rw (drop_all i rows h, append-nil) at e) ∙ rows-there_and_back _
 
 pub arms_done : (ds : Definitions) (arms : List (List ℕ × List ℕ × Lens)) (out : List (List ℕ × List ℕ × Form)) (i : ℕ) → length arms ≤ i
-    → map arm_tree out ++ arm_list (expanded_arms ds (Term.arms_of (map View.arm_tree (drop i arms)))) ≡ arm_list (expanded_arms ds (Term.arms_of (map View.arm_tree arms)))
-    → form_arms_of (map arm_tree out) ≡ expanded_arms ds (Term.arms_of (map View.arm_tree arms))
+    → map arm_tree out ++ arm_list (expanded_arms ds (Term.term_arms_of (map View.arm_tree (drop i arms)))) ≡ arm_list (expanded_arms ds (Term.term_arms_of (map View.arm_tree arms)))
+    → form_arms_of (map arm_tree out) ≡ expanded_arms ds (Term.term_arms_of (map View.arm_tree arms))
 arms_done ds arms out i h e = ap form_arms_of (rw (drop_all i arms h, append-nil) at e) ∙ arms-there_and_back _
 
 pub side_fields_done : (side : Side) (ds : Definitions) (rows : List Row) (out : List (List ℕ × Ty)) (i : ℕ) → length rows ≤ i
-    → map ty_field out ++ field_list (fields_on side (expanded_rows ds (Term.rows_of (map View.row_tree (drop i rows))))) ≡ field_list (fields_on side (expanded_rows ds (Term.rows_of (map View.row_tree rows))))
-    → ty_fields (map ty_field out) ≡ fields_on side (expanded_rows ds (Term.rows_of (map View.row_tree rows)))
+    → map ty_field out ++ field_list (fields_on side (expanded_rows ds (Term.term_rows_of (map View.row_tree (drop i rows))))) ≡ field_list (fields_on side (expanded_rows ds (Term.term_rows_of (map View.row_tree rows))))
+    → ty_fields (map ty_field out) ≡ fields_on side (expanded_rows ds (Term.term_rows_of (map View.row_tree rows)))
 side_fields_done side ds rows out i h e = ap ty_fields (rw (drop_all i rows h, append-nil) at e) ∙ fields_of-field_list _
 
 pub side_tags_done : (side : Side) (ds : Definitions) (arms : List (List ℕ × List ℕ × Lens)) (out : List (List ℕ × Ty)) (i : ℕ) → length arms ≤ i
-    → map ty_field out ++ field_list (tags_on side (expanded_arms ds (Term.arms_of (map View.arm_tree (drop i arms))))) ≡ field_list (tags_on side (expanded_arms ds (Term.arms_of (map View.arm_tree arms))))
-    → ty_fields (map ty_field out) ≡ tags_on side (expanded_arms ds (Term.arms_of (map View.arm_tree arms)))
+    → map ty_field out ++ field_list (tags_on side (expanded_arms ds (Term.term_arms_of (map View.arm_tree (drop i arms))))) ≡ field_list (tags_on side (expanded_arms ds (Term.term_arms_of (map View.arm_tree arms))))
+    → ty_fields (map ty_field out) ≡ tags_on side (expanded_arms ds (Term.term_arms_of (map View.arm_tree arms)))
 side_tags_done side ds arms out i h e = ap ty_fields (rw (drop_all i arms h, append-nil) at e) ∙ fields_of-field_list _

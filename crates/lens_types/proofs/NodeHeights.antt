@@ -4,7 +4,7 @@ use Rattle.std.specs.Prelude.{max, nat_lt}
 use Rattle.std.specs.Ordering.{ord_max, nat_cmp, is_lt}
 use Rattle.std.specs.declared.cmp.Ordering.TheVariants.{Less, Equal, Greater}
 use Rattle.std.proofs.lemmas.Bool.Decides.{nat_tests}
-use Rattle.doc_values.specs.Types.{TyTree, ty_rec, FieldTrees, no_fields, field, height, highest}
+use Rattle.doc_values.specs.Types.{TyTree, ty_rec, FieldTrees, no_fields, more_fields, height, highest}
 use Rattle.program_terms.specs.Terms as Term
 use Rattle.program_terms.specs.Views.{field_tree, row_tree, arm_tree}
 use Rattle.program_terms.specs.declared.types.TyExpr.{TyExpr}
@@ -53,28 +53,28 @@ pub bijection_heights : (ps : List (List ℕ × List ℕ)) (h : SideHeights) →
 bijection_heights [] h l r = (l, r)
 bijection_heights (p ∷ ps) h l r = (l, r)
 
-highest-lists_of : (n : List ℕ) (t : TyTree) (fs : FieldTrees) → highest (lists_of (field n t fs)) ≡ highest (field n t fs) + 1
+highest-lists_of : (n : List ℕ) (t : TyTree) (fs : FieldTrees) → highest (lists_of (more_fields n t fs)) ≡ highest (more_fields n t fs) + 1
 highest-lists_of n t no_fields = omega arith
-highest-lists_of n t (field m u fs) = omega (arith, highest-lists_of m u fs)
+highest-lists_of n t (more_fields m u fs) = omega (arith, highest-lists_of m u fs)
 
-some_partition : (n : List ℕ) (t : TyTree) (fs : FieldTrees) (h : SideHeights) (k : ℕ) → k ≡ capped (highest (field n t fs))
-    → h.left ≡ capped (capped (k + 1) + 1) → h.right ≡ capped (capped (k + 1) + 1) → HasHeights (partition (field n t fs)) h
+some_partition : (n : List ℕ) (t : TyTree) (fs : FieldTrees) (h : SideHeights) (k : ℕ) → k ≡ capped (highest (more_fields n t fs))
+    → h.left ≡ capped (capped (k + 1) + 1) → h.right ≡ capped (capped (k + 1) + 1) → HasHeights (partition (more_fields n t fs)) h
 some_partition n t fs h k e l r =
-    let twice : capped (capped (k + 1) + 1) ≡ capped (highest (field n t fs) + 1 + 1) =
-        ap (λ x. capped (x + 1)) (ap (λ x. capped (x + 1)) e ∙ capped-next (highest (field n t fs))) ∙ capped-next (highest (field n t fs) + 1) in
-    let lists : height (ty_rec (sorted (lists_of (field n t fs)))) ≡ highest (field n t fs) + 1 + 1 =
-        height-record (lists_of (field n t fs)) ∙ ap (λ x. x + 1) (highest-lists_of n t fs) in
+    let twice : capped (capped (k + 1) + 1) ≡ capped (highest (more_fields n t fs) + 1 + 1) =
+    ap (λ x. capped (x + 1)) (ap (λ x. capped (x + 1)) e ∙ capped-next (highest (more_fields n t fs))) ∙ capped-next (highest (more_fields n t fs) + 1) in
+    let lists : height (ty_rec (sorted (lists_of (more_fields n t fs)))) ≡ highest (more_fields n t fs) + 1 + 1 =
+    height-record (lists_of (more_fields n t fs)) ∙ ap (λ x. x + 1) (highest-lists_of n t fs) in
     (l ∙ twice, r ∙ twice ∙ ap capped (sym lists))
 
 pub partition_heights : (ds : Definitions) (fs : List (List ℕ × TyExpr)) (h : SideHeights) (k : ℕ) → 0 < length fs
-    → k ≡ capped (highest (expanded_fields ds (Term.fields_of (map field_tree fs))))
+    → k ≡ capped (highest (expanded_fields ds (Term.term_fields_of (map field_tree fs))))
     → h.left ≡ capped (capped (k + 1) + 1) → h.right ≡ capped (capped (k + 1) + 1)
-    → HasHeights (partition (expanded_fields ds (Term.fields_of (map field_tree fs)))) h
+    → HasHeights (partition (expanded_fields ds (Term.term_fields_of (map field_tree fs)))) h
 partition_heights ds [] h k m e l r = absurd (omega arith)
 partition_heights ds (f ∷ fs) h k m e l r = some_partition _ _ _ h k e l r
 
 pub no_partition_heights : (ds : Definitions) (fs : List (List ℕ × TyExpr)) (h : SideHeights) → length fs ≡ 0 → h.left ≡ 1 → h.right ≡ 1
-    → HasHeights (partition (expanded_fields ds (Term.fields_of (map field_tree fs)))) h
+    → HasHeights (partition (expanded_fields ds (Term.term_fields_of (map field_tree fs)))) h
 no_partition_heights ds [] h m l r = (l, r)
 no_partition_heights ds (f ∷ fs) h m l r = absurd (omega arith)
 
@@ -126,24 +126,24 @@ max_more n m k a e = omega (arith, e)
 
 -- what is left of the rows, and of the arms
 abbrev pub rows_from : ℕ → List Row → Term.RowTrees
-rows_from i rows = Term.rows_of (map row_tree (drop i rows))
+rows_from i rows = Term.term_rows_of (map row_tree (drop i rows))
 
 abbrev pub arms_from : ℕ → List (List ℕ × List ℕ × Lens) → Term.ArmTrees
-arms_from i arms = Term.arms_of (map arm_tree (drop i arms))
+arms_from i arms = Term.term_arms_of (map arm_tree (drop i arms))
 
 pub next_row_left : (ds : Definitions) (rows : List Row) (i : ℕ) (r : Row) (n a : ℕ) (h : SideHeights) → i < length rows → r ≡ get_or rows i r
     → HasFieldHeights ds (row_tree r) h → max n (capped (highest (left_fields (expanded_rows ds (rows_from i rows))))) ≡ a
     → max (max n h.left) (capped (highest (left_fields (expanded_rows ds (rows_from (i + 1) rows))))) ≡ a
 next_row_left ds rows i r n a h low is e all =
     max_more n h.left _ _ (row_left ds (row_tree r) (rows_from (i + 1) rows) h e)
-    ∙ ap (λ xs. max n (capped (highest (left_fields (expanded_rows ds (Term.rows_of (map row_tree xs))))))) (sym (from_place rows i r low is)) ∙ all
+    ∙ ap (λ xs. max n (capped (highest (left_fields (expanded_rows ds (Term.term_rows_of (map row_tree xs))))))) (sym (from_place rows i r low is)) ∙ all
 
 pub next_row_right : (ds : Definitions) (rows : List Row) (i : ℕ) (r : Row) (n a : ℕ) (h : SideHeights) → i < length rows → r ≡ get_or rows i r
     → HasFieldHeights ds (row_tree r) h → max n (capped (highest (right_fields (expanded_rows ds (rows_from i rows))))) ≡ a
     → max (max n h.right) (capped (highest (right_fields (expanded_rows ds (rows_from (i + 1) rows))))) ≡ a
 next_row_right ds rows i r n a h low is e all =
     max_more n h.right _ _ (row_right ds (row_tree r) (rows_from (i + 1) rows) h e)
-    ∙ ap (λ xs. max n (capped (highest (right_fields (expanded_rows ds (Term.rows_of (map row_tree xs))))))) (sym (from_place rows i r low is)) ∙ all
+    ∙ ap (λ xs. max n (capped (highest (right_fields (expanded_rows ds (Term.term_rows_of (map row_tree xs))))))) (sym (from_place rows i r low is)) ∙ all
 
 row_first : (ds : Definitions) (row : Term.RowTree) (rows : Term.RowTrees) → rows_failure ds (Term.with_row row rows) ≡ or_else (row_failure ds row) (rows_failure ds rows)
 row_first ds (Term.row_both a b l) rows = refl
@@ -155,4 +155,4 @@ pub next_row_failure : (ds : Definitions) (rows : List Row) (i : ℕ) (r : Row) 
 next_row_failure ds rows i r all low is none h =
     ap (λ o. or_else o (rows_failure ds (rows_from (i + 1) rows))) (sym none)
     ∙ sym (row_first ds (row_tree r) (rows_from (i + 1) rows))
-    ∙ ap (λ xs. rows_failure ds (Term.rows_of (map row_tree xs))) (sym (from_place rows i r low is)) ∙ h
+    ∙ ap (λ xs. rows_failure ds (Term.term_rows_of (map row_tree xs))) (sym (from_place rows i r low is)) ∙ h

@@ -3,7 +3,7 @@ use Rattle.std.proofs.Common.{◌≡◌, ℕ, ◌+◌, ◌-◌, ◌≤◌, true,
 use Rattle.std.specs.Prelude.{Bool, nat_le, unwrap_or, if◌then◌else◌, option_and_then}
 use Rattle.std.proofs.lemmas.Bool.Decides.{nat_tests}
 use Rattle.texts.specs.Keys.{is_before}
-use Rattle.doc_values.specs.Types.{TyTree, FieldTrees, no_fields, field}
+use Rattle.doc_values.specs.Types.{TyTree, FieldTrees, no_fields, more_fields}
 use Rattle.program_terms.specs.Terms as Term
 use Rattle.lens_forms.specs.Forms.{ArmTrees, no_arms, more_arms, insert_field, sorted}
 use Rattle.lens_forms.specs.Measures.{type_parts, fields_parts, form_parts, rows_parts, arms_parts, most_parts}
@@ -20,13 +20,13 @@ room_after-add a b n = grind (arith, nat_tests)
 
 parts-insert : (n : List ℕ) (t : TyTree) (fs : FieldTrees) → fields_parts (insert_field n t fs) ≡ type_parts t + 1 + fields_parts fs
 parts-insert n t no_fields = refl
-parts-insert n t (field m u fs) =
-    elim (is_before m n) as (λ b. fields_parts (if b then field m u (insert_field n t fs) else field n t (field m u fs)) ≡ type_parts t + 1 + (type_parts u + 1 + fields_parts fs))
+parts-insert n t (more_fields m u fs) =
+    elim (is_before m n) as (λ b. fields_parts (if b then more_fields m u (insert_field n t fs) else more_fields n t (more_fields m u fs)) ≡ type_parts t + 1 + (type_parts u + 1 + fields_parts fs))
     [ true ↦ omega (arith, parts-insert n t fs) | false ↦ refl ]
 
 pub parts-sorted : (fs : FieldTrees) → fields_parts (sorted fs) ≡ fields_parts fs
 parts-sorted no_fields = refl
-parts-sorted (field n t fs) = parts-insert n t (sorted fs) ∙ ap (λ k. type_parts t + 1 + k) (parts-sorted fs)
+parts-sorted (more_fields n t fs) = parts-insert n t (sorted fs) ∙ ap (λ k. type_parts t + 1 + k) (parts-sorted fs)
 
 parts-enum_type : (ms : List (List ℕ)) → type_parts (enum_type ms) ≡ 1 + length ms
 parts-enum_type [] = refl
@@ -34,7 +34,7 @@ parts-enum_type (m ∷ ms) = omega arith
 
 parts-alternatives_type : (fs : FieldTrees) → type_parts (alternatives_type fs) ≡ 1 + fields_parts fs
 parts-alternatives_type no_fields = refl
-parts-alternatives_type (field n t fs) = omega arith
+parts-alternatives_type (more_fields n t fs) = omega arith
 
 parts-bijection : (ps : List (List ℕ × List ℕ)) → form_parts (bijection ps) ≡ 1 + length ps
 parts-bijection [] = refl
@@ -46,7 +46,7 @@ parts-alternatives (more_arms a b l arms) = omega arith
 
 parts-partition : (fs : FieldTrees) → form_parts (partition fs) ≡ 1 + fields_parts fs
 parts-partition no_fields = refl
-parts-partition (field n t fs) = omega arith
+parts-partition (more_fields n t fs) = omega arith
 
 -- ---- a count behind another one
 

@@ -1,7 +1,7 @@
 -- The type of a side, for both sides at once, is the left or the right type.
 use Rattle.std.proofs.Common.{◌≡◌, ℕ, true, false, nat_eq, List, [], ◌∷◌, length, map, take, Some, None, refl, ap, ap₂, sym, ◌∙◌}
 use Rattle.std.specs.Prelude.{if◌then◌else◌}
-use Rattle.doc_values.specs.Types.{TyTree, ty_rec, ty_alt, ty_list, ty_keyed, ty_ordered, field, fields_of, field_tree, is_same_ty}
+use Rattle.doc_values.specs.Types.{TyTree, ty_rec, ty_alt, ty_list, ty_keyed, ty_ordered, more_fields, type_fields_of, field_tree, is_same_ty}
 use Rattle.doc_values.specs.declared.ty.Ty.{Ty}
 use Rattle.program_terms.specs.Terms.{LensTree}
 use Rattle.lens_forms.specs.Forms.{FormTree, form_id, form_bij, form_disc, form_then, form_rec, form_alt, form_each, form_keyed, form_ordered, form_part, form_inv, RowTrees, no_rows, both, only_left, only_right, ArmTrees, no_arms, more_arms, insert_field, sorted, lists_of, left_type, right_type, left_fields, right_fields, left_tags, right_tags}
@@ -54,21 +54,21 @@ mutual
 
   tags_on-left : (arms : ArmTrees) → tags_on Left arms ≡ left_tags arms
   tags_on-left no_arms = refl
-  tags_on-left (more_arms a b l arms) = ap₂ (field a) (type_on-left l) (tags_on-left arms)
+  tags_on-left (more_arms a b l arms) = ap₂ (more_fields a) (type_on-left l) (tags_on-left arms)
 
   tags_on-right : (arms : ArmTrees) → tags_on Right arms ≡ right_tags arms
   tags_on-right no_arms = refl
-  tags_on-right (more_arms a b l arms) = ap₂ (field b) (type_on-right l) (tags_on-right arms)
+  tags_on-right (more_arms a b l arms) = ap₂ (more_fields b) (type_on-right l) (tags_on-right arms)
 
 -- ---- the two sides of a partition of something
 
 pub left_partition : (fs : List (List ℕ × Ty)) → nat_eq (length fs) 0 ≡ false
-    → type_on Left (partition (fields_of (map field_tree fs))) ≡ ty_list (ty_alt (fields_of (map field_tree fs)))
+    → type_on Left (partition (type_fields_of (map field_tree fs))) ≡ ty_list (ty_alt (type_fields_of (map field_tree fs)))
 left_partition [] h = cc
 left_partition (f ∷ fs) h = refl
 
 pub right_partition : (fs : List (List ℕ × Ty)) → nat_eq (length fs) 0 ≡ false
-    → type_on Right (partition (fields_of (map field_tree fs))) ≡ ty_rec (sorted (lists_of (fields_of (map field_tree fs))))
+    → type_on Right (partition (type_fields_of (map field_tree fs))) ≡ ty_rec (sorted (lists_of (type_fields_of (map field_tree fs))))
 right_partition [] h = cc
 right_partition (f ∷ fs) h = refl
 

@@ -1,7 +1,7 @@
 -- What has no failure is typed and keeps the limits.
 use Rattle.std.proofs.Common.{◌≡◌, ℕ, Bool, true, false, ◌&&◌, List, [], ◌∷◌, ◌++◌, Option, Some, None, refl}
 use Rattle.std.specs.Prelude.{bytes_eq, nat_le, if◌then◌else◌, option_map}
-use Rattle.doc_values.specs.Types.{FieldTrees, no_fields, field, names_of, are_distinct, is_well_formed, are_well_formed, height, is_same_ty}
+use Rattle.doc_values.specs.Types.{FieldTrees, no_fields, more_fields, names_of, are_distinct, is_well_formed, are_well_formed, height, is_same_ty}
 use Rattle.texts.proofs.Conjunction.{both as both_true, first as first_and, second as second_and}
 use Rattle.program_terms.specs.Terms as Term
 use Rattle.lens_forms.specs.Forms.{FormTree, ArmTrees, no_arms, more_arms, lefts, rights, left_type, right_type}
@@ -73,7 +73,7 @@ enum_formed (m ∷ ms) h = h
 
 alternatives_formed : (fs : FieldTrees) → are_distinct (names_of fs) ≡ true → are_well_formed fs ≡ true → is_well_formed (alternatives_type fs) ≡ true
 alternatives_formed no_fields h r = refl
-alternatives_formed (field n t fs) h r = both_true _ _ h r
+alternatives_formed (more_fields n t fs) h r = both_true _ _ h r
 
 mutual
   pub type_formed : (ds : Definitions) → are_sound ds ≡ true → (t : Term.TypeTree) → type_failure t ≡ None → is_well_formed (expanded_type ds t) ≡ true
@@ -113,7 +113,7 @@ alternatives_typed (more_arms a b f arms) h l r = both_true _ _ h (both_true _ _
 
 partition_typed : (fs : FieldTrees) → are_distinct (names_of fs) ≡ true → are_well_formed fs ≡ true → is_typed (partition fs) ≡ true
 partition_typed no_fields h r = refl
-partition_typed (field n t fs) h r = both_true _ _ h r
+partition_typed (more_fields n t fs) h r = both_true _ _ h r
 
 middle_same : (l k : FormTree) → middle_failure l k ≡ None → is_same_ty (right_type l) (left_type k) ≡ true
 middle_same l k h = none_if (is_same_ty (right_type l) (left_type k)) _ h

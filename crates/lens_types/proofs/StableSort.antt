@@ -8,7 +8,7 @@ use Rattle.std.proofs.lemmas.Cmp.{nat_list_cmp_total}
 use Rattle.std.proofs.lemmas.List.Sorted.{ranks_by, sorted_far}
 use Rattle.texts.specs.Keys.{is_before}
 use Rattle.texts.proofs.Conjunction.{both, first, second}
-use Rattle.doc_values.specs.Types.{field, fields_of, field_tree, ty_tree}
+use Rattle.doc_values.specs.Types.{more_fields, type_fields_of, field_tree, ty_tree}
 use Rattle.doc_values.specs.declared.ty.Ty.{Ty}
 use Rattle.lens_forms.specs.Forms.{insert_field, sorted}
 
@@ -82,12 +82,12 @@ module _ {X : Type 0} (lt : X → X → Bool) (o : IsStrictWeakOrder lt) where
       let yx : lt y x ≡ false = head_above (ties lt y) x y (x ∷ xs) (filter (ties lt y) ys) (e y ∙ first_passes (ties lt y) y ys (ties_itself y)) (irreflexive (lt x x) x refl, u.0) in
       let xy : lt x y ≡ false = head_above (ties lt x) y x (y ∷ ys) (filter (ties lt x) xs) (sym (e x) ∙ first_passes (ties lt x) x xs (ties_itself x)) (irreflexive (lt y y) y refl, v.0) in
       let lists : x ∷ filter (ties lt x) xs ≡ y ∷ filter (ties lt x) ys =
-          sym (first_passes (ties lt x) x xs (ties_itself x)) ∙ e x ∙ first_passes (ties lt x) y ys (ties_of x y xy yx) in
+      sym (first_passes (ties lt x) x xs (ties_itself x)) ∙ e x ∙ first_passes (ties lt x) y ys (ties_of x y xy yx) in
       let heads : x ≡ y = cc in
       let tails : xs ≡ ys =
-          same_list xs ys u.1 v.1
-          (λ (z : X). tail_same (ties lt z x) x y (filter (ties lt z) xs) (filter (ties lt z) ys) heads
-          (e z ∙ ap (λ w. cond (ties lt z w) (y ∷ filter (ties lt z) ys) (filter (ties lt z) ys)) (sym heads))) in
+      same_list xs ys u.1 v.1
+      (λ (z : X). tail_same (ties lt z x) x y (filter (ties lt z) xs) (filter (ties lt z) ys) heads
+      (e z ∙ ap (λ w. cond (ties lt z w) (y ∷ filter (ties lt z) ys) (filter (ties lt z) ys)) (sym heads))) in
       cc
 
   -- ---- inserting one by one
@@ -158,18 +158,18 @@ pub by_name : IsStrictWeakOrder name_before
 by_name = ranks_by nat_list_cmp_total (λ (x : List ℕ × Ty). x.0)
 
 put-insert_field : (f : List ℕ × Ty) (gs : List (List ℕ × Ty))
-    → fields_of (map field_tree (put name_before by_name f gs)) ≡ insert_field f.0 (ty_tree f.1) (fields_of (map field_tree gs))
+    → type_fields_of (map field_tree (put name_before by_name f gs)) ≡ insert_field f.0 (ty_tree f.1) (type_fields_of (map field_tree gs))
 put-insert_field f [] = refl
 put-insert_field f (g ∷ gs) =
-    elim (is_before g.0 f.0) as (λ b. fields_of (map field_tree (if b then g ∷ put name_before by_name f gs else f ∷ g ∷ gs))
-    ≡ (if b then field g.0 (ty_tree g.1) (insert_field f.0 (ty_tree f.1) (fields_of (map field_tree gs))) else field f.0 (ty_tree f.1) (field g.0 (ty_tree g.1) (fields_of (map field_tree gs)))))
-    [ true ↦ ap (field g.0 (ty_tree g.1)) (put-insert_field f gs) | false ↦ refl ]
+    elim (is_before g.0 f.0) as (λ b. type_fields_of (map field_tree (if b then g ∷ put name_before by_name f gs else f ∷ g ∷ gs))
+    ≡ (if b then more_fields g.0 (ty_tree g.1) (insert_field f.0 (ty_tree f.1) (type_fields_of (map field_tree gs))) else more_fields f.0 (ty_tree f.1) (more_fields g.0 (ty_tree g.1) (type_fields_of (map field_tree gs)))))
+    [ true ↦ ap (more_fields g.0 (ty_tree g.1)) (put-insert_field f gs) | false ↦ refl ]
 
-put_all-sorted : (fs : List (List ℕ × Ty)) → fields_of (map field_tree (put_all name_before by_name fs)) ≡ sorted (fields_of (map field_tree fs))
+put_all-sorted : (fs : List (List ℕ × Ty)) → type_fields_of (map field_tree (put_all name_before by_name fs)) ≡ sorted (type_fields_of (map field_tree fs))
 put_all-sorted [] = refl
 put_all-sorted (f ∷ fs) = put-insert_field f (put_all name_before by_name fs) ∙ ap (insert_field f.0 (ty_tree f.1)) (put_all-sorted fs)
 
 -- fields that are sorted by a stable sort
 pub sorted_fields : (fs gs : List (List ℕ × Ty)) → IsSortedBy name_before gs → IsStableBy name_before fs gs
-    → fields_of (map field_tree gs) ≡ sorted (fields_of (map field_tree fs))
-sorted_fields fs gs up stable = ap (λ l. fields_of (map field_tree l)) (sorted_is name_before by_name fs gs up stable) ∙ put_all-sorted fs
+    → type_fields_of (map field_tree gs) ≡ sorted (type_fields_of (map field_tree fs))
+sorted_fields fs gs up stable = ap (λ l. type_fields_of (map field_tree l)) (sorted_is name_before by_name fs gs up stable) ∙ put_all-sorted fs

@@ -1,6 +1,6 @@
 -- Names expanded: what a type and a lens stand for, where earlier definitions say what their names stand for.
 use Rattle.std.specs.Prelude.{ℕ, bytes_eq, if◌then◌else◌, List, [], ◌∷◌, ◌++◌, Option, Some, None}
-use Rattle.doc_values.specs.Types.{TyTree, ty_unit, ty_bool, ty_int, ty_text, ty_enum, ty_rec, ty_alt, ty_list, ty_keyed, ty_ordered, FieldTrees, no_fields, field}
+use Rattle.doc_values.specs.Types.{TyTree, ty_unit, ty_bool, ty_int, ty_text, ty_enum, ty_rec, ty_alt, ty_list, ty_keyed, ty_ordered, FieldTrees, no_fields, more_fields}
 use Rattle.program_terms.specs.Terms as Term
 use Rattle.lens_forms.specs.Forms.{FormTree, form_id, form_bij, form_disc, form_then, form_rec, form_alt, form_each, form_keyed, form_ordered, form_part, form_inv, RowTrees, no_rows, both, only_left, only_right, ArmTrees, no_arms, more_arms, sorted}
 
@@ -42,7 +42,7 @@ enum_type (m ∷ ms) = ty_enum (m ∷ ms)
 
 abbrev pub alternatives_type : FieldTrees → TyTree
 alternatives_type no_fields = ty_rec no_fields
-alternatives_type (field n t fs) = ty_alt (field n t fs)
+alternatives_type (more_fields n t fs) = ty_alt (more_fields n t fs)
 
 abbrev pub bijection : List (List ℕ × List ℕ) → FormTree
 bijection [] = form_rec no_rows
@@ -54,7 +54,7 @@ alternatives (more_arms a b l arms) = form_alt (more_arms a b l arms)
 
 abbrev pub partition : FieldTrees → FormTree
 partition no_fields = form_rec no_rows
-partition (field n t fs) = form_part (field n t fs)
+partition (more_fields n t fs) = form_part (more_fields n t fs)
 
 -- a type with its names expanded; the fields of a record are sorted by bytes
 abbrev mutual
@@ -74,7 +74,7 @@ abbrev mutual
   -- fields, or tags, in written order
   pub expanded_fields : Definitions → Term.FieldTrees → FieldTrees
   expanded_fields ds Term.no_fields = no_fields
-  expanded_fields ds (Term.more_fields n t fs) = field n (expanded_type ds t) (expanded_fields ds fs)
+  expanded_fields ds (Term.more_fields n t fs) = more_fields n (expanded_type ds t) (expanded_fields ds fs)
 
 -- a lens with its names expanded
 abbrev mutual

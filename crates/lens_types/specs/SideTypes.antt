@@ -1,6 +1,6 @@
 -- For the helpers of the checker: the type of a side of a form, for both sides at once, its fields sorted at the end.
 use Rattle.std.specs.Prelude.{ℕ, List, Option, Some, None}
-use Rattle.doc_values.specs.Types.{TyTree, ty_enum, ty_rec, ty_alt, ty_list, ty_keyed, ty_ordered, FieldTrees, no_fields, field}
+use Rattle.doc_values.specs.Types.{TyTree, ty_enum, ty_rec, ty_alt, ty_list, ty_keyed, ty_ordered, FieldTrees, no_fields, more_fields}
 use Rattle.lens_forms.specs.Forms.{FormTree, form_id, form_bij, form_disc, form_then, form_rec, form_alt, form_each, form_keyed, form_ordered, form_part, form_inv, RowTrees, no_rows, both, only_left, only_right, ArmTrees, no_arms, more_arms, lefts, rights, sorted, lists_of}
 use Rattle.program_terms.specs.Terms as Term
 use Rattle.lens_types.specs.Earlier.{Definitions, expanded_type, expanded_form}
@@ -30,14 +30,14 @@ abbrev mutual
   -- the fields of a side of a record, in written order
   pub fields_on : Side → RowTrees → FieldTrees
   fields_on side no_rows = no_fields
-  fields_on side (both a b l rows) = field (pick side a b) (type_on side l) (fields_on side rows)
-  fields_on side (only_left a t rows) = pick side (field a t (fields_on side rows)) (fields_on side rows)
-  fields_on side (only_right b t rows) = pick side (fields_on side rows) (field b t (fields_on side rows))
+  fields_on side (both a b l rows) = more_fields (pick side a b) (type_on side l) (fields_on side rows)
+  fields_on side (only_left a t rows) = pick side (more_fields a t (fields_on side rows)) (fields_on side rows)
+  fields_on side (only_right b t rows) = pick side (fields_on side rows) (more_fields b t (fields_on side rows))
 
   -- the tags of a side of alternatives, in written order
   pub tags_on : Side → ArmTrees → FieldTrees
   tags_on side no_arms = no_fields
-  tags_on side (more_arms a b l arms) = field (pick side a b) (type_on side l) (tags_on side arms)
+  tags_on side (more_arms a b l arms) = more_fields (pick side a b) (type_on side l) (tags_on side arms)
 
 -- the members of a side of a bijection
 abbrev pub members_on : Side → List (List ℕ × List ℕ) → List (List ℕ)

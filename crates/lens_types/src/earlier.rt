@@ -24,7 +24,6 @@ impl<'a> Model for Earlier<'a> {
     ghost use Rattle.std.specs.Prelude.{List, ℕ, IsTrue, []};
     ghost use Rattle.lens_types.specs.declared.known.Known.{Known};
     ghost use Rattle.lens_types.specs.Entries.{are_measured};
-
     ghost use Rattle.std.specs.Coded.{codes};
     ghost use Rattle.program_terms.specs.contracts.types.TyExpr as type_code;
     ghost use Rattle.program_terms.specs.contracts.lens.Lens as lens_code;

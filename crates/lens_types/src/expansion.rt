@@ -4,7 +4,7 @@
 //! form; a side is expanded where a composition compares it, and for the main lens.
 
 ghost use Rattle.std.specs.Prelude.{◌≡◌, IfOk, map, take};
-ghost use Rattle.doc_values.specs.Types.{ty_tree, fields_tree as ty_fields, fields_of as ty_fields_of, field_tree as ty_field};
+ghost use Rattle.doc_values.specs.Types.{ty_tree, fields_tree as ty_fields, type_fields_of as ty_fields_of, field_tree as ty_field};
 ghost use Rattle.program_terms.specs.Views.{type_tree, fields_tree, lens_tree, row_tree as lens_row, rows_tree as lens_rows, arms_tree as lens_arms};
 ghost use Rattle.lens_forms.specs.Forms.{form_tree, form_rec, no_rows, row_tree, rows_tree, arms_tree, sorted};
 ghost use Rattle.lens_types.specs.Earlier.{expanded_type, expanded_fields, expanded_form, expanded_rows, expanded_arms, enum_type, alternatives_type, bijection, alternatives, partition};
@@ -138,10 +138,7 @@ pub(crate) fn expanded_lens(
             Ok(Form::Then(Box::new(alloc, first)?, Box::new(alloc, second)?))
         }
         Lens::Rec(rows) => Ok(Form::Rec(expanded_rows(alloc, earlier, scope, rows)?)),
-        Lens::Alt(arms) => Ok(alternatives(
-            alloc,
-            expanded_arms(alloc, earlier, scope, arms)?,
-        )),
+        Lens::Alt(arms) => Ok(alternatives(alloc, expanded_arms(alloc, earlier, scope, arms)?)),
         Lens::Each(inner) => {
             let inner = expanded_lens(alloc, earlier, scope, inner)?;
             Ok(Form::Each(Box::new(alloc, inner)?))

@@ -9,7 +9,7 @@ pub(crate) enum Known<'a> {
     OfLens(KnownLens<'a>),
 }
 
-// A type whose names are those of the first definitions of the program, as many as `scope`.
+// A type, whose names refer to the first definitions of the program, `scope` of them.
 #[derive(Clone, Copy)]
 pub(crate) struct KnownType<'a> {
     pub(crate) ty: &'a TyExpr,
@@ -18,7 +18,7 @@ pub(crate) struct KnownType<'a> {
     pub(crate) height: u32,
 }
 
-// A lens whose names are those of the first definitions of the program, as many as `scope`.
+// A lens, whose names refer to the first definitions of the program, `scope` of them.
 #[derive(Clone, Copy)]
 pub(crate) struct KnownLens<'a> {
     pub(crate) lens: &'a Lens,

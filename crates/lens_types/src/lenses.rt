@@ -12,7 +12,6 @@ ghost use Rattle.lens_types.specs.Heights.{capped, HasHeights, HasRowHeights, Ha
 ghost use Rattle.lens_types.specs.Nodes.{IsLowForm, IsRowChecked, bijection_failure};
 
 use crate::earlier::Earlier;
-use crate::sides::side_type;
 use crate::fault::TypeFault;
 use crate::heights::{fields_height, type_height};
 use crate::known::SideHeights;
@@ -20,6 +19,7 @@ use crate::limits::{GREATEST_HEIGHT, next_height};
 use crate::names::{
     arm_names, distinct_fields, distinct_members, distinct_tags, field_names, pair_names, row_names,
 };
+use crate::sides::side_type;
 use crate::types::{check_fields, check_type};
 use program_terms::{Arms, Lens, Pairs, Row, Rows, TyExpr, TyFields};
 use std::alloc::Global;
@@ -93,11 +93,7 @@ fn checked_composition(
 
 // The greatest heights of the fields of both sides, or the first failure among the rows.
 #[cycle(checked_lens)]
-fn checked_rows(
-    alloc: Global,
-    earlier: &Earlier<'_>,
-    rows: &Rows,
-) -> Result<SideHeights, TypeFault>
+fn checked_rows(alloc: Global, earlier: &Earlier<'_>, rows: &Rows) -> Result<SideHeights, TypeFault>
     ensures { MatchResult result
         (λ h. (rows_failure (earlier_tree earlier.now) (rows_tree rows.now) ≡ None)
         × HasRowHeights (expanded_rows (earlier_tree earlier.now) (rows_tree rows.now)) h)
@@ -135,11 +131,7 @@ fn checked_row(alloc: Global, earlier: &Earlier<'_>, row: &Row) -> Result<SideHe
 
 // The greatest heights of the contents of both sides, or the first failure among the arms.
 #[cycle(checked_lens)]
-fn checked_arms(
-    alloc: Global,
-    earlier: &Earlier<'_>,
-    arms: &Arms,
-) -> Result<SideHeights, TypeFault>
+fn checked_arms(alloc: Global, earlier: &Earlier<'_>, arms: &Arms) -> Result<SideHeights, TypeFault>
     ensures { MatchResult result
         (λ h. (arms_failure (earlier_tree earlier.now) (arms_tree arms.now) ≡ None)
         × HasArmHeights (expanded_arms (earlier_tree earlier.now) (arms_tree arms.now)) h)

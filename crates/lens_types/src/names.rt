@@ -1,7 +1,7 @@
 //! Names that stand twice on a side.
 
 ghost use Rattle.std.specs.Prelude.{◌≡◌, IfOk, MatchResult, None, option_map, map};
-ghost use Rattle.program_terms.specs.Terms.{fields_of, rows_of, arms_of};
+ghost use Rattle.program_terms.specs.Terms.{term_fields_of, term_rows_of, term_arms_of};
 ghost use Rattle.program_terms.specs.Views.{field_tree, row_tree, arm_tree};
 ghost use Rattle.lens_types.specs.Repeats.{is_same_side, sided, first_repeat, member_names, field_names, pair_names, row_names, arm_names};
 ghost use Rattle.lens_types.specs.Checking.{repeated_field, repeated_tag, repeated_member};
@@ -98,7 +98,7 @@ pub(crate) fn field_names(
     alloc: Global,
     fields: &[(Name, TyExpr)],
 ) -> Result<Vec<(Side, &Name)>, AllocError>
-    ensures { IfOk result (λ ns. map sided ns.items ≡ field_names (fields_of (map field_tree fields.now))) }
+    ensures { IfOk result (λ ns. map sided ns.items ≡ field_names (term_fields_of (map field_tree fields.now))) }
 {
     let mut names = Vec::new(alloc);
     for field in fields {
@@ -122,7 +122,7 @@ pub(crate) fn pair_names(
 }
 
 pub(crate) fn row_names(alloc: Global, rows: &[Row]) -> Result<Vec<(Side, &Name)>, AllocError>
-    ensures { IfOk result (λ ns. map sided ns.items ≡ row_names (rows_of (map row_tree rows.now))) }
+    ensures { IfOk result (λ ns. map sided ns.items ≡ row_names (term_rows_of (map row_tree rows.now))) }
 {
     let mut names = Vec::new(alloc);
     for row in rows {
@@ -142,7 +142,7 @@ pub(crate) fn arm_names(
     alloc: Global,
     arms: &[(Name, Name, Lens)],
 ) -> Result<Vec<(Side, &Name)>, AllocError>
-    ensures { IfOk result (λ ns. map sided ns.items ≡ arm_names (arms_of (map arm_tree arms.now))) }
+    ensures { IfOk result (λ ns. map sided ns.items ≡ arm_names (term_arms_of (map arm_tree arms.now))) }
 {
     let mut names = Vec::new(alloc);
     for arm in arms {

@@ -1,7 +1,7 @@
 //! The type of a side of a lens, all names expanded.
 
 ghost use Rattle.std.specs.Prelude.{◌≡◌, IfOk, map, take, option_map};
-ghost use Rattle.doc_values.specs.Types.{ty_tree, ty_list, ty_alt, ty_rec, fields_of as ty_fields_of, field_tree as ty_field};
+ghost use Rattle.doc_values.specs.Types.{ty_tree, ty_list, ty_alt, ty_rec, type_fields_of as ty_fields_of, field_tree as ty_field};
 ghost use Rattle.program_terms.specs.Views.{lens_tree, row_tree, rows_tree, arms_tree};
 ghost use Rattle.lens_forms.specs.Forms.{sorted, lists_of};
 ghost use Rattle.lens_types.specs.Earlier.{expanded_form, expanded_rows, expanded_arms, alternatives_type, bijection, partition};

@@ -4,7 +4,7 @@
 //! too many.
 
 ghost use Rattle.std.specs.Prelude.{◌≡◌, map};
-ghost use Rattle.program_terms.specs.Terms.{fields_of, rows_of, arms_of};
+ghost use Rattle.program_terms.specs.Terms.{term_fields_of, term_rows_of, term_arms_of};
 ghost use Rattle.program_terms.specs.Views.{type_tree, fields_tree, lens_tree, row_tree, rows_tree, arms_tree};
 ghost use Rattle.lens_types.specs.Earlier.{expanded_type, expanded_form};
 ghost use Rattle.lens_forms.specs.Measures.{type_parts, form_parts};

@@ -1,6 +1,6 @@
 use Rattle.std.proofs.Common.{◌≡◌, map, drop}
 use Rattle.std.specs.Prelude.{max}
-use Rattle.program_terms.specs.Terms.{rows_of, arms_of}
+use Rattle.program_terms.specs.Terms.{term_rows_of, term_arms_of}
 use Rattle.program_terms.specs.Views.{arm_tree, arms_tree, lens_tree, row_tree, rows_tree}
 use Rattle.lens_types.specs.Sizes.{arms_size, lens_size, row_size, rows_size}
 use Rattle.lens_forms.specs.Measures.{highest_row, highest_arm}
@@ -11,13 +11,13 @@ use Rattle.lens_types.proofs.heights.+lens_height.Given as goal
 
 abbrev pub invariant-rows_height-loop-row : goal.invariant-rows_height-loop-row
 invariant-rows_height-loop-row l =
-    max l.highest (capped (highest_row (expanded_rows (earlier_tree l.earlier) (rows_of (map row_tree (drop l.row-index l.row-items))))))
-    ≡ capped (highest_row (expanded_rows (earlier_tree l.earlier) (rows_of (map row_tree l.row-items))))
+    max l.highest (capped (highest_row (expanded_rows (earlier_tree l.earlier) (term_rows_of (map row_tree (drop l.row-index l.row-items))))))
+    ≡ capped (highest_row (expanded_rows (earlier_tree l.earlier) (term_rows_of (map row_tree l.row-items))))
 
 abbrev pub invariant-arms_height-loop-arm : goal.invariant-arms_height-loop-arm
 invariant-arms_height-loop-arm l =
-    max l.highest (capped (highest_arm (expanded_arms (earlier_tree l.earlier) (arms_of (map arm_tree (drop l.arm-index l.arm-items))))))
-    ≡ capped (highest_arm (expanded_arms (earlier_tree l.earlier) (arms_of (map arm_tree l.arm-items))))
+    max l.highest (capped (highest_arm (expanded_arms (earlier_tree l.earlier) (term_arms_of (map arm_tree (drop l.arm-index l.arm-items))))))
+    ≡ capped (highest_arm (expanded_arms (earlier_tree l.earlier) (term_arms_of (map arm_tree l.arm-items))))
 
 abbrev pub decreases-lens_height : goal.decreases-lens_height
 decreases-lens_height l = lens_size (lens_tree l.lens.now)

@@ -1,6 +1,6 @@
 use Rattle.std.proofs.Common.{◌≡◌, map, drop}
 use Rattle.std.specs.Prelude.{max}
-use Rattle.program_terms.specs.Terms.{rows_of, arms_of}
+use Rattle.program_terms.specs.Terms.{term_rows_of, term_arms_of}
 use Rattle.program_terms.specs.Views.{arm_tree, arms_tree, lens_tree, row_tree, rows_tree}
 use Rattle.lens_types.specs.Sizes.{arms_size, lens_size, row_size, rows_size}
 use Rattle.lens_types.specs.Checking.{rows_written, arms_written}
@@ -10,13 +10,13 @@ use Rattle.lens_types.proofs.heights.+written_height.Given as goal
 
 abbrev pub invariant-rows_written-loop-row : goal.invariant-rows_written-loop-row
 invariant-rows_written-loop-row l =
-    max l.highest (capped (rows_written (earlier_tree l.earlier) (rows_of (map row_tree (drop l.row-index l.row-items)))))
-    ≡ capped (rows_written (earlier_tree l.earlier) (rows_of (map row_tree l.row-items)))
+    max l.highest (capped (rows_written (earlier_tree l.earlier) (term_rows_of (map row_tree (drop l.row-index l.row-items)))))
+    ≡ capped (rows_written (earlier_tree l.earlier) (term_rows_of (map row_tree l.row-items)))
 
 abbrev pub invariant-arms_written-loop-arm : goal.invariant-arms_written-loop-arm
 invariant-arms_written-loop-arm l =
-    max l.highest (capped (arms_written (earlier_tree l.earlier) (arms_of (map arm_tree (drop l.arm-index l.arm-items)))))
-    ≡ capped (arms_written (earlier_tree l.earlier) (arms_of (map arm_tree l.arm-items)))
+    max l.highest (capped (arms_written (earlier_tree l.earlier) (term_arms_of (map arm_tree (drop l.arm-index l.arm-items)))))
+    ≡ capped (arms_written (earlier_tree l.earlier) (term_arms_of (map arm_tree l.arm-items)))
 
 abbrev pub decreases-written_height : goal.decreases-written_height
 decreases-written_height l = lens_size (lens_tree l.lens.now)

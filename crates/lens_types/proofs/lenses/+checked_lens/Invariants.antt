@@ -1,7 +1,7 @@
 use Rattle.std.proofs.Common.{◌≡◌, ◌+◌, map}
 use Rattle.std.specs.Prelude.{max}
 use Rattle.doc_values.specs.Types.{highest}
-use Rattle.program_terms.specs.Terms.{rows_of, arms_of}
+use Rattle.program_terms.specs.Terms.{term_rows_of, term_arms_of}
 use Rattle.program_terms.specs.Views.{arm_tree, arms_tree, lens_tree, row_tree, rows_tree}
 use Rattle.lens_forms.specs.Forms.{left_fields, right_fields, left_tags, right_tags}
 use Rattle.lens_types.specs.Sizes.{arms_size, lens_size, row_size, rows_size}
@@ -14,24 +14,24 @@ use Rattle.lens_types.proofs.lenses.+checked_lens.Given as goal
 
 abbrev pub invariant-checked_rows-loop-row : goal.invariant-checked_rows-loop-row
 invariant-checked_rows-loop-row l = record {
-  failure : rows_failure (earlier_tree l.earlier) (rows_from l.row-index l.row-items) ≡ rows_failure (earlier_tree l.earlier) (rows_of (map row_tree l.row-items));
+  failure : rows_failure (earlier_tree l.earlier) (rows_from l.row-index l.row-items) ≡ rows_failure (earlier_tree l.earlier) (term_rows_of (map row_tree l.row-items));
   lefts :
       max l.left (capped (highest (left_fields (expanded_rows (earlier_tree l.earlier) (rows_from l.row-index l.row-items)))))
-      ≡ capped (highest (left_fields (expanded_rows (earlier_tree l.earlier) (rows_of (map row_tree l.row-items)))));
+      ≡ capped (highest (left_fields (expanded_rows (earlier_tree l.earlier) (term_rows_of (map row_tree l.row-items)))));
   rights :
       max l.right (capped (highest (right_fields (expanded_rows (earlier_tree l.earlier) (rows_from l.row-index l.row-items)))))
-      ≡ capped (highest (right_fields (expanded_rows (earlier_tree l.earlier) (rows_of (map row_tree l.row-items)))));
+      ≡ capped (highest (right_fields (expanded_rows (earlier_tree l.earlier) (term_rows_of (map row_tree l.row-items)))));
 }
 
 abbrev pub invariant-checked_arms-loop-arm : goal.invariant-checked_arms-loop-arm
 invariant-checked_arms-loop-arm l = record {
-  failure : arms_failure (earlier_tree l.earlier) (arms_from l.arm-index l.arm-items) ≡ arms_failure (earlier_tree l.earlier) (arms_of (map arm_tree l.arm-items));
+  failure : arms_failure (earlier_tree l.earlier) (arms_from l.arm-index l.arm-items) ≡ arms_failure (earlier_tree l.earlier) (term_arms_of (map arm_tree l.arm-items));
   lefts :
       max l.left (capped (highest (left_tags (expanded_arms (earlier_tree l.earlier) (arms_from l.arm-index l.arm-items)))))
-      ≡ capped (highest (left_tags (expanded_arms (earlier_tree l.earlier) (arms_of (map arm_tree l.arm-items)))));
+      ≡ capped (highest (left_tags (expanded_arms (earlier_tree l.earlier) (term_arms_of (map arm_tree l.arm-items)))));
   rights :
       max l.right (capped (highest (right_tags (expanded_arms (earlier_tree l.earlier) (arms_from l.arm-index l.arm-items)))))
-      ≡ capped (highest (right_tags (expanded_arms (earlier_tree l.earlier) (arms_of (map arm_tree l.arm-items)))));
+      ≡ capped (highest (right_tags (expanded_arms (earlier_tree l.earlier) (term_arms_of (map arm_tree l.arm-items)))));
 }
 
 abbrev pub decreases-checked_lens : goal.decreases-checked_lens

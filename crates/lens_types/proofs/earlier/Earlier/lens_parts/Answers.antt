@@ -1,5 +1,4 @@
 use Rattle.std.proofs.Common.{refl}
-
 use Rattle.lens_types.proofs.Entries.{lens_measures, no_lens}
 use Rattle.lens_types.proofs.earlier.Earlier.lens_parts.Goals as goal
 

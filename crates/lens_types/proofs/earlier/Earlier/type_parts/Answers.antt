@@ -1,5 +1,4 @@
 use Rattle.std.proofs.Common.{refl}
-
 use Rattle.lens_types.proofs.Entries.{type_measures, no_type}
 use Rattle.lens_types.proofs.earlier.Earlier.type_parts.Goals as goal
 
