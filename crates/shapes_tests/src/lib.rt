@@ -1,8 +1,7 @@
 //! Tests of `texts`, `hold_shapes` and `shape_laws`: each call that allocates, once over ample
 //! memory with what it returned compared, and each generic call once at a concrete type.
 //!
-//! They are in a crate of their own, since a crate with tests is proved twice. The tables of edits
-//! and shapes are data, which the program `layer_cases` reads.
+//! They are in a crate of their own, since a crate with tests is proved twice.
 #![tactic(auto)]
 
 #[cfg(test)]
