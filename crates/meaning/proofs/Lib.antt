@@ -1,0 +1,26 @@
+pub mod ActionKeepsTypes
+pub mod BeforeDiffers
+mod Examples
+pub mod InitialTypes
+pub mod Lists
+pub mod PartitionColumns
+pub mod PartitionFromLeft
+pub mod PartitionFromRight
+pub mod PartitionItems
+pub mod PartitionItemWords
+pub mod PartitionLists
+pub mod PartitionOrders
+pub mod PartitionReorder
+pub mod PartitionRightWords
+pub mod Places
+pub mod PlannedShapes
+pub mod LawsOfAlternatives
+pub mod LawsOfCompositions
+pub mod LawsOfContainers
+pub mod LawsOfForms
+pub mod LawsOfLeaves
+pub mod LawsOfPartition
+pub mod LawsOfRecords
+pub mod LawsOfWords
+pub mod Results
+pub mod WordSteps

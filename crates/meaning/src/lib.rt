@@ -1,0 +1,4 @@
+//! A study.
+#![tactic(auto)]
+
+pub mod parts;
