@@ -58,8 +58,8 @@ def short(number):
 
 
 def compared(count):
-    """Definitions each of which compares both sides of one record of 1,000 rows."""
-    text = 'lens b={' + ','.join('%s~%s:id int' % (short(k)[1:], short(k)[1:]) for k in range(15000, 16000)) + '};\n'
+    """Definitions each of which compares both sides of one lens of 1,000 fields."""
+    text = 'lens b=id {' + ','.join('%s:int' % short(k)[1:] for k in range(15000, 16000)) + '};\n'
     for k in range(count):
         text += 'lens %s=then(b,b);' % short(k)
     return text + 'main b\n'
