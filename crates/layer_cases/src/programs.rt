@@ -12,18 +12,13 @@ use program_terms::Program;
 use program_tokens::{PlacedToken, Token, is_name, is_text, tokens};
 use serde_json::Value;
 use std::alloc::Global;
+use texts::Str;
 
 /// What came of a call, or none where the call is no call on texts of programs.
 pub fn answer(alloc: Global, call: &str, case: &Case<'_>) -> Result<Option<Value>> {
     let came = match call {
-        "read_program" => {
-            let bytes = case.bytes(alloc)?;
-            read_tree(alloc, read_program(alloc, bytes.as_slice()))?
-        }
-        "read_unbounded" => {
-            let bytes = case.bytes(alloc)?;
-            read_tree(alloc, read_unbounded(alloc, bytes.as_slice()))?
-        }
+        "read_program" => read_bounded(alloc, case)?,
+        "read_unbounded" => read(alloc, case)?,
         "tokens" => token_items(alloc, case)?,
         "write_type" => {
             let ty = values::ty(alloc, case.argument("type")?)?;
@@ -40,22 +35,40 @@ pub fn answer(alloc: Global, call: &str, case: &Case<'_>) -> Result<Option<Value
     Ok(Some(came))
 }
 
-// The canonical text of a program that was read, or why there is none. The canonical text is read again, and must have
-// the same canonical text.
-fn read_tree(alloc: Global, read: std::result::Result<Program, ProgramFault>) -> Result<Value> {
-    match read {
-        Ok(program) => {
-            let text = write_program(alloc, &program)?;
-            let Ok(again) = read_unbounded(alloc, text.as_str().as_bytes()) else {
-                bail!("the canonical text is no program");
-            };
-            if !write_program(alloc, &again)?.is_same(&text) {
-                bail!("the canonical text is that of another program");
-            }
-            Ok(named(alloc, "canonical", text.as_str())?)
-        }
+fn read_bounded(alloc: Global, case: &Case<'_>) -> Result<Value> {
+    let bytes = case.bytes(alloc)?;
+    match read_program(alloc, bytes.as_slice()) {
+        Ok(program) => canonical(alloc, &program),
         Err(fault) => fault_tree(alloc, fault),
     }
+}
+
+fn read(alloc: Global, case: &Case<'_>) -> Result<Value> {
+    let bytes = case.bytes(alloc)?;
+    match read_unbounded(alloc, bytes.as_slice()) {
+        Ok(program) => canonical(alloc, &program),
+        Err(fault) => fault_tree(alloc, fault),
+    }
+}
+
+// The canonical text of a program. It is refused where it does not read back as a program with this text.
+fn canonical(alloc: Global, program: &Program) -> Result<Value> {
+    let text = write_program(alloc, program)?;
+    if !reads_back(alloc, &text)? {
+        bail!("the canonical text does not read back");
+    }
+    Ok(named(alloc, "canonical", text.as_str())?)
+}
+
+fn reads_back(alloc: Global, text: &Str) -> Result<bool> {
+    match read_unbounded(alloc, text.as_str().as_bytes()) {
+        Ok(program) => is_written_so(alloc, &program, text),
+        Err(_) => Ok(false),
+    }
+}
+
+fn is_written_so(alloc: Global, program: &Program, text: &Str) -> Result<bool> {
+    Ok(write_program(alloc, program)?.is_same(text))
 }
 
 /// Why a text is no program.
@@ -75,11 +88,14 @@ pub fn fault_tree(alloc: Global, fault: ProgramFault) -> Result<Value> {
 
 /// The program of a text, checked. It is refused where the text is no program or is not accepted.
 pub fn typed(alloc: Global, text: &str) -> Result<Typed> {
-    let program = match read_unbounded(alloc, text.as_bytes()) {
-        Ok(program) => program,
+    match read_unbounded(alloc, text.as_bytes()) {
+        Ok(program) => accepted(alloc, &program),
         Err(fault) => bail!("no program: {fault:?}"),
-    };
-    match check(alloc, &program) {
+    }
+}
+
+fn accepted(alloc: Global, program: &Program) -> Result<Typed> {
+    match check(alloc, program) {
         Ok(typed) => Ok(typed),
         Err(_) => bail!("the program is not accepted"),
     }

@@ -7,6 +7,7 @@ use anyhow::{Result, bail};
 use doc_values::Ty;
 use lens_syntax::{read_program, write_type};
 use lens_types::{TypeFault, check};
+use program_terms::Program;
 use serde_json::{Value, put};
 use std::alloc::Global;
 use texts::Name;
@@ -21,11 +22,14 @@ pub fn answer(alloc: Global, call: &str, case: &Case<'_>) -> Result<Option<Value
 
 fn checked(alloc: Global, case: &Case<'_>) -> Result<Value> {
     let bytes = case.bytes(alloc)?;
-    let program = match read_program(alloc, bytes.as_slice()) {
-        Ok(program) => program,
-        Err(fault) => return fault_tree(alloc, fault),
-    };
-    match check(alloc, &program) {
+    match read_program(alloc, bytes.as_slice()) {
+        Ok(program) => types_or_fault(alloc, &program),
+        Err(fault) => fault_tree(alloc, fault),
+    }
+}
+
+fn types_or_fault(alloc: Global, program: &Program) -> Result<Value> {
+    match check(alloc, program) {
         Ok(typed) => two_types(alloc, typed.left(), typed.right()),
         Err(fault) => refusal(alloc, &fault),
     }
