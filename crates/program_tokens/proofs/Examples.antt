@@ -3,6 +3,8 @@ use Rattle.std.proofs.Common.{◌≡◌, [], ◌∷◌, true, false, refl}
 use Rattle.std.specs.Prelude.{codes}
 use Rattle.std.specs.Str.{is_utf8, chars}
 use lib.Utf8.{encode}
+use lib.IntN.{pos, negsuc}
+use Rattle.program_tokens.specs.Numbers.{number_of}
 use Rattle.program_tokens.specs.Words.{is_space, begins_word, in_word, keyword_of, mark_of, is_word, is_name, in_text, is_text}
 use Rattle.program_tokens.specs.Tokens.{tokens_of, tokens_from, piece_of, placed}
 use Rattle.program_tokens.specs.declared.keyword.Keyword.TheVariants as words
@@ -41,6 +43,40 @@ not_closed = refl
 no_text : tokens_of (34 ∷ 34 ∷ 97 ∷ []) ≡ placed tokens.Bad 0 ∷ []
 unfolding tokens_from piece_of is_space begins_word is_text is_utf8 chars
 no_text = refl
+
+-- a number has at most 19 digits, and its value is in i64
+numbers : tokens_of (codes "-5 007 -0") ≡ placed (tokens.Number (negsuc 4)) 0 ∷ placed (tokens.Number (pos 7)) 3 ∷ placed (tokens.Number (pos 0)) 7 ∷ placed tokens.End 9 ∷ []
+unfolding tokens_from piece_of is_space begins_word number_of
+numbers = refl
+
+most : tokens_of (codes "9223372036854775807") ≡ placed (tokens.Number (pos 9223372036854775807)) 0 ∷ placed tokens.End 19 ∷ []
+unfolding tokens_from piece_of is_space begins_word number_of
+most = refl
+
+least : tokens_of (codes "-9223372036854775808") ≡ placed (tokens.Number (negsuc 9223372036854775807)) 0 ∷ placed tokens.End 20 ∷ []
+unfolding tokens_from piece_of is_space begins_word number_of
+least = refl
+
+past_most : tokens_of (codes "9223372036854775808") ≡ placed tokens.Bad 0 ∷ []
+unfolding tokens_from piece_of is_space begins_word number_of
+past_most = refl
+
+past_least : tokens_of (codes "-9223372036854775809") ≡ placed tokens.Bad 0 ∷ []
+unfolding tokens_from piece_of is_space begins_word number_of
+past_least = refl
+
+twenty_digits : tokens_of (codes "00000000000000000005") ≡ placed tokens.Bad 0 ∷ []
+unfolding tokens_from piece_of is_space begins_word number_of
+twenty_digits = refl
+
+-- a `-` stands directly before its digits, and a number ends before a word
+lone_minus : tokens_of (codes "- 5") ≡ placed tokens.Bad 0 ∷ []
+unfolding tokens_from piece_of is_space begins_word number_of
+lone_minus = refl
+
+then_word : tokens_of (codes "5a a5") ≡ placed (tokens.Number (pos 5)) 0 ∷ placed (tokens.Name (codes "a")) 1 ∷ placed (tokens.Name (codes "a5")) 3 ∷ placed tokens.End 5 ∷ []
+unfolding tokens_from piece_of is_space begins_word in_word keyword_of number_of
+then_word = refl
 
 -- a backslash stands in no string, and a letter that is not ASCII begins nothing
 backslash : is_text (codes "a\\b") ≡ false

@@ -1,13 +1,17 @@
--- The tokens of a text that begins with a word, a string, a mark or a space.
-use Rattle.std.proofs.Common.{◌≡◌, ℕ, suc, ◌+◌, ◌≤◌, Bool, true, false, cond, not, ◌&&◌, List, [], ◌∷◌, ◌++◌, length, take, eqb, nat_le, nat_lt, arith, refl, sym, ap, ◌∙◌, Option, Some, None}
+-- The tokens of a text that begins with a word, a string, a number, a mark or a space.
+use Rattle.std.proofs.Common.{◌≡◌, ℕ, suc, ◌+◌, ◌^◌, ◌<◌, ◌≤◌, Bool, true, false, cond, not, ◌&&◌, List, [], ◌∷◌, ◌++◌, length, take, eqb, nat_le, nat_lt, arith, refl, sym, ap, ◌∙◌, Option, Some, None}
 use Rattle.std.specs.Prelude.{position, is_none}
 use Rattle.std.proofs.lemmas.Bool.Decides.{nat_tests}
 use Rattle.std.proofs.lemmas.List.{length-append}
 use Rattle.std.proofs.Math.Seq.{take-append_seam, drop-append_seam, drop-append-add}
 use Rattle.std.specs.List.{list_all, prefix_len}
+use Rattle.std.specs.Fmt.{decimal, signed_decimal}
+use lib.IntN.{ℤ, pos, negsuc}
+use lib.Signed.{mag}
 use Rattle.texts.proofs.Conjunction.{split}
+use Rattle.program_tokens.specs.Numbers.{is_digit, number_of}
 use Rattle.program_tokens.specs.Words.{is_space, begins_word, in_word, is_word, is_name, is_text, keyword_of, keyword_text, mark_byte, mark_of}
-use Rattle.program_tokens.specs.Tokens.{piece_of, word_piece, text_piece, keyword_or_name, word_run, tokens_from, placed}
+use Rattle.program_tokens.specs.Tokens.{piece_of, word_piece, text_piece, keyword_or_name, number_piece, word_run, digit_run, tokens_from, placed}
 use Rattle.program_tokens.specs.declared.keyword.Keyword.{Keyword}
 use Rattle.program_tokens.specs.declared.keyword.Keyword.TheVariants as words
 use Rattle.program_tokens.specs.declared.mark.Mark.{Mark}
@@ -15,6 +19,7 @@ use Rattle.program_tokens.specs.declared.mark.Mark.TheVariants as marks
 use Rattle.program_tokens.specs.declared.token.Token.{Token}
 use Rattle.program_tokens.specs.declared.token.Token.TheVariants as tokens
 use Rattle.program_tokens.specs.declared.piece.Piece.TheVariants as pieces
+use Rattle.program_tokens.proofs.NumberDigits.{plain_decimal, negative_decimal, decimal_digits}
 use Rattle.program_tokens.proofs.PieceTokens.{token_first}
 use Rattle.program_tokens.proofs.StringTexts.{unquoted}
 
@@ -144,6 +149,53 @@ lex_string s rest h at =
           ∙ ap (λ x. placed (tokens.Text s) at ∷ tokens_from 0 (at + 1 + (length s + 1)) x) (drop-append-add s (34 ∷ rest) 1),
     )
 
+-- ---- numbers
+
+not_begins : (b : ℕ) → is_digit b ≡ true → begins_word b ≡ false
+unfolding begins_word
+not_begins b h = grind (arith, nat_tests)
+
+digit_begins : (b : ℕ) (bs : List ℕ) → is_digit b ≡ true → piece_of b bs ≡ number_piece (number_of false (b ∷ take (digit_run bs) bs)) (digit_run bs)
+unfolding piece_of is_space
+digit_begins b bs h =
+    let space : is_space b ≡ false = grind (arith, nat_tests) in
+    let comment : eqb b 35 ≡ false = grind (arith, nat_tests) in
+    let quote : eqb b 34 ≡ false = grind (arith, nat_tests) in
+    rw (space, comment, not_begins b h, quote, h) refl
+
+minus_begins : (bs : List ℕ) → piece_of 45 bs ≡ number_piece (number_of true (take (digit_run bs) bs)) (digit_run bs)
+unfolding piece_of is_space begins_word
+minus_begins bs = refl
+
+-- digits, behind a `-` or without, with what follows them
+lex_plain : (ds rest : List ℕ) (z : ℤ) → number_of false ds ≡ Some z → list_all is_digit ds ≡ true → Stops is_digit rest → Lexes (tokens.Number z) (ds ++ rest) rest
+unfolding number_of
+lex_plain [] rest z is all stops at = absurd cc
+lex_plain (d ∷ ds) rest z is all stops at =
+    let p = split (is_digit d) (list_all is_digit ds) all in
+    let run = runs is_digit ds rest p.1 stops in
+    let held = ap (λ n. take n (ds ++ rest)) run ∙ take-append_seam ds rest in
+    let piece = digit_begins d (ds ++ rest) p.0 ∙ (λ j. number_piece (number_of false (d ∷ held j)) (run j)) ∙ ap (λ o. number_piece o (length ds)) is in (
+      at + 1 + length ds,
+      token_first d at (length ds) (tokens.Number z) (ds ++ rest) (sym piece) (shorter ds rest)
+          ∙ ap (λ x. placed (tokens.Number z) at ∷ tokens_from 0 (at + 1 + length ds) x) (drop-append_seam ds rest),
+    )
+
+lex_negative : (ds rest : List ℕ) (z : ℤ) → number_of true ds ≡ Some z → list_all is_digit ds ≡ true → Stops is_digit rest → Lexes (tokens.Number z) (45 ∷ ds ++ rest) rest
+lex_negative ds rest z is all stops at =
+    let run = runs is_digit ds rest all stops in
+    let held = ap (λ n. take n (ds ++ rest)) run ∙ take-append_seam ds rest in
+    let piece = minus_begins (ds ++ rest) ∙ (λ j. number_piece (number_of true (held j)) (run j)) ∙ ap (λ o. number_piece o (length ds)) is in (
+      at + 1 + length ds,
+      token_first 45 at (length ds) (tokens.Number z) (ds ++ rest) (sym piece) (shorter ds rest)
+          ∙ ap (λ x. placed (tokens.Number z) at ∷ tokens_from 0 (at + 1 + length ds) x) (drop-append_seam ds rest),
+    )
+
+-- a number in decimal digits
+pub lex_number : (z : ℤ) (rest : List ℕ) → mag z < 2 ^ 63 → Stops is_digit rest → Lexes (tokens.Number z) (signed_decimal z ++ rest) rest
+lex_number (pos n) rest h stops = lex_plain (decimal n) rest (pos n) (plain_decimal n h) (decimal_digits n (omega arith)) stops
+lex_number (negsuc n) rest h stops = lex_negative (decimal (suc n)) rest (negsuc n) (negative_decimal n h) (decimal_digits (suc n) (omega arith)) stops
+
 -- ---- marks and what separates tokens
 
 pub lex_mark : (m : Mark) (rest : List ℕ) → Lexes (tokens.Mark m) (mark_byte m ∷ rest) rest
@@ -198,6 +250,25 @@ stops_at_mark marks.CloseParen = refl
 stops_at_mark marks.Colon = refl
 stops_at_mark marks.Comma = refl
 stops_at_mark marks.Tilde = refl
+
+-- no number goes on there either
+pub no_digit_at_mark : (m : Mark) → is_digit (mark_byte m) ≡ false
+no_digit_at_mark marks.Equals = refl
+no_digit_at_mark marks.Semicolon = refl
+no_digit_at_mark marks.OpenBrace = refl
+no_digit_at_mark marks.CloseBrace = refl
+no_digit_at_mark marks.Less = refl
+no_digit_at_mark marks.Greater = refl
+no_digit_at_mark marks.OpenBracket = refl
+no_digit_at_mark marks.CloseBracket = refl
+no_digit_at_mark marks.OpenParen = refl
+no_digit_at_mark marks.CloseParen = refl
+no_digit_at_mark marks.Colon = refl
+no_digit_at_mark marks.Comma = refl
+no_digit_at_mark marks.Tilde = refl
+
+pub no_digit_at_space : is_digit 32 ≡ false
+no_digit_at_space = refl
 
 pub stops_at_space : in_word 32 ≡ false
 unfolding in_word begins_word

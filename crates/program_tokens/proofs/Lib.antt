@@ -5,4 +5,5 @@ pub mod LastToken
 pub mod StringTexts
 pub mod TokenForms
 pub mod PieceTokens
+pub mod NumberDigits
 pub mod IsText

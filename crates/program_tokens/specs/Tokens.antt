@@ -1,6 +1,8 @@
 -- The tokens of a program's text, each with the offset of its first byte.
-use Rattle.std.specs.Prelude.{ℕ, zero, suc, ◌+◌, ◌≤◌, List, [], ◌∷◌, length, take, Option, Some, None, ◌==◌, nat_le, not, if◌then◌else◌, position}
+use Rattle.std.specs.Prelude.{ℕ, zero, suc, ◌+◌, ◌≤◌, List, [], ◌∷◌, length, take, true, false, Option, Some, None, ◌==◌, nat_le, not, if◌then◌else◌, position}
 use Rattle.std.specs.List.{prefix_len}
+use lib.IntN.{ℤ}
+use Rattle.program_tokens.specs.Numbers.{is_digit, number_of}
 use Rattle.program_tokens.specs.Words.{is_space, begins_word, in_word, keyword_of, mark_of, is_text}
 use Rattle.program_tokens.specs.declared.keyword.Keyword.{Keyword}
 use Rattle.program_tokens.specs.declared.mark.Mark.{Mark}
@@ -26,6 +28,11 @@ abbrev pub text_piece : List ℕ → Option ℕ → Piece
 text_piece bs None = pieces.Bad
 text_piece bs (Some n) = if is_text (take n bs) then pieces.Token (tokens.Text (take n bs)) (n + 1) else pieces.Bad
 
+-- a number, where the digits write one
+abbrev pub number_piece : Option ℤ → ℕ → Piece
+number_piece (Some z) others = pieces.Token (tokens.Number z) others
+number_piece None others = pieces.Bad
+
 abbrev pub mark_piece : Option Mark → Piece
 mark_piece (Some m) = pieces.Token (tokens.Mark m) 0
 mark_piece None = pieces.Bad
@@ -33,6 +40,10 @@ mark_piece None = pieces.Bad
 -- how many bytes of a word come first
 abbrev pub word_run : List ℕ → ℕ
 word_run bs = prefix_len in_word bs
+
+-- how many digits come first
+abbrev pub digit_run : List ℕ → ℕ
+digit_run bs = prefix_len is_digit bs
 
 -- how many bytes stand before the next LF, or before the end
 abbrev pub line_run : List ℕ → ℕ
@@ -45,6 +56,8 @@ piece_of b bs =
     else if b == 35 then pieces.Gap (line_run bs)
     else if begins_word b then word_piece (b ∷ take (word_run bs) bs) (word_run bs)
     else if b == 34 then text_piece bs (position (λ b. b == 34) bs)
+    else if is_digit b then number_piece (number_of false (b ∷ take (digit_run bs) bs)) (digit_run bs)
+    else if b == 45 then number_piece (number_of true (take (digit_run bs) bs)) (digit_run bs)
     else mark_piece (mark_of b)
 
 abbrev pub placed : Token → ℕ → PlacedToken

@@ -2,6 +2,7 @@
 use Rattle.std.specs.Prelude.{ℕ, Bool, false, ◌&&◌, ◌||◌, List, [], ◌∷◌, length, Option, is_none, ◌==◌, nat_le, not, bytes_eq, codes, find}
 use Rattle.std.specs.List.{list_all}
 use Rattle.std.specs.Str.{is_utf8, chars}
+use Rattle.program_tokens.specs.Numbers.{is_digit}
 use Rattle.program_tokens.specs.declared.keyword.Keyword.{Keyword}
 use Rattle.program_tokens.specs.declared.keyword.Keyword.TheVariants as words
 use Rattle.program_tokens.specs.declared.mark.Mark.{Mark}
@@ -17,7 +18,7 @@ begins_word b = (nat_le 65 b && nat_le b 90) || (nat_le 97 b && nat_le b 122) ||
 
 -- an ASCII letter, a digit or `_`
 unfoldable pub in_word : ℕ → Bool
-in_word b = begins_word b || (nat_le 48 b && nat_le b 57)
+in_word b = begins_word b || is_digit b
 
 -- how each keyword is written
 abbrev pub keyword_text : Keyword → List ℕ

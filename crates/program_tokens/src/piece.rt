@@ -1,14 +1,16 @@
 //! What a text begins with: a gap, a token, or something that keeps no form.
 ghost use Rattle.std.specs.Prelude.{◌≡◌, ◌∷◌, ◌<◌, ◌≤◌, true, not, ◌==◌, IfOk, IfSome, IsNone, false, length, position};
 ghost use Rattle.std.specs.List.{list_all};
+ghost use Rattle.program_tokens.specs.Numbers.{is_digit, number_of};
 ghost use Rattle.program_tokens.specs.Words.{begins_word, in_word, is_text, keyword_of, mark_of};
-ghost use Rattle.program_tokens.specs.Tokens.{piece_of, word_piece, keyword_or_name, line_run, word_run, text_piece, mark_piece, IsWithin};
+ghost use Rattle.program_tokens.specs.Tokens.{piece_of, word_piece, keyword_or_name, line_run, word_run, digit_run, text_piece, number_piece, mark_piece, IsWithin};
 
 use crate::keyword::Keyword;
 use crate::mark::Mark;
+use crate::number::{negative_number, plain_number};
 use crate::text::is_text;
 use crate::token::Token;
-use crate::word::{begins_word, in_word, is_space};
+use crate::word::{begins_word, in_word, is_digit, is_space};
 use std::alloc::{AllocError, Global};
 use texts::Name;
 
@@ -37,6 +39,10 @@ pub(crate) fn first_piece(alloc: Global, first: u8, rest: &[u8]) -> Result<Piece
         word_piece(alloc, first, &rest[..word_run(rest)])
     } else if first == b'"' {
         text_piece(alloc, rest)
+    } else if is_digit(first) {
+        Ok(plain_piece(first, &rest[..digit_run(rest)]))
+    } else if first == b'-' {
+        Ok(negative_piece(&rest[..digit_run(rest)]))
     } else {
         Ok(mark_piece(first))
     }
@@ -56,6 +62,37 @@ fn word_run(rest: &[u8]) -> usize
     ensures within { result ≤ length rest.now }
 {
     rest.iter().take_while(|b| in_word(**b)).count()
+}
+
+/// How many digits come first.
+fn digit_run(rest: &[u8]) -> usize
+    ensures run { result ≡ digit_run rest.now }
+    ensures within { result ≤ length rest.now }
+{
+    rest.iter().take_while(|b| is_digit(**b)).count()
+}
+
+/// A digit and those behind it.
+fn plain_piece(first: u8, others: &[u8]) -> Piece
+    requires digit { is_digit first ≡ true }
+    requires digits { list_all is_digit others.now ≡ true }
+    ensures { result ≡ number_piece (number_of false (first ∷ others.now)) (length others.now) }
+{
+    match plain_number(first, others) {
+        Some(number) => Piece::Token(Token::Number(number), others.len()),
+        None => Piece::Bad,
+    }
+}
+
+/// A `-` and the digits behind it.
+fn negative_piece(digits: &[u8]) -> Piece
+    requires { list_all is_digit digits.now ≡ true }
+    ensures { result ≡ number_piece (number_of true digits.now) (length digits.now) }
+{
+    match negative_number(digits) {
+        Some(number) => Piece::Token(Token::Number(number), digits.len()),
+        None => Piece::Bad,
+    }
 }
 
 fn word_piece(alloc: Global, first: u8, others: &[u8]) -> Result<Piece, AllocError>

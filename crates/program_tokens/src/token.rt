@@ -13,6 +13,8 @@ pub enum Token {
     Name(Name),
     /// A string, without its quotes.
     Text(Name),
+    /// A number of 1 to 19 digits, behind a `-` or without.
+    Number(i64),
     /// A token of one byte.
     Mark(Mark),
     /// A byte where no token begins that keeps its form; no token follows it.

@@ -1,6 +1,7 @@
 //! Bytes of words, and which words are names.
 ghost use Rattle.std.specs.Prelude.{◌≡◌};
 ghost use Rattle.std.specs.List.{list_all};
+ghost use Rattle.program_tokens.specs.Numbers.{is_digit};
 ghost use Rattle.program_tokens.specs.Words.{begins_word, in_word, is_space, is_word, is_name};
 
 use crate::keyword::Keyword;
@@ -21,12 +22,19 @@ pub fn begins_word(byte: u8) -> bool
     (b'A' <= byte && byte <= b'Z') || (b'a' <= byte && byte <= b'z') || byte == b'_'
 }
 
+/// Whether a byte is an ASCII digit.
+pub fn is_digit(byte: u8) -> bool
+    ensures { result ≡ is_digit byte }
+{
+    b'0' <= byte && byte <= b'9'
+}
+
 /// Whether a word may have this byte: an ASCII letter, a digit or `_`.
 #[tactic(auto, unfolding(crate::specs::Words::in_word))]
 pub fn in_word(byte: u8) -> bool
     ensures { result ≡ in_word byte }
 {
-    begins_word(byte) || (b'0' <= byte && byte <= b'9')
+    begins_word(byte) || is_digit(byte)
 }
 
 /// Whether the bytes are a word of letters, digits and `_`, which begins with no digit.
