@@ -34,5 +34,6 @@ mark_is m (tokens.Mark k) e = ap tokens.Mark (same_mark m k e)
 mark_is m (tokens.Keyword k) e = absurd cc
 mark_is m (tokens.Name k) e = absurd cc
 mark_is m (tokens.Text k) e = absurd cc
+mark_is m (tokens.Number z) e = absurd cc
 mark_is m tokens.Bad e = absurd cc
 mark_is m tokens.End e = absurd cc

@@ -1,10 +1,11 @@
 -- Tokens that are left of others, and reading on behind what was read.
-use Rattle.std.proofs.Common.{◌≡◌, ◌-◌, ◌≤◌, List, [], ◌∷◌, ◌++◌, length, drop, refl, sym, ap, ◌∙◌, append_assoc, arith, length-append}
+use Rattle.std.proofs.Common.{◌≡◌, false, ◌-◌, ◌≤◌, List, [], ◌∷◌, ◌++◌, length, drop, refl, sym, ap, ◌∙◌, append_assoc, arith, length-append, Ok}
 use Rattle.std.proofs.lemmas.List.{drop_at}
+use Rattle.program_tokens.specs.declared.mark.Mark.TheVariants.{Comma}
 use Rattle.program_tokens.specs.declared.token.PlacedToken.{PlacedToken}
 use Rattle.program_grammar.specs.declared.mention.Mention.{Mention}
 use Rattle.program_grammar.specs.Mentions.{Point}
-use Rattle.program_grammar.specs.Reading.{Read, more_at, definitions_at}
+use Rattle.program_grammar.specs.Reading.{Read, next_is, more_at, definitions_at}
 
 -- the tokens end with these
 pub record IsRest (rest ts : List PlacedToken) : Type 0 where
@@ -22,6 +23,10 @@ rest_then a b c p q = record { front = q.front ++ p.front; parts = q.parts ∙ a
 
 pub rest_length : (a b : List PlacedToken) → IsRest a b → length a ≤ length b
 rest_length a b h = rw h.parts (omega (arith, length-append h.front a))
+
+-- what stands behind the same first token
+pub same_tail : (t u : PlacedToken) (ts us : List PlacedToken) → t ∷ ts ≡ u ∷ us → ts ≡ us
+same_tail t u ts us e = cc
 
 -- dropping the tokens before a rest leaves the rest
 pub drop_to_rest : (ts rest : List PlacedToken) → IsRest rest ts → drop (length ts - length rest) ts ≡ rest
@@ -49,3 +54,9 @@ definitions_skip (t ∷ front) rest = definitions_skip front rest
 
 pub definitions_after : (ts rest : List PlacedToken) → IsRest rest ts → definitions_at (length ts - length rest) ts ≡ definitions_at 0 rest
 definitions_after ts rest h = rw h.parts (rw (front_length h.front rest) (definitions_skip h.front rest))
+
+-- no element stands behind a comma that is not there
+pub more_ends : {A : Type 0} (element : Point → Read A) (ms : List Mention) (ts : List PlacedToken) → next_is Comma ts ≡ false → more_at element 0 ms ts ≡ Ok ([], (ms, ts))
+unfolding more_at
+more_ends element ms [] h = refl
+more_ends element ms (t ∷ ts) h = rw h refl

@@ -7,11 +7,11 @@ use Rattle.program_tokens.specs.declared.mark.Mark.TheVariants.{Equals, Semicolo
 use Rattle.program_tokens.specs.declared.token.Token.{Token}
 use Rattle.program_tokens.specs.declared.token.Token.TheVariants as tokens
 use Rattle.program_tokens.specs.declared.token.PlacedToken.{PlacedToken}
-use Rattle.program_terms.specs.Terms.{TypeTree, unit, bool, int, text, enum_of, record_of, one_of, list, keyed, tree, named, term_fields_of, LensTree, id_of, bij_of, disc_of, then_of, rec_lens, alt_lens, each_of, keyed_each, tree_each, part_of, inv_of, named_lens, RowTree, row_both, row_left, row_right, term_rows_of, term_arms_of, DefTree, type_def, lens_def}
+use Rattle.program_terms.specs.Terms.{TypeTree, unit, bool, int, text, enum_of, record_of, one_of, list, keyed, tree, named, term_fields_of, LensTree, id_of, bij_of, disc_of, then_of, rec_lens, alt_lens, each_of, keyed_each, tree_each, part_of, inv_of, named_lens, RowTree, row_both, row_left, row_right, term_rows_of, term_arms_of, DefTree, type_def, lens_def, initial_number, initial_text, initial_member, initial_left}
 use Rattle.program_grammar.specs.declared.mention.Mention.{Mention}
 use Rattle.program_grammar.specs.declared.mention.Sort.TheVariants as sorts
 use Rattle.program_grammar.specs.Mentions.{Point, mention, NotedDefinition}
-use Rattle.program_grammar.specs.Reading.{Read, ◌>>=◌, is_mark, next_is, next_word, mark_in, mark_at, string_in, field_in, name_in, token_value, string_at, field_at, name_at, more_at, list_at, closed_at, perhaps_at, typed_at, enum_at, record_at, one_of_at, word_type, mark_type, begun_type, type_from, type_step, type_at, pair_at, bij_at, arm_at, left_row_at, right_row_at, both_row_at, row_by, row_at, then_at, disc_at, part_at, word_lens, rec_at, alt_at, mark_lens, begun_lens, lens_from, lens_step, lens_at, type_term_at, lens_term_at, definition_at}
+use Rattle.program_grammar.specs.Reading.{Read, ◌>>=◌, is_mark, next_is, next_word, mark_in, mark_at, string_in, number_in, field_in, name_in, token_value, string_at, number_at, field_at, name_at, more_at, list_at, closed_at, perhaps_at, initial_at, typed_at, enum_at, record_at, one_of_at, word_type, mark_type, begun_type, type_from, type_step, type_at, pair_at, bij_at, arm_at, left_row_at, right_row_at, both_row_at, row_by, row_at, then_at, disc_at, part_at, word_lens, rec_at, alt_at, mark_lens, begun_lens, lens_from, lens_step, lens_at, type_term_at, lens_term_at, definition_at}
 use Rattle.program_grammar.proofs.ReadingResults.{done, ok_is, bind_ok, chosen}
 use Rattle.program_grammar.proofs.RestOfTokens.{IsRest, rest_self, rest_cons, rest_then, rest_length}
 
@@ -78,6 +78,11 @@ unfolding string_at
 string_leaves (ms, []) x e = value_leaves (λ t. string_in t.token) ms [] x e
 string_leaves (ms, (t ∷ ts)) x e = value_leaves (λ t. string_in t.token) ms (t ∷ ts) x e
 
+pub number_leaves : LeavesFewer number_at
+unfolding number_at
+number_leaves (ms, []) x e = value_leaves (λ t. number_in t.token) ms [] x e
+number_leaves (ms, (t ∷ ts)) x e = value_leaves (λ t. number_in t.token) ms (t ∷ ts) x e
+
 pub field_leaves : LeavesFewer field_at
 unfolding field_at
 field_leaves (ms, []) x e = value_leaves (λ t. field_in t.token) ms [] x e
@@ -131,12 +136,34 @@ typed_leaves inner m p x e =
     (next_leaves (mark_at Colon a.1) _ a.1.1 x.1.1 (λ r. r.1) x e (mark_leaves Colon a.1) (λ r e.
     (next_leaves (inner r) _ r.1 x.1.1 (λ t. t.1.1) x e (m r) (λ t e. last_leaves ((a.0, t.0), t.1) x e)).rest)).rest)
 
+-- ---- initial values
+
+-- what is read leaves the tokens that were there or fewer
+abbrev pub LeavesRest : {A : Type 0} → (Point → Read A) → Type 0
+LeavesRest {A} element = (p : Point) (x : A × Point) → element p ≡ Ok x → IsRest x.1.1 p.1
+
+pub initial_leaves : {A : Type 0} (value : Point → Read A) (left_out : A) → LeavesFewer value → LeavesRest (initial_at value left_out)
+unfolding initial_at
+initial_leaves {A = A} value left_out m p x e =
+    elim (chosen (next_is Equals p.1) _ _ _ e) [
+      | inl h ↦ (next_leaves (mark_at Equals p) _ p.1 x.1.1 (λ r. r.1) x h.1 (mark_leaves Equals p) (λ r e. (m r x e).rest)).rest
+      | inr h ↦ last_leaves (left_out, p) x h.1
+    ]
+
+-- an initial value and then a change
+wrapped_initial : {A B : Type 0} (value : Point → Read A) (left_out : A) → LeavesFewer value → (f : A → B) (p : Point) (x : B × Point) → (initial_at value left_out p >>= λ t. Ok (f t.0, t.1)) ≡ Ok x → IsRest x.1.1 p.1
+wrapped_initial value left_out m f p x e =
+    let a = bind_ok (initial_at value left_out p) (λ t. Ok (f t.0, t.1)) x e in
+    rest_then x.1.1 a.0.1.1 p.1 (last_leaves (f a.0.0, a.0.1) x a.2) (initial_leaves value left_out m p a.0 a.1)
+
 -- ---- types
 
 enum_leaves : LeavesFewer enum_at
 unfolding enum_at
 enum_leaves p x e =
-    next_leaves (mark_at OpenBracket p) _ p.1 x.1.1 (λ r. r.1) x e (mark_leaves OpenBracket p) (λ r e. (wrapped (closed_at string_at CloseBracket) (closed_leaves string_at CloseBracket string_leaves) enum_of r x e).rest)
+    next_leaves (mark_at OpenBracket p) _ p.1 x.1.1 (λ r. r.1) x e (mark_leaves OpenBracket p) (λ r e.
+    (next_leaves (closed_at string_at CloseBracket r) _ r.1 x.1.1 (λ ms. ms.1.1) x e (closed_leaves string_at CloseBracket string_leaves r) (λ ms e.
+    wrapped_initial string_at (initial_member ms.0) string_leaves (enum_of ms.0) ms.1 x e)).rest)
 
 record_leaves : (inner : Point → Read TypeTree) → LeavesFewer inner → LeavesFewer (record_at inner)
 unfolding record_at
@@ -152,8 +179,8 @@ word_type_leaves : (inner : Point → Read TypeTree) → LeavesFewer inner → (
 unfolding word_type
 word_type_leaves inner m words.Unit at p x e = last_leaves (unit, p) x e
 word_type_leaves inner m words.Bool at p x e = last_leaves (bool, p) x e
-word_type_leaves inner m words.Int at p x e = last_leaves (int, p) x e
-word_type_leaves inner m words.Text at p x e = last_leaves (text, p) x e
+word_type_leaves inner m words.Int at p x e = wrapped_initial number_at initial_number number_leaves int p x e
+word_type_leaves inner m words.Text at p x e = wrapped_initial string_at initial_text string_leaves text p x e
 word_type_leaves inner m words.Enum at p x e = (enum_leaves p x e).rest
 word_type_leaves inner m words.List at p x e = (wrapped inner m list p x e).rest
 word_type_leaves inner m words.Keyed at p x e = (wrapped inner m keyed p x e).rest
@@ -172,6 +199,7 @@ begun_type_leaves inner m (tokens.Keyword k) at p x e = word_type_leaves inner m
 begun_type_leaves inner m (tokens.Name n) at p x e = last_leaves (named n, (p.0 ++ mention sorts.Type n at ∷ [], p.1)) x e
 begun_type_leaves inner m (tokens.Mark k) at p x e = mark_type_leaves inner m k at p x e
 begun_type_leaves inner m (tokens.Text s) at p x e = absurd cc
+begun_type_leaves inner m (tokens.Number z) at p x e = absurd cc
 begun_type_leaves inner m tokens.Bad at p x e = absurd cc
 begun_type_leaves inner m tokens.End at p x e = absurd cc
 
@@ -196,7 +224,9 @@ pair_leaves p x e =
 bij_leaves : LeavesFewer bij_at
 unfolding bij_at
 bij_leaves p x e =
-    next_leaves (mark_at OpenBracket p) _ p.1 x.1.1 (λ r. r.1) x e (mark_leaves OpenBracket p) (λ r e. (wrapped (closed_at pair_at CloseBracket) (closed_leaves pair_at CloseBracket pair_leaves) bij_of r x e).rest)
+    next_leaves (mark_at OpenBracket p) _ p.1 x.1.1 (λ r. r.1) x e (mark_leaves OpenBracket p) (λ r e.
+    (next_leaves (closed_at pair_at CloseBracket r) _ r.1 x.1.1 (λ ps. ps.1.1) x e (closed_leaves pair_at CloseBracket pair_leaves r) (λ ps e.
+    wrapped_initial string_at (initial_left ps.0) string_leaves (bij_of ps.0) ps.1 x e)).rest)
 
 pub arm_leaves : (inner : Point → Read LensTree) → LeavesFewer inner → LeavesFewer (arm_at inner)
 unfolding arm_at
@@ -284,6 +314,7 @@ begun_lens_leaves type inner m n (tokens.Keyword k) at p x e = word_lens_leaves 
 begun_lens_leaves type inner m n (tokens.Name s) at p x e = last_leaves (named_lens s, (p.0 ++ mention sorts.Lens s at ∷ [], p.1)) x e
 begun_lens_leaves type inner m n (tokens.Mark k) at p x e = mark_lens_leaves type inner m n k at p x e
 begun_lens_leaves type inner m n (tokens.Text s) at p x e = absurd cc
+begun_lens_leaves type inner m n (tokens.Number z) at p x e = absurd cc
 begun_lens_leaves type inner m n tokens.Bad at p x e = absurd cc
 begun_lens_leaves type inner m n tokens.End at p x e = absurd cc
 

@@ -1,5 +1,6 @@
 -- The grammar of programs: symbols, productions, and the viable prefixes of what they derive. docs/LANGUAGE.md has it in prose.
 use Rattle.std.specs.Prelude.{◌≡◌, ℕ, zero, suc, List, [], ◌∷◌, ◌++◌, ◌⊎◌}
+use lib.IntN.{ℤ}
 use Rattle.program_tokens.specs.declared.keyword.Keyword.{Keyword}
 use Rattle.program_tokens.specs.declared.keyword.Keyword.TheVariants as words
 use Rattle.program_tokens.specs.declared.mark.Mark.{Mark}
@@ -21,6 +22,8 @@ pub data Part : Type 0 where
   definitions : Part
   other_members : Part
   other_pairs : Part
+  initial_number : Part
+  initial_string : Part
   fields : ℕ → Part
   other_fields : ℕ → Part
   rows : ℕ → Part
@@ -33,6 +36,7 @@ pub data Symbol : Type 0 where
   word : Keyword → Symbol
   a_name : Symbol
   a_string : Symbol
+  a_number : Symbol
   the_end : Symbol
   rule : Rule → Symbol
   perhaps : Part → Symbol
@@ -57,6 +61,8 @@ contents definitions =
     ∷ []
 contents other_members = (mark Comma ∷ a_string ∷ []) ∷ []
 contents other_pairs = (mark Comma ∷ a_pair) ∷ []
+contents initial_number = (mark Equals ∷ a_number ∷ []) ∷ []
+contents initial_string = (mark Equals ∷ a_string ∷ []) ∷ []
 contents (fields n) = (a_field n ++ repeated (other_fields n) ∷ []) ∷ []
 contents (other_fields n) = (mark Comma ∷ a_field n) ∷ []
 contents (rows n) = (rule (row n) ∷ repeated (other_rows n) ∷ []) ∷ []
@@ -71,9 +77,9 @@ alternatives (type zero) = []
 alternatives (type (suc n)) =
     (word words.Unit ∷ [])
     ∷ (word words.Bool ∷ [])
-    ∷ (word words.Int ∷ [])
-    ∷ (word words.Text ∷ [])
-    ∷ (word words.Enum ∷ mark OpenBracket ∷ a_string ∷ repeated other_members ∷ mark CloseBracket ∷ [])
+    ∷ (word words.Int ∷ perhaps initial_number ∷ [])
+    ∷ (word words.Text ∷ perhaps initial_string ∷ [])
+    ∷ (word words.Enum ∷ mark OpenBracket ∷ a_string ∷ repeated other_members ∷ mark CloseBracket ∷ perhaps initial_string ∷ [])
     ∷ (mark OpenBrace ∷ perhaps (fields n) ∷ mark CloseBrace ∷ [])
     ∷ (mark Less ∷ a_field n ++ repeated (other_fields n) ∷ mark Greater ∷ [])
     ∷ (word words.List ∷ rule (type n) ∷ [])
@@ -85,7 +91,7 @@ alternatives (lens zero) = []
 alternatives (lens (suc n)) =
     (word words.Id ∷ rule (type n) ∷ [])
     ∷ (word words.Disc ∷ rule (type n) ∷ rule (type n) ∷ [])
-    ∷ (word words.Bij ∷ mark OpenBracket ∷ a_pair ++ repeated other_pairs ∷ mark CloseBracket ∷ [])
+    ∷ (word words.Bij ∷ mark OpenBracket ∷ a_pair ++ repeated other_pairs ∷ mark CloseBracket ∷ perhaps initial_string ∷ [])
     ∷ (word words.Then ∷ mark OpenParen ∷ rule (lens n) ∷ mark Comma ∷ rule (lens n) ∷ mark CloseParen ∷ [])
     ∷ (mark OpenBrace ∷ perhaps (rows n) ∷ mark CloseBrace ∷ [])
     ∷ (mark Less ∷ an_arm n ++ repeated (other_arms n) ∷ mark Greater ∷ [])
@@ -118,6 +124,7 @@ pub data IsViablePrefix : List Symbol → List Token → Type 0 where
   word_first : (k : Keyword) (s : List Symbol) (ts : List Token) → IsViablePrefix s ts → IsViablePrefix (word k ∷ s) (tokens.Keyword k ∷ ts)
   name_first : (n : List ℕ) (s : List Symbol) (ts : List Token) → IsViablePrefix s ts → IsViablePrefix (a_name ∷ s) (tokens.Name n ∷ ts)
   string_first : (n : List ℕ) (s : List Symbol) (ts : List Token) → IsViablePrefix s ts → IsViablePrefix (a_string ∷ s) (tokens.Text n ∷ ts)
+  number_first : (z : ℤ) (s : List Symbol) (ts : List Token) → IsViablePrefix s ts → IsViablePrefix (a_number ∷ s) (tokens.Number z ∷ ts)
   end_first : (s : List Symbol) (ts : List Token) → IsViablePrefix s ts → IsViablePrefix (the_end ∷ s) (tokens.End ∷ ts)
   rule_replaced : (r : Rule) (a : List Symbol) (s : List Symbol) (ts : List Token) → IsAmong a (alternatives r) → IsViablePrefix (a ++ s) ts → IsViablePrefix (rule r ∷ s) ts
   option_present : (p : Part) (a : List Symbol) (s : List Symbol) (ts : List Token) → IsAmong a (contents p) → IsViablePrefix (a ++ s) ts → IsViablePrefix (perhaps p ∷ s) ts

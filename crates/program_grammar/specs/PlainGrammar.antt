@@ -1,5 +1,6 @@
 -- The plain grammar of programs, without a bound on nesting, and how deep the types and lenses of a text are nested.
 use Rattle.std.specs.Prelude.{ℕ, suc, ◌<◌, List, [], ◌∷◌, ◌++◌}
+use lib.IntN.{ℤ}
 use Rattle.program_tokens.specs.declared.keyword.Keyword.{Keyword}
 use Rattle.program_tokens.specs.declared.keyword.Keyword.TheVariants as words
 use Rattle.program_tokens.specs.declared.mark.Mark.{Mark}
@@ -23,6 +24,8 @@ pub data PlainPart : Type 0 where
   definitions : PlainPart
   other_members : PlainPart
   other_pairs : PlainPart
+  initial_number : PlainPart
+  initial_string : PlainPart
   fields : PlainPart
   other_fields : PlainPart
   rows : PlainPart
@@ -35,6 +38,7 @@ pub data PlainSymbol : Type 0 where
   word : Keyword → PlainSymbol
   a_name : PlainSymbol
   a_string : PlainSymbol
+  a_number : PlainSymbol
   the_end : PlainSymbol
   rule : PlainRule → PlainSymbol
   perhaps : PlainPart → PlainSymbol
@@ -59,6 +63,8 @@ contents definitions =
     ∷ []
 contents other_members = (mark Comma ∷ a_string ∷ []) ∷ []
 contents other_pairs = (mark Comma ∷ a_pair) ∷ []
+contents initial_number = (mark Equals ∷ a_number ∷ []) ∷ []
+contents initial_string = (mark Equals ∷ a_string ∷ []) ∷ []
 contents fields = (a_field ++ repeated other_fields ∷ []) ∷ []
 contents other_fields = (mark Comma ∷ a_field) ∷ []
 contents rows = (rule row ∷ repeated other_rows ∷ []) ∷ []
@@ -72,9 +78,9 @@ alternatives field = (a_name ∷ []) ∷ (a_string ∷ []) ∷ []
 alternatives type =
     (word words.Unit ∷ [])
     ∷ (word words.Bool ∷ [])
-    ∷ (word words.Int ∷ [])
-    ∷ (word words.Text ∷ [])
-    ∷ (word words.Enum ∷ mark OpenBracket ∷ a_string ∷ repeated other_members ∷ mark CloseBracket ∷ [])
+    ∷ (word words.Int ∷ perhaps initial_number ∷ [])
+    ∷ (word words.Text ∷ perhaps initial_string ∷ [])
+    ∷ (word words.Enum ∷ mark OpenBracket ∷ a_string ∷ repeated other_members ∷ mark CloseBracket ∷ perhaps initial_string ∷ [])
     ∷ (mark OpenBrace ∷ perhaps fields ∷ mark CloseBrace ∷ [])
     ∷ (mark Less ∷ a_field ++ repeated other_fields ∷ mark Greater ∷ [])
     ∷ (word words.List ∷ rule type ∷ [])
@@ -85,7 +91,7 @@ alternatives type =
 alternatives lens =
     (word words.Id ∷ rule type ∷ [])
     ∷ (word words.Disc ∷ rule type ∷ rule type ∷ [])
-    ∷ (word words.Bij ∷ mark OpenBracket ∷ a_pair ++ repeated other_pairs ∷ mark CloseBracket ∷ [])
+    ∷ (word words.Bij ∷ mark OpenBracket ∷ a_pair ++ repeated other_pairs ∷ mark CloseBracket ∷ perhaps initial_string ∷ [])
     ∷ (word words.Then ∷ mark OpenParen ∷ rule lens ∷ mark Comma ∷ rule lens ∷ mark CloseParen ∷ [])
     ∷ (mark OpenBrace ∷ perhaps rows ∷ mark CloseBrace ∷ [])
     ∷ (mark Less ∷ an_arm ++ repeated other_arms ∷ mark Greater ∷ [])
@@ -115,6 +121,7 @@ pub data IsPlainPrefix : List PlainSymbol → List Token → Type 0 where
   word_first : (k : Keyword) (s : List PlainSymbol) (ts : List Token) → IsPlainPrefix s ts → IsPlainPrefix (word k ∷ s) (tokens.Keyword k ∷ ts)
   name_first : (n : List ℕ) (s : List PlainSymbol) (ts : List Token) → IsPlainPrefix s ts → IsPlainPrefix (a_name ∷ s) (tokens.Name n ∷ ts)
   string_first : (n : List ℕ) (s : List PlainSymbol) (ts : List Token) → IsPlainPrefix s ts → IsPlainPrefix (a_string ∷ s) (tokens.Text n ∷ ts)
+  number_first : (z : ℤ) (s : List PlainSymbol) (ts : List Token) → IsPlainPrefix s ts → IsPlainPrefix (a_number ∷ s) (tokens.Number z ∷ ts)
   end_first : (s : List PlainSymbol) (ts : List Token) → IsPlainPrefix s ts → IsPlainPrefix (the_end ∷ s) (tokens.End ∷ ts)
   rule_replaced : (r : PlainRule) (a : List PlainSymbol) (s : List PlainSymbol) (t : Token) (ts : List Token) → IsAmong a (alternatives r) → IsPlainPrefix (a ++ s) (t ∷ ts) → IsPlainPrefix (rule r ∷ s) (t ∷ ts)
   option_present : (p : PlainPart) (a : List PlainSymbol) (s : List PlainSymbol) (t : Token) (ts : List Token) → IsAmong a (contents p) → IsPlainPrefix (a ++ s) (t ∷ ts) → IsPlainPrefix (perhaps p ∷ s) (t ∷ ts)
@@ -137,6 +144,8 @@ abbrev pub inside_part : PlainPart → ℕ → ℕ
 inside_part definitions n = 0
 inside_part other_members n = n
 inside_part other_pairs n = n
+inside_part initial_number n = n
+inside_part initial_string n = n
 inside_part fields n = n
 inside_part other_fields n = n
 inside_part rows n = n
@@ -172,6 +181,7 @@ IsNestedBelow most ns (mark_first m s ts h) = IsNestedBelow most (other_depths n
 IsNestedBelow most ns (word_first k s ts h) = IsNestedBelow most (other_depths ns) h
 IsNestedBelow most ns (name_first n s ts h) = IsNestedBelow most (other_depths ns) h
 IsNestedBelow most ns (string_first n s ts h) = IsNestedBelow most (other_depths ns) h
+IsNestedBelow most ns (number_first z s ts h) = IsNestedBelow most (other_depths ns) h
 IsNestedBelow most ns (end_first s ts h) = IsNestedBelow most (other_depths ns) h
 IsNestedBelow most ns (rule_replaced r a s t ts k h) = IsAllowed most r (first_depth ns) × IsNestedBelow most (depths_before (inside_rule r (first_depth ns)) a (other_depths ns)) h
 IsNestedBelow most ns (option_present p a s t ts k h) = IsNestedBelow most (depths_before (inside_part p (first_depth ns)) a (other_depths ns)) h

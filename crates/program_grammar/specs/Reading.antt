@@ -1,6 +1,7 @@
 -- Reading from left to right, without going back: the value and the point behind it, or the offset of the unexpected token (none if the
 -- tokens ran out). A form for proofs: the laws show that it reads what is spelled, and that it stops at the unexpected token.
 use Rattle.std.specs.Prelude.{ℕ, zero, suc, ◌-◌, Bool, true, false, List, [], ◌∷◌, ◌++◌, length, Option, Some, None, Result, Ok, Err, ◌==◌, if◌then◌else◌}
+use lib.IntN.{ℤ}
 use Rattle.program_tokens.specs.Words.{mark_byte}
 use Rattle.program_tokens.specs.declared.keyword.Keyword.{Keyword}
 use Rattle.program_tokens.specs.declared.keyword.Keyword.TheVariants as words
@@ -9,7 +10,7 @@ use Rattle.program_tokens.specs.declared.mark.Mark.TheVariants.{Equals, Semicolo
 use Rattle.program_tokens.specs.declared.token.Token.{Token}
 use Rattle.program_tokens.specs.declared.token.Token.TheVariants as tokens
 use Rattle.program_tokens.specs.declared.token.PlacedToken.{PlacedToken}
-use Rattle.program_terms.specs.Terms.{TypeTree, unit, bool, int, text, enum_of, record_of, one_of, list, keyed, tree, named, term_fields_of, LensTree, id_of, bij_of, disc_of, then_of, rec_lens, alt_lens, each_of, keyed_each, tree_each, part_of, inv_of, named_lens, RowTree, row_both, row_left, row_right, term_rows_of, term_arms_of, DefTree, type_def, lens_def}
+use Rattle.program_terms.specs.Terms.{TypeTree, unit, bool, int, text, enum_of, record_of, one_of, list, keyed, tree, named, term_fields_of, LensTree, id_of, bij_of, disc_of, then_of, rec_lens, alt_lens, each_of, keyed_each, tree_each, part_of, inv_of, named_lens, RowTree, row_both, row_left, row_right, term_rows_of, term_arms_of, DefTree, type_def, lens_def, initial_number, initial_text, initial_member, initial_left}
 use Rattle.program_grammar.specs.declared.mention.Mention.{Mention}
 use Rattle.program_grammar.specs.declared.mention.Sort.TheVariants as sorts
 use Rattle.program_grammar.specs.Mentions.{Point, mention, NotedDefinition, NotedProgram}
@@ -34,6 +35,7 @@ is_mark m (tokens.Mark k) = mark_byte k == mark_byte m
 is_mark m (tokens.Keyword k) = false
 is_mark m (tokens.Name n) = false
 is_mark m (tokens.Text s) = false
+is_mark m (tokens.Number z) = false
 is_mark m tokens.Bad = false
 is_mark m tokens.End = false
 
@@ -52,6 +54,10 @@ next_word (t ∷ ts) = word_in t.token
 abbrev pub string_in : Token → Option (List ℕ)
 string_in (tokens.Text s) = Some s
 string_in _ = None
+
+abbrev pub number_in : Token → Option ℤ
+number_in (tokens.Number z) = Some z
+number_in _ = None
 
 abbrev pub field_in : Token → Option (List ℕ)
 field_in (tokens.Name n) = Some n
@@ -77,6 +83,13 @@ string_from ms (t ∷ ts) = token_value (string_in t.token) t.at ms ts
 
 unfoldable pub string_at : Point → Read (List ℕ)
 string_at p = string_from p.0 p.1
+
+abbrev pub number_from : List Mention → List PlacedToken → Read ℤ
+number_from ms [] = Err None
+number_from ms (t ∷ ts) = token_value (number_in t.token) t.at ms ts
+
+unfoldable pub number_at : Point → Read ℤ
+number_at p = number_from p.0 p.1
 
 abbrev pub field_from : List Mention → List PlacedToken → Read (List ℕ)
 field_from ms [] = Err None
@@ -117,6 +130,13 @@ perhaps_at element close p =
     then (mark_at close p >>= λ rest. Ok ([], rest))
     else closed_at element close p
 
+-- an initial value behind "=", or the one that is meant when none is there
+unfoldable pub initial_at : {A : Type 0} → (Point → Read A) → A → Point → Read A
+initial_at value left_out p =
+    if next_is Equals p.1
+    then (mark_at Equals p >>= λ rest. value rest)
+    else Ok (left_out, p)
+
 -- types
 
 -- field ":" and a type
@@ -131,7 +151,8 @@ unfoldable pub enum_at : Point → Read TypeTree
 enum_at p = do
   rest ← mark_at OpenBracket p
   ms ← closed_at string_at CloseBracket rest
-  Ok (enum_of ms.0, ms.1)
+  m ← initial_at string_at (initial_member ms.0) ms.1
+  Ok (enum_of ms.0 m.0, m.1)
 
 unfoldable pub record_at : (Point → Read TypeTree) → Point → Read TypeTree
 record_at inner p = perhaps_at (typed_at inner) CloseBrace p >>= λ fs. Ok (record_of (term_fields_of fs.0), fs.1)
@@ -142,8 +163,8 @@ one_of_at inner p = closed_at (typed_at inner) Greater p >>= λ fs. Ok (one_of (
 unfoldable pub word_type : (Point → Read TypeTree) → Keyword → ℕ → Point → Read TypeTree
 word_type inner words.Unit at p = Ok (unit, p)
 word_type inner words.Bool at p = Ok (bool, p)
-word_type inner words.Int at p = Ok (int, p)
-word_type inner words.Text at p = Ok (text, p)
+word_type inner words.Int at p = initial_at number_at initial_number p >>= λ z. Ok (int z.0, z.1)
+word_type inner words.Text at p = initial_at string_at initial_text p >>= λ s. Ok (text s.0, s.1)
 word_type inner words.Enum at p = enum_at p
 word_type inner words.List at p = inner p >>= λ t. Ok (list t.0, t.1)
 word_type inner words.Keyed at p = inner p >>= λ t. Ok (keyed t.0, t.1)
@@ -161,6 +182,7 @@ begun_type inner (tokens.Keyword k) at p = word_type inner k at p
 begun_type inner (tokens.Name n) at p = Ok (named n, (p.0 ++ mention sorts.Type n at ∷ [], p.1))
 begun_type inner (tokens.Mark m) at p = mark_type inner m at p
 begun_type inner (tokens.Text s) at p = Err (Some at)
+begun_type inner (tokens.Number z) at p = Err (Some at)
 begun_type inner tokens.Bad at p = Err (Some at)
 begun_type inner tokens.End at p = Err (Some at)
 
@@ -190,7 +212,8 @@ unfoldable pub bij_at : Point → Read LensTree
 bij_at p = do
   rest ← mark_at OpenBracket p
   ps ← closed_at pair_at CloseBracket rest
-  Ok (bij_of ps.0, ps.1)
+  m ← initial_at string_at (initial_left ps.0) ps.1
+  Ok (bij_of ps.0 m.0, m.1)
 
 -- field "~" field ":" and a lens
 unfoldable pub arm_at : (Point → Read LensTree) → Point → Read (List ℕ × List ℕ × LensTree)
@@ -270,6 +293,7 @@ begun_lens type inner (tokens.Keyword k) at p = word_lens type inner k at p
 begun_lens type inner (tokens.Name n) at p = Ok (named_lens n, (p.0 ++ mention sorts.Lens n at ∷ [], p.1))
 begun_lens type inner (tokens.Mark m) at p = mark_lens type inner m at p
 begun_lens type inner (tokens.Text s) at p = Err (Some at)
+begun_lens type inner (tokens.Number z) at p = Err (Some at)
 begun_lens type inner tokens.Bad at p = Err (Some at)
 begun_lens type inner tokens.End at p = Err (Some at)
 

@@ -3,10 +3,10 @@ use Rattle.std.specs.Prelude.{◌≡◌, ℕ, zero, suc, List, [], ◌∷◌, �
 use Rattle.program_tokens.specs.declared.keyword.Keyword.TheVariants as words
 use Rattle.program_tokens.specs.declared.mark.Mark.TheVariants.{Equals, Semicolon, OpenBrace, CloseBrace, Less, Greater, OpenBracket, CloseBracket, OpenParen, CloseParen, Colon, Comma, Tilde}
 use Rattle.program_tokens.specs.declared.token.Token.{Token}
-use Rattle.program_tokens.specs.declared.token.Token.TheVariants.{Keyword, Name, Text, Mark, End}
+use Rattle.program_tokens.specs.declared.token.Token.TheVariants.{Keyword, Name, Text, Number, Mark, End}
 use Rattle.program_tokens.specs.declared.token.PlacedToken.{PlacedToken}
 use Rattle.program_tokens.specs.Tokens.{placed}
-use Rattle.program_terms.specs.Terms.{TypeTree, FieldTrees, unit, bool, int, text, enum_of, record_of, one_of, list, keyed, tree, named, no_fields, more_fields, LensTree, id_of, bij_of, disc_of, then_of, rec_lens, alt_lens, each_of, keyed_each, tree_each, part_of, inv_of, named_lens, RowTrees, no_rows, both, only_left, only_right, ArmTrees, no_arms, more_arms, DefTree, type_def, lens_def}
+use Rattle.program_terms.specs.Terms.{TypeTree, FieldTrees, unit, bool, int, text, enum_of, record_of, one_of, list, keyed, tree, named, no_fields, more_fields, LensTree, id_of, bij_of, disc_of, then_of, rec_lens, alt_lens, each_of, keyed_each, tree_each, part_of, inv_of, named_lens, RowTrees, no_rows, both, only_left, only_right, ArmTrees, no_arms, more_arms, DefTree, type_def, lens_def, initial_number, initial_text, initial_member, initial_left}
 use Rattle.program_grammar.specs.declared.mention.Sort.{Sort}
 use Rattle.program_grammar.specs.declared.mention.Sort.TheVariants as sorts
 use Rattle.program_grammar.specs.Mentions.{Point, mention, NotedDefinition, NotedProgram}
@@ -48,15 +48,19 @@ abbrev pub ArePairs : List (List ℕ × List ℕ) → Point → Point → Type 0
 ArePairs [] here there = ⊥
 ArePairs (p ∷ ps) here there = (a : Point) × IsPair p here a × OtherPairs ps a there
 
+-- an initial value: left out, where it is the one that is then meant, or behind `=`
+abbrev pub IsInitial : {A : Type 0} → (A → Token) → A → A → Point → Point → Type 0
+IsInitial token left_out value here there = ((value ≡ left_out) × (here ≡ there)) ⊎ ((a : Point) × Is (Mark Equals) here a × Is (token value) a there)
+
 -- a type with at most n types and lenses nested, itself among them
 abbrev mutual
   pub IsType : ℕ → TypeTree → Point → Point → Type 0
   IsType zero t here there = ⊥
   IsType (suc n) unit here there = Is (Keyword words.Unit) here there
   IsType (suc n) bool here there = Is (Keyword words.Bool) here there
-  IsType (suc n) int here there = Is (Keyword words.Int) here there
-  IsType (suc n) text here there = Is (Keyword words.Text) here there
-  IsType (suc n) (enum_of ms) here there = (a b c : Point) × Is (Keyword words.Enum) here a × Is (Mark OpenBracket) a b × AreStrings ms b c × Is (Mark CloseBracket) c there
+  IsType (suc n) (int z) here there = (a : Point) × Is (Keyword words.Int) here a × IsInitial Number initial_number z a there
+  IsType (suc n) (text s) here there = (a : Point) × Is (Keyword words.Text) here a × IsInitial Text initial_text s a there
+  IsType (suc n) (enum_of ms m) here there = (a b c d : Point) × Is (Keyword words.Enum) here a × Is (Mark OpenBracket) a b × AreStrings ms b c × Is (Mark CloseBracket) c d × IsInitial Text (initial_member ms) m d there
   IsType (suc n) (record_of fs) here there = (a b : Point) × Is (Mark OpenBrace) here a × PerhapsFields n fs a b × Is (Mark CloseBrace) b there
   IsType (suc n) (one_of fs) here there = (a b : Point) × Is (Mark Less) here a × AreFields n fs a b × Is (Mark Greater) b there
   IsType (suc n) (list t) here there = (a : Point) × Is (Keyword words.List) here a × IsType n t a there
@@ -82,7 +86,7 @@ abbrev mutual
   IsLens zero l here there = ⊥
   IsLens (suc n) (id_of t) here there = (a : Point) × Is (Keyword words.Id) here a × IsType n t a there
   IsLens (suc n) (disc_of t u) here there = (a b : Point) × Is (Keyword words.Disc) here a × IsType n t a b × IsType n u b there
-  IsLens (suc n) (bij_of ps) here there = (a b c : Point) × Is (Keyword words.Bij) here a × Is (Mark OpenBracket) a b × ArePairs ps b c × Is (Mark CloseBracket) c there
+  IsLens (suc n) (bij_of ps m) here there = (a b c d : Point) × Is (Keyword words.Bij) here a × Is (Mark OpenBracket) a b × ArePairs ps b c × Is (Mark CloseBracket) c d × IsInitial Text (initial_left ps) m d there
   IsLens (suc n) (then_of l k) here there = (a b c d e : Point) × Is (Keyword words.Then) here a × Is (Mark OpenParen) a b × IsLens n l b c × Is (Mark Comma) c d × IsLens n k d e × Is (Mark CloseParen) e there
   IsLens (suc n) (rec_lens rs) here there = (a b : Point) × Is (Mark OpenBrace) here a × PerhapsRows n rs a b × Is (Mark CloseBrace) b there
   IsLens (suc n) (alt_lens arms) here there = (a b : Point) × Is (Mark Less) here a × AreArms n arms a b × Is (Mark Greater) b there
