@@ -1,7 +1,10 @@
 -- Canonical text. Each form is written before the text behind it, which is the last argument.
-use Rattle.std.specs.Prelude.{ℕ, List, [], ◌∷◌, ◌++◌, codes, if◌then◌else◌}
+use Rattle.std.specs.Prelude.{ℕ, List, [], ◌∷◌, ◌++◌, codes, bytes_eq, if◌then◌else◌}
+use Rattle.std.specs.Fmt.{signed_decimal}
+use Rattle.std.specs.Ordering.{int_eq}
+use lib.IntN.{ℤ}
 use Rattle.program_tokens.specs.Words.{is_name}
-use Rattle.program_terms.specs.Terms.{TypeTree, FieldTrees, unit, bool, int, text, enum_of, record_of, one_of, list, keyed, tree, named, no_fields, more_fields, LensTree, id_of, bij_of, disc_of, then_of, rec_lens, alt_lens, each_of, keyed_each, tree_each, part_of, inv_of, named_lens, RowTrees, no_rows, both, only_left, only_right, ArmTrees, no_arms, more_arms, DefTree, type_def, lens_def, ProgramTree}
+use Rattle.program_terms.specs.Terms.{TypeTree, FieldTrees, unit, bool, int, text, enum_of, record_of, one_of, list, keyed, tree, named, no_fields, more_fields, LensTree, id_of, bij_of, disc_of, then_of, rec_lens, alt_lens, each_of, keyed_each, tree_each, part_of, inv_of, named_lens, RowTrees, no_rows, both, only_left, only_right, ArmTrees, no_arms, more_arms, DefTree, type_def, lens_def, ProgramTree, initial_number, initial_text, initial_member, initial_left}
 use Rattle.doc_values.specs.Types.{TyTree, ty_unit, ty_bool, ty_int, ty_text, ty_enum, ty_rec, ty_alt, ty_list, ty_keyed, ty_ordered}
 use Rattle.doc_values.specs.Types as of_documents
 
@@ -24,13 +27,21 @@ abbrev pub put_pairs : List ℕ → List (List ℕ × List ℕ) → List ℕ →
 put_pairs before [] rest = rest
 put_pairs before (p ∷ ps) rest = before ++ put_string p.0 (codes "=" ++ put_string p.1 (put_pairs (codes ", ") ps rest))
 
+-- An initial value stands behind ` = ` where it differs from the one that is meant when it is left out.
+
+abbrev pub put_initial_number : ℤ → List ℕ → List ℕ
+put_initial_number z rest = if int_eq z initial_number then rest else codes " = " ++ (signed_decimal z ++ rest)
+
+abbrev pub put_initial_string : List ℕ → List ℕ → List ℕ → List ℕ
+put_initial_string left_out s rest = if bytes_eq s left_out then rest else codes " = " ++ put_string s rest
+
 abbrev mutual
   pub put_type : TypeTree → List ℕ → List ℕ
   put_type unit rest = codes "unit" ++ rest
   put_type bool rest = codes "bool" ++ rest
-  put_type int rest = codes "int" ++ rest
-  put_type text rest = codes "text" ++ rest
-  put_type (enum_of ms) rest = codes "enum[" ++ put_strings [] ms (codes "]" ++ rest)
+  put_type (int z) rest = codes "int" ++ put_initial_number z rest
+  put_type (text s) rest = codes "text" ++ put_initial_string initial_text s rest
+  put_type (enum_of ms m) rest = codes "enum[" ++ put_strings [] ms (codes "]" ++ put_initial_string (initial_member ms) m rest)
   put_type (record_of fs) rest = codes "{" ++ put_fields [] fs (codes "}" ++ rest)
   put_type (one_of fs) rest = codes "<" ++ put_fields [] fs (codes ">" ++ rest)
   put_type (list t) rest = codes "list " ++ put_type t rest
@@ -47,7 +58,7 @@ abbrev mutual
   pub put_lens : LensTree → List ℕ → List ℕ
   put_lens (id_of t) rest = codes "id " ++ put_type t rest
   put_lens (disc_of t u) rest = codes "disc " ++ put_type t (codes " " ++ put_type u rest)
-  put_lens (bij_of ps) rest = codes "bij[" ++ put_pairs [] ps (codes "]" ++ rest)
+  put_lens (bij_of ps m) rest = codes "bij[" ++ put_pairs [] ps (codes "]" ++ put_initial_string (initial_left ps) m rest)
   put_lens (then_of l k) rest = codes "then(" ++ put_lens l (codes ", " ++ put_lens k (codes ")" ++ rest))
   put_lens (rec_lens rows) rest = codes "{" ++ put_rows [] rows (codes "}" ++ rest)
   put_lens (alt_lens arms) rest = codes "<" ++ put_arms [] arms (codes ">" ++ rest)
@@ -86,9 +97,9 @@ abbrev mutual
   pub term_of_type : TyTree → TypeTree
   term_of_type ty_unit = unit
   term_of_type ty_bool = bool
-  term_of_type ty_int = int
-  term_of_type ty_text = text
-  term_of_type (ty_enum ms) = enum_of ms
+  term_of_type (ty_int z) = int z
+  term_of_type (ty_text s) = text s
+  term_of_type (ty_enum ms m) = enum_of ms m
   term_of_type (ty_rec fs) = record_of (terms_of_fields fs)
   term_of_type (ty_alt fs) = one_of (terms_of_fields fs)
   term_of_type (ty_list t) = list (term_of_type t)

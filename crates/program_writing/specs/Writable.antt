@@ -1,5 +1,6 @@
 -- What the grammar can say: the programs and types that have a text.
-use Rattle.std.specs.Prelude.{◌≡◌, ℕ, zero, suc, true, List, [], ◌∷◌}
+use Rattle.std.specs.Prelude.{◌≡◌, ◌⊎◌, ◌<◌, ◌^◌, ℕ, zero, suc, true, List, [], ◌∷◌}
+use lib.Signed.{mag}
 use Rattle.program_tokens.specs.Words.{is_name, is_text}
 use Rattle.program_terms.specs.Terms.{TypeTree, FieldTrees, unit, bool, int, text, enum_of, record_of, one_of, list, keyed, tree, named, no_fields, more_fields, LensTree, id_of, bij_of, disc_of, then_of, rec_lens, alt_lens, each_of, keyed_each, tree_each, part_of, inv_of, named_lens, RowTrees, no_rows, both, only_left, only_right, ArmTrees, no_arms, more_arms, DefTree, type_def, lens_def, ProgramTree}
 use Rattle.doc_values.specs.Types.{TyTree, ty_unit, ty_bool, ty_int, ty_text, ty_enum, ty_rec, ty_alt, ty_list, ty_keyed, ty_ordered}
@@ -34,15 +35,16 @@ HasArms no_arms = ⊥
 HasArms (more_arms f g l arms) = Unit {0}
 
 -- a type with at most n types and lenses nested, itself among them: members, fields and tags may stand in
--- strings, a name is one, and an enum and alternatives are not empty
+-- strings, and so may an initial value that is a text, unless it is empty and of `text`; one that is a number is in i64; a name is
+-- one, and an enum and alternatives are not empty
 abbrev mutual
   pub IsWritableType : ℕ → TypeTree → Type 0
   IsWritableType zero t = ⊥
   IsWritableType (suc n) unit = Unit {0}
   IsWritableType (suc n) bool = Unit {0}
-  IsWritableType (suc n) int = Unit {0}
-  IsWritableType (suc n) text = Unit {0}
-  IsWritableType (suc n) (enum_of ms) = IsNotEmpty ms × AreTexts ms
+  IsWritableType (suc n) (int z) = mag z < 2 ^ 63
+  IsWritableType (suc n) (text s) = (s ≡ []) ⊎ IsText s
+  IsWritableType (suc n) (enum_of ms m) = IsNotEmpty ms × AreTexts ms × IsText m
   IsWritableType (suc n) (record_of fs) = AreWritableFields n fs
   IsWritableType (suc n) (one_of fs) = HasFields fs × AreWritableFields n fs
   IsWritableType (suc n) (list t) = IsWritableType n t
@@ -60,7 +62,7 @@ abbrev mutual
   IsWritableLens zero l = ⊥
   IsWritableLens (suc n) (id_of t) = IsWritableType n t
   IsWritableLens (suc n) (disc_of t u) = IsWritableType n t × IsWritableType n u
-  IsWritableLens (suc n) (bij_of ps) = IsNotEmpty ps × ArePairsOfTexts ps
+  IsWritableLens (suc n) (bij_of ps m) = IsNotEmpty ps × ArePairsOfTexts ps × IsText m
   IsWritableLens (suc n) (then_of l k) = IsWritableLens n l × IsWritableLens n k
   IsWritableLens (suc n) (rec_lens rows) = AreWritableRows n rows
   IsWritableLens (suc n) (alt_lens arms) = HasArms arms × AreWritableArms n arms
