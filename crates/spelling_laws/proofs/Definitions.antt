@@ -12,9 +12,9 @@ use Rattle.program_grammar.specs.Mentions.{Point, NotedDefinition}
 use Rattle.program_grammar.specs.Reading.{Read, ◌>>=◌, token_value, type_at, lens_at, name_in, name_at, type_term_at, lens_term_at, definition_at, definitions_at}
 use Rattle.program_grammar.specs.Spelling.{IsType, IsLens, IsStatement, IsDefinition, AreDefinitions}
 use Rattle.program_grammar.proofs.ReadingResults.{done, ok_is, bind_ok}
-use Rattle.program_grammar.proofs.RestOfTokens.{drop_to_rest, definitions_after}
-use Rattle.spelling_laws.proofs.ReadingSteps.{ComesBefore, onward, is_ahead, Exact, read_first, made_of}
-use Rattle.spelling_laws.proofs.Marks.{mark_again, mark_first}
+use Rattle.program_grammar.proofs.RestOfTokens.{same_tail, drop_to_rest, definitions_after}
+use Rattle.spelling_laws.proofs.ReadingSteps.{ComesBefore, onward, is_ahead, NoEquals, Exact, read_first, made_of}
+use Rattle.spelling_laws.proofs.Marks.{mark_again, mark_first, other_mark}
 use Rattle.spelling_laws.proofs.Types.{type_exact}
 use Rattle.spelling_laws.proofs.Lenses.{lens_exact}
 
@@ -30,12 +30,12 @@ type_term_found : (here : Point) (x : DefTree × Point) → type_term_at here �
 unfolding type_term_at
 type_term_found here x h = made_of (IsType 100) (type_at 100) (type_exact 100) (IsTerm words.Type) type_def here here x h (λ t there so. (refl, so))
 
-type_term_again : (d : DefTree) (here there : Point) → IsTerm words.Type d here there → type_term_at here ≡ Ok (d, there)
+type_term_again : (d : DefTree) (here there : Point) → IsTerm words.Type d here there → NoEquals there → type_term_at here ≡ Ok (d, there)
 unfolding type_term_at
-type_term_again (type_def t) here there h = rw ((type_exact 100).again t here there h.1) refl
-type_term_again (lens_def l) here there h = let e = h.0 in absurd cc
+type_term_again (type_def t) here there h behind = rw ((type_exact 100).again t here there h.1 behind) refl
+type_term_again (lens_def l) here there h behind = let e = h.0 in absurd cc
 
-type_term_exact : Exact (IsTerm words.Type) type_term_at
+type_term_exact : Exact (IsTerm words.Type) NoEquals type_term_at
 type_term_exact = record {
   moves = λ d here there h. statement_ahead d (tokens.Keyword words.Type) here there h;
   found = type_term_found;
@@ -46,12 +46,12 @@ lens_term_found : (here : Point) (x : DefTree × Point) → lens_term_at here �
 unfolding lens_term_at
 lens_term_found here x h = made_of (IsLens 100) (lens_at 100) (lens_exact 100) (IsTerm words.Lens) lens_def here here x h (λ l there so. (refl, so))
 
-lens_term_again : (d : DefTree) (here there : Point) → IsTerm words.Lens d here there → lens_term_at here ≡ Ok (d, there)
+lens_term_again : (d : DefTree) (here there : Point) → IsTerm words.Lens d here there → NoEquals there → lens_term_at here ≡ Ok (d, there)
 unfolding lens_term_at
-lens_term_again (type_def t) here there h = let e = h.0 in absurd cc
-lens_term_again (lens_def l) here there h = rw ((lens_exact 100).again l here there h.1) refl
+lens_term_again (type_def t) here there h behind = let e = h.0 in absurd cc
+lens_term_again (lens_def l) here there h behind = rw ((lens_exact 100).again l here there h.1 behind) refl
 
-lens_term_exact : Exact (IsTerm words.Lens) lens_term_at
+lens_term_exact : Exact (IsTerm words.Lens) NoEquals lens_term_at
 lens_term_exact = record {
   moves = λ d here there h. statement_ahead d (tokens.Keyword words.Lens) here there h;
   found = lens_term_found;
@@ -67,6 +67,7 @@ name_token (tokens.Name s) at ts f y G h k = k s at ts refl h
 name_token (tokens.Keyword w) at ts f y G h k = absurd cc
 name_token (tokens.Mark m) at ts f y G h k = absurd cc
 name_token (tokens.Text s) at ts f y G h k = absurd cc
+name_token (tokens.Number z) at ts f y G h k = absurd cc
 name_token tokens.Bad at ts f y G h k = absurd cc
 name_token tokens.End at ts f y G h k = absurd cc
 
@@ -76,7 +77,7 @@ unfolding name_at
 name_first [] f y G h k = absurd cc
 name_first (t ∷ ts) f y G h k = name_token t.token t.at ts f y G h k
 
-definition_found : (k : Keyword) (term : Point → Read DefTree) → Exact (IsTerm k) term → (at : ℕ) (ts : List PlacedToken) (x : NotedDefinition × List PlacedToken) → definition_at term ts ≡ Ok x
+definition_found : (k : Keyword) (term : Point → Read DefTree) → Exact (IsTerm k) NoEquals term → (at : ℕ) (ts : List PlacedToken) (x : NotedDefinition × List PlacedToken) → definition_at term ts ≡ Ok x
     → IsDefinition x.0 (placed (tokens.Keyword k) at ∷ ts) x.1
 unfolding definition_at
 definition_found k term e at ts x h =
@@ -121,16 +122,13 @@ Gathered ts = (skip : ℕ) (x : List NotedDefinition × List PlacedToken) → de
 gathered_as : (here : List PlacedToken) (y x : List NotedDefinition × List PlacedToken) → done y ≡ done x → AreDefinitions y.0 here y.1 → AreDefinitions x.0 here x.1
 gathered_as here y x e h = subst (λ (z : List NotedDefinition × List PlacedToken). AreDefinitions z.0 here z.1) (ok_is y x e) h
 
-tail_is : (t u : PlacedToken) (ts us : List PlacedToken) → t ∷ ts ≡ u ∷ us → ts ≡ us
-tail_is t u ts us e = cc
-
-with_found : (k : Keyword) (term : Point → Read DefTree) → Exact (IsTerm k) term → (at : ℕ) (ts : List PlacedToken) → Gathered ts → (x : List NotedDefinition × List PlacedToken) → with_definition term ts ≡ Ok x
+with_found : (k : Keyword) (term : Point → Read DefTree) → Exact (IsTerm k) NoEquals term → (at : ℕ) (ts : List PlacedToken) → Gathered ts → (x : List NotedDefinition × List PlacedToken) → with_definition term ts ≡ Ok x
     → AreDefinitions x.0 (placed (tokens.Keyword k) at ∷ ts) x.1
 with_found k term e at ts gathered x h =
     let a = bind_ok (definition_at term ts) (λ d. definitions_at (length ts - length d.1) ts >>= λ ds. Ok (d.0 ∷ ds.0, ds.1)) x h in
     let b = bind_ok (definitions_at (length ts - length a.0.1) ts) (λ ds. Ok (a.0.0 ∷ ds.0, ds.1)) x a.2 in
     let one = definition_found k term e at ts a.0 a.1 in
-    let behind : ts ≡ placed (tokens.Name a.0.0.name) a.0.0.at ∷ one.a = tail_is _ _ _ _ one.begins in
+    let behind : ts ≡ placed (tokens.Name a.0.0.name) a.0.0.at ∷ one.a = same_tail _ _ _ _ one.begins in
     let ahead : ComesBefore ([], ts) ([], a.0.1) = subst (λ (r : List PlacedToken). ComesBefore ([], r) ([], a.0.1)) (sym behind) (definition_ahead a.0.0 (placed (tokens.Keyword k) at ∷ ts) a.0.1 one) in
     let others = gathered (length ts - length a.0.1) b.0 b.1 in
     gathered_as (placed (tokens.Keyword k) at ∷ ts) (a.0.0 ∷ b.0.0, b.0.1) x b.2
@@ -169,14 +167,14 @@ lens_word at ts = refl
 abbrev Stated : DefTree → Token → Point → Point → Type 0
 Stated d k here there = ((k ≡ tokens.Keyword words.Type) × (type_term_at here ≡ Ok (d, there))) ⊎ ((k ≡ tokens.Keyword words.Lens) × (lens_term_at here ≡ Ok (d, there)))
 
-stated : (d : DefTree) (k : Token) (here there : Point) → IsStatement d k here there → Stated d k here there
-stated (type_def t) k here there h = inl (h.0, type_term_again (type_def t) here there (refl, h.1))
-stated (lens_def l) k here there h = inr (h.0, lens_term_again (lens_def l) here there (refl, h.1))
+stated : (d : DefTree) (k : Token) (here there : Point) → IsStatement d k here there → NoEquals there → Stated d k here there
+stated (type_def t) k here there h behind = inl (h.0, type_term_again (type_def t) here there (refl, h.1) behind)
+stated (lens_def l) k here there h behind = inr (h.0, lens_term_again (lens_def l) here there (refl, h.1) behind)
 
 first_again : (d : NotedDefinition) (here there : List PlacedToken) → IsDefinition d here there → definitions_at 0 here ≡ (definitions_at 0 there >>= λ ds. Ok (d ∷ ds.0, ds.1))
 first_again d here there h =
     let ts = placed (tokens.Name d.name) d.at ∷ h.a in
-    elim (stated d.def h.word h.b h.c h.stands) [
+    elim (stated d.def h.word h.b h.c h.stands (other_mark Equals Semicolon refl h.ends)) [
       | inl s ↦ ap (definitions_at 0) (h.begins ∙ ap (λ (k : Token). placed k h.word_at ∷ ts) s.0) ∙ type_word h.word_at ts ∙ with_again type_term_at d here there h s.1
       | inr s ↦ ap (definitions_at 0) (h.begins ∙ ap (λ (k : Token). placed k h.word_at ∷ ts) s.0) ∙ lens_word h.word_at ts ∙ with_again lens_term_at d here there h s.1
     ]

@@ -1,6 +1,7 @@
 pub mod ReadingSteps
 pub mod Marks
 pub mod Lists
+pub mod InitialValues
 pub mod Types
 pub mod Rows
 pub mod Lenses

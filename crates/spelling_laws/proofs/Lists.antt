@@ -1,8 +1,8 @@
 -- Lists of elements with commas between them.
-use Rattle.std.proofs.Common.{◌≡◌, ℕ, zero, suc, ◌-◌, false, cond, List, [], ◌∷◌, length, drop, Option, Result, Ok, refl, ap, subst, ◌∙◌, eqb, inl, inr}
+use Rattle.std.proofs.Common.{◌≡◌, ℕ, zero, suc, ◌-◌, false, cond, List, [], ◌∷◌, length, drop, Option, Result, Ok, refl, sym, ap, subst, ◌∙◌, eqb, inl, inr}
 use Rattle.program_tokens.specs.Words.{mark_byte}
 use Rattle.program_tokens.specs.declared.mark.Mark.{Mark}
-use Rattle.program_tokens.specs.declared.mark.Mark.TheVariants.{Comma}
+use Rattle.program_tokens.specs.declared.mark.Mark.TheVariants.{Equals, Comma}
 use Rattle.program_tokens.specs.declared.token.Token.TheVariants as tokens
 use Rattle.program_tokens.specs.declared.token.PlacedToken.{PlacedToken}
 use Rattle.program_grammar.specs.declared.mention.Mention.{Mention}
@@ -10,8 +10,8 @@ use Rattle.program_grammar.specs.Mentions.{Point}
 use Rattle.program_grammar.specs.Reading.{Read, ◌>>=◌, is_mark, next_is, mark_at, more_at, list_at, closed_at, perhaps_at}
 use Rattle.program_grammar.specs.Spelling.{Is}
 use Rattle.program_grammar.proofs.ReadingResults.{done, bind_ok, chosen}
-use Rattle.program_grammar.proofs.RestOfTokens.{drop_to_rest, more_after}
-use Rattle.spelling_laws.proofs.ReadingSteps.{ComesBefore, no_step, onward, is_ahead, Exact, read_as, read_first}
+use Rattle.program_grammar.proofs.RestOfTokens.{drop_to_rest, more_after, more_ends}
+use Rattle.spelling_laws.proofs.ReadingSteps.{ComesBefore, no_step, onward, is_ahead, Anything, NoEquals, Exact, read_as, read_first}
 use Rattle.spelling_laws.proofs.Marks.{point_is, this_mark, mark_again, mark_first, mark_next, other_mark}
 
 -- elements behind commas
@@ -35,11 +35,11 @@ Perhaps R close (x ∷ xs) here there = Closed R close (x ∷ xs) here there
 
 -- elements behind commas
 
-others_move : {A : Type 0} (R : A → Point → Point → Type 0) (element : Point → Read A) → Exact R element → (xs : List A) (here there : Point) → Others R xs here there → ComesBefore here there
+others_move : {A : Type 0} (R : A → Point → Point → Type 0) (element : Point → Read A) → Exact R NoEquals element → (xs : List A) (here there : Point) → Others R xs here there → ComesBefore here there
 others_move R element e [] here there h = no_step h
 others_move R element e (x ∷ xs) here there h = onward (is_ahead h.2) (onward (e.moves x h.0 h.1 h.3) (others_move R element e xs h.1 there h.4))
 
-more_found : {A : Type 0} (R : A → Point → Point → Type 0) (element : Point → Read A) → Exact R element → (skip : ℕ) (ms : List Mention) (ts : List PlacedToken) (x : List A × Point)
+more_found : {A : Type 0} (R : A → Point → Point → Type 0) (element : Point → Read A) → Exact R NoEquals element → (skip : ℕ) (ms : List Mention) (ts : List PlacedToken) (x : List A × Point)
     → more_at element skip ms ts ≡ Ok x → Others R x.0 (ms, drop skip ts) x.1
 unfolding more_at
 more_found R element e zero ms [] x h = read_as (Others R) (ms, []) ([], (ms, [])) x h refl
@@ -58,10 +58,10 @@ more_found {A = A} R element e zero ms (t ∷ ts) x h =
       | inr p ↦ read_as (Others R) (ms, t ∷ ts) ([], (ms, t ∷ ts)) x p.1 refl
     ]
 
-more_ends : {A : Type 0} (element : Point → Read A) (ms : List Mention) (ts : List PlacedToken) → next_is Comma ts ≡ false → more_at element 0 ms ts ≡ Ok ([], (ms, ts))
-unfolding more_at
-more_ends element ms [] h = refl
-more_ends element ms (t ∷ ts) h = rw h refl
+-- if no `=` stands behind them, none stands before them
+no_equals : {A : Type 0} (R : A → Point → Point → Type 0) (xs : List A) (here there : Point) → Others R xs here there → NoEquals there → NoEquals here
+no_equals R [] here there h behind = subst NoEquals (sym h) behind
+no_equals R (x ∷ xs) here there h behind = other_mark Equals Comma refl h.2
 
 -- behind a comma
 more_comma : {A : Type 0} (element : Point → Read A) (here a b : Point) (x : A) → Is (tokens.Mark Comma) here a → element a ≡ Ok (x, b) → ComesBefore a b
@@ -72,37 +72,40 @@ more_comma {A = A} element here a b x comma read h =
     ∙ ap (λ (r : Read A). r >>= λ y. more_at element (length a.1 - length y.1.1) y.1.0 a.1 >>= λ ys. Ok (y.0 ∷ ys.0, ys.1)) read
     ∙ ap (λ (r : Read (List A)). r >>= λ ys. Ok (x ∷ ys.0, ys.1)) (more_after element b.0 a.1 b.1 h.rest)
 
-more_again : {A : Type 0} (R : A → Point → Point → Type 0) (element : Point → Read A) → Exact R element → (xs : List A) (here there : Point) → Others R xs here there → next_is Comma there.1 ≡ false
+more_again : {A : Type 0} (R : A → Point → Point → Type 0) (element : Point → Read A) → Exact R NoEquals element → (xs : List A) (here there : Point) → Others R xs here there → next_is Comma there.1 ≡ false → NoEquals there
     → more_at element 0 here.0 here.1 ≡ Ok (xs, there)
-more_again R element e [] here there h ends = ap (λ (p : Point). more_at element 0 p.0 p.1) h ∙ more_ends element there.0 there.1 ends
-more_again {A = A} R element e (x ∷ xs) here there h ends =
-    more_comma element here h.0 h.1 x h.2 (e.again x h.0 h.1 h.3) (e.moves x h.0 h.1 h.3)
-    ∙ ap (λ (r : Read (List A)). r >>= λ ys. Ok (x ∷ ys.0, ys.1)) (more_again R element e xs h.1 there h.4 ends)
+more_again R element e [] here there h ends behind = ap (λ (p : Point). more_at element 0 p.0 p.1) h ∙ more_ends element there.0 there.1 ends
+more_again {A = A} R element e (x ∷ xs) here there h ends behind =
+    more_comma element here h.0 h.1 x h.2 (e.again x h.0 h.1 h.3 (no_equals R xs h.1 there h.4 behind)) (e.moves x h.0 h.1 h.3)
+    ∙ ap (λ (r : Read (List A)). r >>= λ ys. Ok (x ∷ ys.0, ys.1)) (more_again R element e xs h.1 there h.4 ends behind)
 
 -- elements with commas between them
 
-listed_move : {A : Type 0} (R : A → Point → Point → Type 0) (element : Point → Read A) → Exact R element → (xs : List A) (here there : Point) → Listed R xs here there → ComesBefore here there
+listed_move : {A : Type 0} (R : A → Point → Point → Type 0) (element : Point → Read A) → Exact R NoEquals element → (xs : List A) (here there : Point) → Listed R xs here there → ComesBefore here there
 listed_move R element e [] here there h = absurd h
 listed_move R element e (x ∷ xs) here there h = onward (e.moves x here h.0 h.1) (others_move R element e xs h.0 there h.2)
 
-list_found : {A : Type 0} (R : A → Point → Point → Type 0) (element : Point → Read A) → Exact R element → (here : Point) (x : List A × Point) → list_at element here ≡ Ok x → Listed R x.0 here x.1
+list_found : {A : Type 0} (R : A → Point → Point → Type 0) (element : Point → Read A) → Exact R NoEquals element → (here : Point) (x : List A × Point) → list_at element here ≡ Ok x → Listed R x.0 here x.1
 unfolding list_at
 list_found R element e here x h =
     read_first R element e here _ x _ h (λ y first h.
     let b = bind_ok (more_at element 0 y.1.0 y.1.1) (λ ys. Ok (y.0 ∷ ys.0, ys.1)) x h in
     read_as (Listed R) here (y.0 ∷ b.0.0, b.0.1) x b.2 (y.1, first, more_found R element e 0 y.1.0 y.1.1 b.0 b.1))
 
-list_again : {A : Type 0} (R : A → Point → Point → Type 0) (element : Point → Read A) → Exact R element → (xs : List A) (here there : Point) → Listed R xs here there → next_is Comma there.1 ≡ false
+list_again : {A : Type 0} (R : A → Point → Point → Type 0) (element : Point → Read A) → Exact R NoEquals element → (xs : List A) (here there : Point) → Listed R xs here there → next_is Comma there.1 ≡ false → NoEquals there
     → list_at element here ≡ Ok (xs, there)
 unfolding list_at
-list_again R element e [] here there h ends = absurd h
-list_again {A = A} R element e (x ∷ xs) here there h ends =
-    ap (λ (r : Read A). r >>= λ y. more_at element 0 y.1.0 y.1.1 >>= λ ys. Ok (y.0 ∷ ys.0, ys.1)) (e.again x here h.0 h.1)
-    ∙ ap (λ (r : Read (List A)). r >>= λ ys. Ok (x ∷ ys.0, ys.1)) (more_again R element e xs h.0 there h.2 ends)
+list_again R element e [] here there h ends behind = absurd h
+list_again {A = A} R element e (x ∷ xs) here there h ends behind =
+    ap (λ (r : Read A). r >>= λ y. more_at element 0 y.1.0 y.1.1 >>= λ ys. Ok (y.0 ∷ ys.0, ys.1)) (e.again x here h.0 h.1 (no_equals R xs h.0 there h.2 behind))
+    ∙ ap (λ (r : Read (List A)). r >>= λ ys. Ok (x ∷ ys.0, ys.1)) (more_again R element e xs h.0 there h.2 ends behind)
 
--- a list and the mark behind it
+-- a list and the mark behind it, which is neither a comma nor `=`
 
-closed_found : {A : Type 0} (R : A → Point → Point → Type 0) (element : Point → Read A) → Exact R element → (close : Mark) (here : Point) (x : List A × Point)
+abbrev pub Closes : Mark → Type 0
+Closes close = (eqb (mark_byte close) (mark_byte Comma) ≡ false) × (eqb (mark_byte close) (mark_byte Equals) ≡ false)
+
+closed_found : {A : Type 0} (R : A → Point → Point → Type 0) (element : Point → Read A) → Exact R NoEquals element → (close : Mark) (here : Point) (x : List A × Point)
     → closed_at element close here ≡ Ok x → Closed R close x.0 here x.1
 unfolding closed_at
 closed_found R element e close here x h =
@@ -110,24 +113,24 @@ closed_found R element e close here x h =
     mark_first close a.0.1 _ x _ a.2 (λ rest closes h.
     read_as (Closed R close) here (a.0.0, rest) x h (a.0.1, list_found R element e here a.0 a.1, closes))
 
-closed_again : {A : Type 0} (R : A → Point → Point → Type 0) (element : Point → Read A) → Exact R element → (close : Mark) → eqb (mark_byte close) (mark_byte Comma) ≡ false → (xs : List A) (here there : Point)
+closed_again : {A : Type 0} (R : A → Point → Point → Type 0) (element : Point → Read A) → Exact R NoEquals element → (close : Mark) → Closes close → (xs : List A) (here there : Point)
     → Closed R close xs here there → closed_at element close here ≡ Ok (xs, there)
 unfolding closed_at
-closed_again {A = A} R element e close no_comma xs here there h =
-    ap (λ (r : Read (List A)). r >>= λ ys. mark_at close ys.1 >>= λ rest. Ok (ys.0, rest)) (list_again R element e xs here h.0 h.1 (other_mark Comma close no_comma h.2))
+closed_again {A = A} R element e close closes xs here there h =
+    ap (λ (r : Read (List A)). r >>= λ ys. mark_at close ys.1 >>= λ rest. Ok (ys.0, rest)) (list_again R element e xs here h.0 h.1 (other_mark Comma close closes.0 h.2) (other_mark Equals close closes.1 h.2))
     ∙ ap (λ (r : Result Point (Option ℕ)). r >>= λ rest. done (xs, rest)) (mark_again close h.0 there h.2)
 
-pub closed_exact : {A : Type 0} (R : A → Point → Point → Type 0) (element : Point → Read A) (close : Mark) → eqb (mark_byte close) (mark_byte Comma) ≡ false → Exact R element
-    → Exact (Closed R close) (closed_at element close)
-closed_exact R element close no_comma e = record {
+pub closed_exact : {A : Type 0} (R : A → Point → Point → Type 0) (element : Point → Read A) (close : Mark) → Closes close → Exact R NoEquals element
+    → Exact (Closed R close) Anything (closed_at element close)
+closed_exact R element close closes e = record {
   moves = λ xs here there h. onward (listed_move R element e xs here h.0 h.1) (is_ahead h.2);
   found = closed_found R element e close;
-  again = closed_again R element e close no_comma;
+  again = λ xs here there h behind. closed_again R element e close closes xs here there h;
 }
 
 -- a list that may be empty
 
-perhaps_moves : {A : Type 0} (R : A → Point → Point → Type 0) (element : Point → Read A) → Exact R element → (close : Mark) (xs : List A) (here there : Point) → Perhaps R close xs here there → ComesBefore here there
+perhaps_moves : {A : Type 0} (R : A → Point → Point → Type 0) (element : Point → Read A) → Exact R NoEquals element → (close : Mark) (xs : List A) (here there : Point) → Perhaps R close xs here there → ComesBefore here there
 perhaps_moves R element e close [] here there h = is_ahead h
 perhaps_moves R element e close (x ∷ xs) here there h = onward (listed_move R element e (x ∷ xs) here h.0 h.1) (is_ahead h.2)
 
@@ -135,7 +138,7 @@ closed_perhaps : {A : Type 0} (R : A → Point → Point → Type 0) (close : Ma
 closed_perhaps R close [] here there h = absurd h.1
 closed_perhaps R close (x ∷ xs) here there h = h
 
-perhaps_found : {A : Type 0} (R : A → Point → Point → Type 0) (element : Point → Read A) → Exact R element → (close : Mark) (here : Point) (x : List A × Point)
+perhaps_found : {A : Type 0} (R : A → Point → Point → Type 0) (element : Point → Read A) → Exact R NoEquals element → (close : Mark) (here : Point) (x : List A × Point)
     → perhaps_at element close here ≡ Ok x → Perhaps R close x.0 here x.1
 unfolding perhaps_at
 perhaps_found R element e close here x h =
@@ -148,20 +151,20 @@ perhaps_found R element e close here x h =
 abbrev pub Differs : {A : Type 0} → (A → Point → Point → Type 0) → Mark → Type 0
 Differs {A} R close = (x : A) (here there : Point) → R x here there → next_is close here.1 ≡ false
 
-perhaps_again : {A : Type 0} (R : A → Point → Point → Type 0) (element : Point → Read A) → Exact R element → (close : Mark) → eqb (mark_byte close) (mark_byte Comma) ≡ false → Differs R close
+perhaps_again : {A : Type 0} (R : A → Point → Point → Type 0) (element : Point → Read A) → Exact R NoEquals element → (close : Mark) → Closes close → Differs R close
     → (xs : List A) (here there : Point) → Perhaps R close xs here there → perhaps_at element close here ≡ Ok (xs, there)
 unfolding perhaps_at
-perhaps_again {A = A} R element e close no_comma differs [] here there h =
+perhaps_again {A = A} R element e close closes differs [] here there h =
     ap (λ b. cond b (mark_at close here >>= λ rest. done ([], rest)) (closed_at element close here)) (mark_next close h)
     ∙ ap (λ (r : Result Point (Option ℕ)). r >>= λ rest. done ([], rest)) (mark_again close here there h)
-perhaps_again {A = A} R element e close no_comma differs (x ∷ xs) here there h =
+perhaps_again {A = A} R element e close closes differs (x ∷ xs) here there h =
     ap (λ b. cond b (mark_at close here >>= λ rest. done ([], rest)) (closed_at element close here)) (differs x here h.1.0 h.1.1)
-    ∙ closed_again R element e close no_comma (x ∷ xs) here there h
+    ∙ closed_again R element e close closes (x ∷ xs) here there h
 
-pub perhaps_exact : {A : Type 0} (R : A → Point → Point → Type 0) (element : Point → Read A) (close : Mark) → eqb (mark_byte close) (mark_byte Comma) ≡ false → Differs R close → Exact R element
-    → Exact (Perhaps R close) (perhaps_at element close)
-perhaps_exact R element close no_comma differs e = record {
+pub perhaps_exact : {A : Type 0} (R : A → Point → Point → Type 0) (element : Point → Read A) (close : Mark) → Closes close → Differs R close → Exact R NoEquals element
+    → Exact (Perhaps R close) Anything (perhaps_at element close)
+perhaps_exact R element close closes differs e = record {
   moves = perhaps_moves R element e close;
   found = perhaps_found R element e close;
-  again = perhaps_again R element e close no_comma differs;
+  again = λ xs here there h behind. perhaps_again R element e close closes differs xs here there h;
 }

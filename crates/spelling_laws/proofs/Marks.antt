@@ -1,6 +1,7 @@
 -- Single tokens: marks, words, strings, fields and names.
 use Rattle.std.proofs.Common.{◌≡◌, ℕ, true, false, cond, List, [], ◌∷◌, Option, Some, Result, Ok, Err, refl, sym, ap, subst, ◌∙◌, eqb, inl, inr}
 use Rattle.std.proofs.lemmas.Bool.{eq-eqb}
+use lib.IntN.{ℤ}
 use Rattle.program_tokens.specs.Words.{mark_byte}
 use Rattle.program_tokens.specs.Tokens.{placed}
 use Rattle.program_tokens.specs.declared.mark.Mark.{Mark}
@@ -10,11 +11,11 @@ use Rattle.program_tokens.specs.declared.token.PlacedToken.{PlacedToken}
 use Rattle.program_grammar.specs.declared.mention.Mention.{Mention}
 use Rattle.program_grammar.specs.declared.mention.Sort.{Sort}
 use Rattle.program_grammar.specs.Mentions.{Point}
-use Rattle.program_grammar.specs.Reading.{◌>>=◌, is_mark, next_is, mark_in, mark_at, string_in, string_from, string_at, field_in, field_from, field_at, token_value}
+use Rattle.program_grammar.specs.Reading.{◌>>=◌, is_mark, next_is, mark_in, mark_at, string_in, string_from, string_at, number_in, number_from, number_at, field_in, field_from, field_at, token_value}
 use Rattle.program_grammar.specs.Spelling.{Is, IsField, IsMention}
 use Rattle.program_grammar.proofs.ReadingResults.{ok_is, bind_ok, chosen}
 use Rattle.program_grammar.proofs.MarkTokens.{mark_is}
-use Rattle.spelling_laws.proofs.ReadingSteps.{ComesBefore, is_ahead, Exact, read_as}
+use Rattle.spelling_laws.proofs.ReadingSteps.{ComesBefore, is_ahead, Anything, Exact, read_as}
 
 -- the point where this token stands before those of another point
 abbrev pub before : Token → ℕ → Point → Point
@@ -71,6 +72,7 @@ text_value ms (tokens.Text s) at ts x e = read_as IsText (ms, placed (tokens.Tex
 text_value ms (tokens.Mark m) at ts x e = absurd cc
 text_value ms (tokens.Keyword k) at ts x e = absurd cc
 text_value ms (tokens.Name n) at ts x e = absurd cc
+text_value ms (tokens.Number z) at ts x e = absurd cc
 text_value ms tokens.Bad at ts x e = absurd cc
 text_value ms tokens.End at ts x e = absurd cc
 
@@ -78,12 +80,38 @@ text_from : (ms : List Mention) (ts : List PlacedToken) (x : List ℕ × Point) 
 text_from ms [] x e = absurd cc
 text_from ms (t ∷ ts) x e = text_value ms t.token t.at ts x e
 
-pub string_exact : Exact IsText string_at
+pub string_exact : Exact IsText Anything string_at
 unfolding string_at
 string_exact = record {
   moves = λ s here there h. is_ahead h;
   found = λ here x e. text_from here.0 here.1 x e;
-  again = λ s here there h. ap string_at (point_is h);
+  again = λ s here there h behind. ap string_at (point_is h);
+}
+
+-- numbers
+
+abbrev pub IsNumber : ℤ → Point → Point → Type 0
+IsNumber z here there = Is (tokens.Number z) here there
+
+number_value : (ms : List Mention) (k : Token) (at : ℕ) (ts : List PlacedToken) (x : ℤ × Point) → token_value (number_in k) at ms ts ≡ Ok x → IsNumber x.0 (ms, placed k at ∷ ts) x.1
+number_value ms (tokens.Number z) at ts x e = read_as IsNumber (ms, placed (tokens.Number z) at ∷ ts) (z, (ms, ts)) x e (it_is (tokens.Number z) at (ms, ts))
+number_value ms (tokens.Mark m) at ts x e = absurd cc
+number_value ms (tokens.Keyword k) at ts x e = absurd cc
+number_value ms (tokens.Name n) at ts x e = absurd cc
+number_value ms (tokens.Text s) at ts x e = absurd cc
+number_value ms tokens.Bad at ts x e = absurd cc
+number_value ms tokens.End at ts x e = absurd cc
+
+number_from_found : (ms : List Mention) (ts : List PlacedToken) (x : ℤ × Point) → number_from ms ts ≡ Ok x → IsNumber x.0 (ms, ts) x.1
+number_from_found ms [] x e = absurd cc
+number_from_found ms (t ∷ ts) x e = number_value ms t.token t.at ts x e
+
+pub number_exact : Exact IsNumber Anything number_at
+unfolding number_at
+number_exact = record {
+  moves = λ z here there h. is_ahead h;
+  found = λ here x e. number_from_found here.0 here.1 x e;
+  again = λ z here there h behind. ap number_at (point_is h);
 }
 
 -- fields
@@ -93,6 +121,7 @@ field_value ms (tokens.Name s) at ts x e = read_as IsField (ms, placed (tokens.N
 field_value ms (tokens.Text s) at ts x e = read_as IsField (ms, placed (tokens.Text s) at ∷ ts) (s, (ms, ts)) x e (inr (it_is (tokens.Text s) at (ms, ts)))
 field_value ms (tokens.Mark m) at ts x e = absurd cc
 field_value ms (tokens.Keyword k) at ts x e = absurd cc
+field_value ms (tokens.Number z) at ts x e = absurd cc
 field_value ms tokens.Bad at ts x e = absurd cc
 field_value ms tokens.End at ts x e = absurd cc
 
@@ -104,17 +133,17 @@ field_moves : (f : List ℕ) (here there : Point) → IsField f here there → C
 field_moves f here there (inl h) = is_ahead h
 field_moves f here there (inr h) = is_ahead h
 
-field_again : (f : List ℕ) (here there : Point) → IsField f here there → field_at here ≡ Ok (f, there)
+pub field_again : (f : List ℕ) (here there : Point) → IsField f here there → field_at here ≡ Ok (f, there)
 unfolding field_at
 field_again f here there (inl h) = ap field_at (point_is h)
 field_again f here there (inr h) = ap field_at (point_is h)
 
-pub field_exact : Exact IsField field_at
+pub field_exact : Exact IsField Anything field_at
 unfolding field_at
 field_exact = record {
   moves = field_moves;
   found = λ here x e. field_from_found here.0 here.1 x e;
-  again = field_again;
+  again = λ f here there h behind. field_again f here there h;
 }
 
 -- a field is no mark

@@ -2,12 +2,13 @@
 use Rattle.std.proofs.Common.{◌≡◌, ℕ, List, [], ◌∷◌, Option, Ok, Err, sym, ap, subst, ◌∙◌}
 use Rattle.program_tokens.specs.Tokens.{placed}
 use Rattle.program_tokens.specs.declared.keyword.Keyword.TheVariants as words
+use Rattle.program_tokens.specs.declared.mark.Mark.TheVariants.{Equals}
 use Rattle.program_tokens.specs.declared.token.Token.{Token}
 use Rattle.program_tokens.specs.declared.token.Token.TheVariants as tokens
 use Rattle.program_tokens.specs.declared.token.PlacedToken.{PlacedToken}
 use Rattle.program_grammar.specs.declared.mention.Mention.{Mention}
 use Rattle.program_grammar.specs.Mentions.{Point, NotedProgram}
-use Rattle.program_grammar.specs.Reading.{lens_at, definitions_at, main_at, end_at, program_at}
+use Rattle.program_grammar.specs.Reading.{next_is, lens_at, definitions_at, main_at, end_at, program_at}
 use Rattle.program_grammar.specs.Spelling.{Is, IsLens, IsProgram}
 use Rattle.program_grammar.proofs.ReadingResults.{done, ok_is, bind_ok}
 use Rattle.spelling_laws.proofs.ReadingSteps.{read_first}
@@ -78,7 +79,7 @@ unfolding program_at
 program_again ts p h =
     let definitions = definitions_again p.definitions ts h.a h.definitions (main_ends h.a h.b h.main) in
     let begin : ([], h.b.1) ≡ h.b = ap (λ (ms : List Mention). (ms, h.b.1)) (sym h.main.names) in
-    let lens : lens_at 100 ([], h.b.1) ≡ Ok (p.main, h.c) = ap (lens_at 100) begin ∙ (lens_exact 100).again p.main h.b h.c h.lens in
+    let lens : lens_at 100 ([], h.b.1) ≡ Ok (p.main, h.c) = ap (lens_at 100) begin ∙ (lens_exact 100).again p.main h.b h.c h.lens (ap (next_is Equals) h.ends.parts) in
     rw (definitions, main_again h.a h.b h.main, lens, end_again p.mentions h.c h.ends)
     (ap (λ (ms : List Mention). done (record { definitions = p.definitions; main = p.main; mentions = ms })) (sym h.ends.names))
 

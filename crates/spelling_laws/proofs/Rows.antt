@@ -11,8 +11,8 @@ use Rattle.program_grammar.specs.declared.mention.Mention.{Mention}
 use Rattle.program_grammar.specs.Mentions.{Point}
 use Rattle.program_grammar.specs.Reading.{Read, next_is, word_in, next_word, string_at, field_at, typed_at, closed_at, perhaps_at, pair_at, arm_at, left_row_at, right_row_at, both_row_at, row_by, row_at}
 use Rattle.program_grammar.specs.Spelling.{Is, IsField, IsPair, OtherPairs, ArePairs, IsType, IsLens, PerhapsRows, OtherRows, AreArms, OtherArms}
-use Rattle.spelling_laws.proofs.ReadingSteps.{ComesBefore, onward, is_ahead, Exact, read_as, read_first, made_of}
-use Rattle.spelling_laws.proofs.Marks.{before, it_is, point_is, mark_again, mark_first, IsText, string_exact, field_exact, field_no_mark}
+use Rattle.spelling_laws.proofs.ReadingSteps.{ComesBefore, onward, is_ahead, Anything, NoEquals, Exact, read_as, read_first, made_of}
+use Rattle.spelling_laws.proofs.Marks.{before, it_is, point_is, mark_again, mark_first, IsText, string_exact, field_exact, field_again, field_no_mark}
 use Rattle.spelling_laws.proofs.Lists.{Others, Listed, Closed, Perhaps, closed_exact, perhaps_exact}
 use Rattle.spelling_laws.proofs.Types.{Typed, typed_exact}
 
@@ -28,13 +28,13 @@ pair_found here x h =
 
 pair_again : (p : List ℕ × List ℕ) (here there : Point) → IsPair p here there → pair_at here ≡ Ok (p, there)
 unfolding pair_at
-pair_again p here there h = rw (string_exact.again p.0 here h.0 h.2, mark_again Equals h.0 h.1 h.3, string_exact.again p.1 h.1 there h.4) refl
+pair_again p here there h = rw (string_exact.again p.0 here h.0 h.2 tt, mark_again Equals h.0 h.1 h.3, string_exact.again p.1 h.1 there h.4 tt) refl
 
-pair_exact : Exact IsPair pair_at
+pair_exact : Exact IsPair NoEquals pair_at
 pair_exact = record {
   moves = λ p here there h. onward (is_ahead h.2) (onward (is_ahead h.3) (is_ahead h.4));
   found = pair_found;
-  again = pair_again;
+  again = λ p here there h behind. pair_again p here there h;
 }
 
 others_are_pairs : (ps : List (List ℕ × List ℕ)) (here there : Point) → Others IsPair ps here there → OtherPairs ps here there
@@ -53,15 +53,15 @@ pub pairs_are_listed : (ps : List (List ℕ × List ℕ)) (here there : Point) �
 pairs_are_listed [] here there h = h
 pairs_are_listed (p ∷ ps) here there h = (h.0, h.1, pairs_are_others ps h.0 there h.2)
 
-pub pairs_exact : Exact (Closed IsPair CloseBracket) (closed_at pair_at CloseBracket)
-pairs_exact = closed_exact IsPair pair_at CloseBracket refl pair_exact
+pub pairs_exact : Exact (Closed IsPair CloseBracket) Anything (closed_at pair_at CloseBracket)
+pairs_exact = closed_exact IsPair pair_at CloseBracket (refl, refl) pair_exact
 
 -- arms: two fields and a lens
 
 abbrev pub IsArm : ℕ → List ℕ × List ℕ × LensTree → Point → Point → Type 0
 IsArm n x here there = (a b c d : Point) × IsField x.0 here a × Is (tokens.Mark Tilde) a b × IsField x.1 b c × Is (tokens.Mark Colon) c d × IsLens n x.2 d there
 
-arm_found : (n : ℕ) (inner : Point → Read LensTree) → Exact (IsLens n) inner → (here : Point) (x : (List ℕ × List ℕ × LensTree) × Point) → arm_at inner here ≡ Ok x → IsArm n x.0 here x.1
+arm_found : (n : ℕ) (inner : Point → Read LensTree) → Exact (IsLens n) NoEquals inner → (here : Point) (x : (List ℕ × List ℕ × LensTree) × Point) → arm_at inner here ≡ Ok x → IsArm n x.0 here x.1
 unfolding arm_at
 arm_found n inner e here x h =
     read_first IsField field_at field_exact here _ x _ h (λ f left h.
@@ -71,16 +71,16 @@ arm_found n inner e here x h =
     read_first (IsLens n) inner e d _ x _ h (λ l is_so h.
     read_as (IsArm n) here ((f.0, g.0, l.0), l.1) x h (f.1, b, g.1, d, left, tilde, right, colon, is_so))))))
 
-arm_again : (n : ℕ) (inner : Point → Read LensTree) → Exact (IsLens n) inner → (x : List ℕ × List ℕ × LensTree) (here there : Point) → IsArm n x here there → arm_at inner here ≡ Ok (x, there)
+arm_again : (n : ℕ) (inner : Point → Read LensTree) → Exact (IsLens n) NoEquals inner → (x : List ℕ × List ℕ × LensTree) (here there : Point) → IsArm n x here there → NoEquals there → arm_at inner here ≡ Ok (x, there)
 unfolding arm_at
-arm_again n inner e x here there h =
-    rw (field_exact.again x.0 here h.0 h.4, mark_again Tilde h.0 h.1 h.5, field_exact.again x.1 h.1 h.2 h.6, mark_again Colon h.2 h.3 h.7, e.again x.2 h.3 there h.8) refl
+arm_again n inner e x here there h behind =
+    rw (field_again x.0 here h.0 h.4, mark_again Tilde h.0 h.1 h.5, field_again x.1 h.1 h.2 h.6, mark_again Colon h.2 h.3 h.7, e.again x.2 h.3 there h.8 behind) refl
 
-arm_moves : (n : ℕ) (inner : Point → Read LensTree) → Exact (IsLens n) inner → (x : List ℕ × List ℕ × LensTree) (here there : Point) → IsArm n x here there → ComesBefore here there
+arm_moves : (n : ℕ) (inner : Point → Read LensTree) → Exact (IsLens n) NoEquals inner → (x : List ℕ × List ℕ × LensTree) (here there : Point) → IsArm n x here there → ComesBefore here there
 arm_moves n inner e x here there h =
     onward (field_exact.moves x.0 here h.0 h.4) (onward (is_ahead h.5) (onward (field_exact.moves x.1 h.1 h.2 h.6) (onward (is_ahead h.7) (e.moves x.2 h.3 there h.8))))
 
-arm_exact : (n : ℕ) (inner : Point → Read LensTree) → Exact (IsLens n) inner → Exact (IsArm n) (arm_at inner)
+arm_exact : (n : ℕ) (inner : Point → Read LensTree) → Exact (IsLens n) NoEquals inner → Exact (IsArm n) NoEquals (arm_at inner)
 arm_exact n inner e = record { moves = arm_moves n inner e; found = arm_found n inner e; again = arm_again n inner e }
 
 others_are_arms : (n : ℕ) (xs : List (List ℕ × List ℕ × LensTree)) (here there : Point) → Others (IsArm n) xs here there → OtherArms n (term_arms_of xs) here there
@@ -99,8 +99,8 @@ pub arms_are_listed : (n : ℕ) (arms : ArmTrees) (here there : Point) → AreAr
 arms_are_listed n no_arms here there h = h
 arms_are_listed n (more_arms f g l arms) here there h = (h.4, (h.0, h.1, h.2, h.3, h.5, h.6, h.7, h.8, h.9), arms_are_others n arms h.4 there h.10)
 
-pub arms_exact : (n : ℕ) (inner : Point → Read LensTree) → Exact (IsLens n) inner → Exact (Closed (IsArm n) Greater) (closed_at (arm_at inner) Greater)
-arms_exact n inner e = closed_exact (IsArm n) (arm_at inner) Greater refl (arm_exact n inner e)
+pub arms_exact : (n : ℕ) (inner : Point → Read LensTree) → Exact (IsLens n) NoEquals inner → Exact (Closed (IsArm n) Greater) Anything (closed_at (arm_at inner) Greater)
+arms_exact n inner e = closed_exact (IsArm n) (arm_at inner) Greater (refl, refl) (arm_exact n inner e)
 
 -- rows: an arm, or a word, a field and a type
 
@@ -112,39 +112,39 @@ IsRow n (row_both f g l) here there = IsArm n (f, g, l) here there
 IsRow n (row_left f t) here there = IsSide words.Left n (f, t) here there
 IsRow n (row_right f t) here there = IsSide words.Right n (f, t) here there
 
-row_moves : (n : ℕ) (type : Point → Read TypeTree) (inner : Point → Read LensTree) → Exact (IsType n) type → Exact (IsLens n) inner → (r : RowTree) (here there : Point) → IsRow n r here there → ComesBefore here there
+row_moves : (n : ℕ) (type : Point → Read TypeTree) (inner : Point → Read LensTree) → Exact (IsType n) NoEquals type → Exact (IsLens n) NoEquals inner → (r : RowTree) (here there : Point) → IsRow n r here there → ComesBefore here there
 row_moves n type inner d e (row_both f g l) here there h = arm_moves n inner e (f, g, l) here there h
 row_moves n type inner d e (row_left f t) here there h = onward (is_ahead h.1) ((typed_exact (IsType n) type d).moves (f, t) h.0 there h.2)
 row_moves n type inner d e (row_right f t) here there h = onward (is_ahead h.1) ((typed_exact (IsType n) type d).moves (f, t) h.0 there h.2)
 
-both_found : (n : ℕ) (inner : Point → Read LensTree) → Exact (IsLens n) inner → (here : Point) (x : RowTree × Point) → both_row_at inner here ≡ Ok x → IsRow n x.0 here x.1
+both_found : (n : ℕ) (inner : Point → Read LensTree) → Exact (IsLens n) NoEquals inner → (here : Point) (x : RowTree × Point) → both_row_at inner here ≡ Ok x → IsRow n x.0 here x.1
 unfolding both_row_at
 both_found n inner e here x h = made_of (IsArm n) (arm_at inner) (arm_exact n inner e) (IsRow n) (λ a. row_both a.0 a.1 a.2) here here x h (λ a there so. so)
 
-left_found : (n : ℕ) (type : Point → Read TypeTree) → Exact (IsType n) type → (at : ℕ) (here : Point) (x : RowTree × Point) → left_row_at type here ≡ Ok x → IsRow n x.0 (before (tokens.Keyword words.Left) at here) x.1
+left_found : (n : ℕ) (type : Point → Read TypeTree) → Exact (IsType n) NoEquals type → (at : ℕ) (here : Point) (x : RowTree × Point) → left_row_at type here ≡ Ok x → IsRow n x.0 (before (tokens.Keyword words.Left) at here) x.1
 unfolding left_row_at
 left_found n type d at here x h =
     made_of (Typed (IsType n)) (typed_at type) (typed_exact (IsType n) type d) (IsRow n) (λ f. row_left f.0 f.1) (before (tokens.Keyword words.Left) at here) here x h (λ f there so.
     (here, it_is (tokens.Keyword words.Left) at here, so))
 
-right_found : (n : ℕ) (type : Point → Read TypeTree) → Exact (IsType n) type → (at : ℕ) (here : Point) (x : RowTree × Point) → right_row_at type here ≡ Ok x → IsRow n x.0 (before (tokens.Keyword words.Right) at here) x.1
+right_found : (n : ℕ) (type : Point → Read TypeTree) → Exact (IsType n) NoEquals type → (at : ℕ) (here : Point) (x : RowTree × Point) → right_row_at type here ≡ Ok x → IsRow n x.0 (before (tokens.Keyword words.Right) at here) x.1
 unfolding right_row_at
 right_found n type d at here x h =
     made_of (Typed (IsType n)) (typed_at type) (typed_exact (IsType n) type d) (IsRow n) (λ f. row_right f.0 f.1) (before (tokens.Keyword words.Right) at here) here x h (λ f there so.
     (here, it_is (tokens.Keyword words.Right) at here, so))
 
-worded_found : (n : ℕ) (type : Point → Read TypeTree) (inner : Point → Read LensTree) → Exact (IsType n) type → Exact (IsLens n) inner → (k : Keyword) (at : ℕ) (here : Point) (x : RowTree × Point)
+worded_found : (n : ℕ) (type : Point → Read TypeTree) (inner : Point → Read LensTree) → Exact (IsType n) NoEquals type → Exact (IsLens n) NoEquals inner → (k : Keyword) (at : ℕ) (here : Point) (x : RowTree × Point)
     → row_by type inner (Some k) here.0 (before (tokens.Keyword k) at here).1 ≡ Ok x → IsRow n x.0 (before (tokens.Keyword k) at here) x.1
 worded_found n type inner d e words.Left at here x h = left_found n type d at here x h
 worded_found n type inner d e words.Right at here x h = right_found n type d at here x h
 worded_found n type inner d e k at here x h = both_found n inner e (before (tokens.Keyword k) at here) x h
 
-begun_row_found : (n : ℕ) (type : Point → Read TypeTree) (inner : Point → Read LensTree) → Exact (IsType n) type → Exact (IsLens n) inner → (k : Token) (at : ℕ) (here : Point) (x : RowTree × Point)
+begun_row_found : (n : ℕ) (type : Point → Read TypeTree) (inner : Point → Read LensTree) → Exact (IsType n) NoEquals type → Exact (IsLens n) NoEquals inner → (k : Token) (at : ℕ) (here : Point) (x : RowTree × Point)
     → row_by type inner (word_in k) here.0 (before k at here).1 ≡ Ok x → IsRow n x.0 (before k at here) x.1
 begun_row_found n type inner d e (tokens.Keyword k) at here x h = worded_found n type inner d e k at here x h
 begun_row_found n type inner d e k at here x h = both_found n inner e (before k at here) x h
 
-row_by_found : (n : ℕ) (type : Point → Read TypeTree) (inner : Point → Read LensTree) → Exact (IsType n) type → Exact (IsLens n) inner → (ms : List Mention) (ts : List PlacedToken) (x : RowTree × Point)
+row_by_found : (n : ℕ) (type : Point → Read TypeTree) (inner : Point → Read LensTree) → Exact (IsType n) NoEquals type → Exact (IsLens n) NoEquals inner → (ms : List Mention) (ts : List PlacedToken) (x : RowTree × Point)
     → row_by type inner (next_word ts) ms ts ≡ Ok x → IsRow n x.0 (ms, ts) x.1
 row_by_found n type inner d e ms [] x h = both_found n inner e (ms, []) x h
 row_by_found n type inner d e ms (t ∷ ts) x h = begun_row_found n type inner d e t.token t.at (ms, ts) x h
@@ -155,14 +155,14 @@ unfolding row_at
 field_row type inner f here there (inl h) = ap (row_at type inner) (point_is h) ∙ ap (both_row_at inner) (sym (point_is h))
 field_row type inner f here there (inr h) = ap (row_at type inner) (point_is h) ∙ ap (both_row_at inner) (sym (point_is h))
 
-row_again : (n : ℕ) (type : Point → Read TypeTree) (inner : Point → Read LensTree) → Exact (IsType n) type → Exact (IsLens n) inner → (r : RowTree) (here there : Point) → IsRow n r here there
-    → row_at type inner here ≡ Ok (r, there)
+row_again : (n : ℕ) (type : Point → Read TypeTree) (inner : Point → Read LensTree) → Exact (IsType n) NoEquals type → Exact (IsLens n) NoEquals inner → (r : RowTree) (here there : Point) → IsRow n r here there
+    → NoEquals there → row_at type inner here ≡ Ok (r, there)
 unfolding row_at both_row_at left_row_at right_row_at
-row_again n type inner d e (row_both f g l) here there h = field_row type inner f here h.0 h.4 ∙ rw (arm_again n inner e (f, g, l) here there h) refl
-row_again n type inner d e (row_left f t) here there h = ap (row_at type inner) (point_is h.1) ∙ rw ((typed_exact (IsType n) type d).again (f, t) h.0 there h.2) refl
-row_again n type inner d e (row_right f t) here there h = ap (row_at type inner) (point_is h.1) ∙ rw ((typed_exact (IsType n) type d).again (f, t) h.0 there h.2) refl
+row_again n type inner d e (row_both f g l) here there h behind = field_row type inner f here h.0 h.4 ∙ rw (arm_again n inner e (f, g, l) here there h behind) refl
+row_again n type inner d e (row_left f t) here there h behind = ap (row_at type inner) (point_is h.1) ∙ rw ((typed_exact (IsType n) type d).again (f, t) h.0 there h.2 behind) refl
+row_again n type inner d e (row_right f t) here there h behind = ap (row_at type inner) (point_is h.1) ∙ rw ((typed_exact (IsType n) type d).again (f, t) h.0 there h.2 behind) refl
 
-row_exact : (n : ℕ) (type : Point → Read TypeTree) (inner : Point → Read LensTree) → Exact (IsType n) type → Exact (IsLens n) inner → Exact (IsRow n) (row_at type inner)
+row_exact : (n : ℕ) (type : Point → Read TypeTree) (inner : Point → Read LensTree) → Exact (IsType n) NoEquals type → Exact (IsLens n) NoEquals inner → Exact (IsRow n) NoEquals (row_at type inner)
 unfolding row_at
 row_exact n type inner d e = record {
   moves = row_moves n type inner d e;
@@ -210,6 +210,6 @@ rows_are_perhaps n (only_left f t rows) here there h =
 rows_are_perhaps n (only_right f t rows) here there h =
     let r = h.1 in (h.0, (r.3, (r.0, r.4, (r.1, r.2, r.5, r.6, r.7)), rows_are_others n rows r.3 h.0 r.8), h.2)
 
-pub rows_exact : (n : ℕ) (type : Point → Read TypeTree) (inner : Point → Read LensTree) → Exact (IsType n) type → Exact (IsLens n) inner
-    → Exact (Perhaps (IsRow n) CloseBrace) (perhaps_at (row_at type inner) CloseBrace)
-rows_exact n type inner d e = perhaps_exact (IsRow n) (row_at type inner) CloseBrace refl (row_no_brace n) (row_exact n type inner d e)
+pub rows_exact : (n : ℕ) (type : Point → Read TypeTree) (inner : Point → Read LensTree) → Exact (IsType n) NoEquals type → Exact (IsLens n) NoEquals inner
+    → Exact (Perhaps (IsRow n) CloseBrace) Anything (perhaps_at (row_at type inner) CloseBrace)
+rows_exact n type inner d e = perhaps_exact (IsRow n) (row_at type inner) CloseBrace (refl, refl) (row_no_brace n) (row_exact n type inner d e)

@@ -5,12 +5,13 @@
 //! does nothing: its clauses are the laws, for other crates to rest on. docs/LANGUAGE.md has the rules in prose.
 #![tactic(auto)]
 
-ghost use Rattle.std.specs.Prelude.{◌≡◌, ℕ, List, Option, Ok, Err};
+ghost use Rattle.std.specs.Prelude.{◌≡◌, ℕ, false, List, Option, Ok, Err};
+ghost use Rattle.program_tokens.specs.declared.mark.Mark.TheVariants.{Equals};
 ghost use Rattle.program_tokens.specs.declared.token.PlacedToken.{PlacedToken};
 ghost use Rattle.program_terms.specs.Terms.{TypeTree, LensTree};
 ghost use Rattle.program_grammar.specs.Mentions.{Point, NotedProgram};
 ghost use Rattle.program_grammar.specs.Spelling.{IsType, IsLens, IsProgram};
-ghost use Rattle.program_grammar.specs.Reading.{type_at, lens_at, program_at};
+ghost use Rattle.program_grammar.specs.Reading.{next_is, type_at, lens_at, program_at};
 
 /// What is read is spelled so.
 ///
@@ -28,15 +29,15 @@ pub fn what_is_read_is_spelled()
 
 /// What is spelled so is read.
 ///
-/// - `types`: where a type is spelled from one point to another, whatever stands behind it, it is read at the first, and
-///   the other is left.
+/// - `types`: where a type is spelled from one point to another, and no `=` stands behind it, it is read at the first, and
+///   the other is left. (With `=` behind it, a type that leaves its initial value out would be read on.)
 /// - `lenses`: so is a lens.
 /// - `programs`: a program that the tokens spell is read from them, with its names and their offsets.
 pub fn what_is_spelled_is_read()
     ensures types { (room : ℕ) (t : TypeTree) (here there : Point) → IsType room t here there
-        → type_at room here ≡ Ok (t, there) }
+        → next_is Equals there.1 ≡ false → type_at room here ≡ Ok (t, there) }
     ensures lenses { (room : ℕ) (l : LensTree) (here there : Point) → IsLens room l here there
-        → lens_at room here ≡ Ok (l, there) }
+        → next_is Equals there.1 ≡ false → lens_at room here ≡ Ok (l, there) }
     ensures programs { (ts : List PlacedToken) (p : NotedProgram) → IsProgram p ts → program_at ts ≡ Ok p }
 {}
 

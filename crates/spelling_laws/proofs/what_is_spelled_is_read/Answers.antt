@@ -4,10 +4,10 @@ use Rattle.spelling_laws.proofs.Programs.{program_again}
 use Rattle.spelling_laws.proofs.what_is_spelled_is_read.Goals as goal
 
 pub returns-clause-types : goal.returns-clause-types
-returns-clause-types c = λ room t here there spelled. (type_exact room).again t here there spelled
+returns-clause-types c = λ room t here there spelled behind. (type_exact room).again t here there spelled behind
 
 pub returns-clause-lenses : goal.returns-clause-lenses
-returns-clause-lenses c = λ room l here there spelled. (lens_exact room).again l here there spelled
+returns-clause-lenses c = λ room l here there spelled behind. (lens_exact room).again l here there spelled behind
 
 pub returns-clause-programs : goal.returns-clause-programs
 returns-clause-programs c = program_again
