@@ -22,8 +22,8 @@ pub data Part : Type 0 where
   definitions : Part
   other_members : Part
   other_pairs : Part
-  initial_number : Part
-  initial_string : Part
+  declared_number : Part
+  declared_string : Part
   fields : ℕ → Part
   other_fields : ℕ → Part
   rows : ℕ → Part
@@ -61,8 +61,8 @@ contents definitions =
     ∷ []
 contents other_members = (mark Comma ∷ a_string ∷ []) ∷ []
 contents other_pairs = (mark Comma ∷ a_pair) ∷ []
-contents initial_number = (mark Equals ∷ a_number ∷ []) ∷ []
-contents initial_string = (mark Equals ∷ a_string ∷ []) ∷ []
+contents declared_number = (mark Equals ∷ a_number ∷ []) ∷ []
+contents declared_string = (mark Equals ∷ a_string ∷ []) ∷ []
 contents (fields n) = (a_field n ++ repeated (other_fields n) ∷ []) ∷ []
 contents (other_fields n) = (mark Comma ∷ a_field n) ∷ []
 contents (rows n) = (rule (row n) ∷ repeated (other_rows n) ∷ []) ∷ []
@@ -77,9 +77,9 @@ alternatives (type zero) = []
 alternatives (type (suc n)) =
     (word words.Unit ∷ [])
     ∷ (word words.Bool ∷ [])
-    ∷ (word words.Int ∷ perhaps initial_number ∷ [])
-    ∷ (word words.Text ∷ perhaps initial_string ∷ [])
-    ∷ (word words.Enum ∷ mark OpenBracket ∷ a_string ∷ repeated other_members ∷ mark CloseBracket ∷ perhaps initial_string ∷ [])
+    ∷ (word words.Int ∷ perhaps declared_number ∷ [])
+    ∷ (word words.Text ∷ perhaps declared_string ∷ [])
+    ∷ (word words.Enum ∷ mark OpenBracket ∷ a_string ∷ repeated other_members ∷ mark CloseBracket ∷ perhaps declared_string ∷ [])
     ∷ (mark OpenBrace ∷ perhaps (fields n) ∷ mark CloseBrace ∷ [])
     ∷ (mark Less ∷ a_field n ++ repeated (other_fields n) ∷ mark Greater ∷ [])
     ∷ (word words.List ∷ rule (type n) ∷ [])
@@ -91,7 +91,7 @@ alternatives (lens zero) = []
 alternatives (lens (suc n)) =
     (word words.Id ∷ rule (type n) ∷ [])
     ∷ (word words.Disc ∷ rule (type n) ∷ rule (type n) ∷ [])
-    ∷ (word words.Bij ∷ mark OpenBracket ∷ a_pair ++ repeated other_pairs ∷ mark CloseBracket ∷ perhaps initial_string ∷ [])
+    ∷ (word words.Bij ∷ mark OpenBracket ∷ a_pair ++ repeated other_pairs ∷ mark CloseBracket ∷ perhaps declared_string ∷ [])
     ∷ (word words.Then ∷ mark OpenParen ∷ rule (lens n) ∷ mark Comma ∷ rule (lens n) ∷ mark CloseParen ∷ [])
     ∷ (mark OpenBrace ∷ perhaps (rows n) ∷ mark CloseBrace ∷ [])
     ∷ (mark Less ∷ an_arm n ++ repeated (other_arms n) ∷ mark Greater ∷ [])

@@ -24,8 +24,8 @@ pub data PlainPart : Type 0 where
   definitions : PlainPart
   other_members : PlainPart
   other_pairs : PlainPart
-  initial_number : PlainPart
-  initial_string : PlainPart
+  declared_number : PlainPart
+  declared_string : PlainPart
   fields : PlainPart
   other_fields : PlainPart
   rows : PlainPart
@@ -63,8 +63,8 @@ contents definitions =
     ∷ []
 contents other_members = (mark Comma ∷ a_string ∷ []) ∷ []
 contents other_pairs = (mark Comma ∷ a_pair) ∷ []
-contents initial_number = (mark Equals ∷ a_number ∷ []) ∷ []
-contents initial_string = (mark Equals ∷ a_string ∷ []) ∷ []
+contents declared_number = (mark Equals ∷ a_number ∷ []) ∷ []
+contents declared_string = (mark Equals ∷ a_string ∷ []) ∷ []
 contents fields = (a_field ++ repeated other_fields ∷ []) ∷ []
 contents other_fields = (mark Comma ∷ a_field) ∷ []
 contents rows = (rule row ∷ repeated other_rows ∷ []) ∷ []
@@ -78,9 +78,9 @@ alternatives field = (a_name ∷ []) ∷ (a_string ∷ []) ∷ []
 alternatives type =
     (word words.Unit ∷ [])
     ∷ (word words.Bool ∷ [])
-    ∷ (word words.Int ∷ perhaps initial_number ∷ [])
-    ∷ (word words.Text ∷ perhaps initial_string ∷ [])
-    ∷ (word words.Enum ∷ mark OpenBracket ∷ a_string ∷ repeated other_members ∷ mark CloseBracket ∷ perhaps initial_string ∷ [])
+    ∷ (word words.Int ∷ perhaps declared_number ∷ [])
+    ∷ (word words.Text ∷ perhaps declared_string ∷ [])
+    ∷ (word words.Enum ∷ mark OpenBracket ∷ a_string ∷ repeated other_members ∷ mark CloseBracket ∷ perhaps declared_string ∷ [])
     ∷ (mark OpenBrace ∷ perhaps fields ∷ mark CloseBrace ∷ [])
     ∷ (mark Less ∷ a_field ++ repeated other_fields ∷ mark Greater ∷ [])
     ∷ (word words.List ∷ rule type ∷ [])
@@ -91,7 +91,7 @@ alternatives type =
 alternatives lens =
     (word words.Id ∷ rule type ∷ [])
     ∷ (word words.Disc ∷ rule type ∷ rule type ∷ [])
-    ∷ (word words.Bij ∷ mark OpenBracket ∷ a_pair ++ repeated other_pairs ∷ mark CloseBracket ∷ perhaps initial_string ∷ [])
+    ∷ (word words.Bij ∷ mark OpenBracket ∷ a_pair ++ repeated other_pairs ∷ mark CloseBracket ∷ perhaps declared_string ∷ [])
     ∷ (word words.Then ∷ mark OpenParen ∷ rule lens ∷ mark Comma ∷ rule lens ∷ mark CloseParen ∷ [])
     ∷ (mark OpenBrace ∷ perhaps rows ∷ mark CloseBrace ∷ [])
     ∷ (mark Less ∷ an_arm ++ repeated other_arms ∷ mark Greater ∷ [])
@@ -144,8 +144,8 @@ abbrev pub inside_part : PlainPart → ℕ → ℕ
 inside_part definitions n = 0
 inside_part other_members n = n
 inside_part other_pairs n = n
-inside_part initial_number n = n
-inside_part initial_string n = n
+inside_part declared_number n = n
+inside_part declared_string n = n
 inside_part fields n = n
 inside_part other_fields n = n
 inside_part rows n = n
