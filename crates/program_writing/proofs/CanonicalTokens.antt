@@ -8,13 +8,14 @@ use Rattle.program_tokens.specs.declared.mark.Mark.TheVariants as marks
 use Rattle.program_tokens.specs.declared.token.Token.{Token}
 use Rattle.program_tokens.specs.declared.token.Token.TheVariants as tokens
 use Rattle.program_tokens.proofs.FirstToken.{Stops, stops_at_mark, stops_at_space, lex_mark, lex_end, skip_line, then_space}
-use Rattle.program_terms.specs.Terms.{TypeTree, FieldTrees, unit, bool, int, text, enum_of, record_of, one_of, list, keyed, tree, named, no_fields, more_fields, LensTree, id_of, bij_of, disc_of, then_of, rec_lens, alt_lens, each_of, keyed_each, tree_each, part_of, inv_of, named_lens, RowTrees, no_rows, both, only_left, only_right, ArmTrees, no_arms, more_arms, DefTree, type_def, lens_def, ProgramTree}
+use Rattle.program_terms.specs.Terms.{TypeTree, FieldTrees, unit, bool, int, text, enum_of, record_of, one_of, list, keyed, tree, named, no_fields, more_fields, LensTree, id_of, bij_of, disc_of, then_of, rec_lens, alt_lens, each_of, keyed_each, tree_each, part_of, inv_of, named_lens, RowTrees, no_rows, both, only_left, only_right, ArmTrees, no_arms, more_arms, DefTree, type_def, lens_def, ProgramTree, initial_text, initial_member, initial_left}
 use Rattle.program_grammar.specs.declared.mention.Sort.TheVariants as sorts
 use Rattle.program_grammar.specs.Mentions.{NotedDefinition, NotedProgram, definition_without_notes, without_notes}
 use Rattle.program_grammar.specs.Spelling.{Is, OtherStrings, AreStrings, IsPair, OtherPairs, ArePairs, IsType, PerhapsFields, AreFields, OtherFields, IsLens, PerhapsRows, OtherRows, AreArms, OtherArms, IsDefinition, AreDefinitions, IsProgram}
-use Rattle.program_writing.specs.Canonical.{put_string, put_name, put_strings, put_pairs, put_type, put_fields, put_lens, put_rows, put_arms, put_definition, put_definitions, canonical}
+use Rattle.program_writing.specs.Canonical.{put_string, put_name, put_strings, put_pairs, put_initial_number, put_initial_string, put_type, put_fields, put_lens, put_rows, put_arms, put_definition, put_definitions, canonical}
 use Rattle.program_writing.specs.Writable.{IsText, AreTexts, ArePairsOfTexts, IsNotEmpty, HasFields, HasArms, IsWritableType, AreWritableFields, IsWritableLens, AreWritableRows, AreWritableArms, IsWritableTerm, AreWritableDefinitions, IsWritable}
 use Rattle.program_writing.proofs.TextSteps.{before, Spelt, token, mark, mark_space, space_mark_space, spaced, name_text, word_then, word, word_space, string, mentioned, field, nothing, two, three, four, five, six, seven}
+use Rattle.program_writing.proofs.InitialTokens.{a_number, a_string, a_text, number_stops, string_stops}
 
 -- ---- where no word goes on
 
@@ -60,11 +61,12 @@ mutual
   a_type zero t rest h stops = absurd h
   a_type (suc n) unit rest h stops = word words.Unit rest stops
   a_type (suc n) bool rest h stops = word words.Bool rest stops
-  a_type (suc n) int rest h stops = word words.Int rest stops
-  a_type (suc n) text rest h stops = word words.Text rest stops
-  a_type (suc n) (enum_of ms) rest h stops =
-      four (word words.Enum (codes "[" ++ put_strings [] ms (codes "]" ++ rest)) (stops_at_mark marks.OpenBracket)) (mark marks.OpenBracket (put_strings [] ms (codes "]" ++ rest)))
-      (strings ms (codes "]" ++ rest) h.0 h.1) (mark marks.CloseBracket rest)
+  a_type (suc n) (int z) rest h stops = two (word words.Int (put_initial_number z rest) (number_stops z rest stops)) (a_number z rest h stops)
+  a_type (suc n) (text s) rest h stops = two (word words.Text (put_initial_string initial_text s rest) (string_stops initial_text s rest stops)) (a_text s rest h)
+  a_type (suc n) (enum_of ms m) rest h stops =
+      let value = put_initial_string (initial_member ms) m rest in
+      five (word words.Enum (codes "[" ++ put_strings [] ms (codes "]" ++ value)) (stops_at_mark marks.OpenBracket)) (mark marks.OpenBracket (put_strings [] ms (codes "]" ++ value)))
+      (strings ms (codes "]" ++ value) h.0 h.1) (mark marks.CloseBracket value) (a_string (initial_member ms) m rest h.2)
   a_type (suc n) (record_of fs) rest h stops =
       three (mark marks.OpenBrace (put_fields [] fs (codes "}" ++ rest))) (perhaps_fields n fs (codes "}" ++ rest) h (stops_at_mark marks.CloseBrace)) (mark marks.CloseBrace rest)
   a_type (suc n) (one_of fs) rest h stops =
@@ -101,9 +103,10 @@ mutual
   a_lens (suc n) (id_of t) rest h stops = two (word_space words.Id (put_type t rest)) (a_type n t rest h stops)
   a_lens (suc n) (disc_of t u) rest h stops =
       three (word_space words.Disc (put_type t (codes " " ++ put_type u rest))) (spaced (a_type n t (codes " " ++ put_type u rest) h.0 stops_at_space)) (a_type n u rest h.1 stops)
-  a_lens (suc n) (bij_of ps) rest h stops =
-      four (word words.Bij (codes "[" ++ put_pairs [] ps (codes "]" ++ rest)) (stops_at_mark marks.OpenBracket)) (mark marks.OpenBracket (put_pairs [] ps (codes "]" ++ rest)))
-      (pairs ps (codes "]" ++ rest) h.0 h.1) (mark marks.CloseBracket rest)
+  a_lens (suc n) (bij_of ps m) rest h stops =
+      let value = put_initial_string (initial_left ps) m rest in
+      five (word words.Bij (codes "[" ++ put_pairs [] ps (codes "]" ++ value)) (stops_at_mark marks.OpenBracket)) (mark marks.OpenBracket (put_pairs [] ps (codes "]" ++ value)))
+      (pairs ps (codes "]" ++ value) h.0 h.1) (mark marks.CloseBracket value) (a_string (initial_left ps) m rest h.2)
   a_lens (suc n) (then_of l k) rest h stops =
       let second = put_lens k (codes ")" ++ rest) in
       six (word words.Then (codes "(" ++ put_lens l (codes ", " ++ second)) (stops_at_mark marks.OpenParen)) (mark marks.OpenParen (put_lens l (codes ", " ++ second)))

@@ -2,13 +2,14 @@
 use Rattle.std.proofs.Common.{◌≡◌, ℕ, zero, suc, List, [], ◌∷◌, ◌++◌, map, refl, sym, ap, ◌∙◌, append_assoc, append-nil, inl, inr}
 use Rattle.std.proofs.lemmas.List.{map-append}
 use Rattle.program_tokens.specs.declared.token.Token.{Token}
+use Rattle.program_tokens.specs.declared.token.Token.TheVariants as tokens
 use Rattle.program_tokens.specs.declared.token.PlacedToken.{PlacedToken}
-use Rattle.program_terms.specs.Terms.{TypeTree, FieldTrees, unit, bool, int, text, enum_of, record_of, one_of, list, keyed, tree, named, no_fields, more_fields, LensTree, id_of, bij_of, disc_of, then_of, rec_lens, alt_lens, each_of, keyed_each, tree_each, part_of, inv_of, named_lens, RowTrees, no_rows, both, only_left, only_right, ArmTrees, no_arms, more_arms, DefTree, type_def, lens_def}
+use Rattle.program_terms.specs.Terms.{TypeTree, FieldTrees, unit, bool, int, text, enum_of, record_of, one_of, list, keyed, tree, named, no_fields, more_fields, LensTree, id_of, bij_of, disc_of, then_of, rec_lens, alt_lens, each_of, keyed_each, tree_each, part_of, inv_of, named_lens, RowTrees, no_rows, both, only_left, only_right, ArmTrees, no_arms, more_arms, DefTree, type_def, lens_def, initial_number, initial_text, initial_member, initial_left}
 use Rattle.program_grammar.specs.declared.mention.Sort.{Sort}
 use Rattle.program_grammar.specs.declared.mention.Sort.TheVariants as sorts
 use Rattle.program_grammar.specs.declared.mention.Mention.{Mention}
 use Rattle.program_grammar.specs.Mentions.{Point, mention, NotedDefinition, NotedProgram}
-use Rattle.program_grammar.specs.Spelling.{Is, IsMention, IsField, OtherStrings, AreStrings, OtherPairs, ArePairs, IsType, PerhapsFields, AreFields, OtherFields, IsLens, PerhapsRows, OtherRows, AreArms, OtherArms, IsStatement, IsDefinition, IsProgram}
+use Rattle.program_grammar.specs.Spelling.{Is, IsMention, IsField, OtherStrings, AreStrings, OtherPairs, ArePairs, IsInitial, IsType, PerhapsFields, AreFields, OtherFields, IsLens, PerhapsRows, OtherRows, AreArms, OtherArms, IsStatement, IsDefinition, IsProgram}
 
 -- a name that is mentioned, without its offset
 abbrev pub unplaced : Mention → Sort × List ℕ
@@ -19,9 +20,9 @@ abbrev mutual
   pub type_names : TypeTree → List (Sort × List ℕ)
   type_names unit = []
   type_names bool = []
-  type_names int = []
-  type_names text = []
-  type_names (enum_of ms) = []
+  type_names (int z) = []
+  type_names (text s) = []
+  type_names (enum_of ms m) = []
   type_names (record_of fs) = fields_names fs
   type_names (one_of fs) = fields_names fs
   type_names (list t) = type_names t
@@ -37,7 +38,7 @@ abbrev mutual
   pub lens_names : LensTree → List (Sort × List ℕ)
   lens_names (id_of t) = type_names t
   lens_names (disc_of t u) = type_names t ++ type_names u
-  lens_names (bij_of ps) = []
+  lens_names (bij_of ps m) = []
   lens_names (then_of l k) = lens_names l ++ lens_names k
   lens_names (rec_lens rows) = rows_names rows
   lens_names (alt_lens arms) = arms_names arms
@@ -88,7 +89,7 @@ two {xs = xs} {ys = ys} {a = a} r s = record { told = s.told ∙ ap (λ ms. ms +
 mentioned : (sort : Sort) (m : List ℕ) (a b : Point) → IsMention sort m a b → Adds ((sort, m) ∷ []) a b
 mentioned sort m a b h = record { told = ap (map unplaced) h.names ∙ map-append unplaced a.0 (mention sort m h.at ∷ []) }
 
--- ---- strings and pairs mention nothing
+-- ---- strings, pairs and initial values mention nothing
 
 other_strings : (ms : List (List ℕ)) (a b : Point) → OtherStrings ms a b → Adds [] a b
 other_strings [] a b h = nothing a b h
@@ -106,6 +107,10 @@ pairs : (ps : List (List ℕ × List ℕ)) (a b : Point) → ArePairs ps a b →
 pairs [] a b h = absurd h
 pairs (p ∷ ps) a b h = let q = h.1 in over q.2 (over q.3 (over q.4 (other_pairs ps h.0 b h.2)))
 
+initial : {A : Type 0} (token : A → Token) (left_out x : A) (a b : Point) → IsInitial token left_out x a b → Adds [] a b
+initial token left_out x a b (inl h) = nothing a b h.1
+initial token left_out x a b (inr h) = over h.1 (alone h.2)
+
 -- ---- types
 
 mutual
@@ -113,9 +118,9 @@ mutual
   a_type zero t a b h = absurd h
   a_type (suc n) unit a b h = alone h
   a_type (suc n) bool a b h = alone h
-  a_type (suc n) int a b h = alone h
-  a_type (suc n) text a b h = alone h
-  a_type (suc n) (enum_of ms) a b h = over h.3 (over h.4 (ended (strings ms h.1 h.2 h.5) h.6))
+  a_type (suc n) (int z) a b h = over h.1 (initial tokens.Number initial_number z h.0 b h.2)
+  a_type (suc n) (text s) a b h = over h.1 (initial tokens.Text initial_text s h.0 b h.2)
+  a_type (suc n) (enum_of ms m) a b h = over h.4 (over h.5 (two (ended (strings ms h.1 h.2 h.6) h.7) (initial tokens.Text (initial_member ms) m h.3 b h.8)))
   a_type (suc n) (record_of fs) a b h = over h.2 (ended (perhaps_fields n fs h.0 h.1 h.3) h.4)
   a_type (suc n) (one_of fs) a b h = over h.2 (ended (some_fields n fs h.0 h.1 h.3) h.4)
   a_type (suc n) (list t) a b h = over h.1 (a_type n t h.0 b h.2)
@@ -142,7 +147,7 @@ mutual
   a_lens zero l a b h = absurd h
   a_lens (suc n) (id_of t) a b h = over h.1 (a_type n t h.0 b h.2)
   a_lens (suc n) (disc_of t u) a b h = over h.2 (two (a_type n t h.0 h.1 h.3) (a_type n u h.1 b h.4))
-  a_lens (suc n) (bij_of ps) a b h = over h.3 (over h.4 (ended (pairs ps h.1 h.2 h.5) h.6))
+  a_lens (suc n) (bij_of ps m) a b h = over h.4 (over h.5 (two (ended (pairs ps h.1 h.2 h.6) h.7) (initial tokens.Text (initial_left ps) m h.3 b h.8)))
   a_lens (suc n) (then_of l k) a b h = over h.5 (over h.6 (two (a_lens n l h.1 h.2 h.7) (over h.8 (ended (a_lens n k h.3 h.4 h.9) h.10))))
   a_lens (suc n) (rec_lens rows) a b h = over h.2 (ended (perhaps_rows n rows h.0 h.1 h.3) h.4)
   a_lens (suc n) (alt_lens arms) a b h = over h.2 (ended (some_arms n arms h.0 h.1 h.3) h.4)

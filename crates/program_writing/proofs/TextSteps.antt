@@ -1,12 +1,16 @@
 -- A text that spells one thing after another, wherever it stands.
-use Rattle.std.proofs.Common.{◌≡◌, ℕ, Bool, true, false, cond, List, [], ◌∷◌, ◌++◌, refl, ◌∙◌, subst, inl, inr}
+use Rattle.std.proofs.Common.{◌≡◌, ◌<◌, ◌^◌, ℕ, Bool, true, false, cond, List, [], ◌∷◌, ◌++◌, refl, ◌∙◌, subst, inl, inr}
+use Rattle.std.specs.Fmt.{signed_decimal}
+use lib.IntN.{ℤ}
+use lib.Signed.{mag}
+use Rattle.program_tokens.specs.Numbers.{is_digit}
 use Rattle.program_tokens.specs.Words.{in_word, is_name, is_text, keyword_text, mark_byte}
 use Rattle.program_tokens.specs.Tokens.{tokens_from}
 use Rattle.program_tokens.specs.declared.keyword.Keyword.{Keyword}
 use Rattle.program_tokens.specs.declared.mark.Mark.{Mark}
 use Rattle.program_tokens.specs.declared.token.Token.{Token}
 use Rattle.program_tokens.specs.declared.token.Token.TheVariants as tokens
-use Rattle.program_tokens.proofs.FirstToken.{Lexes, Stops, lex_keyword, lex_name, lex_string, lex_mark, then_space, skip_space, stops_at_space}
+use Rattle.program_tokens.proofs.FirstToken.{Lexes, Stops, lex_keyword, lex_name, lex_string, lex_number, lex_mark, then_space, skip_space, stops_at_space}
 use Rattle.program_grammar.specs.declared.mention.Sort.{Sort}
 use Rattle.program_grammar.specs.declared.mention.Mention.{Mention}
 use Rattle.program_grammar.specs.Mentions.{Point, mention}
@@ -43,6 +47,9 @@ word_space k rest = token (tokens.Keyword k) (keyword_text k ++ 32 ∷ rest) res
 
 pub string : (s rest : List ℕ) → is_text s ≡ true → Spelt (Is (tokens.Text s)) (put_string s rest) rest
 string s rest h = token (tokens.Text s) (put_string s rest) rest (lex_string s rest h)
+
+pub number : (z : ℤ) (rest : List ℕ) → mag z < 2 ^ 63 → Stops is_digit rest → Spelt (Is (tokens.Number z)) (signed_decimal z ++ rest) rest
+number z rest h stops = token (tokens.Number z) (signed_decimal z ++ rest) rest (lex_number z rest h stops)
 
 -- the text of a name
 name_text_by : (b : Bool) (n rest : List ℕ) → b ≡ true → is_name n ≡ true → Stops in_word rest → Lexes (tokens.Name n) (cond b (n ++ rest) (put_string n rest)) rest

@@ -1,16 +1,18 @@
 -- What is spelled by tokens that keep their form is writable.
-use Rattle.std.proofs.Common.{◌≡◌, ℕ, zero, suc, List, [], ◌∷◌, map, subst, inl, inr}
+use Rattle.std.proofs.Common.{◌≡◌, ℕ, zero, suc, List, [], ◌∷◌, map, refl, sym, subst, arith, inl, inr}
+use lib.IntN.{ℤ}
 use Rattle.program_tokens.specs.Tokens.{tokens_of, placed}
+use Rattle.program_tokens.specs.declared.mark.Mark.TheVariants as marks
 use Rattle.program_tokens.specs.declared.token.Token.{Token}
 use Rattle.program_tokens.specs.declared.token.Token.TheVariants as tokens
 use Rattle.program_tokens.specs.declared.token.PlacedToken.{PlacedToken}
 use Rattle.program_tokens.proofs.StringTexts.{name_is_text}
 use Rattle.program_tokens.proofs.TokenForms.{IsSound, AreSound, sound}
-use Rattle.program_terms.specs.Terms.{TypeTree, FieldTrees, unit, bool, int, text, enum_of, record_of, one_of, list, keyed, tree, named, no_fields, more_fields, LensTree, id_of, bij_of, disc_of, then_of, rec_lens, alt_lens, each_of, keyed_each, tree_each, part_of, inv_of, named_lens, RowTrees, no_rows, both, only_left, only_right, ArmTrees, no_arms, more_arms, DefTree, type_def, lens_def}
+use Rattle.program_terms.specs.Terms.{TypeTree, FieldTrees, unit, bool, int, text, enum_of, record_of, one_of, list, keyed, tree, named, no_fields, more_fields, LensTree, id_of, bij_of, disc_of, then_of, rec_lens, alt_lens, each_of, keyed_each, tree_each, part_of, inv_of, named_lens, RowTrees, no_rows, both, only_left, only_right, ArmTrees, no_arms, more_arms, DefTree, type_def, lens_def, initial_number, initial_text, initial_member, initial_left}
 use Rattle.program_grammar.specs.declared.mention.Sort.{Sort}
 use Rattle.program_grammar.specs.Mentions.{Point, NotedDefinition, NotedProgram, definition_without_notes, without_notes}
-use Rattle.program_grammar.specs.Spelling.{Is, IsMention, IsField, OtherStrings, AreStrings, OtherPairs, ArePairs, IsType, PerhapsFields, AreFields, OtherFields, IsLens, PerhapsRows, OtherRows, AreArms, OtherArms, IsStatement, IsDefinition, AreDefinitions, IsProgram}
-use Rattle.program_writing.specs.Writable.{IsName, IsText, AreTexts, ArePairsOfTexts, IsNotEmpty, HasFields, HasArms, IsWritableType, AreWritableFields, IsWritableLens, AreWritableRows, AreWritableArms, IsWritableTerm, AreWritableDefinitions, IsWritable}
+use Rattle.program_grammar.specs.Spelling.{Is, IsMention, IsField, OtherStrings, AreStrings, OtherPairs, ArePairs, IsInitial, IsType, PerhapsFields, AreFields, OtherFields, IsLens, PerhapsRows, OtherRows, AreArms, OtherArms, IsStatement, IsDefinition, AreDefinitions, IsProgram}
+use Rattle.program_writing.specs.Writable.{IsName, IsText, IsInitialText, IsInitialNumber, AreTexts, ArePairsOfTexts, IsNotEmpty, HasFields, HasArms, IsWritableType, AreWritableFields, IsWritableLens, AreWritableRows, AreWritableArms, IsWritableTerm, AreWritableDefinitions, IsWritable}
 
 -- From one point to another: where the tokens that are left are sound, they still are, and this holds.
 pub record Keeps (W : Type 0) (here there : Point) : Type 0 where
@@ -75,6 +77,41 @@ pairs : (ps : List (List ℕ × List ℕ)) (a b : Point) → ArePairs ps a b →
 pairs [] a b h = absurd h
 pairs (p ∷ ps) a b h = let q = h.1 in some (three (string q.2) (over q.3 (string q.4)) (other_pairs ps h.0 b h.2))
 
+-- ---- initial values
+
+-- what holds of the value that is left out, and of each that may be written
+initial : {A : Type 0} (W : A → Type 0) (token : A → Token) (left_out x : A) (a b : Point) → W left_out → ((s : IsSound (token x)) → W x) → IsInitial token left_out x a b → Keeps (W x) a b
+initial W token left_out x a b out written (inl h) = record { by = λ s. (subst W (sym h.0) out, subst (λ p. AreSound p.1) h.1 s) }
+initial W token left_out x a b out written (inr h) = record {
+  by = λ s.
+      let equals = passed (tokens.Mark marks.Equals) h.1.at a.1 h.0.1 h.1.parts s in
+      let value = passed (token x) h.2.at h.0.1 b.1 h.2.parts equals.1 in
+      (written value.0, value.1);
+}
+
+number : (z : ℤ) (a b : Point) → IsInitial tokens.Number initial_number z a b → Keeps (IsInitialNumber z) a b
+number z a b h = initial IsInitialNumber tokens.Number initial_number z a b (omega arith) (λ s. s) h
+
+text_value : (m : List ℕ) (a b : Point) → IsInitial tokens.Text initial_text m a b → Keeps (IsInitialText m) a b
+text_value m a b h = initial IsInitialText tokens.Text initial_text m a b (inl refl) (λ s. inr s) h
+
+-- one that is written, or that is among those before it
+chosen : {V W : Type 0} (left_out m : List ℕ) (a b c : Point) → (V × W → IsText left_out) → Keeps (V × W) a b → IsInitial tokens.Text left_out m b c → Keeps (V × W × IsText m) a c
+chosen left_out m a b c among w h = record {
+  by = λ s.
+      let r = w.by s in
+      let value = (initial IsText tokens.Text left_out m b c (among r.0) (λ s. s) h).by r.1 in
+      ((r.0.0, r.0.1, value.0), value.1);
+}
+
+first_member : (ms : List (List ℕ)) → IsNotEmpty ms × AreTexts ms → IsText (initial_member ms)
+first_member [] h = absurd h.0
+first_member (m ∷ ms) h = h.1.0
+
+first_left : (ps : List (List ℕ × List ℕ)) → IsNotEmpty ps × ArePairsOfTexts ps → IsText (initial_left ps)
+first_left [] h = absurd h.0
+first_left (p ∷ ps) h = h.1.0
+
 -- ---- types
 
 mutual
@@ -82,9 +119,9 @@ mutual
   a_type zero t a b h = absurd h
   a_type (suc n) unit a b h = alone h
   a_type (suc n) bool a b h = alone h
-  a_type (suc n) int a b h = alone h
-  a_type (suc n) text a b h = alone h
-  a_type (suc n) (enum_of ms) a b h = over h.3 (over h.4 (ended (strings ms h.1 h.2 h.5) h.6))
+  a_type (suc n) (int z) a b h = over h.1 (number z h.0 b h.2)
+  a_type (suc n) (text m) a b h = over h.1 (text_value m h.0 b h.2)
+  a_type (suc n) (enum_of ms m) a b h = over h.4 (over h.5 (chosen (initial_member ms) m h.1 h.3 b (first_member ms) (ended (strings ms h.1 h.2 h.6) h.7) h.8))
   a_type (suc n) (record_of fs) a b h = over h.2 (ended (perhaps_fields n fs h.0 h.1 h.3) h.4)
   a_type (suc n) (one_of fs) a b h = over h.2 (ended (some_fields n fs h.0 h.1 h.3) h.4)
   a_type (suc n) (list t) a b h = over h.1 (a_type n t h.0 b h.2)
@@ -111,7 +148,7 @@ mutual
   a_lens zero l a b h = absurd h
   a_lens (suc n) (id_of t) a b h = over h.1 (a_type n t h.0 b h.2)
   a_lens (suc n) (disc_of t u) a b h = over h.2 (two (a_type n t h.0 h.1 h.3) (a_type n u h.1 b h.4))
-  a_lens (suc n) (bij_of ps) a b h = over h.3 (over h.4 (ended (pairs ps h.1 h.2 h.5) h.6))
+  a_lens (suc n) (bij_of ps m) a b h = over h.4 (over h.5 (chosen (initial_left ps) m h.1 h.3 b (first_left ps) (ended (pairs ps h.1 h.2 h.6) h.7) h.8))
   a_lens (suc n) (then_of l k) a b h = over h.5 (over h.6 (two (a_lens n l h.1 h.2 h.7) (over h.8 (ended (a_lens n k h.3 h.4 h.9) h.10))))
   a_lens (suc n) (rec_lens rows) a b h = over h.2 (ended (perhaps_rows n rows h.0 h.1 h.3) h.4)
   a_lens (suc n) (alt_lens arms) a b h = over h.2 (ended (some_arms n arms h.0 h.1 h.3) h.4)

@@ -1,6 +1,6 @@
 -- A type of documents whose names may stand in strings is writable.
 use Rattle.std.proofs.Common.{◌≡◌, ℕ, zero, suc, ◌≤◌, true, List, [], ◌∷◌, arith, refl}
-use Rattle.texts.specs.Keys.{is_rising}
+use Rattle.texts.specs.Keys.{has_name, is_rising}
 use Rattle.doc_values.specs.Types.{TyTree, ty_unit, ty_bool, ty_int, ty_text, ty_enum, ty_rec, ty_alt, ty_list, ty_keyed, ty_ordered, FieldTrees, no_fields, more_fields, height, highest, names_of, are_choices, is_well_formed, are_well_formed}
 use Rattle.program_tokens.specs.Tokens.{tokens_of}
 use Rattle.program_tokens.specs.declared.token.Token.TheVariants as tokens
@@ -16,9 +16,9 @@ use Rattle.program_writing.proofs.TextSteps.{before}
 has_level : (t : TyTree) → 1 ≤ height t
 has_level ty_unit = omega arith
 has_level ty_bool = omega arith
-has_level ty_int = omega arith
-has_level ty_text = omega arith
-has_level (ty_enum ms) = omega arith
+has_level (ty_int z) = omega arith
+has_level (ty_text s) = omega arith
+has_level (ty_enum ms m) = omega arith
 has_level (ty_rec fs) = omega arith
 has_level (ty_alt fs) = omega arith
 has_level (ty_list t) = omega arith
@@ -38,9 +38,9 @@ mutual
   writable zero t h w s = absurd (omega (arith, has_level t))
   writable (suc n) ty_unit h w s = tt
   writable (suc n) ty_bool h w s = tt
-  writable (suc n) ty_int h w s = tt
-  writable (suc n) ty_text h w s = tt
-  writable (suc n) (ty_enum ms) h w s = (has_members ms w, s)
+  writable (suc n) (ty_int z) h w s = s
+  writable (suc n) (ty_text m) h w s = s
+  writable (suc n) (ty_enum ms m) h w s = (has_members ms (split (are_choices ms) (has_name m ms) w).0, s.0, s.1)
   writable (suc n) (ty_rec fs) h w s = let k : highest fs ≤ n = omega arith in all_writable n fs k (split (is_rising (names_of fs)) (are_well_formed fs) w).1 s
   writable (suc n) (ty_alt fs) h w s =
       let k : highest fs ≤ n = omega arith in

@@ -29,7 +29,7 @@ put_pairs before (p ∷ ps) rest = before ++ put_string p.0 (codes "=" ++ put_st
 
 -- An initial value stands behind ` = ` where it differs from the one that is meant when it is left out.
 
-abbrev pub put_initial_number : ℤ → List ℕ → List ℕ
+unfoldable pub put_initial_number : ℤ → List ℕ → List ℕ
 put_initial_number z rest = if int_eq z initial_number then rest else codes " = " ++ (signed_decimal z ++ rest)
 
 abbrev pub put_initial_string : List ℕ → List ℕ → List ℕ → List ℕ

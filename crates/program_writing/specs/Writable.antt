@@ -1,5 +1,6 @@
 -- What the grammar can say: the programs and types that have a text.
 use Rattle.std.specs.Prelude.{◌≡◌, ◌⊎◌, ◌<◌, ◌^◌, ℕ, zero, suc, true, List, [], ◌∷◌}
+use lib.IntN.{ℤ}
 use lib.Signed.{mag}
 use Rattle.program_tokens.specs.Words.{is_name, is_text}
 use Rattle.program_terms.specs.Terms.{TypeTree, FieldTrees, unit, bool, int, text, enum_of, record_of, one_of, list, keyed, tree, named, no_fields, more_fields, LensTree, id_of, bij_of, disc_of, then_of, rec_lens, alt_lens, each_of, keyed_each, tree_each, part_of, inv_of, named_lens, RowTrees, no_rows, both, only_left, only_right, ArmTrees, no_arms, more_arms, DefTree, type_def, lens_def, ProgramTree}
@@ -12,6 +13,14 @@ IsName n = is_name n ≡ true
 
 abbrev pub IsText : List ℕ → Type 0
 IsText s = is_text s ≡ true
+
+-- the initial value of `text` may stand in a string, or it is the empty text and left out
+abbrev pub IsInitialText : List ℕ → Type 0
+IsInitialText s = (s ≡ []) ⊎ IsText s
+
+-- the initial value of `int` is in i64
+abbrev pub IsInitialNumber : ℤ → Type 0
+IsInitialNumber z = mag z < 2 ^ 63
 
 abbrev pub AreTexts : List (List ℕ) → Type 0
 AreTexts [] = Unit {0}
@@ -34,16 +43,15 @@ abbrev pub HasArms : ArmTrees → Type 0
 HasArms no_arms = ⊥
 HasArms (more_arms f g l arms) = Unit {0}
 
--- a type with at most n types and lenses nested, itself among them: members, fields and tags may stand in
--- strings, and so may an initial value that is a text, unless it is empty and of `text`; one that is a number is in i64; a name is
--- one, and an enum and alternatives are not empty
+-- A type with at most n types and lenses nested, itself among them. Members, fields and tags may stand in strings, and so may the
+-- initial value of an enum. A name is one. An enum and alternatives are not empty.
 abbrev mutual
   pub IsWritableType : ℕ → TypeTree → Type 0
   IsWritableType zero t = ⊥
   IsWritableType (suc n) unit = Unit {0}
   IsWritableType (suc n) bool = Unit {0}
-  IsWritableType (suc n) (int z) = mag z < 2 ^ 63
-  IsWritableType (suc n) (text s) = (s ≡ []) ⊎ IsText s
+  IsWritableType (suc n) (int z) = IsInitialNumber z
+  IsWritableType (suc n) (text s) = IsInitialText s
   IsWritableType (suc n) (enum_of ms m) = IsNotEmpty ms × AreTexts ms × IsText m
   IsWritableType (suc n) (record_of fs) = AreWritableFields n fs
   IsWritableType (suc n) (one_of fs) = HasFields fs × AreWritableFields n fs
@@ -56,7 +64,7 @@ abbrev mutual
   AreWritableFields n no_fields = Unit {0}
   AreWritableFields n (more_fields f t fs) = IsText f × IsWritableType n t × AreWritableFields n fs
 
--- a lens likewise
+-- a lens likewise; the pairs of a bijection and its initial value may stand in strings, and there is a pair
 abbrev mutual
   pub IsWritableLens : ℕ → LensTree → Type 0
   IsWritableLens zero l = ⊥
@@ -96,14 +104,14 @@ AreWritableDefinitions (d ∷ ds) = IsName d.0 × IsWritableTerm d.1 × AreWrita
 abbrev pub IsWritable : ProgramTree → Type 0
 IsWritable p = AreWritableDefinitions p.definitions × IsWritableLens 100 p.main
 
--- a type of documents in which each member, field and tag may stand in a string
+-- a type of documents in which each member, field and tag may stand in a string, and each initial value may be written
 abbrev mutual
   pub IsSpeakable : TyTree → Type 0
   IsSpeakable ty_unit = Unit {0}
   IsSpeakable ty_bool = Unit {0}
-  IsSpeakable ty_int = Unit {0}
-  IsSpeakable ty_text = Unit {0}
-  IsSpeakable (ty_enum ms) = AreTexts ms
+  IsSpeakable (ty_int z) = IsInitialNumber z
+  IsSpeakable (ty_text s) = IsInitialText s
+  IsSpeakable (ty_enum ms m) = AreTexts ms × IsText m
   IsSpeakable (ty_rec fs) = AreSpeakable fs
   IsSpeakable (ty_alt fs) = AreSpeakable fs
   IsSpeakable (ty_list t) = IsSpeakable t

@@ -4,6 +4,7 @@ ghost use Rattle.program_terms.specs.Views.{lens_tree, row_tree, rows_tree, arms
 ghost use Rattle.program_writing.specs.Canonical.{put_lens, put_rows, put_arms};
 ghost use Rattle.program_writing.specs.Puts.{Puts, put_row};
 
+use crate::initial_text::put_initial_left;
 use crate::name_text::{put_comma, put_name, put_pairs, put_text};
 use crate::type_text::{put_fields, put_type};
 use program_terms::{Arms, Lens, Row, Rows};
@@ -18,10 +19,11 @@ pub(crate) fn put_lens(out: &mut String, lens: &Lens) -> Result<(), AllocError>
             put_text(out, "id ")?;
             put_type(out, ty)
         }
-        Lens::Bij(pairs) => {
+        Lens::Bij(pairs, value) => {
             put_text(out, "bij[")?;
             put_pairs(out, pairs.as_slice())?;
-            put_text(out, "]")
+            put_text(out, "]")?;
+            put_initial_left(out, pairs.as_slice(), value)
         }
         Lens::Disc(left, right) => {
             put_text(out, "disc ")?;

@@ -5,6 +5,7 @@
 //! canonical text too: the laws of the module `laws` say so. docs/LANGUAGE.md has the rule.
 #![tactic(auto)]
 
+mod initial_text;
 pub mod laws;
 mod lens_text;
 mod name_text;

@@ -25,11 +25,11 @@ pub(crate) fn put_text(out: &mut String, text: &str) -> Result<(), AllocError>
 }
 
 // A string between its quotes.
-pub(crate) fn put_string(out: &mut String, name: &Name) -> Result<(), AllocError>
-    ensures { OnOk result (Puts (string_bytes out.old) (string_bytes out.new) (put_string name.now)) }
+pub(crate) fn put_string(out: &mut String, text: &str) -> Result<(), AllocError>
+    ensures { OnOk result (Puts (string_bytes out.old) (string_bytes out.new) (put_string text.now)) }
 {
     put_text(out, "\"")?;
-    put_text(out, name.as_str())?;
+    put_text(out, text)?;
     put_text(out, "\"")
 }
 
@@ -40,7 +40,7 @@ pub(crate) fn put_name(out: &mut String, name: &Name) -> Result<(), AllocError>
     if is_name(name.as_str().as_bytes()) {
         put_text(out, name.as_str())
     } else {
-        put_string(out, name)
+        put_string(out, name.as_str())
     }
 }
 
@@ -58,7 +58,7 @@ pub(crate) fn put_strings(out: &mut String, names: &[Name]) -> Result<(), AllocE
     let mut first = true;
     for name in names {
         put_comma(out, first)?;
-        put_string(out, name)?;
+        put_string(out, name.as_str())?;
         first = false;
     }
     Ok(())
@@ -71,9 +71,9 @@ pub(crate) fn put_pairs(out: &mut String, pairs: &[(Name, Name)]) -> Result<(), 
     let mut first = true;
     for pair in pairs {
         put_comma(out, first)?;
-        put_string(out, &pair.0)?;
+        put_string(out, pair.0.as_str())?;
         put_text(out, "=")?;
-        put_string(out, &pair.1)?;
+        put_string(out, pair.1.as_str())?;
         first = false;
     }
     Ok(())

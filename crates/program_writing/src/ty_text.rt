@@ -4,6 +4,7 @@ ghost use Rattle.doc_values.specs.Types.{ty_tree, fields_tree};
 ghost use Rattle.program_writing.specs.Canonical.{put_type, put_fields, term_of_type, terms_of_fields, canonical_type};
 ghost use Rattle.program_writing.specs.Puts.{Puts};
 
+use crate::initial_text::{put_initial_member, put_initial_number, put_initial_string};
 use crate::name_text::{put_comma, put_name, put_strings, put_text};
 use doc_values::{Fields, Ty};
 use std::alloc::{AllocError, Global};
@@ -11,8 +12,9 @@ use texts::Str;
 
 /// The canonical text of a type, as a program writes it.
 ///
-/// The only error is running out of memory. Where each member, field and tag of the type may stand in a string, the tokens of
-/// the text spell the type, as `laws::type_text_is_spelled` says. docs/LANGUAGE.md has the rule.
+/// The only error is running out of memory. Where each member, field and tag of the type may stand in a string, and each
+/// initial value that is a text may too or is the empty text of `text`, the tokens of the text spell the type, as
+/// `laws::type_text_is_spelled` says. docs/LANGUAGE.md has the rule.
 pub fn write_type(alloc: Global, ty: &Ty) -> Result<Str, AllocError>
     ensures canonical { IfOk result (λ text. text ≡ canonical_type (ty_tree ty.now)) }
 {
@@ -28,12 +30,19 @@ fn put_ty(out: &mut String, ty: &Ty) -> Result<(), AllocError>
     match ty {
         Ty::Unit => put_text(out, "unit"),
         Ty::Bool => put_text(out, "bool"),
-        Ty::Int => put_text(out, "int"),
-        Ty::Text => put_text(out, "text"),
-        Ty::Enum(members) => {
+        Ty::Int(value) => {
+            put_text(out, "int")?;
+            put_initial_number(out, *value)
+        }
+        Ty::Text(value) => {
+            put_text(out, "text")?;
+            put_initial_string(out, "", value.as_str())
+        }
+        Ty::Enum(members, value) => {
             put_text(out, "enum[")?;
             put_strings(out, members.as_slice())?;
-            put_text(out, "]")
+            put_text(out, "]")?;
+            put_initial_member(out, members.as_slice(), value)
         }
         Ty::Rec(fields) => {
             put_text(out, "{")?;

@@ -4,6 +4,7 @@ ghost use Rattle.program_terms.specs.Views.{type_tree, fields_tree};
 ghost use Rattle.program_writing.specs.Canonical.{put_type, put_fields};
 ghost use Rattle.program_writing.specs.Puts.{Puts};
 
+use crate::initial_text::{put_initial_member, put_initial_number, put_initial_string};
 use crate::name_text::{put_comma, put_name, put_strings, put_text};
 use program_terms::{TyExpr, TyFields};
 use std::alloc::AllocError;
@@ -15,12 +16,19 @@ pub(crate) fn put_type(out: &mut String, ty: &TyExpr) -> Result<(), AllocError>
     match ty {
         TyExpr::Unit => put_text(out, "unit"),
         TyExpr::Bool => put_text(out, "bool"),
-        TyExpr::Int => put_text(out, "int"),
-        TyExpr::Text => put_text(out, "text"),
-        TyExpr::Enum(members) => {
+        TyExpr::Int(value) => {
+            put_text(out, "int")?;
+            put_initial_number(out, *value)
+        }
+        TyExpr::Text(value) => {
+            put_text(out, "text")?;
+            put_initial_string(out, "", value.as_str())
+        }
+        TyExpr::Enum(members, value) => {
             put_text(out, "enum[")?;
             put_strings(out, members.as_slice())?;
-            put_text(out, "]")
+            put_text(out, "]")?;
+            put_initial_member(out, members.as_slice(), value)
         }
         TyExpr::Rec(fields) => {
             put_text(out, "{")?;

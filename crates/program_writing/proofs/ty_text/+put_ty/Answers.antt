@@ -1,6 +1,6 @@
 use Rattle.std.proofs.Common.{ap, arith}
 use Rattle.doc_values.specs.Types.{highest}
-use Rattle.program_writing.proofs.TypeHeights.{field_height}
+use Rattle.doc_values.proofs.Heights.{field_height}
 use Rattle.program_writing.proofs.ty_text.+put_ty.Goals as goal
 
 pub put_ty_fields-put_ty-requires : goal.put_ty_fields-put_ty-requires
