@@ -2,26 +2,28 @@
 use Rattle.std.proofs.Common.{◌≡◌, ℕ, List, [], ◌∷◌, ◌++◌, Option, Some, None, Result, Ok, Err, refl}
 use Rattle.std.specs.Prelude.{codes, replicate}
 use Rattle.std.specs.Str.{is_utf8, chars}
+use lib.IntN.{pos, negsuc}
 use lib.Utf8.{encode}
 use Rattle.program_tokens.specs.declared.keyword.Keyword.TheVariants as words
 use Rattle.program_tokens.specs.declared.token.Token.TheVariants as tokens
 use Rattle.program_tokens.specs.declared.token.PlacedToken.{PlacedToken}
 use Rattle.program_tokens.specs.Tokens.{tokens_of, tokens_from, piece_of, placed}
+use Rattle.program_tokens.specs.Numbers.{number_of}
 use Rattle.program_tokens.specs.Words.{is_space, begins_word, in_word, keyword_of, mark_of, is_text, in_text}
-use Rattle.program_terms.specs.Terms.{unit, bool, int, named, id_of, rec_lens, no_rows, only_left, only_right, type_def}
+use Rattle.program_terms.specs.Terms.{unit, bool, int, text, enum_of, named, id_of, disc_of, rec_lens, no_rows, only_left, only_right, type_def}
 use Rattle.program_grammar.specs.declared.mention.Sort.TheVariants as sorts
 use Rattle.program_grammar.specs.Mentions.{mention, NotedProgram}
-use Rattle.program_grammar.specs.Reading.{mark_at, field_at, string_at, more_at, list_at, closed_at, perhaps_at, typed_at, enum_at, word_type, begun_type, type_step, type_at, arm_at, left_row_at, right_row_at, both_row_at, row_at, word_lens, rec_at, alt_at, mark_lens, begun_lens, lens_step, lens_at, name_at, type_term_at, lens_term_at, definition_at, definitions_at, main_at, end_at, program_at}
+use Rattle.program_grammar.specs.Reading.{mark_at, field_at, string_at, number_at, initial_at, more_at, list_at, closed_at, perhaps_at, typed_at, enum_at, word_type, begun_type, type_step, type_at, arm_at, left_row_at, right_row_at, both_row_at, row_at, word_lens, disc_at, rec_at, alt_at, mark_lens, begun_lens, lens_step, lens_at, name_at, type_term_at, lens_term_at, definition_at, definitions_at, main_at, end_at, program_at}
 
 abbrev read : List PlacedToken → Result NotedProgram (Option ℕ)
-unfolding mark_at field_at string_at more_at list_at closed_at perhaps_at typed_at enum_at word_type begun_type type_step type_at arm_at left_row_at right_row_at both_row_at row_at word_lens rec_at alt_at mark_lens begun_lens lens_step lens_at name_at type_term_at lens_term_at definition_at definitions_at main_at end_at program_at
+unfolding mark_at field_at string_at number_at initial_at more_at list_at closed_at perhaps_at typed_at enum_at word_type begun_type type_step type_at arm_at left_row_at right_row_at both_row_at row_at word_lens disc_at rec_at alt_at mark_lens begun_lens lens_step lens_at name_at type_term_at lens_term_at definition_at definitions_at main_at end_at program_at
 read ts = program_at ts
 
 abbrev found : List ℕ → Result NotedProgram (Option ℕ)
-unfolding read tokens_from piece_of is_space begins_word in_word keyword_of mark_of is_text in_text is_utf8 chars encode
-found text = read (tokens_of text)
+unfolding read tokens_from piece_of is_space begins_word in_word keyword_of mark_of number_of is_text in_text is_utf8 chars encode
+found bytes = read (tokens_of bytes)
 
-smallest : found (codes "main id int") ≡ Ok (record { definitions = []; main = id_of int; mentions = [] })
+smallest : found (codes "main id int") ≡ Ok (record { definitions = []; main = id_of (int (pos 0)); mentions = [] })
 unfolding found
 smallest = refl
 
@@ -57,9 +59,32 @@ unfolding found
 two_rows = refl
 
 -- a name is noted where it is mentioned, and again where it is defined
-defined : found (codes "type t = int; main id t") ≡ Ok (record { definitions = record { name = codes "t"; at = 5; def = type_def int; mentions = [] } ∷ []; main = id_of (named (codes "t")); mentions = mention sorts.Type (codes "t") 22 ∷ [] })
+defined : found (codes "type t = int; main id t") ≡ Ok (record { definitions = record { name = codes "t"; at = 5; def = type_def (int (pos 0)); mentions = [] } ∷ []; main = id_of (named (codes "t")); mentions = mention sorts.Type (codes "t") 22 ∷ [] })
 unfolding found
 defined = refl
+
+-- an initial value that is left out, and others
+initial_values : found (codes "main disc int = -5 enum[\"a\"]") ≡ Ok (record { definitions = []; main = disc_of (int (negsuc 4)) (enum_of (codes "a" ∷ []) (codes "a")); mentions = [] })
+unfolding found
+initial_values = refl
+
+initial_text_read : found (codes "main id text = \"a\"") ≡ Ok (record { definitions = []; main = id_of (text (codes "a")); mentions = [] })
+unfolding found
+initial_text_read = refl
+
+-- a number is wanted behind `int =`, and a string behind `text =`
+number_missing : found (codes "main id int = \"a\"") ≡ Err (Some 14)
+unfolding found
+number_missing = refl
+
+string_missing : found (codes "main id text = 5") ≡ Err (Some 15)
+unfolding found
+string_missing = refl
+
+-- no other type has an initial value
+unit_with_value : found (codes "main id unit = 5") ≡ Err (Some 13)
+unfolding found
+unit_with_value = refl
 
 -- a keyword is no name
 keyword_defined : found (codes "lens main = id int; main id int") ≡ Err (Some 5)

@@ -8,17 +8,17 @@ use Rattle.program_tokens.specs.declared.token.Token.{Token}
 use Rattle.program_tokens.specs.declared.token.Token.TheVariants as tokens
 use Rattle.program_tokens.specs.declared.token.PlacedToken.{PlacedToken}
 use Rattle.program_tokens.specs.Tokens.{placed}
-use Rattle.program_terms.specs.Terms.{TypeTree, term_fields_of, LensTree, id_of, bij_of, disc_of, then_of, rec_lens, alt_lens, each_of, keyed_each, tree_each, part_of, inv_of, named_lens, RowTree, row_both, row_left, row_right, term_rows_of, term_arms_of}
+use Rattle.program_terms.specs.Terms.{TypeTree, term_fields_of, LensTree, id_of, bij_of, disc_of, then_of, rec_lens, alt_lens, each_of, keyed_each, tree_each, part_of, inv_of, named_lens, RowTree, row_both, row_left, row_right, term_rows_of, term_arms_of, initial_left}
 use Rattle.program_grammar.specs.declared.mention.Mention.{Mention}
 use Rattle.program_grammar.specs.declared.mention.Sort.TheVariants as sorts
-use Rattle.program_grammar.specs.Grammar.{Symbol, mark, a_string, rule, perhaps, repeated, field, type, lens, row, other_pairs, rows, other_rows, other_arms, other_fields, a_field, an_arm, a_pair}
+use Rattle.program_grammar.specs.Grammar.{Symbol, mark, a_string, rule, perhaps, repeated, field, type, lens, row, other_pairs, declared_string, rows, other_rows, other_arms, other_fields, a_field, an_arm, a_pair}
 use Rattle.program_grammar.specs.Mentions.{Point, mention}
-use Rattle.program_grammar.specs.Reading.{Read, is_mark, next_word, mark_at, string_at, field_at, closed_at, perhaps_at, typed_at, type_at, pair_at, bij_at, arm_at, left_row_at, right_row_at, both_row_at, row_by, row_at, then_at, disc_at, part_at, word_lens, rec_at, alt_at, mark_lens, begun_lens, lens_from, lens_step, lens_at}
+use Rattle.program_grammar.specs.Reading.{Read, is_mark, next_word, mark_at, string_at, field_at, closed_at, perhaps_at, initial_at, typed_at, type_at, pair_at, bij_at, arm_at, left_row_at, right_row_at, both_row_at, row_by, row_at, then_at, disc_at, part_at, word_lens, rec_at, alt_at, mark_lens, begun_lens, lens_from, lens_step, lens_at}
 use Rattle.prefix_laws.proofs.Machine.{take_one}
 use Rattle.prefix_laws.proofs.MachineSteps.{Takes, Reads, takes_ok, takes_then, takes_mapped, takes_none, none_as, takes_first, takes_not, takes_as}
 use Rattle.prefix_laws.proofs.TokenReading.{mark_takes, string_takes, field_takes}
 use Rattle.prefix_laws.proofs.ListReading.{Opens, closed_takes, perhaps_takes}
-use Rattle.prefix_laws.proofs.TypeReading.{typed_takes, fields_take, type_takes}
+use Rattle.prefix_laws.proofs.TypeReading.{typed_takes, initial_string, fields_take, type_takes}
 
 pair_takes : Reads (List ℕ × List ℕ) a_pair pair_at
 unfolding pair_at
@@ -27,11 +27,12 @@ pair_takes s p =
     takes_then (mark_at Equals a.1) _ (mark_takes Equals (a_string ∷ s) a.1) (λ rest _.
     takes_then (string_at rest) _ (string_takes s rest) (λ b _. takes_ok s ((a.0, b.0), b.1))))
 
-bij_takes : Reads LensTree (mark OpenBracket ∷ a_pair ++ repeated other_pairs ∷ mark CloseBracket ∷ []) bij_at
+bij_takes : Reads LensTree (mark OpenBracket ∷ a_pair ++ repeated other_pairs ∷ mark CloseBracket ∷ perhaps declared_string ∷ []) bij_at
 unfolding bij_at
 bij_takes s p =
-    takes_then (mark_at OpenBracket p) _ (mark_takes OpenBracket (a_pair ++ (repeated other_pairs ∷ mark CloseBracket ∷ s)) p) (λ rest _.
-    takes_mapped (closed_at pair_at CloseBracket rest) bij_of (closed_takes pair_at other_pairs a_pair CloseBracket refl pair_takes s rest))
+    takes_then (mark_at OpenBracket p) _ (mark_takes OpenBracket (a_pair ++ (repeated other_pairs ∷ mark CloseBracket ∷ perhaps declared_string ∷ s)) p) (λ rest _.
+    takes_then (closed_at pair_at CloseBracket rest) _ (closed_takes pair_at other_pairs a_pair CloseBracket refl pair_takes (perhaps declared_string ∷ s) rest) (λ ps _.
+    takes_mapped (initial_at string_at (initial_left ps.0) ps.1) (bij_of ps.0) (initial_string (initial_left ps.0) s ps.1)))
 
 -- field "~" field ":" and a lens
 arm_takes : (n : ℕ) (inner : Point → Read LensTree) → Reads LensTree (rule (lens n) ∷ []) inner → Reads (List ℕ × List ℕ × LensTree) (an_arm n) (arm_at inner)
@@ -96,6 +97,7 @@ rows_opened : (n : ℕ) (s : List Symbol) (k : Token) → is_mark CloseBrace k �
 unfolding take_one
 rows_opened n s (tokens.Name k) h = refl
 rows_opened n s (tokens.Text k) h = refl
+rows_opened n s (tokens.Number k) h = refl
 rows_opened n s (tokens.Keyword k) h = rows_opened_by n s k
 rows_opened n s (tokens.Mark k) h = rw h refl
 rows_opened n s tokens.Bad h = refl
@@ -150,7 +152,7 @@ word_takes : (n : ℕ) (ty : Point → Read TypeTree) (inner : Point → Read Le
     → (s : List Symbol) (k : Keyword) (at : ℕ) (ms : List Mention) (ts : List PlacedToken) → Begun n (tokens.Keyword k) at ts s (word_lens ty inner k at (ms, ts))
 unfolding word_lens take_one
 word_takes n ty inner g h s words.Id at ms ts = takes_first (tokens.Keyword words.Id) at ts (rule (type n) ∷ s) refl (takes_mapped (ty (ms, ts)) id_of (g s (ms, ts)))
-word_takes n ty inner g h s words.Bij at ms ts = takes_first (tokens.Keyword words.Bij) at ts (mark OpenBracket ∷ a_pair ++ (repeated other_pairs ∷ mark CloseBracket ∷ s)) refl (bij_takes s (ms, ts))
+word_takes n ty inner g h s words.Bij at ms ts = takes_first (tokens.Keyword words.Bij) at ts (mark OpenBracket ∷ a_pair ++ (repeated other_pairs ∷ mark CloseBracket ∷ perhaps declared_string ∷ s)) refl (bij_takes s (ms, ts))
 word_takes n ty inner g h s words.Disc at ms ts = takes_first (tokens.Keyword words.Disc) at ts (rule (type n) ∷ rule (type n) ∷ s) refl (disc_takes n ty g s (ms, ts))
 word_takes n ty inner g h s words.Then at ms ts = takes_first (tokens.Keyword words.Then) at ts (mark OpenParen ∷ rule (lens n) ∷ mark Comma ∷ rule (lens n) ∷ mark CloseParen ∷ s) refl (then_takes n inner h s (ms, ts))
 word_takes n ty inner g h s words.Each at ms ts = takes_first (tokens.Keyword words.Each) at ts (rule (lens n) ∷ s) refl (takes_mapped (inner (ms, ts)) each_of (h s (ms, ts)))
@@ -174,6 +176,7 @@ begun_takes n ty inner g h s (tokens.Keyword k) at ms ts = word_takes n ty inner
 begun_takes n ty inner g h s (tokens.Name k) at ms ts = takes_first (tokens.Name k) at ts s refl (takes_ok s (named_lens k, (ms ++ mention sorts.Lens k at ∷ [], ts)))
 begun_takes n ty inner g h s (tokens.Mark k) at ms ts = marked_takes n ty inner g h s k at ms ts
 begun_takes n ty inner g h s (tokens.Text k) at ms ts = takes_not (tokens.Text k) at ts refl
+begun_takes n ty inner g h s (tokens.Number k) at ms ts = takes_not (tokens.Number k) at ts refl
 begun_takes n ty inner g h s tokens.Bad at ms ts = takes_not tokens.Bad at ts refl
 begun_takes n ty inner g h s tokens.End at ms ts = takes_not tokens.End at ts refl
 

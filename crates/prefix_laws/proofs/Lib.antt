@@ -3,7 +3,8 @@ mod PlainExamples
 pub mod Machine
 pub mod MachineSteps
 pub mod MachineSoundness
-pub mod MachineCompleteness
+pub mod InitialValues
+mod MachineCompleteness
 pub mod SymbolTokens
 pub mod TokenReading
 pub mod ListReading

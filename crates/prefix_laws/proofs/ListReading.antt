@@ -1,18 +1,19 @@
--- Lists with commas, read beside the machine.
+-- Lists with commas and initial values, read beside the machine.
 use Rattle.std.proofs.Common.{◌≡◌, ℕ, zero, suc, ◌-◌, true, false, cond, List, [], ◌∷◌, ◌++◌, length, drop, Some, None, Ok, refl, sym, ap, subst, ◌∙◌, inl, inr}
 use Rattle.program_tokens.specs.declared.mark.Mark.{Mark}
-use Rattle.program_tokens.specs.declared.mark.Mark.TheVariants.{Comma}
+use Rattle.program_tokens.specs.declared.mark.Mark.TheVariants.{Comma, Equals}
 use Rattle.program_tokens.specs.declared.token.Token.{Token}
 use Rattle.program_tokens.specs.declared.token.Token.TheVariants as tokens
 use Rattle.program_tokens.specs.declared.token.PlacedToken.{PlacedToken}
 use Rattle.program_grammar.specs.declared.mention.Mention.{Mention}
 use Rattle.program_grammar.specs.Grammar.{Symbol, mark, Part, perhaps, repeated, contents}
 use Rattle.program_grammar.specs.Mentions.{Point}
-use Rattle.program_grammar.specs.Reading.{Read, is_mark, mark_at, more_at, list_at, closed_at, perhaps_at}
+use Rattle.program_grammar.specs.Reading.{Read, is_mark, mark_at, more_at, list_at, closed_at, perhaps_at, initial_at}
 use Rattle.prefix_laws.proofs.Machine.{or_else, first_of, take_inside, take_one, stop}
 use Rattle.program_grammar.proofs.RestOfTokens.{drop_to_rest}
 use Rattle.prefix_laws.proofs.MachineSteps.{Takes, Reads, stop_nothing, takes_ok, takes_then, none_as, takes_first, takes_as, either_way}
 use Rattle.program_grammar.proofs.MarkTokens.{mark_is}
+use Rattle.prefix_laws.proofs.InitialValues.{Declares, equals_or, not_declared}
 use Rattle.prefix_laws.proofs.TokenReading.{mark_takes}
 
 -- the part is a comma and these symbols
@@ -90,3 +91,26 @@ perhaps_after element o p e close c opens h s ms (t ∷ ts) =
 pub perhaps_takes : {A : Type 0} (element : Point → Read A) (o p : Part) (e : List Symbol) (close : Mark) → Commas p e → Opens o p e close → Reads A e element
     → (s : List Symbol) (q : Point) → Takes (List A × Point) (λ x. x.1.1) (perhaps o ∷ mark close ∷ s) s q.1 (perhaps_at element close q)
 perhaps_takes element o p e close c opens h s q = perhaps_after element o p e close c opens h s q.0 q.1
+
+-- ---- initial values
+
+takes_equals : (s : List Symbol) (k : Token) → is_mark Equals k ≡ true → take_one (mark Equals ∷ s) k ≡ Some s
+unfolding take_one
+takes_equals s k h = rw h refl
+
+initial_after : {A : Type 0} (value : Point → Read A) (left_out : A) (p : Part) (x : Symbol) → Declares p (x ∷ []) → Reads A (x ∷ []) value
+    → (s : List Symbol) (ms : List Mention) (ts : List PlacedToken) → Takes (A × Point) (λ x. x.1.1) (perhaps p ∷ s) s ts (initial_at value left_out (ms, ts))
+unfolding initial_at
+initial_after value left_out p x c h s ms [] = done_takes (perhaps p ∷ s) s (left_out, (ms, [])) refl
+initial_after value left_out p x c h s ms (t ∷ ts) =
+    elim (either_way (is_mark Equals t.token)) [
+      | inl it_is ↦
+          let same = equals_or p (x ∷ []) s t.token c ∙ rw it_is refl in
+          let first = takes_equals (x ∷ s) t.token it_is in
+          rw it_is (takes_as (mark Equals ∷ x ∷ s) t.token t.at ts (same ∙ sym first) (takes_then (mark_at Equals (ms, t ∷ ts)) _ (mark_takes Equals (x ∷ s) (ms, t ∷ ts)) (λ rest k. h s rest)))
+      | inr not_it ↦ rw not_it (takes_as s t.token t.at ts (not_declared p (x ∷ []) s t.token c not_it) (takes_ok s (left_out, (ms, t ∷ ts))))
+    ]
+
+-- a value behind `=`, or none
+pub initial_takes : {A : Type 0} (value : Point → Read A) (left_out : A) (p : Part) (x : Symbol) → Declares p (x ∷ []) → Reads A (x ∷ []) value → Reads A (perhaps p ∷ []) (initial_at value left_out)
+initial_takes value left_out p x c h s q = initial_after value left_out p x c h s q.0 q.1

@@ -5,7 +5,7 @@ use Rattle.program_tokens.specs.declared.keyword.Keyword.TheVariants as words
 use Rattle.program_tokens.specs.declared.token.Token.{Token}
 use Rattle.program_tokens.specs.declared.token.Token.TheVariants as tokens
 use Rattle.program_tokens.specs.declared.token.PlacedToken.{PlacedToken}
-use Rattle.program_grammar.specs.Grammar.{Symbol, mark, word, a_name, a_string, the_end, rule, perhaps, repeated, contents, alternatives}
+use Rattle.program_grammar.specs.Grammar.{Symbol, mark, word, a_name, a_string, a_number, the_end, rule, perhaps, repeated, contents, alternatives}
 use Rattle.program_grammar.specs.Reading.{is_mark, is_end}
 
 abbrev pub is_name : Token → Bool
@@ -15,6 +15,10 @@ is_name _ = false
 abbrev pub is_string : Token → Bool
 is_string (tokens.Text n) = true
 is_string _ = false
+
+abbrev pub is_number : Token → Bool
+is_number (tokens.Number z) = true
+is_number _ = false
 
 -- a number for each keyword
 abbrev pub code : Keyword → ℕ
@@ -59,6 +63,7 @@ step inner (mark m ∷ s) t = if is_mark m t then Some s else None
 step inner (word k ∷ s) t = if is_word k t then Some s else None
 step inner (a_name ∷ s) t = if is_name t then Some s else None
 step inner (a_string ∷ s) t = if is_string t then Some s else None
+step inner (a_number ∷ s) t = if is_number t then Some s else None
 step inner (the_end ∷ s) t = if is_end t then Some s else None
 step inner (rule r ∷ s) t = first_of (λ a. inner (a ++ s) t) (alternatives r)
 step inner (perhaps p ∷ s) t = or_else (first_of (λ a. inner (a ++ s) t) (contents p)) (step inner s t)

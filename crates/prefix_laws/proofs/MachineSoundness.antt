@@ -1,11 +1,11 @@
 -- Where the machine goes on, the tokens are a viable prefix.
 use Rattle.std.proofs.Common.{◌≡◌, true, false, List, [], ◌∷◌, ◌++◌, Option, Some, None, refl, sym, subst, ◌⊎◌, inl, inr}
 use Rattle.program_tokens.specs.declared.token.Token.{Token}
-use Rattle.program_grammar.specs.Grammar.{mark, word, a_name, a_string, the_end, rule, perhaps, repeated, Symbol, contents, alternatives, IsAmong, IsViablePrefix, no_tokens, mark_first, word_first, name_first, string_first, end_first, rule_replaced, option_present, option_absent, repeated_once_more, repeated_no_more}
+use Rattle.program_grammar.specs.Grammar.{mark, word, a_name, a_string, a_number, the_end, rule, perhaps, repeated, Symbol, contents, alternatives, IsAmong, IsViablePrefix, no_tokens, mark_first, word_first, name_first, string_first, number_first, end_first, rule_replaced, option_present, option_absent, repeated_once_more, repeated_no_more}
 use Rattle.program_grammar.specs.Reading.{is_mark, is_end}
-use Rattle.prefix_laws.proofs.Machine.{is_name, is_string, is_word, or_else, first_of, step, no_step, take_inside, take_one, goes}
+use Rattle.prefix_laws.proofs.Machine.{is_name, is_string, is_number, is_word, or_else, first_of, step, no_step, take_inside, take_one, goes}
 use Rattle.program_grammar.proofs.MarkTokens.{mark_is}
-use Rattle.prefix_laws.proofs.SymbolTokens.{nothing_there, word_is, chosen, name_is, string_is, end_is}
+use Rattle.prefix_laws.proofs.SymbolTokens.{nothing_there, word_is, chosen, name_is, string_is, number_is, end_is}
 
 -- Every token that the machine takes is one that the symbols may begin with.
 abbrev Sound : (List Symbol → Token → Option (List Symbol)) → Type 0
@@ -40,6 +40,10 @@ sound_step f h (a_string ∷ s) t q ts e g =
     let c = chosen (is_string t) s q e in
     let n = string_is t c.0 in
     subst (λ x. IsViablePrefix (a_string ∷ s) (x ∷ ts)) (sym n.1) (string_first n.0 s ts (subst (λ x. IsViablePrefix x ts) (sym c.1) g))
+sound_step f h (a_number ∷ s) t q ts e g =
+    let c = chosen (is_number t) s q e in
+    let z = number_is t c.0 in
+    subst (λ x. IsViablePrefix (a_number ∷ s) (x ∷ ts)) (sym z.1) (number_first z.0 s ts (subst (λ x. IsViablePrefix x ts) (sym c.1) g))
 sound_step f h (the_end ∷ s) t q ts e g =
     let c = chosen (is_end t) s q e in
     subst (λ x. IsViablePrefix (the_end ∷ s) (x ∷ ts)) (sym (end_is t c.0)) (end_first s ts (subst (λ x. IsViablePrefix x ts) (sym c.1) g))

@@ -1,17 +1,22 @@
 -- In a prefix that the numbered grammar has, each type and each lens is inside fewer than 100 others, however the plain grammar derives it.
-use Rattle.std.proofs.Common.{◌≡◌, ℕ, zero, suc, ◌-◌, ◌<◌, true, false, List, [], ◌∷◌, ◌++◌, Option, Some, None, refl, sym, ap, subst, ◌∙◌, arith, inl, inr}
+use Rattle.std.proofs.Common.{◌≡◌, ℕ, zero, suc, ◌-◌, ◌<◌, true, false, List, [], ◌∷◌, ◌++◌, Option, Some, None, refl, sym, ap, subst, ◌∙◌, eqb, arith, inl, inr}
 use Rattle.std.proofs.lemmas.Bool.{eq-eqb}
+use lib.IntN.{ℤ}
 use Rattle.program_tokens.specs.declared.keyword.Keyword.{Keyword}
 use Rattle.program_tokens.specs.declared.keyword.Keyword.TheVariants as words
 use Rattle.program_tokens.specs.declared.mark.Mark.{Mark}
 use Rattle.program_tokens.specs.declared.token.Token.{Token}
 use Rattle.program_tokens.specs.declared.token.Token.TheVariants as tokens
 use Rattle.program_tokens.specs.Words.{mark_byte}
-use Rattle.program_grammar.specs.Grammar.{Rule, program, type, lens, Part, definitions, Symbol, mark, word, a_name, a_string, the_end, rule, perhaps, repeated, contents, alternatives, IsAmong}
+use Rattle.program_grammar.specs.Grammar.{Rule, program, type, lens, Part, definitions, other_members, other_pairs, declared_number, declared_string, fields, other_fields, rows, other_rows, other_arms, Symbol, mark, word, a_name, a_string, a_number, the_end, rule, perhaps, repeated, contents, alternatives, IsAmong}
 use Rattle.program_grammar.specs.PlainGrammar.{PlainRule, PlainPart, PlainSymbol, IsPlainPrefix, inside_rule, inside_part, first_depth, other_depths, depths_before, IsAllowed, IsNestedBelow}
 use Rattle.program_grammar.specs.PlainGrammar as plain
 use Rattle.prefix_laws.proofs.Machine.{code, or_else, take_inside, take_one, goes}
-use Rattle.prefix_laws.proofs.MachineCompleteness.{Closes, Fine, Each, ◌also◌, each, fine_rule, fine_part, fine_again, Lifts, lifts_rule, lifts_part, passed_by, or_none}
+use Rattle.prefix_laws.proofs.MachineCompleteness.{Closes, Follows, FollowsRule, Fine, Each, ◌also◌, each, fine_rule, fine_part, fine_again, Lifts, lifts_rule, lifts_part, passed_by, absent_passes, or_none}
+use Rattle.prefix_laws.proofs.InitialValues.{IsNotInitial, NoEquals, not_declared}
+use Rattle.prefix_laws.proofs.MachineSteps.{either_way}
+use Rattle.program_grammar.specs.Reading.{is_mark}
+use Rattle.program_tokens.specs.declared.mark.Mark.TheVariants.{Equals}
 use Rattle.prefix_laws.proofs.NumberedSymbols.{number_rule, number_part, number, number_all, numbered, numbered_before, numbered_alternative, numbered_content}
 
 -- ---- what the first symbol takes
@@ -22,6 +27,7 @@ Starts (plain.mark m) = Unit {0}
 Starts (plain.word k) = Unit {0}
 Starts plain.a_name = Unit {0}
 Starts plain.a_string = Unit {0}
+Starts plain.a_number = Unit {0}
 Starts plain.the_end = Unit {0}
 Starts (plain.rule plain.program) = ⊥
 Starts (plain.rule plain.field) = Unit {0}
@@ -61,6 +67,10 @@ takes_string : (n : List ℕ) (s : List Symbol) → take_one (a_string ∷ s) (t
 unfolding take_one
 takes_string n s = refl
 
+takes_number : (z : ℤ) (s : List Symbol) → take_one (a_number ∷ s) (tokens.Number z) ≡ Some s
+unfolding take_one
+takes_number z s = refl
+
 takes_end : (s : List Symbol) → take_one (the_end ∷ s) tokens.End ≡ Some s
 unfolding take_one
 takes_end s = refl
@@ -78,10 +88,6 @@ repeated_takes : (p : Part) (a behind : List Symbol) (t : Token) (q : List Symbo
 unfolding take_one
 repeated_takes p a behind t q k e =
     ap (λ o. or_else o (take_one behind t)) ((each (Lifts (contents p) (repeated p ∷ behind) t) (contents p) (lifts_part p (repeated p ∷ behind) t) a k).lifted q e)
-
-absent_takes : (p : Part) (behind : List Symbol) (t : Token) (q : List Symbol) → Closes behind → take_one behind t ≡ Some q → take_one (perhaps p ∷ behind) t ≡ Some q
-unfolding take_one
-absent_takes p behind t q c e = ap (λ o. or_else o (take_one behind t)) (passed_by p behind behind q t c e) ∙ e
 
 ended_takes : (p : Part) (behind : List Symbol) (t : Token) (q : List Symbol) → Closes behind → take_one behind t ≡ Some q → take_one (repeated p ∷ behind) t ≡ Some q
 unfolding take_one
@@ -108,6 +114,8 @@ part_starts : (p : PlainPart) → Each AllStart (plain.contents p)
 part_starts plain.definitions = tt also tt also tt
 part_starts plain.other_members = tt also tt
 part_starts plain.other_pairs = tt also tt
+part_starts plain.declared_number = tt also tt
+part_starts plain.declared_string = tt also tt
 part_starts plain.fields = tt also tt
 part_starts plain.other_fields = tt also tt
 part_starts plain.rows = tt also tt
@@ -138,6 +146,7 @@ takes_first (plain.mark_first m s ts h) = λ b n behind. (behind, takes_mark m b
 takes_first (plain.word_first k s ts h) = λ b n behind. (behind, takes_word k behind)
 takes_first (plain.name_first m s ts h) = λ b n behind. (behind, takes_name m behind)
 takes_first (plain.string_first m s ts h) = λ b n behind. (behind, takes_string m behind)
+takes_first (plain.number_first z s ts h) = λ b n behind. (behind, takes_number z behind)
 takes_first (plain.end_first s ts h) = λ b n behind. (behind, takes_end behind)
 takes_first (plain.rule_replaced r a s t ts k h) = rule_first r a s t ts k (takes_first h)
 takes_first (plain.option_present p a s t ts k h) = λ b n behind. absurd b
@@ -151,6 +160,7 @@ closes_starts n (plain.mark m) behind c = tt
 closes_starts n (plain.word k) behind c = tt
 closes_starts n plain.a_name behind c = absurd c
 closes_starts n plain.a_string behind c = absurd c
+closes_starts n plain.a_number behind c = absurd c
 closes_starts n plain.the_end behind c = absurd c
 closes_starts n (plain.rule r) behind c = absurd c
 closes_starts n (plain.perhaps p) behind c = absurd c
@@ -237,9 +247,90 @@ alternative_goes plain.type n a s t ts behind b k h g = started plain.type type_
 alternative_goes plain.lens n a s t ts behind b k h g = started plain.lens lens_starts n a s t ts behind b k h g
 alternative_goes plain.row n a s t ts behind b k h g = started plain.row row_starts n a s t ts behind b k h g
 
-fine_alternative : (r : PlainRule) (n : ℕ) (a : List PlainSymbol) (behind : List Symbol) → IsAllowed 100 r n → IsAmong a (plain.alternatives r) → Fine behind → Fine (number_all (inside_rule r n) a ++ behind)
-fine_alternative r n a behind b k f =
-    each (λ x. Fine (x ++ behind)) (alternatives (number_rule n r)) (fine_rule (number_rule n r) behind f) (number_all (inside_rule r n) a) (numbered_alternative r n a b k)
+-- ---- an initial value that is missing: plain symbols before which it may stand begin with no `=`
+
+abbrev BeginsEquals : List Token → Type 0
+BeginsEquals [] = ⊥
+BeginsEquals (t ∷ ts) = is_mark Equals t ≡ true
+
+-- whatever the depths, and whatever follows
+abbrev NeverEquals : List PlainSymbol → Type 0
+NeverEquals a = (s : List PlainSymbol) (ns : List ℕ) → NoEquals (numbered ns (a ++ s))
+
+rule_never : (r : PlainRule) → Each NeverEquals (plain.alternatives r)
+rule_never plain.program = (λ s ns. (tt, tt)) also tt
+rule_never plain.field = (λ s ns. tt) also (λ s ns. tt) also tt
+rule_never plain.type =
+    (λ s ns. tt) also (λ s ns. tt) also (λ s ns. tt) also (λ s ns. tt) also (λ s ns. tt) also (λ s ns. refl) also (λ s ns. refl)
+    also (λ s ns. tt) also (λ s ns. tt) also (λ s ns. tt) also (λ s ns. tt) also tt
+rule_never plain.lens =
+    (λ s ns. tt) also (λ s ns. tt) also (λ s ns. tt) also (λ s ns. tt) also (λ s ns. refl) also (λ s ns. refl)
+    also (λ s ns. tt) also (λ s ns. tt) also (λ s ns. tt) also (λ s ns. tt) also (λ s ns. tt) also (λ s ns. tt) also tt
+rule_never plain.row = (λ s ns. tt) also (λ s ns. tt) also (λ s ns. tt) also tt
+
+part_never : (p : PlainPart) (n : ℕ) → IsNotInitial (number_part n p) → Each NeverEquals (plain.contents p)
+part_never plain.definitions n h = (λ s ns. tt) also (λ s ns. tt) also tt
+part_never plain.other_members n h = (λ s ns. refl) also tt
+part_never plain.other_pairs n h = (λ s ns. refl) also tt
+part_never plain.declared_number n h = absurd h
+part_never plain.declared_string n h = absurd h
+part_never plain.fields n h = (λ s ns. tt) also tt
+part_never plain.other_fields n h = (λ s ns. refl) also tt
+part_never plain.rows n h = (λ s ns. tt) also tt
+part_never plain.other_rows n h = (λ s ns. refl) also tt
+part_never plain.other_arms n h = (λ s ns. refl) also tt
+
+differs : (m : Mark) → eqb (mark_byte m) 61 ≡ false → eqb (mark_byte m) 61 ≡ true → ⊥
+differs m h k = absurd cc
+
+no_equals_first : {s : List PlainSymbol} {ts : List Token} → IsPlainPrefix s ts → (ns : List ℕ) → NoEquals (numbered ns s) → BeginsEquals ts → ⊥
+no_equals_first (plain.no_tokens s) ns n b = absurd b
+no_equals_first (plain.mark_first m s ts h) ns n b = differs m n b
+no_equals_first (plain.word_first k s ts h) ns n b = absurd cc
+no_equals_first (plain.name_first m s ts h) ns n b = absurd cc
+no_equals_first (plain.string_first m s ts h) ns n b = absurd cc
+no_equals_first (plain.number_first z s ts h) ns n b = absurd cc
+no_equals_first (plain.end_first s ts h) ns n b = absurd cc
+no_equals_first (plain.rule_replaced r a s t ts k h) ns n b = no_equals_first h [] (each NeverEquals (plain.alternatives r) (rule_never r) a k s []) b
+no_equals_first (plain.option_present p a s t ts k h) ns n b = absurd n
+no_equals_first (plain.option_absent p s t ts h) ns n b = absurd n
+no_equals_first (plain.repeated_once_more p a s t ts k h) ns n b =
+    no_equals_first h [] (each NeverEquals (plain.contents p) (part_never p (first_depth ns) n.0) a k (plain.repeated p ∷ s) []) b
+no_equals_first (plain.repeated_no_more p s t ts h) ns n b = no_equals_first h (other_depths ns) n.1 b
+
+not_equals : (s : List PlainSymbol) (t : Token) (ts : List Token) (ns : List ℕ) → NoEquals (numbered ns s) → IsPlainPrefix s (t ∷ ts) → is_mark Equals t ≡ false
+not_equals s t ts ns n h =
+    elim (either_way (is_mark Equals t)) [
+      | inl it_is ↦ absurd (no_equals_first h ns n it_is)
+      | inr not_it ↦ not_it
+    ]
+
+closing_goes : (p : PlainPart) (n : ℕ) (s : List PlainSymbol) (t : Token) (ts : List Token) (ns : List ℕ) → Closes (numbered ns s)
+    → ((q : List Symbol) → take_one (numbered ns s) t ≡ Some q → take_one (perhaps (number_part n p) ∷ numbered ns s) t ≡ Some q)
+    → IsPlainPrefix s (t ∷ ts) → goes (perhaps (number_part n p) ∷ numbered ns s) (t ∷ ts) ≡ true → goes (numbered ns s) (t ∷ ts) ≡ true
+closing_goes p n s t ts ns c passes h g =
+    let found = closing_takes s t ts ns c (takes_first h) in
+    goes_as (perhaps (number_part n p) ∷ numbered ns s) (numbered ns s) t ts found.0 (passes found.0 found.1) found.1 g
+
+-- where a part is missing, the machine goes on with what follows
+absent_goes : (p : PlainPart) (n : ℕ) (s : List PlainSymbol) (t : Token) (ts : List Token) (ns : List ℕ) → Follows (number_part n p) (numbered ns s) → IsPlainPrefix s (t ∷ ts)
+    → goes (perhaps (number_part n p) ∷ numbered ns s) (t ∷ ts) ≡ true → goes (numbered ns s) (t ∷ ts) ≡ true
+absent_goes plain.declared_number n s t ts ns c h g =
+    goes_same (perhaps declared_number ∷ numbered ns s) (numbered ns s) t ts (not_declared declared_number (a_number ∷ []) (numbered ns s) t refl (not_equals s t ts ns c h)) g
+absent_goes plain.declared_string n s t ts ns c h g =
+    goes_same (perhaps declared_string ∷ numbered ns s) (numbered ns s) t ts (not_declared declared_string (a_string ∷ []) (numbered ns s) t refl (not_equals s t ts ns c h)) g
+absent_goes plain.definitions n s t ts ns c h g = closing_goes plain.definitions n s t ts ns c (λ q e. absent_passes definitions (numbered ns s) q t c e) h g
+absent_goes plain.other_members n s t ts ns c h g = closing_goes plain.other_members n s t ts ns c (λ q e. absent_passes other_members (numbered ns s) q t c e) h g
+absent_goes plain.other_pairs n s t ts ns c h g = closing_goes plain.other_pairs n s t ts ns c (λ q e. absent_passes other_pairs (numbered ns s) q t c e) h g
+absent_goes plain.fields n s t ts ns c h g = closing_goes plain.fields n s t ts ns c (λ q e. absent_passes (fields (100 - n)) (numbered ns s) q t c e) h g
+absent_goes plain.other_fields n s t ts ns c h g = closing_goes plain.other_fields n s t ts ns c (λ q e. absent_passes (other_fields (100 - n)) (numbered ns s) q t c e) h g
+absent_goes plain.rows n s t ts ns c h g = closing_goes plain.rows n s t ts ns c (λ q e. absent_passes (rows (100 - n)) (numbered ns s) q t c e) h g
+absent_goes plain.other_rows n s t ts ns c h g = closing_goes plain.other_rows n s t ts ns c (λ q e. absent_passes (other_rows (100 - n)) (numbered ns s) q t c e) h g
+absent_goes plain.other_arms n s t ts ns c h g = closing_goes plain.other_arms n s t ts ns c (λ q e. absent_passes (other_arms (100 - n)) (numbered ns s) q t c e) h g
+
+fine_alternative : (r : PlainRule) (n : ℕ) (a : List PlainSymbol) (behind : List Symbol) → IsAllowed 100 r n → IsAmong a (plain.alternatives r) → FollowsRule (number_rule n r) behind → Fine behind → Fine (number_all (inside_rule r n) a ++ behind)
+fine_alternative r n a behind b k e f =
+    each (λ x. Fine (x ++ behind)) (alternatives (number_rule n r)) (fine_rule (number_rule n r) behind e f) (number_all (inside_rule r n) a) (numbered_alternative r n a b k)
 
 -- ---- the bound
 
@@ -257,6 +348,9 @@ nested_below (plain.name_first n s ts h) ns f g =
 nested_below (plain.string_first n s ts h) ns f g =
     let behind = numbered (other_depths ns) s in
     nested_below h (other_depths ns) f (goes_on (a_string ∷ behind) behind (tokens.Text n) ts (takes_string n behind) g)
+nested_below (plain.number_first z s ts h) ns f g =
+    let behind = numbered (other_depths ns) s in
+    nested_below h (other_depths ns) f (goes_on (a_number ∷ behind) behind (tokens.Number z) ts (takes_number z behind) g)
 nested_below (plain.end_first s ts h) ns f g =
     let behind = numbered (other_depths ns) s in
     nested_below h (other_depths ns) f (goes_on (the_end ∷ behind) behind tokens.End ts (takes_end behind) g)
@@ -268,7 +362,7 @@ nested_below (plain.rule_replaced r a s t ts k h) ns f g =
     let b = allowed r n behind t ts g in (
       b,
       nested_below h (depths_before inner a (other_depths ns))
-          (subst Fine same (fine_alternative r n a behind b k f))
+          (subst Fine same (fine_alternative r n a behind b k f.0 f.1))
           (subst (λ q. goes q (t ∷ ts) ≡ true) same (alternative_goes r n a s t ts behind b k (takes_first h) g)),
     )
 nested_below (plain.option_present p a s t ts k h) ns f g =
@@ -282,11 +376,7 @@ nested_below (plain.option_present p a s t ts k h) ns f g =
     (subst Fine same (each (λ x. Fine (x ++ behind)) (contents (number_part n p)) (fine_part (number_part n p) behind f.0 f.1) (number_all inner a) among))
     (subst (λ q. goes q (t ∷ ts) ≡ true) same
     (goes_as (perhaps (number_part n p) ∷ behind) (number_all inner a ++ behind) t ts found.0 (perhaps_takes (number_part n p) (number_all inner a) behind t found.0 among found.1) found.1 g))
-nested_below (plain.option_absent p s t ts h) ns f g =
-    let behind = numbered (other_depths ns) s in
-    let found = closing_takes s t ts (other_depths ns) f.0 (takes_first h) in
-    nested_below h (other_depths ns) f.1
-    (goes_as (perhaps (number_part (first_depth ns) p) ∷ behind) behind t ts found.0 (absent_takes (number_part (first_depth ns) p) behind t found.0 f.0 found.1) found.1 g)
+nested_below (plain.option_absent p s t ts h) ns f g = nested_below h (other_depths ns) f.1 (absent_goes p (first_depth ns) s t ts (other_depths ns) f.0 h g)
 nested_below (plain.repeated_once_more p a s t ts k h) ns f g =
     let n = first_depth ns in
     let inner = inside_part p n in

@@ -1,7 +1,7 @@
 -- Plain symbols with their numbers: a symbol inside n types and lenses has the number 100 - n.
 use Rattle.std.proofs.Common.{◌≡◌, ℕ, suc, ◌-◌, ◌<◌, List, [], ◌∷◌, ◌++◌, map, refl, sym, ap, subst, arith}
 use Rattle.program_tokens.specs.declared.token.Token.{Token}
-use Rattle.program_grammar.specs.Grammar.{Rule, program, field, type, lens, row, Part, definitions, other_members, other_pairs, fields, other_fields, rows, other_rows, other_arms, Symbol, mark, word, a_name, a_string, the_end, rule, perhaps, repeated, contents, alternatives, IsAmong, IsViablePrefix, no_tokens, mark_first, word_first, name_first, string_first, end_first, rule_replaced, option_present, option_absent, repeated_once_more, repeated_no_more}
+use Rattle.program_grammar.specs.Grammar.{Rule, program, field, type, lens, row, Part, definitions, other_members, other_pairs, declared_number, declared_string, fields, other_fields, rows, other_rows, other_arms, Symbol, mark, word, a_name, a_string, a_number, the_end, rule, perhaps, repeated, contents, alternatives, IsAmong, IsViablePrefix, no_tokens, mark_first, word_first, name_first, string_first, number_first, end_first, rule_replaced, option_present, option_absent, repeated_once_more, repeated_no_more}
 use Rattle.program_grammar.specs.PlainGrammar.{PlainRule, PlainPart, PlainSymbol, IsPlainPrefix, inside_rule, inside_part, first_depth, other_depths, depths_before, IsAllowed, IsNestedBelow}
 use Rattle.program_grammar.specs.PlainGrammar as plain
 use Rattle.prefix_laws.proofs.PlainPrefixes.{among_mapped}
@@ -17,6 +17,8 @@ abbrev pub number_part : ℕ → PlainPart → Part
 number_part n plain.definitions = definitions
 number_part n plain.other_members = other_members
 number_part n plain.other_pairs = other_pairs
+number_part n plain.declared_number = declared_number
+number_part n plain.declared_string = declared_string
 number_part n plain.fields = fields (100 - n)
 number_part n plain.other_fields = other_fields (100 - n)
 number_part n plain.rows = rows (100 - n)
@@ -28,6 +30,7 @@ number n (plain.mark m) = mark m
 number n (plain.word k) = word k
 number n plain.a_name = a_name
 number n plain.a_string = a_string
+number n plain.a_number = a_number
 number n plain.the_end = the_end
 number n (plain.rule r) = rule (number_rule n r)
 number n (plain.perhaps p) = perhaps (number_part n p)
@@ -63,6 +66,8 @@ pub numbered_contents : (p : PlainPart) (n : ℕ) → contents (number_part n p)
 numbered_contents plain.definitions n = refl
 numbered_contents plain.other_members n = refl
 numbered_contents plain.other_pairs n = refl
+numbered_contents plain.declared_number n = refl
+numbered_contents plain.declared_string n = refl
 numbered_contents plain.fields n = refl
 numbered_contents plain.other_fields n = refl
 numbered_contents plain.rows n = refl
@@ -85,6 +90,7 @@ viable (plain.mark_first m s ts h) ns b = mark_first m (numbered (other_depths n
 viable (plain.word_first k s ts h) ns b = word_first k (numbered (other_depths ns) s) ts (viable h (other_depths ns) b)
 viable (plain.name_first n s ts h) ns b = name_first n (numbered (other_depths ns) s) ts (viable h (other_depths ns) b)
 viable (plain.string_first n s ts h) ns b = string_first n (numbered (other_depths ns) s) ts (viable h (other_depths ns) b)
+viable (plain.number_first z s ts h) ns b = number_first z (numbered (other_depths ns) s) ts (viable h (other_depths ns) b)
 viable (plain.end_first s ts h) ns b = end_first (numbered (other_depths ns) s) ts (viable h (other_depths ns) b)
 viable (plain.rule_replaced r a s t ts k h) ns b =
     let n = first_depth ns in

@@ -1,7 +1,7 @@
 -- A viable prefix of the numbered grammar is a prefix of the plain one: the numbers are left out.
 use Rattle.std.proofs.Common.{◌≡◌, zero, suc, List, [], ◌∷◌, ◌++◌, map, refl, ap, subst, inl, inr}
 use Rattle.program_tokens.specs.declared.token.Token.{Token}
-use Rattle.program_grammar.specs.Grammar.{Rule, program, field, type, lens, row, Part, definitions, other_members, other_pairs, fields, other_fields, rows, other_rows, other_arms, Symbol, mark, word, a_name, a_string, the_end, rule, perhaps, repeated, contents, alternatives, IsAmong, IsViablePrefix, no_tokens, mark_first, word_first, name_first, string_first, end_first, rule_replaced, option_present, option_absent, repeated_once_more, repeated_no_more}
+use Rattle.program_grammar.specs.Grammar.{Rule, program, field, type, lens, row, Part, definitions, other_members, other_pairs, declared_number, declared_string, fields, other_fields, rows, other_rows, other_arms, Symbol, mark, word, a_name, a_string, a_number, the_end, rule, perhaps, repeated, contents, alternatives, IsAmong, IsViablePrefix, no_tokens, mark_first, word_first, name_first, string_first, number_first, end_first, rule_replaced, option_present, option_absent, repeated_once_more, repeated_no_more}
 use Rattle.program_grammar.specs.PlainGrammar.{PlainRule, PlainPart, PlainSymbol, IsPlainPrefix}
 use Rattle.program_grammar.specs.PlainGrammar as plain
 
@@ -18,6 +18,8 @@ abbrev pub plain_part : Part → PlainPart
 plain_part definitions = plain.definitions
 plain_part other_members = plain.other_members
 plain_part other_pairs = plain.other_pairs
+plain_part declared_number = plain.declared_number
+plain_part declared_string = plain.declared_string
 plain_part (fields n) = plain.fields
 plain_part (other_fields n) = plain.other_fields
 plain_part (rows n) = plain.rows
@@ -29,6 +31,7 @@ plain_symbol (mark m) = plain.mark m
 plain_symbol (word k) = plain.word k
 plain_symbol a_name = plain.a_name
 plain_symbol a_string = plain.a_string
+plain_symbol a_number = plain.a_number
 plain_symbol the_end = plain.the_end
 plain_symbol (rule r) = plain.rule (plain_rule r)
 plain_symbol (perhaps p) = plain.perhaps (plain_part p)
@@ -63,6 +66,8 @@ plain_content : (p : Part) (a : List Symbol) → IsAmong a (contents p) → IsAm
 plain_content definitions a k = among_mapped plain_symbols a (contents definitions) k
 plain_content other_members a k = among_mapped plain_symbols a (contents other_members) k
 plain_content other_pairs a k = among_mapped plain_symbols a (contents other_pairs) k
+plain_content declared_number a k = among_mapped plain_symbols a (contents declared_number) k
+plain_content declared_string a k = among_mapped plain_symbols a (contents declared_string) k
 plain_content (fields n) a k = among_mapped plain_symbols a (contents (fields n)) k
 plain_content (other_fields n) a k = among_mapped plain_symbols a (contents (other_fields n)) k
 plain_content (rows n) a k = among_mapped plain_symbols a (contents (rows n)) k
@@ -93,6 +98,7 @@ plain_prefix (mark_first m s ts h) = plain.mark_first m (plain_symbols s) ts (pl
 plain_prefix (word_first k s ts h) = plain.word_first k (plain_symbols s) ts (plain_prefix h)
 plain_prefix (name_first n s ts h) = plain.name_first n (plain_symbols s) ts (plain_prefix h)
 plain_prefix (string_first n s ts h) = plain.string_first n (plain_symbols s) ts (plain_prefix h)
+plain_prefix (number_first z s ts h) = plain.number_first z (plain_symbols s) ts (plain_prefix h)
 plain_prefix (end_first s ts h) = plain.end_first (plain_symbols s) ts (plain_prefix h)
 plain_prefix (rule_replaced r a s ts k h) =
     replaced (plain.rule (plain_rule r)) a s ts (λ t us. plain.rule_replaced (plain_rule r) (plain_symbols a) (plain_symbols s) t us (plain_alternative r a k)) (plain_prefix h)

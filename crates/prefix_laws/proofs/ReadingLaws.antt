@@ -9,14 +9,14 @@ use Rattle.prefix_laws.proofs.ProgramReading.{fault, program_stops}
 use Rattle.prefix_laws.proofs.Unexpected.{stops_at_unexpected, unexpected_stops, all_fit, not_viable}
 
 pub stops_there : (ts : List PlacedToken) (at : ℕ) → program_at ts ≡ Err (Some at) → IsUnexpectedToken program_and_end ts at
-stops_there ts at e = stops_at_unexpected program_and_end ts at tt (program_stops ts ∙ ap fault e)
+stops_there ts at e = stops_at_unexpected program_and_end ts at (tt, tt) (program_stops ts ∙ ap fault e)
 
 failed_so : (r : Result NotedProgram (Option ℕ)) (at : ℕ) → fault r ≡ Some at → r ≡ Err (Some at)
 failed_so (Ok p) at e = absurd cc
 failed_so (Err d) at e = ap Err e
 
 pub only_there : (ts : List PlacedToken) (at : ℕ) → IsUnexpectedToken program_and_end ts at → program_at ts ≡ Err (Some at)
-only_there ts at m = failed_so (program_at ts) at (sym (program_stops ts) ∙ unexpected_stops program_and_end ts at tt m)
+only_there ts at m = failed_so (program_at ts) at (sym (program_stops ts) ∙ unexpected_stops program_and_end ts at (tt, tt) m)
 
 pub unfinished : (ts : List PlacedToken) → program_at ts ≡ Err None → IsViablePrefix program_and_end (without_offsets ts)
 unfinished ts e = all_fit program_and_end ts (program_stops ts ∙ ap fault e)

@@ -1,6 +1,7 @@
 -- The token that a symbol takes.
 use Rattle.std.proofs.Common.{◌≡◌, ℕ, Bool, true, false, cond, List, [], ◌∷◌, get_or, Option, Some, None, refl, sym, ap, ◌∙◌, eqb}
 use Rattle.std.proofs.lemmas.Bool.{eqb-true}
+use lib.IntN.{ℤ}
 use Rattle.program_tokens.specs.declared.keyword.Keyword.{Keyword}
 use Rattle.program_tokens.specs.declared.keyword.Keyword.TheVariants as words
 use Rattle.program_tokens.specs.declared.token.Token.{Token}
@@ -8,9 +9,9 @@ use Rattle.program_tokens.specs.declared.token.Token.TheVariants as tokens
 use Rattle.program_grammar.specs.Grammar.{Symbol}
 use Rattle.program_grammar.specs.Reading.{is_end}
 use Rattle.program_grammar.proofs.ReadingResults.{some_is}
-use Rattle.prefix_laws.proofs.Machine.{is_name, is_string, is_word, code}
+use Rattle.prefix_laws.proofs.Machine.{is_name, is_string, is_number, is_word, code}
 
-abbrev absent : Option (List Symbol)
+abbrev pub absent : Option (List Symbol)
 absent = None
 
 pub nothing_there : (q : List Symbol) → absent ≡ Some q → ⊥
@@ -51,6 +52,7 @@ word_is k (tokens.Keyword j) e = ap tokens.Keyword (code_word k j e)
 word_is k (tokens.Mark c) e = absurd cc
 word_is k (tokens.Name c) e = absurd cc
 word_is k (tokens.Text c) e = absurd cc
+word_is k (tokens.Number z) e = absurd cc
 word_is k tokens.Bad e = absurd cc
 word_is k tokens.End e = absurd cc
 
@@ -63,6 +65,7 @@ name_is (tokens.Name n) e = (n, refl)
 name_is (tokens.Keyword j) e = absurd cc
 name_is (tokens.Mark c) e = absurd cc
 name_is (tokens.Text c) e = absurd cc
+name_is (tokens.Number z) e = absurd cc
 name_is tokens.Bad e = absurd cc
 name_is tokens.End e = absurd cc
 
@@ -71,8 +74,18 @@ string_is (tokens.Text n) e = (n, refl)
 string_is (tokens.Keyword j) e = absurd cc
 string_is (tokens.Mark c) e = absurd cc
 string_is (tokens.Name c) e = absurd cc
+string_is (tokens.Number z) e = absurd cc
 string_is tokens.Bad e = absurd cc
 string_is tokens.End e = absurd cc
+
+pub number_is : (t : Token) → is_number t ≡ true → (z : ℤ) × (t ≡ tokens.Number z)
+number_is (tokens.Number z) e = (z, refl)
+number_is (tokens.Text n) e = absurd cc
+number_is (tokens.Keyword j) e = absurd cc
+number_is (tokens.Mark c) e = absurd cc
+number_is (tokens.Name c) e = absurd cc
+number_is tokens.Bad e = absurd cc
+number_is tokens.End e = absurd cc
 
 pub end_is : (t : Token) → is_end t ≡ true → t ≡ tokens.End
 end_is tokens.End e = refl
@@ -80,4 +93,5 @@ end_is (tokens.Keyword j) e = absurd cc
 end_is (tokens.Mark c) e = absurd cc
 end_is (tokens.Name c) e = absurd cc
 end_is (tokens.Text c) e = absurd cc
+end_is (tokens.Number z) e = absurd cc
 end_is tokens.Bad e = absurd cc

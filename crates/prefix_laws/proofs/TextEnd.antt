@@ -1,6 +1,7 @@
 -- Reading passes tokens that are neither the end nor bad; so the tokens of a text never run out.
 use Rattle.std.proofs.Common.{◌≡◌, ℕ, zero, suc, ◌-◌, Bool, true, false, cond, List, [], ◌∷◌, ◌++◌, length, drop, Option, Some, None, Result, Ok, Err, refl, sym, ap, subst, ◌∙◌, append_assoc}
 use Rattle.std.specs.List.{AllByRecursion}
+use lib.IntN.{ℤ}
 use Rattle.program_tokens.specs.declared.keyword.Keyword.{Keyword}
 use Rattle.program_tokens.specs.declared.keyword.Keyword.TheVariants as words
 use Rattle.program_tokens.specs.declared.mark.Mark.{Mark}
@@ -10,10 +11,10 @@ use Rattle.program_tokens.specs.declared.token.Token.TheVariants as tokens
 use Rattle.program_tokens.specs.declared.token.PlacedToken.{PlacedToken}
 use Rattle.program_tokens.specs.Tokens.{tokens_of}
 use Rattle.program_tokens.proofs.LastToken.{text_ends}
-use Rattle.program_terms.specs.Terms.{TypeTree, LensTree, DefTree}
+use Rattle.program_terms.specs.Terms.{TypeTree, LensTree, DefTree, initial_number, initial_text, initial_member, initial_left}
 use Rattle.program_grammar.specs.declared.mention.Mention.{Mention}
 use Rattle.program_grammar.specs.Mentions.{Point, NotedDefinition}
-use Rattle.program_grammar.specs.Reading.{Read, ◌>>=◌, is_mark, next_is, word_in, next_word, string_in, field_in, mark_in, mark_at, token_value, string_from, string_at, field_from, field_at, more_at, list_at, closed_at, perhaps_at, typed_at, enum_at, record_at, one_of_at, word_type, mark_type, begun_type, type_from, type_step, type_at, pair_at, bij_at, arm_at, left_row_at, right_row_at, both_row_at, row_by, row_at, then_at, disc_at, part_at, word_lens, rec_at, alt_at, mark_lens, begun_lens, lens_from, lens_step, lens_at, name_in, name_from, name_at, type_term_at, lens_term_at, definition_at, definition_of, definitions_at, is_main, main_at, is_end, none_left, end_at, program_at, next_offset}
+use Rattle.program_grammar.specs.Reading.{Read, ◌>>=◌, is_mark, next_is, word_in, next_word, string_in, number_in, field_in, mark_in, mark_at, token_value, string_from, string_at, number_from, number_at, field_from, field_at, more_at, list_at, closed_at, perhaps_at, initial_at, typed_at, enum_at, record_at, one_of_at, word_type, mark_type, begun_type, type_from, type_step, type_at, pair_at, bij_at, arm_at, left_row_at, right_row_at, both_row_at, row_by, row_at, then_at, disc_at, part_at, word_lens, rec_at, alt_at, mark_lens, begun_lens, lens_from, lens_step, lens_at, name_in, name_from, name_at, type_term_at, lens_term_at, definition_at, definition_of, definitions_at, is_main, main_at, is_end, none_left, end_at, program_at, next_offset}
 use Rattle.program_grammar.proofs.RestOfTokens.{IsRest, drop_to_rest}
 
 -- a token that is neither the end nor bad
@@ -92,6 +93,7 @@ free_mark m (tokens.Mark k) h = refl
 free_mark m (tokens.Keyword k) h = refl
 free_mark m (tokens.Name n) h = refl
 free_mark m (tokens.Text s) h = refl
+free_mark m (tokens.Number s) h = refl
 free_mark m tokens.Bad h = h
 free_mark m tokens.End h = h
 
@@ -109,14 +111,25 @@ good_value None t ms ts h = tt
 
 free_string : (t : Token) (x : List ℕ) → string_in t ≡ Some x → is_free t ≡ true
 free_string (tokens.Text s) x h = refl
+free_string (tokens.Number s) x h = refl
 free_string (tokens.Mark k) x h = refl
 free_string (tokens.Keyword k) x h = refl
 free_string (tokens.Name n) x h = refl
 free_string tokens.Bad x h = absurd cc
 free_string tokens.End x h = absurd cc
 
+free_number : (t : Token) (x : ℤ) → number_in t ≡ Some x → is_free t ≡ true
+free_number (tokens.Number z) x h = refl
+free_number (tokens.Text s) x h = refl
+free_number (tokens.Mark k) x h = refl
+free_number (tokens.Keyword k) x h = refl
+free_number (tokens.Name n) x h = refl
+free_number tokens.Bad x h = absurd cc
+free_number tokens.End x h = absurd cc
+
 free_field : (t : Token) (x : List ℕ) → field_in t ≡ Some x → is_free t ≡ true
 free_field (tokens.Text s) x h = refl
+free_field (tokens.Number s) x h = refl
 free_field (tokens.Mark k) x h = refl
 free_field (tokens.Keyword k) x h = refl
 free_field (tokens.Name n) x h = refl
@@ -125,6 +138,7 @@ free_field tokens.End x h = absurd cc
 
 free_name : (t : Token) (at : ℕ) (x : List ℕ × ℕ) → name_in t at ≡ Some x → is_free t ≡ true
 free_name (tokens.Text s) at x h = refl
+free_name (tokens.Number s) at x h = refl
 free_name (tokens.Mark k) at x h = refl
 free_name (tokens.Keyword k) at x h = refl
 free_name (tokens.Name n) at x h = refl
@@ -133,6 +147,7 @@ free_name tokens.End at x h = absurd cc
 
 free_word : (t : Token) (k : Keyword) → word_in t ≡ Some k → is_free t ≡ true
 free_word (tokens.Text s) k h = refl
+free_word (tokens.Number s) k h = refl
 free_word (tokens.Mark m) k h = refl
 free_word (tokens.Keyword j) k h = refl
 free_word (tokens.Name n) k h = refl
@@ -146,6 +161,14 @@ one_string ms (t ∷ ts) = good_value (string_in t.token) t ms ts (free_string t
 pub string_sound : Sound string_at
 unfolding string_at
 string_sound p = one_string p.0 p.1
+
+one_number : (ms : List Mention) (ts : List PlacedToken) → Good behind ts (number_from ms ts)
+one_number ms [] = tt
+one_number ms (t ∷ ts) = good_value (number_in t.token) t ms ts (free_number t.token)
+
+number_sound : Sound number_at
+unfolding number_at
+number_sound p = one_number p.0 p.1
 
 one_field : (ms : List Mention) (ts : List PlacedToken) → Good behind ts (field_from ms ts)
 one_field ms [] = tt
@@ -205,6 +228,15 @@ perhaps_sound {A = A} element close s p =
 wrapped : {A B : Type 0} (f : Point → Read A) → Sound f → (make : A → B) (p : Point) → Good {A = B × Point} behind p.1 (f p >>= λ x. Ok (make x.0, x.1))
 wrapped {A = A} f s make p = good_then behind behind p.1 (f p) _ (s p) (λ (x : A × Point) l. free_self x.1.1)
 
+-- initial values
+
+initial_sound : {A : Type 0} (value : Point → Read A) (left_out : A) → Sound value → Sound (initial_at value left_out)
+unfolding initial_at
+initial_sound value left_out s p =
+    good_if behind p.1 (next_is Equals p.1) _ (Ok (left_out, p))
+    (λ h. good_then here behind p.1 (mark_at Equals p) _ (mark_sound Equals p) (λ rest k. s rest))
+    (free_self p.1)
+
 -- types
 
 typed_sound : {A : Type 0} (inner : Point → Read A) → Sound inner → Sound (typed_at inner)
@@ -218,7 +250,8 @@ enum_sound : Sound enum_at
 unfolding enum_at
 enum_sound p =
     good_then here behind p.1 (mark_at OpenBracket p) _ (mark_sound OpenBracket p) (λ rest l.
-    good_then behind behind rest.1 (closed_at string_at CloseBracket rest) _ (closed_sound string_at CloseBracket string_sound rest) (λ (ms : List (List ℕ) × Point) k. free_self ms.1.1))
+    good_then behind behind rest.1 (closed_at string_at CloseBracket rest) _ (closed_sound string_at CloseBracket string_sound rest) (λ (ms : List (List ℕ) × Point) k.
+    wrapped (initial_at string_at (initial_member ms.0)) (initial_sound string_at (initial_member ms.0) string_sound) _ ms.1))
 
 record_sound : (inner : Point → Read TypeTree) → Sound inner → Sound (record_at inner)
 unfolding record_at
@@ -232,8 +265,8 @@ word_type_sound : (inner : Point → Read TypeTree) → Sound inner → (k : Key
 unfolding word_type
 word_type_sound inner s words.Unit at p = free_self p.1
 word_type_sound inner s words.Bool at p = free_self p.1
-word_type_sound inner s words.Int at p = free_self p.1
-word_type_sound inner s words.Text at p = free_self p.1
+word_type_sound inner s words.Int at p = wrapped (initial_at number_at initial_number) (initial_sound number_at initial_number number_sound) _ p
+word_type_sound inner s words.Text at p = wrapped (initial_at string_at initial_text) (initial_sound string_at initial_text string_sound) _ p
 word_type_sound inner s words.Enum at p = enum_sound p
 word_type_sound inner s words.List at p = wrapped inner s _ p
 word_type_sound inner s words.Keyed at p = wrapped inner s _ p
@@ -255,6 +288,7 @@ type_begins inner s t ms ts = by_token t.token refl
     by_token (tokens.Name n) e = free_cons t ts ts (ap is_free e) (free_self ts)
     by_token (tokens.Mark m) e = good_from behind (t ∷ ts) ts _ (free_cons t ts ts (ap is_free e) (free_self ts)) (mark_type_sound inner s m t.at (ms, ts))
     by_token (tokens.Text x) e = tt
+    by_token (tokens.Number x) e = tt
     by_token tokens.Bad e = tt
     by_token tokens.End e = tt
 
@@ -284,7 +318,8 @@ bij_sound : Sound bij_at
 unfolding bij_at
 bij_sound p =
     good_then here behind p.1 (mark_at OpenBracket p) _ (mark_sound OpenBracket p) (λ rest l.
-    wrapped (closed_at pair_at CloseBracket) (closed_sound pair_at CloseBracket pair_sound) _ rest)
+    good_then behind behind rest.1 (closed_at pair_at CloseBracket rest) _ (closed_sound pair_at CloseBracket pair_sound rest) (λ (ps : List (List ℕ × List ℕ) × Point) k.
+    wrapped (initial_at string_at (initial_left ps.0)) (initial_sound string_at (initial_left ps.0) string_sound) _ ps.1))
 
 arm_sound : (inner : Point → Read LensTree) → Sound inner → Sound (arm_at inner)
 unfolding arm_at
@@ -366,6 +401,7 @@ lens_begins type inner u s t ms ts = by_token t.token refl
     by_token (tokens.Name n) e = free_cons t ts ts (ap is_free e) (free_self ts)
     by_token (tokens.Mark m) e = good_from behind (t ∷ ts) ts _ (free_cons t ts ts (ap is_free e) (free_self ts)) (mark_lens_sound type inner u s m t.at (ms, ts))
     by_token (tokens.Text x) e = tt
+    by_token (tokens.Number x) e = tt
     by_token tokens.Bad e = tt
     by_token tokens.End e = tt
 

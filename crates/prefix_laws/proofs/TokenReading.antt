@@ -1,14 +1,15 @@
 -- One token, read beside the machine.
 use Rattle.std.proofs.Common.{◌≡◌, ℕ, cond, List, [], ◌∷◌, Some, None, refl, ◌∙◌, inl, inr}
+use lib.IntN.{ℤ}
 use Rattle.program_tokens.specs.declared.mark.Mark.{Mark}
 use Rattle.program_tokens.specs.declared.token.Token.{Token}
 use Rattle.program_tokens.specs.declared.token.Token.TheVariants as tokens
 use Rattle.program_tokens.specs.declared.token.PlacedToken.{PlacedToken}
 use Rattle.program_tokens.specs.Tokens.{placed}
 use Rattle.program_grammar.specs.declared.mention.Mention.{Mention}
-use Rattle.program_grammar.specs.Grammar.{Symbol, mark, a_string, rule, field}
+use Rattle.program_grammar.specs.Grammar.{Symbol, mark, a_string, a_number, rule, field}
 use Rattle.program_grammar.specs.Mentions.{Point}
-use Rattle.program_grammar.specs.Reading.{is_mark, mark_in, mark_at, string_in, field_in, token_value, string_from, string_at, field_from, field_at}
+use Rattle.program_grammar.specs.Reading.{is_mark, mark_in, mark_at, string_in, number_in, field_in, token_value, string_from, string_at, number_from, number_at, field_from, field_at}
 use Rattle.prefix_laws.proofs.Machine.{take_one}
 use Rattle.prefix_laws.proofs.MachineSteps.{Takes, Reads, takes_ok, takes_none, takes_first, takes_not, either_way}
 
@@ -34,6 +35,7 @@ string_token s (tokens.Text n) at ms ts = takes_first (tokens.Text n) at ts s re
 string_token s (tokens.Name n) at ms ts = takes_not (tokens.Name n) at ts refl
 string_token s (tokens.Keyword n) at ms ts = takes_not (tokens.Keyword n) at ts refl
 string_token s (tokens.Mark n) at ms ts = takes_not (tokens.Mark n) at ts refl
+string_token s (tokens.Number n) at ms ts = takes_not (tokens.Number n) at ts refl
 string_token s tokens.Bad at ms ts = takes_not tokens.Bad at ts refl
 string_token s tokens.End at ms ts = takes_not tokens.End at ts refl
 
@@ -45,12 +47,31 @@ pub string_takes : Reads (List ℕ) (a_string ∷ []) string_at
 unfolding string_at
 string_takes s p = string_after s p.0 p.1
 
+number_token : (s : List Symbol) (k : Token) (at : ℕ) (ms : List Mention) (ts : List PlacedToken) → Takes (ℤ × Point) (λ x. x.1.1) (a_number ∷ s) s (placed k at ∷ ts) (token_value (number_in k) at ms ts)
+unfolding take_one
+number_token s (tokens.Number z) at ms ts = takes_first (tokens.Number z) at ts s refl (takes_ok s (z, (ms, ts)))
+number_token s (tokens.Text n) at ms ts = takes_not (tokens.Text n) at ts refl
+number_token s (tokens.Name n) at ms ts = takes_not (tokens.Name n) at ts refl
+number_token s (tokens.Keyword n) at ms ts = takes_not (tokens.Keyword n) at ts refl
+number_token s (tokens.Mark n) at ms ts = takes_not (tokens.Mark n) at ts refl
+number_token s tokens.Bad at ms ts = takes_not tokens.Bad at ts refl
+number_token s tokens.End at ms ts = takes_not tokens.End at ts refl
+
+number_after : (s : List Symbol) (ms : List Mention) (ts : List PlacedToken) → Takes (ℤ × Point) (λ x. x.1.1) (a_number ∷ s) s ts (number_from ms ts)
+number_after s ms [] = takes_none (a_number ∷ s) s
+number_after s ms (t ∷ ts) = number_token s t.token t.at ms ts
+
+pub number_takes : Reads ℤ (a_number ∷ []) number_at
+unfolding number_at
+number_takes s p = number_after s p.0 p.1
+
 field_token : (s : List Symbol) (k : Token) (at : ℕ) (ms : List Mention) (ts : List PlacedToken) → Takes (List ℕ × Point) (λ x. x.1.1) (rule field ∷ s) s (placed k at ∷ ts) (token_value (field_in k) at ms ts)
 unfolding take_one
 field_token s (tokens.Text n) at ms ts = takes_first (tokens.Text n) at ts s refl (takes_ok s (n, (ms, ts)))
 field_token s (tokens.Name n) at ms ts = takes_first (tokens.Name n) at ts s refl (takes_ok s (n, (ms, ts)))
 field_token s (tokens.Keyword n) at ms ts = takes_not (tokens.Keyword n) at ts refl
 field_token s (tokens.Mark n) at ms ts = takes_not (tokens.Mark n) at ts refl
+field_token s (tokens.Number n) at ms ts = takes_not (tokens.Number n) at ts refl
 field_token s tokens.Bad at ms ts = takes_not tokens.Bad at ts refl
 field_token s tokens.End at ms ts = takes_not tokens.End at ts refl
 

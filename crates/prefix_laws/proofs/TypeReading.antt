@@ -8,16 +8,16 @@ use Rattle.program_tokens.specs.declared.token.Token.{Token}
 use Rattle.program_tokens.specs.declared.token.Token.TheVariants as tokens
 use Rattle.program_tokens.specs.declared.token.PlacedToken.{PlacedToken}
 use Rattle.program_tokens.specs.Tokens.{placed}
-use Rattle.program_terms.specs.Terms.{TypeTree, unit, bool, int, text, enum_of, record_of, one_of, list, keyed, tree, named, term_fields_of}
+use Rattle.program_terms.specs.Terms.{TypeTree, unit, bool, int, text, enum_of, record_of, one_of, list, keyed, tree, named, term_fields_of, initial_number, initial_text, initial_member}
 use Rattle.program_grammar.specs.declared.mention.Mention.{Mention}
 use Rattle.program_grammar.specs.declared.mention.Sort.TheVariants as sorts
-use Rattle.program_grammar.specs.Grammar.{Symbol, mark, a_string, rule, perhaps, repeated, field, type, other_members, fields, other_fields, a_field}
+use Rattle.program_grammar.specs.Grammar.{Symbol, mark, a_string, a_number, rule, perhaps, repeated, field, type, other_members, declared_number, declared_string, fields, other_fields, a_field}
 use Rattle.program_grammar.specs.Mentions.{Point, mention}
-use Rattle.program_grammar.specs.Reading.{Read, is_mark, mark_at, string_at, field_at, closed_at, perhaps_at, typed_at, enum_at, record_at, one_of_at, word_type, mark_type, begun_type, type_from, type_step, type_at}
+use Rattle.program_grammar.specs.Reading.{Read, is_mark, mark_at, string_at, number_at, field_at, closed_at, perhaps_at, initial_at, typed_at, enum_at, record_at, one_of_at, word_type, mark_type, begun_type, type_from, type_step, type_at}
 use Rattle.prefix_laws.proofs.Machine.{take_one}
 use Rattle.prefix_laws.proofs.MachineSteps.{Takes, Reads, takes_ok, takes_then, takes_mapped, takes_none, takes_first, takes_not}
-use Rattle.prefix_laws.proofs.TokenReading.{mark_takes, string_takes, field_takes}
-use Rattle.prefix_laws.proofs.ListReading.{Opens, closed_takes, perhaps_takes}
+use Rattle.prefix_laws.proofs.TokenReading.{mark_takes, string_takes, number_takes, field_takes}
+use Rattle.prefix_laws.proofs.ListReading.{Opens, closed_takes, perhaps_takes, initial_takes}
 
 -- a field, a colon and what is inside
 pub typed_takes : {A : Type 0} (inner : Point → Read A) (x : Symbol) → Reads A (x ∷ []) inner → Reads (List ℕ × A) (rule field ∷ mark Colon ∷ x ∷ []) (typed_at inner)
@@ -27,11 +27,15 @@ typed_takes inner x h s p =
     takes_then (mark_at Colon f.1) _ (mark_takes Colon (x ∷ s) f.1) (λ rest _.
     takes_then (inner rest) _ (h s rest) (λ t _. takes_ok s ((f.0, t.0), t.1))))
 
-enum_takes : Reads TypeTree (mark OpenBracket ∷ a_string ∷ repeated other_members ∷ mark CloseBracket ∷ []) enum_at
+pub initial_string : (left_out : List ℕ) → Reads (List ℕ) (perhaps declared_string ∷ []) (initial_at string_at left_out)
+initial_string left_out = initial_takes string_at left_out declared_string a_string refl string_takes
+
+enum_takes : Reads TypeTree (mark OpenBracket ∷ a_string ∷ repeated other_members ∷ mark CloseBracket ∷ perhaps declared_string ∷ []) enum_at
 unfolding enum_at
 enum_takes s p =
-    takes_then (mark_at OpenBracket p) _ (mark_takes OpenBracket (a_string ∷ repeated other_members ∷ mark CloseBracket ∷ s) p) (λ rest _.
-    takes_mapped (closed_at string_at CloseBracket rest) enum_of (closed_takes string_at other_members (a_string ∷ []) CloseBracket refl string_takes s rest))
+    takes_then (mark_at OpenBracket p) _ (mark_takes OpenBracket (a_string ∷ repeated other_members ∷ mark CloseBracket ∷ perhaps declared_string ∷ s) p) (λ rest _.
+    takes_then (closed_at string_at CloseBracket rest) _ (closed_takes string_at other_members (a_string ∷ []) CloseBracket refl string_takes (perhaps declared_string ∷ s) rest) (λ ms _.
+    takes_mapped (initial_at string_at (initial_member ms.0) ms.1) (enum_of ms.0) (initial_string (initial_member ms.0) s ms.1)))
 
 -- fields that may be missing in braces
 fields_shut : (n : ℕ) (s : List Symbol) → take_one (perhaps (fields n) ∷ mark CloseBrace ∷ s) (tokens.Mark CloseBrace) ≡ take_one (mark CloseBrace ∷ s) (tokens.Mark CloseBrace)
@@ -42,6 +46,7 @@ fields_opened : (n : ℕ) (s : List Symbol) (k : Token) → is_mark CloseBrace k
 unfolding take_one
 fields_opened n s (tokens.Name k) h = refl
 fields_opened n s (tokens.Text k) h = refl
+fields_opened n s (tokens.Number k) h = refl
 fields_opened n s (tokens.Keyword k) h = refl
 fields_opened n s (tokens.Mark k) h = rw h refl
 fields_opened n s tokens.Bad h = refl
@@ -75,9 +80,9 @@ word_takes : (n : ℕ) (inner : Point → Read TypeTree) → Reads TypeTree (rul
 unfolding word_type take_one
 word_takes n inner h s words.Unit at ms ts = takes_first (tokens.Keyword words.Unit) at ts s refl (takes_ok s (unit, (ms, ts)))
 word_takes n inner h s words.Bool at ms ts = takes_first (tokens.Keyword words.Bool) at ts s refl (takes_ok s (bool, (ms, ts)))
-word_takes n inner h s words.Int at ms ts = takes_first (tokens.Keyword words.Int) at ts s refl (takes_ok s (int, (ms, ts)))
-word_takes n inner h s words.Text at ms ts = takes_first (tokens.Keyword words.Text) at ts s refl (takes_ok s (text, (ms, ts)))
-word_takes n inner h s words.Enum at ms ts = takes_first (tokens.Keyword words.Enum) at ts (mark OpenBracket ∷ a_string ∷ repeated other_members ∷ mark CloseBracket ∷ s) refl (enum_takes s (ms, ts))
+word_takes n inner h s words.Int at ms ts = takes_first (tokens.Keyword words.Int) at ts (perhaps declared_number ∷ s) refl (takes_mapped (initial_at number_at initial_number (ms, ts)) int (initial_takes number_at initial_number declared_number a_number refl number_takes s (ms, ts)))
+word_takes n inner h s words.Text at ms ts = takes_first (tokens.Keyword words.Text) at ts (perhaps declared_string ∷ s) refl (takes_mapped (initial_at string_at initial_text (ms, ts)) text (initial_string initial_text s (ms, ts)))
+word_takes n inner h s words.Enum at ms ts = takes_first (tokens.Keyword words.Enum) at ts (mark OpenBracket ∷ a_string ∷ repeated other_members ∷ mark CloseBracket ∷ perhaps declared_string ∷ s) refl (enum_takes s (ms, ts))
 word_takes n inner h s words.List at ms ts = takes_first (tokens.Keyword words.List) at ts (rule (type n) ∷ s) refl (takes_mapped (inner (ms, ts)) list (h s (ms, ts)))
 word_takes n inner h s words.Keyed at ms ts = takes_first (tokens.Keyword words.Keyed) at ts (rule (type n) ∷ s) refl (takes_mapped (inner (ms, ts)) keyed (h s (ms, ts)))
 word_takes n inner h s words.Tree at ms ts = takes_first (tokens.Keyword words.Tree) at ts (rule (type n) ∷ s) refl (takes_mapped (inner (ms, ts)) tree (h s (ms, ts)))
@@ -97,6 +102,7 @@ begun_takes n inner h s (tokens.Keyword k) at ms ts = word_takes n inner h s k a
 begun_takes n inner h s (tokens.Name k) at ms ts = takes_first (tokens.Name k) at ts s refl (takes_ok s (named k, (ms ++ mention sorts.Type k at ∷ [], ts)))
 begun_takes n inner h s (tokens.Mark k) at ms ts = marked_takes n inner h s k at ms ts
 begun_takes n inner h s (tokens.Text k) at ms ts = takes_not (tokens.Text k) at ts refl
+begun_takes n inner h s (tokens.Number k) at ms ts = takes_not (tokens.Number k) at ts refl
 begun_takes n inner h s tokens.Bad at ms ts = takes_not tokens.Bad at ts refl
 begun_takes n inner h s tokens.End at ms ts = takes_not tokens.End at ts refl
 

@@ -2,9 +2,10 @@
 use Rattle.std.proofs.Common.{◌≡◌, ℕ, zero, suc, Bool, true, false, List, [], ◌∷◌, ◌++◌, length, take, Option, Some, None, refl, sym, ap, subst, ◌∙◌, ◌⊎◌, inl, inr}
 use Rattle.program_tokens.specs.declared.token.Token.{Token}
 use Rattle.program_tokens.specs.declared.token.PlacedToken.{PlacedToken}
-use Rattle.program_grammar.specs.Grammar.{Symbol, IsViablePrefix, no_tokens, mark_first, word_first, name_first, string_first, end_first, rule_replaced, option_present, option_absent, repeated_once_more, repeated_no_more}
+use Rattle.program_grammar.specs.Grammar.{Symbol, IsViablePrefix, no_tokens, mark_first, word_first, name_first, string_first, number_first, end_first, rule_replaced, option_present, option_absent, repeated_once_more, repeated_no_more}
 use Rattle.program_grammar.specs.Unexpected.{without_offsets, IsUnexpectedToken}
 use Rattle.program_grammar.proofs.ReadingResults.{some_is}
+use Rattle.program_grammar.proofs.RestOfTokens.{same_tail}
 use Rattle.prefix_laws.proofs.Machine.{take_one, goes, stop}
 use Rattle.prefix_laws.proofs.MachineSoundness.{goes_viable}
 use Rattle.prefix_laws.proofs.MachineCompleteness.{Fine, viable_goes}
@@ -23,6 +24,8 @@ first_of_viable (name_first m s ts h) zero = no_tokens _
 first_of_viable (name_first m s ts h) (suc n) = name_first m s (take n ts) (first_of_viable h n)
 first_of_viable (string_first m s ts h) zero = no_tokens _
 first_of_viable (string_first m s ts h) (suc n) = string_first m s (take n ts) (first_of_viable h n)
+first_of_viable (number_first z s ts h) zero = no_tokens _
+first_of_viable (number_first z s ts h) (suc n) = number_first z s (take n ts) (first_of_viable h n)
 first_of_viable (end_first s ts h) zero = no_tokens _
 first_of_viable (end_first s ts h) (suc n) = end_first s (take n ts) (first_of_viable h n)
 first_of_viable (rule_replaced r a s ts k h) n = rule_replaced r a s (take n ts) k (first_of_viable h n)
@@ -46,9 +49,6 @@ without_offsets_append (t ∷ a) b = ap (λ x. t.token ∷ x) (without_offsets_a
 
 same_head : (t u : PlacedToken) (ts us : List PlacedToken) → t ∷ ts ≡ u ∷ us → t ≡ u
 same_head t u ts us e = cc
-
-same_tail : (t u : PlacedToken) (ts us : List PlacedToken) → t ∷ ts ≡ u ∷ us → ts ≡ us
-same_tail t u ts us e = cc
 
 -- one list begins with the other and the token behind it
 record Longer (long short : List PlacedToken) (next : PlacedToken) : Type 0 where

@@ -10,7 +10,7 @@ use Rattle.program_reader.specs.declared.fault.ReadFault.{ReadFault}
 use Rattle.program_reader.specs.declared.fault.ReadFault.TheVariants as faults
 use Rattle.program_reader.specs.Gives.{Fails}
 use Rattle.program_grammar.proofs.ReadingResults.{ok_is, chosen}
-use Rattle.program_grammar.proofs.RestOfTokens.{more_after}
+use Rattle.program_grammar.proofs.RestOfTokens.{more_after, more_ends}
 use Rattle.program_grammar.proofs.TokensLeft.{LeavesFewer, mark_leaves}
 
 -- the elements behind commas at this point
@@ -60,11 +60,6 @@ more_element element p q x m e h = more_comma element p q e ∙ rw h (rw (more_a
 more_fails : {A : Type 0} (element : Point → Read A) (p q : Point) (f : Option ℕ) → mark_at Comma p ≡ Ok q → element q ≡ Err f → more_from element p ≡ Err f
 more_fails element p q f e h = more_comma element p q e ∙ rw h refl
 
-more_in : {A : Type 0} (element : Point → Read A) (ms : List Mention) (ts : List PlacedToken) → next_is Comma ts ≡ false → more_at element 0 ms ts ≡ Ok ([], (ms, ts))
-unfolding more_at
-more_in element ms [] h = refl
-more_in element ms (t ∷ ts) h = rw h refl
-
 -- ---- a loop
 
 pub regroup : {A B : Type 0} (front : List A) (n : A) (read : Result (List A × B) (Option ℕ)) → with_front front (read >>= λ x. Ok (n ∷ x.0, x.1)) ≡ with_front (front ++ n ∷ []) read
@@ -100,7 +95,7 @@ breaks element front p q (faults.At at) whole e h so_far = sym so_far ∙ ap (wi
 pub is_done : {A : Type 0} (element : Point → Read A) (front : List A) (p q : Point) (whole : Read (List A)) → (next_is Comma p.1 ≡ false) × (q ≡ p)
     → IsSoFar element front p whole → whole ≡ Ok (front, q)
 is_done {A = A} element front p q whole h so_far =
-    sym so_far ∙ ap (with_front front) (more_in element p.0 p.1 h.0) ∙ ap (λ (ns : List A). Ok (ns, p)) (append-nil front) ∙ ap (λ (r : Point). Ok (front, r)) (sym h.1)
+    sym so_far ∙ ap (with_front front) (more_ends element p.0 p.1 h.0) ∙ ap (λ (ns : List A). Ok (ns, p)) (append-nil front) ∙ ap (λ (r : Point). Ok (front, r)) (sym h.1)
 
 -- fewer tokens are left behind a comma and an element
 pub shorter : {A : Type 0} (element : Point → Read A) (p q : Point) (x : A × Point) → LeavesFewer element → mark_at Comma p ≡ Ok q → element q ≡ Ok x → length x.1.1 < length p.1

@@ -6,6 +6,7 @@ ghost use Rattle.program_terms.specs.Views.{lens_tree, row_tree, arm_tree};
 ghost use Rattle.program_tokens.specs.declared.mark.Mark.TheVariants.{CloseBracket, CloseBrace};
 
 use crate::fault::ReadFault;
+use crate::initial::read_initial_left;
 use crate::reader::Reader;
 use crate::types::{read_closed_fields, read_field, read_type};
 use program_grammar::Sort;
@@ -36,14 +37,15 @@ fn read_part(alloc: Global, reader: &mut Reader, room: u32) -> Result<Lens, Read
     Ok(Lens::Part(TyFields::from_vec(tags)))
 }
 
-/// The pairs of a bijection, behind its word.
+/// The pairs of a bijection and its initial value, behind its word.
 #[tactic(auto, unfolding(program_grammar::specs::Reading::bij_at))]
 fn read_bij(alloc: Global, reader: &mut Reader) -> Result<Lens, ReadFault>
     ensures { Gives lens_tree result reader.new (bij_at reader.old) }
 {
     reader.take_mark(Mark::OpenBracket)?;
     let pairs = read_closed_pairs(alloc, reader)?;
-    Ok(Lens::Bij(Pairs::from_vec(pairs)))
+    let initial = read_initial_left(alloc, reader, &pairs)?;
+    Ok(Lens::Bij(Pairs::from_vec(pairs), initial))
 }
 
 /// Pairs of strings, at least one, with the bracket behind them.

@@ -6,6 +6,7 @@
 #![tactic(auto)]
 
 pub mod fault;
+mod initial;
 mod lenses;
 mod names;
 mod programs;

@@ -1,7 +1,7 @@
 //! The tokens that are left of a text, the first one first.
 ghost use Rattle.std.specs.Prelude.{◌≡◌, ◌∷◌, ◌++◌, [], Err, Ok, false, drop, IfOk, IfErr, OnOk, MatchBool};
 ghost use Rattle.program_grammar.specs.Mentions.{mention};
-ghost use Rattle.program_grammar.specs.Reading.{next_offset, is_mark, next_is, word_in, next_word, mark_at, string_at, field_at, name_at, main_at, is_end, end_at};
+ghost use Rattle.program_grammar.specs.Reading.{next_offset, is_mark, next_is, word_in, next_word, mark_at, string_at, number_at, field_at, name_at, main_at, is_end, end_at};
 ghost use Rattle.program_reader.specs.Gives.{Fails, Gives, GivesRest};
 ghost use Rattle.program_reader.specs.declared.fault.ReadFault.TheVariants.{Ended};
 ghost use Rattle.program_tokens.specs.declared.mark.Mark.TheVariants.{Comma};
@@ -125,6 +125,18 @@ impl Reader {
         let next = self.take()?;
         match next.token {
             Token::Text(text) => Ok(text),
+            _ => Err(ReadFault::At(next.at)),
+        }
+    }
+
+    /// Takes a number.
+    #[tactic(auto, unfolding(program_grammar::specs::Reading::number_at))]
+    pub fn take_number(&mut self) -> Result<i64, ReadFault>
+        ensures { Gives (λ number. number) result self.new (number_at self.old) }
+    {
+        let next = self.take()?;
+        match next.token {
+            Token::Number(number) => Ok(number),
             _ => Err(ReadFault::At(next.at)),
         }
     }

@@ -6,6 +6,7 @@ ghost use Rattle.program_terms.specs.Views.{type_tree, field_tree};
 ghost use Rattle.program_tokens.specs.declared.mark.Mark.TheVariants.{CloseBracket, CloseBrace};
 
 use crate::fault::ReadFault;
+use crate::initial::{read_initial_member, read_initial_number, read_initial_text};
 use crate::reader::Reader;
 use program_grammar::Sort;
 use program_terms::{TyExpr, TyFields};
@@ -44,7 +45,8 @@ fn read_enum(alloc: Global, reader: &mut Reader) -> Result<TyExpr, ReadFault>
 {
     reader.take_mark(Mark::OpenBracket)?;
     let names = read_members(alloc, reader)?;
-    Ok(TyExpr::Enum(Names::from_vec(names)))
+    let initial = read_initial_member(alloc, reader, &names)?;
+    Ok(TyExpr::Enum(Names::from_vec(names), initial))
 }
 
 /// A type with at most `room` types nested, itself among them.
@@ -93,8 +95,8 @@ fn read_word_type(
     match word {
         Keyword::Unit => Ok(TyExpr::Unit),
         Keyword::Bool => Ok(TyExpr::Bool),
-        Keyword::Int => Ok(TyExpr::Int),
-        Keyword::Text => Ok(TyExpr::Text),
+        Keyword::Int => Ok(TyExpr::Int(read_initial_number(reader)?)),
+        Keyword::Text => Ok(TyExpr::Text(read_initial_text(alloc, reader)?)),
         Keyword::Enum => read_enum(alloc, reader),
         Keyword::List => {
             let inner = read_type(alloc, reader, room)?;

@@ -9,7 +9,7 @@ pub returns-clause-plain : goal.returns-clause-plain
 returns-clause-plain c = λ ts h. plain_prefix h
 
 pub returns-clause-nested_below : goal.returns-clause-nested_below
-returns-clause-nested_below c = λ ts d h. nested_below d [] tt (viable_goes h tt)
+returns-clause-nested_below c = λ ts d h. nested_below d [] (tt, tt) (viable_goes h (tt, tt))
 
 pub returns-clause-viable : goal.returns-clause-viable
 returns-clause-viable c = λ ts d b. viable d [] b
