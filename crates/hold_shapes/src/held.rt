@@ -8,9 +8,9 @@ ghost use Rattle.hold_shapes.specs.Plans.{plan as plan_of};
 use crate::edit::{Place, ShapeEdit};
 use crate::plan::{Plan, PlanFault};
 use crate::shape::{KeyedShape, ListShape, Shape, TreeShape};
-use crate::{keyed, lists, tree_plans, trees};
+use crate::{keyed, keys, lists, tree_plans, trees};
 use std::alloc::Global;
-use texts::{Twin, keys};
+use texts::Twin;
 
 /// A shape of a container, of one kind or of any.
 pub trait Held: Sized + Twin {
@@ -29,7 +29,8 @@ pub trait Held: Sized + Twin {
     /// What the edit makes of the shape, by docs/EDITS.md.
     ///
     /// An error is the first cause of that page that applies, or `NoMemory` if memory ran out.
-    /// Nothing is changed in either case. Time and memory grow with the sizes of shape and edit.
+    /// Nothing is changed in either case. One `NoMemory` is known beforehand, since origins are kept as runs
+    /// and take no memory for each place: a list's new count that does not fit in 64 bits.
     fn plan(&self, alloc: Global, edit: &ShapeEdit) -> Result<Plan<Self>, PlanFault>
         ensures { MatchResult result
             (λ p. plan_of (shape_of self.now) edit.now ≡ Ok (shape_of p.shape, p.from))
@@ -98,7 +99,7 @@ impl Held for KeyedShape {
     fn place(&self, at: &Place) -> Option<u64> {
         match at {
             Place::Index(_) => None,
-            Place::Key(name) => keys::place(self.rising(), name),
+            Place::Key(name) => keys::place(self.names(), name),
             Place::Node(_) => None,
         }
     }
@@ -126,14 +127,14 @@ impl Held for TreeShape {
     ghost meant = { λ x y e. ap TreeOf e };
 
     fn size(&self) -> u64 {
-        self.valid().len() as u64
+        self.depths().len() as u64
     }
 
     fn place(&self, at: &Place) -> Option<u64> {
         match at {
             Place::Index(_) => None,
             Place::Key(_) => None,
-            Place::Node(path) => trees::place(self.valid(), path.as_slice()),
+            Place::Node(path) => trees::place(self.depths(), path.as_slice()),
         }
     }
 
