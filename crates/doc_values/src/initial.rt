@@ -5,19 +5,19 @@ ghost use Rattle.hold_shapes.specs.declared.shape.Shape.TheVariants.{Tree as Tre
 ghost use Rattle.doc_values.specs.Documents.{doc_tree, docs_tree, hold, more_docs, no_docs};
 ghost use Rattle.doc_values.specs.Types.{ty_tree, fields_tree, is_well_formed};
 ghost use Rattle.doc_values.specs.Typing.{has};
-ghost use Rattle.doc_values.specs.Initial.{initial, initial_fields, initial_tag, first_name};
+ghost use Rattle.doc_values.specs.Initial.{initial, initial_fields, initial_tag};
 
 use crate::doc::{Doc, Docs};
 use crate::ty::{Fields, Ty};
-use hold_shapes::{Depths, KeyedShape, ListShape, Name, Names, Shape, Str, TreeShape, Twin};
+use hold_shapes::{Depths, KeyedShape, ListShape, Names, Shape, TreeShape, Twin};
 use std::alloc::{AllocError, Global};
 
-/// The initial document of a type: null, false, 0, the empty text, the first member of an enum, a record of initial
+/// The initial document of a type: null, false, the declared value of an int, a text or an enum, a record of initial
 /// documents, the first tag with its initial document, an empty list, an empty keyed map, a tree of one node with
 /// the initial content.
 ///
-/// The type is well formed, so there is a first member and a first tag, and the document has the type. Only memory
-/// can fail it. See docs/MEANING.md.
+/// The type is well formed, so the declared value of an enum is a member and there is a first tag, and the document
+/// has the type. Only memory can fail it. See docs/MEANING.md.
 #[tactic(auto, using(crate::proofs::InitialTypes::has_initial))]
 pub fn init(alloc: Global, ty: &Ty) -> Result<Doc, AllocError>
     requires { is_well_formed (ty_tree ty.now) ≡ true }
@@ -34,9 +34,9 @@ fn initial_doc(alloc: Global, ty: &Ty) -> Result<Doc, AllocError>
     match ty {
         Ty::Unit => Ok(Doc::Unit),
         Ty::Bool => Ok(Doc::Bool(false)),
-        Ty::Int => Ok(Doc::Int(0)),
-        Ty::Text => Ok(Doc::Text(Str::empty(alloc))),
-        Ty::Enum(members) => Ok(Doc::Pick(first_name(alloc, members)?)),
+        Ty::Int(value) => Ok(Doc::Int(*value)),
+        Ty::Text(value) => Ok(Doc::Text(value.twin(alloc)?)),
+        Ty::Enum(_, value) => Ok(Doc::Pick(value.twin(alloc)?)),
         Ty::Rec(fields) => Ok(Doc::Rec(initial_fields(alloc, fields)?)),
         Ty::Alt(fields) => initial_tag(alloc, fields),
         Ty::List(_) => Ok(Doc::Hold(
@@ -75,16 +75,6 @@ fn initial_tag(alloc: Global, fields: &Fields) -> Result<Doc, AllocError>
         tag,
         Box::new(alloc, initial_doc(alloc, &fields.items[0].1)?)?,
     ))
-}
-
-// The first name, or the empty one.
-fn first_name(alloc: Global, names: &Names) -> Result<Name, AllocError>
-    ensures { IfOk result (λ n. n ≡ first_name names.now) }
-{
-    if names.len() == 0 {
-        return Ok(Name::from_string(String::new(alloc)));
-    }
-    names.as_slice()[0].twin(alloc)
 }
 
 // A keyed map's shape with no key.

@@ -15,9 +15,9 @@ pub(crate) fn same_ty(left: &Ty, right: &Ty) -> bool
     match (left, right) {
         (Ty::Unit, Ty::Unit) => true,
         (Ty::Bool, Ty::Bool) => true,
-        (Ty::Int, Ty::Int) => true,
-        (Ty::Text, Ty::Text) => true,
-        (Ty::Enum(a), Ty::Enum(b)) => a.is_same(b),
+        (Ty::Int(a), Ty::Int(b)) => *a == *b,
+        (Ty::Text(a), Ty::Text(b)) => a.is_same(b),
+        (Ty::Enum(a, x), Ty::Enum(b, y)) => a.is_same(b) && x.is_same(y),
         (Ty::Rec(a), Ty::Rec(b)) => same_fields(a, b),
         (Ty::Alt(a), Ty::Alt(b)) => same_fields(a, b),
         (Ty::List(a), Ty::List(b)) => same_ty(a, b),

@@ -17,9 +17,9 @@ pub(crate) fn fits(ty: &Ty, doc: &Doc) -> bool
     match (ty, doc) {
         (Ty::Unit, Doc::Unit) => true,
         (Ty::Bool, Doc::Bool(_)) => true,
-        (Ty::Int, Doc::Int(_)) => true,
-        (Ty::Text, Doc::Text(_)) => true,
-        (Ty::Enum(members), Doc::Pick(name)) => members.has(name),
+        (Ty::Int(_), Doc::Int(_)) => true,
+        (Ty::Text(_), Doc::Text(_)) => true,
+        (Ty::Enum(members, _), Doc::Pick(name)) => members.has(name),
         (Ty::Rec(fields), Doc::Rec(docs)) => fit_fields(fields, docs),
         (Ty::Alt(fields), Doc::Alt(tag, content)) => match fields.position(tag.as_str()) {
             Some(at) => fits(&fields.items[at].1, content),
