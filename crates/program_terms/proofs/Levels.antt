@@ -13,9 +13,9 @@ abbrev mutual
   pub type_levels : TypeTree → ℕ
   type_levels unit = 1
   type_levels bool = 1
-  type_levels int = 1
-  type_levels text = 1
-  type_levels (enum_of ms) = 1
+  type_levels (int z) = 1
+  type_levels (text s) = 1
+  type_levels (enum_of ms v) = 1
   type_levels (record_of fs) = field_levels fs + 1
   type_levels (one_of fs) = field_levels fs + 1
   type_levels (list t) = type_levels t + 1
@@ -42,7 +42,7 @@ field_within fs i f h is = let e = ap (λ (g : List ℕ × TyExpr). type_levels 
 abbrev mutual
   pub lens_levels : LensTree → ℕ
   lens_levels (id_of t) = 1
-  lens_levels (bij_of ps) = 1
+  lens_levels (bij_of ps v) = 1
   lens_levels (disc_of t u) = 1
   lens_levels (then_of l k) = max (lens_levels l) (lens_levels k) + 1
   lens_levels (rec_lens rows) = row_levels rows + 1

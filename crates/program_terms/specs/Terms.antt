@@ -1,15 +1,17 @@
 -- Types, lenses, definitions and programs as plain trees.
 use Rattle.std.specs.Prelude.{ℕ, Bool, true, ◌&&◌, not, bytes_eq, is_some, Option, Some, None, if◌then◌else◌, List, [], ◌∷◌}
+use lib.IntN.{ℤ, pos}
 
--- an enum has its members in written order; a record and alternatives have names with types; a list, a keyed map and an
--- ordered tree have the type of their contents; a name refers to the type that it is defined as
+-- an int and a text have their initial value; an enum has its members in written order, and its initial value; a record and
+-- alternatives have names with types; a list, a keyed map and an ordered tree have the type of their contents; a name refers to
+-- the type that it is defined as
 mutual
   pub data TypeTree : Type 0 where
     unit : TypeTree
     bool : TypeTree
-    int : TypeTree
-    text : TypeTree
-    enum_of : List (List ℕ) → TypeTree
+    int : ℤ → TypeTree
+    text : List ℕ → TypeTree
+    enum_of : List (List ℕ) → List ℕ → TypeTree
     record_of : FieldTrees → TypeTree
     one_of : FieldTrees → TypeTree
     list : TypeTree → TypeTree
@@ -30,12 +32,12 @@ abbrev pub field_list : FieldTrees → List (List ℕ × TypeTree)
 field_list no_fields = []
 field_list (more_fields n t fs) = (n, t) ∷ field_list fs
 
--- the lenses in the order of the grammar; a row of a record is paired, or stands on one side alone; an arm of
+-- the lenses in the order of the grammar; a bijection has its pairs, and the initial value on the left; a row of a record is paired, or stands on one side alone; an arm of
 -- alternatives has its left tag, its right tag and its lens; a name refers to the lens that it is defined as
 mutual
   pub data LensTree : Type 0 where
     id_of : TypeTree → LensTree
-    bij_of : List (List ℕ × List ℕ) → LensTree
+    bij_of : List (List ℕ × List ℕ) → List ℕ → LensTree
     disc_of : TypeTree → TypeTree → LensTree
     then_of : LensTree → LensTree → LensTree
     rec_lens : RowTrees → LensTree
@@ -88,6 +90,22 @@ term_arms_of (a ∷ others) = more_arms a.0 a.1 a.2 (term_arms_of others)
 abbrev pub arm_list : ArmTrees → List (List ℕ × List ℕ × LensTree)
 arm_list no_arms = []
 arm_list (more_arms a b l others) = (a, b, l) ∷ arm_list others
+
+-- the initial values that are meant when they are left out: 0, the empty text, the first member of an enum, and the first left
+-- member of a bijection
+abbrev pub initial_number : ℤ
+initial_number = pos 0
+
+abbrev pub initial_text : List ℕ
+initial_text = []
+
+abbrev pub initial_member : List (List ℕ) → List ℕ
+initial_member [] = []
+initial_member (m ∷ ms) = m
+
+abbrev pub initial_left : List (List ℕ × List ℕ) → List ℕ
+initial_left [] = []
+initial_left (p ∷ ps) = p.0
 
 -- what a name is defined as
 pub data DefTree : Type 0 where

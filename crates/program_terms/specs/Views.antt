@@ -20,9 +20,9 @@ use Rattle.program_terms.specs.declared.program.Program.{Program}
 abbrev pub type_step : TyExpr-F TypeTree FieldTrees → TypeTree
 type_step TyExpr-F.Unit = unit
 type_step TyExpr-F.Bool = bool
-type_step TyExpr-F.Int = int
-type_step TyExpr-F.Text = text
-type_step (TyExpr-F.Enum members) = enum_of members
+type_step (TyExpr-F.Int number) = int number
+type_step (TyExpr-F.Text s) = text s
+type_step (TyExpr-F.Enum members name) = enum_of members name
 type_step (TyExpr-F.Rec fs) = record_of fs
 type_step (TyExpr-F.Alt fs) = one_of fs
 type_step (TyExpr-F.List t) = list t.value
@@ -49,7 +49,7 @@ field_tree f = (f.0, type_tree f.1)
 -- one level of a `Lens`, a `Row`, a `Rows` and an `Arms`, each lens inside already seen as its tree
 abbrev pub lens_step : Lens-F LensTree RowTree ArmTrees RowTrees → LensTree
 lens_step (Lens-F.Id t) = id_of (type_tree t)
-lens_step (Lens-F.Bij pairs) = bij_of pairs
+lens_step (Lens-F.Bij pairs name) = bij_of pairs name
 lens_step (Lens-F.Disc t u) = disc_of (type_tree t) (type_tree u)
 lens_step (Lens-F.Then l k) = then_of l.value k.value
 lens_step (Lens-F.Rec rows) = rec_lens rows

@@ -17,8 +17,9 @@ use texts::{Name, Twin};
 pub enum Lens {
     /// The identity of a type: `id int`.
     Id(TyExpr),
-    /// Members of an enum joined to members of another: `bij["on"="yes", "off"="no"]`.
-    Bij(Pairs),
+    /// Members of an enum joined to members of another, and the initial value on the left:
+    /// `bij["on"="yes", "off"="no"] = "off"`. The initial value that is left out is the first left member.
+    Bij(Pairs, Name),
     /// Two types of which no edit is translated: `disc int text`.
     Disc(TyExpr, TyExpr),
     /// The first lens, and then the second: `then(id int, id int)`.
@@ -171,7 +172,7 @@ fn copy_lens(alloc: Global, lens: &Lens) -> Result<Lens, AllocError>
 {
     match lens {
         Lens::Id(ty) => Ok(Lens::Id(ty.twin(alloc)?)),
-        Lens::Bij(pairs) => Ok(Lens::Bij(pairs.twin(alloc)?)),
+        Lens::Bij(pairs, name) => Ok(Lens::Bij(pairs.twin(alloc)?, name.twin(alloc)?)),
         Lens::Disc(left, right) => Ok(Lens::Disc(left.twin(alloc)?, right.twin(alloc)?)),
         Lens::Then(first, second) => {
             let first = Box::new(alloc, copy_lens(alloc, first)?)?;

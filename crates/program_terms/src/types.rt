@@ -5,7 +5,7 @@ ghost use Rattle.program_terms.specs.Terms.{term_fields_of};
 ghost use Rattle.program_terms.specs.Views.{type_tree, fields_tree, field_tree};
 
 use std::alloc::{AllocError, Global};
-use texts::{Name, Names, Twin};
+use texts::{Name, Names, Str, Twin};
 
 /// A type as a program writes it, in which a name may refer to a type that is defined.
 ///
@@ -17,12 +17,13 @@ pub enum TyExpr {
     Unit,
     /// True and false: `bool`.
     Bool,
-    /// A whole number: `int`.
-    Int,
-    /// A text: `text`.
-    Text,
-    /// One of the members, in written order: `enum["on", "off"]`.
-    Enum(Names),
+    /// A whole number, with the initial value: `int = 5`, and `int` for 0.
+    Int(i64),
+    /// A text, with the initial value: `text = "x"`, and `text` for the empty text.
+    Text(Str),
+    /// One of the members, in written order, and the initial value: `enum["on", "off"] = "off"`. The initial value that is
+    /// left out is the first member. It need not be a member here; whether it may be in a program is a question of typing.
+    Enum(Names, Name),
     /// A record, with a content for each field: `{a: int, b: text}`.
     Rec(TyFields),
     /// Alternatives, one tag with a content of its type: `<p: text, o: int>`.
@@ -102,9 +103,9 @@ fn copy_type(alloc: Global, ty: &TyExpr) -> Result<TyExpr, AllocError>
     match ty {
         TyExpr::Unit => Ok(TyExpr::Unit),
         TyExpr::Bool => Ok(TyExpr::Bool),
-        TyExpr::Int => Ok(TyExpr::Int),
-        TyExpr::Text => Ok(TyExpr::Text),
-        TyExpr::Enum(members) => Ok(TyExpr::Enum(members.twin(alloc)?)),
+        TyExpr::Int(number) => Ok(TyExpr::Int(*number)),
+        TyExpr::Text(text) => Ok(TyExpr::Text(text.twin(alloc)?)),
+        TyExpr::Enum(members, name) => Ok(TyExpr::Enum(members.twin(alloc)?, name.twin(alloc)?)),
         TyExpr::Rec(fields) => Ok(TyExpr::Rec(copy_fields(alloc, fields)?)),
         TyExpr::Alt(fields) => Ok(TyExpr::Alt(copy_fields(alloc, fields)?)),
         TyExpr::List(inner) => Ok(TyExpr::List(Box::new(alloc, copy_type(alloc, inner)?)?)),
