@@ -1,6 +1,6 @@
 //! Reading a document of a type from a JSON tree.
 
-ghost use Rattle.std.specs.Prelude.{◌≡◌, ◌<◌, true, IfOk, IsErrOf, option_map, option_and_then};
+ghost use Rattle.std.specs.Prelude.{ℕ, ℤ, List, ◌≡◌, ◌<◌, true, IfOk, IsErrOf, option_map, option_and_then};
 ghost use Rattle.texts.specs.Keys.{has_name};
 ghost use Rattle.serde_json.specs.View.{view, items_view, members_view};
 ghost use Rattle.doc_values.specs.Documents.{DocTree, doc_tree, docs_tree};
@@ -16,8 +16,9 @@ use crate::fault::DocFault;
 use crate::numbers::{read_counts, read_int};
 use crate::parts::{only_member, two_members};
 use doc_values::{Doc, Docs, Fields, Ty, has_text};
-use hold_shapes::{Depths, KeyedShape, ListShape, Name, Names, Shape, Str, TreeShape};
+use hold_shapes::{KeyedShape, ListShape, Name, Names, Shape, Str, TreeShape};
 use serde_json::{Map, Value};
+use shared_lists::SharedList;
 use std::alloc::{AllocError, Global};
 
 /// The document of the type that has this tree.
@@ -50,9 +51,9 @@ fn read(alloc: Global, ty: &Ty, tree: &Value) -> Result<Doc, DocFault>
     match ty {
         Ty::Unit => read_unit(tree),
         Ty::Bool => read_bool(tree),
-        Ty::Int => read_whole(tree),
-        Ty::Text => read_text(alloc, tree),
-        Ty::Enum(members) => read_pick(alloc, members, tree),
+        Ty::Int(_) => read_whole(tree),
+        Ty::Text(_) => read_text(alloc, tree),
+        Ty::Enum(members, _) => read_pick(alloc, members, tree),
         Ty::Rec(fields) => read_record(alloc, fields, tree),
         Ty::Alt(tags) => read_tagged(alloc, tags, tree),
         Ty::List(inner) => read_list(alloc, inner, tree),
@@ -84,7 +85,7 @@ fn read_bool(tree: &Value) -> Result<Doc, DocFault>
 
 #[tactic(auto, using(crate::proofs::DocumentOf::read_rules))]
 fn read_whole(tree: &Value) -> Result<Doc, DocFault>
-    ensures { Gives doc_tree result (document_of ty_int (view tree.now)) }
+    ensures { (initial : ℤ) → Gives doc_tree result (document_of (ty_int initial) (view tree.now)) }
 {
     match read_int(tree) {
         Some(number) => Ok(Doc::Int(number)),
@@ -94,7 +95,7 @@ fn read_whole(tree: &Value) -> Result<Doc, DocFault>
 
 #[tactic(auto, using(crate::proofs::DocumentOf::read_rules))]
 fn read_text(alloc: Global, tree: &Value) -> Result<Doc, DocFault>
-    ensures { Gives doc_tree result (document_of ty_text (view tree.now)) }
+    ensures { (initial : List ℕ) → Gives doc_tree result (document_of (ty_text initial) (view tree.now)) }
 {
     match tree.as_str() {
         Some(text) => Ok(Doc::Text(Str::from_string(String::from_str(alloc, text)?))),
@@ -104,7 +105,7 @@ fn read_text(alloc: Global, tree: &Value) -> Result<Doc, DocFault>
 
 #[tactic(auto, using(crate::proofs::DocumentOf::read_rules))]
 fn read_pick(alloc: Global, members: &Names, tree: &Value) -> Result<Doc, DocFault>
-    ensures { Gives doc_tree result (document_of (ty_enum members.now) (view tree.now)) }
+    ensures { (initial : List ℕ) → Gives doc_tree result (document_of (ty_enum members.now initial) (view tree.now)) }
 {
     let Some(text) = tree.as_str() else {
         return Err(DocFault::NotOfType);
@@ -151,7 +152,7 @@ fn read_fields(
     }
     match rest.next() {
         Some(_) => Err(DocFault::NotOfType),
-        None => Ok(Docs::from_vec(docs)),
+        None => Ok(Docs::from_vec(alloc, docs)?),
     }
 }
 
@@ -215,7 +216,7 @@ fn read_ordered(alloc: Global, inner: &Ty, tree: &Value) -> Result<Doc, DocFault
     if depths.len() != docs.len() {
         return Err(DocFault::NotOfType);
     }
-    match TreeShape::from_depths(Depths::from_vec(depths)) {
+    match TreeShape::from_depths(SharedList::from_vec(alloc, depths)?) {
         Some(nodes) => Ok(Doc::Hold(Shape::Tree(nodes), docs)),
         None => Err(DocFault::NotOfType),
     }
@@ -235,14 +236,14 @@ fn depths_and_items(tree: &Value) -> Option<(&Vec<Value>, &Vec<Value>)>
 }
 
 // The names of an object's members.
-fn names_of(alloc: Global, members: &Map<String, Value>) -> Result<Names, AllocError>
+fn names_of(alloc: Global, members: &Map<String, Value>) -> Result<SharedList<Name>, AllocError>
     ensures { IfOk result (λ names. names ≡ member_names (members_view members.now.entries)) }
 {
     let mut names = Vec::new(alloc);
     for (name, _) in members.iter() {
         names.push(Name::from_string(name.clone()?))?;
     }
-    Ok(Names::from_vec(names))
+    SharedList::from_vec(alloc, names)
 }
 
 // The contents of an object's members.
@@ -256,7 +257,7 @@ fn read_members(alloc: Global, inner: &Ty, members: &Map<String, Value>) -> Resu
     for (_, content) in members.iter() {
         docs.push(read(alloc, inner, content)?)?;
     }
-    Ok(Docs::from_vec(docs))
+    Ok(Docs::from_vec(alloc, docs)?)
 }
 
 // The contents that an array's items are.
@@ -269,5 +270,5 @@ fn read_items(alloc: Global, inner: &Ty, items: &[Value]) -> Result<Docs, DocFau
     for item in items {
         docs.push(read(alloc, inner, item)?)?;
     }
-    Ok(Docs::from_vec(docs))
+    Ok(Docs::from_vec(alloc, docs)?)
 }
