@@ -17,10 +17,9 @@ use std::alloc::{AllocError, Global};
 /// A copy shares the contents of its records and containers. It copies the tags above them, and a text or a member
 /// of an enum that is not inside one.
 ///
-/// Dropping a document recurses into its contents. For each record, container and tag that a content is in, it goes
-/// as deep as the balanced tree of a [`SharedList`] is high, which is fewer than 40 levels, and a few levels more. A
-/// document has at most as many levels as its type, so the depth does not grow with the number of contents. Contents
-/// that a copy still has are not visited.
+/// Dropping a document is a recursion, which leaves out what a copy still has. A record or a container on the way to
+/// a content adds as many levels as the balanced tree of its [`SharedList`] is high, fewer than 40 for a hundred
+/// million contents, and a few more. A tag adds one. A document nests at most as deep as its type.
 #[derive(Drop)]
 #[cycle(doc)]
 pub enum Doc {
