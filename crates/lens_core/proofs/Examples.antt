@@ -1,5 +1,5 @@
 -- The definitions on small cases.
-use Rattle.std.proofs.Common.{◌≡◌, ℕ, true, List, [], ◌∷◌, None, Some, refl}
+use Rattle.std.proofs.Common.{◌≡◌, ℕ, true, false, List, [], ◌∷◌, None, Some, refl}
 use Rattle.std.specs.Prelude.{pos}
 use Rattle.doc_values.specs.Documents.{DocTree, truth, int, rec, no_docs, more_docs}
 use Rattle.doc_values.specs.Types.{TyTree, ty_int, ty_bool}
@@ -7,7 +7,7 @@ use Rattle.edit_module.specs.Words.{WordTree, set, at, no_primitives, more_primi
 use Rattle.edit_module.specs.declared.atom.Atom.TheVariants.{Truth, Number}
 use Rattle.texts.specs.declared.side.Side.TheVariants.{Left, Right}
 use Rattle.lens_forms.specs.Forms.{FormTree, form_id, form_disc, form_rec, no_rows, both, only_left, only_right}
-use Rattle.lens_core.specs.Built.{paired_int}
+use Rattle.lens_core.specs.Built.{paired_int, is_paired_int}
 use Rattle.lens_core.specs.Complements.{CompTree, nil, rec_comp, no_comps, more_comps, missing}
 use Rattle.lens_core.specs.Consistency.{IsConsistent}
 use Rattle.lens_core.specs.Translation.{translate}
@@ -125,6 +125,13 @@ other_complement : IsConsistent one_row (record_of 5) nil (record_of 5) → ⊥
 other_complement h = h
 
 -- ---- forms that are not carried yet
+
+one_row_is_built : is_paired_int one_row ≡ true
+one_row_is_built = refl
+
+-- a ~ b: id int = 5
+other_value_is_not : is_paired_int (form_rec (both a b (form_id (ty_int (pos 5))) no_rows)) ≡ false
+other_value_is_not = refl
 
 abbrev apart : FormTree
 apart = form_disc an_int an_int
