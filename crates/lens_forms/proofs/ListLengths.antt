@@ -26,9 +26,9 @@ mutual
   type_longest : (t : TyTree) → longest_in_type t ≤ type_parts t
   type_longest ty_unit = omega arith
   type_longest ty_bool = omega arith
-  type_longest ty_int = omega arith
-  type_longest ty_text = omega arith
-  type_longest (ty_enum ms) = omega arith
+  type_longest (ty_int z) = omega arith
+  type_longest (ty_text s) = omega arith
+  type_longest (ty_enum ms n) = omega arith
   type_longest (ty_rec fs) = omega (arith, fields_within fs, fields_longest fs)
   type_longest (ty_alt fs) = omega (arith, fields_within fs, fields_longest fs)
   type_longest (ty_list t) = omega (arith, type_longest t)
@@ -42,7 +42,7 @@ mutual
 mutual
   pub form_longest : (f : FormTree) → longest_list f ≤ form_parts f
   form_longest (form_id t) = omega (arith, type_longest t)
-  form_longest (form_bij ps) = omega arith
+  form_longest (form_bij ps n) = omega arith
   form_longest (form_disc t u) = omega (arith, type_longest t, type_longest u)
   form_longest (form_then l k) = omega (arith, form_longest l, form_longest k)
   form_longest (form_rec rows) = omega (arith, rows_within rows, rows_longest rows)

@@ -1,5 +1,5 @@
 -- Fields put at their places rise by bytes where their names are distinct, and keep what holds of each.
-use Rattle.std.proofs.Common.{◌≡◌, ℕ, Bool, true, false, ◌&&◌, ◌||◌, List, ◌∷◌, Ordering, refl, ap, sym, ◌∙◌}
+use Rattle.std.proofs.Common.{◌≡◌, ℕ, Bool, true, false, ◌&&◌, ◌||◌, List, ◌∷◌, refl, ap, ◌∙◌}
 use Rattle.std.specs.Prelude.{bytes_eq, not, if◌then◌else◌}
 use Rattle.texts.specs.Keys.{is_before, all_after, is_rising, has_name}
 use Rattle.doc_values.specs.Types.{TyTree, FieldTrees, no_fields, more_fields, names_of, are_distinct, is_well_formed, are_well_formed}

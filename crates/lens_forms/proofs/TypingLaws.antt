@@ -7,6 +7,7 @@ use Rattle.doc_values.proofs.SameTypes.{is_same_ty-equal, is_same_ty-refl}
 use Rattle.texts.proofs.Conjunction.{both as both_true, first as first_and, second as second_and}
 use Rattle.lens_forms.specs.Forms.{FormTree, form_id, form_bij, form_disc, form_then, form_rec, form_alt, form_each, form_keyed, form_ordered, form_part, form_inv, RowTrees, no_rows, both, only_left, only_right, ArmTrees, no_arms, more_arms, lefts, rights, insert_field, sorted, lists_of, left_type, right_type, left_fields, right_fields, left_tags, right_tags}
 use Rattle.lens_forms.specs.Typing.{IsTyped, AreTypedRows, AreTypedArms, is_typed, are_typed_rows, are_typed_arms, left_names, right_names, left_arms, right_arms}
+use Rattle.lens_forms.proofs.Partners.{partner_among}
 use Rattle.lens_forms.proofs.SortedFields.{inserted, inserted_names, sorted-rising, sorted-well_formed, well_formed-insert}
 
 -- ---- what the test says, typing says of the two types
@@ -14,7 +15,14 @@ use Rattle.lens_forms.proofs.SortedFields.{inserted, inserted_names, sorted-risi
 mutual
   pub typed_is : (f : FormTree) → is_typed f ≡ true → IsTyped f (left_type f) (right_type f)
   typed_is (form_id t) h = (h, refl, refl)
-  typed_is (form_bij ps) h = (first_and (are_choices (lefts ps)) (are_choices (rights ps)) h, second_and (are_choices (lefts ps)) (are_choices (rights ps)) h, refl, refl)
+  typed_is (form_bij ps n) h =
+      let rest = second_and (are_choices (lefts ps)) (are_choices (rights ps) && has_name n (lefts ps)) h in (
+        first_and (are_choices (lefts ps)) (are_choices (rights ps) && has_name n (lefts ps)) h,
+        first_and (are_choices (rights ps)) (has_name n (lefts ps)) rest,
+        second_and (are_choices (rights ps)) (has_name n (lefts ps)) rest,
+        refl,
+        refl,
+      )
   typed_is (form_disc t u) h = (first_and (is_well_formed t) (is_well_formed u) h, second_and (is_well_formed t) (is_well_formed u) h, refl, refl)
   typed_is (form_then l k) h =
       let parts = first_and (is_typed l && is_typed k) (is_same_ty (right_type l) (left_type k)) h in
@@ -82,7 +90,7 @@ mutual
 mutual
   pub typed_types : (f : FormTree) (left right : TyTree) → IsTyped f left right → (left ≡ left_type f) × (right ≡ right_type f)
   typed_types (form_id t) left right h = (h.1, h.2)
-  typed_types (form_bij ps) left right h = (h.2, h.3)
+  typed_types (form_bij ps n) left right h = (h.3, h.4)
   typed_types (form_disc t u) left right h = (h.2, h.3)
   typed_types (form_then l k) left right h = ((typed_types l left h.0 h.1).0, (typed_types k h.0 right h.2).1)
   typed_types (form_rec rows) left right h =
@@ -120,7 +128,7 @@ mutual
 mutual
   pub typed_passes : (f : FormTree) (left right : TyTree) → IsTyped f left right → is_typed f ≡ true
   typed_passes (form_id t) left right h = h.0
-  typed_passes (form_bij ps) left right h = both_true _ _ h.0 h.1
+  typed_passes (form_bij ps n) left right h = both_true _ _ h.0 (both_true _ _ h.1 h.2)
   typed_passes (form_disc t u) left right h = both_true _ _ h.0 h.1
   typed_passes (form_then l k) left right h =
       let same : right_type l ≡ left_type k = sym (typed_types l left h.0 h.1).1 ∙ (typed_types k h.0 right h.2).0 in
@@ -208,7 +216,9 @@ parts_formed fs h =
 mutual
   pub left_formed : (f : FormTree) → is_typed f ≡ true → is_well_formed (left_type f) ≡ true
   left_formed (form_id t) h = h
-  left_formed (form_bij ps) h = first_and (are_choices (lefts ps)) (are_choices (rights ps)) h
+  left_formed (form_bij ps n) h =
+      both_true _ _ (first_and (are_choices (lefts ps)) (are_choices (rights ps) && has_name n (lefts ps)) h)
+      (second_and (are_choices (rights ps)) (has_name n (lefts ps)) (second_and (are_choices (lefts ps)) (are_choices (rights ps) && has_name n (lefts ps)) h))
   left_formed (form_disc t u) h = first_and (is_well_formed t) (is_well_formed u) h
   left_formed (form_then l k) h = left_formed l (first_and (is_typed l) (is_typed k) (first_and (is_typed l && is_typed k) (is_same_ty (right_type l) (left_type k)) h))
   left_formed (form_rec rows) h =
@@ -228,7 +238,9 @@ mutual
 
   pub right_formed : (f : FormTree) → is_typed f ≡ true → is_well_formed (right_type f) ≡ true
   right_formed (form_id t) h = h
-  right_formed (form_bij ps) h = second_and (are_choices (lefts ps)) (are_choices (rights ps)) h
+  right_formed (form_bij ps n) h =
+      let rest = second_and (are_choices (lefts ps)) (are_choices (rights ps) && has_name n (lefts ps)) h in
+      both_true _ _ (first_and (are_choices (rights ps)) (has_name n (lefts ps)) rest) (partner_among ps n (second_and (are_choices (rights ps)) (has_name n (lefts ps)) rest))
   right_formed (form_disc t u) h = second_and (is_well_formed t) (is_well_formed u) h
   right_formed (form_then l k) h = right_formed k (second_and (is_typed l) (is_typed k) (first_and (is_typed l && is_typed k) (is_same_ty (right_type l) (left_type k)) h))
   right_formed (form_rec rows) h =

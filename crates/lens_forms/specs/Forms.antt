@@ -1,5 +1,5 @@
 -- Forms of lenses as plain trees, and the two types of a form.
-use Rattle.std.specs.Prelude.{ℕ, ◌+◌, if◌then◌else◌, List, [], ◌∷◌}
+use Rattle.std.specs.Prelude.{ℕ, ◌+◌, bytes_eq, if◌then◌else◌, List, [], ◌∷◌}
 use Rattle.texts.specs.Keys.{is_before}
 use Rattle.doc_values.specs.Types.{TyTree, ty_enum, ty_rec, ty_alt, ty_list, ty_keyed, ty_ordered, FieldTrees, no_fields, more_fields, ty_tree, fields_tree}
 use Rattle.lens_forms.specs.declared.form.Form.{Form, fold-Form}
@@ -8,12 +8,13 @@ use Rattle.lens_forms.specs.declared.form.FormRows.{FormRows, fold-FormRows}
 use Rattle.lens_forms.specs.declared.form.FormArms.{FormArms, fold-FormArms}
 use Rattle.lens_forms.specs.declared.form.Form.TheOpen.{Form-F, FormRow-F, FormRows-F, FormArms-F}
 
--- the forms in the order of the grammar; a bijection has its pairs, a partition its tags with their types; a row of a
--- record is paired, or stands on one side alone; an arm of alternatives has its left tag, its right tag and its form
+-- the forms in the order of the grammar; a bijection has its pairs and its initial value on the left, a partition its
+-- tags with their types; a row of a record is paired, or stands on one side alone; an arm of alternatives has its left
+-- tag, its right tag and its form
 mutual
   pub data FormTree : Type 0 where
     form_id : TyTree → FormTree
-    form_bij : List (List ℕ × List ℕ) → FormTree
+    form_bij : List (List ℕ × List ℕ) → List ℕ → FormTree
     form_disc : TyTree → TyTree → FormTree
     form_then : FormTree → FormTree → FormTree
     form_rec : RowTrees → FormTree
@@ -50,6 +51,11 @@ abbrev pub rights : List (List ℕ × List ℕ) → List (List ℕ)
 rights [] = []
 rights (p ∷ ps) = p.1 ∷ rights ps
 
+-- the partner of a left member: the right member of the first pair that has it; of what is no left member, the empty name
+abbrev pub partner_of : List (List ℕ × List ℕ) → List ℕ → List ℕ
+partner_of [] n = []
+partner_of (p ∷ ps) n = if bytes_eq p.0 n then p.1 else partner_of ps n
+
 -- a field put at its place among fields that are sorted by bytes
 abbrev pub insert_field : List ℕ → TyTree → FieldTrees → FieldTrees
 insert_field n t no_fields = more_fields n t no_fields
@@ -66,11 +72,11 @@ lists_of no_fields = no_fields
 lists_of (more_fields n t fs) = more_fields n (ty_list t) (lists_of fs)
 
 -- the two types of a form, a line each for the left and for the right; the fields of a record are sorted by bytes, tags
--- stand in written order
+-- stand in written order; the initial value of a bijection on the right is the partner of that on the left
 abbrev mutual
   pub left_type : FormTree → TyTree
   left_type (form_id t) = t
-  left_type (form_bij ps) = ty_enum (lefts ps)
+  left_type (form_bij ps n) = ty_enum (lefts ps) n
   left_type (form_disc t u) = t
   left_type (form_then l k) = left_type l
   left_type (form_rec rows) = ty_rec (left_fields rows)
@@ -83,7 +89,7 @@ abbrev mutual
 
   pub right_type : FormTree → TyTree
   right_type (form_id t) = t
-  right_type (form_bij ps) = ty_enum (rights ps)
+  right_type (form_bij ps n) = ty_enum (rights ps) (partner_of ps n)
   right_type (form_disc t u) = u
   right_type (form_then l k) = right_type k
   right_type (form_rec rows) = ty_rec (right_fields rows)
@@ -153,7 +159,7 @@ arm_list (more_arms a b l arms) = (a, b, l) ∷ arm_list arms
 -- one level of a `Form`, a `FormRow`, a `FormRows` and a `FormArms`, each form inside already seen as its tree
 abbrev pub form_step : Form-F FormTree RowTree ArmTrees RowTrees → FormTree
 form_step (Form-F.Id t) = form_id (ty_tree t)
-form_step (Form-F.Bij ps) = form_bij ps
+form_step (Form-F.Bij ps n) = form_bij ps n
 form_step (Form-F.Disc t u) = form_disc (ty_tree t) (ty_tree u)
 form_step (Form-F.Then l k) = form_then l.value k.value
 form_step (Form-F.Rec rows) = form_rec rows

@@ -3,14 +3,14 @@ use Rattle.std.specs.Prelude.{ℕ, ◌+◌, length, max}
 use Rattle.doc_values.specs.Types.{TyTree, ty_unit, ty_bool, ty_int, ty_text, ty_enum, ty_rec, ty_alt, ty_list, ty_keyed, ty_ordered, FieldTrees, no_fields, more_fields, names_of}
 use Rattle.lens_forms.specs.Forms.{FormTree, form_id, form_bij, form_disc, form_then, form_rec, form_alt, form_each, form_keyed, form_ordered, form_part, form_inv, RowTrees, no_rows, both, only_left, only_right, row_list, ArmTrees, no_arms, more_arms, arm_list}
 
--- the counted parts of a type: one for each constructor, and one for each field, tag and member
+-- the counted parts of a type: one for each constructor, and one for each field, tag and member; initial values add nothing
 abbrev mutual
   pub type_parts : TyTree → ℕ
   type_parts ty_unit = 1
   type_parts ty_bool = 1
-  type_parts ty_int = 1
-  type_parts ty_text = 1
-  type_parts (ty_enum ms) = length ms + 1
+  type_parts (ty_int z) = 1
+  type_parts (ty_text s) = 1
+  type_parts (ty_enum ms n) = length ms + 1
   type_parts (ty_rec fs) = fields_parts fs + 1
   type_parts (ty_alt fs) = fields_parts fs + 1
   type_parts (ty_list t) = type_parts t + 1
@@ -22,11 +22,11 @@ abbrev mutual
   fields_parts (more_fields n t fs) = type_parts t + 1 + fields_parts fs
 
 -- the counted parts of a form: one for each constructor of a form or a type, and one for each pair, row, arm, field, tag
--- and member; the two names of a pair, a row or an arm add nothing
+-- and member; the two names of a pair, a row or an arm add nothing, nor do initial values
 abbrev mutual
   pub form_parts : FormTree → ℕ
   form_parts (form_id t) = type_parts t + 1
-  form_parts (form_bij ps) = length ps + 1
+  form_parts (form_bij ps n) = length ps + 1
   form_parts (form_disc t u) = type_parts t + type_parts u + 1
   form_parts (form_then l k) = form_parts l + form_parts k + 1
   form_parts (form_rec rows) = rows_parts rows + 1
@@ -51,7 +51,7 @@ abbrev mutual
 abbrev mutual
   pub form_height : FormTree → ℕ
   form_height (form_id t) = 1
-  form_height (form_bij ps) = 1
+  form_height (form_bij ps n) = 1
   form_height (form_disc t u) = 1
   form_height (form_then l k) = max (form_height l) (form_height k) + 1
   form_height (form_rec rows) = highest_row rows + 1
@@ -77,9 +77,9 @@ abbrev mutual
   pub longest_in_type : TyTree → ℕ
   longest_in_type ty_unit = 0
   longest_in_type ty_bool = 0
-  longest_in_type ty_int = 0
-  longest_in_type ty_text = 0
-  longest_in_type (ty_enum ms) = length ms
+  longest_in_type (ty_int z) = 0
+  longest_in_type (ty_text s) = 0
+  longest_in_type (ty_enum ms n) = length ms
   longest_in_type (ty_rec fs) = max (length (names_of fs)) (longest_in_fields fs)
   longest_in_type (ty_alt fs) = max (length (names_of fs)) (longest_in_fields fs)
   longest_in_type (ty_list t) = longest_in_type t
@@ -94,7 +94,7 @@ abbrev mutual
 abbrev mutual
   pub longest_list : FormTree → ℕ
   longest_list (form_id t) = longest_in_type t
-  longest_list (form_bij ps) = length ps
+  longest_list (form_bij ps n) = length ps
   longest_list (form_disc t u) = max (longest_in_type t) (longest_in_type u)
   longest_list (form_then l k) = max (longest_list l) (longest_list k)
   longest_list (form_rec rows) = max (length (row_list rows)) (longest_in_rows rows)

@@ -1,7 +1,8 @@
 -- Typing: which forms are lenses, and from which type to which.
 use Rattle.std.specs.Prelude.{◌≡◌, IsTrue, ℕ, Bool, true, ◌&&◌, List, [], ◌∷◌}
+use Rattle.texts.specs.Keys.{has_name}
 use Rattle.doc_values.specs.Types.{TyTree, ty_enum, ty_rec, ty_alt, ty_list, ty_keyed, ty_ordered, FieldTrees, no_fields, more_fields, names_of, are_distinct, are_choices, is_well_formed, are_well_formed, is_same_ty}
-use Rattle.lens_forms.specs.Forms.{FormTree, form_id, form_bij, form_disc, form_then, form_rec, form_alt, form_each, form_keyed, form_ordered, form_part, form_inv, RowTrees, no_rows, both, only_left, only_right, ArmTrees, no_arms, more_arms, lefts, rights, insert_field, sorted, lists_of, left_type, right_type}
+use Rattle.lens_forms.specs.Forms.{FormTree, form_id, form_bij, form_disc, form_then, form_rec, form_alt, form_each, form_keyed, form_ordered, form_part, form_inv, RowTrees, no_rows, both, only_left, only_right, ArmTrees, no_arms, more_arms, lefts, rights, partner_of, insert_field, sorted, lists_of, left_type, right_type}
 
 -- the names of the left and of the right fields of a record, in written order
 abbrev pub left_names : RowTrees → List (List ℕ)
@@ -27,7 +28,7 @@ right_arms (more_arms a b l arms) = b ∷ right_arms arms
 
 -- The form is a lens from the left type to the right type. A line each:
 -- the identity of a type goes from it to itself; a bijection from the enum of its left members to that of its right
--- members, distinct on each side and at least one; disc between any two types; a composition from the left type of its
+-- members, distinct on each side and at least one, with an initial value that is a left member, and its partner; disc between any two types; a composition from the left type of its
 -- first form to the right type of its second, whose middle types are the same; a record from the record of its left
 -- fields to that of its right fields, distinct on each side; alternatives from the alternatives of their left tags to
 -- those of their right tags, distinct on each side and at least one; a container from the container of the left type
@@ -36,8 +37,9 @@ right_arms (more_arms a b l arms) = b ∷ right_arms arms
 abbrev mutual
   pub IsTyped : FormTree → TyTree → TyTree → Type 0
   IsTyped (form_id t) left right = IsTrue (is_well_formed t) × (left ≡ t) × (right ≡ t)
-  IsTyped (form_bij ps) left right =
-      IsTrue (are_choices (lefts ps)) × IsTrue (are_choices (rights ps)) × (left ≡ ty_enum (lefts ps)) × (right ≡ ty_enum (rights ps))
+  IsTyped (form_bij ps n) left right =
+      IsTrue (are_choices (lefts ps)) × IsTrue (are_choices (rights ps)) × IsTrue (has_name n (lefts ps))
+      × (left ≡ ty_enum (lefts ps) n) × (right ≡ ty_enum (rights ps) (partner_of ps n))
   IsTyped (form_disc t u) left right = IsTrue (is_well_formed t) × IsTrue (is_well_formed u) × (left ≡ t) × (right ≡ u)
   IsTyped (form_then l k) left right = (middle : TyTree) × IsTyped l left middle × IsTyped k middle right
   IsTyped (form_rec rows) left right =
@@ -75,7 +77,7 @@ abbrev mutual
 abbrev mutual
   pub is_typed : FormTree → Bool
   is_typed (form_id t) = is_well_formed t
-  is_typed (form_bij ps) = are_choices (lefts ps) && are_choices (rights ps)
+  is_typed (form_bij ps n) = are_choices (lefts ps) && (are_choices (rights ps) && has_name n (lefts ps))
   is_typed (form_disc t u) = is_well_formed t && is_well_formed u
   is_typed (form_then l k) = (is_typed l && is_typed k) && is_same_ty (right_type l) (left_type k)
   is_typed (form_rec rows) = are_typed_rows rows && (are_distinct (left_names rows) && are_distinct (right_names rows))

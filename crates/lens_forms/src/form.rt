@@ -16,8 +16,8 @@ use texts::{Name, Twin};
 pub enum Form {
     /// The identity of a type.
     Id(Ty),
-    /// Members of an enum joined to members of another.
-    Bij(Pairs),
+    /// Members of an enum joined to members of another, with the initial one on the left.
+    Bij(Pairs, Name),
     /// Two types of which no edit is carried.
     Disc(Ty, Ty),
     /// The first form, and then the second.
@@ -164,7 +164,7 @@ fn copy_form(alloc: Global, form: &Form) -> Result<Form, AllocError>
 {
     match form {
         Form::Id(ty) => Ok(Form::Id(ty.twin(alloc)?)),
-        Form::Bij(pairs) => Ok(Form::Bij(pairs.twin(alloc)?)),
+        Form::Bij(pairs, value) => Ok(Form::Bij(pairs.twin(alloc)?, value.twin(alloc)?)),
         Form::Disc(left, right) => Ok(Form::Disc(left.twin(alloc)?, right.twin(alloc)?)),
         Form::Then(first, second) => {
             let first = Box::new(alloc, copy_form(alloc, first)?)?;
