@@ -14,11 +14,14 @@ use std::alloc::Global;
 use texts::Side;
 use value_json::only_member;
 
+// How many complements may nest: as many as values of JSON may.
+const MOST_LEVELS: u32 = 128;
+
 /// Runs `carry`: the word and the complement, or the fault. It is refused if the lens of the program is not built.
 pub fn run_carry(alloc: Global, case: &Case<'_>) -> Result<Value> {
     let typed = typed(alloc, case.text("program")?)?;
     let side = side(case.argument("side")?)?;
-    let complement = complement_of(alloc, case.argument("complement")?)?;
+    let complement = complement_within(alloc, MOST_LEVELS, case.argument("complement")?)?;
     let word = word_of(alloc, case.argument("edit")?)?;
     carried(alloc, typed.form(), side, &complement, &word)
 }
@@ -42,7 +45,7 @@ fn carried(
 
 fn carried_tree(alloc: Global, carried: &Carried) -> Result<Value> {
     let word = word_tree(alloc, &carried.word)?;
-    let then = complement_tree(alloc, &carried.comp)?;
+    let then = complement_tree(alloc, MOST_LEVELS, &carried.comp)?;
     pair(alloc, ("ok", word), ("then", then))
 }
 
@@ -50,7 +53,7 @@ fn carried_tree(alloc: Global, carried: &Carried) -> Result<Value> {
 pub fn run_missing(alloc: Global, case: &Case<'_>) -> Result<Value> {
     let typed = typed(alloc, case.text("program")?)?;
     let complement = missing(alloc, typed.form())?;
-    ok(alloc, complement_tree(alloc, &complement)?)
+    ok(alloc, complement_tree(alloc, MOST_LEVELS, &complement)?)
 }
 
 /// Runs `is_built`.
@@ -59,41 +62,46 @@ pub fn run_is_built(alloc: Global, case: &Case<'_>) -> Result<Value> {
     ok_bool(alloc, is_built(typed.form()))
 }
 
-// The complement that a tree is: null, or an object with the member `rec`.
-#[cycle(complement_of)]
-fn complement_of(alloc: Global, tree: &Value) -> Result<Comp> {
+// The complement that a tree is, null or an object, with parts on at most so many levels.
+#[cycle(complement)]
+fn complement_within(alloc: Global, levels: u32, tree: &Value) -> Result<Comp> {
     if tree.is_null() {
         return Ok(Comp::Nil);
     }
-    match only_member(tree).context("not a complement")? {
-        ("rec", content) => Ok(Comp::Rec(parts_of(alloc, as_items(content)?)?)),
+    if levels == 0 {
+        bail!("a complement nests too deep");
+    }
+    let (kind, content) = only_member(tree).context("not a complement")?;
+    match kind {
+        "rec" => Ok(Comp::Rec(parts_within(alloc, levels - 1, content)?)),
         _ => bail!("not a kind of complement"),
     }
 }
 
-#[cycle(complement_of)]
-fn parts_of(alloc: Global, items: &[Value]) -> Result<Comps> {
+#[cycle(complement)]
+fn parts_within(alloc: Global, levels: u32, tree: &Value) -> Result<Comps> {
     let mut parts = Vec::new(alloc);
-    for item in items {
-        parts.push(complement_of(alloc, item)?)?;
+    for item in as_items(tree)? {
+        parts.push(complement_within(alloc, levels, item)?)?;
     }
     Ok(Comps::from_vec(parts))
 }
 
-// The tree of a complement: null, or an object with the member `rec`.
+// The tree of a complement: null, or an object with the member `rec`. It is refused if its parts are on more levels.
 #[cycle(complement_tree)]
-fn complement_tree(alloc: Global, complement: &Comp) -> Result<Value> {
+fn complement_tree(alloc: Global, levels: u32, complement: &Comp) -> Result<Value> {
     match complement {
-        Comp::Rec(parts) => parts_tree(alloc, parts),
         Comp::Nil => Ok(Value::Null),
+        Comp::Rec(parts) if levels > 0 => parts_tree(alloc, levels - 1, parts),
+        Comp::Rec(_) => bail!("a complement nests too deep"),
     }
 }
 
 #[cycle(complement_tree)]
-fn parts_tree(alloc: Global, parts: &Comps) -> Result<Value> {
+fn parts_tree(alloc: Global, levels: u32, parts: &Comps) -> Result<Value> {
     let mut items = Vec::new(alloc);
     for part in parts.as_slice() {
-        items.push(complement_tree(alloc, part)?)?;
+        items.push(complement_tree(alloc, levels, part)?)?;
     }
     object(alloc, "rec", Value::Array(items))
 }

@@ -10,14 +10,18 @@ use std::alloc::Global;
 use texts::{Name, Twin};
 use value_json::{only_member, read_doc, write_doc};
 
+// How many built types may nest: as many as values of JSON may.
+const MOST_LEVELS: u32 = 128;
+
 /// Returns the type that a tree is: its text as in a lens program, or an object that says how it is built. It is refused if
 /// it is neither, or if the text is not of a well-formed type.
-#[cycle(ty)]
 pub fn ty_of(alloc: Global, tree: &Value) -> Result<Ty> {
-    match tree.as_str() {
-        Some(text) => written_ty(alloc, text),
-        None => built_ty(alloc, tree),
-    }
+    ty_within(alloc, MOST_LEVELS, tree)
+}
+
+/// Returns the fields that an array has, each a pair of a name and a type. It is refused if an item is not such a pair.
+pub fn fields_of(alloc: Global, tree: &Value) -> Result<Fields> {
+    fields_within(alloc, MOST_LEVELS, tree)
 }
 
 // The type of this text: the left type of its identity.
@@ -27,20 +31,31 @@ fn written_ty(alloc: Global, text: &str) -> Result<Ty> {
     Ok(typed.left().twin(alloc)?)
 }
 
+// The type that a tree is, built on at most so many levels.
 #[cycle(ty)]
-fn built_ty(alloc: Global, tree: &Value) -> Result<Ty> {
+fn ty_within(alloc: Global, levels: u32, tree: &Value) -> Result<Ty> {
+    match tree.as_str() {
+        Some(text) => written_ty(alloc, text),
+        None if levels > 0 => built_ty(alloc, levels - 1, tree),
+        None => bail!("a type nests too deep"),
+    }
+}
+
+// The type that an object builds, of types on at most so many levels.
+#[cycle(ty)]
+fn built_ty(alloc: Global, levels: u32, tree: &Value) -> Result<Ty> {
     let (kind, content) = only_member(tree).context("not a type")?;
     match kind {
         "enum" => Ok(Ty::Enum(names(alloc, content)?)),
-        "rec" => Ok(Ty::Rec(fields_of(alloc, content)?)),
-        "alt" => Ok(Ty::Alt(fields_of(alloc, content)?)),
-        _ => container_ty(alloc, kind, content),
+        "rec" => Ok(Ty::Rec(fields_within(alloc, levels, content)?)),
+        "alt" => Ok(Ty::Alt(fields_within(alloc, levels, content)?)),
+        _ => container_ty(alloc, levels, kind, content),
     }
 }
 
 #[cycle(ty)]
-fn container_ty(alloc: Global, kind: &str, content: &Value) -> Result<Ty> {
-    let inner = Box::new(alloc, ty_of(alloc, content)?)?;
+fn container_ty(alloc: Global, levels: u32, kind: &str, content: &Value) -> Result<Ty> {
+    let inner = Box::new(alloc, ty_within(alloc, levels, content)?)?;
     match kind {
         "list" => Ok(Ty::List(inner)),
         "keyed" => Ok(Ty::Keyed(inner)),
@@ -49,20 +64,19 @@ fn container_ty(alloc: Global, kind: &str, content: &Value) -> Result<Ty> {
     }
 }
 
-/// Returns the fields that an array has, each a pair of a name and a type. It is refused if an item is not such a pair.
 #[cycle(ty)]
-pub fn fields_of(alloc: Global, tree: &Value) -> Result<Fields> {
+fn fields_within(alloc: Global, levels: u32, tree: &Value) -> Result<Fields> {
     let mut fields = Vec::new(alloc);
     for item in as_items(tree)? {
-        fields.push(field_of(alloc, as_items(item)?)?)?;
+        fields.push(field_within(alloc, levels, as_items(item)?)?)?;
     }
     Ok(Fields::from_vec(fields))
 }
 
 #[cycle(ty)]
-fn field_of(alloc: Global, pair: &[Value]) -> Result<(Name, Ty)> {
+fn field_within(alloc: Global, levels: u32, pair: &[Value]) -> Result<(Name, Ty)> {
     match pair {
-        [field, content] => Ok((name(alloc, field)?, ty_of(alloc, content)?)),
+        [field, content] => Ok((name(alloc, field)?, ty_within(alloc, levels, content)?)),
         _ => bail!("a field is a pair"),
     }
 }
