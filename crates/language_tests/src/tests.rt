@@ -13,6 +13,10 @@ use texts::{Name, Twin};
 const EACH_CONSTRUCT: &str =
     "type t = {a: enum[\"on\", \"off\"], b: <p: unit, o: list keyed tree bool>};\nlens l = then(id t, inv disc text int);\nmain {a ~ b: each keyed tree l, left f: t, right g: text, c ~ d: <p ~ q: bij[\"on\"=\"yes\"], r ~ s: part <p: text, o: int>>}";
 
+/// A program with each kind of initial value, in canonical text.
+const INITIAL_VALUES: &str =
+    "main {a ~ b: bij[\"on\"=\"yes\", \"off\"=\"no\"] = \"off\", left c: int = -9223372036854775808, left d: text = \"x\", right e: enum[\"up\", \"down\"] = \"down\"}";
+
 fn name(alloc: Global, text: &str) -> Result<Name, AllocError> {
     Ok(Name::from_string(String::from_str(alloc, text)?))
 }
@@ -24,6 +28,15 @@ fn a_program_and_its_copy(rt: HostRuntime) {
     let copy = program.twin(alloc).expect(&rt, "memory for a copy");
     let text = write_program(alloc, &copy).expect(&rt, "memory for the text");
     assert_eq!(rt; text.as_str(), EACH_CONSTRUCT);
+}
+
+#[test]
+fn initial_values(rt: HostRuntime) {
+    let alloc = rt.alloc();
+    let program = read_program(alloc, INITIAL_VALUES.as_bytes()).expect(&rt, "a program");
+    let copy = program.twin(alloc).expect(&rt, "memory for a copy");
+    let text = write_program(alloc, &copy).expect(&rt, "memory for the text");
+    assert_eq!(rt; text.as_str(), INITIAL_VALUES);
 }
 
 #[test]
@@ -60,9 +73,9 @@ fn definitions_by_name(rt: HostRuntime) {
     let alloc = rt.alloc();
     let mut all = Definitions::new(alloc);
     let t = name(alloc, "t").expect(&rt, "memory for a name");
-    assert_eq!(rt; all.add(t, Def::OfType(TyExpr::Int)), Ok(()));
+    assert_eq!(rt; all.add(t, Def::OfType(TyExpr::Int(0))), Ok(()));
     let t = name(alloc, "t").expect(&rt, "memory for a name");
-    let again = Def::OfLens(Lens::Id(TyExpr::Int));
+    let again = Def::OfLens(Lens::Id(TyExpr::Int(0)));
     assert_eq!(rt; all.add(t, again), Err(AddFault::Repeated));
     assert_eq!(rt; all.len(), 1);
 }
@@ -70,9 +83,9 @@ fn definitions_by_name(rt: HostRuntime) {
 #[test]
 fn types_and_names(rt: HostRuntime) {
     let alloc = rt.alloc();
-    let inner = Box::new(alloc, doc_values::Ty::Int).expect(&rt, "memory for a type");
+    let inner = Box::new(alloc, doc_values::Ty::Int(5)).expect(&rt, "memory for a type");
     let text = write_type(alloc, &doc_values::Ty::List(inner)).expect(&rt, "memory for the text");
-    assert_eq!(rt; text.as_str(), "list int");
+    assert_eq!(rt; text.as_str(), "list int = 5");
     let inv = name(alloc, "inv").expect(&rt, "memory for a name");
     let text = write_name(alloc, &inv).expect(&rt, "memory for the text");
     assert_eq!(rt; text.as_str(), "\"inv\"");

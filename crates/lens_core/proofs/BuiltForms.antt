@@ -1,6 +1,6 @@
 -- Which forms are carried today.
 use Rattle.std.proofs.Common.{◌≡◌, ℕ, Bool, true, false, List, [], ◌∷◌, length, map, get_or, refl, sym, ap}
-use Rattle.std.specs.Prelude.{IsTrue}
+use Rattle.std.specs.Prelude.{IsTrue, pos, zero}
 use Rattle.doc_values.specs.Types.{ty_int}
 use Rattle.lens_forms.specs.Forms.{FormTree, form_id, form_rec, RowTrees, no_rows, both, RowTree, row_both, row_left, row_right, with_row, form_rows_of, row_tree}
 use Rattle.lens_forms.specs.declared.form.FormRow.{FormRow}
@@ -13,7 +13,7 @@ pub record IsPairedInt (form : FormTree) : Type 0 where
   pub is : form ≡ paired_int left right
 
 pub paired_fields : (form : FormTree) → IsTrue (is_paired_int form) → IsPairedInt form
-paired_fields (form_rec (both a b (form_id ty_int) no_rows)) h = record { left = a; right = b; is = refl }
+paired_fields (form_rec (both a b (form_id (ty_int (pos zero))) no_rows)) h = record { left = a; right = b; is = refl }
 paired_fields form h = cc
 
 -- a record of no row or of several is none

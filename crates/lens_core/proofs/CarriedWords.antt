@@ -2,7 +2,7 @@
 use Rattle.std.proofs.Common.{◌≡◌, ℕ, ◌<◌, ◌≤◌, ◌+◌, suc, Bool, true, false, cond, None, Some, option_map, List, [], ◌∷◌, length, map, drop, drop-cons, get_or, add-one, refl, sym, ap, ◌∙◌, arith}
 use Rattle.std.proofs.lemmas.List.{drop_all}
 use Rattle.std.proofs.lemmas.Bool.Decides.{nat_tests}
-use Rattle.std.specs.Prelude.{bytes_eq, nat_eq}
+use Rattle.std.specs.Prelude.{bytes_eq, nat_eq, pos}
 use Rattle.doc_values.specs.Types.{TyTree, ty_int}
 use Rattle.edit_module.specs.Words.{PrimitiveTree, at, WordTree, no_primitives, more_primitives, word_of, joined}
 use Rattle.edit_module.specs.Views.{primitive_tree}
@@ -33,8 +33,8 @@ one_at a b side part f u = go (bytes_eq (near side a b) f) (passes part u) refl 
     go : (x y : Bool) → bytes_eq (near side a b) f ≡ x → passes part u ≡ y
         → translate_one (paired_int a b) side (rec_comp (more_comps part no_comps)) (at f u)
         ≡ cond x (cond y (Some (at_word (far side a b) u, rec_comp (more_comps part no_comps))) None) None
-    go true true e h = rw (e, in_turn-passes ty_int side part u, h) refl
-    go true false e h = rw (e, in_turn-passes ty_int side part u, h) refl
+    go true true e h = rw (e, in_turn-passes (ty_int (pos 0)) side part u, h) refl
+    go true false e h = rw (e, in_turn-passes (ty_int (pos 0)) side part u, h) refl
     go false y e h = rw e refl
 
 count_two : (cs : CompTrees) → nat_eq (count cs + 1 + 1) 1 ≡ false

@@ -1,13 +1,13 @@
 -- The definitions on small cases.
-use Rattle.std.proofs.Common.{◌≡◌, ℕ, true, List, [], ◌∷◌, None, Some, refl}
+use Rattle.std.proofs.Common.{◌≡◌, ℕ, true, false, List, [], ◌∷◌, None, Some, refl}
 use Rattle.std.specs.Prelude.{pos}
 use Rattle.doc_values.specs.Documents.{DocTree, truth, int, rec, no_docs, more_docs}
-use Rattle.doc_values.specs.Types.{ty_int, ty_bool}
+use Rattle.doc_values.specs.Types.{TyTree, ty_int, ty_bool}
 use Rattle.edit_module.specs.Words.{WordTree, set, at, no_primitives, more_primitives}
 use Rattle.edit_module.specs.declared.atom.Atom.TheVariants.{Truth, Number}
 use Rattle.texts.specs.declared.side.Side.TheVariants.{Left, Right}
 use Rattle.lens_forms.specs.Forms.{FormTree, form_id, form_disc, form_rec, no_rows, both, only_left, only_right}
-use Rattle.lens_core.specs.Built.{paired_int}
+use Rattle.lens_core.specs.Built.{paired_int, is_paired_int}
 use Rattle.lens_core.specs.Complements.{CompTree, nil, rec_comp, no_comps, more_comps, missing}
 use Rattle.lens_core.specs.Consistency.{IsConsistent}
 use Rattle.lens_core.specs.Translation.{translate}
@@ -25,16 +25,19 @@ c = 99 ∷ []
 abbrev d : List ℕ
 d = 100 ∷ []
 
+abbrev an_int : TyTree
+an_int = ty_int (pos 0)
+
 -- a ~ b: id int, and a record of b ~ d: id int and a ~ c: id bool
 abbrev one_row : FormTree
 one_row = paired_int a b
 
 abbrev two_rows : FormTree
-two_rows = form_rec (both b d (form_id ty_int) (both a c (form_id ty_bool) no_rows))
+two_rows = form_rec (both b d (form_id an_int) (both a c (form_id ty_bool) no_rows))
 
 -- the same row as one_row, between a left field c and a right field d
 abbrev mixed : FormTree
-mixed = form_rec (only_left c ty_int (both a b (form_id ty_int) (only_right d ty_bool no_rows)))
+mixed = form_rec (only_left c an_int (both a b (form_id an_int) (only_right d ty_bool no_rows)))
 
 abbrev start : CompTree
 start = rec_comp (more_comps nil no_comps)
@@ -68,7 +71,7 @@ far_field = refl
 empty_inner_word : translate one_row Left start (in_field a no_primitives) ≡ Some (no_primitives, start)
 empty_inner_word = refl
 
-of_the_identity : translate (form_id ty_int) Left nil (in_field a no_primitives) ≡ Some (in_field a no_primitives, nil)
+of_the_identity : translate (form_id an_int) Left nil (in_field a no_primitives) ≡ Some (in_field a no_primitives, nil)
 of_the_identity = refl
 
 empty_word : translate one_row Left nil no_primitives ≡ Some (no_primitives, nil)
@@ -123,8 +126,15 @@ other_complement h = h
 
 -- ---- forms that are not carried yet
 
+one_row_is_built : is_paired_int one_row ≡ true
+one_row_is_built = refl
+
+-- a ~ b: id int = 5
+other_value_is_not : is_paired_int (form_rec (both a b (form_id (ty_int (pos 5))) no_rows)) ≡ false
+other_value_is_not = refl
+
 abbrev apart : FormTree
-apart = form_disc ty_int ty_int
+apart = form_disc an_int an_int
 
 nothing_is_kept : missing apart ≡ nil
 nothing_is_kept = refl

@@ -25,9 +25,13 @@ bytes_eq-refl n = (bytes_eq-Decides n n).1 refl
 
 -- ---- records of one int, and their one complement
 
+-- int, whose initial value is 0
+abbrev an_int : TyTree
+an_int = ty_int (pos 0)
+
 -- the record with one field of ints, and one of its documents
 abbrev pub one_type : List ℕ → TyTree
-one_type f = ty_rec (more_fields f ty_int no_fields)
+one_type f = ty_rec (more_fields f an_int no_fields)
 
 abbrev pub one : ℤ → DocTree
 one n = rec (more_docs (int n) no_docs)
@@ -51,24 +55,24 @@ tested_int : (b : Bool) (c : Cause) (n : ℤ) (x : DocTree) → cond b (Ok (int 
 tested_int true c n x e = record { value = n; is = cc }
 tested_int false c n x e = cc
 
-int_step : (p : PrimitiveTree) (v x : DocTree) → act_primitive ty_int p v ≡ Ok x → IsInt x
+int_step : (p : PrimitiveTree) (v x : DocTree) → act_primitive an_int p v ≡ Ok x → IsInt x
 int_step (set (Number n)) v x e = record { value = n; is = cc }
 int_step (add n) (int v) x e = tested_int _ _ _ x e
 int_step p v x e = cc
 
 -- a word on an int leaves an int
-int_stays : (u : WordTree) (n : ℤ) (x : DocTree) → act ty_int u (int n) ≡ Ok x → IsInt x
+int_stays : (u : WordTree) (n : ℤ) (x : DocTree) → act an_int u (int n) ≡ Ok x → IsInt x
 int_stays no_primitives n x e = record { value = n; is = cc }
 int_stays (more_primitives p u) n x e =
-    let a = acts_then ty_int p u (int n) x e in
+    let a = acts_then an_int p u (int n) x e in
     let m = int_step p (int n) a.middle a.first in
-    int_stays u m.value x (subst (λ z. act ty_int u z ≡ Ok x) m.is a.rest)
+    int_stays u m.value x (subst (λ z. act an_int u z ≡ Ok x) m.is a.rest)
 
 -- ---- one primitive
 
 -- a primitive that acts on such a record is an At of its field, with a word that acts on the int
 data ActsAt (f : List ℕ) (n : ℤ) (x : DocTree) : PrimitiveTree → Type 0 where
-  acts_at : (g : List ℕ) (u : WordTree) (m : ℤ) → bytes_eq f g ≡ true → act ty_int u (int n) ≡ Ok (int m) → x ≡ one m → ActsAt f n x (at g u)
+  acts_at : (g : List ℕ) (u : WordTree) (m : ℤ) → bytes_eq f g ≡ true → act an_int u (int n) ≡ Ok (int m) → x ≡ one m → ActsAt f n x (at g u)
 
 put_one : (r : Result DocTree Why) (n : ℤ) (x : DocTree) → map_ok rec (put_result_at (more_docs (int n) no_docs) 0 r) ≡ Ok x
     → (v : DocTree) × (r ≡ Ok v) × (x ≡ rec (more_docs v no_docs))
@@ -79,17 +83,17 @@ acts_on_one : (f : List ℕ) (p : PrimitiveTree) (n : ℤ) (x : DocTree) → act
 acts_on_one f (at g u) n x e = go (bytes_eq f g) refl e
   where
     go : (b : Bool) → bytes_eq f g ≡ b
-        → if_present (cond b (Some (0, ty_int)) (option_map (later_field 1) None)) Cause.Place (λ s. map_ok rec (put_result_at (more_docs (int n) no_docs) s.0 (act s.1 u (doc_at (more_docs (int n) no_docs) s.0)))) ≡ Ok x
+        → if_present (cond b (Some (0, an_int)) (option_map (later_field 1) None)) Cause.Place (λ s. map_ok rec (put_result_at (more_docs (int n) no_docs) s.0 (act s.1 u (doc_at (more_docs (int n) no_docs) s.0)))) ≡ Ok x
         → ActsAt f n x (at g u)
     go true same e =
-        let r = put_one (act ty_int u (int n)) n x e in
+        let r = put_one (act an_int u (int n)) n x e in
         let v = int_stays u n r.0 r.1 in
-        acts_at g u v.value same (subst (λ z. act ty_int u (int n) ≡ Ok z) v.is r.1) (subst (λ z. x ≡ rec (more_docs z no_docs)) v.is r.2)
+        acts_at g u v.value same (subst (λ z. act an_int u (int n) ≡ Ok z) v.is r.1) (subst (λ z. x ≡ rec (more_docs z no_docs)) v.is r.2)
     go false same e = cc
 acts_on_one f p n x e = cc
 
 -- an At of the field acts as its inner word does on the int; where the inner word is empty it may be left out
-at_word_acts : (f : List ℕ) (u : WordTree) (n m : ℤ) → act ty_int u (int n) ≡ Ok (int m) → act (one_type f) (at_word f u) (one n) ≡ Ok (one m)
+at_word_acts : (f : List ℕ) (u : WordTree) (n m : ℤ) → act an_int u (int n) ≡ Ok (int m) → act (one_type f) (at_word f u) (one n) ≡ Ok (one m)
 at_word_acts f no_primitives n m e = let same : int n ≡ int m = cc in ap (λ z. Ok (rec (more_docs z no_docs))) same
 at_word_acts f (more_primitives p u) n m e = rw (bytes_eq-refl f, e) refl
 
@@ -110,7 +114,7 @@ step_at : (side : Side) (a b : List ℕ) (p : PrimitiveTree) (n : ℤ) (x : DocT
 step_at side a b _ n x (acts_at g u m same e is) = record {
   word = at_word (far side a b) u;
   value = m;
-  translated = rw (same, in_turn-id ty_int side u) refl;
+  translated = rw (same, in_turn-id an_int side u) refl;
   acts = at_word_acts (far side a b) u n m e;
   is = is;
 }
@@ -157,7 +161,7 @@ pub record AreOnes (x : DocTree) (c : CompTree) (y : DocTree) : Type 0 where
   pub right_is : y ≡ one value
 
 -- the content of the only field
-content_one : (f : List ℕ) (xs : DocTrees) (n : ℤ) (x : DocTree) → rec xs ≡ one n → content (more_fields f ty_int no_fields) xs f ≡ Some x → x ≡ int n
+content_one : (f : List ℕ) (xs : DocTrees) (n : ℤ) (x : DocTree) → rec xs ≡ one n → content (more_fields f an_int no_fields) xs f ≡ Some x → x ≡ int n
 content_one f (more_docs d ds) n x is e =
     let here : Some d ≡ Some x = rw (bytes_eq-refl f) at e in
     cc
@@ -166,11 +170,11 @@ content_one f no_docs n x is e = cc
 pub ones_of : (a b : List ℕ) (x : DocTree) (c : CompTree) (y : DocTree) → IsConsistent (paired_int a b) x c y → AreOnes x c y
 ones_of a b (rec xs) (rec_comp cs) (rec ys) h = go cs h.1
   where
-    same : (c : CompTree) (x y : DocTree) → IsConsistent (form_id ty_int) x c y → (c ≡ nil) × (x ≡ y)
+    same : (c : CompTree) (x y : DocTree) → IsConsistent (form_id an_int) x c y → (c ≡ nil) × (x ≡ y)
     same nil x y k = (refl, k.1)
     same (rec_comp ds) x y k = absurd k
 
-    go : (cs : CompTrees) → AreConsistent (both a b (form_id ty_int) no_rows) (more_fields a ty_int no_fields) xs cs (more_fields b ty_int no_fields) ys → AreOnes (rec xs) (rec_comp cs) (rec ys)
+    go : (cs : CompTrees) → AreConsistent (both a b (form_id an_int) no_rows) (more_fields a an_int no_fields) xs cs (more_fields b an_int no_fields) ys → AreOnes (rec xs) (rec_comp cs) (rec ys)
     go no_comps k = absurd k
     go (more_comps c no_comps) k =
         let l = has_one a (rec xs) h.0.left_has in

@@ -1,4 +1,4 @@
-//! The form that is carried today: the record of one paired row with `id int`.
+//! The form that is carried today: the record of one paired row with `id int`, whose initial value is 0.
 
 ghost use Rattle.std.specs.Prelude.{◌≡◌, false, MatchOption};
 ghost use Rattle.lens_forms.specs.Forms.{form_tree, row_tree, with_row, no_rows, form_rec};
@@ -9,6 +9,8 @@ use lens_forms::{Form, FormRow};
 use texts::Name;
 
 /// Whether a form is the one that is carried today: the record of one paired row with `id int`, whatever its two fields.
+///
+/// The initial value of the int is 0; a form that declares another one is not carried yet.
 ///
 /// [`record_carry`](crate::record_carry) takes such forms alone. The call does not allocate.
 pub fn is_built(form: &Form) -> bool
@@ -33,7 +35,7 @@ pub(crate) fn paired_fields(form: &Form) -> Option<(&Name, &Name)>
     int_fields(&rows[0])
 }
 
-// The left and the right field, if the row is paired by `id int`.
+// The left and the right field, if the row is paired by `id int`, whose initial value is 0.
 fn int_fields(row: &FormRow) -> Option<(&Name, &Name)>
     ensures { MatchOption result
         (is_paired_int (form_rec (with_row (row_tree row.now) no_rows)) ≡ false)
@@ -42,7 +44,7 @@ fn int_fields(row: &FormRow) -> Option<(&Name, &Name)>
     let FormRow::Both(left, right, Form::Id(ty)) = row else {
         return None;
     };
-    if !ty.is_same(&Ty::Int) {
+    if !ty.is_same(&Ty::Int(0)) {
         return None;
     }
     Some((left, right))

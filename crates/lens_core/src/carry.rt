@@ -83,8 +83,8 @@ impl<T: Drop> From<AllocFailed<T>> for CarryFault {
     }
 }
 
-/// Translates a word of a side, with a complement, by the record of one paired row with `id int`. A caller tests with
-/// [`is_built`](crate::is_built) that the form is one.
+/// Translates a word of a side, with a complement, by the record of one paired row with `id int`, whose initial value
+/// is 0. A caller tests with [`is_built`](crate::is_built) that the form is one.
 ///
 /// docs/MEANING.md says what a translation is: each primitive after the other, the complement handed along.
 ///
