@@ -5,7 +5,7 @@ use Rattle.edit_module.specs.declared.fault.Cause.TheVariants.{Kind, Place, Tag,
 use Rattle.edit_journal.specs.declared.fault.EntryFault.{EntryFault}
 use Rattle.edit_journal.specs.declared.fault.EntryFault.TheVariants as of_entries
 use Rattle.lens_syntax.specs.Programs.{ProgramCause, too_long, not_a_program, unknown_name, repeated_name}
-use Rattle.lens_types.specs.Checking.{Failure, middle_differs, repeated_field, repeated_tag, repeated_member, too_large, too_deep}
+use Rattle.lens_types.specs.Checking.{Failure, middle_differs, repeated_field, repeated_tag, repeated_member, not_a_member, too_large, too_deep}
 use Rattle.program_writing.specs.Canonical.{canonical_name, canonical_type}
 
 -- why a primitive does not apply
@@ -41,5 +41,6 @@ typing_reason (middle_differs left right) = codes "middle-differs " ++ canonical
 typing_reason (repeated_field name) = codes "repeated-field " ++ canonical_name name
 typing_reason (repeated_tag name) = codes "repeated-tag " ++ canonical_name name
 typing_reason (repeated_member name) = codes "repeated-member " ++ canonical_name name
+typing_reason (not_a_member name) = codes "not-a-member " ++ canonical_name name
 typing_reason too_large = codes "too-large"
 typing_reason too_deep = codes "too-deep"

@@ -36,10 +36,11 @@ pub fn syntax_line(alloc: Global, fault: &ProgramFault) -> Result<Bytes, AllocEr
 
 /// `program refused: REASON` and a line feed: a program has no type.
 ///
-/// The reasons are `middle-differs TYPE TYPE` with types in canonical text; `repeated-field NAME`,
-/// `repeated-tag NAME` and `repeated-member NAME` with a name as a field is written in canonical
-/// text; `too-large`; and `too-deep`. The fault is not that memory ran out, which says nothing of
-/// the program. The only error is running out of memory.
+/// The reasons are `middle-differs TYPE TYPE` with types in canonical text, which shows their
+/// declared initial values; `repeated-field NAME`, `repeated-tag NAME`, `repeated-member NAME` and
+/// `not-a-member NAME` with a name as a field is written in canonical text; `too-large`; and
+/// `too-deep`. The fault is not that memory ran out, which says nothing of the program. The only
+/// error is running out of memory.
 pub fn typing_line(alloc: Global, fault: &TypeFault) -> Result<Bytes, AllocError>
     requires of_the_program { fault.now ≢ TypeFault.NoMemory }
 
@@ -52,6 +53,7 @@ pub fn typing_line(alloc: Global, fault: &TypeFault) -> Result<Bytes, AllocError
         TypeFault::RepeatedField { name } => name_line(alloc, "repeated-field", name),
         TypeFault::RepeatedTag { name } => name_line(alloc, "repeated-tag", name),
         TypeFault::RepeatedMember { name } => name_line(alloc, "repeated-member", name),
+        TypeFault::NotAMember { name } => name_line(alloc, "not-a-member", name),
         TypeFault::TooLarge => program_refused_line(alloc, "too-large"),
         TypeFault::TooDeep => program_refused_line(alloc, "too-deep"),
         TypeFault::NoMemory => unreachable!(),

@@ -14,8 +14,8 @@ use std::alloc::{AllocError, Global};
 use texts::{Bytes, Side};
 use value_json::write_compact;
 
-/// `left TYPE` or `right TYPE` and a line feed: the type of this side, in canonical text. The only
-/// error is running out of memory.
+/// `left TYPE` or `right TYPE` and a line feed: the type of this side, in canonical text, which
+/// shows the declared initial values. The only error is running out of memory.
 pub fn type_line(alloc: Global, side: Side, ty: &Ty) -> Result<Bytes, AllocError>
     ensures line { IfOk result (λ line. line ≡ type_line side (ty_tree ty.now)) }
 {
