@@ -1,6 +1,6 @@
 -- A word that the lens carries has counts that fit, where those of the edit fit.
 use Rattle.std.proofs.Common.{◌≡◌, List, ℕ, Bool, true, false, cond, Option, None, Some, option_map, IsTrue, refl, subst}
-use Rattle.std.specs.Prelude.{option_and_then, ◌&&◌}
+use Rattle.std.specs.Prelude.{pos, option_and_then, ◌&&◌}
 use Rattle.doc_values.specs.Types.{TyTree, ty_int}
 use Rattle.edit_module.specs.Words.{PrimitiveTree, at, WordTree, no_primitives, more_primitives, joined}
 use Rattle.texts.specs.declared.side.Side.{Side}
@@ -64,7 +64,7 @@ row_fits false here n c cs o r h e = cc
 
 record_fits : (a b : List ℕ) (side : Side) (c : CompTree) (p : PrimitiveTree) (r : Translated) → primitive_counts_fit p ≡ true → translate_one (paired_int a b) side c p ≡ Some r → counts_fit r.0 ≡ true
 record_fits a b side (rec_comp (more_comps c cs)) (at f u) r h e =
-    row_fits _ _ _ c cs _ r (λ t is. turn_fits (λ d p. translate_one (form_id ty_int) side d p) (id_fits ty_int side) c u t h is) e
+    row_fits _ _ _ c cs _ r (λ t is. turn_fits (λ d p. translate_one (form_id (ty_int (pos 0))) side d p) (id_fits (ty_int (pos 0)) side) c u t h is) e
 record_fits a b side (rec_comp no_comps) (at f u) r h e = cc
 record_fits a b side c p r h e = cc
 

@@ -1,5 +1,5 @@
 -- What stands at each end of a run.
-use Rattle.std.proofs.Common.{◌≡◌, ◌⊎◌, inl, inr, ℕ, ◌+◌, ◌^◌, ◌<◌, ◌≤◌, List, ◌++◌, length, Bool, true, false, cond, Option, Some, None, option_map, Result, Ok, Err, IsTrue, IfSome, refl, sym, ap, subst, ◌∙◌, append-nil, length-append, arith}
+use Rattle.std.proofs.Common.{◌≡◌, ◌⊎◌, inl, inr, ℕ, ◌+◌, ◌^◌, ◌<◌, ◌≤◌, List, ◌++◌, length, Bool, true, false, cond, Option, Some, None, Result, Ok, Err, IsTrue, IfSome, refl, sym, ap, subst, ◌∙◌, append-nil, length-append, arith}
 use Rattle.std.specs.Io.KnownBytes.{Appends, Consumes, IsAtEnd}
 use Rattle.std.proofs.KnownBytes.{Appends-nil}
 use Rattle.lens_io.specs.Causes.{Increased}
@@ -7,6 +7,7 @@ use Rattle.lens_io.specs.Content.{AppendsFront}
 use Rattle.lens_io.specs.Takes.{Takes}
 use Rattle.lens_io.specs.declared.failed.TakeFault.{TakeFault}
 use Rattle.lens_io.specs.declared.failed.TakeFault.TheVariants as taking
+use Rattle.value_json.proofs.Facts.{map_some}
 use Rattle.lens_forms.specs.Forms.{FormTree}
 use Rattle.lens_core.specs.Built.{is_paired_int}
 use Rattle.editlens_main.specs.Lines.{program_part}
@@ -48,10 +49,6 @@ finished : (b : Bool) → IsFinished (ending b)
 finished true = inr refl
 finished false = inl refl
 
-mapped : {X Y : Type 0} (f : X → Y) (o : Option X) (y : Y) → option_map f o ≡ Some y → (x : X) × (o ≡ Some x) × (f x ≡ y)
-mapped f None y h = cc
-mapped f (Some x) y h = (x, refl, let e : f x ≡ y = cc in e)
-
 -- A report of an accepted program part ends with `Done` or `SomeRefused`; any other is the line of a refusal.
 abbrev pub Accepted : Result FormTree Refusal → Status → Type 0
 Accepted outcome status = (f : FormTree) × (outcome ≡ Ok f) × IsFinished status
@@ -64,7 +61,7 @@ pub ended : (command : Command) (outcome : Result FormTree Refusal) (items : Lis
 ended Run (Ok form) items text status h =
     let answer : List (TripleTree × AnswerTree) → List ℕ × Status =
     λ steps. (answer_lines 1 steps ++ state_lines form (last (first form) steps), ending (any_refused steps)) in
-    let steps = mapped answer (run form (first form) items) (text, status) h in
+    let steps = map_some answer (run form (first form) items) (text, status) h in
     inl (form, refl, subst IsFinished (ap (λ (r : List ℕ × Status). r.1) steps.2) (finished (any_refused steps.0)))
 ended Check (Ok form) items text status h =
     let same : (type_lines form, Done) ≡ (text, status) = cc in

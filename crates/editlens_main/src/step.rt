@@ -37,6 +37,9 @@ pub enum Answer {
 
 /// Applies an entry to the triple, and returns the answer to it. The only error is running out of memory, which leaves the
 /// triple as it was.
+///
+/// A new document shares with the old one all that its word does not change, so a step copies the paths of two edits and
+/// not the documents.
 pub fn step(
     alloc: Global,
     lens: &Typed,

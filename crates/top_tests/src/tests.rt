@@ -75,11 +75,11 @@ fn refusals_and_types_are_lines(rt: HostRuntime) -> Result<(), Fail> {
     let line = syntax_line(alloc, &ProgramFault::RepeatedName { at: 19 });
     assert!(rt; shows(line, "program refused: repeated-name 19\n"));
     let fault = TypeFault::MiddleDiffers {
-        left: Ty::Int,
-        right: Ty::Text,
+        left: Ty::Int(5),
+        right: Ty::Int(0),
     };
     let line = typing_line(alloc, &fault);
-    assert!(rt; shows(line, "program refused: middle-differs int text\n"));
+    assert!(rt; shows(line, "program refused: middle-differs int = 5 int\n"));
     assert!(rt; shows(type_line(alloc, Side::Right, &Ty::Bool), "right bool\n"));
     assert!(rt;
         shows(
