@@ -2,6 +2,9 @@ mod Examples
 pub mod MovedDepths
 pub mod Nodes
 pub mod OldPlaces
+pub mod Pieces
+pub mod PlanOrigins
+pub mod RunOrigins
 pub mod SharedItems
 pub mod ChildPlaces
 pub mod ValidDepths

@@ -29,7 +29,8 @@ pub trait Held: Sized + Twin {
     /// What the edit makes of the shape, by docs/EDITS.md.
     ///
     /// An error is the first cause of that page that applies, or `NoMemory` if memory ran out.
-    /// Nothing is changed in either case. Time and memory grow with the sizes of shape and edit.
+    /// Nothing is changed in either case. One `NoMemory` is known beforehand, since origins are kept as runs
+    /// and take no memory for each place: a list's new count that does not fit in 64 bits.
     fn plan(&self, alloc: Global, edit: &ShapeEdit) -> Result<Plan<Self>, PlanFault>
         ensures { MatchResult result
             (λ p. plan_of (shape_of self.now) edit.now ≡ Ok (shape_of p.shape, p.from))

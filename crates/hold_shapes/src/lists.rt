@@ -8,23 +8,13 @@ ghost use Rattle.hold_shapes.specs.Plans.{plan_list, old_places, list_of, is_eac
 use crate::origins::{Origin, Origins};
 use crate::places::Places;
 use crate::plan::{Plan, PlanFault};
+use crate::plan_origins::{and_fresh, move_one, old_places};
+use crate::run::Run;
 use crate::shape::ListShape;
 use std::alloc::{AllocError, Global};
 
 /// The most items that one edit adds or removes.
 const MOST_ITEMS: u32 = 65536;
-
-// The first old places in order.
-#[tactic(auto, using(crate::proofs::OldPlaces::old_rules))]
-pub(crate) fn old_places(alloc: Global, count: u64) -> Result<Vec<Origin>, AllocError>
-    ensures { IfOk result (λ v. v.items ≡ old_places count) }
-{
-    let mut from = Vec::new(alloc);
-    for place in 0..count {
-        from.push(Origin::Old(place))?;
-    }
-    Ok(from)
-}
 
 // Fresh items at the end.
 #[tactic(auto, using(crate::proofs::OldPlaces::old_rules))]
@@ -40,17 +30,9 @@ pub(crate) fn insert_items(
     if count < 1 || count > MOST_ITEMS {
         return Err(PlanFault::Range);
     }
-    let mut from = old_places(alloc, size)?;
-    for _ in 0..count {
-        from.push(Origin::Fresh)?;
-    }
-    let shape = ListShape {
-        count: from.len() as u64,
-    };
-    Ok(Plan {
-        shape,
-        from: Origins::from_vec(alloc, from)?,
-    })
+    let from = and_fresh(alloc, size, count as u64)?;
+    let shape = ListShape { count: from.len() };
+    Ok(Plan { shape, from })
 }
 
 // The last items are removed.
@@ -70,7 +52,7 @@ pub(crate) fn delete_items(
     let from = old_places(alloc, left)?;
     Ok(Plan {
         shape: ListShape { count: left },
-        from: Origins::from_vec(alloc, from)?,
+        from,
     })
 }
 
@@ -89,12 +71,10 @@ pub(crate) fn move_item(
     if at >= size || to >= size {
         return Err(PlanFault::Place);
     }
-    let mut from = old_places(alloc, size)?;
-    from.remove(at as usize);
-    from.insert(to as usize, Origin::Old(at))?;
+    let from = move_one(alloc, size, at, to)?;
     Ok(Plan {
         shape: ListShape { count: size },
-        from: Origins::from_vec(alloc, from)?,
+        from,
     })
 }
 
@@ -118,12 +98,13 @@ fn is_order(alloc: Global, places: &[u64], size: u64) -> Result<bool, AllocError
 }
 
 // The places as origins.
-fn origins_of(alloc: Global, places: &[u64]) -> Result<Vec<Origin>, AllocError>
-    ensures { IfOk result (λ v. v.items ≡ map Old places.now) }
+#[tactic(auto, using(crate::proofs::OldPlaces::old_rules))]
+fn origins_of(alloc: Global, places: &[u64]) -> Result<Origins, AllocError>
+    ensures { IfOk result (λ from. from ≡ map Old places.now) }
 {
-    let mut from = Vec::new(alloc);
+    let mut from = Origins::empty(alloc);
     for place in places {
-        from.push(Origin::Old(*place))?;
+        from.push(Run::of_one(Origin::Old(*place)))?;
     }
     Ok(from)
 }
@@ -148,6 +129,6 @@ pub(crate) fn reorder(
     let from = origins_of(alloc, places)?;
     Ok(Plan {
         shape: ListShape { count: size },
-        from: Origins::from_vec(alloc, from)?,
+        from,
     })
 }

@@ -1,8 +1,8 @@
-//! Where each place of a new shape comes from, and the content that it then has.
-ghost use Rattle.std.specs.Prelude.{◌≡◌, ◌↔◌, ◌<◌, ℕ, Some, IfOk, IsTrue, All, List, map, length, slice_get};
-ghost use Rattle.hold_shapes.specs.Gather.{content_at, IsBelow};
+//! Where each place of a new shape comes from.
+ghost use Rattle.std.specs.Prelude.{◌≡◌, ◌↔◌, ◌<◌, ◌^◌, ◌++◌, ◌∷◌, [], Some, IfOk, IfSome, OnOk, OnErr, IsTrue, length, slice_get};
+ghost use Rattle.hold_shapes.specs.Runs.{all_origins};
 
-use shared_lists::SharedList;
+use crate::run::Run;
 use std::alloc::{AllocError, Global};
 use std::marker::Model;
 use texts::Twin;
@@ -29,35 +29,85 @@ impl Twin for Origin {
 }
 
 /// The origin of each place of a new shape, in order.
+///
+/// Contracts see it as the list of its origins. They are kept as runs, so that many places which follow one
+/// another in the old shape, or are fresh, take no more memory than one.
 #[derive(Debug, Drop)]
 pub struct Origins {
-    items: Vec<Origin>,
+    runs: Vec<Run>,
+    count: u64,
 }
 
 impl Model for Origins {
-    ghost use Rattle.std.specs.Prelude.{List};
+    ghost use Rattle.std.specs.Prelude.{◌≡◌, List, length};
     ghost use Rattle.hold_shapes.specs.declared.origins.Origin.{Origin};
 
     ghost Value = { List Origin };
 
-    ghost view = { λ n. n.items.items };
+    ghost use Rattle.hold_shapes.specs.Runs.{all_origins};
+
+    ghost view = { λ o. all_origins o.runs.items };
+
+    ghost invariant = { λ o. o.count ≡ length (all_origins o.runs.items) };
 }
 
 impl Origins {
     /// The origins of a vector, in its order.
     ///
-    /// The only refusal is running out of memory; the vector is then dropped.
-    pub fn from_vec(_alloc: Global, items: Vec<Origin>) -> Result<Self, AllocError>
+    /// The only refusal is running out of memory.
+    pub fn from_vec(alloc: Global, items: Vec<Origin>) -> Result<Self, AllocError>
         ensures { IfOk result (λ from. from ≡ items.items) }
     {
-        Ok(Origins { items })
+        let mut from = Origins::empty(alloc);
+        for origin in items.as_slice() {
+            from.push(Run::of_one(*origin))?;
+        }
+        Ok(from)
+    }
+
+    /// The origins of some runs, one run after another.
+    ///
+    /// A number of origins that does not fit in 64 bits is refused as running out of memory.
+    #[tactic(auto, using(crate::proofs::RunOrigins::list_rules))]
+    pub(crate) fn of_runs(alloc: Global, runs: &[Run]) -> Result<Self, AllocError>
+        ensures { IfOk result (λ from. from ≡ all_origins runs.now) }
+    {
+        let mut from = Origins::empty(alloc);
+        for run in runs {
+            from.push(run.copy())?;
+        }
+        Ok(from)
+    }
+
+    /// No origins. Does not allocate.
+    pub(crate) fn empty(alloc: Global) -> Origins
+        ensures { result ≡ [] }
+    {
+        Origins {
+            runs: Vec::new(alloc),
+            count: 0,
+        }
+    }
+
+    /// Puts the origins of a run at the end. It becomes one with the last run if it goes on from there.
+    ///
+    /// A number of origins that does not fit in 64 bits is refused as running out of memory.
+    pub(crate) fn push(&mut self, run: Run) -> Result<(), AllocError>
+        ensures pushed { OnOk result (self.new ≡ self.old ++ run) }
+    {
+        let Some(count) = self.count.checked_add(run.len()) else {
+            return Err(AllocError);
+        };
+        push_run(&mut self.runs, run)?;
+        self.count = count;
+        Ok(())
     }
 
     /// How many origins there are.
     pub fn len(&self) -> u64
         ensures { result ≡ length self.now }
     {
-        self.items.len() as u64
+        self.count
     }
 
     /// Whether there are no origins.
@@ -67,12 +117,33 @@ impl Origins {
         self.len() == 0
     }
 
+    /// The runs, one after another.
+    pub(crate) fn runs(&self) -> &[Run]
+        ensures value { all_origins result.now ≡ self.now }
+        ensures fits { length self.now < 2 ^ 64 }
+    {
+        let _count = self.count;
+        self.runs.as_slice()
+    }
+
     /// The origin of a place. Places are counted from 0.
+    ///
+    /// It goes over the runs from the first one on.
+    #[tactic(auto, using(crate::proofs::RunOrigins::list_rules))]
     pub fn get(&self, place: u64) -> Origin
         requires { place < length self.now }
         ensures { slice_get self.now place ≡ Some result }
     {
-        self.items[place as usize]
+        let runs = self.runs();
+        let mut left = place;
+        for i in 0..runs.len() {
+            let run = &runs[i];
+            if left < run.len() {
+                return run.get(left);
+            }
+            left -= run.len();
+        }
+        unreachable!()
     }
 }
 
@@ -85,48 +156,23 @@ impl Twin for Origins {
     ghost meaning = { λ n. n };
 
     fn twin(&self, alloc: Global) -> Result<Self, AllocError> {
-        Ok(Origins {
-            items: Vec::from_slice(alloc, self.items.as_slice())?,
-        })
+        Origins::of_runs(alloc, self.runs())
     }
 }
 
-/// The items of a new container: at each place the item at its old place, or `fresh`.
-///
-/// Each old place must be below the number of items. The only refusal is running out of memory.
-pub fn gather<T: Twin>(
-    alloc: Global,
-    from: &Origins,
-    items: &SharedList<T>,
-    fresh: &T,
-) -> Result<SharedList<T>, AllocError>
-where
-    T: Drop,
-    requires { All (IsBelow (length items.now)) from.now }
-    ensures { IfOk result (λ list. map T.meaning list
-        ≡ map (content_at (map T.meaning items.now) (T.meaning fresh.now)) from.now) }
+// Puts a run behind others. It becomes one with the last of them if it goes on from there.
+#[tactic(auto, using(crate::proofs::RunOrigins::push_rules))]
+fn push_run(runs: &mut Vec<Run>, run: Run) -> Result<(), AllocError>
+    ensures pushed { OnOk result (all_origins runs.new.items ≡ all_origins runs.old.items ++ run) }
+    ensures unchanged { OnErr result (runs.new.items ≡ runs.old.items) }
 {
-    let mut all = Vec::new(alloc);
-    for origin in from.items.as_slice() {
-        all.push(content(alloc, *origin, items, fresh)?)?;
+    let number = runs.len();
+    if number > 0 {
+        if let Some(both) = runs[number - 1].joined(&run) {
+            runs[number - 1] = both;
+            return Ok(());
+        }
     }
-    SharedList::from_vec(alloc, all)
-}
-
-// A copy of the item at an old place, or of the fresh one.
-#[tactic(auto, using(crate::proofs::SharedItems::item_rules))]
-fn content<T: Twin>(
-    alloc: Global,
-    origin: Origin,
-    items: &SharedList<T>,
-    fresh: &T,
-) -> Result<T, AllocError>
-    requires { IsBelow (length items.now) origin }
-    ensures { IfOk result (λ t. T.meaning t
-        ≡ content_at (map T.meaning items.now) (T.meaning fresh.now) origin) }
-{
-    match origin {
-        Origin::Old(place) => items.get(place as usize).twin(alloc),
-        Origin::Fresh => fresh.twin(alloc),
-    }
+    runs.push(run)?;
+    Ok(())
 }

@@ -34,7 +34,8 @@ pub(crate) fn without_item<T: Drop>(
     at: usize,
 ) -> Result<SharedList<T>, AllocError>
     requires { at < length items.now }
-    ensures { IfOk result (λ list. list ≡ remove items.now at) }
+    ensures items { IfOk result (λ list. list ≡ remove items.now at) }
+    ensures size { IfOk result (λ list. length list + 1 ≡ length items.now) }
 {
     let mut left = items.copy(alloc)?;
     left.delete(alloc, at, 1)?;

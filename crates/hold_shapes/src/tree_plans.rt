@@ -4,49 +4,17 @@ ghost use Rattle.hold_shapes.specs.declared.shape.Shape.TheVariants.{Tree as Tre
 ghost use Rattle.hold_shapes.specs.declared.edit.ShapeEdit.TheVariants.{Graft, Prune, Shift, Hang};
 ghost use Rattle.hold_shapes.specs.Trees.{child};
 ghost use Rattle.hold_shapes.specs.Causes.{IsRefusal};
-ghost use Rattle.hold_shapes.specs.Plans.{plan_tree, remove_part, insert_part, move_part, place_for_child, allowed_depths};
+ghost use Rattle.hold_shapes.specs.Plans.{plan_tree, old_places, move_part, place_for_child, allowed_depths};
 
-use crate::lists::old_places;
-use crate::origins::{Origin, Origins};
+use crate::origins::Origins;
 use crate::parts::{insert_part, move_part, remove_part, with_item};
 use crate::path::Path;
 use crate::plan::{Plan, PlanFault};
+use crate::plan_origins::{self, with_fresh, without_part};
 use crate::shape::TreeShape;
 use crate::trees::{child, children, depth_at, end, node};
 use shared_lists::SharedList;
 use std::alloc::{AllocError, Global};
-
-// A list without the part between two places.
-fn remove_places<T: Copy>(
-    alloc: Global,
-    items: &[T],
-    from: usize,
-    to: usize,
-) -> Result<Vec<T>, AllocError>
-    requires order { from ≤ to }
-    requires within { to ≤ length items.now }
-    ensures { IfOk result (λ v. v.items ≡ remove_part from to items.now) }
-{
-    let mut left = Vec::from_slice(alloc, &items[..from])?;
-    left.extend_from_slice(&items[to..])?;
-    Ok(left)
-}
-
-// A list with a part inserted at a place.
-fn insert_places<T: Copy>(
-    alloc: Global,
-    at: usize,
-    part: &[T],
-    items: &[T],
-) -> Result<Vec<T>, AllocError>
-    requires { at ≤ length items.now }
-    ensures { IfOk result (λ v. v.items ≡ insert_part at part.now items.now) }
-{
-    let mut all = Vec::from_slice(alloc, &items[..at])?;
-    all.extend_from_slice(part)?;
-    all.extend_from_slice(&items[at..])?;
-    Ok(all)
-}
 
 // A fresh node as the last child of a node.
 #[tactic(auto, using(crate::proofs::ValidDepths::valid_rules, crate::proofs::OldPlaces::old_rules))]
@@ -68,12 +36,11 @@ pub(crate) fn graft(
         return Err(PlanFault::Deep);
     }
     let to = end(depths, at);
-    let mut from = old_places(alloc, depths.len() as u64)?;
-    from.insert(to, Origin::Fresh)?;
+    let from = with_fresh(alloc, depths.len() as u64, to as u64)?;
     let grown = with_item(alloc, depths, to, depth + 1)?;
     Ok(Plan {
         shape: TreeShape::of_valid(grown),
-        from: Origins::from_vec(alloc, from)?,
+        from,
     })
 }
 
@@ -100,30 +67,34 @@ pub(crate) fn prune(
         return Err(PlanFault::Range);
     };
     let to = end(depths, last);
-    let from = old_places(alloc, depths.len() as u64)?;
-    let from = remove_places(alloc, from.as_slice(), last, to)?;
+    let from = without_part(alloc, depths.len() as u64, last as u64, to as u64)?;
     let left = remove_part(alloc, depths, last, to)?;
     Ok(Plan {
         shape: TreeShape::of_valid(left),
-        from: Origins::from_vec(alloc, from)?,
+        from,
     })
 }
 
-// A list with the part between two places moved to a place of the rest.
-fn move_places<T: Copy>(
+// The origins after the subtree between two places is moved to a place of the rest.
+fn moved_nodes(
     alloc: Global,
-    items: &[T],
+    depths: &SharedList<u64>,
     from: usize,
     to: usize,
     at: usize,
-) -> Result<Vec<T>, AllocError>
+) -> Result<Origins, AllocError>
     requires order { from ≤ to }
-    requires within { to ≤ length items.now }
-    requires place { at + (to - from) ≤ length items.now }
-    ensures { IfOk result (λ v. v.items ≡ move_part from to at items.now) }
+    requires within { to ≤ length depths.now }
+    requires place { at + (to - from) ≤ length depths.now }
+    ensures { IfOk result (λ origins. origins ≡ move_part from to at (old_places (length depths.now))) }
 {
-    let rest = remove_places(alloc, items, from, to)?;
-    insert_places(alloc, at, &items[from..to], rest.as_slice())
+    plan_origins::move_part(
+        alloc,
+        depths.len() as u64,
+        from as u64,
+        to as u64,
+        at as u64,
+    )
 }
 
 // The place of a child of a node; without such a child, the place that a new last one has.
@@ -167,12 +138,11 @@ pub(crate) fn shift(
     let after = end(depths, place);
     let rest = remove_part(alloc, depths, place, after)?;
     let target = place_for_child(&rest, at, to);
-    let from = old_places(alloc, depths.len() as u64)?;
-    let from = move_places(alloc, from.as_slice(), place, after, target)?;
+    let from = moved_nodes(alloc, depths, place, after, target)?;
     let shifted = move_part(alloc, depths, place, after, target)?;
     Ok(Plan {
         shape: TreeShape::of_valid(shifted),
-        from: Origins::from_vec(alloc, from)?,
+        from,
     })
 }
 
@@ -228,11 +198,10 @@ pub(crate) fn hang(
     let part = depths.part(alloc, top, after - top)?;
     let block = moved_depths(alloc, &part, depth_at(depths, top), depth_at(&rest, at))?;
     let target = end(&rest, at);
-    let from = old_places(alloc, depths.len() as u64)?;
-    let from = move_places(alloc, from.as_slice(), top, after, target)?;
+    let from = moved_nodes(alloc, depths, top, after, target)?;
     let grown = insert_part(alloc, target, &block, &rest)?;
     Ok(Plan {
         shape: TreeShape::of_valid(grown),
-        from: Origins::from_vec(alloc, from)?,
+        from,
     })
 }

@@ -4,9 +4,8 @@
 #![tactic(auto)]
 
 use anyhow::{Context, bail};
-use hold_shapes::{
-    Depths, Held, KeyedShape, ListShape, Name, Names, Path, Places, Shape, ShapeEdit, TreeShape,
-};
+use hold_shapes::{Held, KeyedShape, ListShape, Name, Path, Places, Shape, ShapeEdit, TreeShape};
+use shared_lists::SharedList;
 use std::alloc::{AllocError, Global};
 use std::env;
 
@@ -86,7 +85,7 @@ fn keyed_task(alloc: Global, size: u64) -> Result<Option<Task>, AllocError> {
     }
     let old = Name::from_string(String::from_str(alloc, "00000000")?);
     let new = Name::from_string(String::from_str(alloc, "last")?);
-    match KeyedShape::from_names(Names::from_vec(names)) {
+    match KeyedShape::from_names(SharedList::from_vec(alloc, names)?) {
         Some(keys) => Ok(Some(Task {
             shape: keys.into_shape(),
             edit: ShapeEdit::RenameKey(old, new),
@@ -101,7 +100,7 @@ fn tree_task(alloc: Global, size: u64, edit: ShapeEdit) -> Result<Option<Task>, 
     for number in 0..size {
         depths.push(if number == 0 { 0 } else { 2 - number % 2 })?;
     }
-    match TreeShape::from_depths(Depths::from_vec(depths)) {
+    match TreeShape::from_depths(SharedList::from_vec(alloc, depths)?) {
         Some(tree) => Ok(Some(Task {
             shape: tree.into_shape(),
             edit,

@@ -8,10 +8,11 @@ ghost use Rattle.hold_shapes.specs.Plans.{plan as plan_of};
 ghost use Rattle.hold_shapes.specs.Gather.{content_at};
 
 use hold_shapes::{
-    Depths, Held, KeyedShape, ListShape, Origin, Origins, Path, Place, PlanFault, Shape, ShapeEdit,
+    Held, KeyedShape, ListShape, Origin, Origins, Path, Place, PlanFault, Shape, ShapeEdit,
     TreeShape, gather,
 };
 use shape_laws::plans_are_lawful;
+use shared_lists::SharedList;
 use std::alloc::{AllocError, Global};
 use std::test::Fail;
 use texts::{Name, Names, Str, Twin, twin_all};
@@ -27,20 +28,20 @@ fn text(alloc: Global, text: &str) -> Result<Str, AllocError> {
 // The keys "a" and "c".
 fn keyed(alloc: Global) -> Result<Option<KeyedShape>, AllocError> {
     let names = vec![in alloc; name(alloc, "a")?, name(alloc, "c")?]?;
-    Ok(KeyedShape::from_names(Names::from_vec(names)))
+    Ok(KeyedShape::from_names(SharedList::from_vec(alloc, names)?))
 }
 
 // A root with two leaves.
 fn tree(alloc: Global) -> Result<Option<TreeShape>, AllocError> {
     let depths = Vec::from_slice(alloc, &[0, 1, 1])?;
-    Ok(TreeShape::from_depths(Depths::from_vec(depths)))
+    Ok(TreeShape::from_depths(SharedList::from_vec(alloc, depths)?))
 }
 
 // Origins written one after another: a number for an old place, a star for a fresh one.
 fn written(alloc: Global, from: &Origins) -> Result<String, AllocError> {
     let mut origins = String::new(alloc);
-    for origin in from.as_slice() {
-        match origin.twin(alloc)? {
+    for place in 0..from.len() {
+        match from.get(place).twin(alloc)? {
             Origin::Old(place) => origins.push_str(format!(in alloc; "{place}")?.as_str())?,
             Origin::Fresh => origins.push_str("*")?,
         }
@@ -87,6 +88,23 @@ fn tree_origins(alloc: Global) -> Result<String, AllocError> {
     }
 }
 
+// Old places and fresh ones, as a vector gives them.
+fn given_origins(alloc: Global) -> Result<String, AllocError> {
+    let origins = vec![in alloc;
+        Origin::Old(4),
+        Origin::Old(5),
+        Origin::Fresh,
+        Origin::Old(0),
+    ]?;
+    written(alloc, &Origins::from_vec(alloc, origins)?)
+}
+
+// How many places the longest list has after an edit, if there is a plan.
+fn longest_after(alloc: Global, edit: &ShapeEdit) -> Result<u64, PlanFault> {
+    let longest = ListShape { count: u64::MAX };
+    Ok(longest.plan(alloc, edit)?.from.len())
+}
+
 // Whether a copy of a shape of any kind is the same shape.
 fn is_copied(alloc: Global, shape: &Shape) -> Result<bool, AllocError> {
     Ok(shape.twin(alloc)?.is_same(shape))
@@ -97,14 +115,14 @@ fn contents_after<H: Held + Drop, T: Twin + Drop>(
     alloc: Global,
     held: &H,
     edit: &ShapeEdit,
-    items: &[T],
+    items: &SharedList<T>,
     fresh: &T,
-) -> Result<Vec<T>, PlanFault>
+) -> Result<SharedList<T>, PlanFault>
     requires { length items.now ≡ size_of (H.shape_of held.now) }
     ensures { MatchResult result
-        (λ v. (shape : Shape) × (from : List Origin)
+        (λ list. (shape : Shape) × (from : List Origin)
         × (plan_of (H.shape_of held.now) edit.now ≡ Ok (shape, from))
-        × (map T.meaning v.items
+        × (map T.meaning list
         ≡ map (content_at (map T.meaning items.now) (T.meaning fresh.now)) from))
         (λ fault. IsRefusal (plan_of (H.shape_of held.now) edit.now) fault) }
 {
@@ -115,14 +133,15 @@ fn contents_after<H: Held + Drop, T: Twin + Drop>(
 
 // The contents of a list of two after its first item moved to the end.
 fn moved_contents(alloc: Global) -> Result<String, PlanFault> {
-    let items = vec![in alloc; text(alloc, "x")?, text(alloc, "y")?]?;
+    let texts = vec![in alloc; text(alloc, "x")?, text(alloc, "y")?]?;
+    let items = SharedList::from_vec(alloc, texts)?;
     prove!(items.len() == 2);
     let list = ListShape { count: 2 };
     let fresh = text(alloc, "-")?;
     let edit = ShapeEdit::MoveItem(0, 1);
-    let contents = contents_after(alloc, &list, &edit, items.as_slice(), &fresh)?;
+    let contents = contents_after(alloc, &list, &edit, &items, &fresh)?;
     let mut together = String::new(alloc);
-    for content in contents.as_slice() {
+    for content in &contents {
         together.push_str(content.as_str())?;
     }
     Ok(together)
@@ -150,6 +169,17 @@ fn plans(rt: HostRuntime) -> Result<(), Fail> {
     assert_eq!(rt; tree_origins(alloc)?.as_str(), "01*2");
     let nodes = tree(alloc)?.ok_or("no tree")?;
     assert!(rt; is_copied(alloc, &Shape::Tree(nodes))?);
+    Ok(())
+}
+
+#[test]
+fn origins(rt: HostRuntime) -> Result<(), Fail> {
+    let alloc = rt.alloc();
+    assert_eq!(rt; given_origins(alloc)?.as_str(), "45*0");
+    let shorter = longest_after(alloc, &ShapeEdit::Del(1)).ok();
+    assert_eq!(rt; shorter.ok_or("refused")?, u64::MAX - 1);
+    let longer = longest_after(alloc, &ShapeEdit::Ins(1)).err();
+    assert_eq!(rt; longer.ok_or("planned")?, PlanFault::NoMemory);
     Ok(())
 }
 
