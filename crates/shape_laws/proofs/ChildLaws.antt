@@ -16,13 +16,14 @@ use Rattle.hold_shapes.proofs.OldPlaces.{length-old_places}
 use Rattle.hold_shapes.proofs.ValidDepths.{Low, above-end, valid-some}
 use Rattle.hold_shapes.proofs.ChildPlaces.{child-at, length-remove_part, front-length}
 use Rattle.hold_shapes.proofs.Nodes.{child-numbered}
-use Rattle.shape_laws.specs.Children.{child_path, children_at, origin_of, origin_at, GainsLastChild, HangsLastChild, MovesChild, LosesLastChild}
+use Rattle.shape_laws.specs.Children.{child_path, children_at, origin_of, origin_at, other_child, GainsLastChild, HangsLastChild, MovesChild, LosesLastChild}
 use Rattle.shape_laws.proofs.Lawful.{past}
 use Rattle.shape_laws.proofs.Content.{OfPlan, of-else, end-within, not-zero}
 use Rattle.shape_laws.proofs.Family.{old-at, insert-is, high-moved_depths}
 use Rattle.shape_laws.proofs.Parents.{part-of, below_node, deeper}
 use Rattle.shape_laws.proofs.SamePrefix.{prefix-less, prefix-trans, prefix-take, node-same, node-child, node-in}
 use Rattle.shape_laws.proofs.Children.{children-more, child-at_end, child-at_place, children-less, child-descendant, before-part}
+use Rattle.shape_laws.proofs.OtherChildren.{past_part, slot-left, slot-for, others-inserted, others-origin, same-origin, put-back-same, length-between}
 
 of-if : (P : Shape → List Origin → Type 0) (b : Bool) (x : Planned) (cause : PlanCause) → (b ≡ true → OfPlan P x) → OfPlan P (if b then x else Err cause)
 of-if P true x cause f = f refl
@@ -179,6 +180,38 @@ put-back rest bs p j t (Some c) h is le l e =
 both-below : (i j n : ℕ) → (nat_lt i n && nat_lt j n) ≡ true → j < n
 both-below i j n h = grind (arith, nat_tests)
 
+origin-through : (ds q : List ℕ) (from : List Origin) (p i : ℕ) → node ds q ≡ Some p → origin_at ds from (child_path q i) ≡ origin_of from (child ds p i)
+origin-through ds q from p i is = ap (λ (r : Option ℕ). origin_of from r) (child-there ds q p i (child ds p i) is refl)
+
+-- the other children of the node p, before and after its child at c is moved
+shifted-others : (ds bs : List ℕ) (i j p c : ℕ) → p < length ds → child ds p i ≡ Some c → Low (get_or (remove_part c (end_of ds c) ds) p 0 + 2) bs
+    → slice_range ds c (end_of ds c) ≡ (get_or (remove_part c (end_of ds c) ds) p 0 + 1) ∷ bs
+    → place_for_child (remove_part c (end_of ds c) ds) p (child (remove_part c (end_of ds c) ds) p j) ≤ length (remove_part c (end_of ds c) (old_places (length ds)))
+    → j ≤ children (remove_part c (end_of ds c) ds) p → (k : ℕ)
+    → origin_of (move_part c (end_of ds c) (place_for_child (remove_part c (end_of ds c) ds) p (child (remove_part c (end_of ds c) ds) p j)) (old_places (length ds)))
+    (child (move_part c (end_of ds c) (place_for_child (remove_part c (end_of ds c) ds) p (child (remove_part c (end_of ds c) ds) p j)) ds) p (other_child j k))
+    ≡ option_map Old (child ds p (other_child i k))
+shifted-others ds bs i j p c inside here low part room le k =
+    let w = child-at 0 ds p i c inside here in
+    let end = end_of ds c in
+    let rest = remove_part c end ds in
+    let t = place_for_child rest p (child rest p j) in
+    let m = suc (length bs) in
+    let up : p < c = w.0 in
+    let front : c ≤ length rest = front-length ds c end w.1 in
+    let there : p < length rest = omega arith in
+    let last = end-within ds c w.1 in
+    let size = length-old_places (length ds) in
+    let B : List ℕ → Type 0 = λ block. child (insert_part t block rest) p (other_child j k) ≡ option_map (past_part t m) (child rest p k) in
+    let new : B (slice_range ds c end) = subst B (sym part) (others-inserted rest bs p j t there low (slot-for rest p j t (child rest p j) there refl le refl) k) in
+    let C : List ℕ → Type 0 = λ block. child (insert_part c block rest) p (other_child i k) ≡ option_map (past_part c m) (child rest p k) in
+    let D : List ℕ → Type 0 = λ list. child list p (other_child i k) ≡ option_map (past_part c m) (child rest p k) in
+    let old : D ds = subst D (put-back-same ds c end (past ds c) last) (subst C (sym part) (others-inserted rest bs p i c there low (slot-left ds p i c inside here) k)) in
+    let long : end - c ≡ m = sym (length-between ds c end (past ds c) last) ∙ ap length part in
+    let same = same-length ds c w.1 in
+    others-origin (move_part c end t (old_places (length ds))) (past_part t m) (past_part c m) (child (move_part c end t ds) p (other_child j k)) (child ds p (other_child i k)) (child rest p k) new old
+    (λ x e. same-origin (length ds) c end t m x (past_part c m x) (past ds c) last room (omega arith) size long refl (child-at 0 ds p (other_child i k) (past_part c m x) inside e).1)
+
 shifted : (ds q : List ℕ) (i j p c : ℕ) → 0 < length ds → node ds q ≡ Some p → j < children ds p → child ds p i ≡ Some c → OfPlan (MovesChild ds q i j) (shift_child ds p j (Some c))
 shifted ds q i j p c z is most here =
     let inside = node-in ds q p z is in
@@ -214,6 +247,9 @@ shifted ds q i j p c z is most here =
       child-there ds q p i (Some c) is here,
       origin-there new q from p j t (Old c) still k.0 (get-moved ds c t within room),
       children-there new q p (children ds p) still count ∙ sym (children-there ds q p (children ds p) is refl),
+      λ n. origin-through new q from p (other_child j n) still
+          ∙ (shifted-others ds bs i j p c inside here low part room (omega arith) n
+          ∙ sym (ap (λ (o : Option ℕ). option_map Old o) (child-there ds q p (other_child i n) (child ds p (other_child i n)) is refl))),
     )
 
 of-shift-child : (ds q : List ℕ) (i j p : ℕ) (o : Option ℕ) → 0 < length ds → node ds q ≡ Some p → j < children ds p → child ds p i ≡ o → OfPlan (MovesChild ds q i j) (shift_child ds p j o)

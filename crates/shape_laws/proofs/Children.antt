@@ -8,13 +8,13 @@ use Rattle.hold_shapes.proofs.ValidDepths.{Low, end-zero, end-suc}
 use Rattle.shape_laws.proofs.Content.{child-in}
 use Rattle.shape_laws.proofs.SamePrefix.{child_from-step}
 
-deeper-test : (d e : ℕ) → d < e → nat_lt d e ≡ true
+pub deeper-test : (d e : ℕ) → d < e → nat_lt d e ≡ true
 deeper-test d e h = grind (arith, nat_tests)
 
-child-test : (d : ℕ) → nat_eq (d + 1) (d + 1) ≡ true
+pub child-test : (d : ℕ) → nat_eq (d + 1) (d + 1) ≡ true
 child-test d = grind (arith, nat_tests)
 
-no_child-test : (d e : ℕ) → d + 2 ≤ e → nat_eq e (d + 1) ≡ false
+pub no_child-test : (d e : ℕ) → d + 2 ≤ e → nat_eq e (d + 1) ≡ false
 no_child-test d e h = grind (arith, nat_tests)
 
 -- ---- a subtree inserted
@@ -31,7 +31,7 @@ count-step true true m k n P f g h = ap suc (f (g h))
 count-step true false m k n P f g h = f (g h)
 count-step false u m k n P f g h = cc
 
-within-descendants : (t : Bool) (n k : ℕ) → suc n ≤ (if t then suc k else 0) → (t ≡ true) × (n ≤ k)
+pub within-descendants : (t : Bool) (n k : ℕ) → suc n ≤ (if t then suc k else 0) → (t ≡ true) × (n ≤ k)
 within-descendants true n k h = (refl, omega arith)
 within-descendants false n k h = absurd (omega arith)
 
@@ -74,18 +74,18 @@ child-last at d bs [] =
 child-last at d bs (e ∷ es) = child-last-step (nat_lt d e) at d e bs es refl (child-last (at + 1) d bs es)
 
 -- inserted before child j, it becomes child j
-number-zero : (t u v : Bool) (at i : ℕ) (o1 o2 : Option ℕ) → nat_eq i 0 ≡ v → (o1 ≡ Some (at + 0) → ⊥) → (o2 ≡ Some (at + 0) → ⊥)
+pub number-zero : (t u v : Bool) (at i : ℕ) (o1 o2 : Option ℕ) → nat_eq i 0 ≡ v → (o1 ≡ Some (at + 0) → ⊥) → (o2 ≡ Some (at + 0) → ⊥)
     → (if t then (if u then (if v then Some at else o1) else o2) else None) ≡ Some (at + 0) → nat_eq i 0 ≡ true
 number-zero true true true at i o1 o2 h f g is = h
 number-zero true true false at i o1 o2 h f g is = absurd (f is)
 number-zero true false v at i o1 o2 h f g is = absurd (g is)
 number-zero false u v at i o1 o2 h f g is = cc
 
-not-before : (at d i : ℕ) (es : List ℕ) → child_from (at + 1) d i es ≡ Some (at + 0) → ⊥
+pub not-before : (at d i : ℕ) (es : List ℕ) → child_from (at + 1) d i es ≡ Some (at + 0) → ⊥
 not-before at d i es e = let up : at + 1 ≤ at + 0 = (child-in (at + 1) d i (at + 0) es e).0 in omega arith
 
 -- what holds of a child one place later, as it is counted from there
-next-place : (at n : ℕ) (P : ℕ → Type 0) → P (at + suc n) → P (at + 1 + n)
+pub next-place : (at n : ℕ) (P : ℕ → Type 0) → P (at + suc n) → P (at + 1 + n)
 next-place at n P h = let same : at + suc n ≡ at + 1 + n = omega arith in subst P same h
 
 child-here : (at d i n : ℕ) (bs es : List ℕ) → child_from at d i es ≡ Some (at + n) → child_from at d i (insert_part n ((d + 1) ∷ bs) es) ≡ Some (at + n)
@@ -153,12 +153,12 @@ before-part X d (x ∷ xs) zs zero p h k = absurd (omega arith)
 before-part X d (x ∷ xs) zs (suc t) zero h k = refl
 before-part X d (x ∷ xs) zs (suc t) (suc p) h k = before-part X d xs zs t p (omega arith) (omega arith)
 
-drop-insert : (part ds : List ℕ) (k n : ℕ) → k ≤ length ds → drop k (insert_part (k + n) part ds) ≡ insert_part n part (drop k ds)
+pub drop-insert : (part ds : List ℕ) (k n : ℕ) → k ≤ length ds → drop k (insert_part (k + n) part ds) ≡ insert_part n part (drop k ds)
 drop-insert part ds zero n h = let e : 0 + n ≡ n = omega arith in rw e refl
 drop-insert part [] (suc k) n h = absurd (omega arith)
 drop-insert part (d ∷ ds) (suc k) n h = let e : suc k + n ≡ suc (k + n) = omega arith in rw e (drop-insert part ds k n (omega arith))
 
-drop-remove : (ds : List ℕ) (k n : ℕ) → k ≤ length ds → drop k (remove_part (k + n) (end_of ds (k + n)) ds) ≡ remove_part n (end_of (drop k ds) n) (drop k ds)
+pub drop-remove : (ds : List ℕ) (k n : ℕ) → k ≤ length ds → drop k (remove_part (k + n) (end_of ds (k + n)) ds) ≡ remove_part n (end_of (drop k ds) n) (drop k ds)
 drop-remove ds zero n h = let e : 0 + n ≡ n = omega arith in rw e refl
 drop-remove [] (suc k) n h = absurd (omega arith)
 drop-remove (d ∷ ds) (suc k) n h =

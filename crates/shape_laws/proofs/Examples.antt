@@ -1,11 +1,13 @@
 -- What the laws ask of small plans.
-use Rattle.std.proofs.Common.{◌≡◌, true, false, [], ◌∷◌, Some, None, refl}
+use Rattle.std.proofs.Common.{◌≡◌, ℕ, ◌-◌, suc, zero, true, false, [], ◌∷◌, Some, None, refl, arith}
+use Rattle.std.specs.Prelude.{nat_lt, nat_eq}
+use Rattle.std.proofs.lemmas.Bool.Decides.{nat_tests}
 use Rattle.hold_shapes.specs.declared.origins.Origin.TheVariants.{Old, Fresh}
 use Rattle.hold_shapes.specs.declared.shape.Shape.TheVariants.{Keyed as KeyedOf, Tree as TreeOf}
 use Rattle.hold_shapes.specs.declared.edit.ShapeEdit.TheVariants.{PutKey, RenameKey, Prune, Graft, Shift, Hang}
 use Rattle.hold_shapes.specs.Plans.{list_of}
 use Rattle.shape_laws.specs.Laws.{is_old, is_same_kind, names_after, depths_after, fresh_depth, moved_root, KeepsContent}
-use Rattle.shape_laws.specs.Children.{child_path, children_at, origin_at, GainsLastChild, LosesLastChild, MovesChild, HangsLastChild}
+use Rattle.shape_laws.specs.Children.{child_path, children_at, origin_at, GainsLastChild, LosesLastChild, KeepsOtherChildren, MovesChild, HangsLastChild}
 use Rattle.shape_laws.specs.Parents.{parents}
 
 old : is_old 2 (Old 2) ≡ true
@@ -73,9 +75,19 @@ grafted = (0, refl, refl, refl)
 pruned : LosesLastChild (0 ∷ 1 ∷ 1 ∷ 2 ∷ []) [] (TreeOf (0 ∷ 1 ∷ [])) (Old 0 ∷ Old 1 ∷ [])
 pruned = (1, 2, refl, refl, refl, refl)
 
--- the first child of the root, which has a child, becomes its second
+-- the first child of the root, which has a child, becomes its second; the only other child stays
+others : KeepsOtherChildren (0 ∷ 1 ∷ 2 ∷ 1 ∷ []) (0 ∷ 1 ∷ 1 ∷ 2 ∷ []) [] 0 1 (Old 0 ∷ Old 3 ∷ Old 1 ∷ Old 2 ∷ [])
+others zero = refl
+others (suc k) =
+    let a : nat_lt (suc k) 1 ≡ false = grind (arith, nat_tests) in
+    let b : nat_lt (suc k) 0 ≡ false = grind (arith, nat_tests) in
+    let c : nat_eq (suc (suc k)) 0 ≡ false = grind (arith, nat_tests) in
+    let d : nat_eq (suc k) 0 ≡ false = grind (arith, nat_tests) in
+    let e : suc (suc k) - 1 ≡ suc k = omega arith in
+    rw (a, b, c, e, d) refl
+
 shifted : MovesChild (0 ∷ 1 ∷ 2 ∷ 1 ∷ []) [] 0 1 (TreeOf (0 ∷ 1 ∷ 1 ∷ 2 ∷ [])) (Old 0 ∷ Old 3 ∷ Old 1 ∷ Old 2 ∷ [])
-shifted = (1, refl, refl, refl)
+shifted = (1, refl, refl, refl, others)
 
 -- the second leaf is moved below the first
 hung : HangsLastChild (0 ∷ 1 ∷ 1 ∷ []) (1 ∷ []) (0 ∷ []) (TreeOf (0 ∷ 1 ∷ 2 ∷ [])) (Old 0 ∷ Old 1 ∷ Old 2 ∷ [])

@@ -2,6 +2,7 @@ mod ChildLaws
 mod Children
 pub mod Content
 mod Examples
+mod OtherChildren
 pub mod Family
 pub mod Lawful
 pub mod Once

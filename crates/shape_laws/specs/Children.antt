@@ -1,5 +1,5 @@
 -- Edits of trees in the words of their table: by paths, numbers of children and origins.
-use Rattle.std.specs.Prelude.{◌≡◌, ℕ, ◌+◌, List, [], ◌∷◌, ◌++◌, length, Option, Some, None}
+use Rattle.std.specs.Prelude.{◌≡◌, ℕ, suc, ◌+◌, if◌then◌else◌, nat_lt, List, [], ◌∷◌, ◌++◌, length, Option, Some, None}
 use Rattle.std.specs.Option.{option_map}
 use Rattle.std.specs.List.{slice_get}
 use Rattle.hold_shapes.specs.declared.shape.Shape.{Shape}
@@ -37,10 +37,20 @@ abbrev pub HangsLastChild : List ℕ → List ℕ → List ℕ → Shape → Lis
 HangsLastChild ds p q shape from =
     (a : ℕ) × (node ds p ≡ Some a) × GainsLastChild (remove_part a (end_of ds a) ds) q (Old a) shape from
 
--- child j of the node at q is now what its child i was, and it has no child more or less
+-- number k of the children besides child i, by its number among all of them
+abbrev pub other_child : ℕ → ℕ → ℕ
+other_child i k = if nat_lt k i then k else suc k
+
+-- the children of the node at q besides child i before, and besides child j now, are the same in the same order
+abbrev pub KeepsOtherChildren : List ℕ → List ℕ → List ℕ → ℕ → ℕ → List Origin → Type 0
+KeepsOtherChildren ds new q i j from =
+    (k : ℕ) → origin_at new from (child_path q (other_child j k)) ≡ option_map Old (node ds (child_path q (other_child i k)))
+
+-- child j of the node at q is now what its child i was; it has no child more or less, and the others keep their order
 abbrev pub MovesChild : List ℕ → List ℕ → ℕ → ℕ → Shape → List Origin → Type 0
 MovesChild ds q i j (TreeOf new) from =
     (c : ℕ) × (node ds (child_path q i) ≡ Some c) × (origin_at new from (child_path q j) ≡ Some (Old c)) × (children_at new q ≡ children_at ds q)
+    × KeepsOtherChildren ds new q i j from
 MovesChild ds q i j shape from = ⊥
 
 -- the node at q had a last child; it now has one child less, and the places of that child's subtree, from c to its end, and no others, are gone

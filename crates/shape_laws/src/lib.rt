@@ -81,8 +81,8 @@ pub fn prune_removes_the_last_child(_tree: &TreeShape, _path: &Path)
     let _depths = _tree.depths();
 }
 
-/// After a shift, child number `_to` of the node is what its child number `_number` was, and the
-/// node has the same number of children.
+/// After a shift, child number `_to` of the node is what its child number `_number` was, the node has
+/// the same number of children, and its other children are the same nodes in the same order.
 #[tactic(auto, using(crate::proofs::ChildLaws::child_laws))]
 pub fn shift_moves_the_child(_tree: &TreeShape, _path: &Path, _number: u64, _to: u64)
     ensures { (shape : Shape) (from : List Origin)
