@@ -30,6 +30,7 @@ mod trees;
 pub use crate::edit::{Place, ShapeEdit};
 pub use crate::gathering::gather;
 pub use crate::held::Held;
+pub use crate::lists::MOST_ITEMS;
 pub use crate::origin_iter::OriginIter;
 pub use crate::origins::{Origin, Origins};
 pub use crate::path::Path;

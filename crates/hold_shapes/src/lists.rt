@@ -13,8 +13,8 @@ use crate::run::Run;
 use crate::shape::ListShape;
 use std::alloc::{AllocError, Global};
 
-/// The most items that one edit adds or removes.
-const MOST_ITEMS: u32 = 65536;
+/// The most items that one edit of a list adds or removes.
+pub const MOST_ITEMS: u32 = 65536;
 
 // Fresh items at the end.
 #[tactic(auto, using(crate::proofs::OldPlaces::old_rules))]
