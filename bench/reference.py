@@ -2,7 +2,7 @@
 """Writes cases of edits and documents for crates/layer_cases, worked out from the rules alone: python3 bench/reference.py.
 
 Each answer is computed here in the words of docs/EDITS.md (plans and the action), docs/FORMATS.md (documents, words and
-entries) and docs/MEANING.md (what words are carried to), and never taken from the program. The rows are the same in every run. They go to
+entries) and docs/MEANING.md (what words are translated to), and never taken from the program. The rows are the same in every run. They go to
 crates/layer_cases/data/*_reference.jsonl, in the forms of crates/layer_cases/CASES.md. It is run by hand, as is
 bench/reference_programs.py, which writes the cases of programs.
 """

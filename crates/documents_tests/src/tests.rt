@@ -1,20 +1,40 @@
 //! Each call that allocates, once.
 
-use doc_values::{Doc, Fields, Ty, init};
+use doc_values::{Doc, Docs, Fields, Ty, init};
 use edit_journal::{Line, read_entry, write_entry};
 use edit_json::{has_tree, read_word, write_word_text};
 use edit_module::{Word, act};
 use serde_json::Value;
 use std::alloc::Global;
 use std::test::Fail;
-use texts::{Name, Twin};
+use texts::{Name, Names, Str, Twin};
 use value_json::{read_counts, read_doc, write_compact, write_counts, write_doc_text};
 
 // The type of records of a list of ints `a`.
 fn record_ty(alloc: Global) -> Result<Ty, Fail> {
-    let name = Name::from_string(String::from_str(alloc, "a")?);
     let list = Ty::List(Box::new(alloc, Ty::Int(0))?);
-    Ok(Ty::Rec(Fields::from_vec(vec![in alloc; (name, list)]?)))
+    Ok(Ty::Rec(Fields::from_vec(vec![in alloc; (name(alloc, "a")?, list)]?)))
+}
+
+fn name(alloc: Global, text: &str) -> Result<Name, Fail> {
+    Ok(Name::from_string(String::from_str(alloc, text)?))
+}
+
+// The type of records of an enum `e`, an int `n` and a text `t`, with initial values that are not the usual ones.
+fn declared_ty(alloc: Global) -> Result<Ty, Fail> {
+    let members = Names::from_vec(vec![in alloc; name(alloc, "a")?, name(alloc, "b")?]?);
+    let choice = Ty::Enum(members, name(alloc, "b")?);
+    let text = Ty::Text(Str::from_string(String::from_str(alloc, "x")?));
+    Ok(Ty::Rec(Fields::from_vec(vec![in alloc;
+        (name(alloc, "e")?, choice),
+        (name(alloc, "n")?, Ty::Int(-7)),
+        (name(alloc, "t")?, text)
+    ]?)))
+}
+
+// A record of two ints.
+fn pair(alloc: Global, first: i64, second: i64) -> Result<Docs, Fail> {
+    Ok(Docs::from_vec(alloc, vec![in alloc; Doc::Int(first), Doc::Int(second)]?)?)
 }
 
 fn document(alloc: Global, ty: &Ty, text: &str) -> Result<Doc, Fail> {
@@ -38,6 +58,32 @@ fn documents(rt: HostRuntime) -> Result<(), Fail> {
     let doc = document(alloc, &ty, "{\"a\":[4,5]}")?;
     let copy = doc.twin(alloc)?;
     assert!(rt; copy.is_same(&doc));
+    Ok(())
+}
+
+#[test]
+fn initial_values(rt: HostRuntime) -> Result<(), Fail> {
+    let alloc = rt.alloc();
+    let ty = declared_ty(alloc)?;
+    assert!(rt; ty.is_well_formed());
+    let fresh = init(alloc, &ty)?;
+    let text = write_doc_text(alloc, &ty, &fresh)?;
+    assert_eq!(rt; text.as_str(), "{\"e\":\"b\",\"n\":-7,\"t\":\"x\"}");
+    let copy = ty.twin(alloc)?;
+    assert!(rt; copy.is_same(&ty));
+    Ok(())
+}
+
+#[test]
+fn shared_contents(rt: HostRuntime) -> Result<(), Fail> {
+    let alloc = rt.alloc();
+    let before = pair(alloc, 4, 5)?;
+    let mut after = before.twin(alloc)?;
+    assert!(rt; after.len() == 2);
+    after.set(alloc, 1, Doc::Int(6))?;
+    assert!(rt; Doc::Rec(after).is_same(&Doc::Rec(pair(alloc, 4, 6)?)));
+    assert!(rt; Doc::Rec(before).is_same(&Doc::Rec(pair(alloc, 4, 5)?)));
+    assert!(rt; Docs::empty().is_empty());
     Ok(())
 }
 

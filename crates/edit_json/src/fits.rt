@@ -6,10 +6,7 @@ ghost use Rattle.edit_json.specs.WordJson.{counts_fit, primitive_counts_fit, edi
 
 use edit_module::Word;
 use edit_module::word::Primitive;
-use hold_shapes::ShapeEdit;
-
-// The most items that one edit inserts or deletes.
-pub(crate) const MOST_ITEMS: u32 = 65536;
+use hold_shapes::{MOST_ITEMS, ShapeEdit};
 
 /// Whether the word has a JSON tree: whether each insertion and each deletion in it, inner words
 /// included, is of 1 to 65,536 items. Does not allocate.

@@ -8,9 +8,8 @@ ghost use Rattle.edit_json.specs.Values.{atom_of, numbers_of, place_of, item_cou
 ghost use Rattle.edit_json.specs.Reading.{Gives};
 
 use crate::fault::EditFault;
-use crate::fits::MOST_ITEMS;
 use edit_module::Atom;
-use hold_shapes::{Name, Path, Place, Str};
+use hold_shapes::{MOST_ITEMS, Name, Path, Place, Str};
 use serde_json::Value;
 use std::alloc::Global;
 use value_json::{read_count, read_counts, read_int};

@@ -7,7 +7,7 @@ use Rattle.std.proofs.lemmas.List.FromFn.{length-map-range_with_len, take-map-ra
 use mathlib.Core.Path.{subst}
 use Rattle.hold_shapes.specs.declared.origins.Origin.{Origin}
 use Rattle.hold_shapes.specs.declared.origins.Origin.TheVariants.{Old, Fresh}
-use Rattle.hold_shapes.specs.Plans.{old_places, remove_part, insert_part, move_part}
+use Rattle.hold_shapes.specs.Plans.{old_places, remove_part, move_part}
 use Rattle.hold_shapes.specs.Runs.{all_origins}
 
 -- n old places from k on

@@ -2,9 +2,12 @@
 use Rattle.std.proofs.Common.{◌≡◌, ℕ, zero, suc, ◌+◌, ◌-◌, ◌≤◌, ◌<◌, List, [], ◌∷◌, ◌++◌, length, map, take, drop, get_or, set, replicate, Some, refl, sym, ap, ◌∙◌, arith, append-nil}
 use Rattle.std.specs.Prelude.{slice_get}
 use Rattle.std.specs.List.{range_with_len}
-use Rattle.std.proofs.Math.Seq.{drop-cons}
-use Rattle.std.proofs.lemmas.List.{take_more, length-append, length-replicate, append_assoc, replicate-append-replicate}
-use Rattle.std.proofs.lemmas.List.FromFn.{length-map-range_with_len, get_or-map-range_with_len, take-map-range_with_len}
+use Rattle.std.proofs.Math.Seq.{drop-cons, drop-append-add}
+use Rattle.std.proofs.lemmas.Option.{slice_get_within}
+use Rattle.shared_lists.proofs.SplicedLists.{drop-at}
+use mathlib.Core.Path.{subst}
+use Rattle.std.proofs.lemmas.List.{drop_all, take_more, length-append, length-replicate, append_assoc}
+use Rattle.std.proofs.lemmas.List.FromFn.{length-map-range_with_len}
 use Rattle.hold_shapes.specs.declared.origins.Origin.{Origin}
 use Rattle.hold_shapes.specs.declared.origins.Origin.TheVariants.{Old, Fresh}
 use Rattle.hold_shapes.specs.Runs.{all_origins}
@@ -96,3 +99,21 @@ pub length-from : (rs : List (List Origin)) (i : ℕ) (r : List Origin) → i < 
 length-from rs i r p e = rw (runs_at rs i r p e) (length-append r (all_origins (drop (i + 1) rs)))
 
 pub ruleset list_rules = (all_origins-more, place-inside, place-behind, length-from)
+
+-- ---- what is left of the origins from place n on, counted from the run r
+
+pub left-here : (rs : List (List Origin)) (i n : ℕ) (r : List Origin) (o : Origin) → i < length rs → r ≡ get_or rs i r → slice_get r n ≡ Some o
+    → drop n (all_origins (drop i rs)) ≡ o ∷ drop (n + 1) (all_origins (drop i rs))
+left-here rs i n r o p e g = drop-at (all_origins (drop i rs)) n o (place-inside rs i r n p e (slice_get_within r n o g) ∙ g)
+
+drop-behind : {X : Type 0} (xs ys : List X) (n : ℕ) → length xs ≤ n → drop n (xs ++ ys) ≡ drop (n - length xs) ys
+drop-behind xs ys n h = let e : length xs + (n - length xs) ≡ n = omega arith in subst (λ k. drop k (xs ++ ys) ≡ drop (n - length xs) ys) e (drop-append-add xs ys (n - length xs))
+
+pub left-behind : (rs : List (List Origin)) (i n : ℕ) (r : List Origin) → i < length rs → r ≡ get_or rs i r → length r ≤ n
+    → drop n (all_origins (drop i rs)) ≡ drop (n - length r) (all_origins (drop (i + 1) rs))
+left-behind rs i n r p e h = rw (runs_at rs i r p e) (drop-behind r (all_origins (drop (i + 1) rs)) n h)
+
+pub none-left : (rs : List (List Origin)) (i n : ℕ) → length rs ≤ i → drop n (all_origins (drop i rs)) ≡ []
+none-left rs i n h = rw (drop_all i rs h) (drop_all n [] (omega arith))
+
+pub ruleset iter_rules = (left-here, left-behind, none-left)

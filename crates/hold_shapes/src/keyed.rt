@@ -44,7 +44,6 @@ fn with_key(
 }
 
 // A new key with fresh content.
-#[tactic(auto, using(crate::proofs::OldPlaces::old_rules))]
 pub(crate) fn put(
     alloc: Global,
     keys: &KeyedShape,

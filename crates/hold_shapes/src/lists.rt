@@ -13,8 +13,8 @@ use crate::run::Run;
 use crate::shape::ListShape;
 use std::alloc::{AllocError, Global};
 
-/// The most items that one edit adds or removes.
-const MOST_ITEMS: u32 = 65536;
+/// The most items that one edit of a list adds or removes.
+pub const MOST_ITEMS: u32 = 65536;
 
 // Fresh items at the end.
 #[tactic(auto, using(crate::proofs::OldPlaces::old_rules))]
@@ -57,7 +57,6 @@ pub(crate) fn delete_items(
 }
 
 // An item is removed and inserted at another place of the result.
-#[tactic(auto, using(crate::proofs::OldPlaces::old_rules))]
 pub(crate) fn move_item(
     alloc: Global,
     size: u64,
@@ -98,7 +97,6 @@ fn is_order(alloc: Global, places: &[u64], size: u64) -> Result<bool, AllocError
 }
 
 // The places as origins.
-#[tactic(auto, using(crate::proofs::OldPlaces::old_rules))]
 fn origins_of(alloc: Global, places: &[u64]) -> Result<Origins, AllocError>
     ensures { IfOk result (λ from. from ≡ map Old places.now) }
 {

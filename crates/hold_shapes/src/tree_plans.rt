@@ -17,7 +17,7 @@ use shared_lists::SharedList;
 use std::alloc::{AllocError, Global};
 
 // A fresh node as the last child of a node.
-#[tactic(auto, using(crate::proofs::ValidDepths::valid_rules, crate::proofs::OldPlaces::old_rules))]
+#[tactic(auto, using(crate::proofs::ValidDepths::valid_rules))]
 pub(crate) fn graft(
     alloc: Global,
     tree: &TreeShape,
@@ -45,7 +45,7 @@ pub(crate) fn graft(
 }
 
 // The last child of a node is removed with its subtree.
-#[tactic(auto, using(crate::proofs::ValidDepths::valid_rules, crate::proofs::OldPlaces::old_rules))]
+#[tactic(auto, using(crate::proofs::ValidDepths::valid_rules))]
 pub(crate) fn prune(
     alloc: Global,
     tree: &TreeShape,
@@ -112,7 +112,7 @@ fn place_for_child(depths: &SharedList<u64>, at: usize, number: u64) -> usize
 }
 
 // A child of a node becomes its child of another number.
-#[tactic(auto, using(crate::proofs::ChildPlaces::slot_rules, crate::proofs::OldPlaces::old_rules))]
+#[tactic(auto, using(crate::proofs::ChildPlaces::slot_rules))]
 pub(crate) fn shift(
     alloc: Global,
     tree: &TreeShape,
@@ -172,7 +172,7 @@ fn moved_depths(
 }
 
 // A subtree becomes the last child of a node of the tree that remains without it.
-#[tactic(auto, using(crate::proofs::MovedDepths::hung_rules, crate::proofs::OldPlaces::old_rules))]
+#[tactic(auto, using(crate::proofs::MovedDepths::hung_rules))]
 pub(crate) fn hang(
     alloc: Global,
     tree: &TreeShape,

@@ -1,5 +1,5 @@
 -- What the laws ask of small plans.
-use Rattle.std.proofs.Common.{◌≡◌, ℕ, ◌-◌, suc, zero, true, false, [], ◌∷◌, Some, None, refl, arith}
+use Rattle.std.proofs.Common.{◌≡◌, ◌-◌, suc, zero, true, false, [], ◌∷◌, Some, None, refl, arith}
 use Rattle.std.specs.Prelude.{nat_lt, nat_eq}
 use Rattle.std.proofs.lemmas.Bool.Decides.{nat_tests}
 use Rattle.hold_shapes.specs.declared.origins.Origin.TheVariants.{Old, Fresh}

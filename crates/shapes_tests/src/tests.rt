@@ -40,8 +40,8 @@ fn tree(alloc: Global) -> Result<Option<TreeShape>, AllocError> {
 // Origins written one after another: a number for an old place, a star for a fresh one.
 fn written(alloc: Global, from: &Origins) -> Result<String, AllocError> {
     let mut origins = String::new(alloc);
-    for place in 0..from.len() {
-        match from.get(place).twin(alloc)? {
+    for origin in from {
+        match origin.twin(alloc)? {
             Origin::Old(place) => origins.push_str(format!(in alloc; "{place}")?.as_str())?,
             Origin::Fresh => origins.push_str("*")?,
         }

@@ -1,7 +1,6 @@
-use Rattle.std.proofs.Common.{rules, ◌≡◌, ◌<◌, length, map, get_or, drop, ap, arith}
+use Rattle.std.proofs.Common.{rules, ◌≡◌, ◌<◌, length, map, get_or, ap, arith}
 use Rattle.std.proofs.lemmas.List.{length-append}
 use Rattle.hold_shapes.specs.Gather.{content_at}
-use Rattle.hold_shapes.specs.Runs.{all_origins}
 use Rattle.hold_shapes.proofs.RunOrigins.{length-from}
 use Rattle.hold_shapes.proofs.Pieces.{run-below, rest-below, piece-length, gathered-more}
 use Rattle.hold_shapes.proofs.gathering.gather.Goals as goal

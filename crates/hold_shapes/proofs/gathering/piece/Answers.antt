@@ -1,4 +1,4 @@
-use Rattle.std.proofs.Common.{◌≡◌, ◌∙◌, ℕ, All, length, map, take, drop, replicate, ap, sym, subst}
+use Rattle.std.proofs.Common.{◌≡◌, ◌∙◌, All, length, map, take, drop, replicate, ap, sym, subst}
 use Rattle.hold_shapes.specs.Gather.{IsBelow, content_at}
 use Rattle.hold_shapes.specs.Runs.{run_origins}
 use Rattle.hold_shapes.proofs.Pieces.{kept-piece, fresh-piece, on-ok}
