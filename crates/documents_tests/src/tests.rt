@@ -28,7 +28,7 @@ fn declared_ty(alloc: Global) -> Result<Ty, Fail> {
     Ok(Ty::Rec(Fields::from_vec(vec![in alloc;
         (name(alloc, "e")?, choice),
         (name(alloc, "n")?, Ty::Int(-7)),
-        (name(alloc, "t")?, text)
+        (name(alloc, "t")?, text),
     ]?)))
 }
 

@@ -71,5 +71,5 @@ pub normal-merged : (w : WordTree) → normal w ≡ inside_each normal (merged w
 normal-merged w =
     normal_to-same (word_depth w) (word_depth w) (suc (word_depth w)) w (omega arith) (omega arith) (omega arith)
     ∙ inside_each-same (normal_to (word_depth w)) normal (word_depth w)
-      (λ u h. normal_to-same (word_depth u) (word_depth w) (word_depth u) u (omega arith) h (omega arith))
-      (merged w) (depth-merged (word_depth w) w (omega arith))
+    (λ u h. normal_to-same (word_depth u) (word_depth w) (word_depth u) u (omega arith) h (omega arith))
+    (merged w) (depth-merged (word_depth w) w (omega arith))

@@ -21,7 +21,11 @@ pub(crate) fn put_initial_number(out: &mut String, value: i64) -> Result<(), All
 }
 
 // An initial value that is a string, unless it is the one that is meant when it is left out.
-pub(crate) fn put_initial_string(out: &mut String, left_out: &str, value: &str) -> Result<(), AllocError>
+pub(crate) fn put_initial_string(
+    out: &mut String,
+    left_out: &str,
+    value: &str,
+) -> Result<(), AllocError>
     ensures { OnOk result (Puts (string_bytes out.old) (string_bytes out.new) (put_initial_string left_out.now value.now)) }
 {
     if value == left_out {
@@ -32,7 +36,11 @@ pub(crate) fn put_initial_string(out: &mut String, left_out: &str, value: &str) 
 }
 
 // The initial value of an enum, unless it is the first member.
-pub(crate) fn put_initial_member(out: &mut String, members: &[Name], value: &Name) -> Result<(), AllocError>
+pub(crate) fn put_initial_member(
+    out: &mut String,
+    members: &[Name],
+    value: &Name,
+) -> Result<(), AllocError>
     ensures { OnOk result (Puts (string_bytes out.old) (string_bytes out.new)
         (put_initial_string (initial_member members.now) value.now)) }
 {
@@ -43,7 +51,11 @@ pub(crate) fn put_initial_member(out: &mut String, members: &[Name], value: &Nam
 }
 
 // The initial value on the left of a bijection, unless it is the first one there.
-pub(crate) fn put_initial_left(out: &mut String, pairs: &[(Name, Name)], value: &Name) -> Result<(), AllocError>
+pub(crate) fn put_initial_left(
+    out: &mut String,
+    pairs: &[(Name, Name)],
+    value: &Name,
+) -> Result<(), AllocError>
     ensures { OnOk result (Puts (string_bytes out.old) (string_bytes out.new)
         (put_initial_string (initial_left pairs.now) value.now)) }
 {
