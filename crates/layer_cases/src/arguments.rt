@@ -1,6 +1,7 @@
 //! Arguments of any call, read from their trees: texts, names, numbers, sides.
 
 use anyhow::{Context, Result, bail};
+use hold_shapes::SharedList;
 use serde_json::Value;
 use std::alloc::Global;
 use texts::{Name, Names, Side, Str};
@@ -38,11 +39,21 @@ pub fn name(alloc: Global, tree: &Value) -> Result<Name> {
 
 /// Returns the names that an array has. It is refused if an item is not a text.
 pub fn names(alloc: Global, tree: &Value) -> Result<Names> {
+    Ok(Names::from_vec(name_items(alloc, tree)?))
+}
+
+/// Returns the names that an array has, as a list whose copies share them. It is refused if an item is not a text.
+pub fn shared_names(alloc: Global, tree: &Value) -> Result<SharedList<Name>> {
+    let names = name_items(alloc, tree)?;
+    Ok(SharedList::from_vec(alloc, names)?)
+}
+
+fn name_items(alloc: Global, tree: &Value) -> Result<Vec<Name>> {
     let mut names = Vec::new(alloc);
     for item in as_items(tree)? {
         names.push(name(alloc, item)?)?;
     }
-    Ok(Names::from_vec(names))
+    Ok(names)
 }
 
 /// Returns the numbers that an array has. It is refused if an item is not a number from 0 below 2^64.
@@ -51,6 +62,12 @@ pub fn counts(alloc: Global, tree: &Value) -> Result<Vec<u64>> {
         Some(counts) => Ok(counts),
         None => bail!("an item is not a number"),
     }
+}
+
+/// Returns the numbers that an array has, as a list whose copies share them. It is refused as by `counts`.
+pub fn shared_counts(alloc: Global, tree: &Value) -> Result<SharedList<u64>> {
+    let counts = counts(alloc, tree)?;
+    Ok(SharedList::from_vec(alloc, counts)?)
 }
 
 /// Returns the side that a tree names. It is refused if it is neither `left` nor `right`.

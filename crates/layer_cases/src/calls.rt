@@ -36,7 +36,7 @@ fn document_outcome(alloc: Global, call: &str, case: &Case<'_>) -> Result<Value>
         "is_within" => documents::run_is_within(alloc, case),
         "has_type" => documents::run_has_type(alloc, case),
         "find" => documents::run_find(alloc, case),
-        "replace" => documents::run_replace(alloc, case),
+        "set" => documents::run_set(alloc, case),
         "gathered" => documents::run_gathered(alloc, case),
         "read_counts" => documents::run_read_counts(alloc, case),
         "write_counts" => documents::run_write_counts(alloc, case),

@@ -39,9 +39,10 @@ fn two_types(alloc: Global, left: &Ty, right: &Ty) -> Result<Value> {
 fn type_fault(alloc: Global, refusal: &TypeFault) -> Result<Value> {
     match refusal {
         TypeFault::MiddleDiffers { left, right } => middle_differs(alloc, left, right),
-        TypeFault::RepeatedField { name } => repeated(alloc, "repeated-field", name),
-        TypeFault::RepeatedTag { name } => repeated(alloc, "repeated-tag", name),
-        TypeFault::RepeatedMember { name } => repeated(alloc, "repeated-member", name),
+        TypeFault::RepeatedField { name } => named(alloc, "repeated-field", name),
+        TypeFault::RepeatedTag { name } => named(alloc, "repeated-tag", name),
+        TypeFault::RepeatedMember { name } => named(alloc, "repeated-member", name),
+        TypeFault::NotAMember { name } => named(alloc, "not-a-member", name),
         TypeFault::TooLarge => fault(alloc, "too-large"),
         TypeFault::TooDeep => fault(alloc, "too-deep"),
         TypeFault::NoMemory => bail!("out of memory"),
@@ -56,7 +57,7 @@ fn middle_differs(alloc: Global, left: &Ty, right: &Ty) -> Result<Value> {
     Ok(Value::Object(members))
 }
 
-fn repeated(alloc: Global, reason: &str, name: &Name) -> Result<Value> {
+fn named(alloc: Global, reason: &str, name: &Name) -> Result<Value> {
     let reason = text(alloc, reason)?;
     let name = text(alloc, name.as_str())?;
     pair(alloc, ("fault", reason), ("name", name))

@@ -13,6 +13,7 @@ use hold_shapes::Origins;
 use lens_syntax::write_type;
 use serde_json::Value;
 use std::alloc::Global;
+use texts::Twin;
 use value_json::{DocFault, read_counts, read_doc, write_counts};
 
 /// Runs `read_doc`: the tree of the document that was read, or the fault.
@@ -104,8 +105,8 @@ pub fn ty_text(alloc: Global, ty: &Ty) -> Result<Value> {
     text(alloc, written.as_str())
 }
 
-/// Runs `replace`: the old document and all items after. It is refused if there is no such place.
-pub fn run_replace(alloc: Global, case: &Case<'_>) -> Result<Value> {
+/// Runs `set`: the document that was there and all items after. It is refused if there is no such place.
+pub fn run_set(alloc: Global, case: &Case<'_>) -> Result<Value> {
     let of = ty_of(alloc, case.argument("of")?)?;
     let mut docs = docs_of(alloc, &of, case.argument("items")?)?;
     let doc = doc_of(alloc, &of, case.argument("doc")?)?;
@@ -113,11 +114,12 @@ pub fn run_replace(alloc: Global, case: &Case<'_>) -> Result<Value> {
     if place >= docs.len() as u64 {
         bail!("no place");
     }
-    let old = docs.replace(place as usize, doc);
-    replaced(alloc, &of, &old, &docs)
+    let old = docs.get(place as usize).twin(alloc)?;
+    docs.set(alloc, place as usize, doc)?;
+    old_and_items(alloc, &of, &old, &docs)
 }
 
-fn replaced(alloc: Global, of: &Ty, old: &Doc, docs: &Docs) -> Result<Value> {
+fn old_and_items(alloc: Global, of: &Ty, old: &Doc, docs: &Docs) -> Result<Value> {
     let old = doc_tree(alloc, of, old)?;
     let items = doc_items(alloc, of, docs)?;
     ok(alloc, pair(alloc, ("old", old), ("items", items))?)

@@ -1,14 +1,12 @@
 //! Shapes, origins and places as JSON trees.
 
 use crate::answers::{object, text};
-use crate::arguments::{as_count, as_items, counts, name, names};
+use crate::arguments::{as_count, as_items, counts, name, shared_counts, shared_names};
 use anyhow::{Context, Result, bail};
-use hold_shapes::{
-    Depths, Held, KeyedShape, ListShape, Origin, Origins, Path, Place, Shape, TreeShape,
-};
+use hold_shapes::{Held, KeyedShape, ListShape, Origin, Origins, Path, Place, Shape, TreeShape};
 use serde_json::Value;
 use std::alloc::Global;
-use value_json::{only_member, read_count, write_counts};
+use value_json::{only_member, read_count};
 
 /// Returns the shape that a tree is: an object with one of the members `list`, `keyed` and `tree`. It is refused if it is
 /// not a shape.
@@ -28,15 +26,14 @@ fn list_shape(content: &Value) -> Result<Shape> {
 }
 
 fn keyed_shape(alloc: Global, content: &Value) -> Result<Shape> {
-    match KeyedShape::from_names(names(alloc, content)?) {
+    match KeyedShape::from_names(shared_names(alloc, content)?) {
         Some(keys) => Ok(keys.into_shape()),
         None => bail!("the names are not keys"),
     }
 }
 
 fn tree_shape(alloc: Global, content: &Value) -> Result<Shape> {
-    let depths = Depths::from_vec(counts(alloc, content)?);
-    match TreeShape::from_depths(depths) {
+    match TreeShape::from_depths(shared_counts(alloc, content)?) {
         Some(nodes) => Ok(nodes.into_shape()),
         None => bail!("the depths are not a tree"),
     }
@@ -53,15 +50,18 @@ pub fn shape_tree(alloc: Global, shape: &Shape) -> Result<Value> {
 
 fn keyed_tree(alloc: Global, keys: &KeyedShape) -> Result<Value> {
     let mut items = Vec::new(alloc);
-    for key in keys.names().as_slice() {
+    for key in keys.names() {
         items.push(text(alloc, key.as_str())?)?;
     }
     object(alloc, "keyed", Value::Array(items))
 }
 
 fn nodes_tree(alloc: Global, nodes: &TreeShape) -> Result<Value> {
-    let depths = write_counts(alloc, nodes.depths().as_slice())?;
-    object(alloc, "tree", depths)
+    let mut items = Vec::new(alloc);
+    for depth in nodes.depths() {
+        items.push(Value::from(*depth))?;
+    }
+    object(alloc, "tree", Value::Array(items))
 }
 
 /// Returns the origins that an array has: numbers, and null for fresh ones. It is refused if an item is neither.
@@ -70,7 +70,7 @@ pub fn origins_of(alloc: Global, tree: &Value) -> Result<Origins> {
     for item in as_items(tree)? {
         origins.push(origin_of(item)?)?;
     }
-    Ok(Origins::from_vec(origins))
+    Ok(Origins::from_vec(alloc, origins)?)
 }
 
 fn origin_of(tree: &Value) -> Result<Origin> {
@@ -83,8 +83,8 @@ fn origin_of(tree: &Value) -> Result<Origin> {
 /// Returns the array of origins, with null for a fresh one.
 pub fn origin_items(alloc: Global, origins: &Origins) -> Result<Value> {
     let mut items = Vec::new(alloc);
-    for origin in origins.as_slice() {
-        items.push(origin_tree(origin))?;
+    for origin in origins {
+        items.push(origin_tree(&origin))?;
     }
     Ok(Value::Array(items))
 }

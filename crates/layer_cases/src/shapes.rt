@@ -11,7 +11,8 @@ use crate::word_trees::primitive_of;
 use anyhow::{Result, bail};
 use edit_module::word::Primitive;
 use hold_shapes::{
-    Depths, Held, KeyedShape, Origin, Origins, Plan, PlanFault, Shape, ShapeEdit, TreeShape, gather,
+    Held, KeyedShape, Origin, Origins, Plan, PlanFault, Shape, ShapeEdit, SharedList, TreeShape,
+    gather,
 };
 use serde_json::Value;
 use std::alloc::Global;
@@ -74,14 +75,13 @@ pub fn run_is_same(alloc: Global, case: &Case<'_>) -> Result<Value> {
 
 /// Runs `from_names`: whether the names are the keys of a keyed map.
 pub fn run_from_names(alloc: Global, case: &Case<'_>) -> Result<Value> {
-    let names = arguments::names(alloc, case.argument("names")?)?;
+    let names = arguments::shared_names(alloc, case.argument("names")?)?;
     Ok(Value::Bool(KeyedShape::from_names(names).is_some()))
 }
 
 /// Runs `from_depths`: whether the numbers are the depths of an ordered tree.
 pub fn run_from_depths(alloc: Global, case: &Case<'_>) -> Result<Value> {
-    let depths = arguments::counts(alloc, case.argument("depths")?)?;
-    let depths = Depths::from_vec(depths);
+    let depths = arguments::shared_counts(alloc, case.argument("depths")?)?;
     Ok(Value::Bool(TreeShape::from_depths(depths).is_some()))
 }
 
@@ -93,19 +93,19 @@ pub fn run_gather(alloc: Global, case: &Case<'_>) -> Result<Value> {
     if !are_below(&from, items.len()) {
         bail!("an origin is not a place");
     }
-    let gathered = gather(alloc, &from, items.as_slice(), &fresh)?;
-    text_items(alloc, gathered.as_slice())
+    let gathered = gather(alloc, &from, &items, &fresh)?;
+    text_items(alloc, &gathered)
 }
 
-fn texts_of(alloc: Global, trees: &[Value]) -> Result<Vec<Str>> {
+fn texts_of(alloc: Global, trees: &[Value]) -> Result<SharedList<Str>> {
     let mut texts = Vec::new(alloc);
     for tree in trees {
         texts.push(arguments::text(alloc, tree)?)?;
     }
-    Ok(texts)
+    Ok(SharedList::from_vec(alloc, texts)?)
 }
 
-fn text_items(alloc: Global, texts: &[Str]) -> Result<Value> {
+fn text_items(alloc: Global, texts: &SharedList<Str>) -> Result<Value> {
     let mut items = Vec::new(alloc);
     for each in texts {
         items.push(text(alloc, each.as_str())?)?;
@@ -117,10 +117,22 @@ fn text_items(alloc: Global, texts: &[Str]) -> Result<Value> {
 pub fn are_below(origins: &Origins, places: usize) -> bool
     ensures { IsTrue result → All (IsBelow places) origins.now }
 {
-    origins.as_slice().iter().all(|origin| match origin {
+    for origin in origins {
+        if !is_below(&origin, places) {
+            return false;
+        }
+    }
+    true
+}
+
+// Whether an origin is fresh or below the number of places.
+fn is_below(origin: &Origin, places: usize) -> bool
+    ensures { IsTrue result → IsBelow places origin.now }
+{
+    match origin {
         Origin::Old(place) => *place < places as u64,
         Origin::Fresh => true,
-    })
+    }
 }
 
 /// Runs `splice`: the new text, or null if the range is beyond the text.

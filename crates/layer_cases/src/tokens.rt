@@ -24,12 +24,13 @@ fn token_tree(alloc: Global, token: &PlacedToken) -> Result<Value> {
     Ok(Value::Array(vec![in alloc; Value::String(word), Value::from(token.at)]?))
 }
 
-// The text of a token. A mark is its character; a name and a string have their sort before them.
+// The text of a token. A mark is its character; a name, a string and a number have their sort before them.
 fn token_text(alloc: Global, token: &Token) -> Result<String> {
     match token {
         Token::Keyword(word) => copy(alloc, word.text()),
         Token::Name(name) => Ok(format!(in alloc; "name:{}", name.as_str())?),
         Token::Text(text) => Ok(format!(in alloc; "string:{}", text.as_str())?),
+        Token::Number(number) => Ok(format!(in alloc; "number:{number}")?),
         Token::Mark(mark) => character(alloc, mark.byte()),
         Token::Bad => copy(alloc, "bad"),
         Token::End => copy(alloc, "end"),

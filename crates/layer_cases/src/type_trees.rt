@@ -7,7 +7,7 @@ use anyhow::{Context, Result, bail};
 use doc_values::{Doc, Docs, Fields, Ty};
 use serde_json::Value;
 use std::alloc::Global;
-use texts::{Name, Twin};
+use texts::{Name, Names, Twin};
 use value_json::{only_member, read_doc, write_doc};
 
 // How many built types may nest: as many as values of JSON may.
@@ -46,11 +46,20 @@ fn ty_within(alloc: Global, levels: u32, tree: &Value) -> Result<Ty> {
 fn built_ty(alloc: Global, levels: u32, tree: &Value) -> Result<Ty> {
     let (kind, content) = only_member(tree).context("not a type")?;
     match kind {
-        "enum" => Ok(Ty::Enum(names(alloc, content)?)),
+        "enum" => enum_ty(alloc, names(alloc, content)?),
         "rec" => Ok(Ty::Rec(fields_within(alloc, levels, content)?)),
         "alt" => Ok(Ty::Alt(fields_within(alloc, levels, content)?)),
         _ => container_ty(alloc, levels, kind, content),
     }
+}
+
+// The enum of some members with the first one as its initial value, or the empty name if there are none.
+fn enum_ty(alloc: Global, members: Names) -> Result<Ty> {
+    let initial = match members.as_slice().first() {
+        Some(first) => first.twin(alloc)?,
+        None => Name::from_string(String::new(alloc)),
+    };
+    Ok(Ty::Enum(members, initial))
 }
 
 #[cycle(ty)]
@@ -95,7 +104,7 @@ pub fn docs_of(alloc: Global, ty: &Ty, tree: &Value) -> Result<Docs> {
     for item in as_items(tree)? {
         docs.push(doc_of(alloc, ty, item)?)?;
     }
-    Ok(Docs::from_vec(docs))
+    Ok(Docs::from_vec(alloc, docs)?)
 }
 
 /// Returns the tree of a document. It is refused if the type is ill formed or the document does not have it.
@@ -114,7 +123,7 @@ pub fn ok_doc(alloc: Global, ty: &Ty, doc: &Doc) -> Result<Value> {
 /// Returns the array of the trees of documents of one type. It is refused if one has another type.
 pub fn doc_items(alloc: Global, ty: &Ty, docs: &Docs) -> Result<Value> {
     let mut items = Vec::new(alloc);
-    for doc in docs.as_slice() {
+    for doc in docs.iter() {
         items.push(doc_tree(alloc, ty, doc)?)?;
     }
     Ok(Value::Array(items))
