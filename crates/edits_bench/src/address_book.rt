@@ -1,0 +1,111 @@
+//! Documents of records with three texts and an int each.
+
+use anyhow::bail;
+use doc_values::{Doc, Docs, Fields, Ty};
+use hold_shapes::{KeyedShape, ListShape, Name, Shape, SharedList, Str};
+use std::alloc::{AllocError, Global};
+
+/// A document with its type.
+#[derive(Drop)]
+pub struct Book {
+    /// The type.
+    pub ty: Ty,
+    /// The document.
+    pub doc: Doc,
+}
+
+/// What the records are in.
+#[derive(Clone, Copy)]
+pub enum Kind {
+    /// A list.
+    List,
+    /// A keyed map. The keys are the numbers of the records, in [`key`]'s form.
+    Keyed,
+}
+
+impl Kind {
+    /// So many records. The key of each is its number.
+    pub fn book(self, alloc: Global, size: u64) -> anyhow::Result<Book> {
+        let inner = Box::new(alloc, record_type(alloc)?)?;
+        let records = records(alloc, size)?;
+        match self {
+            Kind::List => Ok(Book {
+                ty: Ty::List(inner),
+                doc: Doc::Hold(Shape::List(ListShape { count: size }), records),
+            }),
+            Kind::Keyed => Ok(Book {
+                ty: Ty::Keyed(inner),
+                doc: keyed(alloc, size, records)?,
+            }),
+        }
+    }
+}
+
+/// The key of a number: eight digits, so that keys are in the order of their numbers.
+pub fn key(alloc: Global, number: u64) -> Result<Name, AllocError> {
+    Ok(Name::from_string(format!(in alloc; "{number:08}")?))
+}
+
+/// The name that a text is.
+pub fn name(alloc: Global, text: &str) -> Result<Name, AllocError> {
+    Ok(Name::from_string(String::from_str(alloc, text)?))
+}
+
+/// The number of contents of a container.
+pub fn record_count(doc: &Doc) -> usize {
+    match doc {
+        Doc::Hold(_, records) => records.len(),
+        _ => 0,
+    }
+}
+
+// The type of a record.
+fn record_type(alloc: Global) -> Result<Ty, AllocError> {
+    let mut fields = Vec::new(alloc);
+    fields.push((name(alloc, "born")?, Ty::Int(0)))?;
+    for field in ["city", "name", "phone"] {
+        fields.push((name(alloc, field)?, Ty::Text(Str::empty(alloc))))?;
+    }
+    Ok(Ty::Rec(Fields::from_vec(fields)))
+}
+
+// The records of the numbers below a size.
+fn records(alloc: Global, size: u64) -> Result<Docs, AllocError> {
+    let mut records = Vec::new(alloc);
+    for number in 0..size {
+        records.push(record(alloc, number)?)?;
+    }
+    Docs::from_vec(alloc, records)
+}
+
+// The record of a number.
+fn record(alloc: Global, number: u64) -> Result<Doc, AllocError> {
+    let mut contents = Vec::new(alloc);
+    contents.push(Doc::Int((number % 100) as i64))?;
+    contents.push(text(format!(in alloc; "city {number}")?))?;
+    contents.push(text(format!(in alloc; "name {number}")?))?;
+    contents.push(text(format!(in alloc; "phone {number}")?))?;
+    Ok(Doc::Rec(Docs::from_vec(alloc, contents)?))
+}
+
+fn text(string: String) -> Doc {
+    Doc::Text(Str::from_string(string))
+}
+
+// A keyed map of records.
+fn keyed(alloc: Global, size: u64, records: Docs) -> anyhow::Result<Doc> {
+    let names = SharedList::from_vec(alloc, keys(alloc, size)?)?;
+    match KeyedShape::from_names(names) {
+        Some(keys) => Ok(Doc::Hold(Shape::Keyed(keys), records)),
+        None => bail!("there are too many keys"),
+    }
+}
+
+// The keys of the numbers below a size.
+fn keys(alloc: Global, size: u64) -> Result<Vec<Name>, AllocError> {
+    let mut keys = Vec::new(alloc);
+    for number in 0..size {
+        keys.push(key(alloc, number)?)?;
+    }
+    Ok(keys)
+}

@@ -1,0 +1,71 @@
+//! What the program can be told to do.
+
+use crate::action::applied;
+use crate::address_book::{Kind, record_count};
+use crate::deep::records_below;
+use crate::edits::{Edit, inserted, words_of};
+use crate::json::{read_back, written};
+use std::alloc::Global;
+
+/// What is done with a document.
+#[derive(Drop)]
+pub enum Task {
+    /// Words of one edit are applied to it.
+    Edit(Kind, Edit),
+    /// A tree is written of it.
+    Write(Kind),
+    /// It is read from its tree.
+    Read(Kind),
+    /// It is copied and edited below as many lists as a type may nest, and dropped.
+    Deep,
+    /// A word of as many inserts as it would have records is applied to the empty list.
+    Inserts,
+}
+
+impl Task {
+    /// The task of a name.
+    pub fn named(name: &str) -> Option<Task> {
+        match name {
+            "list-mod" => Some(Task::Edit(Kind::List, Edit::Mod)),
+            "list-ins" => Some(Task::Edit(Kind::List, Edit::Ins)),
+            "list-del" => Some(Task::Edit(Kind::List, Edit::Del)),
+            "list-move" => Some(Task::Edit(Kind::List, Edit::Move)),
+            "list-write" => Some(Task::Write(Kind::List)),
+            "list-read" => Some(Task::Read(Kind::List)),
+            "list-deep" => Some(Task::Deep),
+            "list-inserts" => Some(Task::Inserts),
+            "keyed-mod" => Some(Task::Edit(Kind::Keyed, Edit::Mod)),
+            "keyed-put" => Some(Task::Edit(Kind::Keyed, Edit::Put)),
+            "keyed-drop" => Some(Task::Edit(Kind::Keyed, Edit::Drop)),
+            "keyed-rename" => Some(Task::Edit(Kind::Keyed, Edit::Rename)),
+            "keyed-write" => Some(Task::Write(Kind::Keyed)),
+            "keyed-read" => Some(Task::Read(Kind::Keyed)),
+            _ => None,
+        }
+    }
+
+    /// The number of records that are left after the task was done so often to a document of this size.
+    pub fn records_left(&self, alloc: Global, size: u64, times: u64) -> anyhow::Result<usize> {
+        match self {
+            Task::Edit(kind, edit) => {
+                let book = kind.book(alloc, size)?;
+                let words = words_of(alloc, *kind, *edit, size)?;
+                Ok(record_count(&applied(alloc, &book, &words, times)?))
+            }
+            Task::Write(kind) => {
+                let book = kind.book(alloc, size)?;
+                written(alloc, &book, times)?;
+                Ok(record_count(&book.doc))
+            }
+            Task::Read(kind) => {
+                let book = kind.book(alloc, size)?;
+                Ok(record_count(&read_back(alloc, book, times)?))
+            }
+            Task::Deep => records_below(alloc, Kind::List.book(alloc, size)?, times),
+            Task::Inserts => {
+                let empty = Kind::List.book(alloc, 0)?;
+                Ok(record_count(&inserted(alloc, &empty, size, times)?))
+            }
+        }
+    }
+}
