@@ -117,12 +117,7 @@ fn text_items(alloc: Global, texts: &SharedList<Str>) -> Result<Value> {
 pub fn are_below(origins: &Origins, places: usize) -> bool
     ensures { IsTrue result → All (IsBelow places) origins.now }
 {
-    for origin in origins {
-        if !is_below(&origin, places) {
-            return false;
-        }
-    }
-    true
+    origins.iter().all(|origin| is_below(&origin, places))
 }
 
 // Whether an origin is fresh or below the number of places.
