@@ -59,11 +59,14 @@ pub fn record_count(doc: &Doc) -> usize {
     }
 }
 
+// The fields of a record that are texts. Before them, by bytes, comes the int `born`.
+const TEXTS: [&str; 3] = ["city", "name", "phone"];
+
 // The type of a record.
 fn record_type(alloc: Global) -> Result<Ty, AllocError> {
     let mut fields = Vec::new(alloc);
     fields.push((name(alloc, "born")?, Ty::Int(0)))?;
-    for field in ["city", "name", "phone"] {
+    for field in TEXTS {
         fields.push((name(alloc, field)?, Ty::Text(Str::empty(alloc))))?;
     }
     Ok(Ty::Rec(Fields::from_vec(fields)))
@@ -82,14 +85,11 @@ fn records(alloc: Global, size: u64) -> Result<Docs, AllocError> {
 fn record(alloc: Global, number: u64) -> Result<Doc, AllocError> {
     let mut contents = Vec::new(alloc);
     contents.push(Doc::Int((number % 100) as i64))?;
-    contents.push(text(format!(in alloc; "city {number}")?))?;
-    contents.push(text(format!(in alloc; "name {number}")?))?;
-    contents.push(text(format!(in alloc; "phone {number}")?))?;
+    for field in TEXTS {
+        let text = format!(in alloc; "{field} {number}")?;
+        contents.push(Doc::Text(Str::from_string(text)))?;
+    }
     Ok(Doc::Rec(Docs::from_vec(alloc, contents)?))
-}
-
-fn text(string: String) -> Doc {
-    Doc::Text(Str::from_string(string))
 }
 
 // A keyed map of records.

@@ -8,7 +8,7 @@ use crate::json::{read_back, written};
 use std::alloc::Global;
 
 /// What is done with a document.
-#[derive(Drop)]
+#[derive(Clone, Copy)]
 pub enum Task {
     /// Words of one edit are applied to it.
     Edit(Kind, Edit),
@@ -45,27 +45,45 @@ impl Task {
     }
 
     /// The number of records that are left after the task was done so often to a document of this size.
-    pub fn records_left(&self, alloc: Global, size: u64, times: u64) -> anyhow::Result<usize> {
+    pub fn records_left(self, alloc: Global, size: u64, times: u64) -> anyhow::Result<usize> {
         match self {
-            Task::Edit(kind, edit) => {
-                let book = kind.book(alloc, size)?;
-                let words = words_of(alloc, *kind, *edit, size)?;
-                Ok(record_count(&applied(alloc, &book, &words, times)?))
-            }
-            Task::Write(kind) => {
-                let book = kind.book(alloc, size)?;
-                written(alloc, &book, times)?;
-                Ok(record_count(&book.doc))
-            }
-            Task::Read(kind) => {
-                let book = kind.book(alloc, size)?;
-                Ok(record_count(&read_back(alloc, book, times)?))
-            }
-            Task::Deep => records_below(alloc, Kind::List.book(alloc, size)?, times),
-            Task::Inserts => {
-                let empty = Kind::List.book(alloc, 0)?;
-                Ok(record_count(&inserted(alloc, &empty, size, times)?))
-            }
+            Task::Edit(kind, edit) => records_edited(alloc, kind, edit, size, times),
+            Task::Write(kind) => records_written(alloc, kind, size, times),
+            Task::Read(kind) => records_read(alloc, kind, size, times),
+            Task::Deep => records_below_lists(alloc, size, times),
+            Task::Inserts => records_inserted(alloc, size, times),
         }
     }
+}
+
+fn records_edited(
+    alloc: Global,
+    kind: Kind,
+    edit: Edit,
+    size: u64,
+    times: u64,
+) -> anyhow::Result<usize> {
+    let book = kind.book(alloc, size)?;
+    let words = words_of(alloc, kind, edit, size)?;
+    Ok(record_count(&applied(alloc, &book, &words, times)?))
+}
+
+fn records_written(alloc: Global, kind: Kind, size: u64, times: u64) -> anyhow::Result<usize> {
+    let book = kind.book(alloc, size)?;
+    written(alloc, &book, times)?;
+    Ok(record_count(&book.doc))
+}
+
+fn records_read(alloc: Global, kind: Kind, size: u64, times: u64) -> anyhow::Result<usize> {
+    let book = kind.book(alloc, size)?;
+    Ok(record_count(&read_back(alloc, book, times)?))
+}
+
+fn records_below_lists(alloc: Global, size: u64, times: u64) -> anyhow::Result<usize> {
+    records_below(alloc, Kind::List.book(alloc, size)?, times)
+}
+
+fn records_inserted(alloc: Global, count: u64, times: u64) -> anyhow::Result<usize> {
+    let empty = Kind::List.book(alloc, 0)?;
+    Ok(record_count(&inserted(alloc, &empty, count, times)?))
 }
