@@ -21,9 +21,14 @@ const MOST_LEVELS: u32 = 128;
 pub fn run_carry(alloc: Global, case: &Case<'_>) -> Result<Value> {
     let typed = typed(alloc, case.text("program")?)?;
     let side = side(case.argument("side")?)?;
+    carried_in_case(alloc, typed.form(), side, case)
+}
+
+// What the edit of a case is translated to, with its complement.
+fn carried_in_case(alloc: Global, form: &Form, side: Side, case: &Case<'_>) -> Result<Value> {
     let complement = complement_within(alloc, MOST_LEVELS, case.argument("complement")?)?;
     let word = word_of(alloc, case.argument("edit")?)?;
-    carried(alloc, typed.form(), side, &complement, &word)
+    carried(alloc, form, side, &complement, &word)
 }
 
 fn carried(
