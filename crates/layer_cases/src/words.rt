@@ -1,0 +1,94 @@
+//! Calls on words of edits, and on sides.
+
+use crate::answers::{fault, labelled, ok, ok_bool, pair, text};
+use crate::arguments::side;
+use crate::bytes::tree;
+use crate::case::Case;
+use crate::type_trees::{doc_of, ok_doc, ty_of};
+use crate::word_trees::{ok_word, word_of};
+use anyhow::{Result, bail};
+use doc_values::{Doc, Ty};
+use edit_journal::side_text;
+use edit_json::{EditFault, has_tree, read_word};
+use edit_module::{ActFault, Cause, Word, act};
+use serde_json::Value;
+use std::alloc::Global;
+
+/// Runs `act`: the document after the word, or the number and the cause. It is refused if the type is ill formed.
+pub fn run_act(alloc: Global, case: &Case<'_>) -> Result<Value> {
+    let ty = ty_of(alloc, case.argument("type")?)?;
+    let doc = doc_of(alloc, &ty, case.argument("doc")?)?;
+    let word = word_of(alloc, case.argument("edit")?)?;
+    after(alloc, &ty, &word, &doc)
+}
+
+fn after(alloc: Global, ty: &Ty, word: &Word, doc: &Doc) -> Result<Value> {
+    if !ty.is_well_formed() || !doc.has_type(ty) {
+        bail!("the type is ill formed");
+    }
+    match act(alloc, ty, word, doc) {
+        Ok(after) => ok_doc(alloc, ty, &after),
+        Err(fault) => act_fault(alloc, &fault),
+    }
+}
+
+fn act_fault(alloc: Global, fault: &ActFault) -> Result<Value> {
+    match fault {
+        ActFault::NoApply { at, cause } => no_apply(alloc, *at, *cause),
+        ActFault::NoMemory => bail!("out of memory"),
+    }
+}
+
+fn no_apply(alloc: Global, at: u64, cause: Cause) -> Result<Value> {
+    let cause = text(alloc, cause_text(cause))?;
+    pair(alloc, ("at", Value::from(at)), ("cause", cause))
+}
+
+fn cause_text(cause: Cause) -> &'static str {
+    match cause {
+        Cause::Kind => "kind",
+        Cause::Place => "place",
+        Cause::Tag => "tag",
+        Cause::Range => "range",
+        Cause::Overflow => "overflow",
+        Cause::Value => "value",
+        Cause::Present => "present",
+        Cause::Length => "length",
+        Cause::Deep => "deep",
+    }
+}
+
+/// Runs `read_word`: the tree of the word that was read, or the fault.
+pub fn run_read_word(alloc: Global, case: &Case<'_>) -> Result<Value> {
+    let tree = tree(alloc, case)?;
+    match read_word(alloc, &tree) {
+        Ok(word) => ok_word(alloc, &word),
+        Err(EditFault::NotAnEdit) => fault(alloc, "not-an-edit"),
+        Err(EditFault::NoMemory) => bail!("out of memory"),
+    }
+}
+
+/// Runs `has_tree`.
+pub fn run_has_tree(alloc: Global, case: &Case<'_>) -> Result<Value> {
+    let word = word_of(alloc, case.argument("edit")?)?;
+    ok_bool(alloc, has_tree(&word))
+}
+
+/// Runs `len`: the number of primitives.
+pub fn run_len(alloc: Global, case: &Case<'_>) -> Result<Value> {
+    let word = word_of(alloc, case.argument("edit")?)?;
+    ok(alloc, Value::from(word.len()))
+}
+
+/// Runs `joined`.
+pub fn run_joined(alloc: Global, case: &Case<'_>) -> Result<Value> {
+    let first = word_of(alloc, case.argument("first")?)?;
+    let second = word_of(alloc, case.argument("second")?)?;
+    ok_word(alloc, &first.joined(second)?)
+}
+
+/// Runs `other`: the other side.
+pub fn run_other(alloc: Global, case: &Case<'_>) -> Result<Value> {
+    let side = side(case.argument("side")?)?;
+    labelled(alloc, "ok", side_text(side.other()))
+}
