@@ -26,8 +26,8 @@ fn main(rt: HostRuntime) -> anyhow::Result<()> {
     let times = words[3].as_str().parse::<u64>()?;
     for name in NAMES {
         if words[1].as_str() == name || words[1].as_str() == "every" {
-            let records = records_left(alloc, name, size, times)?;
-            println!(rt; "{name}: {records} records")?;
+            let line = line_of(alloc, name, size, times)?;
+            println!(rt; "{line}")?;
         }
     }
     Ok(())
@@ -51,10 +51,11 @@ const NAMES: [&str; 14] = [
     "keyed-read",
 ];
 
-// The number of records that the task of a name leaves.
-fn records_left(alloc: Global, name: &str, size: u64, times: u64) -> anyhow::Result<usize> {
-    match Task::named(name) {
-        Some(task) => task.records_left(alloc, size, times),
-        None => bail!("there is no such task"),
-    }
+// The line of the task of a name, after it was done.
+fn line_of(alloc: Global, name: &str, size: u64, times: u64) -> anyhow::Result<String> {
+    let Some(task) = Task::named(name) else {
+        bail!("there is no such task");
+    };
+    let records = task.records_left(alloc, size, times)?;
+    Ok(format!(in alloc; "{name}: {records} records")?)
 }
