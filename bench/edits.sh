@@ -7,7 +7,7 @@
 # the word `over` after a ratio that is above the wanted one: at most 3 at 100,000 (not of `del`, `drop` and `rename`), and at most 8
 # at 1,000,000 on a list and 12 on a keyed map. The line below has the same edit of Python's own list or dictionary, changed in place.
 #
-# Below the edits stand a word of 100,000 inserts on an empty list (wanted: less than a second), the milliseconds and the most memory of
+# Above the edits are a word of 100,000 inserts on an empty list (wanted: less than a second), the milliseconds and the most memory of
 # writing and reading 100,000 records, and a document of a million records and 32 levels that is copied, edited and dropped.
 # The program is built first if it is not there: `rt run` in crates/edits_bench.
 set -euo pipefail
@@ -74,13 +74,7 @@ def row(name, seconds, wanted=(None, None)):
     print('%-14s %s' % (name, times.rstrip()), flush=True)
 
 
-random.seed(1)
-print('%-14s %10s %10s %10s %10s %8s %4s %8s' % ('edit (µs)', '1,000', '10,000', '100,000', '1,000,000', '100,000', '', '1,000,000'))
-for task, (near, far, statement) in EDITS.items():
-    # one time of the program makes a thousand edits
-    row(task, [once(task, size, 100) / 1000 for size in SIZES], (near, far))
-    row('  in Python', [in_python(statement, size) for size in SIZES])
-
+# what a run holds comes first: a run counts what this process held when it began it
 print('a word of 100,000 inserts: %.3f s' % run('list-inserts', 100000, 1)[1])
 for kind in ['list', 'keyed']:
     print('%s of 100,000 records: %.0f MB held' % (kind, run(kind + '-write', 100000, 0)[2]))
@@ -88,4 +82,11 @@ for kind in ['list', 'keyed']:
         print('%s: %.1f ms, %.0f MB held' % (task, once(task, 100000, 10) * 1e3, run(task, 100000, 1)[2]), flush=True)
 line, seconds, held = run('list-deep', 1000000, 1)
 print('%s, %.1f s, %.0f MB held' % (line, seconds, held))
+
+random.seed(1)
+print('%-14s %10s %10s %10s %10s %8s %4s %8s' % ('edit (µs)', '1,000', '10,000', '100,000', '1,000,000', '100,000', '', '1,000,000'))
+for task, (near, far, statement) in EDITS.items():
+    # one time of the program makes a thousand edits
+    row(task, [once(task, size, 100) / 1000 for size in SIZES], (near, far))
+    row('  in Python', [in_python(statement, size) for size in SIZES])
 PYTHON
