@@ -13,7 +13,7 @@ use value_json::{read_counts, read_doc, write_compact, write_counts, write_doc_t
 // The type of records of a list of ints `a`.
 fn record_ty(alloc: Global) -> Result<Ty, Fail> {
     let name = Name::from_string(String::from_str(alloc, "a")?);
-    let list = Ty::List(Box::new(alloc, Ty::Int)?);
+    let list = Ty::List(Box::new(alloc, Ty::Int(0))?);
     Ok(Ty::Rec(Fields::from_vec(vec![in alloc; (name, list)]?)))
 }
 

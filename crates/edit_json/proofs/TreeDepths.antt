@@ -1,5 +1,5 @@
 -- The tree of a word has no float, and each level of words adds three levels to it.
-use Rattle.std.proofs.Common.{◌≡◌, ℕ, ◌+◌, ◌*◌, ◌≤◌, ℤ, pos, negsuc, List, [], ◌∷◌, false, refl, arith}
+use Rattle.std.proofs.Common.{◌≡◌, ◌+◌, ◌*◌, ◌≤◌, ℤ, pos, negsuc, false, refl, arith}
 use Rattle.hold_shapes.specs.declared.edit.Place.{Place}
 use Rattle.hold_shapes.specs.declared.edit.Place.TheVariants as places
 use Rattle.hold_shapes.specs.declared.edit.ShapeEdit.{ShapeEdit}
@@ -9,20 +9,13 @@ use Rattle.edit_module.specs.declared.atom.Atom.TheVariants as atoms
 use Rattle.serde_json.specs.Data.{depth, items_depth}
 use Rattle.serde_json.specs.Written.{has_float, items_have_float}
 use Rattle.edit_module.specs.Words.{PrimitiveTree, set, add, splice, at, stay, switch, modify, shape, WordTree, no_primitives, more_primitives}
-use Rattle.value_json.specs.Numbers.{int_tree, count_items}
+use Rattle.value_json.specs.Numbers.{int_tree}
+use Rattle.value_json.proofs.TreeDepths.{int_whole, counts_whole, counts_flat}
 use Rattle.edit_json.specs.Values.{tree_of_atom, tree_of_place}
 use Rattle.edit_json.specs.WordJson.{tree_of_shape_edit, tree_of_primitive, items_of_word, tree_of_word}
 use Rattle.edit_json.specs.Depths.{primitive_depth, word_depth}
 
 -- ---- no float
-
-int_whole : (n : ℤ) → has_float (int_tree n) ≡ false
-int_whole (pos n) = refl
-int_whole (negsuc n) = refl
-
-counts_whole : (ns : List ℕ) → items_have_float (count_items ns) ≡ false
-counts_whole [] = refl
-counts_whole (n ∷ ns) = counts_whole ns
 
 atom_whole : (v : Atom) → has_float (tree_of_atom v) ≡ false
 atom_whole (atoms.Truth b) = refl
@@ -66,10 +59,6 @@ pub whole : (w : WordTree) → has_float (tree_of_word w) ≡ false
 whole w = items_whole w
 
 -- ---- depth
-
-counts_flat : (ns : List ℕ) → items_depth (count_items ns) ≡ 0
-counts_flat [] = refl
-counts_flat (n ∷ ns) = omega (arith, counts_flat ns)
 
 int_flat : (n : ℤ) → depth (int_tree n) ≡ 0
 int_flat (pos n) = refl

@@ -1,11 +1,13 @@
 -- The rows of the action on containers, for any kind of container.
-use Rattle.std.proofs.Common.{◌≡◌, Bool, true, false, Err, refl, ap, ap₂, ◌∙◌, rules}
+use Rattle.std.proofs.Common.{◌≡◌, Bool, true, false, List, map, Ok, Err, refl, sym, ap, ap₂, ◌∙◌, rules}
 use Rattle.hold_shapes.specs.declared.shape.Shape.{Shape as ShapeOf}
 use Rattle.hold_shapes.specs.declared.edit.Place.{Place as PlaceOf}
 use Rattle.hold_shapes.specs.declared.edit.Place.TheVariants.{Index, Key, Node}
 use Rattle.hold_shapes.specs.declared.edit.ShapeEdit.{ShapeEdit}
-use Rattle.hold_shapes.specs.Plans.{plan}
-use Rattle.doc_values.specs.Documents.{DocTree, DocTrees, hold, doc_tree, docs_tree}
+use Rattle.hold_shapes.specs.declared.origins.Origin.{Origin}
+use Rattle.hold_shapes.specs.Plans.{plan, Planned}
+use Rattle.hold_shapes.specs.Gather.{content_at}
+use Rattle.doc_values.specs.Documents.{DocTree, DocTrees, docs_of, doc_list, hold, doc_tree, docs_tree}
 use Rattle.doc_values.specs.declared.doc.Doc.{Doc, the_lemmas as doc_lemmas}
 use Rattle.doc_values.specs.declared.doc.Doc.TheVariants.{Hold}
 use Rattle.doc_values.specs.declared.doc.Docs.{Docs}
@@ -19,7 +21,7 @@ use Rattle.edit_module.specs.Words.{PrimitiveTree, modify, shape, WordTree}
 use Rattle.edit_module.specs.Views.{primitive_tree}
 use Rattle.edit_module.specs.declared.word.Primitive.{Primitive, the_lemmas as primitive_lemmas}
 use Rattle.edit_module.specs.declared.word.Primitive.TheVariants.{Shape}
-use Rattle.edit_module.specs.Action.{act, act_primitive, act_at_place, reshaped}
+use Rattle.edit_module.specs.Action.{act, act_primitive, act_at_place, gathered, reshaped}
 use Rattle.edit_module.specs.Containers.{IsHeld, container_ty, has_places_like}
 use Rattle.edit_module.proofs.ActionKeepsTypes.{list-held, keyed-held, tree-held}
 
@@ -82,7 +84,7 @@ container-other kinds.Tree t _ d h = refl
 primitive_tree-Shape : (e : ShapeEdit) → primitive_tree (Shape e) ≡ shape e
 primitive_tree-Shape e = search (rules, primitive_lemmas)
 
-doc_tree-Hold : (s : ShapeOf) (ds : Docs) → doc_tree (Hold s ds) ≡ hold s (docs_tree ds)
+pub doc_tree-Hold : (s : ShapeOf) (ds : Docs) → doc_tree (Hold s ds) ≡ hold s (docs_tree ds)
 doc_tree-Hold s ds = search (rules, doc_lemmas)
 
 pub shape_row : (k : Container) (t : TyTree) (p : Primitive) (e : ShapeEdit) (d : Doc) (s : ShapeOf) (ds : Docs) → p ≡ Shape e → d ≡ Hold s ds
@@ -91,3 +93,10 @@ shape_row k t p e d s ds edits holds =
     ap₂ (act_primitive (container_ty k t)) (ap primitive_tree edits ∙ primitive_tree-Shape e) (ap doc_tree holds ∙ doc_tree-Hold s ds) ∙ container-shape k t e s (docs_tree ds)
 
 pub ruleset container_rules = (container-is_hold, container-held, container-modify, container-no_place, container-shape, container-other)
+
+-- ---- a reshaped container
+
+pub reshaped-is : (p : Planned) (s : ShapeOf) (from : List Origin) (ds es : DocTrees) (d fresh : DocTree) → p ≡ Ok (s, from) → d ≡ fresh
+    → es ≡ docs_of (map (content_at (doc_list ds) d) from) → reshaped p ds fresh ≡ Ok (hold s es)
+reshaped-is p s from ds es d fresh e f g =
+    ap (λ q. reshaped q ds fresh) e ∙ ap (λ x. Ok (hold s (gathered from ds x))) (sym f) ∙ ap (λ x. Ok (hold s x)) (sym g)

@@ -15,6 +15,8 @@ pub use crate::action::act;
 pub use crate::atom::Atom;
 pub use crate::entry::Entry;
 pub use crate::fault::{ActFault, Cause};
-pub use crate::laws::{action_keeps_types, joined_acts_in_turn};
+pub use crate::laws::{
+    action_keeps_types, equal_words_act_alike, joined_acts_in_turn, normal_is_merged,
+};
 pub use crate::word::{Primitive as Prim, Word};
 pub use texts::Side;

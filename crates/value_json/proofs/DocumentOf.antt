@@ -1,5 +1,5 @@
 -- A document by the parts of its tree, a lemma for each type.
-use Rattle.std.proofs.Common.{◌≡◌, ℕ, length, Bool, true, false, ◌&&◌, List, Option, Some, None, option_map, option_and_then, codes, bytes_eq, cond, refl, sym, ap}
+use Rattle.std.proofs.Common.{◌≡◌, ℕ, ℤ, length, Bool, true, false, ◌&&◌, List, Option, Some, None, option_map, option_and_then, codes, bytes_eq, cond, refl, sym, ap}
 use Rattle.std.specs.Prelude.{if◌then◌else◌, is_some}
 use Rattle.texts.specs.Keys.{has_name}
 use Rattle.serde_json.specs.Data.{Data, null, boolean, number, string, array, object, Items, no_members, member}
@@ -22,20 +22,20 @@ pub truth_of : (d : Data) → document_of ty_bool d ≡ option_map truth (as_boo
 truth_of (boolean b) = refl
 truth_of d = refl
 
-pub whole_of : (d : Data) → document_of ty_int d ≡ option_map int (int_of d)
-whole_of (number n) = refl
-whole_of d = refl
+pub whole_of : (i : ℤ) (d : Data) → document_of (ty_int i) d ≡ option_map int (int_of d)
+whole_of i (number n) = refl
+whole_of i d = refl
 
-pub text_of : (d : Data) → document_of ty_text d ≡ option_map text (as_str d)
-text_of (string s) = refl
-text_of d = refl
+pub text_of : (i : List ℕ) (d : Data) → document_of (ty_text i) d ≡ option_map text (as_str d)
+text_of i (string s) = refl
+text_of i d = refl
 
 abbrev pub pick_among : List (List ℕ) → List ℕ → Option DocTree
 pick_among ms s = if has_name s ms then Some (pick s) else None
 
-pub pick_of : (ms : List (List ℕ)) (d : Data) → document_of (ty_enum ms) d ≡ option_and_then (pick_among ms) (as_str d)
-pick_of ms (string s) = refl
-pick_of ms d = refl
+pub pick_of : (ms : List (List ℕ)) (i : List ℕ) (d : Data) → document_of (ty_enum ms i) d ≡ option_and_then (pick_among ms) (as_str d)
+pick_of ms i (string s) = refl
+pick_of ms i d = refl
 
 pub rec_of : (fs : FieldTrees) (d : Data) → document_of (ty_rec fs) d ≡ option_and_then (λ ms. option_map rec (field_documents fs ms)) (as_object d)
 rec_of fs (object ms) = refl

@@ -1,12 +1,12 @@
 -- Loops that read contents one after another: the contents so far, and those of what is left.
 use Rattle.std.proofs.Math.Seq.{drop-cons}
 use Rattle.std.proofs.lemmas.List.{drop_all}
-use Rattle.std.proofs.Common.{◌≡◌, ℕ, zero, suc, ◌+◌, add-one, ◌<◌, ◌≤◌, true, bytes_eq, cond, List, [], ◌∷◌, ◌++◌, map, drop, length, get_or, Option, Some, None, option_map, option_and_then, refl, sym, ap, ◌∙◌, arith}
+use Rattle.std.proofs.Common.{◌≡◌, ℕ, suc, ◌+◌, add-one, ◌<◌, ◌≤◌, true, bytes_eq, cond, List, [], ◌∷◌, ◌++◌, map, drop, length, get_or, Option, Some, None, option_map, option_and_then, refl, sym, ap, ◌∙◌}
 use Rattle.serde_json.specs.Data.{Data, Members, no_members, member}
 use Rattle.serde_json.specs.View.{view, items_view}
 use Rattle.serde_json.specs.declared.value.Value.{Value}
 use Rattle.doc_values.specs.Documents.{DocTree, DocTrees, no_docs, more_docs, docs_of}
-use Rattle.doc_values.specs.Types.{TyTree, type_fields_of, field_tree, ty_tree, height, highest}
+use Rattle.doc_values.specs.Types.{TyTree, type_fields_of, field_tree, ty_tree}
 use Rattle.doc_values.specs.declared.ty.Ty.{Ty}
 use Rattle.value_json.specs.DocumentJson.{document_of, field_documents, member_documents, item_documents}
 use Rattle.value_json.proofs.Counts.{left_items}
@@ -66,13 +66,3 @@ next_field fs i f k d ms cs c within is same h =
 
 pub fields_done : (fs : List (List ℕ × Ty)) (i : ℕ) (cs : List DocTree) → length fs ≤ i → option_map (then_docs cs) (field_documents (type_fields_of (map field_tree (drop i fs))) no_members) ≡ Some (docs_of cs)
 fields_done fs i cs past = ap (λ xs. option_map (then_docs cs) (field_documents (type_fields_of (map field_tree xs)) no_members)) (drop_all i fs past) ∙ ap Some (then_docs-nil cs)
-
--- ---- heights
-
-height_at : (fs : List (List ℕ × Ty)) (i : ℕ) (f : List ℕ × Ty) → i < length fs → height (ty_tree (get_or fs i f).1) ≤ highest (type_fields_of (map field_tree fs))
-height_at [] i f h = absurd (omega arith)
-height_at (x ∷ fs) zero f h = omega arith
-height_at (x ∷ fs) (suc i) f h = omega (arith, height_at fs i f (omega arith))
-
-pub field_height : (fs : List (List ℕ × Ty)) (i : ℕ) (f : List ℕ × Ty) → i < length fs → f ≡ get_or fs i f → height (ty_tree f.1) ≤ highest (type_fields_of (map field_tree fs))
-field_height fs i f h is = let e = ap (λ (g : List ℕ × Ty). height (ty_tree g.1)) is in omega (arith, e, height_at fs i f h)

@@ -83,12 +83,12 @@ mutual
   pub takes : (t : TyTree) (d : Data) (v : DocTree) → document_of t d ≡ Some v → IsRead t d v
   takes ty_unit null v h = let e : unit ≡ v = cc in read_as _ _ _ v e (record { tree = refl; typed = refl; whole = refl })
   takes ty_bool (boolean b) v h = let e : truth b ≡ v = cc in read_as _ _ _ v e (record { tree = refl; typed = refl; whole = refl })
-  takes ty_int (number x) v h =
+  takes (ty_int i) (number x) v h =
       let m = map_some int (int_in x) v h in
       let r = int_takes x m.0 m.1 in
       read_as _ _ _ v m.2 (record { tree = ap number r.0; typed = refl; whole = r.1 })
-  takes ty_text (string s) v h = let e : text s ≡ v = cc in read_as _ _ _ v e (record { tree = refl; typed = refl; whole = refl })
-  takes (ty_enum ms) (string s) v h = let p = if_some (has_name s ms) (pick s) v h in read_as _ _ _ v p.1 (record { tree = refl; typed = p.0; whole = refl })
+  takes (ty_text i) (string s) v h = let e : text s ≡ v = cc in read_as _ _ _ v e (record { tree = refl; typed = refl; whole = refl })
+  takes (ty_enum ms i) (string s) v h = let p = if_some (has_name s ms) (pick s) v h in read_as _ _ _ v p.1 (record { tree = refl; typed = p.0; whole = refl })
   takes (ty_rec fs) (object ms) v h =
       let m = map_some rec (field_documents fs ms) v h in
       let r = fields_take fs ms m.0 m.1 in

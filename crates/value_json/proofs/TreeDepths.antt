@@ -12,11 +12,11 @@ use Rattle.value_json.specs.DocumentJson.{tree_of_document, field_members, key_m
 
 -- ---- no float
 
-int_whole : (z : ℤ) → has_float (int_tree z) ≡ false
+pub int_whole : (z : ℤ) → has_float (int_tree z) ≡ false
 int_whole (pos n) = refl
 int_whole (negsuc n) = refl
 
-counts_whole : (ns : List ℕ) → items_have_float (count_items ns) ≡ false
+pub counts_whole : (ns : List ℕ) → items_have_float (count_items ns) ≡ false
 counts_whole [] = refl
 counts_whole (n ∷ ns) = counts_whole ns
 
@@ -31,9 +31,9 @@ mutual
   pub whole : (t : TyTree) (d : DocTree) → has_float (tree_of_document t d) ≡ false
   whole ty_unit unit = refl
   whole ty_bool (truth b) = refl
-  whole ty_int (int z) = int_whole z
-  whole ty_text (text s) = refl
-  whole (ty_enum ms) (pick n) = refl
+  whole (ty_int i) (int z) = int_whole z
+  whole (ty_text i) (text s) = refl
+  whole (ty_enum ms i) (pick n) = refl
   whole (ty_rec fs) (rec ds) = fields_whole fs ds
   whole (ty_alt fs) (alt n d) = neither _ false (content_whole (lookup_type fs n) d (λ t. whole t d)) refl
   whole (ty_list t) (hold (ListOf s) ds) = items_whole t ds
@@ -58,16 +58,16 @@ mutual
 pub high : (t : TyTree) → 0 < 2 * height t
 high ty_unit = omega arith
 high ty_bool = omega arith
-high ty_int = omega arith
-high ty_text = omega arith
-high (ty_enum ms) = omega arith
+high (ty_int i) = omega arith
+high (ty_text i) = omega arith
+high (ty_enum ms i) = omega arith
 high (ty_rec fs) = omega arith
 high (ty_alt fs) = omega arith
 high (ty_list t) = omega arith
 high (ty_keyed t) = omega arith
 high (ty_ordered t) = omega arith
 
-counts_flat : (ns : List ℕ) → items_depth (count_items ns) ≡ 0
+pub counts_flat : (ns : List ℕ) → items_depth (count_items ns) ≡ 0
 counts_flat [] = refl
 counts_flat (n ∷ ns) = omega (arith, counts_flat ns)
 
@@ -86,9 +86,9 @@ mutual
   pub shallow : (t : TyTree) (d : DocTree) → depth (tree_of_document t d) < 2 * height t
   shallow ty_unit unit = omega arith
   shallow ty_bool (truth b) = omega arith
-  shallow ty_int (int z) = omega arith
-  shallow ty_text (text s) = omega arith
-  shallow (ty_enum ms) (pick n) = omega arith
+  shallow (ty_int i) (int z) = omega arith
+  shallow (ty_text i) (text s) = omega arith
+  shallow (ty_enum ms i) (pick n) = omega arith
   shallow (ty_rec fs) (rec ds) = omega (arith, fields_shallow fs ds)
   shallow (ty_alt fs) (alt n d) = omega (arith, content_shallow fs (lookup_type fs n) d (λ s e. tag_height fs n s e) (λ t. shallow t d))
   shallow (ty_list t) (hold (ListOf s) ds) = omega (arith, items_shallow t ds)

@@ -56,9 +56,9 @@ mutual
   pub apart : (t : TyTree) (d e : DocTree) → has t d ≡ true → has t e ≡ true → tree_of_document t d ≡ tree_of_document t e → d ≡ e
   apart ty_unit unit unit h k q = refl
   apart ty_bool (truth b) (truth c) h k q = cc
-  apart ty_int (int y) (int z) h k q = let same : of_integer y ≡ of_integer z = cc in ap int (int_apart y z same)
-  apart ty_text (text r) (text s) h k q = cc
-  apart (ty_enum ms) (pick m) (pick n) h k q = cc
+  apart (ty_int i) (int y) (int z) h k q = let same : of_integer y ≡ of_integer z = cc in ap int (int_apart y z same)
+  apart (ty_text i) (text r) (text s) h k q = cc
+  apart (ty_enum ms i) (pick m) (pick n) h k q = cc
   apart (ty_rec fs) (rec ds) (rec es) h k q = let same : field_members fs ds ≡ field_members fs es = cc in ap rec (fields_apart fs ds es h k same)
   apart (ty_alt fs) (alt n d) (alt m e) h k q = let name : n ≡ m = cc in tag_apart fs n m d e (λ t. apart t d e) name h k q
   apart (ty_list t) (hold (ListOf r) ds) (hold (ListOf s) es) h k q =

@@ -2,10 +2,10 @@
 use Rattle.std.proofs.Math.Seq.{take-suc}
 use Rattle.std.proofs.lemmas.List.{map-append}
 use Rattle.std.proofs.lemmas.Cmp.{nat_list_cmp_total}
-use Rattle.std.proofs.Common.{◌≡◌, ℕ, zero, suc, ◌+◌, add-one, ◌<◌, true, false, ◌&&◌, List, [], ◌∷◌, ◌++◌, map, take, length, get_or, Ordering, Less, Equal, Greater, Some, None, option_map, refl, sym, ap, ◌∙◌, arith}
+use Rattle.std.proofs.Common.{◌≡◌, ℕ, zero, suc, ◌+◌, add-one, ◌<◌, true, false, List, [], ◌∷◌, ◌++◌, map, take, length, get_or, Ordering, Less, Equal, Greater, Some, None, option_map, refl, sym, ap, ◌∙◌, arith}
 use Rattle.std.specs.Ordering.{nat_cmp, is_lt, ordering_reverse}
 use Rattle.std.specs.Cmp.Lexicographic.{slice_cmp}
-use Rattle.texts.specs.Keys.{is_before, all_after, is_rising}
+use Rattle.texts.specs.Keys.{is_before, is_rising}
 use Rattle.serde_json.specs.Data.{Data, object, item, Members, no_members, member, put}
 use Rattle.serde_json.specs.View.{items_of}
 use Rattle.doc_values.specs.Documents.{DocTree, alt, docs_of, doc_tree}
@@ -16,6 +16,7 @@ use Rattle.doc_values.specs.declared.ty.Ty.{Ty}
 use Rattle.value_json.specs.Numbers.{count_tree, count_items}
 use Rattle.value_json.specs.DocumentJson.{tree_of_document, field_members, key_members, content_items, holds_i64s, all_hold_i64s}
 use Rattle.texts.proofs.Conjunction.{both, first as left, second as right}
+use Rattle.texts.proofs.KeyOrder.{after-all, rising-first, rising-rest}
 
 -- ---- names in byte order
 
@@ -24,25 +25,12 @@ is_less Less h = refl
 is_less Equal h = cc
 is_less Greater h = cc
 
-before_trans : (a b c : List ℕ) → is_before a b ≡ true → is_before b c ≡ true → is_before a c ≡ true
-before_trans a b c h k = ap is_lt (nat_list_cmp_total.trans a b c (is_less _ h) (is_less _ k))
-
--- a name that stands before the first of rising names stands before the next, too
-skip_one : (x y : List ℕ) (ns : List (List ℕ)) → is_rising (x ∷ y ∷ ns) ≡ true → is_rising (x ∷ ns) ≡ true
-skip_one x y [] h = refl
-skip_one x y (z ∷ ns) h =
-    let first = left (is_before x y) (is_before y z && is_rising (z ∷ ns)) h in
-    let rest = right (is_before x y) (is_before y z && is_rising (z ∷ ns)) h in
-    both (is_before x z) (is_rising (z ∷ ns)) (before_trans x y z first (left (is_before y z) (is_rising (z ∷ ns)) rest)) (right (is_before y z) (is_rising (z ∷ ns)) rest)
-
 after : (x y : List ℕ) → is_before x y ≡ true → slice_cmp nat_cmp y x ≡ Greater
 after x y h = nat_list_cmp_total.antisymm y x ∙ ap ordering_reverse (is_less (slice_cmp nat_cmp x y) h)
 
 -- each later name stands after the first
 pub above : (x : List ℕ) (ns : List (List ℕ)) (i : ℕ) (n : List ℕ) → i < length ns → is_rising (x ∷ ns) ≡ true → slice_cmp nat_cmp (get_or ns i n) x ≡ Greater
-above x [] i n h rising = absurd (omega arith)
-above x (y ∷ ns) zero n h rising = after x y (left (is_before x y) (is_rising (y ∷ ns)) rising)
-above x (y ∷ ns) (suc i) n h rising = above x ns i n (omega arith) (skip_one x y ns rising)
+above x ns i n h rising = after x (get_or ns i n) (after-all x ns i n (rising-first x ns rising) (rising-rest x ns rising) h)
 
 name_at : (fs : List (List ℕ × Ty)) (i : ℕ) (f : List ℕ × Ty) (n : List ℕ) → i < length fs → get_or (names_of (type_fields_of (map field_tree fs))) i n ≡ (get_or fs i f).0
 name_at [] i f n h = absurd (omega arith)
@@ -52,9 +40,6 @@ name_at (x ∷ fs) (suc i) f n h = name_at fs i f n (omega arith)
 names_length : (fs : List (List ℕ × Ty)) → length (names_of (type_fields_of (map field_tree fs))) ≡ length fs
 names_length [] = refl
 names_length (x ∷ fs) = ap suc (names_length fs)
-
-rest_rising : (x : List ℕ) (ns : List (List ℕ)) → is_rising (x ∷ ns) ≡ true → is_rising ns ≡ true
-rest_rising x ns h = right (all_after x ns) (is_rising ns) h
 
 -- ---- one more member
 
@@ -71,7 +56,7 @@ put_field_at (x ∷ fs) (y ∷ ds) (suc i) f d h k rising =
     let names = names_of (type_fields_of (map field_tree fs)) in
     let within : i < length names = omega (arith, names_length fs) in
     let later : slice_cmp nat_cmp (get_or fs i f).0 x.0 ≡ Greater = ap (λ n. slice_cmp nat_cmp n x.0) (sym (name_at fs i f [] (omega arith))) ∙ above x.0 names i [] within rising in
-    put_at _ _ _ _ _ _ later (put_field_at fs ds i f d (omega arith) (omega arith) (rest_rising x.0 names rising))
+    put_at _ _ _ _ _ _ later (put_field_at fs ds i f d (omega arith) (omega arith) (rising-rest x.0 names rising))
 
 pub put_field : (fs : List (List ℕ × Ty)) (ds : List Doc) (i : ℕ) (f : List ℕ × Ty) (d : Doc) → i < length fs → i < length ds → is_rising (names_of (type_fields_of (map field_tree fs))) ≡ true → f ≡ get_or fs i f → d ≡ get_or ds i d
     → put f.0 (tree_of_document (ty_tree f.1) (doc_tree d)) (field_members (type_fields_of (map field_tree (take i fs))) (docs_of (map doc_tree (take i ds))))
@@ -87,7 +72,7 @@ put_key_at t [] ds i n d h k rising = absurd (omega arith)
 put_key_at t (x ∷ ks) [] i n d h k rising = absurd (omega arith)
 put_key_at t (x ∷ ks) (y ∷ ds) zero n d h k rising = refl
 put_key_at t (x ∷ ks) (y ∷ ds) (suc i) n d h k rising =
-    put_at _ _ _ _ _ _ (above x ks i n (omega arith) rising) (put_key_at t ks ds i n d (omega arith) (omega arith) (rest_rising x ks rising))
+    put_at _ _ _ _ _ _ (above x ks i n (omega arith) rising) (put_key_at t ks ds i n d (omega arith) (omega arith) (rising-rest x ks rising))
 
 pub put_key : (t : TyTree) (ks : List (List ℕ)) (ds : List Doc) (i : ℕ) (n : List ℕ) (d : Doc) → i < length ks → i < length ds → is_rising ks ≡ true → n ≡ get_or ks i n → d ≡ get_or ds i d
     → put n (tree_of_document t (doc_tree d)) (key_members t (take i ks) (docs_of (map doc_tree (take i ds)))) ≡ key_members t (take (i + 1) ks) (docs_of (map doc_tree (take (i + 1) ds)))

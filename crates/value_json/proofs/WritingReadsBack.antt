@@ -59,9 +59,9 @@ mutual
   pub again : (t : TyTree) (d : DocTree) → has t d ≡ true → holds_i64s d ≡ true → document_of t (tree_of_document t d) ≡ Some d
   again ty_unit unit h k = refl
   again ty_bool (truth b) h k = refl
-  again ty_int (int z) h k = ap (option_map int) (int_again z k)
-  again ty_text (text s) h k = refl
-  again (ty_enum ms) (pick n) h k = rw h refl
+  again (ty_int i) (int z) h k = ap (option_map int) (int_again z k)
+  again (ty_text i) (text s) h k = refl
+  again (ty_enum ms i) (pick n) h k = rw h refl
   again (ty_rec fs) (rec ds) h k = ap (option_map rec) (fields_again fs ds h k)
   again (ty_alt fs) (alt n d) h k = tag_again n (lookup_type fs n) d (λ t p. again t d p k) h
   again (ty_list t) (hold (ListOf s) ds) h k =

@@ -16,9 +16,9 @@ abbrev mutual
   pub tree_of_document : TyTree → DocTree → Data
   tree_of_document ty_unit unit = null
   tree_of_document ty_bool (truth b) = boolean b
-  tree_of_document ty_int (int z) = int_tree z
-  tree_of_document ty_text (text s) = string s
-  tree_of_document (ty_enum ms) (pick n) = string n
+  tree_of_document (ty_int i) (int z) = int_tree z
+  tree_of_document (ty_text i) (text s) = string s
+  tree_of_document (ty_enum ms i) (pick n) = string n
   tree_of_document (ty_rec fs) (rec ds) = object (field_members fs ds)
   tree_of_document (ty_alt fs) (alt n d) = object (member n (elim (lookup_type fs n) [ None ↦ null | Some t ↦ tree_of_document t d ]) no_members)
   tree_of_document (ty_list t) (hold (ListOf s) ds) = array (content_items t ds)
@@ -63,9 +63,9 @@ abbrev mutual
   pub document_of : TyTree → Data → Option DocTree
   document_of ty_unit null = Some unit
   document_of ty_bool (boolean b) = Some (truth b)
-  document_of ty_int (number n) = option_map int (int_in n)
-  document_of ty_text (string s) = Some (text s)
-  document_of (ty_enum ms) (string s) = if has_name s ms then Some (pick s) else None
+  document_of (ty_int i) (number n) = option_map int (int_in n)
+  document_of (ty_text i) (string s) = Some (text s)
+  document_of (ty_enum ms i) (string s) = if has_name s ms then Some (pick s) else None
   document_of (ty_rec fs) (object ms) = option_map rec (field_documents fs ms)
   document_of (ty_alt fs) (object (member k d no_members)) = elim (lookup_type fs k) [ None ↦ None | Some t ↦ option_map (alt k) (document_of t d) ]
   document_of (ty_list t) (array ds) = option_map list_document (item_documents t ds)

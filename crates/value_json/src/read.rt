@@ -1,6 +1,6 @@
 //! Reading a document of a type from a JSON tree.
 
-ghost use Rattle.std.specs.Prelude.{◌≡◌, ◌<◌, true, IfOk, IsErrOf, option_map, option_and_then};
+ghost use Rattle.std.specs.Prelude.{ℕ, ℤ, List, ◌≡◌, ◌<◌, true, IfOk, IsErrOf, option_map, option_and_then};
 ghost use Rattle.texts.specs.Keys.{has_name};
 ghost use Rattle.serde_json.specs.View.{view, items_view, members_view};
 ghost use Rattle.doc_values.specs.Documents.{DocTree, doc_tree, docs_tree};
@@ -50,9 +50,9 @@ fn read(alloc: Global, ty: &Ty, tree: &Value) -> Result<Doc, DocFault>
     match ty {
         Ty::Unit => read_unit(tree),
         Ty::Bool => read_bool(tree),
-        Ty::Int => read_whole(tree),
-        Ty::Text => read_text(alloc, tree),
-        Ty::Enum(members) => read_pick(alloc, members, tree),
+        Ty::Int(_) => read_whole(tree),
+        Ty::Text(_) => read_text(alloc, tree),
+        Ty::Enum(members, _) => read_pick(alloc, members, tree),
         Ty::Rec(fields) => read_record(alloc, fields, tree),
         Ty::Alt(tags) => read_tagged(alloc, tags, tree),
         Ty::List(inner) => read_list(alloc, inner, tree),
@@ -84,7 +84,7 @@ fn read_bool(tree: &Value) -> Result<Doc, DocFault>
 
 #[tactic(auto, using(crate::proofs::DocumentOf::read_rules))]
 fn read_whole(tree: &Value) -> Result<Doc, DocFault>
-    ensures { Gives doc_tree result (document_of ty_int (view tree.now)) }
+    ensures { (initial : ℤ) → Gives doc_tree result (document_of (ty_int initial) (view tree.now)) }
 {
     match read_int(tree) {
         Some(number) => Ok(Doc::Int(number)),
@@ -94,7 +94,7 @@ fn read_whole(tree: &Value) -> Result<Doc, DocFault>
 
 #[tactic(auto, using(crate::proofs::DocumentOf::read_rules))]
 fn read_text(alloc: Global, tree: &Value) -> Result<Doc, DocFault>
-    ensures { Gives doc_tree result (document_of ty_text (view tree.now)) }
+    ensures { (initial : List ℕ) → Gives doc_tree result (document_of (ty_text initial) (view tree.now)) }
 {
     match tree.as_str() {
         Some(text) => Ok(Doc::Text(Str::from_string(String::from_str(alloc, text)?))),
@@ -104,7 +104,7 @@ fn read_text(alloc: Global, tree: &Value) -> Result<Doc, DocFault>
 
 #[tactic(auto, using(crate::proofs::DocumentOf::read_rules))]
 fn read_pick(alloc: Global, members: &Names, tree: &Value) -> Result<Doc, DocFault>
-    ensures { Gives doc_tree result (document_of (ty_enum members.now) (view tree.now)) }
+    ensures { (initial : List ℕ) → Gives doc_tree result (document_of (ty_enum members.now initial) (view tree.now)) }
 {
     let Some(text) = tree.as_str() else {
         return Err(DocFault::NotOfType);

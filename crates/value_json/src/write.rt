@@ -43,9 +43,9 @@ fn write(alloc: Global, ty: &Ty, doc: &Doc) -> Result<Value, AllocError>
     match (ty, doc) {
         (Ty::Unit, Doc::Unit) => Ok(Value::Null),
         (Ty::Bool, Doc::Bool(truth)) => Ok(Value::Bool(*truth)),
-        (Ty::Int, Doc::Int(number)) => Ok(Value::from(*number)),
-        (Ty::Text, Doc::Text(text)) => write_text(alloc, text.as_str()),
-        (Ty::Enum(_), Doc::Pick(name)) => write_text(alloc, name.as_str()),
+        (Ty::Int(_), Doc::Int(number)) => Ok(Value::from(*number)),
+        (Ty::Text(_), Doc::Text(text)) => write_text(alloc, text.as_str()),
+        (Ty::Enum(_, _), Doc::Pick(name)) => write_text(alloc, name.as_str()),
         (Ty::Rec(fields), Doc::Rec(docs)) => write_record(alloc, fields, docs),
         (Ty::Alt(tags), Doc::Alt(tag, content)) => write_tagged(alloc, tags, tag, content),
         (Ty::List(inner), Doc::Hold(Shape::List(_), docs)) => write_list(alloc, inner, docs),

@@ -10,7 +10,8 @@ use Rattle.value_json.specs.Numbers.{counts_of}
 use Rattle.value_json.specs.DocumentJson.{item_documents, member_documents, field_documents}
 use Rattle.value_json.proofs.Facts.{same_texts}
 use Rattle.doc_values.proofs.FieldPlaces.{lookup_field-height}
-use Rattle.value_json.proofs.ReadLoops.{next_item, items_done, next_entry, entries_done, next_field, fields_done, field_height, then_docs}
+use Rattle.value_json.proofs.ReadLoops.{next_item, items_done, next_entry, entries_done, next_field, fields_done, then_docs}
+use Rattle.doc_values.proofs.Heights.{field_height}
 use Rattle.value_json.proofs.DocumentOf.{ordered_of, ordered_by, ordered_found, alt_of, tagged_by, tag_none, tag_refused, tag_found}
 use Rattle.value_json.proofs.read.+read.Goals as goal
 
