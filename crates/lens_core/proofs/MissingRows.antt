@@ -1,14 +1,28 @@
 -- The missing complements of rows, one row after the other.
-use Rattle.std.proofs.Common.{◌≡◌, ℕ, suc, ◌+◌, ◌<◌, ◌≤◌, List, [], ◌∷◌, ◌++◌, length, map, drop, drop-cons, get_or, add-one, append-nil, append_assoc, refl, sym, ap, ◌∙◌}
+use Rattle.std.proofs.Common.{◌≡◌, ℕ, suc, ◌+◌, ◌<◌, ◌≤◌, List, [], ◌∷◌, ◌++◌, length, map, drop, drop-cons, get_or, add-one, append-nil, append_assoc, refl, sym, ap, ◌∙◌, rules}
 use Rattle.std.proofs.lemmas.List.{drop_all, map-append}
+use Rattle.doc_values.specs.Types.{ty_tree}
 use Rattle.doc_values.specs.declared.ty.Ty.{Ty}
-use Rattle.lens_forms.specs.Forms.{form_tree, row_tree, form_rows_of, with_row}
+use Rattle.lens_forms.specs.Forms.{form_tree, row_both, row_left, row_right, row_tree, form_rows_of, with_row}
 use Rattle.lens_forms.specs.declared.form.Form.{Form}
-use Rattle.lens_forms.specs.declared.form.FormRow.{FormRow}
+use Rattle.lens_forms.specs.declared.form.FormRow.{FormRow, the_lemmas as row_lemmas}
 use Rattle.lens_forms.specs.declared.form.FormRow.TheVariants.{Both, OnlyLeft, OnlyRight}
 use Rattle.lens_core.specs.Complements.{CompTree, comps_of, comp_list, comp_tree, missing, missing_rows}
 use Rattle.lens_core.specs.declared.comp.Comp.{Comp}
-use Rattle.lens_core.proofs.ComplementTrees.{comps_of-comp_list, row_tree-both, row_tree-left, row_tree-right}
+use Rattle.lens_core.proofs.ComplementTrees.{comps_of-comp_list}
+
+-- ---- one row as a tree
+
+pub row_tree-both : (a b : List ℕ) (l : Form) → row_tree (Both a b l) ≡ row_both a b (form_tree l)
+row_tree-both a b l = search (rules, row_lemmas)
+
+row_tree-left : (a : List ℕ) (t : Ty) → row_tree (OnlyLeft a t) ≡ row_left a (ty_tree t)
+row_tree-left a t = search (rules, row_lemmas)
+
+row_tree-right : (b : List ℕ) (t : Ty) → row_tree (OnlyRight b t) ≡ row_right b (ty_tree t)
+row_tree-right b t = search (rules, row_lemmas)
+
+-- ---- the rows one after the other
 
 -- the missing complements of the rows from one on
 abbrev pub missing_from : List FormRow → ℕ → List CompTree
