@@ -19,7 +19,7 @@ fn main(rt: HostRuntime) -> anyhow::Result<()> {
     let items = words[1].as_str().parse::<u64>()?;
     let primitives = words[2].as_str().parse::<u64>()?;
     let times = words[3].as_str().parse::<u64>()?;
-    let ty = Ty::List(Box::new(alloc, Ty::Int)?);
+    let ty = Ty::List(Box::new(alloc, Ty::Int(0))?);
     let list = zeros(alloc, items)?;
     let word = steps(alloc, items, primitives)?;
     let touched = not_zero(&applied(alloc, &ty, &word, &list, times)?);
@@ -33,7 +33,8 @@ fn zeros(alloc: Global, count: u64) -> Result<Doc, AllocError> {
     for _ in 0..count {
         items.push(Doc::Int(0))?;
     }
-    Ok(Doc::Hold(Shape::List(ListShape { count }), Docs::from_vec(items)))
+    let items = Docs::from_vec(alloc, items)?;
+    Ok(Doc::Hold(Shape::List(ListShape { count }), items))
 }
 
 // A word that adds 1 to this many items, each at a place 7 further, from the front again at the end.
@@ -71,7 +72,7 @@ fn applied(alloc: Global, ty: &Ty, word: &Word, list: &Doc, times: u64) -> anyho
 fn not_zero(list: &Doc) -> u64 {
     let mut count = 0u64;
     if let Doc::Hold(_, items) = list {
-        for item in items.as_slice() {
+        for item in items.iter() {
             if !item.is_same(&Doc::Int(0)) {
                 count = count.saturating_add(1);
             }

@@ -1,6 +1,8 @@
 -- Lists of trees.
 use Rattle.std.proofs.Common.{◌≡◌, ℕ, zero, suc, ◌<◌, Bool, true, false, ◌&&◌, List, [], ◌∷◌, length, map, get_or, refl, drop, ◌++◌, ◌≤◌, append-nil, sym, ap, ◌∙◌, arith, rules}
-use Rattle.std.proofs.lemmas.List.{drop_all}
+use Rattle.std.proofs.lemmas.List.{drop_all, get_or-map}
+use Rattle.std.proofs.lemmas.Option.{get_or_from_slice_get, slice_get_within}
+use Rattle.std.specs.Prelude.{slice_get, Some}
 use Rattle.doc_values.specs.Documents.{DocTree, DocTrees, no_docs, more_docs, docs_of, doc_list, doc_tree, docs_tree}
 use Rattle.doc_values.specs.Types.{TyTree, FieldTrees, no_fields, more_fields, type_fields_of, field_list, fields_tree, field_tree, ty_tree}
 use Rattle.doc_values.specs.Typing.{has_fields}
@@ -12,7 +14,7 @@ use Rattle.doc_values.specs.declared.ty.Fields.{Fields, out-Fields, the_lemmas a
 
 -- ---- the wrappers
 
-pub docs_tree-out : (ds : Docs) → docs_tree ds ≡ docs_of (map doc_tree (out-Docs ds).items.items)
+pub docs_tree-out : (ds : Docs) → docs_tree ds ≡ docs_of (map doc_tree (out-Docs ds).items)
 docs_tree-out ds = search (rules, docs_lemmas)
 
 pub fields_tree-out : (fs : Fields) → fields_tree fs ≡ type_fields_of (map field_tree (out-Fields fs).items.items)
@@ -36,7 +38,7 @@ pub fields_of-field_list : (fs : FieldTrees) → type_fields_of (field_list fs) 
 fields_of-field_list no_fields = refl
 fields_of-field_list (more_fields n t fs) = ap (more_fields n t) (fields_of-field_list fs)
 
-pub doc_list_docs : (ds : Docs) → doc_list (docs_tree ds) ≡ map doc_tree (out-Docs ds).items.items
+pub doc_list_docs : (ds : Docs) → doc_list (docs_tree ds) ≡ map doc_tree (out-Docs ds).items
 doc_list_docs ds = ap doc_list (docs_tree-out ds) ∙ doc_list-docs_of _
 
 -- ---- lengths
@@ -93,6 +95,11 @@ same_name_at xs ys i d e h k q = ap (λ (f : List ℕ × TyTree). f.0) (same_at_
 pub same_ty_at : (xs ys : List (List ℕ × Ty)) (i : ℕ) (d e : List ℕ × Ty) → i < length xs → i < length ys
     → type_fields_of (map field_tree xs) ≡ type_fields_of (map field_tree ys) → ty_tree (get_or xs i d).1 ≡ ty_tree (get_or ys i e).1
 same_ty_at xs ys i d e h k q = ap (λ (f : List ℕ × TyTree). f.1) (same_at_map field_tree xs ys i d e h k (fields_of_same _ _ q))
+
+-- ---- the tree at a place
+
+pub tree_at : (ds : List Doc) (i : ℕ) (d : Doc) (e : DocTree) → slice_get ds i ≡ Some d → get_or (map doc_tree ds) i e ≡ doc_tree d
+tree_at ds i d e h = get_or-map doc_tree ds i d e (slice_get_within ds i d h) ∙ ap doc_tree (get_or_from_slice_get ds i d d h)
 
 -- ---- once every field is done, the documents made are those of the fields
 

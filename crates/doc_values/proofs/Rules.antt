@@ -1,5 +1,7 @@
 -- Sets of lemmas for the tactics.
-use Rattle.doc_values.proofs.Lists.{doc_list_docs, doc_list-docs_of, docs_of-doc_list, docs_tree-out, fields_tree-out, length-doc_list, length-field_list, same_length, same_at, same_field_length, same_name_at, same_ty_at, has_fields-lengths}
+use Rattle.std.proofs.lemmas.List.{map-set}
+use Rattle.hold_shapes.proofs.SharedItems.{item-at}
+use Rattle.doc_values.proofs.Lists.{doc_list_docs, doc_list-docs_of, docs_of-doc_list, docs_tree-out, fields_tree-out, length-doc_list, length-field_list, same_length, same_at, same_field_length, same_name_at, same_ty_at, has_fields-lengths, tree_at}
 
 pub ruleset typing_rules = (docs_tree-out, fields_tree-out, length-doc_list, has_fields-lengths)
 
@@ -9,7 +11,9 @@ pub ruleset same_rules = (docs_tree-out, same_length, same_at)
 
 pub ruleset same_field_rules = (fields_tree-out, same_field_length, same_name_at, same_ty_at)
 
-pub ruleset replace_rules = (docs_tree-out, length-doc_list, doc_list-docs_of)
+pub ruleset item_rules = (item-at)
+
+pub ruleset place_rules = (docs_tree-out, length-doc_list, doc_list-docs_of, tree_at, map-set)
 
 pub ruleset initial_rules = (docs_tree-out, fields_tree-out, docs_of-doc_list)
 

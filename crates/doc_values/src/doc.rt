@@ -1,18 +1,25 @@
 //! Documents.
 
-ghost use Rattle.std.specs.Prelude.{◌≡◌, ◌↔◌, IsTrue, IfOk, ◌<◌, All, map, length, slice_set, slice_index_or};
+ghost use Rattle.std.specs.Prelude.{◌≡◌, ◌↔◌, IsTrue, IfOk, OnOk, OnErr, ◌<◌, All, map, length, slice_set, slice_index_or};
 ghost use Rattle.hold_shapes.specs.Gather.{content_at, IsBelow};
-ghost use Rattle.doc_values.specs.Documents.{doc_tree, docs_tree, docs_of, doc_list, unit};
+ghost use Rattle.doc_values.specs.Documents.{doc_tree, docs_tree, docs_of, doc_list, unit, no_docs};
 ghost use Rattle.doc_values.specs.Types.{ty_tree};
 ghost use Rattle.doc_values.specs.Typing.{has};
 
 use crate::ty::Ty;
 use crate::{same, typing};
 use hold_shapes::{Name, Origins, Shape, Str, Twin, gather};
+use shared_lists::{Iter, SharedList};
 use std::alloc::{AllocError, Global};
-use std::mem;
 
 /// One document.
+///
+/// A copy shares the contents of its records and containers. It copies the tags above them, and a text or a member
+/// of an enum that is not inside one.
+///
+/// Dropping a document is a recursion, which leaves out what a copy still has. A record or a container on the way to
+/// a content adds as many levels as the balanced tree of its [`SharedList`] is high, fewer than 40 for a hundred
+/// million contents, and a few more. A tag adds one. A document nests at most as deep as its type.
 #[derive(Drop)]
 #[cycle(doc)]
 pub enum Doc {
@@ -50,33 +57,58 @@ impl Doc {
     }
 }
 
-/// The contents of a record or of a container, in order.
+/// The contents of a record or of a container, in order. A copy shares them.
 #[derive(Drop)]
 #[cycle(doc)]
 pub struct Docs {
-    pub(crate) items: Vec<Doc>,
+    pub(crate) items: SharedList<Doc>,
 }
 
 impl Docs {
-    /// These documents, in this order. Does not allocate.
-    pub fn from_vec(items: Vec<Doc>) -> Docs
-        ensures { docs_tree result ≡ docs_of (map doc_tree items.items) }
+    /// No documents. Does not allocate.
+    pub fn empty() -> Docs
+        ensures { docs_tree result ≡ no_docs }
     {
-        Docs { items }
+        Docs {
+            items: SharedList::empty(),
+        }
     }
 
-    /// The documents in order.
-    pub fn as_slice(&self) -> &[Doc]
-        ensures { docs_of (map doc_tree result.now) ≡ docs_tree self.now }
+    /// These documents, in this order.
+    ///
+    /// Fails only if memory runs out; the documents are then dropped.
+    pub fn from_vec(alloc: Global, items: Vec<Doc>) -> Result<Docs, AllocError>
+        ensures { IfOk result (λ ds. docs_tree ds ≡ docs_of (map doc_tree items.items)) }
     {
-        self.items.as_slice()
+        let items = SharedList::from_vec(alloc, items)?;
+        Ok(Docs { items })
+    }
+
+    /// The document at a place. Takes time that grows with the logarithm of the number of documents.
+    ///
+    /// The place is counted from 0 and is one of the places.
+    #[tactic(auto, using(crate::proofs::Rules::place_rules))]
+    pub fn get(&self, place: usize) -> &Doc
+        requires { place < length (doc_list (docs_tree self.now)) }
+        ensures { doc_tree result.now ≡ slice_index_or (doc_list (docs_tree self.now)) place unit }
+    {
+        self.items.get(place)
+    }
+
+    // The document at a place, as an item of a slice is given: the form from which a recursion sees that it is a part.
+    #[tactic(auto, using(crate::proofs::Rules::item_rules))]
+    pub(crate) fn item(&self, place: usize) -> &Doc
+        requires { place < length self.now.items }
+        ensures { result.now ≡ slice_index_or self.now.items place result.now }
+    {
+        self.items.get(place)
     }
 
     /// The documents in order. Does not allocate.
-    pub fn into_vec(self) -> Vec<Doc>
-        ensures { docs_of (map doc_tree result.items) ≡ docs_tree self }
+    pub fn iter(&self) -> Iter<'_, Doc>
+        ensures { docs_of (map doc_tree result) ≡ docs_tree self.now }
     {
-        self.items
+        self.items.iter()
     }
 
     /// The number of documents.
@@ -95,17 +127,18 @@ impl Docs {
         self.items.is_empty()
     }
 
-    /// Puts a document at a place, and returns the one that was there. Does not allocate.
+    /// Replaces the document at a place. Takes time that grows with the logarithm of the number of documents.
     ///
-    /// The place is counted from 0 and is one of the places.
-    #[tactic(auto, using(crate::proofs::Rules::replace_rules))]
-    pub fn replace(&mut self, place: usize, doc: Doc) -> Doc
+    /// The place is counted from 0 and is one of the places. Fails only if memory runs out; the documents are then as
+    /// they were, and the new one is dropped.
+    #[tactic(auto, using(crate::proofs::Rules::place_rules))]
+    pub fn set(&mut self, alloc: Global, place: usize, doc: Doc) -> Result<(), AllocError>
         requires { place < length (doc_list (docs_tree self.old)) }
-        ensures was { doc_tree result ≡ slice_index_or (doc_list (docs_tree self.old)) place unit }
-        ensures now { docs_tree self.new
-            ≡ docs_of (slice_set (doc_list (docs_tree self.old)) place (doc_tree doc)) }
+        ensures replaced { OnOk result (docs_tree self.new
+            ≡ docs_of (slice_set (doc_list (docs_tree self.old)) place (doc_tree doc))) }
+        ensures unchanged { OnErr result (docs_tree self.new ≡ docs_tree self.old) }
     {
-        mem::replace(&mut self.items[place], doc)
+        self.items.set(alloc, place, doc)
     }
 
     /// A copy of the document of each old place that is named, and of the fresh one elsewhere, in the order of the
@@ -118,7 +151,8 @@ impl Docs {
         ensures { IfOk result (λ ds. docs_tree ds
             ≡ docs_of (map (content_at (doc_list (docs_tree self.now)) (doc_tree fresh.now)) from.now)) }
     {
-        Ok(Docs::from_vec(gather(alloc, from, self.items.as_slice(), fresh)?))
+        let items = gather(alloc, from, &self.items, fresh)?;
+        Ok(Docs { items })
     }
 }
 
@@ -165,13 +199,10 @@ fn copy(alloc: Global, doc: &Doc) -> Result<Doc, AllocError>
     }
 }
 
-#[cycle(copy)]
+#[tactic(auto, using(crate::proofs::Rules::typing_rules))]
 fn copy_docs(alloc: Global, docs: &Docs) -> Result<Docs, AllocError>
     ensures { IfOk result (λ ds. docs_tree ds ≡ docs_tree docs.now) }
 {
-    let mut items = Vec::new(alloc);
-    for item in &docs.items {
-        items.push(copy(alloc, item)?)?;
-    }
+    let items = docs.items.copy(alloc)?;
     Ok(Docs { items })
 }

@@ -9,7 +9,8 @@ ghost use Rattle.doc_values.specs.Initial.{initial, initial_fields, initial_tag}
 
 use crate::doc::{Doc, Docs};
 use crate::ty::{Fields, Ty};
-use hold_shapes::{Depths, KeyedShape, ListShape, Names, Shape, TreeShape, Twin};
+use hold_shapes::{KeyedShape, ListShape, Shape, TreeShape, Twin};
+use shared_lists::SharedList;
 use std::alloc::{AllocError, Global};
 
 /// The initial document of a type: null, false, the declared value of an int, a text or an enum, a record of initial
@@ -39,14 +40,8 @@ fn initial_doc(alloc: Global, ty: &Ty) -> Result<Doc, AllocError>
         Ty::Enum(_, value) => Ok(Doc::Pick(value.twin(alloc)?)),
         Ty::Rec(fields) => Ok(Doc::Rec(initial_fields(alloc, fields)?)),
         Ty::Alt(fields) => initial_tag(alloc, fields),
-        Ty::List(_) => Ok(Doc::Hold(
-            Shape::List(ListShape { count: 0 }),
-            Docs::from_vec(Vec::new(alloc)),
-        )),
-        Ty::Keyed(_) => Ok(Doc::Hold(
-            Shape::Keyed(no_keys(alloc)),
-            Docs::from_vec(Vec::new(alloc)),
-        )),
+        Ty::List(_) => Ok(Doc::Hold(Shape::List(ListShape { count: 0 }), Docs::empty())),
+        Ty::Keyed(_) => Ok(Doc::Hold(Shape::Keyed(no_keys()), Docs::empty())),
         Ty::Tree(inner) => one_node(alloc, initial_doc(alloc, inner)?),
     }
 }
@@ -60,7 +55,7 @@ fn initial_fields(alloc: Global, fields: &Fields) -> Result<Docs, AllocError>
     for field in &fields.items {
         items.push(initial_doc(alloc, &field.1)?)?;
     }
-    Ok(Docs::from_vec(items))
+    Docs::from_vec(alloc, items)
 }
 
 #[cycle(initial_doc)]
@@ -78,10 +73,10 @@ fn initial_tag(alloc: Global, fields: &Fields) -> Result<Doc, AllocError>
 }
 
 // A keyed map's shape with no key.
-fn no_keys(alloc: Global) -> KeyedShape
+fn no_keys() -> KeyedShape
     ensures { result ≡ [] }
 {
-    match KeyedShape::from_names(Names::from_vec(Vec::new(alloc))) {
+    match KeyedShape::from_names(SharedList::empty()) {
         Some(keys) => keys,
         None => unreachable!(),
     }
@@ -92,10 +87,11 @@ fn no_keys(alloc: Global) -> KeyedShape
 fn one_node(alloc: Global, content: Doc) -> Result<Doc, AllocError>
     ensures { IfOk result (λ d. doc_tree d ≡ hold (TreeOf (0 ∷ [])) (more_docs (doc_tree content) no_docs)) }
 {
-    let shape = match TreeShape::from_depths(Depths::from_vec(vec![in alloc; 0]?)) {
+    let depths = SharedList::from_vec(alloc, vec![in alloc; 0]?)?;
+    let shape = match TreeShape::from_depths(depths) {
         Some(shape) => shape,
         None => unreachable!(),
     };
-    let items = Docs::from_vec(vec![in alloc; content]?);
+    let items = Docs::from_vec(alloc, vec![in alloc; content]?)?;
     Ok(Doc::Hold(Shape::Tree(shape), items))
 }

@@ -73,7 +73,7 @@ fn same_docs(left: &Docs, right: &Docs) -> bool
         return false;
     }
     for i in 0..left.items.len() {
-        if !same_doc(&left.items[i], &right.items[i]) {
+        if !same_doc(left.item(i), right.item(i)) {
             return false;
         }
     }

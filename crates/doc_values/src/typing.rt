@@ -47,7 +47,7 @@ fn fit_fields(fields: &Fields, docs: &Docs) -> bool
         return false;
     }
     for i in 0..docs.items.len() {
-        if !fits(&fields.items[i].1, &docs.items[i]) {
+        if !fits(&fields.items[i].1, docs.item(i)) {
             return false;
         }
     }
@@ -59,8 +59,8 @@ fn fit_fields(fields: &Fields, docs: &Docs) -> bool
 fn fit_each(ty: &Ty, docs: &Docs) -> bool
     ensures { result ≡ has_each (ty_tree ty.now) (docs_tree docs.now) }
 {
-    for doc in &docs.items {
-        if !fits(ty, doc) {
+    for i in 0..docs.items.len() {
+        if !fits(ty, docs.item(i)) {
             return false;
         }
     }
@@ -95,6 +95,6 @@ fn is_tree_of(shape: &Shape, count: usize) -> bool
     match shape {
         Shape::List(_) => false,
         Shape::Keyed(_) => false,
-        Shape::Tree(tree) => tree.depths().as_slice().len() == count,
+        Shape::Tree(tree) => tree.depths().len() == count,
     }
 }

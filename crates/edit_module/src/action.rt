@@ -1,7 +1,8 @@
 //! The action of a word on a document.
 //!
-//! A word is applied to one copy of the document, in place: each primitive takes the content that it acts on out of
-//! the copy and puts its new value back. docs/EDITS.md has the primitives with their causes.
+//! A word is applied to a copy of the document, which shares its contents. Each primitive takes a copy of the content
+//! that it acts on and sets the new value in its place, so an edit copies the path to what it changes and no more.
+//! docs/EDITS.md has the primitives with their causes.
 
 ghost use Rattle.std.specs.Prelude.{◌≡◌, ◌<◌, IfOk, MatchOption, MatchResult, option_map, length, true};
 ghost use Rattle.hold_shapes.specs.Shapes.{place_of};
@@ -314,7 +315,6 @@ fn item_of(place: &Place, ty: &Ty, shape: &Shape, docs: &Docs) -> Option<usize>
 
 // The documents with the one at a place acted on.
 #[cycle(run)]
-#[tactic(auto, using(crate::proofs::WordSteps::steps))]
 fn at_place(
     alloc: Global,
     word: &Word,
@@ -330,10 +330,10 @@ fn at_place(
         (λ fault. IsStepRefusal (put_result_at (docs_tree docs) place (act (ty_tree ty.now) (word_tree word.now) (doc_at (docs_tree docs) place))) fault) }
 {
     let mut docs = docs;
-    let old = docs.replace(place, Doc::Unit);
+    let old = docs.get(place).twin(alloc)?;
     match inside(alloc, word, ty, old) {
         Ok(next) => {
-            let _ = docs.replace(place, next);
+            docs.set(alloc, place, next)?;
             Ok(docs)
         }
         Err(fault) => Err(fault),

@@ -8,9 +8,9 @@ ghost use Rattle.hold_shapes.specs.Plans.{plan as plan_of};
 use crate::edit::{Place, ShapeEdit};
 use crate::plan::{Plan, PlanFault};
 use crate::shape::{KeyedShape, ListShape, Shape, TreeShape};
-use crate::{keyed, lists, tree_plans, trees};
+use crate::{keyed, keys, lists, tree_plans, trees};
 use std::alloc::Global;
-use texts::{Twin, keys};
+use texts::Twin;
 
 /// A shape of a container, of one kind or of any.
 pub trait Held: Sized + Twin {
@@ -98,7 +98,7 @@ impl Held for KeyedShape {
     fn place(&self, at: &Place) -> Option<u64> {
         match at {
             Place::Index(_) => None,
-            Place::Key(name) => keys::place(self.rising(), name),
+            Place::Key(name) => keys::place(self.names(), name),
             Place::Node(_) => None,
         }
     }
@@ -126,14 +126,14 @@ impl Held for TreeShape {
     ghost meant = { λ x y e. ap TreeOf e };
 
     fn size(&self) -> u64 {
-        self.valid().len() as u64
+        self.depths().len() as u64
     }
 
     fn place(&self, at: &Place) -> Option<u64> {
         match at {
             Place::Index(_) => None,
             Place::Key(_) => None,
-            Place::Node(path) => trees::place(self.valid(), path.as_slice()),
+            Place::Node(path) => trees::place(self.depths(), path.as_slice()),
         }
     }
 

@@ -9,43 +9,38 @@ ghost use Rattle.hold_shapes.specs.declared.plan.PlanFault.TheVariants.{NoMemory
 ghost use Rattle.hold_shapes.specs.Causes.{IsRefusal};
 ghost use Rattle.hold_shapes.specs.Plans.{plan_keyed, add_key, old_places};
 
+use crate::keys::{place, rank};
 use crate::lists::old_places;
 use crate::origins::{Origin, Origins};
+use crate::parts::{with_item, without_item};
 use crate::plan::{Plan, PlanFault};
 use crate::shape::KeyedShape;
+use shared_lists::SharedList;
 use std::alloc::{AllocError, Global};
-use texts::keys::{place, rank};
-use texts::{Name, Twin, twin_all};
-
-// A copy of the names.
-fn copied(alloc: Global, names: &[Name]) -> Result<Vec<Name>, AllocError>
-    ensures { IfOk result (λ v. v.items ≡ names.now) }
-{
-    twin_all(alloc, names)
-}
+use texts::{Name, Twin};
 
 // One more key among names in byte order.
 #[tactic(auto, using(texts::proofs::KeyOrder::rising_rules))]
 fn with_key(
     alloc: Global,
-    mut names: Vec<Name>,
+    names: &SharedList<Name>,
     mut from: Vec<Origin>,
     name: &Name,
     origin: Origin,
 ) -> Result<Plan<KeyedShape>, PlanFault>
-    requires rising { is_rising names.items ≡ true }
-    requires absent { key_place name.now names.items ≡ None }
-    requires same { length from.items ≡ length names.items }
+    requires rising { is_rising names.now ≡ true }
+    requires absent { key_place name.now names.now ≡ None }
+    requires same { length from.items ≡ length names.now }
     ensures { MatchResult result
-        (λ p. add_key names.items from.items name.now origin ≡ Ok (KeyedOf p.shape, p.from))
+        (λ p. add_key names.now from.items name.now origin ≡ Ok (KeyedOf p.shape, p.from))
         (λ fault. fault ≡ NoMemory) }
 {
-    let at = rank(names.as_slice(), name);
+    let at = rank(names, name);
     from.insert(at, origin)?;
-    names.insert(at, name.twin(alloc)?)?;
+    let names = with_item(alloc, names, at, name.twin(alloc)?)?;
     Ok(Plan {
         shape: KeyedShape::of_rising(names),
-        from: Origins::from_vec(from),
+        from: Origins::from_vec(alloc, from)?,
     })
 }
 
@@ -60,24 +55,12 @@ pub(crate) fn put(
         (λ p. plan_keyed keys.now (PutKey name.now) ≡ Ok (KeyedOf p.shape, p.from))
         (λ fault. IsRefusal (plan_keyed keys.now (PutKey name.now)) fault) }
 {
-    let names = keys.rising();
+    let names = keys.names();
     if place(names, name).is_some() {
         return Err(PlanFault::Present);
     }
     let from = old_places(alloc, names.len() as u64)?;
-    let names = copied(alloc, names)?;
     with_key(alloc, names, from, name, Origin::Fresh)
-}
-
-// All names but the one at a place.
-#[tactic(auto, using(texts::proofs::KeyOrder::rising_rules))]
-fn other_names(alloc: Global, names: &[Name], at: usize) -> Result<Vec<Name>, AllocError>
-    requires { at < length names.now }
-    ensures { IfOk result (λ v. v.items ≡ remove names.now at) }
-{
-    let mut left = copied(alloc, names)?;
-    let _ = left.remove(at);
-    Ok(left)
 }
 
 // The old places but one.
@@ -103,15 +86,15 @@ pub(crate) fn drop_key(
         (λ p. plan_keyed keys.now (DropKey name.now) ≡ Ok (KeyedOf p.shape, p.from))
         (λ fault. IsRefusal (plan_keyed keys.now (DropKey name.now)) fault) }
 {
-    let names = keys.rising();
+    let names = keys.names();
     let Some(at) = place(names, name) else {
         return Err(PlanFault::Place);
     };
     let from = other_places(alloc, names.len() as u64, at)?;
-    let left = other_names(alloc, names, at as usize)?;
+    let left = without_item(alloc, names, at as usize)?;
     Ok(Plan {
         shape: KeyedShape::of_rising(left),
-        from: Origins::from_vec(from),
+        from: Origins::from_vec(alloc, from)?,
     })
 }
 
@@ -127,7 +110,7 @@ pub(crate) fn rename(
         (λ p. plan_keyed keys.now (RenameKey old.now new.now) ≡ Ok (KeyedOf p.shape, p.from))
         (λ fault. IsRefusal (plan_keyed keys.now (RenameKey old.now new.now)) fault) }
 {
-    let names = keys.rising();
+    let names = keys.names();
     let Some(at) = place(names, old) else {
         return Err(PlanFault::Place);
     };
@@ -135,13 +118,13 @@ pub(crate) fn rename(
         let from = old_places(alloc, names.len() as u64)?;
         return Ok(Plan {
             shape: keys.twin(alloc)?,
-            from: Origins::from_vec(from),
+            from: Origins::from_vec(alloc, from)?,
         });
     }
     if place(names, new).is_some() {
         return Err(PlanFault::Present);
     }
     let from = other_places(alloc, names.len() as u64, at)?;
-    let left = other_names(alloc, names, at as usize)?;
-    with_key(alloc, left, from, new, Origin::Old(at))
+    let left = without_item(alloc, names, at as usize)?;
+    with_key(alloc, &left, from, new, Origin::Old(at))
 }

@@ -6,12 +6,13 @@
 //! documents and complements alike. docs/EDITS.md has the edits with their causes.
 #![tactic(auto)]
 
-mod depths;
 mod edit;
 mod held;
 mod keyed;
+mod keys;
 mod lists;
 mod origins;
+mod parts;
 mod path;
 mod places;
 mod plan;
@@ -19,7 +20,6 @@ mod shape;
 mod tree_plans;
 mod trees;
 
-pub use crate::depths::Depths;
 pub use crate::edit::{Place, ShapeEdit};
 pub use crate::held::Held;
 pub use crate::origins::{Origin, Origins, gather};
@@ -27,4 +27,5 @@ pub use crate::path::Path;
 pub use crate::places::Places;
 pub use crate::plan::{Plan, PlanFault};
 pub use crate::shape::{KeyedShape, ListShape, Shape, TreeShape};
+pub use shared_lists::SharedList;
 pub use texts::{Name, Names, Str, Twin, twin_all};

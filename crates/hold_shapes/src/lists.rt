@@ -49,7 +49,7 @@ pub(crate) fn insert_items(
     };
     Ok(Plan {
         shape,
-        from: Origins::from_vec(from),
+        from: Origins::from_vec(alloc, from)?,
     })
 }
 
@@ -70,7 +70,7 @@ pub(crate) fn delete_items(
     let from = old_places(alloc, left)?;
     Ok(Plan {
         shape: ListShape { count: left },
-        from: Origins::from_vec(from),
+        from: Origins::from_vec(alloc, from)?,
     })
 }
 
@@ -94,7 +94,7 @@ pub(crate) fn move_item(
     from.insert(to as usize, Origin::Old(at))?;
     Ok(Plan {
         shape: ListShape { count: size },
-        from: Origins::from_vec(from),
+        from: Origins::from_vec(alloc, from)?,
     })
 }
 
@@ -148,6 +148,6 @@ pub(crate) fn reorder(
     let from = origins_of(alloc, places)?;
     Ok(Plan {
         shape: ListShape { count: size },
-        from: Origins::from_vec(from),
+        from: Origins::from_vec(alloc, from)?,
     })
 }

@@ -1,7 +1,8 @@
 //! Where each place of a new shape comes from, and the content that it then has.
-ghost use Rattle.std.specs.Prelude.{◌≡◌, ℕ, IfOk, All, List, map, length};
+ghost use Rattle.std.specs.Prelude.{◌≡◌, ◌↔◌, ◌<◌, ℕ, Some, IfOk, IsTrue, All, List, map, length, slice_get};
 ghost use Rattle.hold_shapes.specs.Gather.{content_at, IsBelow};
 
+use shared_lists::SharedList;
 use std::alloc::{AllocError, Global};
 use std::marker::Model;
 use texts::Twin;
@@ -43,18 +44,35 @@ impl Model for Origins {
 }
 
 impl Origins {
-    /// The origins of a vector, in its order. Does not allocate.
-    pub fn from_vec(items: Vec<Origin>) -> Self
-        ensures { result ≡ items.items }
+    /// The origins of a vector, in its order.
+    ///
+    /// The only refusal is running out of memory; the vector is then dropped.
+    pub fn from_vec(_alloc: Global, items: Vec<Origin>) -> Result<Self, AllocError>
+        ensures { IfOk result (λ from. from ≡ items.items) }
     {
-        Origins { items }
+        Ok(Origins { items })
     }
 
-    /// The origins in order.
-    pub fn as_slice(&self) -> &[Origin]
-        ensures { result.now ≡ self.now }
+    /// How many origins there are.
+    pub fn len(&self) -> u64
+        ensures { result ≡ length self.now }
     {
-        self.items.as_slice()
+        self.items.len() as u64
+    }
+
+    /// Whether there are no origins.
+    pub fn is_empty(&self) -> bool
+        ensures { IsTrue result ↔ (length self.now ≡ 0) }
+    {
+        self.len() == 0
+    }
+
+    /// The origin of a place. Places are counted from 0.
+    pub fn get(&self, place: u64) -> Origin
+        requires { place < length self.now }
+        ensures { slice_get self.now place ≡ Some result }
+    {
+        self.items[place as usize]
     }
 }
 
@@ -73,36 +91,42 @@ impl Twin for Origins {
     }
 }
 
-/// The items of a new container: at each place a copy of the item at its old place, or of `fresh`.
+/// The items of a new container: at each place the item at its old place, or `fresh`.
 ///
 /// Each old place must be below the number of items. The only refusal is running out of memory.
 pub fn gather<T: Twin>(
     alloc: Global,
     from: &Origins,
-    items: &[T],
+    items: &SharedList<T>,
     fresh: &T,
-) -> Result<Vec<T>, AllocError>
+) -> Result<SharedList<T>, AllocError>
 where
     T: Drop,
     requires { All (IsBelow (length items.now)) from.now }
-    ensures { IfOk result (λ v. map T.meaning v.items
+    ensures { IfOk result (λ list. map T.meaning list
         ≡ map (content_at (map T.meaning items.now) (T.meaning fresh.now)) from.now) }
 {
     let mut all = Vec::new(alloc);
-    for origin in from.as_slice() {
+    for origin in from.items.as_slice() {
         all.push(content(alloc, *origin, items, fresh)?)?;
     }
-    Ok(all)
+    SharedList::from_vec(alloc, all)
 }
 
 // A copy of the item at an old place, or of the fresh one.
-fn content<T: Twin>(alloc: Global, origin: Origin, items: &[T], fresh: &T) -> Result<T, AllocError>
+#[tactic(auto, using(crate::proofs::SharedItems::item_rules))]
+fn content<T: Twin>(
+    alloc: Global,
+    origin: Origin,
+    items: &SharedList<T>,
+    fresh: &T,
+) -> Result<T, AllocError>
     requires { IsBelow (length items.now) origin }
     ensures { IfOk result (λ t. T.meaning t
         ≡ content_at (map T.meaning items.now) (T.meaning fresh.now) origin) }
 {
     match origin {
-        Origin::Old(place) => items[place as usize].twin(alloc),
+        Origin::Old(place) => items.get(place as usize).twin(alloc),
         Origin::Fresh => fresh.twin(alloc),
     }
 }

@@ -3,11 +3,11 @@ ghost use Rattle.std.specs.Prelude.{◌≡◌, ◌↔◌, true, false, IsTrue, M
 ghost use Rattle.texts.specs.Keys.{is_rising};
 ghost use Rattle.hold_shapes.specs.Trees.{is_valid};
 
-use crate::depths::Depths;
-use crate::trees;
+use crate::{keys, trees};
+use shared_lists::SharedList;
 use std::alloc::{AllocError, Global};
 use std::marker::Model;
-use texts::{Name, Names, Twin, keys};
+use texts::{Name, Twin};
 
 /// The shape of a list.
 #[derive(Clone, Copy, Debug, PartialEq, Eq)]
@@ -16,10 +16,10 @@ pub struct ListShape {
     pub count: u64,
 }
 
-/// The shape of a keyed map: its names, each before the next one in byte order.
-#[derive(Debug, Drop)]
+/// The shape of a keyed map: its names, each before the next one in byte order. Copies share the names.
+#[derive(Drop)]
 pub struct KeyedShape {
-    names: Names,
+    names: SharedList<Name>,
 }
 
 impl Model for KeyedShape {
@@ -34,10 +34,11 @@ impl Model for KeyedShape {
     ghost invariant = { λ s. IsTrue (is_rising s.names) };
 }
 
-/// The shape of an ordered tree: the depths of its nodes in preorder, the root's 0, none above 15.
-#[derive(Debug, Drop)]
+/// The shape of an ordered tree: the depths of its nodes in preorder, the root's 0, none above 15. Copies
+/// share the depths.
+#[derive(Drop)]
 pub struct TreeShape {
-    depths: Depths,
+    depths: SharedList<u64>,
 }
 
 impl Model for TreeShape {
@@ -52,8 +53,8 @@ impl Model for TreeShape {
     ghost invariant = { λ s. IsTrue (is_valid s.depths) };
 }
 
-/// The shape of a container.
-#[derive(Debug, Drop)]
+/// The shape of a container. A copy takes constant time, whatever the size.
+#[derive(Drop)]
 pub enum Shape {
     /// Of a list.
     List(ListShape),
@@ -70,8 +71,14 @@ impl Shape {
     {
         match (self, other) {
             (Shape::List(list), Shape::List(other)) => list.count == other.count,
-            (Shape::Keyed(keyed), Shape::Keyed(other)) => keyed.names().is_same(other.names()),
-            (Shape::Tree(tree), Shape::Tree(other)) => tree.depths().is_same(other.depths()),
+            (Shape::Keyed(keyed), Shape::Keyed(other)) => keys::are_same(
+                keyed.names(),
+                other.names(),
+            ),
+            (Shape::Tree(tree), Shape::Tree(other)) => trees::are_same(
+                tree.depths(),
+                other.depths(),
+            ),
             _ => false,
         }
     }
@@ -82,36 +89,26 @@ impl KeyedShape {
     ///
     /// Returns None if and only if a name is not before the next one in byte order; the names are
     /// then dropped.
-    pub fn from_names(names: Names) -> Option<KeyedShape>
+    pub fn from_names(names: SharedList<Name>) -> Option<KeyedShape>
         ensures { MatchOption result (is_rising names ≡ false) (λ s. (is_rising names ≡ true) × (s ≡ names)) }
     {
-        if keys::is_rising(names.as_slice()) {
+        if keys::is_rising(&names) {
             Some(KeyedShape { names })
         } else {
             None
         }
     }
 
-    // The names, in byte order.
-    pub(crate) fn rising(&self) -> &[Name]
-        ensures value { result.now ≡ self.now }
-        ensures rising { is_rising self.now ≡ true }
-    {
-        self.names.as_slice()
-    }
-
     // The names as a shape.
-    pub(crate) fn of_rising(names: Vec<Name>) -> KeyedShape
-        requires { is_rising names.items ≡ true }
-        ensures { result ≡ names.items }
+    pub(crate) fn of_rising(names: SharedList<Name>) -> KeyedShape
+        requires { is_rising names ≡ true }
+        ensures { result ≡ names }
     {
-        KeyedShape {
-            names: Names::from_vec(names),
-        }
+        KeyedShape { names }
     }
 
     /// The names of the keys, in byte order.
-    pub fn names(&self) -> &Names
+    pub fn names(&self) -> &SharedList<Name>
         ensures value { result.now ≡ self.now }
         ensures rising { is_rising self.now ≡ true }
     {
@@ -125,36 +122,26 @@ impl TreeShape {
     /// Returns None if and only if the list is not a valid depth list, which is not empty, begins with 0,
     /// and in which each later number is from 1 to the number before it plus 1, and at most 15.
     /// The list is then dropped.
-    pub fn from_depths(depths: Depths) -> Option<TreeShape>
+    pub fn from_depths(depths: SharedList<u64>) -> Option<TreeShape>
         ensures { MatchOption result (is_valid depths ≡ false) (λ s. (is_valid depths ≡ true) × (s ≡ depths)) }
     {
-        if trees::is_valid(depths.as_slice()) {
+        if trees::is_valid(&depths) {
             Some(TreeShape { depths })
         } else {
             None
         }
     }
 
-    // The depths, which are those of a tree.
-    pub(crate) fn valid(&self) -> &[u64]
-        ensures value { result.now ≡ self.now }
-        ensures valid { is_valid self.now ≡ true }
-    {
-        self.depths.as_slice()
-    }
-
     // The depths of a tree as a shape.
-    pub(crate) fn of_valid(depths: Vec<u64>) -> TreeShape
-        requires { is_valid depths.items ≡ true }
-        ensures { result ≡ depths.items }
+    pub(crate) fn of_valid(depths: SharedList<u64>) -> TreeShape
+        requires { is_valid depths ≡ true }
+        ensures { result ≡ depths }
     {
-        TreeShape {
-            depths: Depths::from_vec(depths),
-        }
+        TreeShape { depths }
     }
 
     /// The depths of the nodes, in preorder.
-    pub fn depths(&self) -> &Depths
+    pub fn depths(&self) -> &SharedList<u64>
         ensures value { result.now ≡ self.now }
         ensures valid { is_valid self.now ≡ true }
     {
@@ -183,7 +170,7 @@ impl Twin for KeyedShape {
 
     fn twin(&self, alloc: Global) -> Result<Self, AllocError> {
         Ok(KeyedShape {
-            names: self.names.twin(alloc)?,
+            names: self.names.copy(alloc)?,
         })
     }
 }
@@ -197,7 +184,7 @@ impl Twin for TreeShape {
 
     fn twin(&self, alloc: Global) -> Result<Self, AllocError> {
         Ok(TreeShape {
-            depths: self.depths.twin(alloc)?,
+            depths: self.depths.copy(alloc)?,
         })
     }
 }

@@ -8,14 +8,16 @@ ghost use Rattle.hold_shapes.specs.Plans.{plan_tree, remove_part, insert_part, m
 
 use crate::lists::old_places;
 use crate::origins::{Origin, Origins};
+use crate::parts::{insert_part, move_part, remove_part, with_item};
 use crate::path::Path;
 use crate::plan::{Plan, PlanFault};
 use crate::shape::TreeShape;
-use crate::trees::{child, children, end, node};
+use crate::trees::{child, children, depth_at, end, node};
+use shared_lists::SharedList;
 use std::alloc::{AllocError, Global};
 
 // A list without the part between two places.
-fn remove_part<T: Copy>(
+fn remove_places<T: Copy>(
     alloc: Global,
     items: &[T],
     from: usize,
@@ -31,7 +33,7 @@ fn remove_part<T: Copy>(
 }
 
 // A list with a part inserted at a place.
-fn insert_part<T: Copy>(
+fn insert_places<T: Copy>(
     alloc: Global,
     at: usize,
     part: &[T],
@@ -57,22 +59,21 @@ pub(crate) fn graft(
         (λ p. plan_tree tree.now (Graft path.now) ≡ Ok (TreeOf p.shape, p.from))
         (λ fault. IsRefusal (plan_tree tree.now (Graft path.now)) fault) }
 {
-    let depths = tree.valid();
+    let depths = tree.depths();
     let Some(at) = node(depths, path.as_slice()) else {
         return Err(PlanFault::Place);
     };
-    let depth = depths[at];
+    let depth = depth_at(depths, at);
     if depth >= 15 {
         return Err(PlanFault::Deep);
     }
     let to = end(depths, at);
     let mut from = old_places(alloc, depths.len() as u64)?;
     from.insert(to, Origin::Fresh)?;
-    let mut grown = Vec::from_slice(alloc, depths)?;
-    grown.insert(to, depth + 1)?;
+    let grown = with_item(alloc, depths, to, depth + 1)?;
     Ok(Plan {
         shape: TreeShape::of_valid(grown),
-        from: Origins::from_vec(from),
+        from: Origins::from_vec(alloc, from)?,
     })
 }
 
@@ -87,7 +88,7 @@ pub(crate) fn prune(
         (λ p. plan_tree tree.now (Prune path.now) ≡ Ok (TreeOf p.shape, p.from))
         (λ fault. IsRefusal (plan_tree tree.now (Prune path.now)) fault) }
 {
-    let depths = tree.valid();
+    let depths = tree.depths();
     let Some(at) = node(depths, path.as_slice()) else {
         return Err(PlanFault::Place);
     };
@@ -100,16 +101,16 @@ pub(crate) fn prune(
     };
     let to = end(depths, last);
     let from = old_places(alloc, depths.len() as u64)?;
-    let from = remove_part(alloc, from.as_slice(), last, to)?;
+    let from = remove_places(alloc, from.as_slice(), last, to)?;
     let left = remove_part(alloc, depths, last, to)?;
     Ok(Plan {
         shape: TreeShape::of_valid(left),
-        from: Origins::from_vec(from),
+        from: Origins::from_vec(alloc, from)?,
     })
 }
 
 // A list with the part between two places moved to a place of the rest.
-fn move_part<T: Copy>(
+fn move_places<T: Copy>(
     alloc: Global,
     items: &[T],
     from: usize,
@@ -121,13 +122,13 @@ fn move_part<T: Copy>(
     requires place { at + (to - from) ≤ length items.now }
     ensures { IfOk result (λ v. v.items ≡ move_part from to at items.now) }
 {
-    let rest = remove_part(alloc, items, from, to)?;
-    insert_part(alloc, at, &items[from..to], rest.as_slice())
+    let rest = remove_places(alloc, items, from, to)?;
+    insert_places(alloc, at, &items[from..to], rest.as_slice())
 }
 
 // The place of a child of a node; without such a child, the place that a new last one has.
 #[tactic(auto, using(crate::proofs::ChildPlaces::slot_rules))]
-fn place_for_child(depths: &[u64], at: usize, number: u64) -> usize
+fn place_for_child(depths: &SharedList<u64>, at: usize, number: u64) -> usize
     requires { at < length depths.now }
     ensures value { result ≡ place_for_child depths.now at (child depths.now at number) }
     ensures above { at < result }
@@ -152,7 +153,7 @@ pub(crate) fn shift(
         (λ p. plan_tree tree.now (Shift path.now number to) ≡ Ok (TreeOf p.shape, p.from))
         (λ fault. IsRefusal (plan_tree tree.now (Shift path.now number to)) fault) }
 {
-    let depths = tree.valid();
+    let depths = tree.depths();
     let Some(at) = node(depths, path.as_slice()) else {
         return Err(PlanFault::Place);
     };
@@ -165,25 +166,30 @@ pub(crate) fn shift(
     };
     let after = end(depths, place);
     let rest = remove_part(alloc, depths, place, after)?;
-    let target = place_for_child(rest.as_slice(), at, to);
+    let target = place_for_child(&rest, at, to);
     let from = old_places(alloc, depths.len() as u64)?;
-    let from = move_part(alloc, from.as_slice(), place, after, target)?;
+    let from = move_places(alloc, from.as_slice(), place, after, target)?;
     let shifted = move_part(alloc, depths, place, after, target)?;
     Ok(Plan {
         shape: TreeShape::of_valid(shifted),
-        from: Origins::from_vec(from),
+        from: Origins::from_vec(alloc, from)?,
     })
 }
 
 // The depths of a subtree whose root has depth `top`, after it is moved below a node of this depth.
-fn moved_depths(alloc: Global, part: &[u64], top: u64, depth: u64) -> Result<Vec<u64>, PlanFault>
+fn moved_depths(
+    alloc: Global,
+    part: &SharedList<u64>,
+    top: u64,
+    depth: u64,
+) -> Result<SharedList<u64>, PlanFault>
     ensures { MatchResult result
-        (λ v. allowed_depths top depth part.now ≡ Ok v.items)
+        (λ list. allowed_depths top depth part.now ≡ Ok list)
         (λ fault. IsRefusal (allowed_depths top depth part.now) fault) }
 {
     let mut all = Vec::new(alloc);
-    for item in part {
-        let below = (*item).saturating_sub(top);
+    for i in 0..part.len() {
+        let below = depth_at(part, i).saturating_sub(top);
         if below >= 15 {
             return Err(PlanFault::Deep);
         }
@@ -192,7 +198,7 @@ fn moved_depths(alloc: Global, part: &[u64], top: u64, depth: u64) -> Result<Vec
         }
         all.push(below + (depth + 1))?;
     }
-    Ok(all)
+    Ok(SharedList::from_vec(alloc, all)?)
 }
 
 // A subtree becomes the last child of a node of the tree that remains without it.
@@ -207,7 +213,7 @@ pub(crate) fn hang(
         (λ p. plan_tree tree.now (Hang part.now below.now) ≡ Ok (TreeOf p.shape, p.from))
         (λ fault. IsRefusal (plan_tree tree.now (Hang part.now below.now)) fault) }
 {
-    let depths = tree.valid();
+    let depths = tree.depths();
     let Some(top) = node(depths, part.as_slice()) else {
         return Err(PlanFault::Place);
     };
@@ -216,16 +222,17 @@ pub(crate) fn hang(
     }
     let after = end(depths, top);
     let rest = remove_part(alloc, depths, top, after)?;
-    let Some(at) = node(rest.as_slice(), below.as_slice()) else {
+    let Some(at) = node(&rest, below.as_slice()) else {
         return Err(PlanFault::Place);
     };
-    let block = moved_depths(alloc, &depths[top..after], depths[top], rest[at])?;
-    let target = end(rest.as_slice(), at);
+    let part = depths.part(alloc, top, after - top)?;
+    let block = moved_depths(alloc, &part, depth_at(depths, top), depth_at(&rest, at))?;
+    let target = end(&rest, at);
     let from = old_places(alloc, depths.len() as u64)?;
-    let from = move_part(alloc, from.as_slice(), top, after, target)?;
-    let grown = insert_part(alloc, target, block.as_slice(), rest.as_slice())?;
+    let from = move_places(alloc, from.as_slice(), top, after, target)?;
+    let grown = insert_part(alloc, target, &block, &rest)?;
     Ok(Plan {
         shape: TreeShape::of_valid(grown),
-        from: Origins::from_vec(from),
+        from: Origins::from_vec(alloc, from)?,
     })
 }

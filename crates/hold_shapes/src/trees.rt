@@ -1,20 +1,31 @@
 //! Nodes of a tree that is given by the depths of its nodes in preorder.
-ghost use Rattle.std.specs.Prelude.{◌≡◌, ◌<◌, ◌≤◌, length, IfSome, true};
+ghost use Rattle.std.specs.Prelude.{◌≡◌, ◌↔◌, ◌<◌, ◌≤◌, length, slice_index, IfSome, IsTrue, true};
 ghost use Rattle.hold_shapes.specs.Trees.{is_valid, end_of, children, child, node};
 
+use shared_lists::SharedList;
+
+// The depth at a place.
+#[tactic(auto, using(crate::proofs::SharedItems::item_rules))]
+pub(crate) fn depth_at(depths: &SharedList<u64>, at: usize) -> u64
+    requires { at < length depths.now }
+    ensures { result ≡ slice_index depths.now at }
+{
+    *depths.get(at)
+}
+
 // Whether the depths are those of a tree in preorder.
-pub(crate) fn is_valid(depths: &[u64]) -> bool
+pub(crate) fn is_valid(depths: &SharedList<u64>) -> bool
     ensures { result ≡ is_valid depths.now }
 {
     if depths.is_empty() {
         return false;
     }
-    if depths[0] != 0 {
+    if depth_at(depths, 0) != 0 {
         return false;
     }
     let mut before = 0u64;
     for i in 1..depths.len() {
-        let depth = depths[i];
+        let depth = depth_at(depths, i);
         if depth < 1 {
             return false;
         }
@@ -30,33 +41,36 @@ pub(crate) fn is_valid(depths: &[u64]) -> bool
 }
 
 // The place after the subtree of a node.
-pub(crate) fn end(depths: &[u64], at: usize) -> usize
+pub(crate) fn end(depths: &SharedList<u64>, at: usize) -> usize
     requires { at < length depths.now }
     ensures value { result ≡ end_of depths.now at }
     ensures above { at < result }
     ensures within { result ≤ length depths.now }
 {
-    let depth = depths[at];
-    for i in at + 1..depths.len() {
-        if depths[i] <= depth {
+    let size = depths.len();
+    let depth = depth_at(depths, at);
+    for i in at + 1..size {
+        if depth_at(depths, i) <= depth {
             return i;
         }
     }
-    depths.len()
+    size
 }
 
 // How many children a node has.
-pub(crate) fn children(depths: &[u64], at: usize) -> usize
+pub(crate) fn children(depths: &SharedList<u64>, at: usize) -> usize
     requires { at < length depths.now }
     ensures { result ≡ children depths.now at }
 {
-    let depth = depths[at];
+    let size = depths.len();
+    let depth = depth_at(depths, at);
     let mut count = 0;
-    for i in at + 1..depths.len() {
-        if depths[i] <= depth {
+    for i in at + 1..size {
+        let next = depth_at(depths, i);
+        if next <= depth {
             return count;
         }
-        if depths[i] == depth + 1 {
+        if next == depth + 1 {
             count += 1;
         }
     }
@@ -64,19 +78,21 @@ pub(crate) fn children(depths: &[u64], at: usize) -> usize
 }
 
 // The place of a child of a node.
-pub(crate) fn child(depths: &[u64], at: usize, number: u64) -> Option<usize>
+pub(crate) fn child(depths: &SharedList<u64>, at: usize, number: u64) -> Option<usize>
     requires { at < length depths.now }
     ensures value { result ≡ child depths.now at number }
     ensures above { IfSome result (λ p. at < p) }
     ensures within { IfSome result (λ p. p < length depths.now) }
 {
-    let depth = depths[at];
+    let size = depths.len();
+    let depth = depth_at(depths, at);
     let mut left = number;
-    for i in at + 1..depths.len() {
-        if depths[i] <= depth {
+    for i in at + 1..size {
+        let next = depth_at(depths, i);
+        if next <= depth {
             return None;
         }
-        if depths[i] == depth + 1 {
+        if next == depth + 1 {
             if left == 0 {
                 return Some(i);
             }
@@ -88,7 +104,7 @@ pub(crate) fn child(depths: &[u64], at: usize, number: u64) -> Option<usize>
 
 // The node that a path names.
 #[tactic(auto, using(crate::proofs::Nodes::node_rules))]
-pub(crate) fn node(depths: &[u64], path: &[u64]) -> Option<usize>
+pub(crate) fn node(depths: &SharedList<u64>, path: &[u64]) -> Option<usize>
     requires { 0 < length depths.now }
     ensures value { result ≡ node depths.now path.now }
     ensures within { IfSome result (λ p. p < length depths.now) }
@@ -104,7 +120,7 @@ pub(crate) fn node(depths: &[u64], path: &[u64]) -> Option<usize>
 }
 
 // The place of the node that a path names.
-pub(crate) fn place(depths: &[u64], path: &[u64]) -> Option<u64>
+pub(crate) fn place(depths: &SharedList<u64>, path: &[u64]) -> Option<u64>
     requires { is_valid depths.now ≡ true }
     ensures { result ≡ node depths.now path.now }
 {
@@ -115,4 +131,19 @@ pub(crate) fn place(depths: &[u64], path: &[u64]) -> Option<u64>
         Some(at) => Some(at as u64),
         None => None,
     }
+}
+
+// Whether both lists have the same depths in the same order.
+pub(crate) fn are_same(depths: &SharedList<u64>, others: &SharedList<u64>) -> bool
+    ensures { IsTrue result ↔ (depths.now ≡ others.now) }
+{
+    if depths.len() != others.len() {
+        return false;
+    }
+    for i in 0..depths.len() {
+        if depth_at(depths, i) != depth_at(others, i) {
+            return false;
+        }
+    }
+    true
 }

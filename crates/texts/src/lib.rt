@@ -2,11 +2,10 @@
 //!
 //! A name, a list of names, a text and a list of bytes are small types over a `String` or a `Vec`,
 //! which contracts see as lists. [`Twin`] is the copy call of this and every other crate. A key is
-//! a name of a keyed map; [`keys`] has the order of keys.
+//! a name of a keyed map; the definitions of the order of keys stand here too.
 #![tactic(auto)]
 
 mod bytes;
-pub mod keys;
 mod name;
 mod names;
 mod side;

@@ -16,8 +16,9 @@ use crate::fault::DocFault;
 use crate::numbers::{read_counts, read_int};
 use crate::parts::{only_member, two_members};
 use doc_values::{Doc, Docs, Fields, Ty, has_text};
-use hold_shapes::{Depths, KeyedShape, ListShape, Name, Names, Shape, Str, TreeShape};
+use hold_shapes::{KeyedShape, ListShape, Name, Names, Shape, Str, TreeShape};
 use serde_json::{Map, Value};
+use shared_lists::SharedList;
 use std::alloc::{AllocError, Global};
 
 /// The document of the type that has this tree.
@@ -151,7 +152,7 @@ fn read_fields(
     }
     match rest.next() {
         Some(_) => Err(DocFault::NotOfType),
-        None => Ok(Docs::from_vec(docs)),
+        None => Ok(Docs::from_vec(alloc, docs)?),
     }
 }
 
@@ -215,7 +216,7 @@ fn read_ordered(alloc: Global, inner: &Ty, tree: &Value) -> Result<Doc, DocFault
     if depths.len() != docs.len() {
         return Err(DocFault::NotOfType);
     }
-    match TreeShape::from_depths(Depths::from_vec(depths)) {
+    match TreeShape::from_depths(SharedList::from_vec(alloc, depths)?) {
         Some(nodes) => Ok(Doc::Hold(Shape::Tree(nodes), docs)),
         None => Err(DocFault::NotOfType),
     }
@@ -235,14 +236,14 @@ fn depths_and_items(tree: &Value) -> Option<(&Vec<Value>, &Vec<Value>)>
 }
 
 // The names of an object's members.
-fn names_of(alloc: Global, members: &Map<String, Value>) -> Result<Names, AllocError>
+fn names_of(alloc: Global, members: &Map<String, Value>) -> Result<SharedList<Name>, AllocError>
     ensures { IfOk result (λ names. names ≡ member_names (members_view members.now.entries)) }
 {
     let mut names = Vec::new(alloc);
     for (name, _) in members.iter() {
         names.push(Name::from_string(name.clone()?))?;
     }
-    Ok(Names::from_vec(names))
+    SharedList::from_vec(alloc, names)
 }
 
 // The contents of an object's members.
@@ -256,7 +257,7 @@ fn read_members(alloc: Global, inner: &Ty, members: &Map<String, Value>) -> Resu
     for (_, content) in members.iter() {
         docs.push(read(alloc, inner, content)?)?;
     }
-    Ok(Docs::from_vec(docs))
+    Ok(Docs::from_vec(alloc, docs)?)
 }
 
 // The contents that an array's items are.
@@ -269,5 +270,5 @@ fn read_items(alloc: Global, inner: &Ty, items: &[Value]) -> Result<Docs, DocFau
     for item in items {
         docs.push(read(alloc, inner, item)?)?;
     }
-    Ok(Docs::from_vec(docs))
+    Ok(Docs::from_vec(alloc, docs)?)
 }

@@ -13,6 +13,7 @@ ghost use Rattle.value_json.specs.DocumentJson.{tree_of_document, document_of, f
 use doc_values::{Doc, Docs, Fields, Ty};
 use hold_shapes::{Name, Shape};
 use serde_json::{Map, Value, put};
+use shared_lists::SharedList;
 use std::alloc::{AllocError, Global};
 
 /// The tree of a document of the type; the page docs/FORMATS.md says which tree this is.
@@ -50,10 +51,10 @@ fn write(alloc: Global, ty: &Ty, doc: &Doc) -> Result<Value, AllocError>
         (Ty::Alt(tags), Doc::Alt(tag, content)) => write_tagged(alloc, tags, tag, content),
         (Ty::List(inner), Doc::Hold(Shape::List(_), docs)) => write_list(alloc, inner, docs),
         (Ty::Keyed(inner), Doc::Hold(Shape::Keyed(keys), docs)) => {
-            write_keyed(alloc, inner, keys.names().as_slice(), docs)
+            write_keyed(alloc, inner, keys.names(), docs)
         }
         (Ty::Tree(inner), Doc::Hold(Shape::Tree(nodes), docs)) => {
-            write_ordered(alloc, inner, nodes.depths().as_slice(), docs)
+            write_ordered(alloc, inner, nodes.depths(), docs)
         }
         _ => unreachable!(),
     }
@@ -76,10 +77,9 @@ fn write_record(alloc: Global, fields: &Fields, docs: &Docs) -> Result<Value, Al
         (λ tree. view tree ≡ object (field_members (fields_tree fields.now) (docs_tree docs.now))) }
     ensures whole { OnOk result (all_hold_i64s (docs_tree docs.now) ≡ true) }
 {
-    let contents = docs.as_slice();
     let mut members = Map::new(alloc);
     for (i, field) in fields.as_slice().iter().enumerate() {
-        let content = write(alloc, &field.1, &contents[i])?;
+        let content = write(alloc, &field.1, docs.get(i))?;
         put(&mut members, alloc, field.0.as_str(), content)?;
     }
     Ok(Value::Object(members))
@@ -117,17 +117,22 @@ fn write_list(alloc: Global, inner: &Ty, docs: &Docs) -> Result<Value, AllocErro
         (λ tree. view tree ≡ array (content_items (ty_tree inner.now) (docs_tree docs.now))) }
     ensures whole { OnOk result (all_hold_i64s (docs_tree docs.now) ≡ true) }
 {
-    let contents = docs.as_slice();
-    let mut items = Vec::with_capacity(alloc, contents.len())?;
-    for content in contents {
-        items.push(write(alloc, inner, content)?)?;
+    let count = docs.len();
+    let mut items = Vec::with_capacity(alloc, count)?;
+    for i in 0..count {
+        items.push(write(alloc, inner, docs.get(i))?)?;
     }
     Ok(Value::Array(items))
 }
 
 // An object with a member for each key.
 #[cycle(write)]
-fn write_keyed(alloc: Global, inner: &Ty, keys: &[Name], docs: &Docs) -> Result<Value, AllocError>
+fn write_keyed(
+    alloc: Global,
+    inner: &Ty,
+    keys: &SharedList<Name>,
+    docs: &Docs,
+) -> Result<Value, AllocError>
     requires rising { is_rising keys.now ≡ true }
     requires many { length keys.now ≡ length (doc_list (docs_tree docs.now)) }
     requires well_formed { is_well_formed (ty_tree inner.now) ≡ true }
@@ -136,11 +141,11 @@ fn write_keyed(alloc: Global, inner: &Ty, keys: &[Name], docs: &Docs) -> Result<
         ≡ object (key_members (ty_tree inner.now) keys.now (docs_tree docs.now))) }
     ensures whole { OnOk result (all_hold_i64s (docs_tree docs.now) ≡ true) }
 {
-    let contents = docs.as_slice();
     let mut members = Map::new(alloc);
-    for (i, content) in contents.iter().enumerate() {
-        let content = write(alloc, inner, content)?;
-        put(&mut members, alloc, keys[i].as_str(), content)?;
+    for i in 0..docs.len() {
+        let key = keys.get(i);
+        let content = write(alloc, inner, docs.get(i))?;
+        put(&mut members, alloc, key.as_str(), content)?;
     }
     Ok(Value::Object(members))
 }
@@ -150,7 +155,7 @@ fn write_keyed(alloc: Global, inner: &Ty, keys: &[Name], docs: &Docs) -> Result<
 fn write_ordered(
     alloc: Global,
     inner: &Ty,
-    depths: &[u64],
+    depths: &SharedList<u64>,
     docs: &Docs,
 ) -> Result<Value, AllocError>
     requires well_formed { is_well_formed (ty_tree inner.now) ≡ true }
@@ -161,7 +166,7 @@ fn write_ordered(
     ensures whole { OnOk result (all_hold_i64s (docs_tree docs.now) ≡ true) }
 {
     let mut members = Map::new(alloc);
-    put(&mut members, alloc, "depths", write_counts(alloc, depths)?)?;
+    put(&mut members, alloc, "depths", write_depths(alloc, depths)?)?;
     put(
         &mut members,
         alloc,
@@ -171,8 +176,19 @@ fn write_ordered(
     Ok(Value::Object(members))
 }
 
-/// The array of these numbers. Fails only if memory runs out.
+// The array of these depths.
+fn write_depths(alloc: Global, depths: &SharedList<u64>) -> Result<Value, AllocError>
+    ensures { IfOk result (λ tree. view tree ≡ array (count_items depths.now)) }
+{
+    let count = depths.len();
+    let mut items = Vec::with_capacity(alloc, count)?;
+    for i in 0..count {
+        items.push(Value::from(*depths.get(i)))?;
+    }
+    Ok(Value::Array(items))
+}
 
+/// The array of these numbers. Fails only if memory runs out.
 pub fn write_counts(alloc: Global, counts: &[u64]) -> Result<Value, AllocError>
     ensures { IfOk result (λ tree. view tree ≡ array (count_items counts.now)) }
 {

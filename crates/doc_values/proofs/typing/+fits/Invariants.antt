@@ -8,10 +8,10 @@ use Rattle.doc_values.proofs.typing.+fits.Given as goal
 
 abbrev pub invariant-fit_fields-loop-i : goal.invariant-fit_fields-loop-i
 invariant-fit_fields-loop-i l =
-    has_fields (type_fields_of (map field_tree (drop l.i l.fields.items.items))) (docs_of (map doc_tree (drop l.i l.docs.items.items)))
-    ≡ has_fields (type_fields_of (map field_tree l.fields.items.items)) (docs_of (map doc_tree l.docs.items.items))
+    has_fields (type_fields_of (map field_tree (drop l.i l.fields.items.items))) (docs_of (map doc_tree (drop l.i l.docs.items)))
+    ≡ has_fields (type_fields_of (map field_tree l.fields.items.items)) (docs_of (map doc_tree l.docs.items))
 
-abbrev pub invariant-fit_each-loop-doc : goal.invariant-fit_each-loop-doc
-invariant-fit_each-loop-doc l =
-    has_each (ty_tree l.ty) (docs_of (map doc_tree (drop l.doc-index l.doc-items)))
-    ≡ has_each (ty_tree l.ty) (docs_of (map doc_tree l.doc-items))
+abbrev pub invariant-fit_each-loop-i : goal.invariant-fit_each-loop-i
+invariant-fit_each-loop-i l =
+    has_each (ty_tree l.ty) (docs_of (map doc_tree (drop l.i l.docs.items)))
+    ≡ has_each (ty_tree l.ty) (docs_of (map doc_tree l.docs.items))

@@ -31,12 +31,12 @@ read_fields-loop-field-preserved t c =
     rw (c.in_ok-push.ensures.items, map-append)
     (l.invariant ∙ next ∙ next_field fields l.field-index c.field-item.result name (view c.in-Some.content.now) (members_view c.next.new.self) (map doc_tree l.docs.items) _ c.loop-field-test.true c.field-item.is same c.in_ok-read.ensures)
 
-pub read_fields-returns-in-None : goal.read_fields-returns-in-None
-read_fields-returns-in-None t c =
+pub read_fields-returns-in_ok-from_vec-in-None : goal.read_fields-returns-in_ok-from_vec-in-None
+read_fields-returns-in_ok-from_vec-in-None t c =
     let l = c.loop-field in
     let fields = c.as_slice-field-items.result.now in
     let last = ap (λ es. option_map (then_docs (map doc_tree l.docs.items)) (field_documents (type_fields_of (map field_tree (drop l.field-index fields))) (members_view es))) c.in-None.ensures.steps.0 in
-    l.invariant ∙ last ∙ fields_done fields l.field-index (map doc_tree l.docs.items) c.loop-field-test.false ∙ ap Some (sym c.from_vec.ensures)
+    l.invariant ∙ last ∙ fields_done fields l.field-index (map doc_tree l.docs.items) c.loop-field-test.false ∙ ap Some (sym c.in_ok-from_vec-in-None.ensures)
 
 pub read_items-loop-item-preserved : goal.read_items-loop-item-preserved
 read_items-loop-item-preserved t c =
@@ -46,7 +46,7 @@ read_items-loop-item-preserved t c =
 pub read_items-returns : goal.read_items-returns
 read_items-returns t c =
     let l = c.loop-item in
-    l.invariant ∙ items_done (ty_tree c.args.inner.now) c.args.items.now l.item-index (map doc_tree l.docs.items) c.loop-item-test.false ∙ ap Some (sym c.from_vec.ensures)
+    l.invariant ∙ items_done (ty_tree c.args.inner.now) c.args.items.now l.item-index (map doc_tree l.docs.items) c.loop-item-test.false ∙ ap Some (sym c.in_ok-from_vec.ensures)
 
 pub read_members-loop-content-preserved : goal.read_members-loop-content-preserved
 read_members-loop-content-preserved t c =
@@ -61,7 +61,7 @@ read_members-returns t c =
     let l = c.loop-content in
     let inner = ty_tree c.args.inner.now in
     let last = ap (λ es. option_map (then_docs (map doc_tree l.docs.items)) (member_documents inner (members_view es))) c.in-None.ensures.steps.0 in
-    l.invariant ∙ last ∙ entries_done inner (map doc_tree l.docs.items) ∙ ap Some (sym c.from_vec.ensures)
+    l.invariant ∙ last ∙ entries_done inner (map doc_tree l.docs.items) ∙ ap Some (sym c.in_ok-from_vec.ensures)
 
 pub read_ordered-returns-in-Some-from_depths : goal.read_ordered-returns-in-Some-from_depths
 read_ordered-returns-in-Some-from_depths t c =
@@ -73,7 +73,7 @@ read_ordered-returns-in-Some-from_depths t c =
     let contents : item_documents inner (items_view c.in-Some.items.now.items) ≡ Some docs = ap (λ vs. item_documents inner (items_view vs)) (sym c.deref-2.ensures.value) ∙ c.in_ok-docs.ensures in
     let many : length depths ≡ length (doc_list docs) = sym c.in-Some-2.depths.ok.0 ∙ sym c.len.ensures ∙ c.if-len.false ∙ c.len-2.ensures in
     ordered_of inner (view c.args.tree.now) ∙ sym (ap (ordered_by inner) c.in-Some.ensures)
-    ∙ ordered_found inner (items_view c.in-Some.depths.now.items) (items_view c.in-Some.items.now.items) depths c.in-Some-from_depths.nodes docs numbers contents (sym (ap is_valid c.from_vec.ensures) ∙ c.in-Some-from_depths.ensures.0) many (c.in-Some-from_depths.ensures.1 ∙ c.from_vec.ensures)
+    ∙ ordered_found inner (items_view c.in-Some.depths.now.items) (items_view c.in-Some.items.now.items) depths c.in-Some-from_depths.nodes docs numbers contents (sym (ap is_valid c.in_ok-from_vec.ensures) ∙ c.in-Some-from_depths.ensures.0) many (c.in-Some-from_depths.ensures.1 ∙ c.in_ok-from_vec.ensures)
     ∙ ap Some (sym (doc_tree-Hold _ c.in_ok-docs.docs))
 
 pub read_tagged-returns-in_default-find : goal.read_tagged-returns-in_default-find

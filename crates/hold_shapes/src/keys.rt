@@ -1,19 +1,29 @@
 //! Keys in byte order: a test of the order, the place of a key, and the place for a new one.
-ghost use Rattle.std.specs.Prelude.{◌≡◌, ◌<◌, ◌≤◌, length, IfSome, true};
+ghost use Rattle.std.specs.Prelude.{◌≡◌, ◌↔◌, ◌<◌, ◌≤◌, length, slice_index_or, IfSome, IsTrue, true};
 ghost use Rattle.texts.specs.Keys.{is_rising, key_place, rank};
 
-use crate::name::Name;
+use shared_lists::SharedList;
+use texts::Name;
+
+// The name at a place.
+#[tactic(auto, using(crate::proofs::SharedItems::item_rules))]
+fn name_at(names: &SharedList<Name>, at: usize) -> &Name
+    requires { at < length names.now }
+    ensures { result.now ≡ slice_index_or names.now at result.now }
+{
+    names.get(at)
+}
 
 /// Whether each name is before the next one in byte order. Does not allocate.
-#[tactic(auto, using(crate::proofs::KeyOrder::rising_rules))]
-pub fn is_rising(names: &[Name]) -> bool
+#[tactic(auto, using(texts::proofs::KeyOrder::rising_rules))]
+pub(crate) fn is_rising(names: &SharedList<Name>) -> bool
     ensures { result ≡ is_rising names.now }
 {
     if names.is_empty() {
         return true;
     }
     for i in 0..names.len() - 1 {
-        if !names[i].is_before(&names[i + 1]) {
+        if !name_at(names, i).is_before(name_at(names, i + 1)) {
             return false;
         }
     }
@@ -23,8 +33,8 @@ pub fn is_rising(names: &[Name]) -> bool
 /// The place of a name among names in byte order, from 0, or None if it is not among them.
 ///
 /// Does not allocate. It compares some log n names, where n is how many there are.
-#[tactic(auto, using(crate::proofs::KeyOrder::search_rules))]
-pub fn place(names: &[Name], name: &Name) -> Option<u64>
+#[tactic(auto, using(texts::proofs::KeyOrder::search_rules))]
+pub(crate) fn place(names: &SharedList<Name>, name: &Name) -> Option<u64>
     requires { is_rising names.now ≡ true }
     ensures value { result ≡ key_place name.now names.now }
     ensures within { IfSome result (λ p. p < length names.now) }
@@ -33,7 +43,7 @@ pub fn place(names: &[Name], name: &Name) -> Option<u64>
     if at >= names.len() {
         return None;
     }
-    if name.is_same(&names[at]) {
+    if name.is_same(name_at(names, at)) {
         Some(at as u64)
     } else {
         None
@@ -43,8 +53,8 @@ pub fn place(names: &[Name], name: &Name) -> Option<u64>
 /// How many of these names in byte order are before a name: the place that a new one takes.
 ///
 /// Does not allocate. It compares some log n names, where n is how many there are.
-#[tactic(auto, using(crate::proofs::KeyOrder::search_rules))]
-pub fn rank(names: &[Name], name: &Name) -> usize
+#[tactic(auto, using(texts::proofs::KeyOrder::search_rules))]
+pub(crate) fn rank(names: &SharedList<Name>, name: &Name) -> usize
     requires { is_rising names.now ≡ true }
     ensures value { result ≡ rank name.now names.now }
     ensures within { result ≤ length names.now }
@@ -53,11 +63,26 @@ pub fn rank(names: &[Name], name: &Name) -> usize
     let mut high = names.len();
     while low < high {
         let middle = low + (high - low) / 2;
-        if names[middle].is_before(name) {
+        if name_at(names, middle).is_before(name) {
             low = middle + 1;
         } else {
             high = middle;
         }
     }
     low
+}
+
+/// Whether both lists have the same names in the same order. Does not allocate.
+pub(crate) fn are_same(names: &SharedList<Name>, others: &SharedList<Name>) -> bool
+    ensures { IsTrue result ↔ (names.now ≡ others.now) }
+{
+    if names.len() != others.len() {
+        return false;
+    }
+    for i in 0..names.len() {
+        if !name_at(names, i).is_same(name_at(others, i)) {
+            return false;
+        }
+    }
+    true
 }
