@@ -1,12 +1,12 @@
 -- Heights up to one more than the limit.
-use Rattle.std.proofs.Common.{◌≡◌, ℕ, ◌+◌, true, false, List, [], ◌∷◌, refl, ap, ◌∙◌, arith}
+use Rattle.std.proofs.Common.{◌≡◌, ℕ, ◌+◌, true, false, List, refl, ap, ◌∙◌, arith}
 use Rattle.std.specs.Prelude.{nat_le, max, if◌then◌else◌}
 use Rattle.std.proofs.lemmas.Bool.Decides.{nat_tests}
 use Rattle.texts.specs.Keys.{is_before}
 use Rattle.doc_values.specs.Types.{TyTree, ty_rec, FieldTrees, no_fields, more_fields, height, highest}
 use Rattle.lens_forms.specs.Forms.{ArmTrees, no_arms, more_arms, insert_field, sorted}
 use Rattle.lens_forms.specs.Measures.{form_height, highest_arm, greatest_height}
-use Rattle.lens_types.specs.Earlier.{enum_type, alternatives_type, bijection, alternatives, partition}
+use Rattle.lens_types.specs.Earlier.{alternatives_type, alternatives, partition}
 use Rattle.lens_types.specs.Heights.{capped}
 
 pub capped-next : (a : ℕ) → capped (capped a + 1) ≡ capped (a + 1)
@@ -39,17 +39,9 @@ height-record fs = ap (λ k. k + 1) (highest-sorted fs)
 
 -- ---- what stands for nothing is as high as it would be
 
-pub height-enum_type : (ms : List (List ℕ)) → height (enum_type ms) ≡ 1
-height-enum_type [] = refl
-height-enum_type (m ∷ ms) = refl
-
 pub height-alternatives_type : (fs : FieldTrees) → height (alternatives_type fs) ≡ highest fs + 1
 height-alternatives_type no_fields = refl
 height-alternatives_type (more_fields n t fs) = refl
-
-pub height-bijection : (ps : List (List ℕ × List ℕ)) → form_height (bijection ps) ≡ 1
-height-bijection [] = refl
-height-bijection (p ∷ ps) = refl
 
 pub height-alternatives : (arms : ArmTrees) → form_height (alternatives arms) ≡ highest_arm arms + 1
 height-alternatives no_arms = refl
@@ -59,8 +51,8 @@ pub height-partition : (fs : FieldTrees) → form_height (partition fs) ≡ 1
 height-partition no_fields = refl
 height-partition (more_fields n t fs) = refl
 
-pub ruleset type_height_rules = (capped-next, capped-max, height-record, height-enum_type, height-alternatives_type)
+pub ruleset type_height_rules = (capped-next, capped-max, height-record, height-alternatives_type)
 
-pub ruleset lens_height_rules = (capped-next, capped-max, height-bijection, height-alternatives, height-partition)
+pub ruleset lens_height_rules = (capped-next, capped-max, height-alternatives, height-partition)
 
 pub ruleset written_rules = (capped-max)

@@ -9,7 +9,7 @@ use Rattle.lens_types.specs.Earlier.{KnownTree, Definitions, known, known_of, al
 use Rattle.lens_types.specs.Checking.{Failure, or_else, def_failure, failure_after}
 use Rattle.lens_types.specs.Faults.{IsFaultOf}
 use Rattle.lens_types.specs.declared.fault.TypeFault.{TypeFault}
-use Rattle.lens_types.specs.declared.fault.TypeFault.TheVariants.{MiddleDiffers, RepeatedField, RepeatedTag, RepeatedMember, TooLarge, TooDeep, NoMemory}
+use Rattle.lens_types.specs.declared.fault.TypeFault.TheVariants.{MiddleDiffers, RepeatedField, RepeatedTag, RepeatedMember, NotAMember, TooLarge, TooDeep, NoMemory}
 use Rattle.lens_types.proofs.Entries.{not_known}
 use Rattle.lens_types.proofs.SoundForms.{are_sound, sound_more, def_sound}
 
@@ -40,6 +40,7 @@ first_fault a b (MiddleDiffers left right) h = ap (λ o. or_else o b) h
 first_fault a b (RepeatedField name) h = ap (λ o. or_else o b) h
 first_fault a b (RepeatedTag name) h = ap (λ o. or_else o b) h
 first_fault a b (RepeatedMember name) h = ap (λ o. or_else o b) h
+first_fault a b (NotAMember name) h = ap (λ o. or_else o b) h
 first_fault a b TooLarge h = ap (λ o. or_else o b) h
 first_fault a b TooDeep h = ap (λ o. or_else o b) h
 first_fault a b NoMemory h = tt

@@ -11,7 +11,7 @@ use Rattle.program_terms.specs.declared.types.TyExpr.{TyExpr}
 use Rattle.program_terms.specs.declared.lens.Lens.{Lens}
 use Rattle.program_terms.specs.declared.lens.Row.{Row}
 use Rattle.lens_forms.specs.Forms.{FormTree, form_each, form_rec, RowTrees, ArmTrees, no_arms, more_arms, left_type, right_type, left_fields, right_fields, left_tags, right_tags, sorted, lists_of}
-use Rattle.lens_types.specs.Earlier.{Definitions, expanded_type, expanded_fields, expanded_form, expanded_rows, bijection, alternatives, partition}
+use Rattle.lens_types.specs.Earlier.{Definitions, expanded_type, expanded_fields, expanded_form, expanded_rows, alternatives, partition}
 use Rattle.lens_types.specs.Checking.{Failure, or_else, rows_failure}
 use Rattle.lens_types.specs.Heights.{capped, HasHeights, HasRowHeights, HasArmHeights}
 use Rattle.lens_types.specs.Nodes.{HasFieldHeights, row_failure}
@@ -47,11 +47,7 @@ alternatives_heights arms part whole h l r = (
   one_more whole.right part.right (highest (right_tags arms)) r h.1 ∙ ap capped (sym (right-alternatives arms)),
 )
 
--- ---- bijections and partitions
-
-pub bijection_heights : (ps : List (List ℕ × List ℕ)) (h : SideHeights) → h.left ≡ 1 → h.right ≡ 1 → HasHeights (bijection ps) h
-bijection_heights [] h l r = (l, r)
-bijection_heights (p ∷ ps) h l r = (l, r)
+-- ---- partitions
 
 highest-lists_of : (n : List ℕ) (t : TyTree) (fs : FieldTrees) → highest (lists_of (more_fields n t fs)) ≡ highest (more_fields n t fs) + 1
 highest-lists_of n t no_fields = omega arith

@@ -1,5 +1,5 @@
 -- Counting with a room gives what is left after all counted parts, names put in.
-use Rattle.std.proofs.Common.{◌≡◌, ℕ, ◌+◌, ◌-◌, ◌≤◌, true, false, List, [], ◌∷◌, length, Option, Some, None, refl, ap, sym, ◌∙◌, arith}
+use Rattle.std.proofs.Common.{◌≡◌, ℕ, ◌+◌, ◌-◌, ◌≤◌, true, false, List, length, Option, Some, None, refl, ap, sym, ◌∙◌, arith}
 use Rattle.std.specs.Prelude.{Bool, nat_le, unwrap_or, if◌then◌else◌, option_and_then}
 use Rattle.std.proofs.lemmas.Bool.Decides.{nat_tests}
 use Rattle.texts.specs.Keys.{is_before}
@@ -8,7 +8,7 @@ use Rattle.program_terms.specs.Terms as Term
 use Rattle.lens_forms.specs.Forms.{ArmTrees, no_arms, more_arms, insert_field, sorted}
 use Rattle.lens_forms.specs.Measures.{type_parts, fields_parts, form_parts, rows_parts, arms_parts, most_parts}
 use Rattle.lens_types.specs.Checking.{too_large}
-use Rattle.lens_types.specs.Earlier.{Definitions, expanded_type, expanded_fields, expanded_form, expanded_rows, expanded_arms, enum_type, alternatives_type, bijection, alternatives, partition}
+use Rattle.lens_types.specs.Earlier.{Definitions, expanded_type, expanded_fields, expanded_form, expanded_rows, expanded_arms, alternatives_type, alternatives, partition}
 use Rattle.lens_types.specs.PartRooms.{IsCountOf, room_after, type_room, fields_room, lens_room, rows_room, arms_room}
 
 -- ---- room after two counts
@@ -28,17 +28,9 @@ pub parts-sorted : (fs : FieldTrees) → fields_parts (sorted fs) ≡ fields_par
 parts-sorted no_fields = refl
 parts-sorted (more_fields n t fs) = parts-insert n t (sorted fs) ∙ ap (λ k. type_parts t + 1 + k) (parts-sorted fs)
 
-parts-enum_type : (ms : List (List ℕ)) → type_parts (enum_type ms) ≡ 1 + length ms
-parts-enum_type [] = refl
-parts-enum_type (m ∷ ms) = omega arith
-
 parts-alternatives_type : (fs : FieldTrees) → type_parts (alternatives_type fs) ≡ 1 + fields_parts fs
 parts-alternatives_type no_fields = refl
 parts-alternatives_type (more_fields n t fs) = omega arith
-
-parts-bijection : (ps : List (List ℕ × List ℕ)) → form_parts (bijection ps) ≡ 1 + length ps
-parts-bijection [] = refl
-parts-bijection (p ∷ ps) = omega arith
 
 parts-alternatives : (arms : ArmTrees) → form_parts (alternatives arms) ≡ 1 + arms_parts arms
 parts-alternatives no_arms = refl
@@ -60,6 +52,10 @@ then_room f a b n h =
 to_room : (f : ℕ → Option ℕ) (a b c n : ℕ) → ((m : ℕ) → f m ≡ room_after b m) → a + b ≡ c → option_and_then f (room_after a n) ≡ room_after c n
 to_room f a b c n h e = then_room f a b n h ∙ ap (λ k. room_after k n) e
 
+-- one part and those of a list
+one_and_list : (a n : ℕ) → option_and_then (room_after a) (room_after 1 n) ≡ room_after (a + 1) n
+one_and_list a n = grind (arith, nat_tests)
+
 no_parts : (n : ℕ) → Some n ≡ room_after 0 n
 no_parts n = grind (arith, nat_tests)
 
@@ -67,9 +63,9 @@ mutual
   pub type_room-parts : (ds : Definitions) (t : Term.TypeTree) (n : ℕ) → type_room ds t n ≡ room_after (type_parts (expanded_type ds t)) n
   type_room-parts ds Term.unit n = refl
   type_room-parts ds Term.bool n = refl
-  type_room-parts ds Term.int n = refl
-  type_room-parts ds Term.text n = refl
-  type_room-parts ds (Term.enum_of ms) n = room_after-add 1 (length ms) n ∙ ap (λ k. room_after k n) (sym (parts-enum_type ms))
+  type_room-parts ds (Term.int z) n = refl
+  type_room-parts ds (Term.text s) n = refl
+  type_room-parts ds (Term.enum_of ms v) n = one_and_list (length ms) n
   type_room-parts ds (Term.record_of fs) n =
       to_room (λ left. fields_room ds fs left) 1 (fields_parts (expanded_fields ds fs)) (fields_parts (sorted (expanded_fields ds fs)) + 1) n
       (λ m. fields_room-parts ds fs m) (omega (arith, parts-sorted (expanded_fields ds fs)))
@@ -102,7 +98,7 @@ one_type ds t n = to_room (type_room ds t) 1 (type_parts (expanded_type ds t)) (
 mutual
   pub lens_room-parts : (ds : Definitions) (l : Term.LensTree) (n : ℕ) → lens_room ds l n ≡ room_after (form_parts (expanded_form ds l)) n
   lens_room-parts ds (Term.id_of t) n = one_type ds t n
-  lens_room-parts ds (Term.bij_of ps) n = room_after-add 1 (length ps) n ∙ ap (λ k. room_after k n) (sym (parts-bijection ps))
+  lens_room-parts ds (Term.bij_of ps v) n = one_and_list (length ps) n
   lens_room-parts ds (Term.disc_of t u) n =
       ap (option_and_then (type_room ds u)) (one_type ds t n)
       ∙ to_room (type_room ds u) (type_parts (expanded_type ds t) + 1) (type_parts (expanded_type ds u)) (type_parts (expanded_type ds t) + type_parts (expanded_type ds u) + 1) n (type_room-parts ds u) (omega arith)

@@ -16,7 +16,7 @@ use Rattle.texts.specs.declared.side.Side.TheVariants.{Left, Right}
 mutual
   pub type_on-left : (f : FormTree) → type_on Left f ≡ left_type f
   type_on-left (form_id t) = refl
-  type_on-left (form_bij ps) = refl
+  type_on-left (form_bij ps v) = refl
   type_on-left (form_disc t u) = refl
   type_on-left (form_then l k) = type_on-left l
   type_on-left (form_rec rows) = ap ty_rec (fields_on-left rows)
@@ -29,7 +29,7 @@ mutual
 
   pub type_on-right : (f : FormTree) → type_on Right f ≡ right_type f
   type_on-right (form_id t) = refl
-  type_on-right (form_bij ps) = refl
+  type_on-right (form_bij ps v) = refl
   type_on-right (form_disc t u) = refl
   type_on-right (form_then l k) = type_on-right k
   type_on-right (form_rec rows) = ap ty_rec (fields_on-right rows)

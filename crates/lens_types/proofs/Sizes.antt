@@ -17,18 +17,18 @@ field_smaller (g ∷ fs) (suc i) f h e =
     let rest : type_size (type_tree f.1) < fields_size (term_fields_of (map field_tree fs)) = field_smaller fs i f (omega arith) e in
     omega arith
 
-with_row-size : (r : RowTree) (rows : RowTrees) → rows_size (with_row r rows) ≡ row_size r + rows_size rows + 1
-with_row-size (row_both a b l) rows = omega arith
-with_row-size (row_left a t) rows = omega arith
-with_row-size (row_right b t) rows = omega arith
+term_row-size : (r : RowTree) (rows : RowTrees) → rows_size (with_row r rows) ≡ row_size r + rows_size rows + 1
+term_row-size (row_both a b l) rows = omega arith
+term_row-size (row_left a t) rows = omega arith
+term_row-size (row_right b t) rows = omega arith
 
 pub row_smaller : (rows : List Row) (i : ℕ) (r : Row) → i < length rows → r ≡ get_or rows i r
     → row_size (row_tree r) < rows_size (term_rows_of (map row_tree rows))
 row_smaller [] i r h e = absurd (omega arith)
-row_smaller (q ∷ rows) zero r h e = rw e (omega (arith, with_row-size (row_tree q) (term_rows_of (map row_tree rows))))
+row_smaller (q ∷ rows) zero r h e = rw e (omega (arith, term_row-size (row_tree q) (term_rows_of (map row_tree rows))))
 row_smaller (q ∷ rows) (suc i) r h e =
     let rest : row_size (row_tree r) < rows_size (term_rows_of (map row_tree rows)) = row_smaller rows i r (omega arith) e in
-    omega (arith, with_row-size (row_tree q) (term_rows_of (map row_tree rows)))
+    omega (arith, term_row-size (row_tree q) (term_rows_of (map row_tree rows)))
 
 pub arm_smaller : (arms : List (List ℕ × List ℕ × Lens)) (i : ℕ) (a : List ℕ × List ℕ × Lens) → i < length arms → a ≡ get_or arms i a
     → lens_size (lens_tree a.2) < arms_size (term_arms_of (map arm_tree arms))
@@ -42,7 +42,7 @@ arm_smaller (b ∷ arms) (suc i) a h e =
 
 pub lens_size-positive : (l : LensTree) → 1 ≤ lens_size l
 lens_size-positive (id_of t) = omega arith
-lens_size-positive (bij_of ps) = omega arith
+lens_size-positive (bij_of ps v) = omega arith
 lens_size-positive (disc_of t u) = omega arith
 lens_size-positive (then_of l k) = omega arith
 lens_size-positive (rec_lens rows) = omega arith

@@ -1,15 +1,16 @@
 -- What has no failure is typed and keeps the limits.
 use Rattle.std.proofs.Common.{◌≡◌, ℕ, Bool, true, false, ◌&&◌, List, [], ◌∷◌, ◌++◌, Option, Some, None, refl}
 use Rattle.std.specs.Prelude.{bytes_eq, nat_le, if◌then◌else◌, option_map}
-use Rattle.doc_values.specs.Types.{FieldTrees, no_fields, more_fields, names_of, are_distinct, is_well_formed, are_well_formed, height, is_same_ty}
+use Rattle.texts.specs.Keys.{has_name}
+use Rattle.doc_values.specs.Types.{FieldTrees, no_fields, more_fields, names_of, are_distinct, are_choices, is_well_formed, are_well_formed, height, is_same_ty}
 use Rattle.texts.proofs.Conjunction.{both as both_true, first as first_and, second as second_and}
 use Rattle.program_terms.specs.Terms as Term
-use Rattle.lens_forms.specs.Forms.{FormTree, ArmTrees, no_arms, more_arms, lefts, rights, left_type, right_type}
+use Rattle.lens_forms.specs.Forms.{FormTree, ArmTrees, no_arms, more_arms, form_bij, lefts, rights, left_type, right_type}
 use Rattle.lens_forms.specs.Typing.{is_typed, are_typed_rows, are_typed_arms, left_arms, right_arms}
 use Rattle.lens_forms.specs.Measures.{form_parts, form_height, most_parts, greatest_height}
 use Rattle.lens_types.specs.Sound.{is_sound}
-use Rattle.lens_types.specs.Earlier.{KnownTree, known_type, known_lens, Definitions, known, type_of_known, form_of_known, type_named, form_named, enum_type, alternatives_type, bijection, alternatives, partition, expanded_type, expanded_fields, expanded_form, expanded_rows, expanded_arms, known_of}
-use Rattle.lens_types.specs.Checking.{Failure, repeated_field, repeated_tag, repeated_member, too_large, too_deep, or_else, type_failure, fields_failure, lens_failure, rows_failure, arms_failure, middle_failure, sides_failure, written_height, size_failure, height_failure, def_failure}
+use Rattle.lens_types.specs.Earlier.{KnownTree, known_type, known_lens, Definitions, known, type_of_known, form_of_known, type_named, form_named, alternatives_type, alternatives, partition, expanded_type, expanded_fields, expanded_form, expanded_rows, expanded_arms, known_of}
+use Rattle.lens_types.specs.Checking.{Failure, repeated_field, repeated_tag, repeated_member, not_a_member, too_large, too_deep, or_else, value_failure, enum_failure, pairs_failure, type_failure, fields_failure, lens_failure, rows_failure, arms_failure, middle_failure, sides_failure, written_height, size_failure, height_failure, def_failure}
 use Rattle.lens_types.specs.Repeats.{first_repeat, member_names, field_names, pair_names, row_names, arm_names}
 use Rattle.lens_types.proofs.RepeatedNames.{members_distinct, fields_distinct, lefts_distinct, rights_distinct, left_names_distinct, right_names_distinct, left_arms_distinct, right_arms_distinct}
 use Rattle.lens_forms.proofs.SortedFields.{sorted-rising, sorted-well_formed}
@@ -67,9 +68,19 @@ named_sound (d ∷ ds) n h =
 
 -- ---- types
 
-enum_formed : (ms : List (List ℕ)) → are_distinct ms ≡ true → is_well_formed (enum_type ms) ≡ true
-enum_formed [] h = refl
-enum_formed (m ∷ ms) h = h
+-- distinct names of which there is one are choices
+some_choices : (n : List ℕ) (ms : List (List ℕ)) → are_distinct ms ≡ true → has_name n ms ≡ true → are_choices ms ≡ true
+some_choices n [] h k = cc
+some_choices n (m ∷ ms) h k = h
+
+is_member : (v : List ℕ) (ms : List (List ℕ)) → value_failure v ms ≡ None → has_name v ms ≡ true
+is_member v ms h = none_if (has_name v ms) (not_a_member v) h
+
+enum_formed : (ms : List (List ℕ)) (v : List ℕ) → enum_failure ms v ≡ None → (are_choices ms && has_name v ms) ≡ true
+enum_formed ms v h =
+    let none = none_both (option_map repeated_member (first_repeat (member_names ms))) (value_failure v ms) h in
+    let member = is_member v ms none.1 in
+    both_true _ _ (some_choices v ms (members_distinct ms (none_map repeated_member (first_repeat (member_names ms)) none.0)) member) member
 
 alternatives_formed : (fs : FieldTrees) → are_distinct (names_of fs) ≡ true → are_well_formed fs ≡ true → is_well_formed (alternatives_type fs) ≡ true
 alternatives_formed no_fields h r = refl
@@ -79,9 +90,9 @@ mutual
   pub type_formed : (ds : Definitions) → are_sound ds ≡ true → (t : Term.TypeTree) → type_failure t ≡ None → is_well_formed (expanded_type ds t) ≡ true
   type_formed ds s Term.unit h = refl
   type_formed ds s Term.bool h = refl
-  type_formed ds s Term.int h = refl
-  type_formed ds s Term.text h = refl
-  type_formed ds s (Term.enum_of ms) h = enum_formed ms (members_distinct ms (none_map repeated_member (first_repeat (member_names ms)) h))
+  type_formed ds s (Term.int z) h = refl
+  type_formed ds s (Term.text x) h = refl
+  type_formed ds s (Term.enum_of ms v) h = enum_formed ms v h
   type_formed ds s (Term.record_of fs) h =
       let none = none_both (fields_failure fs) (option_map repeated_field (first_repeat (field_names fs))) h in
       both_true _ _ (sorted-rising (expanded_fields ds fs) (fields_distinct ds fs (none_map repeated_field (first_repeat (field_names fs)) none.1)))
@@ -102,9 +113,18 @@ mutual
 
 -- ---- lenses
 
-bijection_typed : (ps : List (List ℕ × List ℕ)) → are_distinct (lefts ps) ≡ true → are_distinct (rights ps) ≡ true → is_typed (bijection ps) ≡ true
-bijection_typed [] h k = refl
-bijection_typed (p ∷ ps) h k = both_true _ _ h k
+-- pairs of which one has a left member have distinct right members of which there is one
+right_choices : (v : List ℕ) (ps : List (List ℕ × List ℕ)) → has_name v (lefts ps) ≡ true → are_distinct (rights ps) ≡ true → are_choices (rights ps) ≡ true
+right_choices v [] h k = cc
+right_choices v (p ∷ ps) h k = k
+
+bijection_typed : (ps : List (List ℕ × List ℕ)) (v : List ℕ) → pairs_failure ps v ≡ None → is_typed (form_bij ps v) ≡ true
+bijection_typed ps v h =
+    let none = none_both (option_map repeated_member (first_repeat (pair_names ps))) (value_failure v (lefts ps)) h in
+    let distinct = none_map repeated_member (first_repeat (pair_names ps)) none.0 in
+    let member = is_member v (lefts ps) none.1 in
+    both_true _ _ (some_choices v (lefts ps) (lefts_distinct ps distinct) member)
+    (both_true _ _ (right_choices v ps member (rights_distinct ps distinct)) member)
 
 alternatives_typed : (arms : ArmTrees) → are_typed_arms arms ≡ true → are_distinct (left_arms arms) ≡ true → are_distinct (right_arms arms) ≡ true
     → is_typed (alternatives arms) ≡ true
@@ -121,9 +141,7 @@ middle_same l k h = none_if (is_same_ty (right_type l) (left_type k)) _ h
 mutual
   pub lens_typed : (ds : Definitions) → are_sound ds ≡ true → (l : Term.LensTree) → lens_failure ds l ≡ None → is_typed (expanded_form ds l) ≡ true
   lens_typed ds s (Term.id_of t) h = type_formed ds s t (none_both (type_failure t) _ h).0
-  lens_typed ds s (Term.bij_of ps) h =
-      let none = none_map repeated_member (first_repeat (pair_names ps)) (none_both (option_map repeated_member (first_repeat (pair_names ps))) _ h).0 in
-      bijection_typed ps (lefts_distinct ps none) (rights_distinct ps none)
+  lens_typed ds s (Term.bij_of ps v) h = bijection_typed ps v (none_both (pairs_failure ps v) _ h).0
   lens_typed ds s (Term.disc_of t u) h =
       let none = none_both (type_failure t) _ h in
       both_true _ _ (type_formed ds s t none.0) (type_formed ds s u (none_both (type_failure u) _ none.1).0)
@@ -177,7 +195,7 @@ last_low a f h = sides_low f (none_both a (sides_failure f) h).1
 
 pub lens_low : (ds : Definitions) → are_sound ds ≡ true → (l : Term.LensTree) → lens_failure ds l ≡ None → low_sides (expanded_form ds l) ≡ true
 lens_low ds s (Term.id_of t) h = last_low (type_failure t) (expanded_form ds (Term.id_of t)) h
-lens_low ds s (Term.bij_of ps) h = last_low (option_map repeated_member (first_repeat (pair_names ps))) (bijection ps) h
+lens_low ds s (Term.bij_of ps v) h = last_low (pairs_failure ps v) (form_bij ps v) h
 lens_low ds s (Term.disc_of t u) h = last_low (type_failure u) (expanded_form ds (Term.disc_of t u)) (none_both (type_failure t) _ h).1
 lens_low ds s (Term.then_of l k) h =
     last_low (middle_failure (expanded_form ds l) (expanded_form ds k)) (expanded_form ds (Term.then_of l k)) (none_both (lens_failure ds k) _ (none_both (lens_failure ds l) _ h).1).1

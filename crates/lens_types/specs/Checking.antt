@@ -1,8 +1,9 @@
 -- The first failure of a program, in the order of checking.
 use Rattle.std.specs.Prelude.{ℕ, ◌&&◌, nat_le, max, if◌then◌else◌, List, [], ◌∷◌, ◌++◌, Option, Some, None, option_map}
+use Rattle.texts.specs.Keys.{has_name}
 use Rattle.doc_values.specs.Types.{TyTree, height, highest, is_same_ty}
 use Rattle.program_terms.specs.Terms as Term
-use Rattle.lens_forms.specs.Forms.{FormTree, left_type, right_type}
+use Rattle.lens_forms.specs.Forms.{FormTree, lefts, left_type, right_type}
 use Rattle.lens_types.specs.Earlier.{Definitions, expanded_type, expanded_fields, expanded_form, known_of}
 use Rattle.lens_forms.specs.Measures.{type_parts, form_parts, form_height, most_parts, greatest_height}
 use Rattle.lens_types.specs.Repeats.{first_repeat, member_names, field_names, pair_names, row_names, arm_names}
@@ -13,6 +14,7 @@ pub data Failure : Type 0 where
   repeated_field : List ℕ → Failure
   repeated_tag : List ℕ → Failure
   repeated_member : List ℕ → Failure
+  not_a_member : List ℕ → Failure
   too_large : Failure
   too_deep : Failure
 
@@ -21,15 +23,28 @@ abbrev pub or_else : Option Failure → Option Failure → Option Failure
 or_else (Some failure) other = Some failure
 or_else None other = other
 
--- ---- the nodes of a type, each after its parts: fields, tags and members are distinct
+-- ---- enums and bijections: first the members are distinct, then the initial value is one of them
+
+-- the initial value is one of the members
+abbrev pub value_failure : List ℕ → List (List ℕ) → Option Failure
+value_failure v ms = if has_name v ms then None else Some (not_a_member v)
+
+abbrev pub enum_failure : List (List ℕ) → List ℕ → Option Failure
+enum_failure ms v = or_else (option_map repeated_member (first_repeat (member_names ms))) (value_failure v ms)
+
+-- the members of a bijection are distinct on each side, and its initial value is a left one
+abbrev pub pairs_failure : List (List ℕ × List ℕ) → List ℕ → Option Failure
+pairs_failure ps v = or_else (option_map repeated_member (first_repeat (pair_names ps))) (value_failure v (lefts ps))
+
+-- ---- the nodes of a type, each after its parts: fields and tags are distinct
 
 abbrev mutual
   pub type_failure : Term.TypeTree → Option Failure
   type_failure Term.unit = None
   type_failure Term.bool = None
-  type_failure Term.int = None
-  type_failure Term.text = None
-  type_failure (Term.enum_of ms) = option_map repeated_member (first_repeat (member_names ms))
+  type_failure (Term.int z) = None
+  type_failure (Term.text s) = None
+  type_failure (Term.enum_of ms v) = enum_failure ms v
   type_failure (Term.record_of fs) = or_else (fields_failure fs) (option_map repeated_field (first_repeat (field_names fs)))
   type_failure (Term.one_of fs) = or_else (fields_failure fs) (option_map repeated_tag (first_repeat (field_names fs)))
   type_failure (Term.list t) = type_failure t
@@ -58,8 +73,7 @@ sides_failure f =
 abbrev mutual
   pub lens_failure : Definitions → Term.LensTree → Option Failure
   lens_failure ds (Term.id_of t) = or_else (type_failure t) (sides_failure (expanded_form ds (Term.id_of t)))
-  lens_failure ds (Term.bij_of ps) =
-      or_else (option_map repeated_member (first_repeat (pair_names ps))) (sides_failure (expanded_form ds (Term.bij_of ps)))
+  lens_failure ds (Term.bij_of ps v) = or_else (pairs_failure ps v) (sides_failure (expanded_form ds (Term.bij_of ps v)))
   lens_failure ds (Term.disc_of t u) =
       or_else (type_failure t) (or_else (type_failure u) (sides_failure (expanded_form ds (Term.disc_of t u))))
   lens_failure ds (Term.then_of l k) =
@@ -97,7 +111,7 @@ abbrev mutual
 abbrev mutual
   pub written_height : Definitions → Term.LensTree → ℕ
   written_height ds (Term.id_of t) = height (expanded_type ds t)
-  written_height ds (Term.bij_of ps) = 0
+  written_height ds (Term.bij_of ps v) = 0
   written_height ds (Term.disc_of t u) = max (height (expanded_type ds t)) (height (expanded_type ds u))
   written_height ds (Term.then_of l k) = max (written_height ds l) (written_height ds k)
   written_height ds (Term.rec_lens rows) = rows_written ds rows

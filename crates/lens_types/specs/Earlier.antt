@@ -34,19 +34,10 @@ type_named ds n = type_of_known (known ds n)
 abbrev pub form_named : Definitions → List ℕ → FormTree
 form_named ds n = form_of_known (known ds n)
 
--- An enum, alternatives, a bijection or a partition of nothing, which no program that was read has, stands for the
--- record of nothing, `{}`.
-abbrev pub enum_type : List (List ℕ) → TyTree
-enum_type [] = ty_rec no_fields
-enum_type (m ∷ ms) = ty_enum (m ∷ ms)
-
+-- Alternatives or a partition of nothing, which no program that was read has, stand for the record of nothing, `{}`.
 abbrev pub alternatives_type : FieldTrees → TyTree
 alternatives_type no_fields = ty_rec no_fields
 alternatives_type (more_fields n t fs) = ty_alt (more_fields n t fs)
-
-abbrev pub bijection : List (List ℕ × List ℕ) → FormTree
-bijection [] = form_rec no_rows
-bijection (p ∷ ps) = form_bij (p ∷ ps)
 
 abbrev pub alternatives : ArmTrees → FormTree
 alternatives no_arms = form_rec no_rows
@@ -61,9 +52,9 @@ abbrev mutual
   pub expanded_type : Definitions → Term.TypeTree → TyTree
   expanded_type ds Term.unit = ty_unit
   expanded_type ds Term.bool = ty_bool
-  expanded_type ds Term.int = ty_int
-  expanded_type ds Term.text = ty_text
-  expanded_type ds (Term.enum_of ms) = enum_type ms
+  expanded_type ds (Term.int z) = ty_int z
+  expanded_type ds (Term.text s) = ty_text s
+  expanded_type ds (Term.enum_of ms v) = ty_enum ms v
   expanded_type ds (Term.record_of fs) = ty_rec (sorted (expanded_fields ds fs))
   expanded_type ds (Term.one_of fs) = alternatives_type (expanded_fields ds fs)
   expanded_type ds (Term.list t) = ty_list (expanded_type ds t)
@@ -80,7 +71,7 @@ abbrev mutual
 abbrev mutual
   pub expanded_form : Definitions → Term.LensTree → FormTree
   expanded_form ds (Term.id_of t) = form_id (expanded_type ds t)
-  expanded_form ds (Term.bij_of ps) = bijection ps
+  expanded_form ds (Term.bij_of ps v) = form_bij ps v
   expanded_form ds (Term.disc_of t u) = form_disc (expanded_type ds t) (expanded_type ds u)
   expanded_form ds (Term.then_of l k) = form_then (expanded_form ds l) (expanded_form ds k)
   expanded_form ds (Term.rec_lens rows) = form_rec (expanded_rows ds rows)

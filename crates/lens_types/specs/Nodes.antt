@@ -1,13 +1,12 @@
 -- For the helpers of the checker: what the check of one node or one row gives.
-use Rattle.std.specs.Prelude.{◌≡◌, ℕ, List, Option, None, option_map, Result, MatchResult}
+use Rattle.std.specs.Prelude.{◌≡◌, ℕ, List, Option, None, Result, MatchResult}
 use Rattle.doc_values.specs.Types.{height}
 use Rattle.program_terms.specs.Terms as Term
-use Rattle.lens_forms.specs.Forms.{FormTree, RowTree, row_both, row_left, row_right}
-use Rattle.lens_types.specs.Earlier.{Definitions, expanded_type, expanded_form, bijection}
-use Rattle.lens_types.specs.Checking.{Failure, repeated_member, or_else, type_failure, lens_failure, sides_failure}
+use Rattle.lens_forms.specs.Forms.{FormTree, form_bij, RowTree, row_both, row_left, row_right}
+use Rattle.lens_types.specs.Earlier.{Definitions, expanded_type, expanded_form}
+use Rattle.lens_types.specs.Checking.{Failure, or_else, pairs_failure, type_failure, lens_failure, sides_failure}
 use Rattle.lens_types.specs.Faults.{IsFaultOf}
 use Rattle.lens_types.specs.Heights.{capped, HasHeights}
-use Rattle.lens_types.specs.Repeats.{first_repeat, pair_names}
 use Rattle.lens_types.specs.declared.fault.TypeFault.{TypeFault}
 use Rattle.lens_types.specs.declared.known.SideHeights.{SideHeights}
 
@@ -15,8 +14,8 @@ use Rattle.lens_types.specs.declared.known.SideHeights.{SideHeights}
 abbrev pub IsLowForm : FormTree → Result SideHeights TypeFault → Type 0
 IsLowForm f r = MatchResult r (λ h. (sides_failure f ≡ None) × HasHeights f h) (λ fault. IsFaultOf (sides_failure f) fault)
 
-abbrev pub bijection_failure : List (List ℕ × List ℕ) → Option Failure
-bijection_failure ps = or_else (option_map repeated_member (first_repeat (pair_names ps))) (sides_failure (bijection ps))
+abbrev pub bijection_failure : List (List ℕ × List ℕ) → List ℕ → Option Failure
+bijection_failure ps v = or_else (pairs_failure ps v) (sides_failure (form_bij ps v))
 
 -- the failure of one row, and the heights of its fields, 0 on a side where it has none
 abbrev pub row_failure : Definitions → Term.RowTree → Option Failure

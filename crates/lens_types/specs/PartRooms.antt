@@ -19,9 +19,9 @@ abbrev mutual
   pub type_room : Definitions → Term.TypeTree → ℕ → Option ℕ
   type_room ds Term.unit room = room_after 1 room
   type_room ds Term.bool room = room_after 1 room
-  type_room ds Term.int room = room_after 1 room
-  type_room ds Term.text room = room_after 1 room
-  type_room ds (Term.enum_of ms) room = option_and_then (room_after (length ms)) (room_after 1 room)
+  type_room ds (Term.int z) room = room_after 1 room
+  type_room ds (Term.text s) room = room_after 1 room
+  type_room ds (Term.enum_of ms v) room = option_and_then (room_after (length ms)) (room_after 1 room)
   type_room ds (Term.record_of fs) room = option_and_then (λ left. fields_room ds fs left) (room_after 1 room)
   type_room ds (Term.one_of fs) room = option_and_then (λ left. fields_room ds fs left) (room_after 1 room)
   type_room ds (Term.list t) room = option_and_then (λ left. type_room ds t left) (room_after 1 room)
@@ -38,7 +38,7 @@ abbrev mutual
 abbrev mutual
   pub lens_room : Definitions → Term.LensTree → ℕ → Option ℕ
   lens_room ds (Term.id_of t) room = option_and_then (type_room ds t) (room_after 1 room)
-  lens_room ds (Term.bij_of ps) room = option_and_then (room_after (length ps)) (room_after 1 room)
+  lens_room ds (Term.bij_of ps v) room = option_and_then (room_after (length ps)) (room_after 1 room)
   lens_room ds (Term.disc_of t u) room = option_and_then (type_room ds u) (option_and_then (type_room ds t) (room_after 1 room))
   lens_room ds (Term.then_of l k) room =
       option_and_then (λ left. lens_room ds k left) (option_and_then (λ left. lens_room ds l left) (room_after 1 room))

@@ -1,7 +1,7 @@
 -- For the helpers of the checker: the type of a side of a form, for both sides at once, its fields sorted at the end.
 use Rattle.std.specs.Prelude.{ℕ, List, Option, Some, None}
 use Rattle.doc_values.specs.Types.{TyTree, ty_enum, ty_rec, ty_alt, ty_list, ty_keyed, ty_ordered, FieldTrees, no_fields, more_fields}
-use Rattle.lens_forms.specs.Forms.{FormTree, form_id, form_bij, form_disc, form_then, form_rec, form_alt, form_each, form_keyed, form_ordered, form_part, form_inv, RowTrees, no_rows, both, only_left, only_right, ArmTrees, no_arms, more_arms, lefts, rights, sorted, lists_of}
+use Rattle.lens_forms.specs.Forms.{FormTree, form_id, form_bij, form_disc, form_then, form_rec, form_alt, form_each, form_keyed, form_ordered, form_part, form_inv, RowTrees, no_rows, both, only_left, only_right, ArmTrees, no_arms, more_arms, lefts, rights, partner_of, sorted, lists_of}
 use Rattle.program_terms.specs.Terms as Term
 use Rattle.lens_types.specs.Earlier.{Definitions, expanded_type, expanded_form}
 use Rattle.texts.specs.Sides.{other}
@@ -16,7 +16,7 @@ pick Right x y = y
 abbrev mutual
   pub type_on : Side → FormTree → TyTree
   type_on side (form_id t) = t
-  type_on side (form_bij ps) = ty_enum (pick side (lefts ps) (rights ps))
+  type_on side (form_bij ps v) = ty_enum (pick side (lefts ps) (rights ps)) (pick side v (partner_of ps v))
   type_on side (form_disc t u) = pick side t u
   type_on side (form_then l k) = pick side (type_on side l) (type_on side k)
   type_on side (form_rec rows) = ty_rec (sorted (fields_on side rows))
@@ -39,9 +39,12 @@ abbrev mutual
   tags_on side no_arms = no_fields
   tags_on side (more_arms a b l arms) = more_fields (pick side a b) (type_on side l) (tags_on side arms)
 
--- the members of a side of a bijection
+-- the members of a side of a bijection, and its initial value on a side
 abbrev pub members_on : Side → List (List ℕ × List ℕ) → List (List ℕ)
 members_on side ps = pick side (lefts ps) (rights ps)
+
+abbrev pub value_on : Side → List (List ℕ × List ℕ) → List ℕ → List ℕ
+value_on side ps v = pick side v (partner_of ps v)
 
 -- the field that one row has on a side, names expanded
 abbrev pub field_on : Side → Definitions → Term.RowTree → Option (List ℕ × TyTree)

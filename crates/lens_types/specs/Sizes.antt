@@ -6,9 +6,9 @@ abbrev mutual
   pub type_size : TypeTree → ℕ
   type_size unit = 1
   type_size bool = 1
-  type_size int = 1
-  type_size text = 1
-  type_size (enum_of ms) = 1
+  type_size (int z) = 1
+  type_size (text s) = 1
+  type_size (enum_of ms v) = 1
   type_size (record_of fs) = fields_size fs + 1
   type_size (one_of fs) = fields_size fs + 1
   type_size (list t) = type_size t + 1
@@ -23,7 +23,7 @@ abbrev mutual
 abbrev mutual
   pub lens_size : LensTree → ℕ
   lens_size (id_of t) = 1
-  lens_size (bij_of ps) = 1
+  lens_size (bij_of ps v) = 1
   lens_size (disc_of t u) = 1
   lens_size (then_of l k) = lens_size l + lens_size k + 1
   lens_size (rec_lens rows) = rows_size rows + 1

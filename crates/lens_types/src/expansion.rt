@@ -7,16 +7,16 @@ ghost use Rattle.std.specs.Prelude.{◌≡◌, IfOk, map, take};
 ghost use Rattle.doc_values.specs.Types.{ty_tree, fields_tree as ty_fields, type_fields_of as ty_fields_of, field_tree as ty_field};
 ghost use Rattle.program_terms.specs.Views.{type_tree, fields_tree, lens_tree, row_tree as lens_row, rows_tree as lens_rows, arms_tree as lens_arms};
 ghost use Rattle.lens_forms.specs.Forms.{form_tree, form_rec, no_rows, row_tree, rows_tree, arms_tree, sorted};
-ghost use Rattle.lens_types.specs.Earlier.{expanded_type, expanded_fields, expanded_form, expanded_rows, expanded_arms, enum_type, alternatives_type, bijection, alternatives, partition};
+ghost use Rattle.lens_types.specs.Earlier.{expanded_type, expanded_fields, expanded_form, expanded_rows, expanded_arms, alternatives_type, alternatives, partition};
 ghost use Rattle.lens_types.specs.Entries.{earlier_tree};
 ghost use Rattle.lens_types.specs.Nodes.{expanded_row};
 
 use crate::earlier::Earlier;
 use doc_values::{Fields, Ty};
 use lens_forms::{Form, FormArms, FormRow, FormRows};
-use program_terms::{Arms, Lens, Pairs, Row, Rows, TyExpr, TyFields};
+use program_terms::{Arms, Lens, Row, Rows, TyExpr, TyFields};
 use std::alloc::{AllocError, Global};
-use texts::{Name, Names, Twin};
+use texts::{Name, Twin};
 
 // ---- types
 
@@ -33,9 +33,9 @@ pub(crate) fn expanded_type(
     match ty {
         TyExpr::Unit => Ok(Ty::Unit),
         TyExpr::Bool => Ok(Ty::Bool),
-        TyExpr::Int => Ok(Ty::Int),
-        TyExpr::Text => Ok(Ty::Text),
-        TyExpr::Enum(members) => enum_type(alloc, members),
+        TyExpr::Int(value) => Ok(Ty::Int(*value)),
+        TyExpr::Text(value) => Ok(Ty::Text(value.twin(alloc)?)),
+        TyExpr::Enum(members, value) => Ok(Ty::Enum(members.twin(alloc)?, value.twin(alloc)?)),
         TyExpr::Rec(fields) => {
             let items = expanded_fields(alloc, earlier, scope, fields)?;
             Ok(Ty::Rec(Fields::from_vec(sorted(items)?)))
@@ -82,16 +82,6 @@ pub(crate) fn expanded_fields(
     Ok(items)
 }
 
-// An enum; that of nothing is the record of nothing.
-fn enum_type(alloc: Global, members: &Names) -> Result<Ty, AllocError>
-    ensures { IfOk result (λ t. ty_tree t ≡ enum_type members.now) }
-{
-    if members.is_empty() {
-        return Ok(Ty::Rec(Fields::from_vec(Vec::new(alloc))));
-    }
-    Ok(Ty::Enum(members.twin(alloc)?))
-}
-
 // Alternatives; those of nothing are the record of nothing.
 pub(crate) fn alternatives_type(tags: Fields) -> Ty
     ensures { ty_tree result ≡ alternatives_type (ty_fields tags) }
@@ -126,7 +116,7 @@ pub(crate) fn expanded_lens(
 {
     match lens {
         Lens::Id(ty) => Ok(Form::Id(expanded_type(alloc, earlier, scope, ty)?)),
-        Lens::Bij(pairs) => bijection(alloc, pairs),
+        Lens::Bij(pairs, value) => Ok(Form::Bij(pairs.twin(alloc)?, value.twin(alloc)?)),
         Lens::Disc(left, right) => {
             let left = expanded_type(alloc, earlier, scope, left)?;
             let right = expanded_type(alloc, earlier, scope, right)?;
@@ -222,16 +212,6 @@ fn expanded_arms(
         items.push((arm.0.twin(alloc)?, arm.1.twin(alloc)?, form))?;
     }
     Ok(FormArms::from_vec(items))
-}
-
-// A bijection; that of nothing is the record of nothing.
-fn bijection(alloc: Global, pairs: &Pairs) -> Result<Form, AllocError>
-    ensures { IfOk result (λ f. form_tree f ≡ bijection pairs.now) }
-{
-    if pairs.as_slice().is_empty() {
-        return Ok(empty_record(alloc));
-    }
-    Ok(Form::Bij(pairs.twin(alloc)?))
 }
 
 // Alternatives; those of nothing are the record of nothing.

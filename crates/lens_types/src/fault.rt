@@ -29,6 +29,11 @@ pub enum TypeFault {
         /// The first member, in written order, that equals an earlier one of its side.
         name: Name,
     },
+    /// The initial value of an enum is not one of its members, or that of a bijection is not one of its left members.
+    NotAMember {
+        /// The initial value.
+        name: Name,
+    },
     /// A definition has more than 4,096 parts, names expanded.
     TooLarge,
     /// A lens, a type written in it, or the type of a side is higher than 32.
@@ -81,6 +86,9 @@ impl Twin for TypeFault {
                 name: name.twin(alloc)?,
             }),
             TypeFault::RepeatedMember { name } => Ok(TypeFault::RepeatedMember {
+                name: name.twin(alloc)?,
+            }),
+            TypeFault::NotAMember { name } => Ok(TypeFault::NotAMember {
                 name: name.twin(alloc)?,
             }),
             TypeFault::TooLarge => Ok(TypeFault::TooLarge),

@@ -22,9 +22,9 @@ pub(crate) fn type_height(earlier: &Earlier<'_>, ty: &TyExpr) -> u32
     match ty {
         TyExpr::Unit => 1,
         TyExpr::Bool => 1,
-        TyExpr::Int => 1,
-        TyExpr::Text => 1,
-        TyExpr::Enum(_) => 1,
+        TyExpr::Int(_) => 1,
+        TyExpr::Text(_) => 1,
+        TyExpr::Enum(_, _) => 1,
         TyExpr::Rec(fields) => next_height(fields_height(earlier, fields)),
         TyExpr::Alt(fields) => next_height(fields_height(earlier, fields)),
         TyExpr::List(inner) => next_height(type_height(earlier, inner)),
@@ -55,7 +55,7 @@ pub(crate) fn lens_height(earlier: &Earlier<'_>, lens: &Lens) -> u32
 {
     match lens {
         Lens::Id(_) => 1,
-        Lens::Bij(_) => 1,
+        Lens::Bij(_, _) => 1,
         Lens::Disc(_, _) => 1,
         Lens::Then(first, second) => {
             let first = lens_height(earlier, first);
@@ -117,7 +117,7 @@ pub(crate) fn written_height(earlier: &Earlier<'_>, lens: &Lens) -> u32
 {
     match lens {
         Lens::Id(ty) => type_height(earlier, ty),
-        Lens::Bij(_) => 0,
+        Lens::Bij(_, _) => 0,
         Lens::Disc(left, right) => {
             let left = type_height(earlier, left);
             left.max(type_height(earlier, right))

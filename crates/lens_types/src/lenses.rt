@@ -1,11 +1,11 @@
 //! The first failure among the nodes of a lens, and the heights of its two types.
 
 ghost use Rattle.std.specs.Prelude.{◌≡◌, ◌+◌, MatchResult, None};
-ghost use Rattle.lens_forms.specs.Forms.{FormTree, form_then, form_each, form_inv, form_rec, RowTrees, ArmTrees};
+ghost use Rattle.lens_forms.specs.Forms.{FormTree, form_bij, form_then, form_each, form_inv, form_rec, RowTrees, ArmTrees};
 ghost use Rattle.program_terms.specs.Terms.{id_of, disc_of, then_of, part_of};
 ghost use Rattle.program_terms.specs.Views.{lens_tree, rows_tree, row_tree, arms_tree, fields_tree, type_tree};
 ghost use Rattle.lens_types.specs.Checking.{lens_failure, rows_failure, arms_failure, middle_failure, sides_failure};
-ghost use Rattle.lens_types.specs.Earlier.{expanded_form, expanded_rows, expanded_arms, alternatives, bijection};
+ghost use Rattle.lens_types.specs.Earlier.{expanded_form, expanded_rows, expanded_arms, alternatives};
 ghost use Rattle.lens_types.specs.Faults.{IsFaultOf};
 ghost use Rattle.lens_types.specs.Entries.{earlier_tree};
 ghost use Rattle.lens_types.specs.Heights.{capped, HasHeights, HasRowHeights, HasArmHeights};
@@ -16,14 +16,13 @@ use crate::fault::TypeFault;
 use crate::heights::{fields_height, type_height};
 use crate::known::SideHeights;
 use crate::limits::{GREATEST_HEIGHT, next_height};
-use crate::names::{
-    arm_names, distinct_fields, distinct_members, distinct_tags, field_names, pair_names, row_names,
-};
+use crate::members::check_pairs;
+use crate::names::{arm_names, distinct_fields, distinct_tags, field_names, row_names};
 use crate::sides::side_type;
 use crate::types::{check_fields, check_type};
 use program_terms::{Arms, Lens, Pairs, Row, Rows, TyExpr, TyFields};
 use std::alloc::Global;
-use texts::Side;
+use texts::{Name, Side};
 
 // The heights of both sides of a lens, or the first failure among its nodes.
 #[cycle(checked_lens)]
@@ -39,7 +38,7 @@ pub(crate) fn checked_lens(
 {
     match lens {
         Lens::Id(ty) => checked_identity(alloc, earlier, ty),
-        Lens::Bij(pairs) => checked_bijection(alloc, pairs),
+        Lens::Bij(pairs, value) => checked_bijection(alloc, pairs, value),
         Lens::Disc(left, right) => checked_disc(alloc, earlier, left, right),
         Lens::Then(first, second) => checked_composition(alloc, earlier, first, second),
         Lens::Rec(rows) => {
@@ -184,13 +183,12 @@ fn checked_disc(
     })
 }
 
-// A bijection; that of nothing is the record of nothing, which is as high.
-fn checked_bijection(alloc: Global, pairs: &Pairs) -> Result<SideHeights, TypeFault>
+fn checked_bijection(alloc: Global, pairs: &Pairs, value: &Name) -> Result<SideHeights, TypeFault>
     ensures { MatchResult result
-        (λ h. (bijection_failure pairs.now ≡ None) × HasHeights (bijection pairs.now) h)
-        (λ fault. IsFaultOf (bijection_failure pairs.now) fault) }
+        (λ h. (bijection_failure pairs.now value.now ≡ None) × HasHeights (form_bij pairs.now value.now) h)
+        (λ fault. IsFaultOf (bijection_failure pairs.now value.now) fault) }
 {
-    distinct_members(alloc, &pair_names(alloc, pairs.as_slice())?)?;
+    check_pairs(alloc, pairs, value)?;
     low_sides(SideHeights { left: 1, right: 1 })
 }
 

@@ -3,10 +3,10 @@
 ghost use Rattle.std.specs.Prelude.{◌≡◌, IfOk, map, take, option_map};
 ghost use Rattle.doc_values.specs.Types.{ty_tree, ty_list, ty_alt, ty_rec, type_fields_of as ty_fields_of, field_tree as ty_field};
 ghost use Rattle.program_terms.specs.Views.{lens_tree, row_tree, rows_tree, arms_tree};
-ghost use Rattle.lens_forms.specs.Forms.{sorted, lists_of};
-ghost use Rattle.lens_types.specs.Earlier.{expanded_form, expanded_rows, expanded_arms, alternatives_type, bijection, partition};
+ghost use Rattle.lens_forms.specs.Forms.{form_bij, partner_of, sorted, lists_of};
+ghost use Rattle.lens_types.specs.Earlier.{expanded_form, expanded_rows, expanded_arms, alternatives_type, partition};
 ghost use Rattle.lens_types.specs.Entries.{earlier_tree};
-ghost use Rattle.lens_types.specs.SideTypes.{pick, type_on, fields_on, tags_on, field_on, members_on};
+ghost use Rattle.lens_types.specs.SideTypes.{pick, type_on, fields_on, tags_on, field_on, members_on, value_on};
 
 use crate::earlier::Earlier;
 use crate::expansion::{alternatives_type, expanded_fields, expanded_type, sorted};
@@ -28,7 +28,7 @@ pub(crate) fn side_type(
 {
     match lens {
         Lens::Id(ty) => expanded_type(alloc, earlier, scope, ty),
-        Lens::Bij(pairs) => bijection_side(alloc, side, pairs),
+        Lens::Bij(pairs, value) => bijection_side(alloc, side, pairs, value),
         Lens::Disc(left, right) => expanded_type(alloc, earlier, scope, pick(side, left, right)),
         Lens::Then(first, second) => match side {
             Side::Left => side_type(alloc, earlier, scope, side, first),
@@ -147,15 +147,13 @@ fn pick<'a, T>(side: Side, left: &'a T, right: &'a T) -> &'a T
     }
 }
 
-// The type of a side of a bijection; that of nothing is the record of nothing.
-fn bijection_side(alloc: Global, side: Side, pairs: &Pairs) -> Result<Ty, AllocError>
-    ensures { IfOk result (λ t. ty_tree t ≡ type_on side (bijection pairs.now)) }
+// The type of a side of a bijection.
+fn bijection_side(alloc: Global, side: Side, pairs: &Pairs, value: &Name) -> Result<Ty, AllocError>
+    ensures { IfOk result (λ t. ty_tree t ≡ type_on side (form_bij pairs.now value.now)) }
 {
     let pairs = pairs.as_slice();
-    if pairs.is_empty() {
-        return Ok(Ty::Rec(Fields::from_vec(Vec::new(alloc))));
-    }
-    Ok(Ty::Enum(side_members(alloc, side, pairs)?))
+    let members = side_members(alloc, side, pairs)?;
+    Ok(Ty::Enum(members, side_value(alloc, side, pairs, value)?))
 }
 
 // The members of a side of a bijection.
@@ -167,6 +165,33 @@ fn side_members(alloc: Global, side: Side, pairs: &[(Name, Name)]) -> Result<Nam
         members.push(pick(side, &pair.0, &pair.1).twin(alloc)?)?;
     }
     Ok(Names::from_vec(members))
+}
+
+// The initial value of a side of a bijection: the declared one on the left, and its partner on the right.
+fn side_value(
+    alloc: Global,
+    side: Side,
+    pairs: &[(Name, Name)],
+    value: &Name,
+) -> Result<Name, AllocError>
+    ensures { IfOk result (λ n. n ≡ value_on side pairs.now value.now) }
+{
+    match side {
+        Side::Left => value.twin(alloc),
+        Side::Right => partner(alloc, pairs, value),
+    }
+}
+
+// The right member of the first pair with this left member; of what is no left member, the empty name.
+fn partner(alloc: Global, pairs: &[(Name, Name)], left: &Name) -> Result<Name, AllocError>
+    ensures { IfOk result (λ n. n ≡ partner_of pairs.now left.now) }
+{
+    for pair in pairs {
+        if pair.0.is_same(left) {
+            return pair.1.twin(alloc);
+        }
+    }
+    Ok(Name::from_string(String::new(alloc)))
 }
 
 // The type of a side of a partition; that of nothing is the record of nothing.

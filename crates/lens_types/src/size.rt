@@ -48,9 +48,9 @@ fn type_room(earlier: &Earlier<'_>, ty: &TyExpr, room: usize) -> Option<usize>
     match ty {
         TyExpr::Unit => room_after(1, room),
         TyExpr::Bool => room_after(1, room),
-        TyExpr::Int => room_after(1, room),
-        TyExpr::Text => room_after(1, room),
-        TyExpr::Enum(members) => room_after(members.len(), room_after(1, room)?),
+        TyExpr::Int(_) => room_after(1, room),
+        TyExpr::Text(_) => room_after(1, room),
+        TyExpr::Enum(members, _) => room_after(members.len(), room_after(1, room)?),
         TyExpr::Rec(fields) => fields_room(earlier, fields, room_after(1, room)?),
         TyExpr::Alt(fields) => fields_room(earlier, fields, room_after(1, room)?),
         TyExpr::List(inner) => type_room(earlier, inner, room_after(1, room)?),
@@ -77,7 +77,7 @@ fn lens_room(earlier: &Earlier<'_>, lens: &Lens, room: usize) -> Option<usize>
 {
     match lens {
         Lens::Id(ty) => type_room(earlier, ty, room_after(1, room)?),
-        Lens::Bij(pairs) => room_after(pairs.as_slice().len(), room_after(1, room)?),
+        Lens::Bij(pairs, _) => room_after(pairs.as_slice().len(), room_after(1, room)?),
         Lens::Disc(left, right) => {
             let rest = type_room(earlier, left, room_after(1, room)?)?;
             type_room(earlier, right, rest)

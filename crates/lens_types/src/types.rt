@@ -6,7 +6,8 @@ ghost use Rattle.lens_types.specs.Checking.{type_failure, fields_failure};
 ghost use Rattle.lens_types.specs.Faults.{IsFaultOf};
 
 use crate::fault::TypeFault;
-use crate::names::{distinct_fields, distinct_members, distinct_tags, field_names, member_names};
+use crate::members::check_enum;
+use crate::names::{distinct_fields, distinct_tags, field_names};
 use program_terms::{TyExpr, TyFields};
 use std::alloc::Global;
 
@@ -20,9 +21,9 @@ pub(crate) fn check_type(alloc: Global, ty: &TyExpr) -> Result<(), TypeFault>
     match ty {
         TyExpr::Unit => Ok(()),
         TyExpr::Bool => Ok(()),
-        TyExpr::Int => Ok(()),
-        TyExpr::Text => Ok(()),
-        TyExpr::Enum(members) => distinct_members(alloc, &member_names(alloc, members.as_slice())?),
+        TyExpr::Int(_) => Ok(()),
+        TyExpr::Text(_) => Ok(()),
+        TyExpr::Enum(members, value) => check_enum(alloc, members, value),
         TyExpr::Rec(fields) => {
             check_fields(alloc, fields)?;
             distinct_fields(alloc, &field_names(alloc, fields.as_slice())?)
