@@ -1,0 +1,9 @@
+pub mod ArmSteps
+pub mod Arms
+pub mod LawsOfAlternatives
+pub mod LawsOfRecords
+pub mod NameTests
+pub mod RecordFields
+pub mod RecordRows
+pub mod RowSteps
+pub mod Triples

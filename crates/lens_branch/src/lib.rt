@@ -1,0 +1,4 @@
+//! Records and alternatives: their laws, and translating through them round the translation of a lens inside.
+#![tactic(auto)]
+
+pub mod laws;
