@@ -4,7 +4,7 @@ use edit_module::Cause;
 use std::alloc::{AllocError, Global};
 use texts::Twin;
 
-/// Why an entry steps no session.
+/// Why a step is refused. The session is then as it was.
 #[derive(Clone, Copy, Debug, PartialEq, Eq)]
 pub enum StepFault {
     /// The word does not apply to the document of its side.

@@ -1,6 +1,6 @@
 //! Two documents that a lens keeps in step.
 
-ghost use Rattle.std.specs.Prelude.{◌≡◌, Some, Ok, IsTrue, IfOk, OnErr, MatchResult};
+ghost use Rattle.std.specs.Prelude.{◌≡◌, Some, Ok, IsTrue, IfOk, IfErr, OnErr, MatchResult};
 ghost use Rattle.doc_values.specs.Documents.{DocTree, doc_tree};
 ghost use Rattle.doc_values.specs.Initial.{initial};
 ghost use Rattle.doc_values.specs.Typing.{has};
@@ -91,10 +91,9 @@ impl<L: EditLens> Session<L> {
             (λ word. step (L.left_type self.old.lens) (L.right_type self.old.lens) (L.carried self.old.lens) (triple_tree self.old.triple) (entry_tree entry.now)
                 ≡ Some (Ok (triple_tree self.new.triple, word_tree word)))
             (IsStepFault (step (L.left_type self.old.lens) (L.right_type self.old.lens) (L.carried self.old.lens) (triple_tree self.old.triple) (entry_tree entry.now))) }
-        ensures applies { MatchResult result
-            (λ _. Unit {0})
-            (λ fault. (x : DocTree) → act (near entry.now.side (L.left_type self.old.lens) (L.right_type self.old.lens)) (word_tree entry.now.word)
-                (document_on entry.now.side (triple_tree self.old.triple)) ≡ Ok x → fault ≡ NoMemory) }
+        ensures applies { IfErr result (λ fault. (x : DocTree)
+            → act (near entry.now.side (L.left_type self.old.lens) (L.right_type self.old.lens)) (word_tree entry.now.word) (document_on entry.now.side (triple_tree self.old.triple)) ≡ Ok x
+            → fault ≡ NoMemory) }
         ensures consistent { IsInStep (L.holds self.new.lens) (triple_tree self.new.triple) }
         ensures lens { self.new.lens ≡ self.old.lens }
         ensures unchanged { OnErr result (self.new ≡ self.old) }
