@@ -37,6 +37,10 @@ pub record IsCarried (holds : DocTree → CompTree → DocTree → Type 0) (far_
 abbrev pub StartTogether : (DocTree → CompTree → DocTree → Type 0) → TyTree → TyTree → CompTree → Type 0
 StartTogether holds left right start = holds (initial left) start (initial right)
 
+-- both types are well formed
+abbrev pub TypesAreWellFormed : TyTree → TyTree → Type 0
+TypesAreWellFormed left right = IsTrue (is_well_formed left) × IsTrue (is_well_formed right)
+
 -- documents that belong together have their types
 abbrev pub TogetherAreTyped : (DocTree → CompTree → DocTree → Type 0) → TyTree → TyTree → Type 0
 TogetherAreTyped holds left right = (x : DocTree) (c : CompTree) (y : DocTree) → holds x c y → IsTrue (has left x) × IsTrue (has right y)

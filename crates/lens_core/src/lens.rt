@@ -10,7 +10,7 @@ ghost use Rattle.edit_module.specs.Words.{WordTree};
 ghost use Rattle.lens_core.specs.Complements.{CompTree, comp_tree};
 ghost use Rattle.lens_core.specs.Sides.{near};
 ghost use Rattle.lens_core.specs.Translation.{Translated, carried_tree, IsCarryFault};
-ghost use Rattle.lens_core.specs.Laws.{StartTogether, TogetherAreTyped, WordsCarry, EmptyIsKept, JoinedInTurn};
+ghost use Rattle.lens_core.specs.Laws.{TypesAreWellFormed, StartTogether, TogetherAreTyped, WordsCarry, EmptyIsKept, JoinedInTurn};
 
 use crate::carry::{Carried, CarryFault};
 use crate::comp::Comp;
@@ -60,6 +60,9 @@ pub trait EditLens {
         ensures { MatchResult result
             (λ r. carried self.now side (comp_tree comp.now) (word_tree word.now) ≡ Some (carried_tree r))
             (IsCarryFault (carried self.now side (comp_tree comp.now) (word_tree word.now))) };
+
+    /// Both types are well formed, so each has an initial document.
+    ghost types_are_well_formed: { (l : Self) → TypesAreWellFormed (left_type l) (right_type l) };
 
     /// It starts consistent: the initial documents of the two types belong together, with the missing complement.
     ghost starts_consistent: { (l : Self) → StartTogether (holds l) (left_type l) (right_type l) (start l) };
