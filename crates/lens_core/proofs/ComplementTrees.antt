@@ -21,6 +21,9 @@ pub comp_list-comps_of : (cs : List CompTree) → comp_list (comps_of cs) ≡ cs
 comp_list-comps_of [] = refl
 comp_list-comps_of (c ∷ cs) = ap (λ x. c ∷ x) (comp_list-comps_of cs)
 
+pub comp_list_comps : (cs : Comps) → comp_list (comps_tree cs) ≡ map comp_tree (out-Comps cs).items
+comp_list_comps cs = ap comp_list (comps_tree-out cs) ∙ comp_list-comps_of _
+
 -- ---- lengths
 
 pub comp_count-length : (cs : CompTrees) → comp_count cs ≡ length (comp_list cs)
@@ -37,3 +40,5 @@ pub tree_at : (cs : List Comp) (i : ℕ) (c : Comp) (d : CompTree) → slice_get
 tree_at cs i c d h = get_or-map comp_tree cs i c d (slice_get_within cs i c h) ∙ ap comp_tree (get_or_from_slice_get cs i c c h)
 
 pub ruleset list_rules = (comps_tree-out, comps_of-comp_list, comp_list-comps_of, comp_count-comps_of, tree_at, map-set)
+
+pub ruleset gather_rules = (comps_tree-out, comp_list_comps, comp_count-comps_of)

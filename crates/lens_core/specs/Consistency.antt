@@ -83,15 +83,15 @@ contents_with n (_ ∷ xs) = contents_with n xs
 abbrev pub list_doc : List DocTree → DocTree
 list_doc vs = hold (ListOf (record { count = length vs })) (docs_of vs)
 
--- the record ys, of these fields, has at each tag the list of the contents of the items with that tag
+-- the record ys, of the fields gs, has at each tag the list of the contents of the items with that tag
 abbrev pub HasTheirContents : FieldTrees → FieldTrees → DocTrees → List DocTree → Type 0
-HasTheirContents no_fields fields ys xs = Unit {0}
-HasTheirContents (more_fields n t fs) fields ys xs = (content fields ys n ≡ Some (list_doc (contents_with n xs))) × HasTheirContents fs fields ys xs
+HasTheirContents no_fields gs ys xs = Unit {0}
+HasTheirContents (more_fields n t fs) gs ys xs = (content gs ys n ≡ Some (list_doc (contents_with n xs))) × HasTheirContents fs gs ys xs
 
 -- the complement has the tags of the left items, and the right document their contents by tags
 abbrev pub AreParted : FieldTrees → FieldTrees → DocTree → CompTree → DocTree → Type 0
-AreParted fs fields (hold s xs) (tags_comp ts) (rec ys) = (map (item_tag fs) (doc_list xs) ≡ map Some ts) × HasTheirContents fs fields ys (doc_list xs)
-AreParted fs fields _ _ _ = ⊥
+AreParted fs gs (hold s xs) (tags_comp ts) (rec ys) = (map (item_tag fs) (doc_list xs) ≡ map Some ts) × HasTheirContents fs gs ys (doc_list xs)
+AreParted fs gs _ _ _ = ⊥
 
 -- ---- the relation
 

@@ -1,9 +1,10 @@
 //! Complements: what is remembered beside the two documents.
 
-ghost use Rattle.std.specs.Prelude.{◌≡◌, ◌↔◌, ◌<◌, [], map, length, slice_set, slice_index_or, IsTrue, IfOk, OnOk, OnErr};
-ghost use Rattle.lens_core.specs.Complements.{comp_tree, comps_tree, comps_of, comp_list, comp_count, nil, then_comp};
+ghost use Rattle.std.specs.Prelude.{◌≡◌, ◌↔◌, ◌<◌, All, map, slice_set, slice_index_or, IsTrue, IfOk, OnOk, OnErr};
+ghost use Rattle.hold_shapes.specs.Gather.{content_at, IsBelow};
+ghost use Rattle.lens_core.specs.Complements.{comp_tree, comps_tree, comps_of, comp_list, comp_count, nil, then_comp, no_comps};
 
-use hold_shapes::Shape;
+use hold_shapes::{Origins, Shape, gather};
 use shared_lists::{Iter, SharedList};
 use std::alloc::{AllocError, Global};
 use tag_seq::TagSeq;
@@ -39,7 +40,7 @@ pub struct Comps {
 impl Comps {
     /// No complements. Does not allocate.
     pub fn empty() -> Comps
-        ensures { comps_tree result ≡ comps_of [] }
+        ensures { comps_tree result ≡ no_comps }
     {
         Comps {
             items: SharedList::empty(),
@@ -97,6 +98,20 @@ impl Comps {
         ensures unchanged { OnErr result (comps_tree self.new ≡ comps_tree self.old) }
     {
         self.items.set(alloc, place, comp)
+    }
+
+    /// A copy of the complement of each old place that is named, and of the fresh one elsewhere, in the order of the
+    /// origins. Fails only if memory runs out.
+    ///
+    /// Each old place is one of the places.
+    #[tactic(auto, using(crate::proofs::ComplementTrees::gather_rules))]
+    pub fn gathered(&self, alloc: Global, from: &Origins, fresh: &Comp) -> Result<Comps, AllocError>
+        requires { All (IsBelow (comp_count (comps_tree self.now))) from.now }
+        ensures { IfOk result (λ cs. comps_tree cs
+            ≡ comps_of (map (content_at (comp_list (comps_tree self.now)) (comp_tree fresh.now)) from.now)) }
+    {
+        let items = gather(alloc, from, &self.items, fresh)?;
+        Ok(Comps { items })
     }
 }
 

@@ -6,8 +6,9 @@ ghost use Rattle.lens_core.specs.Complements.{comp_tree, comps_tree, hold_comp, 
 ghost use Rattle.lens_forms.specs.Forms.{form_tree, rows_tree, arms_tree};
 
 use crate::comp::{Comp, Comps, then_join};
-use hold_shapes::{Depths, KeyedShape, ListShape, Names, Shape, TreeShape};
+use hold_shapes::{KeyedShape, ListShape, Shape, TreeShape};
 use lens_forms::{Form, FormArms, FormRow, FormRows};
+use shared_lists::SharedList;
 use std::alloc::{AllocError, Global};
 use tag_seq::TagSeq;
 use texts::Twin;
@@ -36,7 +37,7 @@ pub fn missing(alloc: Global, form: &Form) -> Result<Comp, AllocError>
             Shape::List(ListShape { count: 0 }),
             Comps::empty(),
         )),
-        Form::Keyed(_) => Ok(Comp::Hold(Shape::Keyed(no_keys(alloc)), Comps::empty())),
+        Form::Keyed(_) => Ok(Comp::Hold(Shape::Keyed(no_keys()), Comps::empty())),
         Form::Tree(inner) => one_node(alloc, missing(alloc, inner)?),
         Form::Part(_) => Ok(Comp::Tags(TagSeq::new(alloc))),
         Form::Inv(inner) => missing(alloc, inner),
@@ -75,10 +76,10 @@ fn missing_arm(alloc: Global, arms: &FormArms) -> Result<Comp, AllocError>
 }
 
 // A keyed map's shape with no key.
-fn no_keys(alloc: Global) -> KeyedShape
+fn no_keys() -> KeyedShape
     ensures { result ≡ [] }
 {
-    match KeyedShape::from_names(Names::from_vec(Vec::new(alloc))) {
+    match KeyedShape::from_names(SharedList::empty()) {
         Some(keys) => keys,
         None => unreachable!(),
     }
@@ -89,7 +90,8 @@ fn no_keys(alloc: Global) -> KeyedShape
 fn one_node(alloc: Global, part: Comp) -> Result<Comp, AllocError>
     ensures { IfOk result (λ c. comp_tree c ≡ hold_comp (TreeOf (0 ∷ [])) (more_comps (comp_tree part) no_comps)) }
 {
-    let shape = match TreeShape::from_depths(Depths::from_vec(vec![in alloc; 0]?)) {
+    let depths = SharedList::from_vec(alloc, vec![in alloc; 0]?)?;
+    let shape = match TreeShape::from_depths(depths) {
         Some(shape) => shape,
         None => unreachable!(),
     };
