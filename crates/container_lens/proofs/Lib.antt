@@ -1,3 +1,4 @@
-pub mod Beginnings
 pub mod EachPlace
+pub mod HeldSteps
 pub mod LawsOfContainers
+pub mod PlacesWithin

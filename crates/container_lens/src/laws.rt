@@ -1,9 +1,15 @@
-//! The laws of a lens mapped over a container. Each is the contract of a function that does nothing: a caller that proves
-//! something about a run calls it, or cites the lemma that it names.
+//! The laws of containers. Each is the contract of a function that does nothing: a caller that proves something about a
+//! run calls it, or cites the lemma that it names.
 
+ghost use Rattle.std.specs.Prelude.{◌≡◌, Option, option_and_then};
+ghost use Rattle.hold_shapes.specs.declared.shape.Shape.{Shape};
+ghost use Rattle.edit_module.specs.Words.{PrimitiveTree, WordTree};
 ghost use Rattle.lens_forms.specs.Forms.{FormTree, form_each, form_keyed, form_ordered};
+ghost use Rattle.lens_core.specs.Beginnings.{carried_on};
+ghost use Rattle.lens_core.specs.Complements.{CompTree, CompTrees};
 ghost use Rattle.lens_core.specs.Laws.{Laws};
-ghost use Rattle.container_lens.specs.Beginnings.{InTwoSteps};
+ghost use Rattle.lens_core.specs.Translation.{Translated, translate_held};
+ghost use Rattle.container_lens.specs.HeldSteps.{begin_held, finish_held};
 
 /// The map of a lens over a list, a keyed map or an ordered tree keeps the laws if the lens does.
 #[tactic(auto, using(crate::proofs::LawsOfContainers::container_laws))]
@@ -13,9 +19,10 @@ pub fn container_laws()
     ensures ordered { (l : FormTree) → Laws l → Laws (form_ordered l) }
 {}
 
-/// The translation of a primitive of a container is its beginning, carried through by the translation of the lens inside.
-/// It has no value if and only if there is no beginning, or the lens inside has no translation of the word.
-#[tactic(auto, using(crate::proofs::Beginnings::two_steps))]
-pub fn containers_in_two_steps()
-    ensures { InTwoSteps }
+/// The row of containers in the translation is the beginning, the translation of the lens inside, and the finish.
+#[tactic(auto, using(crate::proofs::HeldSteps::round_rules))]
+pub fn container_goes_round()
+    ensures { (inner : CompTree → WordTree → Option Translated) (start : CompTree) (s : Shape) (cs : CompTrees) (p : PrimitiveTree)
+        → translate_held inner start s cs p
+        ≡ option_and_then (carried_on (λ i c w. inner c w) (finish_held s cs p)) (begin_held start s cs p) }
 {}

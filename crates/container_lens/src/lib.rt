@@ -1,9 +1,15 @@
-//! A lens mapped over the items of a list, the contents of a keyed map or the nodes of an ordered tree.
+//! A lens mapped over the items of a list, the contents of a keyed map or the nodes of an ordered tree: its laws, and
+//! translating through it round the translation of the lens inside.
 //!
-//! [`hold_begin`] and [`hold_finish`] translate one primitive of a container, around the translation of a word by the lens
-//! inside. They are written once for all kinds of shape. [`container_laws`] has the laws of the three lenses.
+//! [`hold_begin`] says at which place the lens inside is needed, with its complement and the word to translate.
+//! [`hold_finish`] puts its result in place. Both are written once for all kinds of shape. [`laws`] says that this is the
+//! translation of lens_core, and that the three lenses keep the laws where the lens inside does.
 #![tactic(auto)]
 
-mod laws;
+pub mod begin;
+pub mod finish;
+pub mod laws;
+mod places;
 
-pub use crate::laws::{container_laws, containers_in_two_steps};
+pub use crate::begin::hold_begin;
+pub use crate::finish::hold_finish;
