@@ -1,10 +1,9 @@
 -- The two steps of a container's translation: with the lens inside they are its row; and what a beginning says of its primitive.
-use Rattle.std.proofs.Common.{◌≡◌, ℕ, ◌<◌, Bool, true, false, Option, None, Some, option_map, refl, ap, sym, ◌∙◌, subst, arith}
-use Rattle.std.specs.Prelude.{option_and_then, nat_eq, cond, if◌then◌else◌}
+use Rattle.std.proofs.Common.{◌≡◌, ℕ, Bool, true, false, Option, None, Some, option_map, refl, arith}
+use Rattle.std.specs.Prelude.{option_and_then, nat_eq, if◌then◌else◌}
 use Rattle.std.proofs.lemmas.Bool.Decides.{nat_tests}
 use Rattle.hold_shapes.specs.declared.shape.Shape.{Shape}
 use Rattle.hold_shapes.specs.declared.edit.Place.{Place}
-use Rattle.hold_shapes.specs.declared.edit.ShapeEdit.{ShapeEdit}
 use Rattle.hold_shapes.specs.Shapes.{size_of, place_of}
 use Rattle.hold_shapes.specs.Plans.{plan}
 use Rattle.edit_module.specs.Words.{PrimitiveTree, set, add, splice, at, stay, switch, modify, shape, WordTree, no_primitives, more_primitives, word_length}
@@ -13,7 +12,7 @@ use Rattle.lens_core.specs.Beginnings.{Beginning, finished, inside, carried_on, 
 use Rattle.lens_core.specs.Complements.{CompTree, hold_comp, CompTrees, comp_count}
 use Rattle.lens_core.specs.Emitted.{one, mod_word}
 use Rattle.lens_core.specs.Translation.{Translated, comp_at, put_comp, gathered_comps, translate_held, held_row}
-use Rattle.container_lens.specs.HeldSteps.{begin_mod, begin_reshaped, begin_row, begin_held, HasBegun, finish_mod, finish_held}
+use Rattle.container_lens.specs.HeldSteps.{begin_mod, begin_row, begin_held, HasBegun, finish_held}
 
 -- ---- the beginning, the lens inside, and the finish
 

@@ -1,6 +1,6 @@
 -- The laws of the map over a container, from those of the inner lens: for lists, keyed maps and ordered trees by one proof.
-use Rattle.std.proofs.Common.{◌≡◌, ℕ, zero, suc, ◌<◌, ◌+◌, Bool, true, false, ◌&&◌, List, [], ◌∷◌, length, set, get_or, map, Option, None, Some, option_map, Result, Ok, Err, refl, ap, sym, ◌∙◌, subst, arith}
-use Rattle.std.specs.Prelude.{option_and_then, nat_eq, cond, if◌then◌else◌}
+use Rattle.std.proofs.Common.{◌≡◌, ℕ, zero, suc, ◌<◌, Bool, true, List, length, map, Option, None, Some, Result, Ok, Err, refl, ap, sym, ◌∙◌, subst, arith}
+use Rattle.std.specs.Prelude.{nat_eq}
 use Rattle.std.proofs.lemmas.Bool.Decides.{nat_tests}
 use Rattle.hold_shapes.specs.declared.shape.Shape.{Shape}
 use Rattle.hold_shapes.specs.declared.shape.Shape.TheVariants.{List as ListOf, Keyed as KeyedOf, Tree as TreeOf}
@@ -8,26 +8,26 @@ use Rattle.hold_shapes.specs.declared.origins.Origin.{Origin}
 use Rattle.hold_shapes.specs.declared.edit.Place.{Place as PlaceOf}
 use Rattle.hold_shapes.specs.declared.edit.Place.TheVariants.{Index, Key, Node}
 use Rattle.hold_shapes.specs.declared.edit.ShapeEdit.{ShapeEdit}
-use Rattle.hold_shapes.specs.Shapes.{size_of, place_of}
+use Rattle.hold_shapes.specs.Shapes.{place_of}
 use Rattle.hold_shapes.specs.Plans.{plan, Planned}
 use Rattle.hold_shapes.specs.Gather.{content_at}
 use Rattle.texts.specs.declared.side.Side.{Side}
 use Rattle.texts.specs.declared.side.Side.TheVariants.{Left, Right}
 use Rattle.edit_module.specs.declared.fault.Cause.TheVariants.{Place}
-use Rattle.doc_values.specs.Documents.{DocTree, unit, truth, int, text, pick, rec, alt, hold, DocTrees, no_docs, more_docs, docs_of, doc_list}
+use Rattle.doc_values.specs.Documents.{DocTree, unit, hold, DocTrees, no_docs, more_docs, doc_list}
 use Rattle.doc_values.specs.Types.{TyTree, ty_list, ty_keyed, ty_ordered, is_well_formed}
 use Rattle.doc_values.specs.Typing.{has, is_list_of, is_keyed_of, is_tree_of}
 use Rattle.doc_values.specs.Initial.{initial}
-use Rattle.edit_module.specs.Words.{PrimitiveTree, set as set_to, add, splice, at, stay, switch, modify, shape, WordTree, no_primitives, more_primitives}
+use Rattle.edit_module.specs.Words.{PrimitiveTree, at, modify, shape, WordTree, no_primitives, more_primitives}
 use Rattle.edit_module.specs.Action.{Why, act, act_primitive, act_at_place, map_ok, put_result_at, put_at, doc_at, if_present, gathered, reshaped, inner}
 use Rattle.edit_module.specs.Containers.{IsHeld}
 use Rattle.lens_forms.specs.Forms.{FormTree, form_each, form_keyed, form_ordered}
 use Rattle.texts.specs.Sides.{other}
 use Rattle.lens_core.specs.Sides.{type_on}
 use Rattle.lens_core.specs.Emitted.{one, mod_word, shape_word, one_by_one}
-use Rattle.lens_core.specs.Complements.{CompTree, nil, then_comp, rec_comp, alt_comp, hold_comp, tags_comp, CompTrees, no_comps, more_comps, comps_of, comp_list, comp_count, Fits, AllFit, missing}
+use Rattle.lens_core.specs.Complements.{CompTree, nil, hold_comp, CompTrees, comps_of, comp_list, comp_count, Fits, AllFit, missing}
 use Rattle.lens_core.specs.Consistency.{IsConsistent, AreTyped, AtEachPlace, AreHeld}
-use Rattle.lens_core.specs.Translation.{Translated, translate_one, translate, translate_held, held_row, gathered_comps, comp_at, put_comp}
+use Rattle.lens_core.specs.Translation.{translate_one, translate, held_row, comp_at, put_comp}
 use Rattle.texts.specs.Keys.{is_rising}
 use Rattle.hold_shapes.specs.Trees.{is_valid}
 use Rattle.texts.proofs.Conjunction.{both, first, second}

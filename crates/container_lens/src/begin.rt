@@ -9,7 +9,7 @@ ghost use Rattle.edit_module.specs.Views.{primitive_tree, word_tree};
 ghost use Rattle.lens_core.specs.Beginnings.{begun_tree, finished, IsBeginFault};
 ghost use Rattle.lens_core.specs.Complements.{CompTree, CompTrees, comp_tree, comps_tree, comp_count};
 ghost use Rattle.lens_core.specs.Emitted.{shape_word};
-ghost use Rattle.lens_core.specs.Translation.{gathered_comps, carried_tree};
+ghost use Rattle.lens_core.specs.Translation.{gathered_comps};
 ghost use Rattle.container_lens.specs.HeldSteps.{begin_mod, begin_reshaped, begin_held};
 
 use crate::places::{any_shape, place_in};
