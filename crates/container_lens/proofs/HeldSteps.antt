@@ -1,18 +1,21 @@
 -- The two steps of a container's translation: with the lens inside they are its row; and what a beginning says of its primitive.
-use Rattle.std.proofs.Common.{◌≡◌, ℕ, Bool, true, false, Option, None, Some, option_map, refl, arith}
+use Rattle.std.proofs.Common.{◌≡◌, ℕ, Bool, true, false, List, map, Option, None, Some, option_map, Ok, refl, arith}
 use Rattle.std.specs.Prelude.{option_and_then, nat_eq, if◌then◌else◌}
 use Rattle.std.proofs.lemmas.Bool.Decides.{nat_tests}
 use Rattle.hold_shapes.specs.declared.shape.Shape.{Shape}
 use Rattle.hold_shapes.specs.declared.edit.Place.{Place}
+use Rattle.hold_shapes.specs.declared.edit.ShapeEdit.{ShapeEdit}
+use Rattle.hold_shapes.specs.declared.origins.Origin.{Origin}
+use Rattle.hold_shapes.specs.Gather.{content_at}
 use Rattle.hold_shapes.specs.Shapes.{size_of, place_of}
 use Rattle.hold_shapes.specs.Plans.{plan}
 use Rattle.edit_module.specs.Words.{PrimitiveTree, set, add, splice, at, stay, switch, modify, shape, WordTree, no_primitives, more_primitives, word_length}
 use Rattle.edit_module.proofs.Words.{word_tree-out}
 use Rattle.lens_core.specs.Beginnings.{Beginning, finished, inside, carried_on, IsInside}
-use Rattle.lens_core.specs.Complements.{CompTree, hold_comp, CompTrees, comp_count}
-use Rattle.lens_core.specs.Emitted.{one, mod_word}
+use Rattle.lens_core.specs.Complements.{CompTree, hold_comp, CompTrees, comps_of, comp_list, comp_count}
+use Rattle.lens_core.specs.Emitted.{one, mod_word, shape_word}
 use Rattle.lens_core.specs.Translation.{Translated, comp_at, put_comp, gathered_comps, translate_held, held_row}
-use Rattle.container_lens.specs.HeldSteps.{begin_mod, begin_row, begin_held, HasBegun, finish_held}
+use Rattle.container_lens.specs.HeldSteps.{begin_mod, begin_reshaped, begin_row, begin_held, HasBegun, finish_held}
 
 -- ---- the beginning, the lens inside, and the finish
 
@@ -101,6 +104,14 @@ begun_is_counted s cs p h =
     grind (arith, nat_tests)
 
 pub ruleset begun_rules = (begun_is_mod, begun_has_place, begun_is_counted)
+
+-- ---- a shape edit with a plan
+
+pub reshaped_begun : (start : CompTree) (s s' : Shape) (cs ds : CompTrees) (e : ShapeEdit) (from : List Origin) (w : WordTree) → plan s e ≡ Ok (s', from)
+    → ds ≡ comps_of (map (content_at (comp_list cs) start) from) → w ≡ shape_word e → begin_reshaped start s cs e ≡ Some (finished (w, hold_comp s' ds))
+reshaped_begun start s s' cs ds e from w planned gathered edits = rw (planned, gathered, edits) refl
+
+pub ruleset plan_rules = (reshaped_begun)
 
 -- ---- an empty inner word is left out
 

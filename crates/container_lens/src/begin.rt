@@ -80,6 +80,7 @@ fn begin_mod(
 }
 
 // The same edit, with the complements gathered by its plan.
+#[tactic(auto, using(crate::proofs::HeldSteps::plan_rules))]
 fn begin_reshaped(
     alloc: Global,
     shape: &Shape,
@@ -96,10 +97,9 @@ fn begin_reshaped(
     match shape.plan(alloc, edit) {
         Ok(plan) => {
             let comps = comps.gathered(alloc, &plan.from, start)?;
-            Ok(Begun::Done(Carried {
-                word: shape_word(alloc, edit)?,
-                comp: Comp::Hold(plan.shape, comps),
-            }))
+            let word = shape_word(alloc, edit)?;
+            let comp = Comp::Hold(plan.shape, comps);
+            Ok(Begun::Done(Carried { word, comp }))
         }
         Err(fault) => Err(no_plan(fault)),
     }
