@@ -1,3 +1,4 @@
+pub mod Beginnings
 pub mod Complements
 pub mod Consistency
 pub mod Emitted
