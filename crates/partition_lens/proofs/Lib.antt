@@ -1,0 +1,10 @@
+pub mod FromLeft
+pub mod FromRight
+pub mod ItemWords
+pub mod Items
+pub mod LawsOfPartitions
+pub mod ListEdits
+pub mod Orders
+pub mod Reorderings
+pub mod RightLists
+pub mod RightWords
