@@ -1,5 +1,5 @@
 -- Partition from the right: an edit of the list of one tag is translated to a word that turns the list of alternatives.
-use Rattle.std.proofs.Common.{◌≡◌, inl, inr, ℕ, zero, suc, ◌+◌, ◌-◌, ◌<◌, ◌≤◌, Bool, true, false, List, [], ◌∷◌, ◌++◌, length, take, replicate, Option, Some, None, Ok, refl, ap, sym, ◌∙◌, subst, arith, length-append}
+use Rattle.std.proofs.Common.{◌≡◌, inl, inr, ℕ, zero, suc, ◌+◌, ◌-◌, ◌<◌, ◌≤◌, Bool, true, false, List, [], ◌∷◌, ◌++◌, length, take, replicate, Option, Some, Ok, refl, ap, sym, ◌∙◌, subst, arith, length-append}
 use Rattle.std.specs.Prelude.{nat_eq, nat_lt, if◌then◌else◌, cond}
 use Rattle.std.specs.List.{remove}
 use Rattle.std.proofs.lemmas.Bool.{cases_lt, cases_eq, eqb-true}
@@ -23,6 +23,7 @@ use Rattle.lens_core.proofs.LawsOfLeaves.{bytes_same}
 use Rattle.partition_lens.proofs.Items.{Item, tag_of, tags_of, contents_at, contents-append, length-contents, contents-here, contents-off, occurrence, parts_same, without_here}
 use Rattle.partition_lens.proofs.ListEdits.{edited, edited-through, remove-through, Turns, edit_turns, ModActs, mod_turns, mv_turns, remove_turns}
 use Rattle.partition_lens.proofs.RightLists.{tag_type, IsPartition, type_by_name, item_doc, item_docs}
+use Rattle.partition_lens.proofs.Counts.{place_found}
 use Rattle.partition_lens.proofs.Orders.{place_by_rank}
 use Rattle.partition_lens.proofs.FromLeft.{below-append, below-many, below_here, below_there, below_without, first_item, first_is, contents_many, contents_none, moved_is}
 
@@ -36,9 +37,6 @@ pub record RightStep (fs : FieldTrees) (t : ℕ) (ps : List Item) (o : Option Pa
   pub others : (l : ℕ) → nat_eq t l ≡ false → contents_at l items ≡ contents_at l ps
   pub turns : Turns (ty_alt fs) word (item_docs fs ps) (item_docs fs items)
   pub low : are_below (tag_count fs) (tags_of items) ≡ true
-
-place_is : (t q p : ℕ) (ts : List ℕ) → place t q ts ≡ Some p → place_in ts t q ≡ p
-place_is t q p ts e = ap (λ (o : Option ℕ). elim o [ None ↦ 0 | Some k ↦ k ]) e
 
 docs-parts : (fs : FieldTrees) (us : List Item) (x : Item) (ws : List Item) → item_docs fs (us ++ x ∷ ws) ≡ item_docs fs us ++ item_doc fs x ∷ item_docs fs ws
 docs-parts fs us x ws = map-append (item_doc fs) us (x ∷ ws)
@@ -72,7 +70,7 @@ mod_parts fs p us t v v' ws q u b placed e =
     record {
       items = us ++ (t, v') ∷ ws;
       word = mod_word (Index (length us)) (stay_word (tag_name fs t) u);
-      carried = ap (λ z. Some (mod_word (Index z) (stay_word (tag_name fs t) u), ts)) (place_is t q (length us) ts placed)
+      carried = ap (λ z. Some (mod_word (Index z) (stay_word (tag_name fs t) u), ts)) (place_found t q (length us) ts placed)
           ∙ ap (λ z. Some (mod_word (Index (length us)) (stay_word (tag_name fs t) u), z)) (same_tags us t v v' ws);
       column = contents-here t v' us ws;
       others = λ l f. contents-off l t v' us ws f ∙ sym (contents-off l t v us ws f);
@@ -163,7 +161,7 @@ last_parts : (fs : FieldTrees) (us : List Item) (t : ℕ) (v : DocTree) (ws : Li
 last_parts fs us t v ws b placed =
     let ps = us ++ (t, v) ∷ ws in
     let ts = tags_of ps in
-    let here : place_in ts t (count t ts - 1) ≡ length us = place_is t (count t ts - 1) (length us) ts placed in
+    let here : place_in ts t (count t ts - 1) ≡ length us = place_found t (count t ts - 1) (length us) ts placed in
     let rest : remove ts (length us) ≡ tags_of (us ++ ws) = remove-through tag_of ps (length us) ∙ ap tags_of (without_here us (t, v) ws) in
     let long : length ts ≡ length us + suc (length ws) = length-map ps tag_of ∙ length-append us ((t, v) ∷ ws) in
     let left = length-append (item_docs fs us) (item_docs fs ws) in
@@ -341,8 +339,8 @@ move_parts fs us t v ws i j d b ranked placed g =
     let ts = tags_of ps in
     let cs = g.before in
     let ds = g.after in
-    let from : place_in ts t i ≡ length us = place_is t i (length us) ts placed in
-    let to : place_in ts t j ≡ length cs = place_is t j (length cs) ts g.placed in
+    let from : place_in ts t i ≡ length us = place_found t i (length us) ts placed in
+    let to : place_in ts t j ≡ length cs = place_found t j (length cs) ts g.placed in
     let next : moved (length us) (length cs) ts ≡ tags_of (cs ++ (t, v) ∷ ds) = edited-through tag_of (0, v) (MoveItem (length us) (length cs)) ps ∙ ap tags_of (moved_is us (t, v) ws cs ds (0, v) g.is) in
     let docs : item_docs fs us ++ item_docs fs ws ≡ item_docs fs cs ++ item_docs fs ds = sym (map-append (item_doc fs) us ws) ∙ (ap (item_docs fs) g.is ∙ map-append (item_doc fs) cs ds) in
     let lists : contents_at t us ++ contents_at t ws ≡ contents_at t cs ++ contents_at t ds = sym (contents-append t us ws) ∙ (ap (contents_at t) g.is ∙ contents-append t cs ds) in
