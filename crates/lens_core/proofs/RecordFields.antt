@@ -19,11 +19,7 @@ use Rattle.lens_core.proofs.LawsOfLeaves.{bytes_are, bytes_same, differs_back}
 
 -- ---- fields that are sorted
 
--- the place aside, the field that is put in is found first
-type_by : Bool → TyTree → Option TyTree → Option TyTree
-type_by true t o = Some t
-type_by false t o = o
-
+-- the type of a name, by the first field
 pub lookup_type-more : (m : List ℕ) (t : TyTree) (fs : FieldTrees) (n : List ℕ) → lookup_type (more_fields m t fs) n ≡ (if bytes_eq m n then Some t else lookup_type fs n)
 lookup_type-more m t fs n = go (bytes_eq m n) (lookup_field fs n)
   where
@@ -148,12 +144,13 @@ acts_on_field fs xs (switch a b w) x' e = cc
 acts_on_field fs xs (modify p w) x' e = cc
 acts_on_field fs xs (shape a) x' e = cc
 
--- the word of the far field acts
+-- a content that is put back leaves the contents as they were
 put_same : (ds : DocTrees) (i : ℕ) → put_at ds i (doc_at ds i) ≡ ds
 put_same no_docs i = refl
 put_same (more_docs d ds) zero = ap (more_docs d) (docs_of-doc_list ds)
 put_same (more_docs d ds) (suc i) = ap (more_docs d) (put_same ds i)
 
+-- a word of a field, as an At of the field, acts on the record
 pub field_acts : (fs : FieldTrees) (ys : DocTrees) (m : List ℕ) (w : WordTree) (s : ℕ × TyTree) (v : DocTree) → lookup_field fs m ≡ Some s → act s.1 w (doc_at ys s.0) ≡ Ok v
     → act (ty_rec fs) (at_word m w) (rec ys) ≡ Ok (rec (put_at ys s.0 v))
 field_acts fs ys m no_primitives s v e h =
