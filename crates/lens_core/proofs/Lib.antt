@@ -6,4 +6,6 @@ pub mod LawsOfLeaves
 pub mod LawsOfWords
 pub mod LeafSteps
 pub mod MissingRows
+pub mod NameTests
+pub mod RecordFields
 pub mod Results
