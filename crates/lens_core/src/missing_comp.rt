@@ -61,6 +61,7 @@ fn missing_rows(alloc: Global, rows: &FormRows) -> Result<Comps, AllocError>
 
 // That of the first arm.
 #[cycle(missing)]
+#[tactic(auto, using(crate::proofs::MissingRows::arm_rules))]
 fn missing_arm(alloc: Global, arms: &FormArms) -> Result<Comp, AllocError>
     ensures { IfOk result (λ c. comp_tree c ≡ missing_arm (arms_tree arms.now)) }
 {
