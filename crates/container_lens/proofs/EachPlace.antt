@@ -32,10 +32,12 @@ module _ (inner : DocTree → CompTree → DocTree → Type 0) where
   pub each-set : (xs : DocTrees) (cs : CompTrees) (ys : DocTrees) (i : ℕ) (x : DocTree) (c : CompTree) (y : DocTree) → AtEachPlace inner xs cs ys → inner x c y
       → AtEachPlace inner (put_at xs i x) (put_comp cs i c) (put_at ys i y)
   each-set no_docs no_comps no_docs i x c y h r = tt
-  each-set (more_docs v xs) (more_comps d cs) (more_docs w ys) zero x c y h r =
-      (r, subst (λ z. AtEachPlace inner z (comps_of (comp_list cs)) (docs_of (doc_list ys))) (sym (docs_of-doc_list xs))
-      (subst (λ z. AtEachPlace inner xs z (docs_of (doc_list ys))) (sym (comps_of-comp_list cs))
-      (subst (λ z. AtEachPlace inner xs cs z) (sym (docs_of-doc_list ys)) h.1)))
+  each-set (more_docs v xs) (more_comps d cs) (more_docs w ys) zero x c y h r = (
+    r,
+    subst (λ z. AtEachPlace inner z (comps_of (comp_list cs)) (docs_of (doc_list ys))) (sym (docs_of-doc_list xs))
+        (subst (λ z. AtEachPlace inner xs z (docs_of (doc_list ys))) (sym (comps_of-comp_list cs))
+        (subst (λ z. AtEachPlace inner xs cs z) (sym (docs_of-doc_list ys)) h.1)),
+  )
   each-set (more_docs v xs) (more_comps d cs) (more_docs w ys) (suc i) x c y h r = (h.0, each-set xs cs ys i x c y h.1 r)
   each-set no_docs no_comps (more_docs y ys) i x c z h r = absurd h
   each-set no_docs (more_comps c cs) ys i x d y h r = absurd h

@@ -131,7 +131,13 @@ held_left k l x c y h =
     let r = held_relation k l x c y h in
     let a = held_parts (IsConsistent l) x c y r.1 in
     record {
-      sh = a.sh; xs = a.xs; cs = a.cs; ys = a.ys; near_is = a.near_is; comp_is = a.comp_is; far_is = a.far_is;
+      sh = a.sh;
+      xs = a.xs;
+      cs = a.cs;
+      ys = a.ys;
+      near_is = a.near_is;
+      comp_is = a.comp_is;
+      far_is = a.far_is;
       near_has = near_has_type k l Left (hold a.sh a.xs) (subst (λ z. has (type_on Left (form_of k l)) z ≡ true) a.near_is r.0.left_has);
       far_has = near_has_type k l Right (hold a.sh a.ys) (subst (λ z. has (type_on Right (form_of k l)) z ≡ true) a.far_is r.0.right_has);
       comp_kind = fit_kind k l a.sh a.cs (subst (λ z. Fits (form_of k l) z) a.comp_is r.0.comp_fits);
@@ -142,8 +148,16 @@ held_right : (k : Kind) (l : FormTree) (x : DocTree) (c : CompTree) (y : DocTree
 held_right k l x c y h =
     let a = held_left k l x c y h in
     record {
-      sh = a.sh; xs = a.ys; cs = a.cs; ys = a.xs; near_is = a.far_is; comp_is = a.comp_is; far_is = a.near_is;
-      near_has = a.far_has; far_has = a.near_has; comp_kind = a.comp_kind;
+      sh = a.sh;
+      xs = a.ys;
+      cs = a.cs;
+      ys = a.xs;
+      near_is = a.far_is;
+      comp_is = a.comp_is;
+      far_is = a.near_is;
+      near_has = a.far_has;
+      far_has = a.near_has;
+      comp_kind = a.comp_kind;
       places = each-turned (IsConsistent l) (IsRelated l Right) (λ x c y h. h) a.xs a.cs a.ys a.places;
     }
 
@@ -191,6 +205,7 @@ acted_at t w s ds q x' e = at_found (place_of s q) refl e
         → (i : ℕ) × (v : DocTree) × (place_of s q ≡ Some i) × (act t w (doc_at ds i) ≡ Ok v) × (x' ≡ hold s (put_at ds i v))
     put_ok i f (Ok v) a h = (i, v, f, a, cc)
     put_ok i f (Err why) a h = cc
+
     at_found : (o : Option ℕ) → place_of s q ≡ o → if_present o Place (λ i. map_ok (hold s) (put_result_at ds i (act t w (doc_at ds i)))) ≡ Ok x'
         → (i : ℕ) × (v : DocTree) × (place_of s q ≡ Some i) × (act t w (doc_at ds i) ≡ Ok v) × (x' ≡ hold s (put_at ds i v))
     at_found None f h = cc
@@ -331,7 +346,10 @@ held_carries : (k : Kind) (l : FormTree) → Laws l → (s : Side) (p : Primitiv
 held_carries k l laws s p sh sh' xs' ys ys' cs cs' w near far translates acts places =
     let far_has = has_act (container_type k (type_on (other s) l)) w (hold sh ys) (hold sh' ys') (well_formed_of k (type_on (other s) l) (laws.sound (other s))) far acts in
     record {
-      word = w; comp = hold_comp sh' cs'; document = hold sh' ys'; carried = translates;
+      word = w;
+      comp = hold_comp sh' cs';
+      document = hold sh' ys';
+      carried = translates;
       acts = subst (λ t. act t w (hold sh ys) ≡ Ok (hold sh' ys')) (sym (type_is k l (other s))) acts;
       consistent = held_related k l s sh' xs' cs' ys' near far_has (comps_kind k l s sh' xs' cs' ys' near places) places;
     }
@@ -379,7 +397,7 @@ held_step k l laws s p x c y x' r e =
     let a = held_triple k l s x c y r in
     let t : Triple k l s a.sh a.xs a.cs a.ys = record { near_has = a.near_has; far_has = a.far_has; comp_kind = a.comp_kind; places = a.places } in
     let acts : act_primitive (container_type k (type_on s l)) p (hold a.sh a.xs) ≡ Ok x' =
-        subst (λ z. act_primitive (container_type k (type_on s l)) p z ≡ Ok x') a.near_is (subst (λ z. act_primitive z p x ≡ Ok x') (type_is k l s) e) in
+    subst (λ z. act_primitive (container_type k (type_on s l)) p z ≡ Ok x') a.near_is (subst (λ z. act_primitive z p x ≡ Ok x') (type_is k l s) e) in
     let near = has_primitive (container_type k (type_on s l)) p (hold a.sh a.xs) x' (well_formed_of k (type_on s l) (laws.sound s)) a.near_has acts in
     carries_as (form_of k l) s p x' x' c (hold_comp a.sh a.cs) y (hold a.sh a.ys) refl a.comp_is a.far_is
     (held_acts k l laws s a.sh a.xs a.cs a.ys t p x' near (acts_on_held k (type_on s l) a.sh a.xs p x' acts))
