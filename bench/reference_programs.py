@@ -2,7 +2,8 @@
 """Writes cases of programs for crates/layer_cases, worked out from the rules alone: python3 bench/reference_programs.py.
 
 Each answer is computed here in the words of docs/LANGUAGE.md (tokens, programs and their canonical text) and docs/TYPING.md
-(the check), and never taken from the program. The rows are the same in every run. It is run by hand.
+(the check), and never taken from the program. The rows are the same in every run. It knows numbers as
+tokens but no declared initial values, and no row has one. It is run by hand.
 """
 import itertools, re
 
@@ -10,17 +11,17 @@ from reference import KEYWORDS, Chance, field_text, rows_to, type_text
 
 # ---- programs: tokens, the grammar, names, the canonical text
 
-TOKEN = re.compile(rb'([ \t\r\n]+|#[^\n]*)|([A-Za-z_][A-Za-z0-9_]*)|"([^"\\\x00-\x1f]*)"|([=;{}<>\[\]():,~])')
+TOKEN = re.compile(rb'([ \t\r\n]+|#[^\n]*)|([A-Za-z_][A-Za-z0-9_]*)|"([^"\\\x00-\x1f]*)"|([=;{}<>\[\]():,~])|(-?[0-9]+|-)')
 
 
 def tokens(text):
-    """Pairs of a token and its offset: a keyword, a mark, ('name', ..), ('string', ..), 'bad' or 'end'."""
+    """Pairs of a token and its offset: a keyword, a mark, ('name', ..), ('string', ..), ('number', ..), 'bad' or 'end'."""
     at = 0
     while at < len(text):
         found = TOKEN.match(text, at)
-        gap, word, string, mark = found.groups() if found else (None,) * 4
+        gap, word, string, mark, number = found.groups() if found else (None,) * 5
         if gap is None:
-            token = mark.decode() if mark else word_token(word) if word else string_token(string)
+            token = mark.decode() if mark else word_token(word) if word else number_token(number) if number else string_token(string)
             yield token, at
             if token == 'bad':
                 return
@@ -31,6 +32,12 @@ def tokens(text):
 def word_token(word):
     word = word.decode()
     return word if word in KEYWORDS else ('name', word) if len(word) <= 64 else 'bad'
+
+
+def number_token(number):
+    digits = number.lstrip(b'-')
+    whole = 1 <= len(digits) <= 19 and -2 ** 63 <= int(number) < 2 ** 63
+    return ('number', str(int(number))) if whole else 'bad'
 
 
 def string_token(string):
