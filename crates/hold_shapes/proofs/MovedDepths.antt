@@ -6,7 +6,7 @@ use Rattle.hold_shapes.specs.Trees.{is_valid, descendants, end_of}
 use Rattle.hold_shapes.specs.Plans.{remove_part, insert_part, moved_depths, all_at_most, allowed_depths}
 use Rattle.hold_shapes.specs.Causes.{PlanCause, Deep}
 use Rattle.hold_shapes.proofs.ValidDepths.{GoesOn, Low, PutOk, Whole, put-whole, whole, valid, whole-out, end-ok, above-end, valid-some}
-use Rattle.hold_shapes.proofs.ChildPlaces.{length-remove_part, block, goes-take, low, Rest, whole-from, front-length}
+use Rattle.hold_shapes.proofs.ChildPlaces.{length-remove_part, block, goes-take, low, whole-from, front-length}
 
 abbrev pub AtMost : ℕ → List ℕ → Type 0
 AtMost n [] = Unit {0}

@@ -1,7 +1,7 @@
 -- What the runs of origins gather.
 use Rattle.std.proofs.Common.{◌≡◌, ℕ, zero, suc, ◌<◌, ◌≤◌, ◌+◌, List, [], ◌∷◌, ◌++◌, length, map, get_or, replicate, take, drop, All, Result, Ok, Err, IfOk, refl, sym, ap, ◌∙◌, arith}
 use Rattle.std.specs.List.{range_with_len}
-use Rattle.std.proofs.lemmas.List.{get_or-map, map-append, length-map, length-replicate, length-append, replicate_more, append_assoc, length-take, length-drop}
+use Rattle.std.proofs.lemmas.List.{get_or-map, map-append, length-map, length-append, replicate_more, append_assoc}
 use Rattle.std.proofs.lemmas.List.Elements.{All-head}
 use Rattle.std.proofs.Math.ListN.{get_or-append}
 use mathlib.Core.Path.{subst}

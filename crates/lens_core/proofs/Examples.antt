@@ -1,146 +1,125 @@
--- The definitions on small cases.
-use Rattle.std.proofs.Common.{◌≡◌, ℕ, true, false, List, [], ◌∷◌, None, Some, refl}
-use Rattle.std.specs.Prelude.{pos}
-use Rattle.doc_values.specs.Documents.{DocTree, truth, int, rec, no_docs, more_docs}
-use Rattle.doc_values.specs.Types.{TyTree, ty_int, ty_bool}
-use Rattle.edit_module.specs.Words.{WordTree, set, at, no_primitives, more_primitives}
-use Rattle.edit_module.specs.declared.atom.Atom.TheVariants.{Truth, Number}
+-- Translation and the relation, tried by computation on worked examples.
+use Rattle.std.proofs.Common.{◌≡◌, refl, ℕ, zero, suc, List, [], ◌∷◌, Option, Some, None}
+use Rattle.std.specs.Prelude.{codes, pos, true, IsTrue, Ok, Err, Result}
+use Rattle.hold_shapes.specs.declared.shape.Shape.TheVariants.{List as ListOf, Keyed as KeyedOf, Tree as TreeOf}
+use Rattle.hold_shapes.specs.declared.edit.Place.TheVariants.{Index, Key, Node}
+use Rattle.hold_shapes.specs.declared.edit.ShapeEdit.TheVariants.{Ins, Del, MoveItem, Reorder, PutKey, DropKey, RenameKey, Graft, Prune, Shift, Hang}
 use Rattle.texts.specs.declared.side.Side.TheVariants.{Left, Right}
-use Rattle.lens_forms.specs.Forms.{FormTree, form_id, form_disc, form_rec, no_rows, both, only_left, only_right}
-use Rattle.lens_core.specs.Built.{paired_int, is_paired_int}
-use Rattle.lens_core.specs.Complements.{CompTree, nil, rec_comp, no_comps, more_comps, missing}
+use Rattle.edit_module.specs.declared.atom.Atom.TheVariants.{Truth, Number, Letters}
+use Rattle.doc_values.specs.Documents.{DocTree, int, text, rec, alt, hold, no_docs, more_docs}
+use Rattle.doc_values.specs.Types.{TyTree, ty_int, ty_text, FieldTrees, no_fields, more_fields}
+use Rattle.edit_module.specs.Words.{PrimitiveTree, set, add, at, stay, switch, modify, shape, WordTree, no_primitives, more_primitives}
+use Rattle.lens_core.specs.Emitted.{one}
+use Rattle.lens_forms.specs.Forms.{FormTree, form_id, form_bij, form_disc, form_then, form_rec, form_alt, form_each, form_keyed, form_ordered, form_part, form_inv, no_rows, both, only_left, only_right, no_arms, more_arms}
+use Rattle.lens_core.specs.Complements.{CompTree, nil, then_comp, rec_comp, alt_comp, hold_comp, tags_comp, no_comps, more_comps, Fits, missing}
 use Rattle.lens_core.specs.Consistency.{IsConsistent}
 use Rattle.lens_core.specs.Translation.{translate}
 
--- the names "a", "b", "c" and "d"
-abbrev a : List ℕ
-a = 97 ∷ []
+abbrev number : TyTree
+number = ty_int (pos 0)
 
-abbrev b : List ℕ
-b = 98 ∷ []
+abbrev words : TyTree
+words = ty_text []
 
-abbrev c : List ℕ
-c = 99 ∷ []
-
-abbrev d : List ℕ
-d = 100 ∷ []
-
-abbrev an_int : TyTree
-an_int = ty_int (pos 0)
-
--- a ~ b: id int, and a record of b ~ d: id int and a ~ c: id bool
-abbrev one_row : FormTree
-one_row = paired_int a b
-
-abbrev two_rows : FormTree
-two_rows = form_rec (both b d (form_id an_int) (both a c (form_id ty_bool) no_rows))
-
--- the same row as one_row, between a left field c and a right field d
+-- part <p: text, o: int>
 abbrev mixed : FormTree
-mixed = form_rec (only_left c an_int (both a b (form_id an_int) (only_right d ty_bool no_rows)))
+mixed = form_part (more_fields (codes "p") words (more_fields (codes "o") number no_fields))
 
-abbrev start : CompTree
-start = rec_comp (more_comps nil no_comps)
+-- a word of two primitives, and of three
+abbrev two : PrimitiveTree → PrimitiveTree → WordTree
+two p q = more_primitives p (one q)
 
--- set n, and a word of it in a field
-abbrev set_to : ℕ → WordTree
-set_to n = more_primitives (set (Number (pos n))) no_primitives
+abbrev three : PrimitiveTree → PrimitiveTree → PrimitiveTree → WordTree
+three p q r = more_primitives p (two q r)
 
-abbrev in_field : List ℕ → WordTree → WordTree
-in_field f w = more_primitives (at f w) no_primitives
+-- the identity passes on an empty inner word as it is
+id_passes : translate (form_id number) Left nil (one (at (codes "f") no_primitives)) ≡ Some (one (at (codes "f") no_primitives), nil)
+id_passes = refl
 
--- ---- complements
+-- a record leaves it out, and a field of one side alone is translated to the empty word
+abbrev labelled : FormTree
+labelled = form_rec (both (codes "name") (codes "label") (form_id words) (only_left (codes "age") number (only_right (codes "note") words no_rows)))
 
-one_for_each_row : missing two_rows ≡ rec_comp (more_comps nil (more_comps nil no_comps))
-one_for_each_row = refl
+record_leaves_out : translate labelled Left (rec_comp (more_comps nil no_comps)) (one (at (codes "name") no_primitives)) ≡ Some (no_primitives, rec_comp (more_comps nil no_comps))
+record_leaves_out = refl
 
-one_side_has_none : missing mixed ≡ start
-one_side_has_none = refl
+one_sided : translate labelled Left (rec_comp (more_comps nil no_comps)) (one (at (codes "age") (one (add (pos 1))))) ≡ Some (no_primitives, rec_comp (more_comps nil no_comps))
+one_sided = refl
 
--- ---- translation
-
-set_from_the_left : translate one_row Left start (in_field a (set_to 5)) ≡ Some (in_field b (set_to 5), start)
-set_from_the_left = refl
-
-set_from_the_right : translate one_row Right start (in_field b (set_to 5)) ≡ Some (in_field a (set_to 5), start)
-set_from_the_right = refl
-
-far_field : translate one_row Left start (in_field b (set_to 5)) ≡ None
+-- a field of the other side alone is none of this side
+far_field : translate labelled Left (rec_comp (more_comps nil no_comps)) (one (at (codes "note") no_primitives)) ≡ None
 far_field = refl
 
-empty_inner_word : translate one_row Left start (in_field a no_primitives) ≡ Some (no_primitives, start)
-empty_inner_word = refl
+-- a switch takes the missing complement of the new arm, and is not left out
+abbrev either : FormTree
+either = form_alt (more_arms (codes "a") (codes "x") (form_id number) (more_arms (codes "b") (codes "y") labelled no_arms))
 
-of_the_identity : translate (form_id an_int) Left nil (in_field a no_primitives) ≡ Some (in_field a no_primitives, nil)
-of_the_identity = refl
+switched : translate either Right (alt_comp (codes "a") nil) (one (switch (codes "x") (codes "y") (one (at (codes "note") (one (set (Letters (codes "q"))))))))
+    ≡ Some (one (switch (codes "a") (codes "b") no_primitives), alt_comp (codes "b") (rec_comp (more_comps nil no_comps)))
+switched = refl
 
-empty_word : translate one_row Left nil no_primitives ≡ Some (no_primitives, nil)
-empty_word = refl
+-- a bijection, and the inverse of an inverse
+abbrev onoff : FormTree
+onoff = form_bij ((codes "on", codes "yes") ∷ (codes "off", codes "no") ∷ []) (codes "on")
 
-one_after_another : translate one_row Left start (more_primitives (at a (set_to 5)) (in_field a (set_to 6))) ≡ Some (more_primitives (at b (set_to 5)) (in_field b (set_to 6)), start)
-one_after_another = refl
+partners : translate onoff Right nil (one (set (Letters (codes "no")))) ≡ Some (one (set (Letters (codes "off"))), nil)
+partners = refl
 
-second_is_none : translate one_row Left start (more_primitives (at a (set_to 5)) (set_to 6)) ≡ None
-second_is_none = refl
+inverse_of_inverse : translate (form_inv (form_inv onoff)) Left nil (one (set (Letters (codes "off")))) ≡ Some (one (set (Letters (codes "no"))), nil)
+inverse_of_inverse = refl
 
-second_row : translate two_rows Right (missing two_rows) (in_field c (more_primitives (set (Truth true)) no_primitives)) ≡ Some (in_field a (more_primitives (set (Truth true)) no_primitives), missing two_rows)
-second_row = refl
+-- a composition in which the middle word is empty
+middle_empty : translate (form_then (form_disc number words) (form_id words)) Left (then_comp nil nil) (one (set (Number (pos 4)))) ≡ Some (no_primitives, then_comp nil nil)
+middle_empty = refl
 
-behind_one_side : translate mixed Right start (in_field b (set_to 5)) ≡ Some (in_field a (set_to 5), start)
-behind_one_side = refl
+-- a renamed key keeps its complement
+abbrev held : CompTree → CompTree → CompTree
+held c d = hold_comp (KeyedOf (codes "a" ∷ codes "b" ∷ [])) (more_comps c (more_comps d no_comps))
 
-one_side_alone : translate mixed Left start (in_field c (set_to 5)) ≡ Some (no_primitives, start)
-one_side_alone = refl
+renamed : translate (form_keyed either) Left (held (alt_comp (codes "a") nil) (alt_comp (codes "b") (missing labelled))) (one (shape (RenameKey (codes "b") (codes "0"))))
+    ≡ Some (one (shape (RenameKey (codes "b") (codes "0"))), hold_comp (KeyedOf (codes "0" ∷ codes "a" ∷ [])) (more_comps (alt_comp (codes "b") (missing labelled)) (more_comps (alt_comp (codes "a") nil) no_comps)))
+renamed = refl
 
-not_on_the_other : translate mixed Right start (in_field c (set_to 5)) ≡ None
-not_on_the_other = refl
+-- a fresh node has the missing complement
+grafted : translate (form_ordered labelled) Right (hold_comp (TreeOf (0 ∷ [])) (more_comps (missing labelled) no_comps)) (one (shape (Graft [])))
+    ≡ Some (one (shape (Graft [])), hold_comp (TreeOf (0 ∷ 1 ∷ [])) (more_comps (missing labelled) (more_comps (missing labelled) no_comps)))
+grafted = refl
 
-other_variant : translate one_row Left nil (in_field a (set_to 5)) ≡ None
-other_variant = refl
+-- a partition: an item switched to another tag, and to the same one
+abbrev of_p : WordTree → PrimitiveTree
+of_p w = at (codes "p") w
 
-too_many_parts : translate one_row Left (missing two_rows) (in_field a no_primitives) ≡ None
-too_many_parts = refl
+abbrev of_o : WordTree → PrimitiveTree
+of_o w = at (codes "o") w
 
-parts_are_not_looked_at : translate one_row Left (rec_comp (more_comps start no_comps)) (in_field a no_primitives) ≡ Some (no_primitives, rec_comp (more_comps start no_comps))
-parts_are_not_looked_at = refl
+switch_other : translate mixed Left (tags_comp (0 ∷ 0 ∷ [])) (one (modify (Index 1) (one (switch (codes "p") (codes "o") (one (set (Number (pos 7))))))))
+    ≡ Some (two (of_p (one (shape (Del 1)))) (of_o (two (shape (Ins 1)) (modify (Index 0) (one (set (Number (pos 7))))))), tags_comp (0 ∷ 1 ∷ []))
+switch_other = refl
 
--- ---- the relation
+switch_same : translate mixed Left (tags_comp (0 ∷ 1 ∷ 0 ∷ [])) (one (modify (Index 0) (one (switch (codes "p") (codes "p") (one (set (Letters (codes "x"))))))))
+    ≡ Some (two (of_p (two (shape (MoveItem 0 1)) (shape (Del 1)))) (of_p (three (shape (Ins 1)) (shape (MoveItem 1 0)) (modify (Index 0) (one (set (Letters (codes "x"))))))), tags_comp (0 ∷ 1 ∷ 0 ∷ []))
+switch_same = refl
 
-abbrev record_of : ℕ → DocTree
-record_of n = rec (more_docs (int (pos n)) no_docs)
+-- the last two items deleted, one of each tag
+deleted : translate mixed Left (tags_comp (0 ∷ 1 ∷ 0 ∷ [])) (one (shape (Del 2))) ≡ Some (two (of_p (one (shape (Del 1)))) (of_o (one (shape (Del 1)))), tags_comp (0 ∷ []))
+deleted = refl
 
-equal_ints : IsConsistent one_row (record_of 5) start (record_of 5)
-equal_ints = (
-  record { left_has = refl; comp_fits = (tt, tt); right_has = refl },
-  ((int (pos 5), int (pos 5), refl, refl, (record { left_has = refl; comp_fits = tt; right_has = refl }, refl)), tt),
-)
+-- a move is counted in the new list
+moved_left : translate mixed Left (tags_comp (0 ∷ 1 ∷ 0 ∷ [])) (one (shape (MoveItem 2 0))) ≡ Some (one (of_p (one (shape (MoveItem 1 0)))), tags_comp (0 ∷ 0 ∷ 1 ∷ []))
+moved_left = refl
 
-one_side_is_free : IsConsistent mixed (rec (more_docs (int (pos 5)) (more_docs (int (pos 7)) no_docs))) start (rec (more_docs (int (pos 5)) (more_docs (truth true) no_docs)))
-one_side_is_free = (
-  record { left_has = refl; comp_fits = (tt, tt); right_has = refl },
-  ((int (pos 5), int (pos 5), refl, refl, (record { left_has = refl; comp_fits = tt; right_has = refl }, refl)), tt),
-)
+-- a reorder that changes the order within one tag alone, and one from the right
+reordered_left : translate mixed Left (tags_comp (0 ∷ 1 ∷ 0 ∷ [])) (one (shape (Reorder (2 ∷ 1 ∷ 0 ∷ [])))) ≡ Some (one (of_p (one (shape (Reorder (1 ∷ 0 ∷ []))))), tags_comp (0 ∷ 1 ∷ 0 ∷ []))
+reordered_left = refl
 
-other_complement : IsConsistent one_row (record_of 5) nil (record_of 5) → ⊥
-other_complement h = h
+reordered_right : translate mixed Right (tags_comp (0 ∷ 1 ∷ 1 ∷ [])) (one (of_o (one (shape (Reorder (1 ∷ 0 ∷ [])))))) ≡ Some (one (shape (Reorder (0 ∷ 2 ∷ 1 ∷ []))), tags_comp (0 ∷ 1 ∷ 1 ∷ []))
+reordered_right = refl
 
--- ---- forms that are not carried yet
+-- an insertion of the second tag from the right
+inserted_right : translate mixed Right (tags_comp (0 ∷ 1 ∷ [])) (one (of_o (one (shape (Ins 1)))))
+    ≡ Some (two (shape (Ins 1)) (modify (Index 2) (one (switch (codes "p") (codes "o") no_primitives))), tags_comp (0 ∷ 1 ∷ 1 ∷ []))
+inserted_right = refl
 
-one_row_is_built : is_paired_int one_row ≡ true
-one_row_is_built = refl
-
--- a ~ b: id int = 5
-other_value_is_not : is_paired_int (form_rec (both a b (form_id (ty_int (pos 5))) no_rows)) ≡ false
-other_value_is_not = refl
-
-abbrev apart : FormTree
-apart = form_disc an_int an_int
-
-nothing_is_kept : missing apart ≡ nil
-nothing_is_kept = refl
-
-nothing_is_carried : translate apart Left nil (set_to 5) ≡ None
-nothing_is_carried = refl
-
-none_consistent : IsConsistent apart (int (pos 5)) nil (int (pos 5)) → ⊥
-none_consistent h = h
+-- the last of a tag deleted from the right
+deleted_right : translate mixed Right (tags_comp (0 ∷ 1 ∷ 1 ∷ [])) (one (of_p (one (shape (Del 1))))) ≡ Some (two (shape (MoveItem 0 2)) (shape (Del 1)), tags_comp (1 ∷ 1 ∷ []))
+deleted_right = refl

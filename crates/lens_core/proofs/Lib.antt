@@ -1,10 +1,11 @@
-pub mod BuiltForms
-pub mod CarriedWords
 pub mod ComplementTrees
 mod Examples
-pub mod FormSizes
-pub mod LensLaws
+pub mod FormParts
+pub mod LawsOfCompositions
+pub mod LawsOfLeaves
+pub mod LawsOfWords
+pub mod LeafSteps
 pub mod MissingRows
-pub mod PairedRecord
-pub mod WordSteps
-pub mod WordTranslation
+pub mod NameTests
+pub mod RecordFields
+pub mod Results

@@ -1,14 +1,29 @@
--- The missing complements of rows, one row after the other.
-use Rattle.std.proofs.Common.{◌≡◌, ℕ, suc, ◌+◌, ◌<◌, ◌≤◌, List, [], ◌∷◌, ◌++◌, length, map, drop, drop-cons, get_or, add-one, append-nil, append_assoc, refl, sym, ap, ◌∙◌}
+-- The missing complements of rows, one row after the other, and that of the first arm.
+use Rattle.std.proofs.Common.{◌≡◌, ℕ, suc, ◌+◌, ◌<◌, ◌≤◌, List, [], ◌∷◌, ◌++◌, length, map, drop, drop-cons, get_or, add-one, append-nil, append_assoc, refl, sym, ap, ◌∙◌, arith, rules}
 use Rattle.std.proofs.lemmas.List.{drop_all, map-append}
+use Rattle.doc_values.specs.Types.{ty_tree}
 use Rattle.doc_values.specs.declared.ty.Ty.{Ty}
-use Rattle.lens_forms.specs.Forms.{form_tree, row_tree, form_rows_of, with_row}
+use Rattle.lens_forms.specs.Forms.{form_tree, row_both, row_left, row_right, row_tree, form_rows_of, with_row, arm_tree, form_arms_of}
 use Rattle.lens_forms.specs.declared.form.Form.{Form}
-use Rattle.lens_forms.specs.declared.form.FormRow.{FormRow}
+use Rattle.lens_forms.specs.declared.form.FormRow.{FormRow, the_lemmas as row_lemmas}
 use Rattle.lens_forms.specs.declared.form.FormRow.TheVariants.{Both, OnlyLeft, OnlyRight}
-use Rattle.lens_core.specs.Complements.{CompTree, comps_of, comp_list, comp_tree, missing, missing_rows}
+use Rattle.lens_core.specs.Complements.{CompTree, nil, alt_comp, comps_of, comp_list, comp_tree, missing, missing_rows, missing_arm}
 use Rattle.lens_core.specs.declared.comp.Comp.{Comp}
-use Rattle.lens_core.proofs.ComplementTrees.{comps_of-comp_list, row_tree-both, row_tree-left, row_tree-right}
+use Rattle.lens_core.proofs.ComplementTrees.{comps_of-comp_list}
+use Rattle.lens_core.proofs.FormParts.{arm_smaller}
+
+-- ---- one row as a tree
+
+pub row_tree-both : (a b : List ℕ) (l : Form) → row_tree (Both a b l) ≡ row_both a b (form_tree l)
+row_tree-both a b l = search (rules, row_lemmas)
+
+row_tree-left : (a : List ℕ) (t : Ty) → row_tree (OnlyLeft a t) ≡ row_left a (ty_tree t)
+row_tree-left a t = search (rules, row_lemmas)
+
+row_tree-right : (b : List ℕ) (t : Ty) → row_tree (OnlyRight b t) ≡ row_right b (ty_tree t)
+row_tree-right b t = search (rules, row_lemmas)
+
+-- ---- the rows one after the other
 
 -- the missing complements of the rows from one on
 abbrev pub missing_from : List FormRow → ℕ → List CompTree
@@ -43,3 +58,17 @@ pub missing_done : (cs : List Comp) (rows : List FormRow) (i : ℕ) → length r
     → map comp_tree cs ++ missing_from rows i ≡ comp_list (missing_rows (form_rows_of (map row_tree rows)))
     → comps_of (map comp_tree cs) ≡ missing_rows (form_rows_of (map row_tree rows))
 missing_done cs rows i h e = ap comps_of (rw (drop_all i rows h, append-nil) at e) ∙ comps_of-comp_list _
+
+-- ---- the first arm
+
+-- that of the first arm, where there is one
+pub arm_first : (arms : List (List ℕ × List ℕ × Form)) (a : List ℕ × List ℕ × Form) → 0 < length arms → a ≡ get_or arms 0 a
+    → missing_arm (form_arms_of (map arm_tree arms)) ≡ alt_comp a.0 (missing (form_tree a.2))
+arm_first [] a h is = absurd (omega arith)
+arm_first (b ∷ arms) a h is = ap (λ (z : List ℕ × List ℕ × Form). alt_comp z.0 (missing (form_tree z.2))) (sym is)
+
+pub arms_none : (arms : List (List ℕ × List ℕ × Form)) → length arms ≡ 0 → missing_arm (form_arms_of (map arm_tree arms)) ≡ nil
+arms_none [] e = refl
+arms_none (a ∷ arms) e = cc
+
+pub ruleset arm_rules = (arm_first, arms_none, arm_smaller)

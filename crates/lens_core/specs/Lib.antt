@@ -1,6 +1,10 @@
-pub mod Built
+pub mod Beginnings
 pub mod Complements
 pub mod Consistency
+pub mod Emitted
 pub mod Laws
-pub mod Parts
+pub mod Leaves
+pub mod Partition
+pub mod Sides
+pub mod Tags
 pub mod Translation

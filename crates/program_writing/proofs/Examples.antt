@@ -5,7 +5,7 @@ use Rattle.std.specs.Fmt.{digits}
 use lib.IntN.{pos, negsuc}
 use Rattle.program_tokens.specs.Words.{is_name, is_word, begins_word, in_word, keyword_of}
 use Rattle.program_terms.specs.Terms.{unit, bool, int, text, enum_of, record_of, list, named, no_fields, more_fields, id_of, bij_of, disc_of, then_of, rec_lens, alt_lens, each_of, part_of, inv_of, named_lens, no_rows, both, only_left, no_arms, more_arms, type_def, lens_def}
-use Rattle.doc_values.specs.Types.{ty_int, ty_enum, ty_rec, ty_list}
+use Rattle.doc_values.specs.Types.{ty_int, ty_rec, ty_list}
 use Rattle.doc_values.specs.Types as of_documents
 use Rattle.program_writing.specs.Canonical.{canonical, canonical_type, canonical_name, put_initial_number, put_type, put_lens}
 

@@ -1,0 +1,4 @@
+pub mod EachPlace
+pub mod HeldSteps
+pub mod LawsOfContainers
+pub mod PlacesWithin

@@ -1,0 +1,2 @@
+pub mod RunInStep
+pub mod StepsCarry

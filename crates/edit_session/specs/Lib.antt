@@ -1,0 +1,4 @@
+pub mod Run
+pub mod Sessions
+pub mod Step
+pub mod Views

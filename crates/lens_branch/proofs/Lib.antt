@@ -1,0 +1,14 @@
+pub mod AlternativeRounds
+pub mod ArmSearch
+pub mod ArmSteps
+pub mod Arms
+pub mod EmittedWords
+pub mod LawsOfAlternatives
+pub mod LawsOfRecords
+pub mod NameTests
+pub mod RecordFields
+pub mod RecordRounds
+pub mod RecordRows
+pub mod RowSearch
+pub mod RowSteps
+pub mod Triples

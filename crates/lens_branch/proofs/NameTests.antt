@@ -1,0 +1,29 @@
+-- Lemmas on names that differ, and on names among others.
+use Rattle.std.proofs.Common.{◌≡◌, ◌||◌, ℕ, Bool, true, false, List, refl, subst}
+use Rattle.std.specs.Prelude.{bytes_eq, not}
+use Rattle.texts.specs.Keys.{has_name}
+use Rattle.lens_core.proofs.LawsOfLeaves.{bytes_are}
+
+pub or_left : (a b : Bool) → (a || b) ≡ false → a ≡ false
+or_left true b h = h
+or_left false b h = refl
+
+pub or_right : (a b : Bool) → (a || b) ≡ false → b ≡ false
+or_right true b h = cc
+or_right false b h = h
+
+pub or_later : (a b : Bool) → b ≡ true → (a || b) ≡ true
+or_later true b h = refl
+or_later false b h = h
+
+pub not_false : (b : Bool) → not b ≡ true → b ≡ false
+not_false true h = cc
+not_false false h = refl
+
+-- a name among others is none that is not among them
+pub not_that : (n k : List ℕ) (ks : List (List ℕ)) → has_name k ks ≡ false → has_name n ks ≡ true → bytes_eq n k ≡ false
+not_that n k ks h e = go (bytes_eq n k) refl
+  where
+    go : (b : Bool) → bytes_eq n k ≡ b → b ≡ false
+    go false q = refl
+    go true q = let z = subst (λ m. has_name m ks ≡ true) (bytes_are n k q) e in cc

@@ -1,0 +1,153 @@
+-- The translation of a record is its beginning, the translation of the lens inside, and its finish.
+use Rattle.std.proofs.Common.{◌≡◌, ℕ, zero, suc, ◌+◌, Bool, true, false, List, [], ◌∷◌, Option, None, Some, option_map, refl, ap, sym, ◌∙◌, subst, arith, add-one}
+use Rattle.std.specs.Prelude.{option_and_then, nat_eq, bytes_eq, cond}
+use Rattle.texts.specs.declared.side.Side.{Side}
+use Rattle.texts.specs.declared.side.Side.TheVariants.{Left, Right}
+use Rattle.edit_module.specs.Words.{PrimitiveTree, set as set_to, add, splice, at, stay, switch, modify, shape, WordTree, no_primitives}
+use Rattle.edit_module.proofs.ActionKeepsTypes.{count-is}
+use Rattle.lens_forms.specs.Forms.{FormTree, form_rec, RowTrees, no_rows, both, only_left, only_right, RowTree, row_both, row_left, row_right, row_list, paired_rows}
+use Rattle.lens_core.specs.Sides.{near, far}
+use Rattle.lens_core.specs.Emitted.{at_word}
+use Rattle.lens_core.specs.Complements.{CompTree, rec_comp, CompTrees, no_comps, more_comps, comp_count}
+use Rattle.lens_core.specs.Translation.{Translated, translate_one, translate, translate_at, in_row, past_row, in_record, comp_at, put_comp}
+use Rattle.lens_core.proofs.ComplementTrees.{comps_of-comp_list}
+use Rattle.lens_branch.specs.Beginnings.{Beginning, finished, inside, carried_on}
+use Rattle.lens_branch.specs.RecordSteps.{has_near, pairs_of, RowAt, row_behind, row_of, begin_row, begin_in, begin_record, finish_row, finish_in, finish_record, lens_of, row_lens, row_translation}
+
+-- ---- what the row of a field translates
+
+-- At of the far field, and the new complement in its place among all
+abbrev put_in : List ℕ → CompTrees → ℕ → Translated → WordTree × CompTrees
+put_in f cs k r = (at_word f r.0, put_comp cs k r.1)
+
+abbrev row_word : Side → CompTrees → WordTree → ℕ → RowTree → Option (WordTree × CompTrees)
+row_word side cs u k (row_both a b l) = option_map (put_in (far side a b) cs k) (translate l side (comp_at cs k) u)
+row_word side cs u k (row_left a t) = Some (no_primitives, cs)
+row_word side cs u k (row_right b t) = Some (no_primitives, cs)
+
+abbrev found_word : Side → CompTrees → WordTree → RowAt → Option (WordTree × CompTrees)
+found_word side cs u q = row_word side cs u q.pairs q.row
+
+put_first : (f : List ℕ) (c : CompTree) (cs : CompTrees) (o : Option Translated) → option_map (in_row f cs) o ≡ option_map (put_in f (more_comps c cs) 0) o
+put_first f c cs None = refl
+put_first f c cs (Some r) = ap (λ z. Some (at_word f r.0, more_comps r.1 z)) (sym (comps_of-comp_list cs))
+
+put_later : (f : List ℕ) (c : CompTree) (cs : CompTrees) (k : ℕ) (o : Option Translated)
+    → option_map (past_row c) (option_map (put_in f cs k) o) ≡ option_map (put_in f (more_comps c cs) (suc k)) o
+put_later f c cs k None = refl
+put_later f c cs k (Some r) = refl
+
+-- behind a paired row the complements begin with that row's
+word_behind : (side : Side) (c : CompTree) (cs : CompTrees) (u : WordTree) (k : ℕ) (r : RowTree)
+    → option_map (past_row c) (row_word side cs u k r) ≡ row_word side (more_comps c cs) u (k + 1) r
+word_behind side c cs u k (row_both a b l) = rw add-one (put_later (far side a b) c cs k (translate l side (comp_at cs k) u))
+word_behind side c cs u k (row_left a t) = refl
+word_behind side c cs u k (row_right b t) = refl
+
+behind_paired : (side : Side) (c : CompTree) (cs : CompTrees) (u : WordTree) (o : Option RowAt)
+    → option_map (past_row c) (option_and_then (found_word side cs u) o) ≡ option_and_then (found_word side (more_comps c cs) u) (option_map (row_behind 1 1) o)
+behind_paired side c cs u None = refl
+behind_paired side c cs u (Some q) = word_behind side c cs u q.pairs q.row
+
+nothing_more : (k : ℕ) → k ≡ k + 0
+nothing_more k = omega arith
+
+behind_alone : (side : Side) (cs : CompTrees) (u : WordTree) (o : Option RowAt)
+    → option_and_then (found_word side cs u) o ≡ option_and_then (found_word side cs u) (option_map (row_behind 1 0) o)
+behind_alone side cs u None = refl
+behind_alone side cs u (Some q) = ap (λ k. row_word side cs u k q.row) (nothing_more q.pairs)
+
+one_less : (m n : ℕ) → m + 1 ≡ n + 1 → m ≡ n
+one_less m n e = omega arith
+
+rows_translate : (side : Side) (f : List ℕ) (u : WordTree) (rows : RowTrees) (cs : CompTrees) → comp_count cs ≡ paired_rows rows
+    → translate_at rows side f u cs ≡ option_and_then (found_word side cs u) (row_of (row_list rows) side f)
+rows_translate side f u no_rows cs e = refl
+rows_translate side f u (both a b l rows) no_comps e = absurd (omega arith)
+rows_translate side f u (both a b l rows) (more_comps c cs) e =
+    go (bytes_eq (near side a b) f) (rows_translate side f u rows cs (one_less (comp_count cs) (paired_rows rows) e))
+  where
+    go : (q : Bool) → translate_at rows side f u cs ≡ option_and_then (found_word side cs u) (row_of (row_list rows) side f)
+        → cond q (option_map (in_row (far side a b) cs) (translate l side c u)) (option_map (past_row c) (translate_at rows side f u cs))
+        ≡ option_and_then (found_word side (more_comps c cs) u) (cond q (Some (record { number = 0; pairs = 0; row = row_both a b l })) (option_map (row_behind 1 1) (row_of (row_list rows) side f)))
+    go true again = put_first (far side a b) c cs (translate l side c u)
+    go false again = ap (option_map (past_row c)) again ∙ behind_paired side c cs u (row_of (row_list rows) side f)
+rows_translate Left f u (only_left a t rows) cs e = go (bytes_eq a f) (rows_translate Left f u rows cs e)
+  where
+    go : (q : Bool) → translate_at rows Left f u cs ≡ option_and_then (found_word Left cs u) (row_of (row_list rows) Left f)
+        → cond q (Some (no_primitives, cs)) (translate_at rows Left f u cs)
+        ≡ option_and_then (found_word Left cs u) (cond q (Some (record { number = 0; pairs = 0; row = row_left a t })) (option_map (row_behind 1 0) (row_of (row_list rows) Left f)))
+    go true again = refl
+    go false again = again ∙ behind_alone Left cs u (row_of (row_list rows) Left f)
+rows_translate Right f u (only_left a t rows) cs e = rows_translate Right f u rows cs e ∙ behind_alone Right cs u (row_of (row_list rows) Right f)
+rows_translate Left f u (only_right b t rows) cs e = rows_translate Left f u rows cs e ∙ behind_alone Left cs u (row_of (row_list rows) Left f)
+rows_translate Right f u (only_right b t rows) cs e = go (bytes_eq b f) (rows_translate Right f u rows cs e)
+  where
+    go : (q : Bool) → translate_at rows Right f u cs ≡ option_and_then (found_word Right cs u) (row_of (row_list rows) Right f)
+        → cond q (Some (no_primitives, cs)) (translate_at rows Right f u cs)
+        ≡ option_and_then (found_word Right cs u) (cond q (Some (record { number = 0; pairs = 0; row = row_right b t })) (option_map (row_behind 1 0) (row_of (row_list rows) Right f)))
+    go true again = refl
+    go false again = again ∙ behind_alone Right cs u (row_of (row_list rows) Right f)
+
+-- ---- the lens of the row of a field
+
+lens_found : (rows : List RowTree) (side : Side) (f : List ℕ) (q : RowAt) → row_of rows side f ≡ Some q → row_lens rows q.number ≡ lens_of q.row
+lens_found [] side f q e = cc
+lens_found (r ∷ rows) side f q e = go (has_near side f r) (row_of rows side f) e (λ p h. lens_found rows side f p h)
+  where
+    go : (b : Bool) (o : Option RowAt) → cond b (Some (record { number = 0; pairs = 0; row = r })) (option_map (row_behind 1 (pairs_of r)) o) ≡ Some q
+        → ((p : RowAt) → o ≡ Some p → row_lens rows p.number ≡ lens_of p.row) → row_lens (r ∷ rows) q.number ≡ lens_of q.row
+    go true o h again =
+        let first : RowAt = record { number = 0; pairs = 0; row = r } in
+        let same : first ≡ q = cc in
+        subst (λ (z : RowAt). row_lens (r ∷ rows) z.number ≡ lens_of z.row) same refl
+    go false None h again = cc
+    go false (Some p) h again =
+        let same : row_behind 1 (pairs_of r) p ≡ q = cc in
+        subst (λ (z : RowAt). row_lens (r ∷ rows) z.number ≡ lens_of z.row) same (rw add-one (again p refl))
+
+translation_found : (rows : RowTrees) (side : Side) (i : ℕ) (c : CompTree) (u : WordTree) (l : FormTree) → row_lens (row_list rows) i ≡ Some l
+    → translate l side c u ≡ row_translation rows side i c u
+translation_found rows side i c u l e = rw e refl
+
+-- ---- the finish
+
+paired_finish : (side : Side) (a b : List ℕ) (l : FormTree) (cs : CompTrees) (k : ℕ) (o : Option Translated)
+    → option_map in_record (option_map (put_in (far side a b) cs k) o) ≡ option_map (λ r. finish_row side cs r k (row_both a b l)) o
+paired_finish side a b l cs k None = refl
+paired_finish side a b l cs k (Some r) = refl
+
+row_round : (rows : RowTrees) (side : Side) (cs : CompTrees) (u : WordTree) (i k : ℕ) (r : RowTree) → row_lens (row_list rows) i ≡ lens_of r
+    → option_map in_record (row_word side cs u k r) ≡ carried_on (row_translation rows side) (λ z. finish_row side cs z k r) (begin_row cs u i k r)
+row_round rows side cs u i k (row_both a b l) e =
+    paired_finish side a b l cs k (translate l side (comp_at cs k) u)
+    ∙ ap (option_map (λ r. finish_row side cs r k (row_both a b l))) (translation_found rows side i (comp_at cs k) u l e)
+row_round rows side cs u i k (row_left a t) e = refl
+row_round rows side cs u i k (row_right b t) e = refl
+
+found_round : (rows : RowTrees) (side : Side) (f : List ℕ) (cs : CompTrees) (u : WordTree) (o : Option RowAt) → row_of (row_list rows) side f ≡ o
+    → option_map in_record (option_and_then (found_word side cs u) o)
+    ≡ option_and_then (carried_on (row_translation rows side) (λ r. finish_in side cs r o)) (option_map (begin_in cs u) o)
+found_round rows side f cs u None e = refl
+found_round rows side f cs u (Some q) e = row_round rows side cs u q.number q.pairs q.row (lens_found (row_list rows) side f q e)
+
+at_round : (rows : RowTrees) (side : Side) (cs : CompTrees) (f : List ℕ) (u : WordTree) (b : Bool) → nat_eq (comp_count cs) (paired_rows rows) ≡ b
+    → cond b (option_map in_record (translate_at rows side f u cs)) None
+    ≡ option_and_then (carried_on (row_translation rows side) (finish_record rows side cs (at f u))) (cond b (option_map (begin_in cs u) (row_of (row_list rows) side f)) None)
+at_round rows side cs f u true e =
+    ap (option_map in_record) (rows_translate side f u rows cs (count-is (comp_count cs) (paired_rows rows) e))
+    ∙ found_round rows side f cs u (row_of (row_list rows) side f) refl
+at_round rows side cs f u false e = refl
+
+-- the translation of a record goes round that of the lens inside
+pub record_round : (rows : RowTrees) (side : Side) (cs : CompTrees) (p : PrimitiveTree)
+    → translate_one (form_rec rows) side (rec_comp cs) p
+    ≡ option_and_then (carried_on (row_translation rows side) (finish_record rows side cs p)) (begin_record rows side cs p)
+record_round rows side cs (at f u) = at_round rows side cs f u (nat_eq (comp_count cs) (paired_rows rows)) refl
+record_round rows side cs (set_to a) = refl
+record_round rows side cs (add n) = refl
+record_round rows side cs (splice i k s) = refl
+record_round rows side cs (stay t u) = refl
+record_round rows side cs (switch m n u) = refl
+record_round rows side cs (modify q u) = refl
+record_round rows side cs (shape e) = refl

@@ -1,0 +1,4 @@
+pub mod AlternativeSteps
+pub mod Beginnings
+pub mod Branches
+pub mod RecordSteps

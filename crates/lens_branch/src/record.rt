@@ -1,0 +1,191 @@
+//! Translating one primitive through a record, round the translation of the lens inside.
+
+ghost use Rattle.std.specs.Prelude.{◌≡◌, ◌+◌, ◌≤◌, IfOk, MatchOption, MatchResult, Some, option_map};
+ghost use Rattle.edit_module.specs.Views.{primitive_tree, word_tree};
+ghost use Rattle.edit_module.specs.Words.{no_primitives};
+ghost use Rattle.lens_forms.specs.Forms.{row_tree, row_list, rows_tree, paired_rows};
+ghost use Rattle.lens_core.specs.Complements.{comps_tree, rec_comp};
+ghost use Rattle.lens_core.specs.Emitted.{at_word};
+ghost use Rattle.lens_core.specs.Sides.{far};
+ghost use Rattle.lens_core.specs.Translation.{carried_tree};
+ghost use Rattle.lens_branch.specs.Beginnings.{begun_tree, IsBeginFault, IsInside};
+ghost use Rattle.lens_branch.specs.RecordSteps.{has_near, pairs_of, row_seen, row_of, begin_record, finish_record};
+
+use edit_module::Word;
+use edit_module::word::Primitive;
+use lens_core::{Begun, Carried, CarryFault, Comp, Comps};
+use lens_forms::{FormRow, FormRows};
+use std::alloc::{AllocError, Global};
+use texts::{Name, Side, Twin};
+
+// The row of a field: its number from 0, how many paired rows are before it, and the row.
+struct FoundRow<'a> {
+    number: usize,
+    pairs: usize,
+    row: &'a FormRow,
+}
+
+/// Begins the translation of one primitive of a side through a record, with the complements of its paired rows.
+///
+/// At of a field of a paired row needs the lens of that row: the result says the number of the row, its complement, and
+/// the word to translate. At of a field of this side alone is translated to the empty word, and the complements stay. It
+/// passes over the rows, and does not translate the word.
+///
+/// - `Unfit`: if and only if there is no such beginning: for other primitives, for a field of no row, and where the
+///   complements are not as many as the paired rows.
+/// - `NoMemory`: only if memory ran out.
+///
+/// The arguments stay as they are.
+pub fn rec_begin(
+    alloc: Global,
+    rows: &FormRows,
+    side: Side,
+    comps: &Comps,
+    prim: &Primitive,
+) -> Result<Begun, CarryFault>
+    ensures { MatchResult result
+        (λ b. begin_record (rows_tree rows.now) side (comps_tree comps.now) (primitive_tree prim.now) ≡ Some (begun_tree b))
+        (IsBeginFault (begin_record (rows_tree rows.now) side (comps_tree comps.now) (primitive_tree prim.now))) }
+{
+    let Primitive::At(field, word) = prim else {
+        return Err(CarryFault::Unfit);
+    };
+    if comps.len() != paired_rows(rows) {
+        return Err(CarryFault::Unfit);
+    }
+    let Some(found) = find_row(rows, side, field) else {
+        return Err(CarryFault::Unfit);
+    };
+    match found.row {
+        FormRow::Both(_, _, _) => Ok(Begun::Inner {
+            part: found.number as u64,
+            comp: comps.get(found.pairs).twin(alloc)?,
+            word: word.twin(alloc)?,
+        }),
+        FormRow::OnlyLeft(_, _) => Ok(Begun::Done(nothing(alloc, comps)?)),
+        FormRow::OnlyRight(_, _) => Ok(Begun::Done(nothing(alloc, comps)?)),
+    }
+}
+
+/// Finishes the translation of one primitive of a side through a record, from what the lens inside translated: the word
+/// at the far field of the row, and the new complement in its place.
+///
+/// `rec_begin` of the same arguments answered `Inner`, and `inner` is the translation that it asked for. Fails only if
+/// memory runs out; `inner` is then dropped. The other arguments stay as they are.
+pub fn rec_finish(
+    alloc: Global,
+    rows: &FormRows,
+    side: Side,
+    comps: &Comps,
+    prim: &Primitive,
+    inner: Carried,
+) -> Result<Carried, AllocError>
+    requires { IsInside (begin_record (rows_tree rows.now) side (comps_tree comps.now) (primitive_tree prim.now)) }
+    ensures { IfOk result (λ r. carried_tree r
+        ≡ finish_record (rows_tree rows.now) side (comps_tree comps.now) (primitive_tree prim.now) (carried_tree inner)) }
+{
+    let Primitive::At(field, _) = prim else {
+        unreachable!()
+    };
+    let Some(found) = find_row(rows, side, field) else {
+        unreachable!()
+    };
+    let FormRow::Both(left, right, _) = found.row else {
+        unreachable!()
+    };
+    let word = at_word(alloc, far(side, left, right), inner.word)?;
+    let mut comps = comps.twin(alloc)?;
+    comps.set(alloc, found.pairs, inner.comp)?;
+    Ok(Carried {
+        word,
+        comp: Comp::Rec(comps),
+    })
+}
+
+// The empty word, and the complements as they are.
+fn nothing(alloc: Global, comps: &Comps) -> Result<Carried, AllocError>
+    ensures { IfOk result (λ r. carried_tree r ≡ (no_primitives, rec_comp (comps_tree comps.now))) }
+{
+    Ok(Carried {
+        word: Word::from_vec(Vec::new(alloc)),
+        comp: Comp::Rec(comps.twin(alloc)?),
+    })
+}
+
+// The first row with this field on this side.
+#[tactic(auto, using(crate::proofs::RowSearch::row_rules))]
+fn find_row<'a>(rows: &'a FormRows, side: Side, field: &Name) -> Option<FoundRow<'a>>
+    ensures found { option_map row_seen result ≡ row_of (row_list (rows_tree rows.now)) side field.now }
+    ensures within { MatchOption result (Unit {0}) (λ r. r.pairs + pairs_of (row_tree r.row.now) ≤ paired_rows (rows_tree rows.now)) }
+{
+    let items = rows.as_slice();
+    let mut pairs = 0;
+    for number in 0..items.len() {
+        let row = &items[number];
+        if has_near(row, side, field) {
+            return Some(FoundRow { number, pairs, row });
+        }
+        pairs += pairs_of(row);
+    }
+    None
+}
+
+// How many paired rows there are.
+#[tactic(auto, using(crate::proofs::RowSearch::row_rules))]
+fn paired_rows(rows: &FormRows) -> usize
+    ensures { result ≡ paired_rows (rows_tree rows.now) }
+{
+    let mut count = 0;
+    for row in rows.as_slice() {
+        count += pairs_of(row);
+    }
+    count
+}
+
+// Whether the row has this field on this side.
+fn has_near(row: &FormRow, side: Side, field: &Name) -> bool
+    ensures { result ≡ has_near side field.now (row_tree row.now) }
+{
+    match (row, side) {
+        (FormRow::Both(left, _, _), Side::Left) => left.is_same(field),
+        (FormRow::Both(_, right, _), Side::Right) => right.is_same(field),
+        (FormRow::OnlyLeft(left, _), Side::Left) => left.is_same(field),
+        (FormRow::OnlyLeft(_, _), Side::Right) => false,
+        (FormRow::OnlyRight(_, _), Side::Left) => false,
+        (FormRow::OnlyRight(right, _), Side::Right) => right.is_same(field),
+    }
+}
+
+// 1 for a paired row, and 0 for another one.
+fn pairs_of(row: &FormRow) -> usize
+    ensures number { result ≡ pairs_of (row_tree row.now) }
+    ensures most { result ≤ 1 }
+{
+    match row {
+        FormRow::Both(_, _, _) => 1,
+        FormRow::OnlyLeft(_, _) => 0,
+        FormRow::OnlyRight(_, _) => 0,
+    }
+}
+
+// At of a field, or the empty word where there is nothing to do inside.
+#[tactic(auto, using(crate::proofs::EmittedWords::word_rules))]
+fn at_word(alloc: Global, field: &Name, word: Word) -> Result<Word, AllocError>
+    ensures { IfOk result (λ w. word_tree w ≡ at_word field.now (word_tree word)) }
+{
+    if word.len() == 0 {
+        return Ok(word);
+    }
+    let at = Primitive::At(field.twin(alloc)?, word);
+    Ok(Word::from_vec(vec![in alloc; at]?))
+}
+
+// The name of the other side.
+fn far<'a>(side: Side, left: &'a Name, right: &'a Name) -> &'a Name
+    ensures { result.now ≡ far side left.now right.now }
+{
+    match side {
+        Side::Left => right,
+        Side::Right => left,
+    }
+}

@@ -1,0 +1,149 @@
+//! Orders of lists, and what an order of the mixed list is in the list of each tag.
+
+ghost use Rattle.std.specs.Prelude.{◌≡◌, ◌≤◌, ◌&&◌, ◌++◌, ◌∷◌, if◌then◌else◌, IfOk, OnOk, IsTrue, true, [], length, map, nat_eq, slice_index};
+ghost use Rattle.hold_shapes.specs.Plans.{is_each_new};
+ghost use Rattle.hold_shapes.specs.declared.edit.ShapeEdit.TheVariants.{Reorder};
+ghost use Rattle.doc_values.specs.Types.{fields_tree};
+ghost use Rattle.edit_module.specs.Views.{word_tree};
+ghost use Rattle.lens_core.specs.Tags.{tag_count};
+ghost use Rattle.lens_core.specs.Emitted.{at_word};
+ghost use Rattle.lens_core.specs.Partition.{reorder_items, at_each_tag, reorder};
+ghost use Rattle.partition_lens.specs.Marks.{marks_of, ranks_in};
+ghost use Rattle.partition_lens.specs.Rows.{row_of};
+
+use crate::emit::{at_word, nothing, reorder_word};
+use crate::lookups;
+use crate::row::Row;
+use doc_values::Fields;
+use edit_module::Word;
+use hold_shapes::{Held, ListShape, Places, PlanFault, ShapeEdit};
+use std::alloc::{AllocError, Global};
+use tag_seq::TagSeq;
+use texts::{Name, Twin};
+
+/// Whether a reorder has each place of a list of this size once. The edit is the reorder.
+#[tactic(auto, using(crate::proofs::OrderTests::order_rules))]
+pub(crate) fn is_order(
+    alloc: Global,
+    size: u64,
+    edit: &ShapeEdit,
+    order: &Places,
+) -> Result<bool, AllocError>
+    requires { edit.now ≡ Reorder order.now }
+    ensures test { IfOk result (λ b. b ≡ (nat_eq (length order.now) size && is_each_new size [] order.now)) }
+    ensures each { IfOk result (λ b. IsTrue b → is_each_new size [] order.now ≡ true) }
+    ensures long { IfOk result (λ b. IsTrue b → length order.now ≡ size) }
+{
+    let list = ListShape { count: size };
+    match list.plan(alloc, edit) {
+        Ok(_) => Ok(true),
+        Err(PlanFault::Kind) => Ok(false),
+        Err(PlanFault::Place) => Ok(false),
+        Err(PlanFault::Range) => Ok(false),
+        Err(PlanFault::Present) => Ok(false),
+        Err(PlanFault::Length) => Ok(false),
+        Err(PlanFault::Deep) => Ok(false),
+        Err(PlanFault::NoMemory) => Err(AllocError),
+    }
+}
+
+/// The list of each tag takes the order in which its items come in the new list.
+#[tactic(auto, using(crate::proofs::MarkedRanks::each_marked))]
+pub(crate) fn reorder_items(
+    alloc: Global,
+    tags: &Fields,
+    seq: &TagSeq,
+    order: &[u64],
+) -> Result<Row, AllocError>
+    requires few { tag_count (fields_tree tags.now) ≤ 4096 }
+    requires each { is_each_new (length seq.now) [] order.now ≡ true }
+    ensures { IfOk result (λ r. row_of r ≡ reorder_items (fields_tree tags.now) seq.now order.now) }
+{
+    let marks = marks_of(alloc, seq, order)?;
+    let word = reorders(alloc, tags, &marks)?;
+    let next = reordered(alloc, seq, order)?;
+    Ok(Row { word, tags: next })
+}
+
+// The tags in the new order.
+#[tactic(auto, using(crate::proofs::OrderTests::below_rules))]
+fn reordered(alloc: Global, seq: &TagSeq, order: &[u64]) -> Result<TagSeq, AllocError>
+    requires { is_each_new (length seq.now) [] order.now ≡ true }
+    ensures { IfOk result (λ s. s ≡ map (slice_index seq.now) order.now) }
+{
+    let mut list = Vec::new(alloc);
+    for place in order {
+        list.push(lookups::tag_at(seq, *place))?;
+    }
+    TagSeq::from_list(alloc, &list)
+}
+
+// The tag of each item in the new order, with its rank in the old list.
+#[tactic(auto, using(crate::proofs::OrderTests::below_rules))]
+fn marks_of(alloc: Global, seq: &TagSeq, order: &[u64]) -> Result<Vec<(u32, u64)>, AllocError>
+    requires { is_each_new (length seq.now) [] order.now ≡ true }
+    ensures { IfOk result (λ v. v.items ≡ marks_of seq.now order.now) }
+{
+    let mut marks = Vec::new(alloc);
+    for place in order {
+        let tag = lookups::tag_at(seq, *place);
+        marks.push((tag, lookups::rank(seq, tag, *place)))?;
+    }
+    Ok(marks)
+}
+
+// The ranks that the marks have of one tag.
+#[tactic(auto, using(crate::proofs::MarkedRanks::rank_rules))]
+fn ranks_in(alloc: Global, tag: u32, marks: &[(u32, u64)]) -> Result<Vec<u64>, AllocError>
+    ensures { IfOk result (λ v. v.items ≡ ranks_in tag marks.now) }
+{
+    let mut ranks = Vec::new(alloc);
+    for mark in marks {
+        push_rank(&mut ranks, tag, *mark)?;
+    }
+    Ok(ranks)
+}
+
+// The rank of a mark comes behind the ranks, if the mark has the tag.
+fn push_rank(ranks: &mut Vec<u64>, tag: u32, mark: (u32, u64)) -> Result<(), AllocError>
+    ensures { OnOk result (ranks.new.items ≡ (if nat_eq mark.0 tag then ranks.old.items ++ mark.1 ∷ [] else ranks.old.items)) }
+{
+    if mark.0 != tag {
+        return Ok(());
+    }
+    ranks.push(mark.1)?;
+    Ok(())
+}
+
+// The reorder in the list of a tag.
+fn reorder_tag(
+    alloc: Global,
+    tag: u32,
+    marks: &[(u32, u64)],
+    name: &Name,
+) -> Result<Word, AllocError>
+    ensures { IfOk result (λ w. word_tree w ≡ at_word name.now (reorder (ranks_in tag marks.now))) }
+{
+    let ranks = ranks_in(alloc, tag, marks)?;
+    let word = reorder_word(alloc, ranks)?;
+    at_word(alloc, name.twin(alloc)?, word)
+}
+
+// A reorder in the list of each tag, in written order.
+#[tactic(auto, using(crate::proofs::EachTag::each_rules))]
+fn reorders(
+    alloc: Global,
+    tags: &Fields,
+    marks: &[(u32, u64)],
+) -> Result<Word, AllocError>
+    requires few { tag_count (fields_tree tags.now) ≤ 4096 }
+    ensures { IfOk result (λ w. word_tree w ≡ at_each_tag (fields_tree tags.now) 0 (λ t. reorder (ranks_in t marks.now))) }
+{
+    let fields = tags.as_slice();
+    let mut word = nothing(alloc);
+    for number in 0..fields.len() {
+        let part = reorder_tag(alloc, number as u32, marks, &fields[number].0)?;
+        word = word.joined(part)?;
+    }
+    Ok(word)
+}

@@ -1,0 +1,94 @@
+//! From the right: one primitive of the record of lists.
+
+ghost use Rattle.std.specs.Prelude.{◌≡◌, ◌≤◌, Some, option_map, MatchResult};
+ghost use Rattle.doc_values.specs.Types.{fields_tree};
+ghost use Rattle.edit_module.specs.Views.{word_tree, primitive_tree};
+ghost use Rattle.lens_core.specs.Emitted.{one_by_one};
+ghost use Rattle.lens_core.specs.Tags.{tag_count};
+ghost use Rattle.lens_core.specs.Partition.{part_right, part_occurrence};
+ghost use Rattle.lens_core.specs.Translation.{tagged, carried_tree, IsCarryFault};
+ghost use Rattle.partition_lens.specs.Rows.{row_of, IsRowFault};
+
+use crate::occurrences::occurrence_primitive;
+use crate::row::Row;
+use crate::tags::{name_of, number_of};
+use doc_values::Fields;
+use edit_module::Word;
+use edit_module::word::Primitive;
+use lens_core::{Carried, CarryFault};
+use std::alloc::Global;
+use tag_seq::TagSeq;
+use texts::Name;
+
+/// Translates one primitive of the record of lists, with the tags of the items of the mixed list.
+///
+/// There are at most 4,096 tags. The result is the word of the mixed list, and the tags after it as the complement.
+///
+/// - `Unfit`: if and only if the translation has no value. The primitive is not At of a tag, or a primitive of its word
+///   is not one of a list, or has a place that the list of the tag does not have, or a count or an order that is not one
+///   of that list.
+/// - `NoMemory`: only if memory ran out, or if the mixed list would have 2^64 items.
+///
+/// The arguments stay as they are. docs/MEANING.md has the rows.
+#[tactic(auto, using(crate::proofs::RowSteps::fault_carried))]
+pub fn part_right(
+    alloc: Global,
+    tags: &Fields,
+    seq: &TagSeq,
+    primitive: &Primitive,
+) -> Result<Carried, CarryFault>
+    requires { tag_count (fields_tree tags.now) ≤ 4096 }
+    ensures { MatchResult result
+        (λ r. option_map tagged (part_right (fields_tree tags.now) seq.now (primitive_tree primitive.now)) ≡ Some (carried_tree r))
+        (IsCarryFault (option_map tagged (part_right (fields_tree tags.now) seq.now (primitive_tree primitive.now)))) }
+{
+    match row_right(alloc, tags, seq, primitive) {
+        Ok(row) => Ok(row.into_carried()),
+        Err(fault) => Err(fault),
+    }
+}
+
+// The same as a row.
+fn row_right(
+    alloc: Global,
+    tags: &Fields,
+    seq: &TagSeq,
+    primitive: &Primitive,
+) -> Result<Row, CarryFault>
+    requires { tag_count (fields_tree tags.now) ≤ 4096 }
+    ensures { MatchResult result
+        (λ r. part_right (fields_tree tags.now) seq.now (primitive_tree primitive.now) ≡ Some (row_of r))
+        (IsRowFault (part_right (fields_tree tags.now) seq.now (primitive_tree primitive.now))) }
+{
+    let Primitive::At(name, word) = primitive else {
+        return Err(CarryFault::Unfit);
+    };
+    let Some(number) = number_of(tags, name) else {
+        return Err(CarryFault::Unfit);
+    };
+    let first = name_of(alloc, tags, 0)?;
+    on_list(alloc, &first, name, number, seq, word)
+}
+
+// A word of the list of a tag.
+#[tactic(auto, using(crate::proofs::RowSteps::step_rules))]
+fn on_list(
+    alloc: Global,
+    first: &Name,
+    name: &Name,
+    number: u32,
+    seq: &TagSeq,
+    word: &Word,
+) -> Result<Row, CarryFault>
+    ensures { MatchResult result
+        (λ r. one_by_one (part_occurrence first.now name.now number) seq.now (word_tree word.now) ≡ Some (row_of r))
+        (IsRowFault (one_by_one (part_occurrence first.now name.now number) seq.now (word_tree word.now))) }
+{
+    let mut row = Row::empty(alloc, seq)?;
+    let primitives = word.as_slice();
+    for primitive in primitives {
+        let next = occurrence_primitive(alloc, first, name, number, &row.tags, primitive)?;
+        row = row.followed_by(next)?;
+    }
+    Ok(row)
+}
