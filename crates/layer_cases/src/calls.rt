@@ -2,7 +2,7 @@
 //! returns what came.
 
 use crate::case::Case;
-use crate::{checks, documents, lenses, lines, programs, shapes, tokens, words};
+use crate::{checks, documents, lines, programs, shapes, tokens, words};
 use anyhow::{Result, bail};
 use serde_json::Value;
 use std::alloc::Global;
@@ -60,7 +60,7 @@ fn word_outcome(alloc: Global, call: &str, case: &Case<'_>) -> Result<Value> {
     }
 }
 
-// The same for calls on programs and lenses.
+// The same for calls on programs.
 fn program_outcome(alloc: Global, call: &str, case: &Case<'_>) -> Result<Value> {
     match call {
         "read_program" => programs::run_read_program(alloc, case),
@@ -71,9 +71,6 @@ fn program_outcome(alloc: Global, call: &str, case: &Case<'_>) -> Result<Value> 
         "is_name" => programs::run_is_name(case),
         "is_text" => programs::run_is_text(case),
         "check" => checks::run_check(alloc, case),
-        "carry" => lenses::run_carry(alloc, case),
-        "missing" => lenses::run_missing(alloc, case),
-        "is_built" => lenses::run_is_built(alloc, case),
         _ => bail!("no call {call}"),
     }
 }

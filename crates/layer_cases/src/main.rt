@@ -13,7 +13,6 @@ mod calls;
 mod case;
 mod checks;
 mod documents;
-mod lenses;
 mod lines;
 mod programs;
 mod shape_trees;

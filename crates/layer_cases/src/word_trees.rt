@@ -55,8 +55,8 @@ pub fn ok_word(alloc: Global, word: &Word) -> Result<Value> {
     ok(alloc, word_tree(alloc, word)?)
 }
 
-/// Returns the tree of a word. It is refused if the word has no tree.
-pub fn word_tree(alloc: Global, word: &Word) -> Result<Value> {
+// The tree of a word. It is refused if the word has no tree.
+fn word_tree(alloc: Global, word: &Word) -> Result<Value> {
     if !has_tree(word) {
         bail!("the word has no tree");
     }
