@@ -104,7 +104,7 @@ bytes_are m n h = (bytes_eq-Decides m n).0 h
 pub bytes_same : (m : List ℕ) → bytes_eq m m ≡ true
 bytes_same m = (bytes_eq-Decides m m).1 refl
 
--- names that differ, the partner_name way round
+-- names that differ, the other way round
 pub differs_back : (m n : List ℕ) → bytes_eq m n ≡ false → bytes_eq n m ≡ false
 differs_back m n e = go (bytes_eq n m) refl
   where
@@ -175,7 +175,7 @@ member_later : (s : Side) (p : List ℕ × List ℕ) (ps : List (List ℕ × Lis
 member_later Left p ps n h = rw h (or_true (bytes_eq n p.0))
 member_later Right p ps n h = rw h (or_true (bytes_eq n p.1))
 
--- every member of a side has a partner among those of the partner_name
+-- every member of a side has a partner among those of the other side
 has_partner : (s : Side) (ps : List (List ℕ × List ℕ)) (m : List ℕ) → has_name m (members_on s ps) ≡ true → HasPartner s ps m
 has_partner Left [] m h = cc
 has_partner Right [] m h = cc

@@ -9,15 +9,8 @@ use Rattle.doc_values.specs.Types.{TyTree}
 use Rattle.edit_module.specs.Words.{PrimitiveTree, WordTree, no_primitives, more_primitives, joined}
 use Rattle.edit_module.specs.declared.fault.Cause.{Cause}
 use Rattle.edit_module.specs.declared.fault.Cause.TheVariants.{Place}
-use Rattle.edit_module.specs.Action.{Why, act, act_primitive, later, after, inner, map_ok, if_present, act_at_place, put_result_at, put_at, doc_at}
-
-pub later_ok : (n : ℕ) (r : Result DocTree Why) (u : DocTree) → later n r ≡ Ok u → r ≡ Ok u
-later_ok n (Ok v) u e = e
-later_ok n (Err why) u e = cc
-
-pub after_ok : (r : Result DocTree Cause) (f : DocTree → Result DocTree Why) (u : DocTree) → after r f ≡ Ok u → (x : DocTree) × (r ≡ Ok x) × (f x ≡ Ok u)
-after_ok (Ok x) f u e = (x, refl, later_ok 1 (f x) u e)
-after_ok (Err c) f u e = cc
+use Rattle.edit_module.specs.Action.{Why, act, act_primitive, later, inner, map_ok, if_present, act_at_place, put_result_at, put_at, doc_at}
+pub use Rattle.edit_module.proofs.ActionKeepsTypes.{after_ok}
 
 -- acting one after another gives a value
 pub acts_joined : (t : TyTree) (u w : WordTree) (x y z : DocTree) → act t u x ≡ Ok y → act t w y ≡ Ok z → act t (joined u w) x ≡ Ok z

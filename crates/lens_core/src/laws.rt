@@ -9,7 +9,6 @@ ghost use Rattle.lens_forms.specs.Typing.{is_typed};
 ghost use Rattle.lens_core.specs.Laws.{Laws, StartsConsistent, ConsistentIsTyped, EditsCarry, EmptyStays, WordsCompose};
 
 /// The identity of a well-formed type keeps the laws.
-#[tactic(auto, using(crate::proofs::LawsOfLeaves::id_laws))]
 pub fn identity_laws()
     ensures { (t : TyTree) → IsTrue (is_well_formed t) → Laws (form_id t) }
 {}
@@ -27,7 +26,6 @@ pub fn disconnection_laws()
 {}
 
 /// A composition keeps the laws if its lenses do and their middle types are the same.
-#[tactic(auto, using(crate::proofs::LawsOfCompositions::then_laws))]
 pub fn composition_laws()
     ensures { (l k : FormTree) → Laws l → Laws k → right_type l ≡ left_type k → Laws (form_then l k) }
 {}

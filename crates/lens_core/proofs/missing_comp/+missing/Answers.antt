@@ -1,6 +1,7 @@
-use Rattle.std.proofs.Common.{ap, ◌∙◌, arith}
+use Rattle.std.proofs.Common.{◌≡◌, ap, subst, ◌∙◌, arith}
+use Rattle.std.specs.Prelude.{IfOk}
 use Rattle.lens_forms.specs.Forms.{row_tree}
-use Rattle.lens_core.specs.Complements.{missing_rows}
+use Rattle.lens_core.specs.Complements.{CompTrees, comps_tree, missing_rows}
 use Rattle.lens_forms.specs.Measures.{rows_parts}
 use Rattle.lens_core.proofs.MissingRows.{missing_done, paired_next, left_next, right_next, made_next, row_tree-both}
 use Rattle.lens_core.proofs.FormParts.{row_parts, row_smaller}
@@ -32,6 +33,7 @@ missing_rows-loop-row-preserved t c =
 
 pub missing_rows-returns : goal.missing_rows-returns
 missing_rows-returns t c =
-    c.from_vec.ensures
-    ∙ missing_done c.loop-row.items.items c.as_slice-row-items.result.now c.loop-row.row-index c.loop-row-test.false c.loop-row.invariant
-    ∙ ap missing_rows c.as_slice-row-items.ensures
+    let done =
+        missing_done c.loop-row.items.items c.as_slice-row-items.result.now c.loop-row.row-index c.loop-row-test.false c.loop-row.invariant
+        ∙ ap missing_rows c.as_slice-row-items.ensures in
+    subst (λ (cs : CompTrees). IfOk c.from_vec.result (λ d. comps_tree d ≡ cs)) done c.from_vec.ensures
