@@ -2,7 +2,10 @@
 use Rattle.std.proofs.Common.{◌≡◌, ℕ, Bool, true, false, List, map, Option, None, Some, option_map, Ok, refl, arith}
 use Rattle.std.specs.Prelude.{option_and_then, nat_eq, if◌then◌else◌}
 use Rattle.std.proofs.lemmas.Bool.Decides.{nat_tests}
+use Rattle.texts.specs.declared.side.Side.{Side}
 use Rattle.hold_shapes.specs.declared.shape.Shape.{Shape}
+use Rattle.hold_shapes.specs.declared.shape.ListShape.{ListShape}
+use Rattle.hold_shapes.specs.declared.shape.Shape.TheVariants.{List as ListOf, Keyed as KeyedOf, Tree as TreeOf}
 use Rattle.hold_shapes.specs.declared.edit.Place.{Place}
 use Rattle.hold_shapes.specs.declared.edit.ShapeEdit.{ShapeEdit}
 use Rattle.hold_shapes.specs.declared.origins.Origin.{Origin}
@@ -11,10 +14,11 @@ use Rattle.hold_shapes.specs.Shapes.{size_of, place_of}
 use Rattle.hold_shapes.specs.Plans.{plan}
 use Rattle.edit_module.specs.Words.{PrimitiveTree, set, add, splice, at, stay, switch, modify, shape, WordTree, no_primitives, more_primitives, word_length}
 use Rattle.edit_module.proofs.Words.{word_tree-out}
+use Rattle.lens_forms.specs.Forms.{FormTree, form_each, form_keyed, form_ordered}
 use Rattle.lens_core.specs.Beginnings.{Beginning, finished, inside, carried_on, IsInside}
-use Rattle.lens_core.specs.Complements.{CompTree, hold_comp, CompTrees, comps_of, comp_list, comp_count}
+use Rattle.lens_core.specs.Complements.{CompTree, hold_comp, CompTrees, comps_of, comp_list, comp_count, missing}
 use Rattle.lens_core.specs.Emitted.{one, mod_word, shape_word}
-use Rattle.lens_core.specs.Translation.{Translated, comp_at, put_comp, gathered_comps, translate_held, held_row}
+use Rattle.lens_core.specs.Translation.{Translated, comp_at, put_comp, gathered_comps, translate_held, held_row, translate_one, translate}
 use Rattle.container_lens.specs.HeldSteps.{begin_mod, begin_reshaped, begin_row, begin_held, HasBegun, finish_held}
 
 -- ---- the beginning, the lens inside, and the finish
@@ -58,7 +62,22 @@ held_round inner start s cs p =
     round_if (nat_eq (comp_count cs) (size_of s)) (carried_on (λ i c w. inner c w) (finish_held s cs p)) (held_row inner start s cs p) (begin_row start s cs p)
     (row_round inner start s cs p)
 
-pub ruleset round_rules = (held_round)
+pub each_round : (l : FormTree) (side : Side) (s : ListShape) (cs : CompTrees) (p : PrimitiveTree)
+    → translate_one (form_each l) side (hold_comp (ListOf s) cs) p
+    ≡ option_and_then (carried_on (λ i c w. translate l side c w) (finish_held (ListOf s) cs p)) (begin_held (missing l) (ListOf s) cs p)
+each_round l side s cs p = held_round (λ c w. translate l side c w) (missing l) (ListOf s) cs p
+
+pub keyed_round : (l : FormTree) (side : Side) (names : List (List ℕ)) (cs : CompTrees) (p : PrimitiveTree)
+    → translate_one (form_keyed l) side (hold_comp (KeyedOf names) cs) p
+    ≡ option_and_then (carried_on (λ i c w. translate l side c w) (finish_held (KeyedOf names) cs p)) (begin_held (missing l) (KeyedOf names) cs p)
+keyed_round l side names cs p = held_round (λ c w. translate l side c w) (missing l) (KeyedOf names) cs p
+
+pub ordered_round : (l : FormTree) (side : Side) (depths : List ℕ) (cs : CompTrees) (p : PrimitiveTree)
+    → translate_one (form_ordered l) side (hold_comp (TreeOf depths) cs) p
+    ≡ option_and_then (carried_on (λ i c w. translate l side c w) (finish_held (TreeOf depths) cs p)) (begin_held (missing l) (TreeOf depths) cs p)
+ordered_round l side depths cs p = held_round (λ c w. translate l side c w) (missing l) (TreeOf depths) cs p
+
+pub ruleset round_rules = (each_round, keyed_round, ordered_round)
 
 -- ---- what a beginning at a place says
 

@@ -18,13 +18,13 @@ use Rattle.doc_values.specs.Documents.{DocTree, unit, hold, DocTrees, no_docs, m
 use Rattle.doc_values.specs.Types.{TyTree, ty_list, ty_keyed, ty_ordered, is_well_formed}
 use Rattle.doc_values.specs.Typing.{has, is_list_of, is_keyed_of, is_tree_of}
 use Rattle.doc_values.specs.Initial.{initial}
-use Rattle.edit_module.specs.Words.{PrimitiveTree, at, modify, shape, WordTree, no_primitives, more_primitives}
+use Rattle.edit_module.specs.Words.{PrimitiveTree, modify, shape, WordTree, no_primitives, more_primitives}
 use Rattle.edit_module.specs.Action.{Why, act, act_primitive, act_at_place, map_ok, put_result_at, put_at, doc_at, if_present, gathered, reshaped, inner}
 use Rattle.edit_module.specs.Containers.{IsHeld}
 use Rattle.lens_forms.specs.Forms.{FormTree, form_each, form_keyed, form_ordered}
 use Rattle.texts.specs.Sides.{other}
 use Rattle.lens_core.specs.Sides.{type_on}
-use Rattle.lens_core.specs.Emitted.{one, mod_word, shape_word, one_by_one}
+use Rattle.lens_core.specs.Emitted.{mod_word, shape_word, one_by_one}
 use Rattle.lens_core.specs.Complements.{CompTree, nil, hold_comp, CompTrees, comps_of, comp_list, comp_count, Fits, AllFit, missing}
 use Rattle.lens_core.specs.Consistency.{IsConsistent, AreTyped, AtEachPlace, AreHeld}
 use Rattle.lens_core.specs.Translation.{translate_one, translate, held_row, comp_at, put_comp}

@@ -1,10 +1,9 @@
 -- Every run from a triple that is in step goes on to its end, and all its triples are in step.
-use Rattle.std.proofs.Common.{◌≡◌, List, [], ◌∷◌, Option, Some, Result, Ok, Err, map, refl, subst}
-use Rattle.std.specs.List.{All, AllByRecursion}
+use Rattle.std.proofs.Common.{◌≡◌, List, [], ◌∷◌, Option, Some, Result, Ok, Err, map, refl}
+use Rattle.std.specs.List.{AllByRecursion}
 use Rattle.std.proofs.lemmas.List.Elements.{All-from_recursion}
 use Rattle.texts.specs.declared.side.Side.{Side}
 use Rattle.texts.specs.declared.side.Side.TheVariants.{Left, Right}
-use Rattle.texts.specs.Sides.{other}
 use Rattle.doc_values.specs.Documents.{DocTree}
 use Rattle.doc_values.specs.Types.{TyTree}
 use Rattle.edit_module.specs.Words.{WordTree}
@@ -13,15 +12,15 @@ use Rattle.lens_core.specs.Complements.{CompTree}
 use Rattle.lens_core.specs.Sides.{near}
 use Rattle.lens_core.specs.Translation.{Translated}
 use Rattle.lens_core.specs.Laws.{WordsCarry}
-use Rattle.edit_session.specs.Step.{TripleTree, IsInStep, Stepped, document_on, triple_from, after_action, step}
-use Rattle.edit_session.specs.Run.{Item, AnswerTree, answered, take_item, run, triples, RunsStayInStep}
+use Rattle.edit_session.specs.Step.{TripleTree, IsInStep, Stepped, document_on, triple_from, after_action}
+use Rattle.edit_session.specs.Run.{Item, AnswerTree, answered, take_item, run, RunsStayInStep}
 use Rattle.edit_session.proofs.StepsCarry.{carries, from_seen}
 
 module _ (F : Type 0) (holds : DocTree → CompTree → DocTree → Type 0) (left right : TyTree) (carried : Side → CompTree → WordTree → Option Translated)
     (from_left : WordsCarry holds left right Left (carried Left)) (from_right : WordsCarry holds right left Right (carried Right)) where
   -- an answer to an edit, with a triple that is in step
-  IsAnswered : TripleTree → Side → Option Stepped → Type 0
-  IsAnswered t side o = (s : Stepped) × (o ≡ Some s) × IsInStep holds (answered {F} t side s).0
+  abbrev IsAnswered : TripleTree → Side → Option Stepped → Type 0
+  IsAnswered t side o = (s : Stepped) × (o ≡ Some s) × IsInStep holds (answered {F = F} t side s).0
 
   action_steps : (side : Side) (t : TripleTree) (w : WordTree) → IsInStep holds t → (r : Result DocTree Why)
       → act (near side left right) w (document_on side t) ≡ r → IsAnswered t side (after_action left right carried t side w r)

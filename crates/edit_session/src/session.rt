@@ -30,6 +30,7 @@ use texts::Side;
 pub struct Session<L: EditLens> {
     lens: L,
     triple: Triple,
+    alloc: Global,
 }
 
 impl<L: EditLens> Model for Session<L> {
@@ -51,7 +52,7 @@ impl<L: EditLens> Model for Session<L> {
 impl<L: EditLens> Session<L> {
     /// A session with the initial documents of the lens's two types, and its missing complement.
     ///
-    /// It fails only if memory runs out. The lens is then dropped.
+    /// The session keeps the allocator for its steps. It fails only if memory runs out. The lens is then dropped.
     pub fn start(alloc: Global, lens: L) -> Result<Session<L>, AllocError>
     where
         L: Drop,
@@ -60,11 +61,17 @@ impl<L: EditLens> Session<L> {
         ensures consistent { IfOk result (λ s. IsInStep (L.holds s.lens) (triple_tree s.triple)) }
     {
         let triple = first_triple(alloc, &lens)?;
-        Ok(Session { lens, triple })
+        Ok(Session {
+            lens,
+            triple,
+            alloc,
+        })
     }
 
-    /// A session with these documents and this complement, which the lens relates to each other. It does not allocate.
-    pub fn resume(lens: L, left: Doc, comp: Comp, right: Doc) -> Session<L>
+    /// A session with these documents and this complement, which the lens relates to each other.
+    ///
+    /// It does not allocate. The session keeps the allocator for its steps.
+    pub fn resume(alloc: Global, lens: L, left: Doc, comp: Comp, right: Doc) -> Session<L>
         requires consistent { L.holds lens (doc_tree left) (comp_tree comp) (doc_tree right) }
         ensures lens { result.lens ≡ lens }
         ensures left { result.triple.left ≡ left }
@@ -72,7 +79,11 @@ impl<L: EditLens> Session<L> {
         ensures right { result.triple.right ≡ right }
     {
         let triple = Triple { left, comp, right };
-        Session { lens, triple }
+        Session {
+            lens,
+            triple,
+            alloc,
+        }
     }
 
     /// Applies the entry's word to the document of its side, and carries it to the other one. Returns the carried word.
@@ -86,10 +97,10 @@ impl<L: EditLens> Session<L> {
     ///
     /// After an error the session is as it was. A word that applies to the document of its side is always carried, and
     /// the carried word applies to the other document.
-    pub fn step(&mut self, alloc: Global, entry: &Entry) -> Result<Word, StepFault>
+    pub fn step(&mut self, entry: &Entry) -> Result<Word, StepFault>
         ensures steps { MatchResult result
             (λ word. step (L.left_type self.old.lens) (L.right_type self.old.lens) (L.carried self.old.lens) (triple_tree self.old.triple) (entry_tree entry.now)
-                ≡ Some (Ok (triple_tree self.new.triple, word_tree word)))
+            ≡ Some (Ok (triple_tree self.new.triple, word_tree word)))
             (IsStepFault (step (L.left_type self.old.lens) (L.right_type self.old.lens) (L.carried self.old.lens) (triple_tree self.old.triple) (entry_tree entry.now))) }
         ensures applies { IfErr result (λ fault. (x : DocTree)
             → act (near entry.now.side (L.left_type self.old.lens) (L.right_type self.old.lens)) (word_tree entry.now.word) (document_on entry.now.side (triple_tree self.old.triple)) ≡ Ok x
@@ -98,7 +109,7 @@ impl<L: EditLens> Session<L> {
         ensures lens { self.new.lens ≡ self.old.lens }
         ensures unchanged { OnErr result (self.new ≡ self.old) }
     {
-        let (triple, word) = next(alloc, &self.lens, &self.triple, entry)?;
+        let (triple, word) = next(self.alloc, &self.lens, &self.triple, entry)?;
         self.triple = triple;
         Ok(word)
     }
@@ -179,7 +190,7 @@ fn next<L: EditLens>(
     requires consistent { IsInStep (L.holds lens.now) (triple_tree triple.now) }
     ensures steps { MatchResult result
         (λ r. step (L.left_type lens.now) (L.right_type lens.now) (L.carried lens.now) (triple_tree triple.now) (entry_tree entry.now)
-            ≡ Some (Ok (triple_tree r.0, word_tree r.1)))
+        ≡ Some (Ok (triple_tree r.0, word_tree r.1)))
         (IsStepFault (step (L.left_type lens.now) (L.right_type lens.now) (L.carried lens.now) (triple_tree triple.now) (entry_tree entry.now))) }
     ensures consistent { IfOk result (λ r. IsInStep (L.holds lens.now) (triple_tree r.0)) }
 {

@@ -1,5 +1,5 @@
 -- The translation of alternatives is their beginning, the translation of the lens inside, and their finish.
-use Rattle.std.proofs.Common.{◌≡◌, ℕ, zero, suc, ◌+◌, Bool, true, false, List, Option, None, Some, option_map, refl, ap, sym, ◌∙◌, subst, add-one}
+use Rattle.std.proofs.Common.{◌≡◌, ℕ, Bool, true, false, List, Option, None, Some, option_map, refl, ap, sym, ◌∙◌, subst, add-one}
 use Rattle.std.specs.Prelude.{option_and_then, bytes_eq, cond, ◌||◌}
 use Rattle.texts.specs.declared.side.Side.{Side}
 use Rattle.texts.specs.declared.side.Side.TheVariants.{Left, Right}
@@ -12,10 +12,10 @@ use Rattle.lens_core.specs.Sides.{near, far}
 use Rattle.lens_core.specs.Complements.{CompTree, alt_comp, missing}
 use Rattle.lens_core.specs.Translation.{Translated, translate_one, translate, translate_stay, translate_switch, far_tag, in_arm, to_arm}
 use Rattle.lens_core.proofs.LawsOfLeaves.{bytes_are, differs_back}
-use Rattle.lens_branch.specs.Beginnings.{Beginning, inside, carried_on}
+use Rattle.lens_core.specs.Beginnings.{Beginning, inside, carried_on}
 use Rattle.lens_branch.specs.AlternativeSteps.{ArmAt, next_arm, near_tag, far_tag_of, arm_of, if_near, current_arm, begin_here, begin_anew, begin_alternatives, finish_stay, finish_switch, finish_alternatives, arm_lens, arm_translation}
-use Rattle.lens_branch.proofs.NameTests.{not_that, or_later, same_first}
-use Rattle.lens_branch.proofs.Arms.{arm_names, head_apart, tail_apart, arm_name}
+use Rattle.lens_core.proofs.NameTests.{not_that, or_later}
+use Rattle.lens_branch.proofs.Arms.{arm_names, head_apart, tail_apart, arm_name, same_first}
 
 -- ---- what the arms translate
 
@@ -45,9 +45,11 @@ stay_found side t c m u (more_arms a b l arms) = go (bytes_eq a t) (stay_found s
   where
     first : ArmAt
     first = record { number = 0; left_tag = a; right_tag = b; lens = l }
+
     here : (q : Bool) → cond q (option_map (in_arm a (far side a b)) (translate l side c u)) None ≡ option_and_then (stay_in side c u) (cond q (Some first) None)
     here true = refl
     here false = refl
+
     go : (q : Bool) → translate_stay arms side t c m u ≡ option_and_then (stay_in side c u) (current_arm arms side t m)
         → cond q (cond (bytes_eq (near side a b) m) (option_map (in_arm a (far side a b)) (translate l side c u)) None) (translate_stay arms side t c m u)
         ≡ option_and_then (stay_in side c u) (option_and_then (if_near side m) (cond q (Some first) (option_map next_arm (arm_of arms Left t))))
@@ -60,9 +62,11 @@ far_found side t m (more_arms a b l arms) = go (bytes_eq a t) (far_found side t 
   where
     first : ArmAt
     first = record { number = 0; left_tag = a; right_tag = b; lens = l }
+
     here : (q : Bool) → cond q (Some (far side a b)) None ≡ option_and_then (some_far side) (cond q (Some first) None)
     here true = refl
     here false = refl
+
     go : (q : Bool) → far_tag arms side t m ≡ option_and_then (some_far side) (current_arm arms side t m)
         → cond q (cond (bytes_eq (near side a b) m) (Some (far side a b)) None) (far_tag arms side t m)
         ≡ option_and_then (some_far side) (option_and_then (if_near side m) (cond q (Some first) (option_map next_arm (arm_of arms Left t))))
@@ -81,6 +85,7 @@ switch_found side from n u (more_arms a b l arms) = go (bytes_eq (near side a b)
   where
     first : ArmAt
     first = record { number = 0; left_tag = a; right_tag = b; lens = l }
+
     go : (q : Bool) → translate_switch arms side from n u ≡ option_and_then (switch_in side from u) (arm_of arms side n)
         → cond q (option_map (to_arm from a (far side a b)) (translate l side (missing l) u)) (translate_switch arms side from n u)
         ≡ option_and_then (switch_in side from u) (cond q (Some first) (option_map next_arm (arm_of arms side n)))
@@ -95,6 +100,7 @@ lens_found (more_arms a b l arms) side n q e = go (bytes_eq (near side a b) n) (
   where
     first : ArmAt
     first = record { number = 0; left_tag = a; right_tag = b; lens = l }
+
     go : (k : Bool) (o : Option ArmAt) → cond k (Some first) (option_map next_arm o) ≡ Some q
         → ((p : ArmAt) → o ≡ Some p → arm_lens arms p.number ≡ Some p.lens) → arm_lens (more_arms a b l arms) q.number ≡ Some q.lens
     go true o h again =
@@ -125,6 +131,7 @@ among_found (more_arms a b l arms) side m q e = arm_name side a b l arms m ∙ g
   where
     first : ArmAt
     first = record { number = 0; left_tag = a; right_tag = b; lens = l }
+
     go : (k : Bool) → bytes_eq (near side a b) m ≡ k → (o : Option ArmAt) → cond k (Some first) (option_map next_arm o) ≡ Some q
         → ((p : ArmAt) → o ≡ Some p → has_name m (arm_names side arms) ≡ true) → (bytes_eq m (near side a b) || has_name m (arm_names side arms)) ≡ true
     go true f o h again = same_first m (near side a b) (has_name m (arm_names side arms)) (sym (bytes_are (near side a b) m f))
@@ -146,18 +153,54 @@ current_found (more_arms a b l arms) side t m q apart e =
   where
     first : ArmAt
     first = record { number = 0; left_tag = a; right_tag = b; lens = l }
+
     here : (k : Bool) → bytes_eq (near side a b) m ≡ k → cond k (Some first) None ≡ Some q → cond k (Some first) (option_map next_arm (arm_of arms side m)) ≡ Some q
     here true f h = h
     here false f h = cc
+
     later : (p : ArmAt) (k : Bool) → bytes_eq (near_tag side p) m ≡ k → cond k (Some (next_arm p)) None ≡ Some q
         → (cond k (Some p) None ≡ Some p → arm_of arms side m ≡ Some p) → arm_of (more_arms a b l arms) side m ≡ Some q
     later p true f h again = found_behind a b l arms side m p apart (again refl) ∙ h
     later p false f h again = cc
+
     go : (k : Bool) (o : Option ArmAt) → option_and_then (if_near side m) (cond k (Some first) (option_map next_arm o)) ≡ Some q
         → ((p : ArmAt) → option_and_then (if_near side m) o ≡ Some p → arm_of arms side m ≡ Some p) → arm_of (more_arms a b l arms) side m ≡ Some q
     go true o h again = here (bytes_eq (near side a b) m) refl h
     go false None h again = cc
     go false (Some p) h again = later p (bytes_eq (near_tag side p) m) refl h (again p)
+
+-- ---- where a lens inside is needed, its arm is there
+
+begun_here : (arms : ArmTrees) (side : Side) (t m : List ℕ) (d : CompTree) (u : WordTree) (i : ℕ) (c : CompTree) (w : WordTree) (o : Option ArmAt) → current_arm arms side t m ≡ o
+    → option_map (begin_here d u) o ≡ Some (inside i c w) → (l : FormTree) × (arm_lens arms i ≡ Some l)
+begun_here arms side t m d u i c w None found e = cc
+begun_here arms side t m d u i c w (Some q) found e =
+    let there = near_kept side m (arm_of arms Left t) q found in
+    let same : q.number ≡ i = cc in
+    (q.lens, subst (λ z. arm_lens arms z ≡ Some q.lens) same (lens_found arms Left t q there.0))
+
+begun_anew : (arms : ArmTrees) (side : Side) (n : List ℕ) (u : WordTree) (i : ℕ) (c : CompTree) (w : WordTree) (o : Option ArmAt) → arm_of arms side n ≡ o
+    → option_map (begin_anew u) o ≡ Some (inside i c w) → (l : FormTree) × (arm_lens arms i ≡ Some l)
+begun_anew arms side n u i c w None found e = cc
+begun_anew arms side n u i c w (Some q) found e =
+    let same : q.number ≡ i = cc in
+    (q.lens, subst (λ z. arm_lens arms z ≡ Some q.lens) same (lens_found arms side n q found))
+
+begun_switched : (o : Option ArmAt) (x : Option Beginning) (b : Beginning) → option_and_then (λ _. x) o ≡ Some b → x ≡ Some b
+begun_switched None x b e = cc
+begun_switched (Some q) x b e = e
+
+pub alternatives_begin_in_arm : (arms : ArmTrees) (side : Side) (t : List ℕ) (d : CompTree) (p : PrimitiveTree) (i : ℕ) (c : CompTree) (w : WordTree)
+    → begin_alternatives arms side t d p ≡ Some (inside i c w) → (l : FormTree) × (arm_lens arms i ≡ Some l)
+alternatives_begin_in_arm arms side t d (stay m u) i c w e = begun_here arms side t m d u i c w (current_arm arms side t m) refl e
+alternatives_begin_in_arm arms side t d (switch m n u) i c w e =
+    begun_anew arms side n u i c w (arm_of arms side n) refl (begun_switched (current_arm arms side t m) (option_map (begin_anew u) (arm_of arms side n)) (inside i c w) e)
+alternatives_begin_in_arm arms side t d (set_to a) i c w e = cc
+alternatives_begin_in_arm arms side t d (add n) i c w e = cc
+alternatives_begin_in_arm arms side t d (splice j k s) i c w e = cc
+alternatives_begin_in_arm arms side t d (at f u) i c w e = cc
+alternatives_begin_in_arm arms side t d (modify q u) i c w e = cc
+alternatives_begin_in_arm arms side t d (shape a) i c w e = cc
 
 -- ---- the finish
 

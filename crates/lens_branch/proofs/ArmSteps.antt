@@ -22,21 +22,21 @@ use Rattle.lens_core.proofs.LawsOfWords.{edits_carry}
 use Rattle.lens_core.proofs.Results.{some_same}
 use Rattle.lens_core.proofs.LawsOfLeaves.{bytes_are, bytes_same, differs_back}
 use Rattle.lens_branch.specs.Branches.{ArmLaws}
-use Rattle.lens_branch.proofs.NameTests.{not_that, or_later}
+use Rattle.lens_core.proofs.NameTests.{not_that, or_later}
 use Rattle.lens_branch.proofs.Triples.{starts_on}
 use Rattle.lens_branch.proofs.Arms.{AreApart, ArmIs, arm_names, far_arm_name, far_head_apart, far_tag_type, far_tail_apart, first_type, head_apart, later_type, left_among, near_among, same_first, tag_type, tags_on, tail_apart}
 
 -- ---- a stay in an arm
 
-record StayStep (s : Side) (arms : ArmTrees) (i : List ℕ) (v' : DocTree) (t : List ℕ) (c : CompTree) (j : List ℕ) (w : DocTree) (u : WordTree) : Type 0 where
-  word : WordTree
-  comp : CompTree
-  document : DocTree
-  ty : TyTree
-  carried : translate_stay arms s t c i u ≡ Some (stay_word j word, alt_comp t comp)
-  typed : lookup_type (tags_on (other s) arms) j ≡ Some ty
-  acts : act ty word w ≡ Ok document
-  related : ArmIs s arms i v' t comp j document
+pub record StayStep (s : Side) (arms : ArmTrees) (i : List ℕ) (v' : DocTree) (t : List ℕ) (c : CompTree) (j : List ℕ) (w : DocTree) (u : WordTree) : Type 0 where
+  pub word : WordTree
+  pub comp : CompTree
+  pub document : DocTree
+  pub ty : TyTree
+  pub carried : translate_stay arms s t c i u ≡ Some (stay_word j word, alt_comp t comp)
+  pub typed : lookup_type (tags_on (other s) arms) j ≡ Some ty
+  pub acts : act ty word w ≡ Ok document
+  pub related : ArmIs s arms i v' t comp j document
 
 stay_translates : (s : Side) (a b : List ℕ) (l : FormTree) (arms : ArmTrees) (c : CompTree) (u w : WordTree) (d : CompTree) → translate l s c u ≡ Some (w, d)
     → translate_stay (more_arms a b l arms) s a c (near s a b) u ≡ Some (stay_word (far s a b) w, alt_comp a d)
@@ -46,7 +46,10 @@ stay_here : (s : Side) (a b : List ℕ) (l : FormTree) (arms : ArmTrees) (v : Do
     → StayStep s (more_arms a b l arms) (near s a b) v' a c (far s a b) w u
 stay_here s a b l arms v c w u v' laws k e =
     let q = edits_carry l laws s u v c w v' k e in record {
-      word = q.word; comp = q.comp; document = q.document; ty = type_on (other s) l;
+      word = q.word;
+      comp = q.comp;
+      document = q.document;
+      ty = type_on (other s) l;
       carried = stay_translates s a b l arms c u q.word q.comp q.carried;
       typed = far_tag_type s a b l arms (far s a b) ∙ first_type (far s a b) (type_on (other s) l) (lookup_type (tags_on (other s) arms) (far s a b));
       acts = q.acts;
@@ -71,7 +74,10 @@ stay_step s (more_arms a b l arms) i v t c j w u ty v' laws apart far_apart left
     let here : lookup_type (tags_on s arms) i ≡ Some ty = subst (λ q. cond q (Some (type_on s l)) (lookup_type (tags_on s arms) i) ≡ Some ty) (differs_back i (near s a b) off) later in
     let q = stay_step s arms i v t c j w u ty v' laws.1 (tail_apart s a b l arms apart) (far_tail_apart s a b l arms far_apart) (tail_apart Left a b l arms lefts) h here e in
     let far_off = not_that j (far s a b) (arm_names (other s) arms) (far_head_apart s a b l arms far_apart) (far_among s arms i v t c j w h) in record {
-      word = q.word; comp = q.comp; document = q.document; ty = q.ty;
+      word = q.word;
+      comp = q.comp;
+      document = q.document;
+      ty = q.ty;
       carried = past_arm s a b l arms t c i u (differs_back t a off_left) ∙ q.carried;
       typed = far_tag_type s a b l arms j ∙ later_type (far s a b) j (type_on (other s) l) (lookup_type (tags_on (other s) arms) j) q.ty (differs_back j (far s a b) far_off) q.typed;
       acts = q.acts;
@@ -82,6 +88,7 @@ stay_step s (more_arms a b l arms) i v t c j w u ty v' laws apart far_apart left
     far_among s no_arms i v t c j w h = absurd h
     far_among s (more_arms a b l arms) i v t c j w (inl h) = far_arm_name s a b l arms j ∙ same_first j (far s a b) (has_name j (arm_names (other s) arms)) h.2
     far_among s (more_arms a b l arms) i v t c j w (inr h) = far_arm_name s a b l arms j ∙ or_later (bytes_eq j (far s a b)) (has_name j (arm_names (other s) arms)) (far_among s arms i v t c j w h)
+
     past_arm : (s : Side) (a b : List ℕ) (l : FormTree) (arms : ArmTrees) (t : List ℕ) (c : CompTree) (i : List ℕ) (u : WordTree) → bytes_eq a t ≡ false → translate_stay (more_arms a b l arms) s t c i u ≡ translate_stay arms s t c i u
     past_arm s a b l arms t c i u e = rw e refl
 
@@ -101,18 +108,18 @@ far_tag_is s (more_arms a b l arms) i v t c j w lefts (inr h) =
 
 -- ---- a switch to an arm
 
-record SwitchStep (s : Side) (arms : ArmTrees) (from i : List ℕ) (u : WordTree) (v' : DocTree) : Type 0 where
-  word : WordTree
-  tag : List ℕ
-  comp : CompTree
-  to : List ℕ
-  document : DocTree
-  ty : TyTree
-  carried : translate_switch arms s from i u ≡ Some (switch_word from to word, alt_comp tag comp)
-  among : has_name to (arm_names (other s) arms) ≡ true
-  typed : lookup_type (tags_on (other s) arms) to ≡ Some ty
-  acts : act ty word (initial ty) ≡ Ok document
-  related : ArmIs s arms i v' tag comp to document
+pub record SwitchStep (s : Side) (arms : ArmTrees) (from i : List ℕ) (u : WordTree) (v' : DocTree) : Type 0 where
+  pub word : WordTree
+  pub tag : List ℕ
+  pub comp : CompTree
+  pub to : List ℕ
+  pub document : DocTree
+  pub ty : TyTree
+  pub carried : translate_switch arms s from i u ≡ Some (switch_word from to word, alt_comp tag comp)
+  pub among : has_name to (arm_names (other s) arms) ≡ true
+  pub typed : lookup_type (tags_on (other s) arms) to ≡ Some ty
+  pub acts : act ty word (initial ty) ≡ Ok document
+  pub related : ArmIs s arms i v' tag comp to document
 
 switch_translates : (s : Side) (a b : List ℕ) (l : FormTree) (arms : ArmTrees) (from : List ℕ) (u w : WordTree) (d : CompTree) → translate l s (missing l) u ≡ Some (w, d)
     → translate_switch (more_arms a b l arms) s from (near s a b) u ≡ Some (switch_word from (far s a b) w, alt_comp a d)
@@ -122,7 +129,12 @@ switch_here : (s : Side) (a b : List ℕ) (l : FormTree) (arms : ArmTrees) (from
     → SwitchStep s (more_arms a b l arms) from (near s a b) u v'
 switch_here s a b l arms from u v' laws e =
     let q = edits_carry l laws s u (initial (type_on s l)) (missing l) (initial (type_on (other s) l)) v' (starts_on l laws s) e in record {
-      word = q.word; tag = a; comp = q.comp; to = far s a b; document = q.document; ty = type_on (other s) l;
+      word = q.word;
+      tag = a;
+      comp = q.comp;
+      to = far s a b;
+      document = q.document;
+      ty = type_on (other s) l;
       carried = switch_translates s a b l arms from u q.word q.comp q.carried;
       among = far_arm_name s a b l arms (far s a b) ∙ same_first (far s a b) (far s a b) (has_name (far s a b) (arm_names (other s) arms)) refl;
       typed = far_tag_type s a b l arms (far s a b) ∙ first_type (far s a b) (type_on (other s) l) (lookup_type (tags_on (other s) arms) (far s a b));
@@ -139,6 +151,7 @@ switch_step s (more_arms a b l arms) from i u ty v' laws far_apart typed e =
   where
     past_arm : bytes_eq (near s a b) i ≡ false → translate_switch (more_arms a b l arms) s from i u ≡ translate_switch arms s from i u
     past_arm f = rw f refl
+
     go : (q : Bool) → bytes_eq (near s a b) i ≡ q → cond q (Some (type_on s l)) (lookup_type (tags_on s arms) i) ≡ Some ty → (lookup_type (tags_on s arms) i ≡ Some ty → SwitchStep s arms from i u v')
         → SwitchStep s (more_arms a b l arms) from i u v'
     go true f k again =
@@ -148,7 +161,12 @@ switch_step s (more_arms a b l arms) from i u ty v' laws far_apart typed e =
     go false f k again =
         let q = again k in
         let far_off = not_that q.to (far s a b) (arm_names (other s) arms) (far_head_apart s a b l arms far_apart) q.among in record {
-          word = q.word; tag = q.tag; comp = q.comp; to = q.to; document = q.document; ty = q.ty;
+          word = q.word;
+          tag = q.tag;
+          comp = q.comp;
+          to = q.to;
+          document = q.document;
+          ty = q.ty;
           carried = past_arm f ∙ q.carried;
           among = far_arm_name s a b l arms q.to ∙ or_later (bytes_eq q.to (far s a b)) (has_name q.to (arm_names (other s) arms)) q.among;
           typed = far_tag_type s a b l arms q.to ∙ later_type (far s a b) q.to (type_on (other s) l) (lookup_type (tags_on (other s) arms) q.to) q.ty (differs_back q.to (far s a b) far_off) q.typed;

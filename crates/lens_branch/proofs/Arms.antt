@@ -16,8 +16,8 @@ use Rattle.lens_core.specs.Complements.{CompTree, FitsArm}
 use Rattle.lens_core.specs.Consistency.{IsInArm}
 use Rattle.lens_core.specs.Laws.{IsRelated}
 use Rattle.lens_core.proofs.LawsOfLeaves.{bytes_same}
-use Rattle.lens_branch.proofs.NameTests.{not_false, or_later}
-use Rattle.lens_branch.proofs.RecordFields.{lookup_type-more}
+use Rattle.lens_core.proofs.NameTests.{not_false, or_later}
+use Rattle.lens_core.proofs.RecordFields.{lookup_type-more}
 use Rattle.lens_branch.proofs.Triples.{fits_of}
 
 -- ---- the arms, seen from a side
@@ -76,7 +76,7 @@ pub far_tail_apart : (s : Side) (a b : List ℕ) (l : FormTree) (arms : ArmTrees
 far_tail_apart Left a b l arms h = tail_apart Right a b l arms h
 far_tail_apart Right a b l arms h = tail_apart Left a b l arms h
 
-arm_name : (s : Side) (a b : List ℕ) (l : FormTree) (arms : ArmTrees) (n : List ℕ) → has_name n (arm_names s (more_arms a b l arms)) ≡ (bytes_eq n (near s a b) || has_name n (arm_names s arms))
+pub arm_name : (s : Side) (a b : List ℕ) (l : FormTree) (arms : ArmTrees) (n : List ℕ) → has_name n (arm_names s (more_arms a b l arms)) ≡ (bytes_eq n (near s a b) || has_name n (arm_names s arms))
 arm_name Left a b l arms n = refl
 arm_name Right a b l arms n = refl
 

@@ -18,7 +18,7 @@ use Rattle.lens_forms.specs.Forms.{form_alt, ArmTrees, no_arms, more_arms, left_
 use Rattle.lens_core.specs.Sides.{near, type_on}
 use Rattle.lens_core.specs.Emitted.{stay_word, switch_word}
 use Rattle.lens_core.specs.Complements.{CompTree, alt_comp, missing}
-use Rattle.lens_core.specs.Consistency.{IsConsistent, content, AreAlternatives, IsInArm}
+use Rattle.lens_core.specs.Consistency.{IsConsistent, AreAlternatives, IsInArm}
 use Rattle.lens_core.specs.Translation.{translate_one, translate_switch, far_tag}
 use Rattle.lens_core.specs.Laws.{IsRelated, Carries, Laws}
 use Rattle.lens_core.proofs.LawsOfLeaves.{bytes_are, bytes_same}
@@ -62,16 +62,30 @@ alt_parts R x c y h = absurd h
 alt_triple : (arms : ArmTrees) (s : Side) (x : DocTree) (c : CompTree) (y : DocTree) → IsRelated (form_alt arms) s x c y → IsAltTriple arms s x c y
 alt_triple arms Left x c y h =
     let a = alt_parts (IsInArm arms) x c y h.1 in record {
-      near_tag = a.m; near_content = a.v; left_tag = a.t; comp = a.d; other_tag = a.n; other_content = a.w;
-      near_is = a.near_is; comp_is = a.comp_is; far_is = a.far_is;
+      near_tag = a.m;
+      near_content = a.v;
+      left_tag = a.t;
+      comp = a.d;
+      other_tag = a.n;
+      other_content = a.w;
+      near_is = a.near_is;
+      comp_is = a.comp_is;
+      far_is = a.far_is;
       near_has = subst (λ z. has (ty_alt (left_tags arms)) z ≡ true) a.near_is h.0.left_has;
       far_has = subst (λ z. has (ty_alt (right_tags arms)) z ≡ true) a.far_is h.0.right_has;
       related = arm_left arms a.m a.v a.t a.d a.n a.w a.related;
     }
 alt_triple arms Right y c x h =
     let a = alt_parts (IsInArm arms) x c y h.1 in record {
-      near_tag = a.n; near_content = a.w; left_tag = a.t; comp = a.d; other_tag = a.m; other_content = a.v;
-      near_is = a.far_is; comp_is = a.comp_is; far_is = a.near_is;
+      near_tag = a.n;
+      near_content = a.w;
+      left_tag = a.t;
+      comp = a.d;
+      other_tag = a.m;
+      other_content = a.v;
+      near_is = a.far_is;
+      comp_is = a.comp_is;
+      far_is = a.near_is;
       near_has = subst (λ z. has (ty_alt (right_tags arms)) z ≡ true) a.far_is h.0.right_has;
       far_has = subst (λ z. has (ty_alt (left_tags arms)) z ≡ true) a.near_is h.0.left_has;
       related = arm_right arms a.m a.v a.t a.d a.n a.w a.related;
@@ -175,7 +189,10 @@ stay_carries arms h s a v t c j w p x' near far_has related k =
     let far_new = has_act (ty_alt (tags_on (other s) arms)) (stay_word j q.word) (alt j w) (alt j q.document) (sound_on arms h (other s)) far_has acts in
     subst (λ z. Carries (form_alt arms) s x' (alt j w) (translate_one (form_alt arms) s (alt_comp t c) z)) (sym k.is)
     (subst (λ z. Carries (form_alt arms) s z (alt j w) (translate_one (form_alt arms) s (alt_comp t c) (stay a k.word))) (sym k.result) (record {
-      word = stay_word j q.word; comp = alt_comp t q.comp; document = alt j q.document; carried = q.carried;
+      word = stay_word j q.word;
+      comp = alt_comp t q.comp;
+      document = alt j q.document;
+      carried = q.carried;
       acts = subst (λ z. act z (stay_word j q.word) (alt j w) ≡ Ok (alt j q.document)) (sym (alt_type arms (other s))) acts;
       consistent = alt_related arms s a k.content t q.comp j q.document (subst (λ z. has (ty_alt (tags_on s arms)) z ≡ true) k.result near) far_new q.related;
     }))
@@ -189,7 +206,9 @@ switch_carries arms h s a v t c j w p x' near far_has related k =
     let far_new = has_act (ty_alt (tags_on (other s) arms)) (switch_word j q.to q.word) (alt j w) (alt q.to q.document) (sound_on arms h (other s)) far_has acts in
     subst (λ z. Carries (form_alt arms) s x' (alt j w) (translate_one (form_alt arms) s (alt_comp t c) z)) (sym k.is)
     (subst (λ z. Carries (form_alt arms) s z (alt j w) (translate_one (form_alt arms) s (alt_comp t c) (switch a k.to k.word))) (sym k.result) (record {
-      word = switch_word j q.to q.word; comp = alt_comp q.tag q.comp; document = alt q.to q.document;
+      word = switch_word j q.to q.word;
+      comp = alt_comp q.tag q.comp;
+      document = alt q.to q.document;
       carried = switch_row arms s t c a k.to j k.word (far_tag_is s arms a v t c j w h.left_apart related) ∙ q.carried;
       acts = subst (λ z. act z (switch_word j q.to q.word) (alt j w) ≡ Ok (alt q.to q.document)) (sym (alt_type arms (other s))) acts;
       consistent = alt_related arms s k.to k.content q.tag q.comp q.to q.document (subst (λ z. has (ty_alt (tags_on s arms)) z ≡ true) k.result near) far_new q.related;

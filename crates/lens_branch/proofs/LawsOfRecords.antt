@@ -25,8 +25,8 @@ use Rattle.lens_core.proofs.Results.{some_same}
 use Rattle.doc_values.proofs.FieldPlaces.{lookup_type_place}
 use Rattle.lens_core.proofs.LawsOfLeaves.{bytes_same, differs_back}
 use Rattle.lens_branch.specs.Branches.{RowLaws, IsLawfulRecord}
-use Rattle.lens_branch.proofs.NameTests.{not_that, or_later}
-use Rattle.lens_branch.proofs.RecordFields.{ActsOnField, acts_on_field, content-found, content-initial, content-put, field_acts, with_content}
+use Rattle.lens_core.proofs.NameTests.{not_that, or_later}
+use Rattle.lens_core.proofs.RecordFields.{ActsOnField, acts_on_field, content-found, content-initial, content-put, field_acts, with_content}
 use Rattle.lens_branch.proofs.Triples.{carries_at}
 use Rattle.lens_branch.proofs.RecordRows.{AreApart, RowsAre, fields_on, head_apart, head_left, head_right, left_tail_apart, names_on, near_name, right_tail_apart, row_type, row_type-is, rows_count, rows_fit, rows_from_left, rows_from_right, rows_left, rows_right, tail_apart}
 use Rattle.lens_branch.proofs.RowSteps.{IsAloneStep, IsPairedStep, RowStep, row_step}
@@ -61,7 +61,12 @@ record_left : (rows : RowTrees) (x : DocTree) (c : CompTree) (y : DocTree) → I
 record_left rows x c y h =
     let a = record_parts (λ xs cs ys. AreConsistentRows rows (left_fields rows) xs cs (right_fields rows) ys) x c y h.1 in
     record {
-      xs = a.xs; cs = a.cs; ys = a.ys; near_is = a.near_is; comp_is = a.comp_is; far_is = a.far_is;
+      xs = a.xs;
+      cs = a.cs;
+      ys = a.ys;
+      near_is = a.near_is;
+      comp_is = a.comp_is;
+      far_is = a.far_is;
       near_has = subst (λ z. has (ty_rec (left_fields rows)) z ≡ true) a.near_is h.0.left_has;
       far_has = subst (λ z. has (ty_rec (right_fields rows)) z ≡ true) a.far_is h.0.right_has;
       related = rows_left rows (left_fields rows) a.xs a.cs (right_fields rows) a.ys a.related;
@@ -71,7 +76,12 @@ record_right : (rows : RowTrees) (x : DocTree) (c : CompTree) (y : DocTree) → 
 record_right rows x c y h =
     let a = record_parts (λ xs cs ys. AreConsistentRows rows (left_fields rows) xs cs (right_fields rows) ys) x c y h.1 in
     record {
-      xs = a.ys; cs = a.cs; ys = a.xs; near_is = a.far_is; comp_is = a.comp_is; far_is = a.near_is;
+      xs = a.ys;
+      cs = a.cs;
+      ys = a.xs;
+      near_is = a.far_is;
+      comp_is = a.comp_is;
+      far_is = a.near_is;
       near_has = subst (λ z. has (ty_rec (right_fields rows)) z ≡ true) a.far_is h.0.right_has;
       far_has = subst (λ z. has (ty_rec (left_fields rows)) z ≡ true) a.near_is h.0.left_has;
       related = rows_right rows (left_fields rows) a.xs a.cs (right_fields rows) a.ys a.related;
@@ -126,8 +136,8 @@ paired_carries rows s xs cs ys p x' r q =
       carried = record_translates rows s cs q.comps k.field k.word (at_word q.name q.word) r.count_is q.translated;
       acts = subst (λ t. act t (at_word q.name q.word) (rec ys) ≡ Ok (rec (put_at ys spot.0.0 q.behind))) (sym (rec_type rows (other s))) far_acts;
       consistent = record_related rows s (put_at xs k.place.0 k.content) q.comps (put_at ys spot.0.0 q.behind)
-      (with_content k.field k.content (content (fields_on s rows) xs)) (with_content q.name q.behind (content fs ys)) r.new_has far_new
-      (content-put (fields_on s rows) xs k.field k.place k.content r.near_has k.found) (content-put fs ys q.name spot.0 q.behind r.far_has spot.1) q.related;
+          (with_content k.field k.content (content (fields_on s rows) xs)) (with_content q.name q.behind (content fs ys)) r.new_has far_new
+          (content-put (fields_on s rows) xs k.field k.place k.content r.near_has k.found) (content-put fs ys q.name spot.0 q.behind r.far_has spot.1) q.related;
     }
 
 alone_carries : (rows : RowTrees) (s : Side) (xs : DocTrees) (cs : CompTrees) (ys : DocTrees) (p : PrimitiveTree) (x' : DocTree) → (r : Ready rows s xs cs ys p x')
@@ -141,8 +151,8 @@ alone_carries rows s xs cs ys p x' r q =
       carried = record_translates rows s cs cs k.field k.word no_primitives r.count_is q.translated;
       acts = refl;
       consistent = record_related rows s (put_at xs k.place.0 k.content) cs ys
-      (with_content k.field k.content (content (fields_on s rows) xs)) (content (fields_on (other s) rows) ys) r.new_has r.far_has
-      (content-put (fields_on s rows) xs k.field k.place k.content r.near_has k.found) (λ m. refl) q.related;
+          (with_content k.field k.content (content (fields_on s rows) xs)) (content (fields_on (other s) rows) ys) r.new_has r.far_has
+          (content-put (fields_on s rows) xs k.field k.place k.content r.near_has k.found) (λ m. refl) q.related;
     }
 
 step_carries : (rows : RowTrees) (s : Side) (xs : DocTrees) (cs : CompTrees) (ys : DocTrees) (p : PrimitiveTree) (x' : DocTree) → (r : Ready rows s xs cs ys p x')
@@ -174,12 +184,16 @@ record_step rows h s p x c y x' related e =
     let k = acts_on_field fs a.xs p x' acts in
     let new = subst (λ z. has (ty_rec fs) z ≡ true) k.result (has_primitive (ty_rec fs) p (rec a.xs) x' (sound_on rows h s) a.near_has acts) in
     let ready : Ready rows s a.xs a.cs a.ys p x' = record {
-      sound = sound_on rows h (other s); near_has = a.near_has; far_has = a.far_has;
-      count_is = rows_count s rows (content fs a.xs) (content (fields_on (other s) rows) a.ys) a.cs a.related; field = k; new_has = new;
+      sound = sound_on rows h (other s);
+      near_has = a.near_has;
+      far_has = a.far_has;
+      count_is = rows_count s rows (content fs a.xs) (content (fields_on (other s) rows) a.ys) a.cs a.related;
+      field = k;
+      new_has = new;
     } in
     let typed = sym (row_type-is s rows k.field) ∙ ap (option_map (λ (f : ℕ × TyTree). f.1)) k.found in
     let step = row_step s rows h.laws (apart_on rows h s) (apart_on rows h (other s)) (content fs a.xs) (content (fields_on (other s) rows) a.ys) a.cs a.related
-        k.field k.word (doc_at a.xs k.place.0) k.content k.place.1 (content-found fs a.xs k.field k.place a.near_has k.found) typed k.acts in
+    k.field k.word (doc_at a.xs k.place.0) k.content k.place.1 (content-found fs a.xs k.field k.place a.near_has k.found) typed k.acts in
     carries_at (form_rec rows) s p x' c (rec_comp a.cs) y (rec a.ys) a.comp_is a.far_is (step_carries rows s a.xs a.cs a.ys p x' ready step)
 
 -- the contents at the names of the rows are the initial ones of their types
@@ -207,9 +221,10 @@ initial_past_right Right b t rows f apart h n e =
 rows_start : (rows : RowTrees) → RowLaws rows → AreApart Left rows → AreApart Right rows → (f g : List ℕ → Option DocTree) → AreInitial Left rows f → AreInitial Right rows g
     → RowsAre Left rows f (missing_rows rows) g
 rows_start no_rows laws p q f g h k = tt
-rows_start (both a b l rows) laws p q f g h k =
-    ((initial (left_type l), initial (right_type l), initial_here Left a b l rows f h, initial_here Right a b l rows g k, laws.0.starts),
-    rows_start rows laws.1 (tail_apart Left a b l rows p) (tail_apart Right a b l rows q) f g (initial_later Left a b l rows f p h) (initial_later Right a b l rows g q k))
+rows_start (both a b l rows) laws p q f g h k = (
+  (initial (left_type l), initial (right_type l), initial_here Left a b l rows f h, initial_here Right a b l rows g k, laws.0.starts),
+  rows_start rows laws.1 (tail_apart Left a b l rows p) (tail_apart Right a b l rows q) f g (initial_later Left a b l rows f p h) (initial_later Right a b l rows g q k),
+)
 rows_start (only_left a t rows) laws p q f g h k =
     rows_start rows laws (left_tail_apart Left a t rows p) (left_tail_apart Right a t rows q) f g (initial_past_left Left a t rows f p h) (initial_past_left Right a t rows g q k)
 rows_start (only_right b t rows) laws p q f g h k =

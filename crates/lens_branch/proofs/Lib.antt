@@ -5,8 +5,6 @@ pub mod Arms
 pub mod EmittedWords
 pub mod LawsOfAlternatives
 pub mod LawsOfRecords
-pub mod NameTests
-pub mod RecordFields
 pub mod RecordRounds
 pub mod RecordRows
 pub mod RowSearch

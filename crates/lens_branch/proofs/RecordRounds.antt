@@ -1,5 +1,5 @@
 -- The translation of a record is its beginning, the translation of the lens inside, and its finish.
-use Rattle.std.proofs.Common.{◌≡◌, ℕ, zero, suc, ◌+◌, Bool, true, false, List, [], ◌∷◌, Option, None, Some, option_map, refl, ap, sym, ◌∙◌, subst, arith, add-one}
+use Rattle.std.proofs.Common.{◌≡◌, ℕ, suc, ◌+◌, Bool, true, false, List, [], ◌∷◌, Option, None, Some, option_map, refl, ap, sym, ◌∙◌, subst, arith, add-one}
 use Rattle.std.specs.Prelude.{option_and_then, nat_eq, bytes_eq, cond}
 use Rattle.texts.specs.declared.side.Side.{Side}
 use Rattle.texts.specs.declared.side.Side.TheVariants.{Left, Right}
@@ -11,7 +11,7 @@ use Rattle.lens_core.specs.Emitted.{at_word}
 use Rattle.lens_core.specs.Complements.{CompTree, rec_comp, CompTrees, no_comps, more_comps, comp_count}
 use Rattle.lens_core.specs.Translation.{Translated, translate_one, translate, translate_at, in_row, past_row, in_record, comp_at, put_comp}
 use Rattle.lens_core.proofs.ComplementTrees.{comps_of-comp_list}
-use Rattle.lens_branch.specs.Beginnings.{Beginning, finished, inside, carried_on}
+use Rattle.lens_core.specs.Beginnings.{inside, carried_on}
 use Rattle.lens_branch.specs.RecordSteps.{has_near, pairs_of, RowAt, row_behind, row_of, begin_row, begin_in, begin_record, finish_row, finish_in, finish_record, lens_of, row_lens, row_translation}
 
 -- ---- what the row of a field translates
@@ -105,6 +105,32 @@ lens_found (r ∷ rows) side f q e = go (has_near side f r) (row_of rows side f)
     go false (Some p) h again =
         let same : row_behind 1 (pairs_of r) p ≡ q = cc in
         subst (λ (z : RowAt). row_lens (r ∷ rows) z.number ≡ lens_of z.row) same (rw add-one (again p refl))
+
+-- where a lens inside is needed, its row is there and is paired
+begun_in_row : (rows : List RowTree) (cs : CompTrees) (u : WordTree) (n k : ℕ) (r : RowTree) (i : ℕ) (c : CompTree) (w : WordTree) → row_lens rows n ≡ lens_of r
+    → Some (begin_row cs u n k r) ≡ Some (inside i c w) → (l : FormTree) × (row_lens rows i ≡ Some l)
+begun_in_row rows cs u n k (row_both a b l) i c w found e = let same : n ≡ i = cc in (l, subst (λ z. row_lens rows z ≡ Some l) same found)
+begun_in_row rows cs u n k (row_left a t) i c w found e = cc
+begun_in_row rows cs u n k (row_right b t) i c w found e = cc
+
+begun_found : (rows : List RowTree) (side : Side) (f : List ℕ) (cs : CompTrees) (u : WordTree) (i : ℕ) (c : CompTree) (w : WordTree) (b : Bool) (o : Option RowAt) → row_of rows side f ≡ o
+    → cond b (option_map (begin_in cs u) o) None ≡ Some (inside i c w) → (l : FormTree) × (row_lens rows i ≡ Some l)
+begun_found rows side f cs u i c w false o found e = cc
+begun_found rows side f cs u i c w true None found e = cc
+begun_found rows side f cs u i c w true (Some q) found e =
+    begun_in_row rows cs u q.number q.pairs q.row i c w (lens_found rows side f q found) e
+
+pub record_begins_in_row : (rows : RowTrees) (side : Side) (cs : CompTrees) (p : PrimitiveTree) (i : ℕ) (c : CompTree) (w : WordTree)
+    → begin_record rows side cs p ≡ Some (inside i c w) → (l : FormTree) × (row_lens (row_list rows) i ≡ Some l)
+record_begins_in_row rows side cs (at f u) i c w e =
+    begun_found (row_list rows) side f cs u i c w (nat_eq (comp_count cs) (paired_rows rows)) (row_of (row_list rows) side f) refl e
+record_begins_in_row rows side cs (set_to a) i c w e = cc
+record_begins_in_row rows side cs (add n) i c w e = cc
+record_begins_in_row rows side cs (splice j k s) i c w e = cc
+record_begins_in_row rows side cs (stay t u) i c w e = cc
+record_begins_in_row rows side cs (switch m n u) i c w e = cc
+record_begins_in_row rows side cs (modify q u) i c w e = cc
+record_begins_in_row rows side cs (shape a) i c w e = cc
 
 translation_found : (rows : RowTrees) (side : Side) (i : ℕ) (c : CompTree) (u : WordTree) (l : FormTree) → row_lens (row_list rows) i ≡ Some l
     → translate l side c u ≡ row_translation rows side i c u

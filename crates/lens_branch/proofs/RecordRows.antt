@@ -16,8 +16,8 @@ use Rattle.lens_core.specs.Sides.{near, far, type_on}
 use Rattle.lens_core.specs.Complements.{CompTrees, no_comps, more_comps, comp_count, FitRows}
 use Rattle.lens_core.specs.Consistency.{content, AreConsistentRows}
 use Rattle.lens_core.specs.Laws.{IsRelated}
-use Rattle.lens_branch.proofs.NameTests.{not_false, or_left, or_right}
-use Rattle.lens_branch.proofs.RecordFields.{lookup_type-insert, with_content}
+use Rattle.lens_core.proofs.NameTests.{not_false, or_left, or_right}
+use Rattle.lens_core.proofs.RecordFields.{lookup_type-insert, with_content}
 use Rattle.lens_branch.proofs.Triples.{fits_of}
 
 -- ---- the rows, seen from a side
@@ -146,9 +146,10 @@ rows_keep_near s no_rows f g no_comps n v e h = tt
 rows_keep_near s no_rows f g (more_comps c cs) n v e h = h
 rows_keep_near s (both a b l rows) f g no_comps n v e h = h
 rows_keep_near s (both a b l rows) f g (more_comps c cs) n v e h =
-    let none = sym (near_name s a b l rows n) ∙ e in
-    ((h.0.0, h.0.1, keep_there n (near s a b) v h.0.0 f (or_left (bytes_eq n (near s a b)) (has_name n (names_on s rows)) none) h.0.2, h.0.3, h.0.4),
-    rows_keep_near s rows f g cs n v (or_right (bytes_eq n (near s a b)) (has_name n (names_on s rows)) none) h.1)
+    let none = sym (near_name s a b l rows n) ∙ e in (
+      (h.0.0, h.0.1, keep_there n (near s a b) v h.0.0 f (or_left (bytes_eq n (near s a b)) (has_name n (names_on s rows)) none) h.0.2, h.0.3, h.0.4),
+      rows_keep_near s rows f g cs n v (or_right (bytes_eq n (near s a b)) (has_name n (names_on s rows)) none) h.1,
+    )
 rows_keep_near s (only_left a t rows) f g cs n v e h = rows_keep_near s rows f g cs n v (not_behind_left s a t rows n e) h
 rows_keep_near s (only_right b t rows) f g cs n v e h = rows_keep_near s rows f g cs n v (not_behind_right s b t rows n e) h
 
@@ -158,9 +159,10 @@ rows_keep_far s no_rows f g no_comps n v e h = tt
 rows_keep_far s no_rows f g (more_comps c cs) n v e h = h
 rows_keep_far s (both a b l rows) f g no_comps n v e h = h
 rows_keep_far s (both a b l rows) f g (more_comps c cs) n v e h =
-    let none = sym (far_name s a b l rows n) ∙ e in
-    ((h.0.0, h.0.1, h.0.2, keep_there n (far s a b) v h.0.1 g (or_left (bytes_eq n (far s a b)) (has_name n (names_on (other s) rows)) none) h.0.3, h.0.4),
-    rows_keep_far s rows f g cs n v (or_right (bytes_eq n (far s a b)) (has_name n (names_on (other s) rows)) none) h.1)
+    let none = sym (far_name s a b l rows n) ∙ e in (
+      (h.0.0, h.0.1, h.0.2, keep_there n (far s a b) v h.0.1 g (or_left (bytes_eq n (far s a b)) (has_name n (names_on (other s) rows)) none) h.0.3, h.0.4),
+      rows_keep_far s rows f g cs n v (or_right (bytes_eq n (far s a b)) (has_name n (names_on (other s) rows)) none) h.1,
+    )
 rows_keep_far s (only_left a t rows) f g cs n v e h = rows_keep_far s rows f g cs n v (not_behind_left (other s) a t rows n e) h
 rows_keep_far s (only_right b t rows) f g cs n v e h = rows_keep_far s rows f g cs n v (not_behind_right (other s) b t rows n e) h
 

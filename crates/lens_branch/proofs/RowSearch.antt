@@ -1,10 +1,23 @@
 -- The rows of a record, as the code goes through them one after the other.
-use Rattle.std.proofs.Common.{◌≡◌, ℕ, zero, suc, ◌+◌, ◌<◌, ◌≤◌, Bool, true, false, List, [], ◌∷◌, length, map, drop, drop-cons, get_or, add-one, Option, None, Some, option_map, refl, sym, ap, ◌∙◌, arith}
+use Rattle.std.proofs.Common.{◌≡◌, ℕ, suc, ◌+◌, ◌<◌, ◌≤◌, Bool, true, false, List, [], ◌∷◌, length, map, drop, drop-cons, get_or, add-one, Option, None, Some, option_map, refl, sym, ap, subst, ◌∙◌, arith, rules}
+use Rattle.std.specs.Prelude.{nat_eq, if◌then◌else◌}
 use Rattle.std.proofs.lemmas.List.{drop_all}
+use Rattle.std.proofs.lemmas.Bool.Decides.{nat_tests}
 use Rattle.texts.specs.declared.side.Side.{Side}
 use Rattle.lens_forms.specs.Forms.{RowTrees, RowTree, row_both, row_left, row_right, row_list, form_rows_of, row_tree, with_row, paired_rows}
-use Rattle.lens_forms.specs.declared.form.FormRow.{FormRow}
-use Rattle.lens_branch.specs.RecordSteps.{has_near, pairs_of, RowAt, row_behind, row_of}
+use Rattle.lens_forms.specs.declared.form.FormRow.{FormRow, the_lemmas as row_lemmas}
+use Rattle.std.proofs.lemmas.Option.{slice_get-map, slice_get_read, slice_get_past}
+use Rattle.doc_values.specs.Types.{ty_tree}
+use Rattle.doc_values.specs.declared.ty.Ty.{Ty}
+use Rattle.lens_forms.specs.Forms.{form_tree}
+use Rattle.lens_forms.specs.Measures.{form_parts, rows_parts}
+use Rattle.lens_forms.specs.declared.form.Form.{Form}
+use Rattle.lens_forms.specs.declared.form.FormRow.TheVariants.{Both, OnlyLeft, OnlyRight}
+use Rattle.lens_core.proofs.FormParts.{row_parts, row_smaller}
+use Rattle.edit_module.specs.Words.{PrimitiveTree, set, add, splice, at, stay, switch, modify, shape, WordTree}
+use Rattle.lens_core.specs.Beginnings.{Beginning, IsInside}
+use Rattle.lens_core.specs.Complements.{CompTrees, comp_count}
+use Rattle.lens_branch.specs.RecordSteps.{has_near, pairs_of, RowAt, row_behind, row_of, begin_row, begin_in, begin_record, lens_of, row_lens}
 
 pub row_list-form_rows_of : (rs : List RowTree) → row_list (form_rows_of rs) ≡ rs
 row_list-form_rows_of [] = refl
@@ -12,14 +25,25 @@ row_list-form_rows_of (row_both a b l ∷ rs) = ap (λ x. row_both a b l ∷ x) 
 row_list-form_rows_of (row_left a t ∷ rs) = ap (λ x. row_left a t ∷ x) (row_list-form_rows_of rs)
 row_list-form_rows_of (row_right b t ∷ rs) = ap (λ x. row_right b t ∷ x) (row_list-form_rows_of rs)
 
+-- ---- one row as a tree
+
+row_tree-both : (a b : List ℕ) (l : Form) → row_tree (Both a b l) ≡ row_both a b (form_tree l)
+row_tree-both a b l = search (rules, row_lemmas)
+
+row_tree-left : (a : List ℕ) (t : Ty) → row_tree (OnlyLeft a t) ≡ row_left a (ty_tree t)
+row_tree-left a t = search (rules, row_lemmas)
+
+row_tree-right : (a : List ℕ) (t : Ty) → row_tree (OnlyRight a t) ≡ row_right a (ty_tree t)
+row_tree-right a t = search (rules, row_lemmas)
+
 -- ---- the search
 
-same_row : (m n k p : ℕ) (r : RowTree) → m ≡ n → k ≡ p → Some (record { number = m; pairs = k; row = r }) ≡ Some (record { number = n; pairs = p; row = r })
+same_row : (m n k p : ℕ) (r : RowTree) → m ≡ n → k ≡ p → ◌≡◌ {A = Option RowAt} (Some (record { number = m; pairs = k; row = r })) (Some (record { number = n; pairs = p; row = r }))
 same_row m n k p r e f = rw (e, f) refl
 
-behind_more : (n k p : ℕ) (o : Option RowAt) → option_map (row_behind n k) (option_map (row_behind 1 p) o) ≡ option_map (row_behind (n + 1) (k + p)) o
+behind_more : (n k p : ℕ) (o : Option RowAt) → option_map (row_behind n k) (option_map (row_behind 1 p) o) ≡ option_map (row_behind (suc n) (k + p)) o
 behind_more n k p None = refl
-behind_more n k p (Some q) = same_row (q.number + 1 + n) (q.number + (n + 1)) (q.pairs + p + k) (q.pairs + (k + p)) q.row (omega arith) (omega arith)
+behind_more n k p (Some q) = same_row (q.number + 1 + n) (q.number + suc n) (q.pairs + p + k) (q.pairs + (k + p)) q.row (omega arith) (omega arith)
 
 behind_nothing : (o : Option RowAt) → option_map (row_behind 0 0) o ≡ o
 behind_nothing None = refl
@@ -39,7 +63,7 @@ found_here rows side f i k r h is e = rw (drop-cons rows i r h, sym is, e) (same
 pub found_next : (rows : List FormRow) (side : Side) (f : List ℕ) (i k : ℕ) (r : FormRow) → i < length rows → r ≡ get_or rows i r → has_near side f (row_tree r) ≡ false
     → found_from rows side f i k ≡ found_from rows side f (i + 1) (k + pairs_of (row_tree r))
 found_next rows side f i k r h is e =
-    rw (drop-cons rows i r h, sym is, e, ← add-one i) (behind_more i k (pairs_of (row_tree r)) (row_of (map row_tree (drop (i + 1) rows)) side f))
+    rw (drop-cons rows i r h, sym is, e, add-one i) (behind_more i k (pairs_of (row_tree r)) (row_of (map row_tree (drop (suc i) rows)) side f))
 
 pub found_all : (rows : List FormRow) (side : Side) (f : List ℕ) (i k : ℕ) → length rows ≤ i → found_from rows side f i k ≡ None
 found_all rows side f i k h = rw (drop_all i rows h) refl
@@ -60,5 +84,85 @@ count_next rows i r h is = rw (drop-cons rows i r h, sym is, add-one) (with_row-
 
 pub count_all : (rows : List FormRow) (i : ℕ) → length rows ≤ i → pair_count (drop i rows) ≡ 0
 count_all rows i h = rw (drop_all i rows h) refl
+
+-- ---- the lens of the row of a number
+
+-- a row that is there
+row_at : (items : List FormRow) (rows : RowTrees) (i : ℕ) (r : FormRow) → form_rows_of (map row_tree items) ≡ rows → i < length items → r ≡ get_or items i r
+    → row_lens (row_list rows) i ≡ lens_of (row_tree r)
+row_at items rows i r e h is =
+    rw (← e, row_list-form_rows_of, slice_get-map row_tree items i, slice_get_read items (length items) i r refl h is) refl
+
+pub paired_at : (items : List FormRow) (rows : RowTrees) (i : ℕ) (r : FormRow) (a b : List ℕ) (l : Form) → form_rows_of (map row_tree items) ≡ rows → i < length items → r ≡ get_or items i r
+    → r ≡ Both a b l → row_lens (row_list rows) i ≡ Some (form_tree l)
+paired_at items rows i r a b l e h is row = row_at items rows i r e h is ∙ ap (λ z. lens_of z) (ap row_tree row ∙ row_tree-both a b l)
+
+pub left_at : (items : List FormRow) (rows : RowTrees) (i : ℕ) (r : FormRow) (a : List ℕ) (t : Ty) → form_rows_of (map row_tree items) ≡ rows → i < length items → r ≡ get_or items i r
+    → r ≡ OnlyLeft a t → row_lens (row_list rows) i ≡ None
+left_at items rows i r a t e h is row = row_at items rows i r e h is ∙ ap (λ z. lens_of z) (ap row_tree row ∙ row_tree-left a t)
+
+pub right_at : (items : List FormRow) (rows : RowTrees) (i : ℕ) (r : FormRow) (b : List ℕ) (t : Ty) → form_rows_of (map row_tree items) ≡ rows → i < length items → r ≡ get_or items i r
+    → r ≡ OnlyRight b t → row_lens (row_list rows) i ≡ None
+right_at items rows i r b t e h is row = row_at items rows i r e h is ∙ ap (λ z. lens_of z) (ap row_tree row ∙ row_tree-right b t)
+
+pub past_rows : (items : List FormRow) (rows : RowTrees) (i : ℕ) → form_rows_of (map row_tree items) ≡ rows → length items ≤ i → row_lens (row_list rows) i ≡ None
+past_rows items rows i e h = rw (← e, row_list-form_rows_of, slice_get-map row_tree items i, slice_get_past items i h) refl
+
+-- a lens inside has fewer parts than the rows
+pub paired_smaller : (items : List FormRow) (rows : RowTrees) (i : ℕ) (r : FormRow) (a b : List ℕ) (l : Form) → form_rows_of (map row_tree items) ≡ rows → i < length items → r ≡ get_or items i r
+    → r ≡ Both a b l → form_parts (form_tree l) < rows_parts rows
+paired_smaller items rows i r a b l e h is row =
+    let low = row_smaller items i r h is in
+    let same = ap row_parts (ap row_tree row ∙ row_tree-both a b l) in
+    let whole = ap rows_parts e in
+    omega (arith, low, same, whole)
+
+pub ruleset place_rules = (paired_at, left_at, right_at, past_rows, paired_smaller)
+
+-- ---- after a beginning in a row, the row of the field is there and is paired
+
+counted : (b : Bool) (o : Option Beginning) → IsInside (if b then o else None) → (b ≡ true) × IsInside o
+counted true o h = (refl, h)
+counted false o h = absurd h
+
+row_inside : (cs : CompTrees) (u : WordTree) (o : Option RowAt) → IsInside (option_map (begin_in cs u) o) → o ≡ None → ⊥
+row_inside cs u None h e = h
+row_inside cs u (Some q) h e = cc
+
+paired_inside : (cs : CompTrees) (u : WordTree) (n k : ℕ) (r : RowTree) → IsInside (Some (begin_row cs u n k r)) → pairs_of r ≡ 1
+paired_inside cs u n k (row_both a b l) h = refl
+paired_inside cs u n k (row_left a t) h = absurd h
+paired_inside cs u n k (row_right b t) h = absurd h
+
+pub begun_counted : (rows : RowTrees) (side : Side) (cs : CompTrees) (f : List ℕ) (u : WordTree) → IsInside (begin_record rows side cs (at f u)) → comp_count cs ≡ paired_rows rows
+begun_counted rows side cs f u h =
+    let e = (counted (nat_eq (comp_count cs) (paired_rows rows)) (option_map (begin_in cs u) (row_of (row_list rows) side f)) h).0 in
+    grind (arith, nat_tests)
+
+pub begun_has_row : (rows : RowTrees) (side : Side) (cs : CompTrees) (f : List ℕ) (u : WordTree) → IsInside (begin_record rows side cs (at f u)) → row_of (row_list rows) side f ≡ None → ⊥
+begun_has_row rows side cs f u h e =
+    row_inside cs u (row_of (row_list rows) side f) (counted (nat_eq (comp_count cs) (paired_rows rows)) (option_map (begin_in cs u) (row_of (row_list rows) side f)) h).1 e
+
+pub begun_is_paired : (rows : RowTrees) (side : Side) (cs : CompTrees) (f : List ℕ) (u : WordTree) (q : RowAt) → IsInside (begin_record rows side cs (at f u)) → row_of (row_list rows) side f ≡ Some q
+    → pairs_of q.row ≡ 1
+begun_is_paired rows side cs f u q h e =
+    let there = (counted (nat_eq (comp_count cs) (paired_rows rows)) (option_map (begin_in cs u) (row_of (row_list rows) side f)) h).1 in
+    paired_inside cs u q.number q.pairs q.row (subst (λ (o : Option RowAt). IsInside (option_map (begin_in cs u) o)) e there)
+
+abbrev pub is_at : PrimitiveTree → Bool
+is_at (at f u) = true
+is_at _ = false
+
+pub begun_is_at : (rows : RowTrees) (side : Side) (cs : CompTrees) (p : PrimitiveTree) → is_at p ≡ false → IsInside (begin_record rows side cs p) → ⊥
+begun_is_at rows side cs (at f u) e h = cc
+begun_is_at rows side cs (set a) e h = h
+begun_is_at rows side cs (add n) e h = h
+begun_is_at rows side cs (splice i k s) e h = h
+begun_is_at rows side cs (stay t u) e h = h
+begun_is_at rows side cs (switch m n u) e h = h
+begun_is_at rows side cs (modify q u) e h = h
+begun_is_at rows side cs (shape a) e h = h
+
+pub ruleset begun_rules = (begun_counted, begun_has_row, begun_is_paired, begun_is_at)
 
 pub ruleset row_rules = (row_list-form_rows_of, found_first, found_here, found_next, found_all, count_next, count_all)

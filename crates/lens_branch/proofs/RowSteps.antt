@@ -20,8 +20,8 @@ use Rattle.lens_core.proofs.LawsOfWords.{edits_carry}
 use Rattle.lens_core.proofs.Results.{some_same}
 use Rattle.lens_core.proofs.LawsOfLeaves.{bytes_are, bytes_same, differs_back}
 use Rattle.lens_branch.specs.Branches.{RowLaws}
-use Rattle.lens_branch.proofs.NameTests.{not_that, or_later}
-use Rattle.lens_branch.proofs.RecordFields.{with_content}
+use Rattle.lens_core.proofs.NameTests.{not_that, or_later}
+use Rattle.lens_core.proofs.RecordFields.{with_content}
 use Rattle.lens_branch.proofs.RecordRows.{AreApart, RowsAre, far_head_apart, far_left_tail, far_name, far_right_tail, far_tail, head_apart, head_left, head_right, keep_there, left_tail_apart, names_on, right_tail_apart, row_type, rows_keep_far, rows_keep_near, tail_apart}
 
 -- ---- a word in one field
@@ -78,15 +78,22 @@ step_here s a b l rows laws apart far_apart f g c cs h n u x x' is at_n acts =
     let same : h.0.0 ≡ x = some_same h.0.0 x (sym h.0.2 ∙ (ap f same_name ∙ at_n)) in
     let r = edits_carry l laws s u h.0.0 c h.0.1 x' h.0.4 (subst (λ z. act (type_on s l) u z ≡ Ok x') (sym same) acts) in
     record {
-      name = far s a b; word = r.word; comps = more_comps r.comp cs; ty = type_on (other s) l; before = h.0.1; behind = r.document;
+      name = far s a b;
+      word = r.word;
+      comps = more_comps r.comp cs;
+      ty = type_on (other s) l;
+      before = h.0.1;
+      behind = r.document;
       among = rw (far_name s a b l rows (far s a b), bytes_same (far s a b)) refl;
       typed = far_typed s a b l rows;
       there = h.0.3;
       acts = r.acts;
       translated = translate_here s a b l rows c cs n u r.word r.comp is r.carried;
-      related = ((x', r.document, put_there n (near s a b) x' f (subst (λ z. bytes_eq n z ≡ true) (sym same_name) (bytes_same n)), put_there (far s a b) (far s a b) r.document g (bytes_same (far s a b)), r.consistent),
-      rows_keep_near s rows f (with_content (far s a b) r.document g) (cs) n x' (subst (λ z. has_name z (names_on s rows) ≡ false) same_name (head_apart s a b l rows apart))
-      (rows_keep_far s rows f g cs (far s a b) r.document (far_head_apart s a b l rows far_apart) h.1));
+      related = (
+        (x', r.document, put_there n (near s a b) x' f (subst (λ z. bytes_eq n z ≡ true) (sym same_name) (bytes_same n)), put_there (far s a b) (far s a b) r.document g (bytes_same (far s a b)), r.consistent),
+        rows_keep_near s rows f (with_content (far s a b) r.document g) (cs) n x' (subst (λ z. has_name z (names_on s rows) ≡ false) same_name (head_apart s a b l rows apart))
+            (rows_keep_far s rows f g cs (far s a b) r.document (far_head_apart s a b l rows far_apart) h.1),
+      );
     }
 
 -- the row is passed over
@@ -96,7 +103,12 @@ pass_paired : (s : Side) (a b : List ℕ) (l : FormTree) (rows : RowTrees) → A
 pass_paired s a b l rows far_apart f g c cs h n u x' unlike r =
     let apart : bytes_eq r.name (far s a b) ≡ false = not_that r.name (far s a b) (names_on (other s) rows) (far_head_apart s a b l rows far_apart) r.among in
     record {
-      name = r.name; word = r.word; comps = more_comps c r.comps; ty = r.ty; before = r.before; behind = r.behind;
+      name = r.name;
+      word = r.word;
+      comps = more_comps c r.comps;
+      ty = r.ty;
+      before = r.before;
+      behind = r.behind;
       among = far_name s a b l rows r.name ∙ rw apart r.among;
       typed = far_typed_later s a b l rows r.name (differs_back r.name (far s a b) apart) ∙ r.typed;
       there = r.there;
@@ -131,8 +143,18 @@ past_left : (s : Side) (a : List ℕ) (t : TyTree) (rows : RowTrees) (f g : List
     → ((m : List ℕ) (y : TyTree) → has_name m (names_on (other s) rows) ≡ true → row_type (other s) rows m ≡ Some y → row_type (other s) (only_left a t rows) m ≡ Some y)
     → RowStep s rows f g cs n u x' → RowStep s (only_left a t rows) f g cs n u x'
 past_left s a t rows f g cs n u x' same among typed (inl r) = inl (record {
-  name = r.name; word = r.word; comps = r.comps; ty = r.ty; before = r.before; behind = r.behind;
-  among = among r.name r.among; typed = typed r.name r.ty r.among r.typed; there = r.there; acts = r.acts; translated = same ∙ r.translated; related = r.related;
+  name = r.name;
+  word = r.word;
+  comps = r.comps;
+  ty = r.ty;
+  before = r.before;
+  behind = r.behind;
+  among = among r.name r.among;
+  typed = typed r.name r.ty r.among r.typed;
+  there = r.there;
+  acts = r.acts;
+  translated = same ∙ r.translated;
+  related = r.related;
 })
 past_left s a t rows f g cs n u x' same among typed (inr r) = inr (record { translated = same ∙ r.translated; related = r.related })
 
@@ -142,8 +164,18 @@ past_right : (s : Side) (b : List ℕ) (t : TyTree) (rows : RowTrees) (f g : Lis
     → ((m : List ℕ) (y : TyTree) → has_name m (names_on (other s) rows) ≡ true → row_type (other s) rows m ≡ Some y → row_type (other s) (only_right b t rows) m ≡ Some y)
     → RowStep s rows f g cs n u x' → RowStep s (only_right b t rows) f g cs n u x'
 past_right s b t rows f g cs n u x' same among typed (inl r) = inl (record {
-  name = r.name; word = r.word; comps = r.comps; ty = r.ty; before = r.before; behind = r.behind;
-  among = among r.name r.among; typed = typed r.name r.ty r.among r.typed; there = r.there; acts = r.acts; translated = same ∙ r.translated; related = r.related;
+  name = r.name;
+  word = r.word;
+  comps = r.comps;
+  ty = r.ty;
+  before = r.before;
+  behind = r.behind;
+  among = among r.name r.among;
+  typed = typed r.name r.ty r.among r.typed;
+  there = r.there;
+  acts = r.acts;
+  translated = same ∙ r.translated;
+  related = r.related;
 })
 past_right s b t rows f g cs n u x' same among typed (inr r) = inr (record { translated = same ∙ r.translated; related = r.related })
 

@@ -1,15 +1,15 @@
 -- How alternatives translate one primitive: Stay begins and finishes in the arm of the complement, Switch in another arm.
-use Rattle.std.specs.Prelude.{ℕ, zero, suc, ◌+◌, Bool, bytes_eq, if◌then◌else◌, List, [], ◌∷◌, Option, None, Some, option_map, option_and_then}
+use Rattle.std.specs.Prelude.{ℕ, ◌+◌, bytes_eq, if◌then◌else◌, List, Option, None, Some, option_map, option_and_then, slice_get}
 use Rattle.texts.specs.declared.side.Side.{Side}
 use Rattle.texts.specs.declared.side.Side.TheVariants.{Left}
 use Rattle.edit_module.specs.Words.{PrimitiveTree, stay, switch, WordTree}
-use Rattle.lens_forms.specs.Forms.{FormTree, ArmTrees, no_arms, more_arms, form_tree}
+use Rattle.lens_forms.specs.Forms.{FormTree, ArmTrees, no_arms, more_arms, arm_list, form_tree}
 use Rattle.lens_core.specs.Complements.{CompTree, alt_comp, CompTrees, no_comps, more_comps, missing}
 use Rattle.lens_core.specs.Emitted.{stay_word, switch_word}
 use Rattle.lens_core.specs.Sides.{near, far}
 use Rattle.lens_core.specs.Translation.{Translated, translate}
 use Rattle.lens_branch.specs.declared.alternatives.FoundArm.{FoundArm}
-use Rattle.lens_branch.specs.Beginnings.{Beginning, inside, IsInside}
+use Rattle.lens_core.specs.Beginnings.{Beginning, inside, IsInside}
 
 -- ---- the arm of a tag
 
@@ -89,11 +89,13 @@ abbrev pub arm_starts : ArmTrees → CompTrees
 arm_starts no_arms = no_comps
 arm_starts (more_arms a b l arms) = more_comps (missing l) (arm_starts arms)
 
+-- the lens of an arm
+abbrev pub lens_of : List ℕ × List ℕ × FormTree → FormTree
+lens_of a = a.2
+
 -- the lens of the arm of a number
 abbrev pub arm_lens : ArmTrees → ℕ → Option FormTree
-arm_lens no_arms i = None
-arm_lens (more_arms a b l arms) zero = Some l
-arm_lens (more_arms a b l arms) (suc i) = arm_lens arms i
+arm_lens arms i = option_map lens_of (slice_get (arm_list arms) i)
 
 -- the translation by the lens of an arm
 abbrev pub arm_translation : ArmTrees → Side → ℕ → CompTree → WordTree → Option Translated

@@ -1,4 +1,3 @@
 pub mod AlternativeSteps
-pub mod Beginnings
 pub mod Branches
 pub mod RecordSteps

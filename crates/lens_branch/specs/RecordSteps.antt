@@ -1,5 +1,5 @@
 -- How a record translates one primitive: At of a field begins in the row of that field and finishes there.
-use Rattle.std.specs.Prelude.{ℕ, zero, suc, ◌+◌, nat_eq, Bool, true, false, bytes_eq, if◌then◌else◌, List, [], ◌∷◌, Option, None, Some, option_map, option_and_then}
+use Rattle.std.specs.Prelude.{ℕ, ◌+◌, nat_eq, Bool, false, bytes_eq, if◌then◌else◌, List, [], ◌∷◌, Option, None, Some, option_map, option_and_then, slice_get}
 use Rattle.texts.specs.declared.side.Side.{Side}
 use Rattle.texts.specs.declared.side.Side.TheVariants.{Left, Right}
 use Rattle.edit_module.specs.Words.{PrimitiveTree, at, WordTree, no_primitives}
@@ -9,7 +9,7 @@ use Rattle.lens_core.specs.Emitted.{at_word}
 use Rattle.lens_core.specs.Sides.{near, far}
 use Rattle.lens_core.specs.Translation.{Translated, translate, comp_at, put_comp}
 use Rattle.lens_branch.specs.declared.record.FoundRow.{FoundRow}
-use Rattle.lens_branch.specs.Beginnings.{Beginning, finished, inside}
+use Rattle.lens_core.specs.Beginnings.{Beginning, finished, inside}
 
 -- ---- the row of a field
 
@@ -85,9 +85,7 @@ lens_of (row_right b t) = None
 
 -- the lens of the row of a number
 abbrev pub row_lens : List RowTree → ℕ → Option FormTree
-row_lens [] i = None
-row_lens (r ∷ rows) zero = lens_of r
-row_lens (r ∷ rows) (suc i) = row_lens rows i
+row_lens rows i = option_and_then lens_of (slice_get rows i)
 
 -- the translation by the lens of a row
 abbrev pub row_translation : RowTrees → Side → ℕ → CompTree → WordTree → Option Translated

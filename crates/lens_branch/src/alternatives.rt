@@ -1,15 +1,16 @@
 //! Translating one primitive through alternatives, round the translation of the lens inside.
 
-ghost use Rattle.std.specs.Prelude.{◌≡◌, IfOk, MatchResult, Some, option_map};
+ghost use Rattle.std.specs.Prelude.{◌≡◌, ◌<◌, IfOk, MatchOption, MatchResult, Some, option_map};
 ghost use Rattle.edit_module.specs.Views.{primitive_tree, word_tree};
-ghost use Rattle.lens_forms.specs.Forms.{arms_tree};
+ghost use Rattle.lens_forms.specs.Forms.{form_tree, arms_tree};
+ghost use Rattle.lens_forms.specs.Measures.{form_parts, arms_parts};
 ghost use Rattle.lens_core.specs.Complements.{comp_tree, comps_tree, alt_comp};
 ghost use Rattle.lens_core.specs.Emitted.{stay_word, switch_word};
 ghost use Rattle.lens_core.specs.Sides.{near};
 ghost use Rattle.lens_core.specs.Translation.{carried_tree};
 ghost use Rattle.lens_core.specs.declared.carry.CarryFault.TheVariants.{NoMemory};
-ghost use Rattle.lens_branch.specs.Beginnings.{begun_tree, inside, IsBeginFault};
-ghost use Rattle.lens_branch.specs.AlternativeSteps.{HasBegun, far_tag_of, arm_seen, arm_of, arm_starts, current_arm, begin_alternatives, finish_alternatives};
+ghost use Rattle.lens_core.specs.Beginnings.{begun_tree, inside, IsBeginFault};
+ghost use Rattle.lens_branch.specs.AlternativeSteps.{HasBegun, far_tag_of, arm_seen, arm_of, arm_lens, arm_starts, current_arm, begin_alternatives, finish_alternatives};
 
 use edit_module::Word;
 use edit_module::word::Primitive;
@@ -19,6 +20,7 @@ use std::alloc::{AllocError, Global};
 use texts::{Name, Side, Twin};
 
 // The arm of a tag: its number from 0, and the arm.
+#[derive(Clone, Copy)]
 struct FoundArm<'a> {
     number: usize,
     arm: &'a (Name, Name, Form),
@@ -36,6 +38,7 @@ struct FoundArm<'a> {
 /// - `NoMemory`: only if memory ran out.
 ///
 /// The arguments stay as they are.
+#[tactic(auto, using(crate::proofs::ArmSearch::start_rules))]
 pub fn alt_begin(
     alloc: Global,
     arms: &FormArms,
@@ -76,6 +79,7 @@ pub fn alt_begin(
 ///
 /// `alt_begin` answered `Inner` for this primitive with some complement, and `inner` is the translation that it asked
 /// for. Fails only if memory runs out; `inner` is then dropped. The other arguments stay as they are.
+#[tactic(auto, using(crate::proofs::ArmSearch::begun_rules))]
 pub fn alt_finish(
     alloc: Global,
     arms: &FormArms,
@@ -90,23 +94,39 @@ pub fn alt_finish(
     match prim {
         Primitive::Stay(near, _) => {
             let Some(here) = find_arm(arms, side, near) else {
-                return Ok(inner);
+                unreachable!()
             };
             let word = stay_word(alloc, far_tag(side, &here), inner.word)?;
             in_arm(alloc, &here, word, inner.comp)
         }
         Primitive::Switch(from, to, _) => {
             let Some(old) = find_arm(arms, side, from) else {
-                return Ok(inner);
+                unreachable!()
             };
             let Some(next) = find_arm(arms, side, to) else {
-                return Ok(inner);
+                unreachable!()
             };
             let word = switch_word(alloc, far_tag(side, &old), far_tag(side, &next), inner.word)?;
             in_arm(alloc, &next, word, inner.comp)
         }
-        _ => Ok(inner),
+        _ => unreachable!(),
     }
+}
+
+/// The lens of the arm of a number, which is counted from 0, or `None` where there is no such arm.
+///
+/// It has fewer parts than the arms.
+#[tactic(auto, using(crate::proofs::ArmSearch::place_rules))]
+pub fn arm_form(arms: &FormArms, number: u64) -> Option<&Form>
+    ensures lens { option_map (λ l. form_tree l.now) result ≡ arm_lens (arms_tree arms.now) number }
+    ensures smaller { MatchOption result (Unit {0}) (λ l. form_parts (form_tree l.now) < arms_parts (arms_tree arms.now)) }
+{
+    let items = arms.as_slice();
+    let place = number as usize;
+    if place >= items.len() {
+        return None;
+    }
+    Some(&items[place].2)
 }
 
 // The lens of an arm is to translate a word, from a complement.

@@ -1,19 +1,19 @@
 //! The laws of records and alternatives. Each is the contract of a function that does nothing: a caller that proves
 //! something about a run calls it, or cites the lemma that it names.
 
-ghost use Rattle.std.specs.Prelude.{◌≡◌, ℕ, List, IsTrue, option_and_then};
+ghost use Rattle.std.specs.Prelude.{◌≡◌, ℕ, List, IsTrue, Some, option_and_then};
 ghost use Rattle.texts.specs.declared.side.Side.{Side};
 ghost use Rattle.doc_values.specs.Types.{are_distinct};
-ghost use Rattle.edit_module.specs.Words.{PrimitiveTree};
-ghost use Rattle.lens_forms.specs.Forms.{RowTrees, form_rec, ArmTrees, form_alt};
+ghost use Rattle.edit_module.specs.Words.{PrimitiveTree, WordTree};
+ghost use Rattle.lens_forms.specs.Forms.{FormTree, RowTrees, row_list, form_rec, ArmTrees, form_alt};
 ghost use Rattle.lens_forms.specs.Typing.{left_arms, right_arms};
 ghost use Rattle.lens_core.specs.Complements.{CompTree, CompTrees, rec_comp, alt_comp};
 ghost use Rattle.lens_core.specs.Laws.{Laws};
 ghost use Rattle.lens_core.specs.Translation.{translate_one};
 ghost use Rattle.lens_branch.specs.Branches.{IsLawfulRecord, AreLawfulAlternatives};
-ghost use Rattle.lens_branch.specs.Beginnings.{carried_on};
-ghost use Rattle.lens_branch.specs.RecordSteps.{begin_record, finish_record, row_translation};
-ghost use Rattle.lens_branch.specs.AlternativeSteps.{begin_alternatives, finish_alternatives, arm_translation};
+ghost use Rattle.lens_core.specs.Beginnings.{inside, carried_on};
+ghost use Rattle.lens_branch.specs.RecordSteps.{begin_record, finish_record, row_lens, row_translation};
+ghost use Rattle.lens_branch.specs.AlternativeSteps.{begin_alternatives, finish_alternatives, arm_lens, arm_translation};
 
 /// A record keeps the laws if the lenses of its paired rows do, the names of each side are distinct, and both types are
 /// well formed.
@@ -37,6 +37,13 @@ pub fn record_goes_round()
         ≡ option_and_then (carried_on (row_translation rows side) (finish_record rows side cs p)) (begin_record rows side cs p) }
 {}
 
+/// Where the beginning in a record needs a lens inside, it is the lens of the row of this number, which is paired.
+#[tactic(auto, using(crate::proofs::RecordRounds::record_begins_in_row))]
+pub fn record_begins_in_row()
+    ensures { (rows : RowTrees) (side : Side) (cs : CompTrees) (p : PrimitiveTree) (i : ℕ) (c : CompTree) (w : WordTree)
+        → begin_record rows side cs p ≡ Some (inside i c w) → (l : FormTree) × (row_lens (row_list rows) i ≡ Some l) }
+{}
+
 /// The translation of alternatives is their beginning, the translation of the lens inside, and their finish, where the
 /// tags of each side are distinct.
 #[tactic(auto, using(crate::proofs::AlternativeRounds::alternatives_go_round))]
@@ -45,4 +52,11 @@ pub fn alternatives_go_round()
         → (t : List ℕ) (c : CompTree) (p : PrimitiveTree)
         → translate_one (form_alt arms) side (alt_comp t c) p
         ≡ option_and_then (carried_on (arm_translation arms side) (finish_alternatives arms side p)) (begin_alternatives arms side t c p) }
+{}
+
+/// Where the beginning in alternatives needs a lens inside, it is the lens of the arm of this number.
+#[tactic(auto, using(crate::proofs::AlternativeRounds::alternatives_begin_in_arm))]
+pub fn alternatives_begin_in_arm()
+    ensures { (arms : ArmTrees) (side : Side) (t : List ℕ) (d : CompTree) (p : PrimitiveTree) (i : ℕ) (c : CompTree) (w : WordTree)
+        → begin_alternatives arms side t d p ≡ Some (inside i c w) → (l : FormTree) × (arm_lens arms i ≡ Some l) }
 {}

@@ -1,24 +1,26 @@
 //! Translating one primitive through a record, round the translation of the lens inside.
 
-ghost use Rattle.std.specs.Prelude.{◌≡◌, ◌+◌, ◌≤◌, IfOk, MatchOption, MatchResult, Some, option_map};
+ghost use Rattle.std.specs.Prelude.{◌≡◌, ◌+◌, ◌<◌, ◌≤◌, IfOk, MatchOption, MatchResult, Some, option_map};
 ghost use Rattle.edit_module.specs.Views.{primitive_tree, word_tree};
 ghost use Rattle.edit_module.specs.Words.{no_primitives};
-ghost use Rattle.lens_forms.specs.Forms.{row_tree, row_list, rows_tree, paired_rows};
-ghost use Rattle.lens_core.specs.Complements.{comps_tree, rec_comp};
+ghost use Rattle.lens_forms.specs.Forms.{form_tree, row_tree, row_list, rows_tree, paired_rows};
+ghost use Rattle.lens_forms.specs.Measures.{form_parts, rows_parts};
+ghost use Rattle.lens_core.specs.Complements.{comp_tree, comps_tree, comp_count, rec_comp};
 ghost use Rattle.lens_core.specs.Emitted.{at_word};
 ghost use Rattle.lens_core.specs.Sides.{far};
-ghost use Rattle.lens_core.specs.Translation.{carried_tree};
-ghost use Rattle.lens_branch.specs.Beginnings.{begun_tree, IsBeginFault, IsInside};
-ghost use Rattle.lens_branch.specs.RecordSteps.{has_near, pairs_of, row_seen, row_of, begin_record, finish_record};
+ghost use Rattle.lens_core.specs.Translation.{carried_tree, put_comp};
+ghost use Rattle.lens_core.specs.Beginnings.{begun_tree, IsBeginFault, IsInside};
+ghost use Rattle.lens_branch.specs.RecordSteps.{has_near, pairs_of, row_seen, row_of, row_lens, begin_record, finish_record};
 
 use edit_module::Word;
 use edit_module::word::Primitive;
 use lens_core::{Begun, Carried, CarryFault, Comp, Comps};
-use lens_forms::{FormRow, FormRows};
+use lens_forms::{Form, FormRow, FormRows};
 use std::alloc::{AllocError, Global};
 use texts::{Name, Side, Twin};
 
 // The row of a field: its number from 0, how many paired rows are before it, and the row.
+#[derive(Clone, Copy)]
 struct FoundRow<'a> {
     number: usize,
     pairs: usize,
@@ -72,6 +74,7 @@ pub fn rec_begin(
 ///
 /// `rec_begin` of the same arguments answered `Inner`, and `inner` is the translation that it asked for. Fails only if
 /// memory runs out; `inner` is then dropped. The other arguments stay as they are.
+#[tactic(auto, using(crate::proofs::RowSearch::begun_rules))]
 pub fn rec_finish(
     alloc: Global,
     rows: &FormRows,
@@ -90,16 +93,46 @@ pub fn rec_finish(
     let Some(found) = find_row(rows, side, field) else {
         unreachable!()
     };
-    let FormRow::Both(left, right, _) = found.row else {
-        unreachable!()
-    };
-    let word = at_word(alloc, far(side, left, right), inner.word)?;
+    match found.row {
+        FormRow::Both(left, right, _) => {
+            let word = at_word(alloc, far(side, left, right), inner.word)?;
+            let comp = with_comp(alloc, comps, found.pairs, inner.comp)?;
+            Ok(Carried { word, comp })
+        }
+        FormRow::OnlyLeft(_, _) => unreachable!(),
+        FormRow::OnlyRight(_, _) => unreachable!(),
+    }
+}
+
+// The complements of a record with another one at a place.
+fn with_comp(alloc: Global, comps: &Comps, place: usize, comp: Comp) -> Result<Comp, AllocError>
+    requires { place < comp_count (comps_tree comps.now) }
+    ensures { IfOk result (λ c. comp_tree c ≡ rec_comp (put_comp (comps_tree comps.now) place (comp_tree comp))) }
+{
     let mut comps = comps.twin(alloc)?;
-    comps.set(alloc, found.pairs, inner.comp)?;
-    Ok(Carried {
-        word,
-        comp: Comp::Rec(comps),
-    })
+    comps.set(alloc, place, comp)?;
+    Ok(Comp::Rec(comps))
+}
+
+/// The lens of the row of a number, which is counted from 0, or `None` where there is no such row and where it is not
+/// paired.
+///
+/// It has fewer parts than the rows.
+#[tactic(auto, using(crate::proofs::RowSearch::place_rules))]
+pub fn row_form(rows: &FormRows, number: u64) -> Option<&Form>
+    ensures lens { option_map (λ l. form_tree l.now) result ≡ row_lens (row_list (rows_tree rows.now)) number }
+    ensures smaller { MatchOption result (Unit {0}) (λ l. form_parts (form_tree l.now) < rows_parts (rows_tree rows.now)) }
+{
+    let items = rows.as_slice();
+    let place = number as usize;
+    if place >= items.len() {
+        return None;
+    }
+    match &items[place] {
+        FormRow::Both(_, _, form) => Some(form),
+        FormRow::OnlyLeft(_, _) => None,
+        FormRow::OnlyRight(_, _) => None,
+    }
 }
 
 // The empty word, and the complements as they are.

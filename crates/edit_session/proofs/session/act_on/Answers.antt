@@ -12,4 +12,4 @@ pub act-requires-clause-typed : goal.act-requires-clause-typed
 act-requires-clause-typed g c =
     let lens = c.args.lens.now in
     rw (c.ty.ensures, c.document.ensures) (side_is_typed (g.L.EditLens.holds lens) (g.L.EditLens.left_type lens) (g.L.EditLens.right_type lens)
-    (g.met.L.EditLens.consistent_is_typed lens) c.args.side (triple_tree c.args.triple.now) c.requires)
+    (g.met.L.EditLens.consistent_is_typed lens) c.args.side (triple_tree c.args.triple.now) c.requires.consistent)

@@ -11,7 +11,7 @@ unreachable-requires g c =
     let none = rw c.in-Err-Unfit.field-0-is at c.in-Err-Unfit.ensures in
     never_unfit (g.L.EditLens.holds lens) (g.L.EditLens.left_type lens) (g.L.EditLens.right_type lens) (g.L.EditLens.carried lens)
     (g.met.L.EditLens.left_edits_carry lens) (g.met.L.EditLens.right_edits_carry lens)
-    c.args.entry.now.side (triple_tree c.args.triple.now) (word_tree c.args.entry.now.word) (doc_tree c.in-Ok.own) c.requires c.in-Ok.ensures none
+    c.args.entry.now.side (triple_tree c.args.triple.now) (word_tree c.args.entry.now.word) (doc_tree c.in-Ok.own) c.requires.consistent c.in-Ok.ensures none
 
 pub unreachable-requires-in-Err-NoApply-act_on : goal.unreachable-requires-in-Err-NoApply-act_on
 unreachable-requires-in-Err-NoApply-act_on g c =
@@ -20,7 +20,7 @@ unreachable-requires-in-Err-NoApply-act_on g c =
     never_refused (g.L.EditLens.holds lens) (g.L.EditLens.left_type lens) (g.L.EditLens.right_type lens) (g.L.EditLens.carried lens)
     (g.met.L.EditLens.left_edits_carry lens) (g.met.L.EditLens.right_edits_carry lens)
     c.args.entry.now.side (triple_tree c.args.triple.now) (word_tree c.args.entry.now.word) (doc_tree c.in-Ok.own)
-    (word_tree c.in-Ok-carry.carried.word, comp_tree c.in-Ok-carry.carried.comp) _ c.requires c.in-Ok.ensures c.in-Ok-carry.ensures refused
+    (word_tree c.in-Ok-carry.carried.word, comp_tree c.in-Ok-carry.carried.comp) _ c.requires.consistent c.in-Ok.ensures c.in-Ok-carry.ensures refused
 
 pub returns-clause-consistent : goal.returns-clause-consistent
 returns-clause-consistent g c =
@@ -29,4 +29,4 @@ returns-clause-consistent g c =
     rw c.from_side.ensures (next_in_step (g.L.EditLens.holds lens) (g.L.EditLens.left_type lens) (g.L.EditLens.right_type lens) (g.L.EditLens.carried lens)
     (g.met.L.EditLens.left_edits_carry lens) (g.met.L.EditLens.right_edits_carry lens)
     c.args.entry.now.side (triple_tree c.args.triple.now) (word_tree c.args.entry.now.word) (doc_tree c.in-Ok.own)
-    (word_tree c.in-Ok-carry.carried.word, comp_tree c.in-Ok-carry.carried.comp) (doc_tree c.in-Ok-act_on.other) c.requires c.in-Ok.ensures c.in-Ok-carry.ensures acts)
+    (word_tree c.in-Ok-carry.carried.word, comp_tree c.in-Ok-carry.carried.comp) (doc_tree c.in-Ok-act_on.other) c.requires.consistent c.in-Ok.ensures c.in-Ok-carry.ensures acts)
