@@ -25,8 +25,9 @@ each_next fs i f u word h is =
 
 -- after a tag
 pub each_kept : (fs : List (List ℕ × Ty)) (i : ℕ) (f : List ℕ × Ty) (u part u' : WordTree) (word : ℕ → WordTree) (whole : WordTree) → i < length fs → f ≡ get_or fs i f
-    → part ≡ at_word f.0 (word i) → u' ≡ joined u part → left_tags u fs i word ≡ whole → left_tags u' fs (i + 1) word ≡ whole
-each_kept fs i f u part u' word whole h is e g k = rw (g, e) (sym (each_next fs i f u word h is) ∙ k)
+    → part ≡ at_word (get_or fs i f).0 (word i) → u' ≡ joined u part → left_tags u fs i word ≡ whole → left_tags u' fs (i + 1) word ≡ whole
+each_kept fs i f u part u' word whole h is e g k =
+    rw (g, e, sym is) (sym (each_next fs i f u word h is) ∙ k)
 
 -- after the last tag
 pub each_end : (fs : List (List ℕ × Ty)) (i : ℕ) (u : WordTree) (word : ℕ → WordTree) (whole : WordTree) → length fs ≤ i → left_tags u fs i word ≡ whole → u ≡ whole

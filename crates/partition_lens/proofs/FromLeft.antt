@@ -20,11 +20,11 @@ use Rattle.tag_seq.specs.Tags.{are_below, count, rank, moved}
 use Rattle.tag_seq.proofs.Totals.{below-append as below_both}
 use Rattle.lens_core.specs.Consistency.{list_doc}
 use Rattle.lens_core.specs.Partition.{Parted, mv, del, reorder, at_each_tag, ranks_of, part_left}
-use Rattle.partition_lens.proofs.Items.{Item, tag_of, tags_of, contents_at, contents-append, length-contents, contents-here, contents-off, rank-part, tag-part, here_is, without_here, put_here, split_at, cut_at, parts_same, same_number}
+use Rattle.partition_lens.proofs.ItemLists.{Item, tag_of, tags_of, contents_at, contents-append, length-contents, contents-here, contents-off, rank-part, tag-part, here_is, without_here, put_here, split_at, cut_at, parts_same, same_number}
 use Rattle.partition_lens.proofs.ListEdits.{Allowed, edited, edited-through, Turns, edit_turns, edit_back, mod_back, mv_turns, del_turns, reorder_turns, below, is_below, at_most}
 use Rattle.partition_lens.proofs.RightLists.{tag_type, IsPartition, TurnsLists, one_list_turns, each_list_turns, item_doc, item_docs, lists_by_tag}
 use Rattle.partition_lens.proofs.ItemWords.{item_steps}
-use Rattle.partition_lens.proofs.Orders.{IsOrder, ranks_order, gathered_by_tag, each_within}
+use Rattle.partition_lens.proofs.TagOrders.{IsOrder, ranks_order, gathered_by_tag, each_within}
 
 -- the step: the new items, and the word that turns the lists on the right into theirs
 pub record LeftStep (fs : FieldTrees) (ps : List Item) (o : Option Parted) (x : DocTree) : Type 0 where

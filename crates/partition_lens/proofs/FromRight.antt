@@ -20,11 +20,11 @@ use Rattle.lens_core.specs.Consistency.{list_doc}
 use Rattle.lens_core.specs.Partition.{Parted, mv, place_in, mod_occurrence, switch_places, insert_occurrences, delete_last, delete_occurrences, move_occurrence}
 use Rattle.lens_core.proofs.Results.{acts_joined}
 use Rattle.lens_core.proofs.LawsOfLeaves.{bytes_same}
-use Rattle.partition_lens.proofs.Items.{Item, tag_of, tags_of, contents_at, contents-append, length-contents, contents-here, contents-off, occurrence, parts_same, without_here}
+use Rattle.partition_lens.proofs.ItemLists.{Item, tag_of, tags_of, contents_at, contents-append, length-contents, contents-here, contents-off, occurrence, parts_same, without_here}
 use Rattle.partition_lens.proofs.ListEdits.{edited, edited-through, remove-through, Turns, edit_turns, ModActs, mod_turns, mv_turns, remove_turns}
 use Rattle.partition_lens.proofs.RightLists.{tag_type, IsPartition, type_by_name, item_doc, item_docs}
 use Rattle.partition_lens.proofs.Counts.{place_found}
-use Rattle.partition_lens.proofs.Orders.{place_by_rank}
+use Rattle.partition_lens.proofs.TagOrders.{place_by_rank}
 use Rattle.partition_lens.proofs.FromLeft.{below-append, below-many, below_here, below_there, below_without, first_item, first_is, contents_many, contents_none, moved_is}
 
 -- the step: the new items, whose list at the tag t is vs and whose other lists are the old ones, and the word that turns the list of

@@ -20,7 +20,7 @@ use Rattle.tag_seq.specs.Tags.{count, rank}
 use Rattle.lens_core.specs.Partition.{Parted, mv, part_item}
 use Rattle.lens_core.proofs.Results.{after_ok, acts_joined}
 use Rattle.lens_core.proofs.LawsOfLeaves.{bytes_are}
-use Rattle.partition_lens.proofs.Items.{Item, tag_of, tags_of, contents_at, contents-append, length-contents, contents-here, contents-off, rank-part, tag-part, same_number}
+use Rattle.partition_lens.proofs.ItemLists.{Item, tag_of, tags_of, contents_at, contents-append, length-contents, contents-here, contents-off, rank-part, tag-part, same_number}
 use Rattle.partition_lens.proofs.ListEdits.{Turns, edit_turns, mod_turns, mv_turns, remove_turns}
 use Rattle.partition_lens.proofs.RightLists.{tag_type, IsPartition, found_by_name, type_by_name, tag_found, TurnsLists, one_list_turns, lists_joined, lists_same, item_doc, lists_by_tag}
 

@@ -1,5 +1,5 @@
 -- The laws of a partition, from both sides.
-use Rattle.std.proofs.Common.{◌≡◌, ℕ, ◌<◌, true, List, [], length, map, Some, option_map, Ok, refl, ap, sym, ◌∙◌, subst, arith}
+use Rattle.std.proofs.Common.{◌≡◌, ℕ, ◌<◌, true, List, [], ◌∷◌, length, map, Some, option_map, Ok, refl, ap, sym, ◌∙◌, subst, arith}
 use Rattle.std.proofs.lemmas.Bool.{eqb-true}
 use Rattle.hold_shapes.specs.declared.shape.Shape.{Shape}
 use Rattle.hold_shapes.specs.declared.shape.Shape.TheVariants.{List as ListOf, Keyed as KeyedOf, Tree as TreeOf}
@@ -27,7 +27,7 @@ use Rattle.doc_values.proofs.InitialTypes.{has_initial}
 use Rattle.doc_values.proofs.Lists.{doc_list-docs_of, docs_of-doc_list}
 use Rattle.edit_module.proofs.ActionKeepsTypes.{has_primitive, has_act}
 use Rattle.lens_core.proofs.RecordFields.{content-initial}
-use Rattle.partition_lens.proofs.Items.{Item, tags_of}
+use Rattle.partition_lens.proofs.ItemLists.{Item, tags_of}
 use Rattle.partition_lens.proofs.RightLists.{right_lists, IsPartition, HasLists, item_docs, lists_by_tag, right_type_is, type_by_name, items_of, tags_of_items, theirs_are_lists, lists_are_theirs}
 use Rattle.partition_lens.proofs.FromLeft.{left_step}
 use Rattle.partition_lens.proofs.RightWords.{record_step}

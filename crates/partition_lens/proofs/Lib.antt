@@ -3,12 +3,12 @@ pub mod EachTag
 pub mod EmittedWords
 pub mod FromLeft
 pub mod FromRight
-pub mod Items
+pub mod ItemLists
 pub mod ItemWords
 pub mod LawsOfPartitions
 pub mod ListEdits
 pub mod MarkedRanks
-pub mod Orders
+pub mod TagOrders
 pub mod OrderTests
 pub mod Reorderings
 pub mod RightLists

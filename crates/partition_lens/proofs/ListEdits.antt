@@ -27,7 +27,7 @@ use Rattle.lens_core.specs.Consistency.{list_doc}
 use Rattle.lens_core.specs.Partition.{mv, del, reorder, is_identity}
 use Rattle.doc_values.proofs.Lists.{doc_list-docs_of}
 use Rattle.lens_core.proofs.Results.{acted_at, acts_joined}
-use Rattle.partition_lens.proofs.Items.{IsSplit, split_at, parts_same, here_is, without_here, set_here, put_here}
+use Rattle.partition_lens.proofs.ItemLists.{IsSplit, split_at, parts_same, here_is, without_here, set_here, put_here}
 
 -- ---- edits of lists of anything
 

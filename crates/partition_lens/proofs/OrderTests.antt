@@ -1,6 +1,6 @@
 -- What a plan of a reorder says of its order.
-use Rattle.std.proofs.Common.{◌≡◌, ℕ, zero, suc, ◌<◌, Bool, true, false, ◌&&◌, List, [], ◌∷◌, length, map, get_or, Ok, Err, refl, arith}
-use Rattle.std.specs.Prelude.{nat_eq, nat_lt, not, cond}
+use Rattle.std.proofs.Common.{◌≡◌, ℕ, zero, suc, ◌<◌, Bool, true, false, ◌&&◌, List, [], ◌∷◌, length, map, Ok, Err, refl, arith}
+use Rattle.std.specs.Prelude.{nat_eq, nat_lt, not, cond, slice_index}
 use Rattle.std.proofs.lemmas.Bool.{ltb-true, eqb-true}
 use Rattle.texts.proofs.Conjunction.{first, second}
 use Rattle.hold_shapes.specs.declared.shape.Shape.{Shape}
@@ -40,14 +40,15 @@ pub ruleset order_rules = (order_planned, order_refused, test_each, test_long)
 
 -- ---- each place of an order is one of the list
 
-pub order_below : (n : ℕ) (before f : List ℕ) (i k : ℕ) → is_each_new n before f ≡ true → i < length f → k ≡ get_or f i k → k < n
-order_below n before [] i k h l e = absurd (omega arith)
-order_below n before (x ∷ f) zero k h l e =
-    let low = ltb-true x n (first (nat_lt x n) (not (has_number x before) && is_each_new n (x ∷ before) f) h) in
-    omega (arith, low, e)
-order_below n before (x ∷ f) (suc i) k h l e =
-    order_below n (x ∷ before) f i k
+below_before : (n : ℕ) (before f : List ℕ) (i : ℕ) → is_each_new n before f ≡ true → i < length f → slice_index f i < n
+below_before n before [] i h l = absurd (omega arith)
+below_before n before (x ∷ f) zero h l = ltb-true x n (first (nat_lt x n) (not (has_number x before) && is_each_new n (x ∷ before) f) h)
+below_before n before (x ∷ f) (suc i) h l =
+    below_before n (x ∷ before) f i
     (second (not (has_number x before)) (is_each_new n (x ∷ before) f) (second (nat_lt x n) (not (has_number x before) && is_each_new n (x ∷ before) f) h))
-    (omega arith) e
+    (omega arith)
+
+pub order_below : (n : ℕ) (f : List ℕ) (i : ℕ) → is_each_new n [] f ≡ true → i < length f → slice_index f i < n
+order_below n f i h l = below_before n [] f i h l
 
 pub ruleset below_rules = (order_below)

@@ -1,5 +1,5 @@
 -- Partition from the right: the list of one tag is reordered among the places of its items.
-use Rattle.std.proofs.Common.{◌≡◌, ℕ, zero, suc, ◌+◌, ◌-◌, ◌<◌, ◌≤◌, Bool, true, false, List, [], ◌∷◌, ◌++◌, length, map, drop, get_or, Option, Some, None, Ok, refl, ap, sym, ◌∙◌, subst, arith, length-append}
+use Rattle.std.proofs.Common.{◌≡◌, ℕ, zero, suc, ◌+◌, ◌<◌, ◌≤◌, Bool, true, false, List, [], ◌∷◌, ◌++◌, length, map, drop, get_or, Option, Some, None, Ok, refl, ap, sym, ◌∙◌, subst, arith, length-append}
 use Rattle.std.specs.Prelude.{nat_eq, cond, slice_index}
 use Rattle.std.specs.List.{range_with_len}
 use Rattle.std.proofs.lemmas.Bool.{eq-eqb, eqb-true}
@@ -15,10 +15,10 @@ use Rattle.tag_seq.specs.Tags.{are_below, rank, place}
 use Rattle.lens_core.specs.Consistency.{list_doc}
 use Rattle.lens_core.specs.Partition.{place_in, place_from, reorder, reorder_occurrences}
 use Rattle.lens_core.proofs.NameTests.{or_later}
-use Rattle.partition_lens.proofs.Items.{Item, tag_of, tags_of, contents_at, contents-append, contents-here, rank-part, tag-part, here_is, occurrence, same_number}
+use Rattle.partition_lens.proofs.ItemLists.{Item, tag_of, tags_of, contents_at, contents-append, contents-here, rank-part, tag-part, here_is, occurrence, same_number}
 use Rattle.partition_lens.proofs.ListEdits.{edited, edited-through, reorder_turns}
 use Rattle.partition_lens.proofs.RightLists.{item_doc, item_docs}
-use Rattle.partition_lens.proofs.Orders.{IsOrder, AreWithin, each_within, within_parts, within_none, within_make, each_parts, each_make, placed}
+use Rattle.partition_lens.proofs.TagOrders.{IsOrder, AreWithin, each_within, within_parts, within_none, within_make, each_parts, each_make, placed}
 use Rattle.partition_lens.proofs.FromLeft.{first_item, first_is}
 use Rattle.partition_lens.proofs.FromRight.{RightStep}
 

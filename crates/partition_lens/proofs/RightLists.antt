@@ -1,5 +1,5 @@
 -- The right record of a partition as a list for each tag's number, and the words that turn these lists.
-use Rattle.std.proofs.Common.{◌≡◌, ℕ, zero, suc, ◌+◌, ◌-◌, ◌<◌, ◌≤◌, Bool, true, false, List, [], ◌∷◌, map, Option, Some, None, option_map, Ok, refl, ap, sym, ◌∙◌, subst, arith, one-add}
+use Rattle.std.proofs.Common.{◌≡◌, ℕ, zero, suc, ◌+◌, ◌<◌, ◌≤◌, Bool, true, false, List, [], ◌∷◌, map, Option, Some, None, option_map, Ok, refl, ap, sym, ◌∙◌, subst, arith, one-add}
 use Rattle.std.specs.Prelude.{nat_eq, nat_lt, bytes_eq, not, cond}
 use Rattle.std.proofs.lemmas.Bool.{eq-eqb, eqb-true}
 use Rattle.std.proofs.lemmas.Bool.Decides.{nat_tests}
@@ -22,7 +22,7 @@ use Rattle.lens_core.proofs.LawsOfLeaves.{bytes_are, bytes_same, differs_back}
 use Rattle.doc_values.proofs.FieldPlaces.{lookup_type_place}
 use Rattle.lens_core.proofs.NameTests.{not_that, or_later}
 use Rattle.lens_core.proofs.RecordFields.{lookup_type-more, lookup_type-insert, content-found, content-put, field_acts}
-use Rattle.partition_lens.proofs.Items.{Item, tags_of, contents_at, same_number}
+use Rattle.partition_lens.proofs.ItemLists.{Item, tags_of, contents_at, same_number}
 use Rattle.partition_lens.proofs.ListEdits.{Turns, below}
 
 -- ---- names and numbers of tags
@@ -236,16 +236,16 @@ contents_are fs (p ∷ ps) k a h b =
     let rest = contents_are fs ps k a h (second (nat_lt p.0 (tag_count fs)) (are_below (tag_count fs) (tags_of ps)) b) in
     rw (names_as_numbers fs p.0 k a here h, rest) refl
 
-theirs_make : (rest fields : FieldTrees) (ys : DocTrees) (xs : List DocTree) → ((j : ℕ) → j < tag_count rest → content fields ys (tag_name rest j) ≡ Some (list_doc (contents_with (tag_name rest j) xs)))
-    → HasTheirContents rest fields ys xs
-theirs_make no_fields fields ys xs h = tt
-theirs_make (more_fields n t rest) fields ys xs h = (h 0 (omega arith), theirs_make rest fields ys xs (λ j b. h (suc j) (omega arith)))
+theirs_make : (rest rights : FieldTrees) (ys : DocTrees) (xs : List DocTree) → ((j : ℕ) → j < tag_count rest → content rights ys (tag_name rest j) ≡ Some (list_doc (contents_with (tag_name rest j) xs)))
+    → HasTheirContents rest rights ys xs
+theirs_make no_fields rights ys xs h = tt
+theirs_make (more_fields n t rest) rights ys xs h = (h 0 (omega arith), theirs_make rest rights ys xs (λ j b. h (suc j) (omega arith)))
 
-theirs_at : (rest fields : FieldTrees) (ys : DocTrees) (xs : List DocTree) → HasTheirContents rest fields ys xs → (j : ℕ) → j < tag_count rest
-    → content fields ys (tag_name rest j) ≡ Some (list_doc (contents_with (tag_name rest j) xs))
-theirs_at no_fields fields ys xs h j b = absurd (omega arith)
-theirs_at (more_fields n t rest) fields ys xs h zero b = h.0
-theirs_at (more_fields n t rest) fields ys xs h (suc j) b = theirs_at rest fields ys xs h.1 j (omega arith)
+theirs_at : (rest rights : FieldTrees) (ys : DocTrees) (xs : List DocTree) → HasTheirContents rest rights ys xs → (j : ℕ) → j < tag_count rest
+    → content rights ys (tag_name rest j) ≡ Some (list_doc (contents_with (tag_name rest j) xs))
+theirs_at no_fields rights ys xs h j b = absurd (omega arith)
+theirs_at (more_fields n t rest) rights ys xs h zero b = h.0
+theirs_at (more_fields n t rest) rights ys xs h (suc j) b = theirs_at rest rights ys xs h.1 j (omega arith)
 
 pub theirs_are_lists : (fs : FieldTrees) (ys : DocTrees) (ps : List Item) → are_distinct (names_of fs) ≡ true → are_below (tag_count fs) (tags_of ps) ≡ true → has_fields (right_lists fs) ys ≡ true
     → HasTheirContents fs (right_lists fs) ys (item_docs fs ps) → HasLists fs ys (lists_by_tag ps)

@@ -21,10 +21,10 @@ use Rattle.lens_core.specs.Partition.{Parted, part_occurrence, part_right}
 use Rattle.lens_core.proofs.Results.{after_ok, acts_joined}
 use Rattle.edit_module.proofs.ActionKeepsTypes.{has_primitive}
 use Rattle.lens_core.proofs.RecordFields.{content-found, content-put, ActsOnField, acts_on_field}
-use Rattle.partition_lens.proofs.Items.{Item, tags_of, contents_at, length-contents}
+use Rattle.partition_lens.proofs.ItemLists.{Item, tags_of, contents_at, length-contents}
 use Rattle.partition_lens.proofs.ListEdits.{Allowed, edited, edit_back, mod_back, below, is_below, at_most}
 use Rattle.partition_lens.proofs.RightLists.{tag_type, right_lists, IsPartition, tag_found, names_as_numbers, right_type_is, HasLists, item_docs, lists_by_tag}
-use Rattle.partition_lens.proofs.Orders.{IsOrder}
+use Rattle.partition_lens.proofs.TagOrders.{IsOrder}
 use Rattle.partition_lens.proofs.FromRight.{RightStep, mod_step, ins_step, del_step, move_step}
 use Rattle.partition_lens.proofs.Reorderings.{reorder_step}
 

@@ -1,5 +1,5 @@
 -- A word taken one primitive at a time: what is left of it, behind what was emitted.
-use Rattle.std.proofs.Common.{◌≡◌, ℕ, ◌+◌, ◌<◌, ◌≤◌, List, length, map, drop, drop-cons, get_or, add-one, Option, None, Some, option_map, refl, ap, sym, ◌∙◌}
+use Rattle.std.proofs.Common.{◌≡◌, ℕ, suc, ◌+◌, ◌<◌, ◌≤◌, List, length, map, drop, drop-cons, get_or, add-one, Option, None, Some, option_map, refl, ap, sym, ◌∙◌}
 use Rattle.std.proofs.lemmas.List.{drop_all}
 use Rattle.edit_module.specs.declared.word.Primitive.{Primitive}
 use Rattle.edit_module.specs.Words.{PrimitiveTree, WordTree, no_primitives, more_primitives, word_of, joined}

@@ -8,7 +8,6 @@ ghost use Rattle.lens_forms.specs.Typing.{is_typed};
 ghost use Rattle.lens_core.specs.Laws.{Laws};
 
 /// A partition that is typed keeps the laws.
-#[tactic(auto, using(crate::proofs::LawsOfPartitions::typed_partition_laws))]
 pub fn partition_laws()
     ensures { (fields : FieldTrees) → IsTrue (is_typed (form_part fields)) → Laws (form_part fields) }
 {}

@@ -48,7 +48,6 @@ pub(crate) fn is_order(
 }
 
 /// The list of each tag takes the order in which its items come in the new list.
-#[tactic(auto, using(crate::proofs::MarkedRanks::each_marked))]
 pub(crate) fn reorder_items(
     alloc: Global,
     tags: &Fields,
@@ -131,11 +130,7 @@ fn reorder_tag(
 
 // A reorder in the list of each tag, in written order.
 #[tactic(auto, using(crate::proofs::EachTag::each_rules))]
-fn reorders(
-    alloc: Global,
-    tags: &Fields,
-    marks: &[(u32, u64)],
-) -> Result<Word, AllocError>
+fn reorders(alloc: Global, tags: &Fields, marks: &[(u32, u64)]) -> Result<Word, AllocError>
     requires few { tag_count (fields_tree tags.now) ≤ 4096 }
     ensures { IfOk result (λ w. word_tree w ≡ at_each_tag (fields_tree tags.now) 0 (λ t. reorder (ranks_in t marks.now))) }
 {

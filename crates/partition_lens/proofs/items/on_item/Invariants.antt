@@ -10,6 +10,6 @@ abbrev pub invariant-loop-primitive : goal.invariant-loop-primitive
 invariant-loop-primitive l = record {
   long : length l.row.tags ≡ length l.seq;
   left :
-      option_map (behind (word_tree l.row.word)) (one_by_one (part_item (fields_tree l.tags) l.place) l.row.tags (word_of (map primitive_tree (drop l.primitive-index l.primitive-items))))
+      option_map (behind (word_tree l.row.word)) (one_by_one (part_item (fields_tree l.tags) l.place) l.row.tags (word_of (map primitive_tree (drop l.primitive-index l.primitives))))
       ≡ one_by_one (part_item (fields_tree l.tags) l.place) l.seq (word_tree l.word);
 }

@@ -7,5 +7,5 @@ use Rattle.partition_lens.proofs.right.on_list.Given as goal
 
 abbrev pub invariant-loop-primitive : goal.invariant-loop-primitive
 invariant-loop-primitive l =
-    option_map (behind (word_tree l.row.word)) (one_by_one (part_occurrence l.first l.name l.number) l.row.tags (word_of (map primitive_tree (drop l.primitive-index l.primitive-items))))
+    option_map (behind (word_tree l.row.word)) (one_by_one (part_occurrence l.first l.name l.number) l.row.tags (word_of (map primitive_tree (drop l.primitive-index l.primitives))))
     ≡ one_by_one (part_occurrence l.first l.name l.number) l.seq (word_tree l.word)

@@ -1,5 +1,5 @@
 -- The ranks of the items of one tag, in the order in which a reordering takes them, are an order of that tag's list.
-use Rattle.std.proofs.Common.{◌≡◌, ℕ, ◌+◌, ◌-◌, ◌<◌, Bool, true, false, ◌&&◌, ◌||◌, not, List, [], ◌∷◌, ◌++◌, length, map, get_or, Some, refl, ap, sym, ◌∙◌, subst, arith}
+use Rattle.std.proofs.Common.{◌≡◌, ℕ, ◌+◌, ◌<◌, Bool, true, false, ◌&&◌, ◌||◌, not, List, [], ◌∷◌, ◌++◌, length, map, get_or, Some, refl, ap, sym, ◌∙◌, subst, arith}
 use Rattle.std.specs.Prelude.{nat_eq, nat_lt, cond, slice_index, slice_get}
 use Rattle.std.specs.List.{sum_by}
 use Rattle.std.specs.List.Sorted.{IsPermutation}
@@ -17,7 +17,7 @@ use Rattle.doc_values.specs.Documents.{DocTree}
 use Rattle.tag_seq.specs.Tags.{count, rank, place, one_if_same}
 use Rattle.tag_seq.proofs.Ranks.{place-after-rank}
 use Rattle.lens_core.specs.Partition.{ranks_of}
-use Rattle.partition_lens.proofs.Items.{Item, tag_of, tags_of, contents_at, length-contents, contents-here, rank-part, tag-part, here_is, split_at}
+use Rattle.partition_lens.proofs.ItemLists.{Item, tag_of, tags_of, contents_at, length-contents, contents-here, rank-part, tag-part, here_is, split_at}
 use Rattle.partition_lens.proofs.ListEdits.{below, is_below}
 
 -- ---- counts in another order
