@@ -1,5 +1,5 @@
 -- The two steps of a container's translation: with the lens inside they are its row; and what a beginning says of its primitive.
-use Rattle.std.proofs.Common.{◌≡◌, ℕ, Bool, true, false, List, map, Option, None, Some, option_map, Ok, refl, arith}
+use Rattle.std.proofs.Common.{◌≡◌, ℕ, Bool, true, false, List, map, Option, None, Some, option_map, Ok, refl, sym, subst, arith}
 use Rattle.std.specs.Prelude.{option_and_then, nat_eq, if◌then◌else◌}
 use Rattle.std.proofs.lemmas.Bool.Decides.{nat_tests}
 use Rattle.texts.specs.declared.side.Side.{Side}
@@ -31,7 +31,7 @@ mod_done s cs q u i (Some r) e = rw e refl
 module _ (inner : CompTree → WordTree → Option Translated) where
   mod_round : (s : Shape) (cs : CompTrees) (q : Place) (u : WordTree) (o : Option ℕ) → place_of s q ≡ o
       → option_and_then (λ i. option_map (λ r. (mod_word q r.0, hold_comp s (put_comp cs i r.1))) (inner (comp_at cs i) u)) o
-      ≡ option_and_then (carried_on (λ i c w. inner c w) (finish_held s cs (modify q u))) (option_map (λ i. inside i (comp_at cs i) u) o)
+      ≡ option_and_then (carried_on (λ i c w. inner c w) (finish_held s cs (modify q u))) (option_map (λ i. inside 0 (comp_at cs i) u) o)
   mod_round s cs q u None e = refl
   mod_round s cs q u (Some i) e = mod_done s cs q u i (inner (comp_at cs i) u) e
 
@@ -107,7 +107,7 @@ row_is_mod start s cs (switch t n u) e h = h
 pub begun_is_mod : (s : Shape) (cs : CompTrees) (p : PrimitiveTree) → is_mod p ≡ false → HasBegun s cs p → ⊥
 begun_is_mod s cs p e h = row_is_mod h.0 s cs p e (counted (nat_eq (comp_count cs) (size_of s)) (begin_row h.0 s cs p) h.1).1
 
-missing_place : (s : Shape) (cs : CompTrees) (q : Place) (u : WordTree) (o : Option ℕ) → o ≡ None → IsInside (option_map (λ i. inside i (comp_at cs i) u) o) → ⊥
+missing_place : (s : Shape) (cs : CompTrees) (q : Place) (u : WordTree) (o : Option ℕ) → o ≡ None → IsInside (option_map (λ i. inside 0 (comp_at cs i) u) o) → ⊥
 missing_place s cs q u None e h = h
 missing_place s cs q u (Some i) e h = cc
 
@@ -121,6 +121,11 @@ pub begun_is_counted : (s : Shape) (cs : CompTrees) (p : PrimitiveTree) → HasB
 begun_is_counted s cs p h =
     let e = (counted (nat_eq (comp_count cs) (size_of s)) (begin_row h.0 s cs p) h.1).0 in
     grind (arith, nat_tests)
+
+-- the condition of the finish, from what the beginning answered
+pub begins_inside : (start : CompTree) (s : Shape) (cs : CompTrees) (p : PrimitiveTree) (i : ℕ) (c : CompTree) (w : WordTree)
+    → begin_held start s cs p ≡ Some (inside i c w) → HasBegun s cs p
+begins_inside start s cs p i c w e = (start, subst (λ o. IsInside o) (sym e) tt)
 
 pub ruleset begun_rules = (begun_is_mod, begun_has_place, begun_is_counted)
 

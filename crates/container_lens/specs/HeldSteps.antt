@@ -13,9 +13,9 @@ use Rattle.lens_core.specs.Translation.{Translated, comp_at, put_comp, gathered_
 
 -- ---- the beginning
 
--- Mod: its word is translated with the complement of the place
+-- Mod: its word is translated with the complement of the place, by the only lens inside
 abbrev pub begin_mod : Shape → CompTrees → Place → WordTree → Option Beginning
-begin_mod s cs at_place u = option_map (λ i. inside i (comp_at cs i) u) (place_of s at_place)
+begin_mod s cs at_place u = option_map (λ i. inside 0 (comp_at cs i) u) (place_of s at_place)
 
 -- a shape edit: the same edit, and the complements gathered by its plan
 abbrev pub begin_reshaped : CompTree → Shape → CompTrees → ShapeEdit → Option Beginning

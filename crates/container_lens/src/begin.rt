@@ -24,9 +24,10 @@ use texts::Twin;
 /// Begins the translation of one primitive through a lens that is mapped over a container, with the complement of each
 /// place. `start` is the missing complement of the lens inside.
 ///
-/// Mod of a place needs the lens inside: the result says the number of the place, a copy of its complement, and the word to
-/// translate. It takes the time of the path to the place. A shape edit with a plan is finished: the result is the same
-/// edit, with the complements gathered by the plan, and `start` at each fresh place.
+/// Mod of a place needs the lens inside: the result has a copy of the complement of the place and the word to translate.
+/// The number of the lens is 0, since a container has one. It takes the time of the path to the place. A shape edit with a
+/// plan is finished: the result is the same edit, with the complements gathered by the plan, and `start` at each fresh
+/// place.
 ///
 /// - `Unfit`: if and only if there is no such beginning: for other primitives, for a place or an edit of another kind of
 ///   shape, for a place that the shape does not have, for an edit that has no plan, and where the complements are not as
@@ -73,7 +74,7 @@ fn begin_mod(
         return Err(CarryFault::Unfit);
     };
     Ok(Begun::Inner {
-        part: at,
+        part: 0,
         comp: comps.get(at as usize).twin(alloc)?,
         word: word.twin(alloc)?,
     })

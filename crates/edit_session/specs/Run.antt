@@ -40,6 +40,7 @@ module _ {F : Type 0} where
   is_refused (no_apply at cause) = true
   is_refused (no_entry fault) = true
 
+  -- some item of a run was refused
   abbrev pub any_refused : List (TripleTree × AnswerTree F) → Bool
   any_refused steps = list_any (λ s. is_refused s.1) steps
 

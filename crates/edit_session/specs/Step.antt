@@ -13,6 +13,7 @@ use Rattle.lens_core.specs.Complements.{CompTree}
 use Rattle.lens_core.specs.Sides.{near}
 use Rattle.lens_core.specs.Translation.{Translated}
 
+-- a left document, a complement and a right document, as plain trees
 pub record TripleTree : Type 0 where
   pub left : DocTree
   pub comp : CompTree

@@ -1,5 +1,5 @@
 -- Lists of complements as trees.
-use Rattle.std.proofs.Common.{◌≡◌, ℕ, suc, ◌<◌, ◌+◌, List, [], ◌∷◌, length, map, get_or, add-one, refl, sym, ap, ◌∙◌, rules}
+use Rattle.std.proofs.Common.{◌≡◌, ℕ, ◌+◌, List, [], ◌∷◌, length, map, get_or, add-one, refl, ap, ◌∙◌, rules}
 use Rattle.std.specs.Prelude.{slice_get}
 use Rattle.std.specs.declared.option.Option.TheVariants.{Some}
 use Rattle.std.proofs.lemmas.List.{get_or-map, map-set}

@@ -1,18 +1,16 @@
 -- Translation and the relation, tried by computation on worked examples.
-use Rattle.std.proofs.Common.{◌≡◌, refl, ℕ, zero, suc, List, [], ◌∷◌, Option, Some, None}
-use Rattle.std.specs.Prelude.{codes, pos, true, IsTrue, Ok, Err, Result}
-use Rattle.hold_shapes.specs.declared.shape.Shape.TheVariants.{List as ListOf, Keyed as KeyedOf, Tree as TreeOf}
-use Rattle.hold_shapes.specs.declared.edit.Place.TheVariants.{Index, Key, Node}
-use Rattle.hold_shapes.specs.declared.edit.ShapeEdit.TheVariants.{Ins, Del, MoveItem, Reorder, PutKey, DropKey, RenameKey, Graft, Prune, Shift, Hang}
+use Rattle.std.proofs.Common.{◌≡◌, refl, [], ◌∷◌, Some, None}
+use Rattle.std.specs.Prelude.{codes, pos}
+use Rattle.hold_shapes.specs.declared.shape.Shape.TheVariants.{Keyed as KeyedOf, Tree as TreeOf}
+use Rattle.hold_shapes.specs.declared.edit.Place.TheVariants.{Index}
+use Rattle.hold_shapes.specs.declared.edit.ShapeEdit.TheVariants.{Ins, Del, MoveItem, Reorder, RenameKey, Graft}
 use Rattle.texts.specs.declared.side.Side.TheVariants.{Left, Right}
-use Rattle.edit_module.specs.declared.atom.Atom.TheVariants.{Truth, Number, Letters}
-use Rattle.doc_values.specs.Documents.{DocTree, int, text, rec, alt, hold, no_docs, more_docs}
-use Rattle.doc_values.specs.Types.{TyTree, ty_int, ty_text, FieldTrees, no_fields, more_fields}
-use Rattle.edit_module.specs.Words.{PrimitiveTree, set, add, at, stay, switch, modify, shape, WordTree, no_primitives, more_primitives}
+use Rattle.edit_module.specs.declared.atom.Atom.TheVariants.{Number, Letters}
+use Rattle.doc_values.specs.Types.{TyTree, ty_int, ty_text, no_fields, more_fields}
+use Rattle.edit_module.specs.Words.{PrimitiveTree, set, add, at, switch, modify, shape, WordTree, no_primitives, more_primitives}
 use Rattle.lens_core.specs.Emitted.{one}
-use Rattle.lens_forms.specs.Forms.{FormTree, form_id, form_bij, form_disc, form_then, form_rec, form_alt, form_each, form_keyed, form_ordered, form_part, form_inv, no_rows, both, only_left, only_right, no_arms, more_arms}
-use Rattle.lens_core.specs.Complements.{CompTree, nil, then_comp, rec_comp, alt_comp, hold_comp, tags_comp, no_comps, more_comps, Fits, missing}
-use Rattle.lens_core.specs.Consistency.{IsConsistent}
+use Rattle.lens_forms.specs.Forms.{FormTree, form_id, form_bij, form_disc, form_then, form_rec, form_alt, form_keyed, form_ordered, form_part, form_inv, no_rows, both, only_left, only_right, no_arms, more_arms}
+use Rattle.lens_core.specs.Complements.{CompTree, nil, then_comp, rec_comp, alt_comp, hold_comp, tags_comp, no_comps, more_comps, missing}
 use Rattle.lens_core.specs.Translation.{translate}
 
 abbrev number : TyTree

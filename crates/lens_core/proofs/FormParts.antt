@@ -1,7 +1,6 @@
 -- A row and an arm have fewer parts than the rows and the arms that have them: what the recursion into them goes by.
 use Rattle.std.proofs.Common.{◌≡◌, ℕ, zero, suc, ◌+◌, ◌<◌, List, [], ◌∷◌, length, map, get_or, arith}
-use Rattle.doc_values.specs.Types.{TyTree}
-use Rattle.lens_forms.specs.Forms.{FormTree, RowTrees, no_rows, both, only_left, only_right, RowTree, row_both, row_left, row_right, with_row, form_rows_of, row_tree, form_arms_of, arm_tree, form_tree}
+use Rattle.lens_forms.specs.Forms.{RowTrees, RowTree, row_both, row_left, row_right, with_row, form_rows_of, row_tree, form_arms_of, arm_tree, form_tree}
 use Rattle.lens_forms.specs.Measures.{type_parts, form_parts, rows_parts, arms_parts}
 use Rattle.lens_forms.specs.declared.form.Form.{Form}
 use Rattle.lens_forms.specs.declared.form.FormRow.{FormRow}

@@ -1,6 +1,5 @@
 -- The laws of inverse and composition, from those of the lenses inside.
-use Rattle.std.proofs.Common.{◌≡◌, Option, None, Some, option_map, Result, Ok, Err, refl, ap, sym, ◌∙◌, subst}
-use Rattle.std.specs.Prelude.{option_and_then}
+use Rattle.std.proofs.Common.{◌≡◌, Some, Ok, refl, sym, subst}
 use Rattle.texts.specs.declared.side.Side.{Side}
 use Rattle.texts.specs.declared.side.Side.TheVariants.{Left, Right}
 use Rattle.doc_values.specs.Documents.{DocTree}
@@ -9,14 +8,13 @@ use Rattle.doc_values.specs.Types.{is_well_formed}
 use Rattle.edit_module.specs.Words.{PrimitiveTree, WordTree}
 use Rattle.doc_values.specs.Initial.{initial}
 use Rattle.edit_module.specs.Action.{act, act_primitive}
-use Rattle.lens_forms.specs.Forms.{FormTree, form_inv, form_then, form_id, form_disc, form_bij, form_rec, form_alt, form_each, form_keyed, form_ordered, form_part, left_type, right_type}
+use Rattle.lens_forms.specs.Forms.{FormTree, form_inv, form_then, left_type, right_type}
 use Rattle.texts.specs.Sides.{other}
 use Rattle.lens_core.specs.Sides.{type_on}
-use Rattle.lens_core.specs.Emitted.{one_by_one}
-use Rattle.lens_core.specs.Complements.{CompTree, nil, then_comp, rec_comp, alt_comp, hold_comp, tags_comp, Fits, missing}
-use Rattle.lens_core.specs.Consistency.{IsConsistent, AreTyped, HasMiddle}
+use Rattle.lens_core.specs.Complements.{CompTree, nil, then_comp, rec_comp, alt_comp, hold_comp, tags_comp, missing}
+use Rattle.lens_core.specs.Consistency.{IsConsistent, HasMiddle}
 use Rattle.lens_core.specs.Translation.{translate_one, translate}
-use Rattle.lens_core.specs.Laws.{IsRelated, Carries, Laws, EditsCarry}
+use Rattle.lens_core.specs.Laws.{IsRelated, Carries, Laws}
 use Rattle.lens_core.proofs.LawsOfWords.{edits_carry, consistent_is_typed}
 
 -- ---- inverse

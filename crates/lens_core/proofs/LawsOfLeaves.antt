@@ -1,27 +1,24 @@
 -- The laws of the lenses that keep nothing: identity, disconnection and bijection.
-use Rattle.std.proofs.Common.{◌≡◌, ◌⊎◌, inl, inr, ℕ, Bool, true, false, List, [], ◌∷◌, Option, None, Some, option_map, Result, Ok, Err, refl, ap, sym, ◌∙◌, subst}
-use Rattle.std.specs.Prelude.{bytes_eq, if◌then◌else◌, cond, ◌&&◌, ◌||◌, not}
+use Rattle.std.proofs.Common.{◌≡◌, inl, inr, ℕ, Bool, true, false, List, [], ◌∷◌, Some, Ok, Err, refl, ap, sym, ◌∙◌, subst}
+use Rattle.std.specs.Prelude.{bytes_eq, cond, ◌||◌}
 use Rattle.std.proofs.lemmas.Slice.Eq.{bytes_eq-Decides}
 use Rattle.texts.specs.declared.side.Side.{Side}
 use Rattle.texts.specs.declared.side.Side.TheVariants.{Left, Right}
 use Rattle.texts.specs.Keys.{has_name}
-use Rattle.texts.proofs.Conjunction.{first, second, both}
-use Rattle.edit_module.specs.declared.atom.Atom.{Atom}
+use Rattle.texts.proofs.Conjunction.{second}
 use Rattle.edit_module.specs.declared.atom.Atom.TheVariants.{Truth, Number, Letters}
 use Rattle.edit_module.specs.declared.fault.Cause.TheVariants.{Value}
-use Rattle.doc_values.specs.Documents.{DocTree, unit, truth, int, text, pick, rec, alt, hold}
-use Rattle.doc_values.specs.Types.{TyTree, ty_enum, is_well_formed, are_choices, are_distinct}
-use Rattle.doc_values.specs.Typing.{has}
-use Rattle.doc_values.specs.Initial.{initial}
-use Rattle.edit_module.specs.Words.{PrimitiveTree, set, add, splice, at, stay, switch, modify, shape, WordTree, no_primitives, more_primitives}
-use Rattle.edit_module.specs.Action.{act, act_primitive, after}
-use Rattle.lens_forms.specs.Forms.{FormTree, form_id, form_disc, form_bij, lefts, rights, partner_of}
+use Rattle.doc_values.specs.Documents.{DocTree, pick}
+use Rattle.doc_values.specs.Types.{TyTree, ty_enum, is_well_formed, are_choices}
+use Rattle.edit_module.specs.Words.{PrimitiveTree, set, add, splice, at, stay, switch, modify, shape, WordTree, no_primitives}
+use Rattle.edit_module.specs.Action.{act, act_primitive}
+use Rattle.lens_forms.specs.Forms.{form_id, form_disc, form_bij, lefts, rights, partner_of}
 use Rattle.texts.specs.Sides.{other}
 use Rattle.lens_core.specs.Sides.{type_on, near, far}
 use Rattle.lens_core.specs.Emitted.{one}
 use Rattle.lens_core.specs.Complements.{CompTree, nil, then_comp, rec_comp, alt_comp, hold_comp, tags_comp, IsNil}
-use Rattle.lens_core.specs.Consistency.{IsConsistent, AreTyped, IsPair, ArePartners}
-use Rattle.lens_core.specs.Translation.{translate_one, at_nil, partner, set_partner}
+use Rattle.lens_core.specs.Consistency.{IsPair}
+use Rattle.lens_core.specs.Translation.{translate_one, at_nil, partner}
 use Rattle.lens_forms.specs.Typing.{is_typed}
 use Rattle.lens_forms.proofs.TypingLaws.{left_formed, right_formed}
 use Rattle.lens_core.specs.Laws.{IsRelated, Carries, Laws}
@@ -51,13 +48,21 @@ id_step : (t : TyTree) → is_well_formed t ≡ true → (s : Side) (p : Primiti
 id_step t wf Left p x c y x' k e =
     let h = has_primitive t p x x' wf k.0.left_has e in
     record {
-      word = one p; comp = nil; document = x'; carried = passes_at_nil c (one p) k.0.comp_fits; acts = one_acts t p x y x' k.1 e;
+      word = one p;
+      comp = nil;
+      document = x';
+      carried = passes_at_nil c (one p) k.0.comp_fits;
+      acts = one_acts t p x y x' k.1 e;
       consistent = (record { left_has = h; comp_fits = tt; right_has = h }, refl);
     }
 id_step t wf Right p y c x y' k e =
     let h = has_primitive t p y y' wf k.0.right_has e in
     record {
-      word = one p; comp = nil; document = y'; carried = passes_at_nil c (one p) k.0.comp_fits; acts = one_acts t p y x y' (sym k.1) e;
+      word = one p;
+      comp = nil;
+      document = y';
+      carried = passes_at_nil c (one p) k.0.comp_fits;
+      acts = one_acts t p y x y' (sym k.1) e;
       consistent = (record { left_has = h; comp_fits = tt; right_has = h }, refl);
     }
 
@@ -77,11 +82,19 @@ id_laws t wf = record {
 disc_step : (t u : TyTree) → is_well_formed t ≡ true → is_well_formed u ≡ true → (s : Side) (p : PrimitiveTree) (x : DocTree) (c : CompTree) (y x' : DocTree)
     → IsRelated (form_disc t u) s x c y → act_primitive (type_on s (form_disc t u)) p x ≡ Ok x' → Carries (form_disc t u) s x' y (translate_one (form_disc t u) s c p)
 disc_step t u wf wg Left p x c y x' k e = record {
-  word = no_primitives; comp = nil; document = y; carried = passes_at_nil c no_primitives k.comp_fits; acts = refl;
+  word = no_primitives;
+  comp = nil;
+  document = y;
+  carried = passes_at_nil c no_primitives k.comp_fits;
+  acts = refl;
   consistent = record { left_has = has_primitive t p x x' wf k.left_has e; comp_fits = tt; right_has = k.right_has };
 }
 disc_step t u wf wg Right p y c x y' k e = record {
-  word = no_primitives; comp = nil; document = x; carried = passes_at_nil c no_primitives k.comp_fits; acts = refl;
+  word = no_primitives;
+  comp = nil;
+  document = x;
+  carried = passes_at_nil c no_primitives k.comp_fits;
+  acts = refl;
   consistent = record { left_has = k.left_has; comp_fits = tt; right_has = has_primitive u p y y' wg k.right_has e };
 }
 

@@ -1,19 +1,18 @@
 -- From one primitive to a whole word: where each primitive is translated so that the triple stays consistent, so is each word.
-use Rattle.std.proofs.Common.{◌≡◌, Option, None, Some, option_map, Result, Ok, Err, refl, ap, sym, ◌∙◌, subst}
+use Rattle.std.proofs.Common.{◌≡◌, Option, None, Some, option_map, refl, ap, sym, ◌∙◌, subst}
 use Rattle.std.specs.Prelude.{option_and_then}
 use Rattle.texts.specs.declared.side.Side.{Side}
-use Rattle.texts.specs.declared.side.Side.TheVariants.{Left, Right}
 use Rattle.doc_values.specs.Documents.{DocTree}
 use Rattle.edit_module.specs.Words.{PrimitiveTree, WordTree, no_primitives, more_primitives, joined}
-use Rattle.edit_module.specs.Action.{act, act_primitive, after}
+use Rattle.edit_module.specs.Action.{act, act_primitive}
 use Rattle.lens_forms.specs.Forms.{FormTree, form_id, form_bij, form_disc, form_then, form_rec, form_alt, form_each, form_keyed, form_ordered, form_part, form_inv}
 use Rattle.texts.specs.Sides.{other}
 use Rattle.lens_core.specs.Sides.{type_on}
-use Rattle.lens_core.specs.Emitted.{behind, one_by_one}
+use Rattle.lens_core.specs.Emitted.{behind}
 use Rattle.lens_core.specs.Complements.{CompTree}
 use Rattle.lens_core.specs.Translation.{Translated, translate_one, translate}
 use Rattle.lens_core.specs.Laws.{IsRelated, Carries, Laws, StartsConsistent, EditsCarry, EmptyStays, WordsCompose, ConsistentIsTyped}
-use Rattle.lens_core.proofs.Results.{after_ok, acts_joined, some_same}
+use Rattle.lens_core.proofs.Results.{after_ok, acts_joined}
 
 -- the first primitive and then the rest
 carries_more : (l : FormTree) (s : Side) (p : PrimitiveTree) (w : WordTree) (x'' y : DocTree) (c : CompTree) (x' : DocTree)

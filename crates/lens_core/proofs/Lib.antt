@@ -5,6 +5,7 @@ pub mod LawsOfCompositions
 pub mod LawsOfLeaves
 pub mod LawsOfWords
 pub mod LeafSteps
+pub mod LensLaws
 pub mod MissingRows
 pub mod NameTests
 pub mod RecordFields

@@ -79,15 +79,18 @@ content-put (more_fields m t fs) (more_docs d ds) n s v h e k =
   where
     same_name : bytes_eq m n ≡ true → bytes_eq m k ≡ bytes_eq n k
     same_name q = ap (λ z. bytes_eq z k) (bytes_are m n q)
+
     here : (b : Bool) → cond b (Some v) (content fs ds k) ≡ cond b (Some v) (cond b (Some d) (content fs ds k))
     here true = refl
     here false = refl
+
     unlike : bytes_eq m n ≡ false → (b c : Bool) → bytes_eq m k ≡ b → bytes_eq n k ≡ c → cond b (Some d) (cond c (Some v) (content fs ds k)) ≡ cond c (Some v) (cond b (Some d) (content fs ds k))
     unlike q true true f g =
         let p = bytes_are m k f in let r = bytes_are n k g in
         let z = subst (λ y. bytes_eq y n ≡ false) (p ∙ sym r) q in let w = bytes_same n in cc
     unlike q true false f g = refl
     unlike q false c f g = refl
+
     go : (b : Bool) (o : Option (ℕ × TyTree)) → cond b (Some (0, t)) (option_map (later_field 1) o) ≡ Some s
         → ((r : ℕ × TyTree) → o ≡ Some r → content fs (put_at ds r.0 v) k ≡ with_content n v (content fs ds) k) → bytes_eq m n ≡ b
         → content (more_fields m t fs) (put_at (more_docs d ds) s.0 v) k ≡ with_content n v (content (more_fields m t fs) (more_docs d ds)) k

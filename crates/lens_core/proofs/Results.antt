@@ -1,13 +1,11 @@
 -- What an answer that is there says of what it was made of.
-use Rattle.std.proofs.Common.{◌≡◌, ℕ, Bool, true, false, Option, None, Some, option_map, Result, Ok, Err, refl, ap, sym, ◌∙◌}
-use Rattle.std.specs.Prelude.{option_and_then, if◌then◌else◌, cond, IsTrue}
+use Rattle.std.proofs.Common.{◌≡◌, ℕ, Option, None, Some, Result, Ok, Err, refl, ap, ◌∙◌}
 use Rattle.hold_shapes.specs.declared.shape.Shape.{Shape}
 use Rattle.hold_shapes.specs.declared.edit.Place.{Place as PlaceOf}
 use Rattle.hold_shapes.specs.Shapes.{place_of}
 use Rattle.doc_values.specs.Documents.{DocTree, hold, DocTrees}
 use Rattle.doc_values.specs.Types.{TyTree}
-use Rattle.edit_module.specs.Words.{PrimitiveTree, WordTree, no_primitives, more_primitives, joined}
-use Rattle.edit_module.specs.declared.fault.Cause.{Cause}
+use Rattle.edit_module.specs.Words.{WordTree, no_primitives, more_primitives, joined}
 use Rattle.edit_module.specs.declared.fault.Cause.TheVariants.{Place}
 use Rattle.edit_module.specs.Action.{Why, act, act_primitive, later, inner, map_ok, if_present, act_at_place, put_result_at, put_at, doc_at}
 pub use Rattle.edit_module.proofs.ActionKeepsTypes.{after_ok}
@@ -31,6 +29,7 @@ acted_at t w s ds q x' e = at_found (place_of s q) refl e
         → (i : ℕ) × (v : DocTree) × (place_of s q ≡ Some i) × (act t w (doc_at ds i) ≡ Ok v) × (x' ≡ hold s (put_at ds i v))
     put_ok i f (Ok v) a h = (i, v, f, a, cc)
     put_ok i f (Err why) a h = cc
+
     at_found : (o : Option ℕ) → place_of s q ≡ o → if_present o Place (λ i. map_ok (hold s) (put_result_at ds i (act t w (doc_at ds i)))) ≡ Ok x'
         → (i : ℕ) × (v : DocTree) × (place_of s q ≡ Some i) × (act t w (doc_at ds i) ≡ Ok v) × (x' ≡ hold s (put_at ds i v))
     at_found None f h = cc

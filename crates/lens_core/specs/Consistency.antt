@@ -1,13 +1,13 @@
 -- The consistency relation: which left document, complement and right document belong together. `IsConsistent`, at the end, has a
 -- line for each form. No edit occurs in it.
-use Rattle.std.specs.Prelude.{◌≡◌, ℕ, IsTrue, bytes_eq, if◌then◌else◌, List, [], ◌∷◌, map, length, Option, None, Some, option_map, ◌⊎◌}
+use Rattle.std.specs.Prelude.{◌≡◌, ℕ, IsTrue, bytes_eq, if◌then◌else◌, List, [], ◌∷◌, map, length, Option, None, Some, ◌⊎◌}
 use Rattle.hold_shapes.specs.declared.shape.Shape.TheVariants.{List as ListOf}
-use Rattle.doc_values.specs.Documents.{DocTree, unit, truth, int, text, pick, rec, alt, hold, DocTrees, no_docs, more_docs, docs_of, doc_list}
+use Rattle.doc_values.specs.Documents.{DocTree, pick, rec, alt, hold, DocTrees, no_docs, more_docs, docs_of, doc_list}
 use Rattle.doc_values.specs.Types.{FieldTrees, no_fields, more_fields}
 use Rattle.doc_values.specs.Typing.{has}
 use Rattle.lens_forms.specs.Forms.{FormTree, form_id, form_bij, form_disc, form_then, form_rec, form_alt, form_each, form_keyed, form_ordered, form_part, form_inv, RowTrees, no_rows, both, only_left, only_right, ArmTrees, no_arms, more_arms, left_type, left_fields, right_type, right_fields, sorted, lists_of}
 use Rattle.lens_core.specs.Tags.{tag_number}
-use Rattle.lens_core.specs.Complements.{CompTree, nil, then_comp, rec_comp, alt_comp, hold_comp, tags_comp, CompTrees, no_comps, more_comps, Fits}
+use Rattle.lens_core.specs.Complements.{CompTree, then_comp, rec_comp, alt_comp, hold_comp, tags_comp, CompTrees, no_comps, more_comps, Fits}
 
 -- the left document has the left type, the complement fits, and the right document has the right type
 pub record AreTyped (form : FormTree) (left : DocTree) (comp : CompTree) (right : DocTree) : Type 0 where

@@ -1,7 +1,7 @@
 -- What translation emits: words with what an empty inner word leaves out.
 use Rattle.hold_shapes.specs.declared.edit.Place.{Place}
 use Rattle.hold_shapes.specs.declared.edit.ShapeEdit.{ShapeEdit}
-use Rattle.std.specs.Prelude.{ℕ, List, Option, None, Some, option_map, option_and_then}
+use Rattle.std.specs.Prelude.{ℕ, List, Option, Some, option_map, option_and_then}
 use Rattle.edit_module.specs.Words.{PrimitiveTree, at, stay, switch, modify, shape, WordTree, no_primitives, more_primitives, joined}
 
 -- a word of one primitive

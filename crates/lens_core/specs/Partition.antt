@@ -1,14 +1,13 @@
 -- Translation through a partition: `part_left` and `part_right`, at the end of the two parts below. A list of alternatives stands on
 -- the left, a record of a list for each tag on the right, and the complement is the list of the tags' numbers. All numbers of a line
 -- are those of the tags before it, unless it says otherwise.
-use Rattle.std.specs.Prelude.{ℕ, zero, suc, ◌+◌, ◌-◌, Bool, true, false, ◌&&◌, nat_eq, nat_lt, nat_le, if◌then◌else◌, List, [], ◌∷◌, ◌++◌, length, map, replicate, take, drop, slice_index, slice_set, Option, Some, None, option_map, option_and_then}
-use Rattle.std.specs.List.{range_with_len, remove, list_all}
-use Rattle.hold_shapes.specs.declared.edit.Place.TheVariants.{Index, Key, Node}
-use Rattle.hold_shapes.specs.declared.edit.ShapeEdit.{ShapeEdit}
-use Rattle.hold_shapes.specs.declared.edit.ShapeEdit.TheVariants.{Ins, Del, MoveItem, Reorder, PutKey, DropKey, RenameKey, Graft, Prune, Shift, Hang}
+use Rattle.std.specs.Prelude.{ℕ, zero, suc, ◌+◌, ◌-◌, Bool, true, false, ◌&&◌, nat_eq, nat_lt, nat_le, if◌then◌else◌, List, [], ◌∷◌, ◌++◌, length, map, replicate, take, drop, slice_index, slice_set, Option, Some, None, option_and_then}
+use Rattle.std.specs.List.{range_with_len, remove}
+use Rattle.hold_shapes.specs.declared.edit.Place.TheVariants.{Index}
+use Rattle.hold_shapes.specs.declared.edit.ShapeEdit.TheVariants.{Ins, Del, MoveItem, Reorder}
 use Rattle.hold_shapes.specs.Plans.{is_count, is_each_new}
 use Rattle.doc_values.specs.Types.{FieldTrees, no_fields, more_fields}
-use Rattle.edit_module.specs.Words.{PrimitiveTree, set, add, splice, at, stay, switch, modify, shape, WordTree, no_primitives, more_primitives, joined}
+use Rattle.edit_module.specs.Words.{PrimitiveTree, at, stay, switch, modify, shape, WordTree, no_primitives, joined}
 use Rattle.lens_core.specs.Emitted.{at_word, stay_word, mod_word, switch_word, shape_word, one_by_one}
 use Rattle.lens_core.specs.Tags.{tag_number, tag_name}
 use Rattle.tag_seq.specs.Tags.{count, rank, place, moved}
@@ -61,10 +60,11 @@ switch_item p ts a_name b_name u a b =
     let k = count a ts in
     let s = rank b p ts in
     let m = (if nat_eq a b then count b ts - 1 else count b ts) in
-    where_holds (nat_eq a (slice_index ts p))
-    (joined (at_word a_name (joined (mv r (k - 1)) (shape_word (Del 1))))
-    (at_word b_name (joined (shape_word (Ins 1)) (joined (mv m s) (mod_word (Index s) u)))),
-    slice_set ts p b)
+    where_holds (nat_eq a (slice_index ts p)) (
+      joined (at_word a_name (joined (mv r (k - 1)) (shape_word (Del 1))))
+          (at_word b_name (joined (shape_word (Ins 1)) (joined (mv m s) (mod_word (Index s) u)))),
+      slice_set ts p b,
+    )
 
 -- one primitive of the item at p
 abbrev pub part_item : FieldTrees → ℕ → List ℕ → PrimitiveTree → Option Parted

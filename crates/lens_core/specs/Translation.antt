@@ -1,17 +1,16 @@
 -- Translation: the word of the other side, and the next complement, to which an edit of one side is translated. `translate_one`,
 -- near the end, has the lines of each form; `translate` is that of a whole word.
-use Rattle.std.specs.Prelude.{◌≡◌, ℕ, Bool, true, false, nat_eq, bytes_eq, if◌then◌else◌, List, [], ◌∷◌, map, slice_index_or, slice_set, Option, None, Some, option_map, option_and_then, Result, Ok, Err}
+use Rattle.std.specs.Prelude.{◌≡◌, ℕ, nat_eq, bytes_eq, if◌then◌else◌, List, [], ◌∷◌, map, slice_index_or, slice_set, Option, None, Some, option_map, option_and_then, Ok, Err}
 use Rattle.hold_shapes.specs.declared.shape.Shape.{Shape}
 use Rattle.hold_shapes.specs.declared.shape.Shape.TheVariants.{List as ListOf, Keyed as KeyedOf, Tree as TreeOf}
-use Rattle.hold_shapes.specs.declared.edit.Place.{Place}
 use Rattle.hold_shapes.specs.declared.edit.ShapeEdit.{ShapeEdit}
 use Rattle.hold_shapes.specs.Shapes.{size_of, place_of}
 use Rattle.hold_shapes.specs.Plans.{plan, Planned}
 use Rattle.hold_shapes.specs.Gather.{content_at}
 use Rattle.texts.specs.declared.side.Side.{Side}
 use Rattle.texts.specs.declared.side.Side.TheVariants.{Left, Right}
-use Rattle.edit_module.specs.declared.atom.Atom.TheVariants.{Truth, Number, Letters}
-use Rattle.edit_module.specs.Words.{PrimitiveTree, set, add, splice, at, stay, switch, modify, shape, WordTree, no_primitives, more_primitives}
+use Rattle.edit_module.specs.declared.atom.Atom.TheVariants.{Letters}
+use Rattle.edit_module.specs.Words.{PrimitiveTree, set, at, stay, switch, modify, shape, WordTree, no_primitives}
 use Rattle.doc_values.specs.Types.{FieldTrees}
 use Rattle.lens_forms.specs.Forms.{FormTree, form_id, form_bij, form_disc, form_then, form_rec, form_alt, form_each, form_keyed, form_ordered, form_part, form_inv, RowTrees, no_rows, both, only_left, only_right, ArmTrees, no_arms, more_arms, paired_rows}
 use Rattle.lens_core.specs.Complements.{CompTree, nil, then_comp, rec_comp, alt_comp, hold_comp, tags_comp, CompTrees, no_comps, more_comps, comps_of, comp_list, comp_count, missing, comp_tree}

@@ -21,7 +21,7 @@ pub enum Begun {
     Done(Carried),
     /// A word is to be translated by a lens inside, and the result put in its place.
     Inner {
-        /// The number of the lens inside: of a row, of an arm, or of a place, from 0.
+        /// The number of the lens inside, among those of the form in written order, from 0.
         part: u64,
         /// The complement of that lens.
         comp: Comp,

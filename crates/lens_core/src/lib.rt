@@ -8,8 +8,8 @@
 
 pub mod carry;
 pub mod comp;
-mod leaf;
 pub mod laws;
+mod leaf;
 mod lens;
 mod missing_comp;
 

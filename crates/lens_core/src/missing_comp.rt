@@ -33,10 +33,7 @@ pub fn missing(alloc: Global, form: &Form) -> Result<Comp, AllocError>
         }
         Form::Rec(rows) => Ok(Comp::Rec(missing_rows(alloc, rows)?)),
         Form::Alt(arms) => missing_arm(alloc, arms),
-        Form::Each(_) => Ok(Comp::Hold(
-            Shape::List(ListShape { count: 0 }),
-            Comps::empty(),
-        )),
+        Form::Each(_) => Ok(Comp::Hold(Shape::List(ListShape { count: 0 }), Comps::empty())),
         Form::Keyed(_) => Ok(Comp::Hold(Shape::Keyed(no_keys()), Comps::empty())),
         Form::Tree(inner) => one_node(alloc, missing(alloc, inner)?),
         Form::Part(_) => Ok(Comp::Tags(TagSeq::new(alloc))),
@@ -70,10 +67,7 @@ fn missing_arm(alloc: Global, arms: &FormArms) -> Result<Comp, AllocError>
         return Ok(Comp::Nil);
     }
     let tag = arms[0].0.twin(alloc)?;
-    Ok(Comp::Alt(
-        tag,
-        Box::new(alloc, missing(alloc, &arms[0].2)?)?,
-    ))
+    Ok(Comp::Alt(tag, Box::new(alloc, missing(alloc, &arms[0].2)?)?))
 }
 
 // A keyed map's shape with no key.

@@ -34,6 +34,6 @@ missing_rows-loop-row-preserved t c =
 pub missing_rows-returns : goal.missing_rows-returns
 missing_rows-returns t c =
     let done =
-        missing_done c.loop-row.items.items c.as_slice-row-items.result.now c.loop-row.row-index c.loop-row-test.false c.loop-row.invariant
-        ∙ ap missing_rows c.as_slice-row-items.ensures in
+    missing_done c.loop-row.items.items c.as_slice-row-items.result.now c.loop-row.row-index c.loop-row-test.false c.loop-row.invariant
+    ∙ ap missing_rows c.as_slice-row-items.ensures in
     subst (λ (cs : CompTrees). IfOk c.from_vec.result (λ d. comps_tree d ≡ cs)) done c.from_vec.ensures
