@@ -2,10 +2,10 @@
 # Times edits of a mixed list that a partition keeps in step with a list for each tag: bash bench/partition.sh [N], N being the number of
 # entries of a run, 10,000 where none is given. It is run by hand.
 #
-# A line has an edit and the microseconds of one entry at 1,000 and at 100,000 items, end to end through `editlens run`, and how many times
-# longer an entry takes at 100,000 items. `mod` adds to the content of an item, and `switch` gives an item the other tag. The same two edits
-# of the lists of the tags come behind them: `right mod` adds to the content of an item of one list, and `right move` moves such an item.
-# The time of an entry is that of a run with the entries less that of a run that only makes the list, through the number of entries.
+# A line has an edit, the microseconds of one entry at 1,000 and at 100,000 items, end to end through `editlens run`, and how many times
+# longer an entry takes at 100,000 items (wanted: at most 3). Two edits are of the mixed list: `mod` adds to the content of an item, and
+# `switch` gives an item the other tag. Two are of the list of one tag: `right mod` adds to the content of an item, and `right move` moves
+# an item. The time of an entry is that of a run with the entries, less that of a run that only makes the list, divided by their number.
 set -eu
 
 here=$(cd "$(dirname "${BASH_SOURCE[0]}")/.." && pwd)

@@ -7,8 +7,6 @@ pub mod ItemLists
 pub mod ItemWords
 pub mod LawsOfPartitions
 pub mod ListEdits
-pub mod MarkedRanks
-pub mod TagOrders
 pub mod OrderTests
 pub mod Reorderings
 pub mod RightLists
@@ -16,3 +14,5 @@ pub mod RightSteps
 pub mod RightWords
 pub mod RowSteps
 pub mod TagNames
+pub mod TagOrders
+pub mod TagRanks

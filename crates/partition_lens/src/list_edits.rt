@@ -49,7 +49,7 @@ pub(crate) fn edit_items(
     }
 }
 
-/// Whether one edit can add or delete so many items.
+/// Whether one edit can add or delete this number of items.
 pub(crate) fn is_count(items: u32) -> bool
     ensures { result ≡ is_count items }
 {

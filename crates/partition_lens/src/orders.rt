@@ -1,6 +1,6 @@
 //! Orders of lists, and what an order of the mixed list is in the list of each tag.
 
-ghost use Rattle.std.specs.Prelude.{◌≡◌, ◌≤◌, ◌&&◌, ◌++◌, ◌∷◌, if◌then◌else◌, IfOk, OnOk, IsTrue, true, [], length, map, nat_eq, slice_index};
+ghost use Rattle.std.specs.Prelude.{◌≡◌, ◌≤◌, ◌&&◌, ◌++◌, ◌∷◌, IfOk, OnOk, IsTrue, true, [], length, map, nat_eq, replicate, slice_index, slice_index_or, vec_items};
 ghost use Rattle.hold_shapes.specs.Plans.{is_each_new};
 ghost use Rattle.hold_shapes.specs.declared.edit.ShapeEdit.TheVariants.{Reorder};
 ghost use Rattle.doc_values.specs.Types.{fields_tree};
@@ -8,7 +8,7 @@ ghost use Rattle.edit_module.specs.Views.{word_tree};
 ghost use Rattle.lens_core.specs.Tags.{tag_count};
 ghost use Rattle.lens_core.specs.Emitted.{at_word};
 ghost use Rattle.lens_core.specs.Partition.{reorder_items, at_each_tag, reorder};
-ghost use Rattle.partition_lens.specs.Marks.{marks_of, ranks_in};
+ghost use Rattle.partition_lens.specs.TagRanks.{with_rank, ranks_by_tag};
 ghost use Rattle.partition_lens.specs.Rows.{row_of};
 
 use crate::emit::{at_word, nothing, reorder_word};
@@ -58,8 +58,8 @@ pub(crate) fn reorder_items(
     requires each { is_each_new (length seq.now) [] order.now ≡ true }
     ensures { IfOk result (λ r. row_of r ≡ reorder_items (fields_tree tags.now) seq.now order.now) }
 {
-    let marks = marks_of(alloc, seq, order)?;
-    let word = reorders(alloc, tags, &marks)?;
+    let ranks = ranks_by_tag(alloc, tags.as_slice().len(), seq, order)?;
+    let word = reorders(alloc, tags, &ranks)?;
     let next = reordered(alloc, seq, order)?;
     Ok(Row { word, tags: next })
 }
@@ -77,67 +77,77 @@ fn reordered(alloc: Global, seq: &TagSeq, order: &[u64]) -> Result<TagSeq, Alloc
     TagSeq::from_list(alloc, &list)
 }
 
-// The tag of each item in the new order, with its rank in the old list.
+// For each tag, the ranks of its items, in the order in which they come in the new list.
 #[tactic(auto, using(crate::proofs::OrderTests::below_rules))]
-fn marks_of(alloc: Global, seq: &TagSeq, order: &[u64]) -> Result<Vec<(u32, u64)>, AllocError>
+fn ranks_by_tag(
+    alloc: Global,
+    count: usize,
+    seq: &TagSeq,
+    order: &[u64],
+) -> Result<Vec<Vec<u64>>, AllocError>
     requires { is_each_new (length seq.now) [] order.now ≡ true }
-    ensures { IfOk result (λ v. v.items ≡ marks_of seq.now order.now) }
+    ensures { IfOk result (λ v. map vec_items v.items ≡ ranks_by_tag count seq.now order.now) }
 {
-    let mut marks = Vec::new(alloc);
+    let mut ranks = empty_lists(alloc, count)?;
     for place in order {
         let tag = lookups::tag_at(seq, *place);
-        marks.push((tag, lookups::rank(seq, tag, *place)))?;
-    }
-    Ok(marks)
-}
-
-// The ranks that the marks have of one tag.
-#[tactic(auto, using(crate::proofs::MarkedRanks::rank_rules))]
-fn ranks_in(alloc: Global, tag: u32, marks: &[(u32, u64)]) -> Result<Vec<u64>, AllocError>
-    ensures { IfOk result (λ v. v.items ≡ ranks_in tag marks.now) }
-{
-    let mut ranks = Vec::new(alloc);
-    for mark in marks {
-        push_rank(&mut ranks, tag, *mark)?;
+        push_rank(&mut ranks, tag, lookups::rank(seq, tag, *place))?;
     }
     Ok(ranks)
 }
 
-// The rank of a mark comes behind the ranks, if the mark has the tag.
-fn push_rank(ranks: &mut Vec<u64>, tag: u32, mark: (u32, u64)) -> Result<(), AllocError>
-    ensures { OnOk result (ranks.new.items ≡ (if nat_eq mark.0 tag then ranks.old.items ++ mark.1 ∷ [] else ranks.old.items)) }
+// A number of empty lists.
+fn empty_lists(alloc: Global, count: usize) -> Result<Vec<Vec<u64>>, AllocError>
+    ensures { IfOk result (λ v. map vec_items v.items ≡ replicate count []) }
 {
-    if mark.0 != tag {
+    let mut lists = Vec::new(alloc);
+    for _ in 0..count {
+        lists.push(Vec::new(alloc))?;
+    }
+    Ok(lists)
+}
+
+// The rank comes to the end of the list of its tag.
+fn push_rank(ranks: &mut Vec<Vec<u64>>, tag: u32, rank: u64) -> Result<(), AllocError>
+    ensures { OnOk result (map vec_items ranks.new.items ≡ with_rank tag rank (map vec_items ranks.old.items)) }
+{
+    let place = tag as usize;
+    if place >= ranks.len() {
         return Ok(());
     }
-    ranks.push(mark.1)?;
+    push_to(&mut ranks[place], rank)?;
+    Ok(())
+}
+
+// The rank comes to the end of a list.
+fn push_to(list: &mut Vec<u64>, rank: u64) -> Result<(), AllocError>
+    ensures { OnOk result (list.new.items ≡ list.old.items ++ rank ∷ []) }
+{
+    list.push(rank)?;
     Ok(())
 }
 
 // The reorder in the list of a tag.
-fn reorder_tag(
-    alloc: Global,
-    tag: u32,
-    marks: &[(u32, u64)],
-    name: &Name,
-) -> Result<Word, AllocError>
-    ensures { IfOk result (λ w. word_tree w ≡ at_word name.now (reorder (ranks_in tag marks.now))) }
+fn reorder_tag(alloc: Global, ranks: &[u64], name: &Name) -> Result<Word, AllocError>
+    ensures { IfOk result (λ w. word_tree w ≡ at_word name.now (reorder ranks.now)) }
 {
-    let ranks = ranks_in(alloc, tag, marks)?;
-    let word = reorder_word(alloc, ranks)?;
+    let order = Vec::from_slice(alloc, ranks)?;
+    let word = reorder_word(alloc, order)?;
     at_word(alloc, name.twin(alloc)?, word)
 }
 
 // A reorder in the list of each tag, in written order.
 #[tactic(auto, using(crate::proofs::EachTag::each_rules))]
-fn reorders(alloc: Global, tags: &Fields, marks: &[(u32, u64)]) -> Result<Word, AllocError>
+fn reorders(alloc: Global, tags: &Fields, ranks: &[Vec<u64>]) -> Result<Word, AllocError>
     requires few { tag_count (fields_tree tags.now) ≤ 4096 }
-    ensures { IfOk result (λ w. word_tree w ≡ at_each_tag (fields_tree tags.now) 0 (λ t. reorder (ranks_in t marks.now))) }
+    requires long { length ranks.now ≡ tag_count (fields_tree tags.now) }
+    ensures { IfOk result (λ w. word_tree w
+        ≡ at_each_tag (fields_tree tags.now) 0 (λ t. reorder (slice_index_or (map vec_items ranks.now) t []))) }
 {
     let fields = tags.as_slice();
     let mut word = nothing(alloc);
     for number in 0..fields.len() {
-        let part = reorder_tag(alloc, number as u32, marks, &fields[number].0)?;
+        let part = reorder_tag(alloc, &ranks[number], &fields[number].0)?;
         word = word.joined(part)?;
     }
     Ok(word)
