@@ -1,0 +1,7 @@
+pub mod ArmStarts
+pub mod Compositions
+pub mod KindRows
+pub mod PartRows
+pub mod ReadyForms
+pub mod Rounds
+pub mod WordSteps

@@ -1,0 +1,4 @@
+pub mod Kinds
+pub mod LawsOfForms
+pub mod Pairs
+pub mod Ready

@@ -1,0 +1,93 @@
+//! A lens that can be run.
+
+ghost use Rattle.std.specs.Prelude.{◌≡◌};
+ghost use Rattle.lens_forms.specs.Forms.{form_tree};
+ghost use Rattle.lens_run.specs.Ready.{IsReady};
+
+use crate::run::carry_word;
+use doc_values::Ty;
+use edit_module::Word;
+use lens_core::{Carried, CarryFault, Comp, EditLens, missing};
+use lens_types::Typed;
+use std::alloc::{AllocError, Global};
+use texts::Side;
+
+/// A form that is typed, as a lens.
+///
+/// Its types are those of the form, its relation is `IsConsistent` of lens_core, and its translation is `translate`.
+#[derive(Drop)]
+pub struct Checked {
+    typed: Typed,
+    ghost ready: { IsReady (form_tree typed) },
+}
+
+impl Checked {
+    /// The lens of a form that is typed. It has no condition, and does not allocate.
+    pub fn new(typed: Typed) -> Checked
+        ensures { result.typed ≡ typed }
+    {
+        let _form = typed.form();
+        Checked { typed }
+    }
+
+    /// The form with its two types.
+    pub fn typed(&self) -> &Typed
+        ensures { result.now ≡ self.now.typed }
+    {
+        &self.typed
+    }
+}
+
+impl EditLens for Checked {
+    ghost use Rattle.texts.specs.declared.side.Side.TheVariants.{Left, Right};
+    ghost use Rattle.lens_forms.specs.Forms.{left_type, right_type};
+    ghost use Rattle.lens_core.specs.Complements.{missing};
+    ghost use Rattle.lens_core.specs.Consistency.{IsConsistent};
+    ghost use Rattle.lens_core.specs.Translation.{translate};
+    ghost use Rattle.lens_run.specs.LawsOfForms.{formed_types, form_starts, form_documents, form_edits, form_empty, form_joined};
+
+    ghost left_type = { λ l. left_type (form_tree l.typed) };
+
+    ghost right_type = { λ l. right_type (form_tree l.typed) };
+
+    ghost start = { λ l. missing (form_tree l.typed) };
+
+    ghost holds = { λ l. IsConsistent (form_tree l.typed) };
+
+    ghost carried = { λ l. translate (form_tree l.typed) };
+
+    ghost types_are_well_formed = { λ l. formed_types (form_tree l.typed) l.ready.0 };
+
+    ghost starts_consistent = { λ l. form_starts (form_tree l.typed) l.ready.0 };
+
+    ghost consistent_is_typed = { λ l. form_documents (form_tree l.typed) };
+
+    ghost left_edits_carry = { λ l. form_edits (form_tree l.typed) l.ready.0 Left };
+
+    ghost right_edits_carry = { λ l. form_edits (form_tree l.typed) l.ready.0 Right };
+
+    ghost empty_stays = { λ l. form_empty (form_tree l.typed) };
+
+    ghost words_compose = { λ l. form_joined (form_tree l.typed) };
+
+    fn ty(&self, side: Side) -> &Ty {
+        match side {
+            Side::Left => self.typed.left(),
+            Side::Right => self.typed.right(),
+        }
+    }
+
+    fn missing(&self, alloc: Global) -> Result<Comp, AllocError> {
+        missing(alloc, self.typed.form())
+    }
+
+    fn carry(
+        &self,
+        alloc: Global,
+        side: Side,
+        comp: &Comp,
+        word: &Word,
+    ) -> Result<Carried, CarryFault> {
+        carry_word(alloc, self.typed.form(), side, comp, word)
+    }
+}
