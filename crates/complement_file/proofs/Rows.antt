@@ -101,10 +101,10 @@ module _ (rows : List FormRow) (cs : List CompTree) (i n : ℕ) (xs : List Data)
   pub row_done : (c : CompTree) (x : Data) → c ≡ get_or cs n nil → x ≡ tree_of_complement (form_tree l) c → AreLeft rows cs (i + 1) (n + 1) (xs ++ x ∷ [])
   row_done c x e tree = record {
     written =
-      behind_one xs x (row_items (rows_from rows (i + 1)) (comps_of (drop (n + 1) cs)))
-      ∙ ap (λ z. behind xs (item z (row_items (rows_from rows (i + 1)) (comps_of (drop (n + 1) cs))))) (tree ∙ ap (tree_of_complement (form_tree l)) e)
-      ∙ sym (ap₂ (λ rs ds. behind xs (row_items rs ds)) (next_both rows i r a b l h is row) rest_is)
-      ∙ left.written;
+        behind_one xs x (row_items (rows_from rows (i + 1)) (comps_of (drop (n + 1) cs)))
+        ∙ ap (λ z. behind xs (item z (row_items (rows_from rows (i + 1)) (comps_of (drop (n + 1) cs))))) (tree ∙ ap (tree_of_complement (form_tree l)) e)
+        ∙ sym (ap₂ (λ rs ds. behind xs (row_items rs ds)) (next_both rows i r a b l h is row) rest_is)
+        ∙ left.written;
     fit = both_fit.1;
     typed = second (is_typed (form_tree l)) _ both_typed;
     many = rw (length-append xs (x ∷ []), left.many) refl;

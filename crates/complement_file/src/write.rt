@@ -54,7 +54,11 @@ fn write(alloc: Global, form: &Form, comp: &Comp) -> Result<Value, AllocError>
         }
         (Form::Keyed(inner), Comp::Hold(shape, comps)) => write_map(alloc, inner, shape, comps),
         (Form::Tree(inner), Comp::Hold(Shape::Tree(nodes), comps)) => {
-            one_member(alloc, "tree", write_nodes(alloc, inner, nodes.depths(), comps)?)
+            one_member(
+                alloc,
+                "tree",
+                write_nodes(alloc, inner, nodes.depths(), comps)?,
+            )
         }
         (Form::Part(tags), Comp::Tags(seq)) => {
             one_member(alloc, "tags", write_tags(alloc, tags, seq)?)
@@ -74,12 +78,7 @@ fn one_member(alloc: Global, name: &str, content: Value) -> Result<Value, AllocE
 }
 
 // An object with one member, an array of two items.
-fn write_pair(
-    alloc: Global,
-    name: &str,
-    first: Value,
-    second: Value,
-) -> Result<Value, AllocError>
+fn write_pair(alloc: Global, name: &str, first: Value, second: Value) -> Result<Value, AllocError>
     ensures { IfOk result (λ tree. view tree ≡ one name.now (two (view first) (view second))) }
 {
     let items = vec![in alloc; first, second]?;
@@ -158,12 +157,7 @@ fn write_places(alloc: Global, inner: &Form, comps: &Comps) -> Result<Value, All
 // The keys, each with its complement.
 #[cycle(write)]
 #[tactic(auto, using(crate::proofs::Levels::keyed_rules))]
-fn write_map(
-    alloc: Global,
-    inner: &Form,
-    shape: &Shape,
-    comps: &Comps,
-) -> Result<Value, AllocError>
+fn write_map(alloc: Global, inner: &Form, shape: &Shape, comps: &Comps) -> Result<Value, AllocError>
     requires typed { IsTrue (is_typed (form_tree inner.now)) }
     requires shape { IsTrue (is_keyed_of shape.now (comp_count (comps_tree comps.now))) }
     requires fits { AllFit (Fits (form_tree inner.now)) (comps_tree comps.now) }
@@ -173,7 +167,11 @@ fn write_map(
     let Shape::Keyed(keys) = shape else {
         unreachable!()
     };
-    one_member(alloc, "keyed", write_keyed(alloc, inner, keys.names(), comps)?)
+    one_member(
+        alloc,
+        "keyed",
+        write_keyed(alloc, inner, keys.names(), comps)?,
+    )
 }
 
 // An object with a member for each key.

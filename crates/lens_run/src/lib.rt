@@ -12,4 +12,3 @@ mod run;
 mod starts;
 
 pub use crate::checked::Checked;
-

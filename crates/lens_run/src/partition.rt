@@ -49,7 +49,7 @@ fn numbers_of<'a>(tags: &Fields, comp: &'a Comp) -> Option<&'a TagSeq>
     ensures { MatchOption result
         ((side : Side) (p : PrimitiveTree) → translate_one (form_part (fields_tree tags.now)) side (comp_tree comp.now) p ≡ None)
         (λ ts. (side : Side) (p : PrimitiveTree) → translate_one (form_part (fields_tree tags.now)) side (comp_tree comp.now) p
-            ≡ option_map tagged (part_one side (fields_tree tags.now) ts.now p)) }
+        ≡ option_map tagged (part_one side (fields_tree tags.now) ts.now p)) }
 {
     let Comp::Tags(numbers) = comp else {
         return None;

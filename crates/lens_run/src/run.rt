@@ -272,7 +272,11 @@ fn carry_held(
     let start = missing(alloc, inner)?;
     match hold_begin(alloc, shape, comps, prim, &start)? {
         Begun::Done(carried) => Ok(carried),
-        Begun::Inner { part: _, comp, word } => {
+        Begun::Inner {
+            part: _,
+            comp,
+            word,
+        } => {
             let carried = carry_word(alloc, inner, side, &comp, &word)?;
             Ok(hold_finish(alloc, shape, comps, prim, carried)?)
         }

@@ -29,7 +29,7 @@ loop-place-preserved c =
     let name = c.as_str.ensures ∙ ap (λ (f : List ℕ × Ty). f.0) (sym c.index-fields-number.is) ∙ sym (name_at fields c.tag_at-number.result c.index-fields-number.result inside c.index-fields-number.is) in
     ap (map view) c.in_ok-push.ensures.items ∙ map-append _ _ _
     ∙ push_item (tag_tree (type_fields_of (map field_tree fields))) c.args.seq.now l.place c.tag_at-number.result 0 (map view l.items.items) (view c.in_ok-write_text.field-0) within c.tag_at-number.ensures l.invariant
-        (c.in_ok-write_text.ensures ∙ ap string name)
+    (c.in_ok-write_text.ensures ∙ ap string name)
 
 pub returns : goal.returns
 returns c =

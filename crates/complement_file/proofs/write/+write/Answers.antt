@@ -118,8 +118,12 @@ write_record-loop-row-init t c =
 pub write_record-get-requires : goal.write_record-get-requires
 write_record-get-requires t c =
     let contents = comp_list (comps_tree c.args.comps.now) in
-    omega (arith, c.len.ensures, comp_count-length (comps_tree c.args.comps.now),
-        within c.as_slice-row-items.result.now contents c.loop-row.row-index _ _ c.row-item.result _ _ _ c.loop-row-test.true c.row-item.is c.in-Both.is c.loop-row.invariant)
+    omega (
+      arith,
+      c.len.ensures,
+      comp_count-length (comps_tree c.args.comps.now),
+      within c.as_slice-row-items.result.now contents c.loop-row.row-index _ _ c.row-item.result _ _ _ c.loop-row-test.true c.row-item.is c.in-Both.is c.loop-row.invariant,
+    )
 
 pub write_record-write-requires : goal.write_record-write-requires
 write_record-write-requires t c =
@@ -129,10 +133,13 @@ write_record-write-requires t c =
     let low = row_smaller_is rows i c.row-item.result _ _ c.in-Both.form c.loop-row-test.true c.row-item.is c.in-Both.is in
     let parts = ap rows_parts c.as_slice-row-items.ensures in
     let many : c.len.result ≡ length c.loop-row.items.items = omega (arith, c.len.ensures) in
-    let here = c.get.ensures ∙ ap (λ n. slice_index_or contents n nil) many in
-    (omega (arith, low, parts), (
-      row_typed rows contents i _ _ c.row-item.result _ _ c.in-Both.form c.loop-row-test.true c.row-item.is c.in-Both.is c.loop-row.invariant,
-      row_fits rows contents i _ _ c.row-item.result _ _ c.in-Both.form c.loop-row-test.true c.row-item.is c.in-Both.is c.loop-row.invariant (comp_tree c.get.result.now) here))
+    let here = c.get.ensures ∙ ap (λ n. slice_index_or contents n nil) many in (
+      omega (arith, low, parts),
+      (
+        row_typed rows contents i _ _ c.row-item.result _ _ c.in-Both.form c.loop-row-test.true c.row-item.is c.in-Both.is c.loop-row.invariant,
+        row_fits rows contents i _ _ c.row-item.result _ _ c.in-Both.form c.loop-row-test.true c.row-item.is c.in-Both.is c.loop-row.invariant (comp_tree c.get.result.now) here,
+      ),
+    )
 
 -- the items and their number after one more
 one_more : (rows : List FormRow) (cs : List CompTree) (i : ℕ) (old new : List Value) (v : Value) → new ≡ old ++ v ∷ []
@@ -174,7 +181,7 @@ write_record-returns t c =
     let contents = comp_list (comps_tree c.args.comps.now) in
     let l = c.loop-row in
     let items = view-Array l.items ∙ ap array (at_last rows contents l.row-index (length l.items.items) (map view l.items.items) c.loop-row-test.false l.invariant
-        ∙ ap₂ row_items c.as_slice-row-items.ensures (comps_of-comp_list (comps_tree c.args.comps.now))) in
+    ∙ ap₂ row_items c.as_slice-row-items.ensures (comps_of-comp_list (comps_tree c.args.comps.now))) in
     if_tree _ _ _ c.one_member.ensures (ap (one (codes "rec")) items)
 
 -- ---- alternatives
