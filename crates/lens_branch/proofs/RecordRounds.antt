@@ -12,7 +12,7 @@ use Rattle.lens_core.specs.Complements.{CompTree, rec_comp, CompTrees, no_comps,
 use Rattle.lens_core.specs.Translation.{Translated, translate_one, translate, translate_at, in_row, past_row, in_record, comp_at, put_comp}
 use Rattle.lens_core.proofs.ComplementTrees.{comps_of-comp_list}
 use Rattle.lens_core.specs.Beginnings.{inside, carried_on}
-use Rattle.lens_branch.specs.RecordSteps.{has_near, pairs_of, RowAt, row_behind, row_of, begin_row, begin_in, begin_record, finish_row, finish_in, finish_record, lens_of, row_lens, row_translation}
+use Rattle.lens_branch.specs.RecordSteps.{has_near, pairs_of, RowAt, row_behind, row_of, begin_row, begin_in, begin_record, finish_row, finish_in, finish_record, row_lens, row_translation}
 
 -- ---- what the row of a field translates
 
@@ -45,7 +45,7 @@ word_behind side c cs u k (row_left a t) = refl
 word_behind side c cs u k (row_right b t) = refl
 
 behind_paired : (side : Side) (c : CompTree) (cs : CompTrees) (u : WordTree) (o : Option RowAt)
-    → option_map (past_row c) (option_and_then (found_word side cs u) o) ≡ option_and_then (found_word side (more_comps c cs) u) (option_map (row_behind 1 1) o)
+    → option_map (past_row c) (option_and_then (found_word side cs u) o) ≡ option_and_then (found_word side (more_comps c cs) u) (option_map (row_behind 1) o)
 behind_paired side c cs u None = refl
 behind_paired side c cs u (Some q) = word_behind side c cs u q.pairs q.row
 
@@ -53,7 +53,7 @@ nothing_more : (k : ℕ) → k ≡ k + 0
 nothing_more k = omega arith
 
 behind_alone : (side : Side) (cs : CompTrees) (u : WordTree) (o : Option RowAt)
-    → option_and_then (found_word side cs u) o ≡ option_and_then (found_word side cs u) (option_map (row_behind 1 0) o)
+    → option_and_then (found_word side cs u) o ≡ option_and_then (found_word side cs u) (option_map (row_behind 0) o)
 behind_alone side cs u None = refl
 behind_alone side cs u (Some q) = ap (λ k. row_word side cs u k q.row) (nothing_more q.pairs)
 
@@ -69,14 +69,14 @@ rows_translate side f u (both a b l rows) (more_comps c cs) e =
   where
     go : (q : Bool) → translate_at rows side f u cs ≡ option_and_then (found_word side cs u) (row_of (row_list rows) side f)
         → cond q (option_map (in_row (far side a b) cs) (translate l side c u)) (option_map (past_row c) (translate_at rows side f u cs))
-        ≡ option_and_then (found_word side (more_comps c cs) u) (cond q (Some (record { number = 0; pairs = 0; row = row_both a b l })) (option_map (row_behind 1 1) (row_of (row_list rows) side f)))
+        ≡ option_and_then (found_word side (more_comps c cs) u) (cond q (Some (record { pairs = 0; row = row_both a b l })) (option_map (row_behind 1) (row_of (row_list rows) side f)))
     go true again = put_first (far side a b) c cs (translate l side c u)
     go false again = ap (option_map (past_row c)) again ∙ behind_paired side c cs u (row_of (row_list rows) side f)
 rows_translate Left f u (only_left a t rows) cs e = go (bytes_eq a f) (rows_translate Left f u rows cs e)
   where
     go : (q : Bool) → translate_at rows Left f u cs ≡ option_and_then (found_word Left cs u) (row_of (row_list rows) Left f)
         → cond q (Some (no_primitives, cs)) (translate_at rows Left f u cs)
-        ≡ option_and_then (found_word Left cs u) (cond q (Some (record { number = 0; pairs = 0; row = row_left a t })) (option_map (row_behind 1 0) (row_of (row_list rows) Left f)))
+        ≡ option_and_then (found_word Left cs u) (cond q (Some (record { pairs = 0; row = row_left a t })) (option_map (row_behind 0) (row_of (row_list rows) Left f)))
     go true again = refl
     go false again = again ∙ behind_alone Left cs u (row_of (row_list rows) Left f)
 rows_translate Right f u (only_left a t rows) cs e = rows_translate Right f u rows cs e ∙ behind_alone Right cs u (row_of (row_list rows) Right f)
@@ -85,40 +85,51 @@ rows_translate Right f u (only_right b t rows) cs e = go (bytes_eq b f) (rows_tr
   where
     go : (q : Bool) → translate_at rows Right f u cs ≡ option_and_then (found_word Right cs u) (row_of (row_list rows) Right f)
         → cond q (Some (no_primitives, cs)) (translate_at rows Right f u cs)
-        ≡ option_and_then (found_word Right cs u) (cond q (Some (record { number = 0; pairs = 0; row = row_right b t })) (option_map (row_behind 1 0) (row_of (row_list rows) Right f)))
+        ≡ option_and_then (found_word Right cs u) (cond q (Some (record { pairs = 0; row = row_right b t })) (option_map (row_behind 0) (row_of (row_list rows) Right f)))
     go true again = refl
     go false again = again ∙ behind_alone Right cs u (row_of (row_list rows) Right f)
 
 -- ---- the lens of the row of a field
 
-lens_found : (rows : List RowTree) (side : Side) (f : List ℕ) (q : RowAt) → row_of rows side f ≡ Some q → row_lens rows q.number ≡ lens_of q.row
+-- if the row is paired, its lens has the number of the paired rows before it
+abbrev HasLens : List RowTree → ℕ → RowTree → Type 0
+HasLens rows k r = (a b : List ℕ) (l : FormTree) → r ≡ row_both a b l → row_lens rows k ≡ Some l
+
+lens_first : (r : RowTree) (rows : List RowTree) → HasLens (r ∷ rows) 0 r
+lens_first r rows a b l e = rw e refl
+
+lens_later : (r : RowTree) (rows : List RowTree) (k : ℕ) → row_lens (r ∷ rows) (k + pairs_of r) ≡ row_lens rows k
+lens_later (row_both a b l) rows k = rw add-one refl
+lens_later (row_left a t) rows k = ap (row_lens rows) (sym (nothing_more k))
+lens_later (row_right b t) rows k = ap (row_lens rows) (sym (nothing_more k))
+
+lens_found : (rows : List RowTree) (side : Side) (f : List ℕ) (q : RowAt) → row_of rows side f ≡ Some q → HasLens rows q.pairs q.row
 lens_found [] side f q e = cc
 lens_found (r ∷ rows) side f q e = go (has_near side f r) (row_of rows side f) e (λ p h. lens_found rows side f p h)
   where
-    go : (b : Bool) (o : Option RowAt) → cond b (Some (record { number = 0; pairs = 0; row = r })) (option_map (row_behind 1 (pairs_of r)) o) ≡ Some q
-        → ((p : RowAt) → o ≡ Some p → row_lens rows p.number ≡ lens_of p.row) → row_lens (r ∷ rows) q.number ≡ lens_of q.row
+    go : (b : Bool) (o : Option RowAt) → cond b (Some (record { pairs = 0; row = r })) (option_map (row_behind (pairs_of r)) o) ≡ Some q
+        → ((p : RowAt) → o ≡ Some p → HasLens rows p.pairs p.row) → HasLens (r ∷ rows) q.pairs q.row
     go true o h again =
-        let first : RowAt = record { number = 0; pairs = 0; row = r } in
+        let first : RowAt = record { pairs = 0; row = r } in
         let same : first ≡ q = cc in
-        subst (λ (z : RowAt). row_lens (r ∷ rows) z.number ≡ lens_of z.row) same refl
+        subst (λ (z : RowAt). HasLens (r ∷ rows) z.pairs z.row) same (lens_first r rows)
     go false None h again = cc
     go false (Some p) h again =
-        let same : row_behind 1 (pairs_of r) p ≡ q = cc in
-        subst (λ (z : RowAt). row_lens (r ∷ rows) z.number ≡ lens_of z.row) same (rw add-one (again p refl))
+        let same : row_behind (pairs_of r) p ≡ q = cc in
+        subst (λ (z : RowAt). HasLens (r ∷ rows) z.pairs z.row) same (λ a b l e. lens_later r rows p.pairs ∙ again p refl a b l e)
 
 -- where a lens inside is needed, its row is there and is paired
-begun_in_row : (rows : List RowTree) (cs : CompTrees) (u : WordTree) (n k : ℕ) (r : RowTree) (i : ℕ) (c : CompTree) (w : WordTree) → row_lens rows n ≡ lens_of r
-    → Some (begin_row cs u n k r) ≡ Some (inside i c w) → (l : FormTree) × (row_lens rows i ≡ Some l)
-begun_in_row rows cs u n k (row_both a b l) i c w found e = let same : n ≡ i = cc in (l, subst (λ z. row_lens rows z ≡ Some l) same found)
-begun_in_row rows cs u n k (row_left a t) i c w found e = cc
-begun_in_row rows cs u n k (row_right b t) i c w found e = cc
+begun_in_row : (rows : List RowTree) (cs : CompTrees) (u : WordTree) (k : ℕ) (r : RowTree) (i : ℕ) (c : CompTree) (w : WordTree) → HasLens rows k r
+    → Some (begin_row cs u k r) ≡ Some (inside i c w) → (l : FormTree) × (row_lens rows i ≡ Some l)
+begun_in_row rows cs u k (row_both a b l) i c w found e = let same : k ≡ i = cc in (l, subst (λ z. row_lens rows z ≡ Some l) same (found a b l refl))
+begun_in_row rows cs u k (row_left a t) i c w found e = cc
+begun_in_row rows cs u k (row_right b t) i c w found e = cc
 
 begun_found : (rows : List RowTree) (side : Side) (f : List ℕ) (cs : CompTrees) (u : WordTree) (i : ℕ) (c : CompTree) (w : WordTree) (b : Bool) (o : Option RowAt) → row_of rows side f ≡ o
     → cond b (option_map (begin_in cs u) o) None ≡ Some (inside i c w) → (l : FormTree) × (row_lens rows i ≡ Some l)
 begun_found rows side f cs u i c w false o found e = cc
 begun_found rows side f cs u i c w true None found e = cc
-begun_found rows side f cs u i c w true (Some q) found e =
-    begun_in_row rows cs u q.number q.pairs q.row i c w (lens_found rows side f q found) e
+begun_found rows side f cs u i c w true (Some q) found e = begun_in_row rows cs u q.pairs q.row i c w (lens_found rows side f q found) e
 
 pub record_begins_in_row : (rows : RowTrees) (side : Side) (cs : CompTrees) (p : PrimitiveTree) (i : ℕ) (c : CompTree) (w : WordTree)
     → begin_record rows side cs p ≡ Some (inside i c w) → (l : FormTree) × (row_lens (row_list rows) i ≡ Some l)
@@ -143,19 +154,19 @@ paired_finish : (side : Side) (a b : List ℕ) (l : FormTree) (cs : CompTrees) (
 paired_finish side a b l cs k None = refl
 paired_finish side a b l cs k (Some r) = refl
 
-row_round : (rows : RowTrees) (side : Side) (cs : CompTrees) (u : WordTree) (i k : ℕ) (r : RowTree) → row_lens (row_list rows) i ≡ lens_of r
-    → option_map in_record (row_word side cs u k r) ≡ carried_on (row_translation rows side) (λ z. finish_row side cs z k r) (begin_row cs u i k r)
-row_round rows side cs u i k (row_both a b l) e =
+row_round : (rows : RowTrees) (side : Side) (cs : CompTrees) (u : WordTree) (k : ℕ) (r : RowTree) → HasLens (row_list rows) k r
+    → option_map in_record (row_word side cs u k r) ≡ carried_on (row_translation rows side) (λ z. finish_row side cs z k r) (begin_row cs u k r)
+row_round rows side cs u k (row_both a b l) found =
     paired_finish side a b l cs k (translate l side (comp_at cs k) u)
-    ∙ ap (option_map (λ r. finish_row side cs r k (row_both a b l))) (translation_found rows side i (comp_at cs k) u l e)
-row_round rows side cs u i k (row_left a t) e = refl
-row_round rows side cs u i k (row_right b t) e = refl
+    ∙ ap (option_map (λ r. finish_row side cs r k (row_both a b l))) (translation_found rows side k (comp_at cs k) u l (found a b l refl))
+row_round rows side cs u k (row_left a t) found = refl
+row_round rows side cs u k (row_right b t) found = refl
 
 found_round : (rows : RowTrees) (side : Side) (f : List ℕ) (cs : CompTrees) (u : WordTree) (o : Option RowAt) → row_of (row_list rows) side f ≡ o
     → option_map in_record (option_and_then (found_word side cs u) o)
     ≡ option_and_then (carried_on (row_translation rows side) (λ r. finish_in side cs r o)) (option_map (begin_in cs u) o)
 found_round rows side f cs u None e = refl
-found_round rows side f cs u (Some q) e = row_round rows side cs u q.number q.pairs q.row (lens_found (row_list rows) side f q e)
+found_round rows side f cs u (Some q) e = row_round rows side cs u q.pairs q.row (lens_found (row_list rows) side f q e)
 
 at_round : (rows : RowTrees) (side : Side) (cs : CompTrees) (f : List ℕ) (u : WordTree) (b : Bool) → nat_eq (comp_count cs) (paired_rows rows) ≡ b
     → cond b (option_map in_record (translate_at rows side f u cs)) None

@@ -1,12 +1,11 @@
 -- The rows of a record, as the code goes through them one after the other.
-use Rattle.std.proofs.Common.{◌≡◌, ℕ, suc, ◌+◌, ◌<◌, ◌≤◌, Bool, true, false, List, [], ◌∷◌, length, map, drop, drop-cons, get_or, add-one, Option, None, Some, option_map, refl, sym, ap, subst, ◌∙◌, arith, rules}
+use Rattle.std.proofs.Common.{◌≡◌, ℕ, suc, ◌+◌, ◌-◌, ◌<◌, ◌≤◌, Bool, true, false, List, [], ◌∷◌, length, map, drop, drop-cons, get_or, add-one, Option, None, Some, option_map, refl, sym, ap, subst, ◌∙◌, arith, rules}
 use Rattle.std.specs.Prelude.{nat_eq, if◌then◌else◌}
 use Rattle.std.proofs.lemmas.List.{drop_all}
 use Rattle.std.proofs.lemmas.Bool.Decides.{nat_tests}
 use Rattle.texts.specs.declared.side.Side.{Side}
-use Rattle.lens_forms.specs.Forms.{RowTrees, RowTree, row_both, row_left, row_right, row_list, form_rows_of, row_tree, with_row, paired_rows}
+use Rattle.lens_forms.specs.Forms.{FormTree, RowTrees, RowTree, row_both, row_left, row_right, row_list, form_rows_of, row_tree, with_row, paired_rows}
 use Rattle.lens_forms.specs.declared.form.FormRow.{FormRow, the_lemmas as row_lemmas}
-use Rattle.std.proofs.lemmas.Option.{slice_get-map, slice_get_read, slice_get_past}
 use Rattle.doc_values.specs.Types.{ty_tree}
 use Rattle.doc_values.specs.declared.ty.Ty.{Ty}
 use Rattle.lens_forms.specs.Forms.{form_tree}
@@ -17,7 +16,7 @@ use Rattle.lens_core.proofs.FormParts.{row_parts, row_smaller}
 use Rattle.edit_module.specs.Words.{PrimitiveTree, set, add, splice, at, stay, switch, modify, shape, WordTree}
 use Rattle.lens_core.specs.Beginnings.{Beginning, IsInside}
 use Rattle.lens_core.specs.Complements.{CompTrees, comp_count}
-use Rattle.lens_branch.specs.RecordSteps.{has_near, pairs_of, RowAt, row_behind, row_of, begin_row, begin_in, begin_record, lens_of, row_lens}
+use Rattle.lens_branch.specs.RecordSteps.{has_near, pairs_of, RowAt, row_behind, row_of, begin_row, begin_in, begin_record, row_lens}
 
 pub row_list-form_rows_of : (rs : List RowTree) → row_list (form_rows_of rs) ≡ rs
 row_list-form_rows_of [] = refl
@@ -38,32 +37,32 @@ row_tree-right a t = search (rules, row_lemmas)
 
 -- ---- the search
 
-same_row : (m n k p : ℕ) (r : RowTree) → m ≡ n → k ≡ p → ◌≡◌ {A = Option RowAt} (Some (record { number = m; pairs = k; row = r })) (Some (record { number = n; pairs = p; row = r }))
-same_row m n k p r e f = rw (e, f) refl
+same_row : (k p : ℕ) (r : RowTree) → k ≡ p → ◌≡◌ {A = Option RowAt} (Some (record { pairs = k; row = r })) (Some (record { pairs = p; row = r }))
+same_row k p r e = rw e refl
 
-behind_more : (n k p : ℕ) (o : Option RowAt) → option_map (row_behind n k) (option_map (row_behind 1 p) o) ≡ option_map (row_behind (suc n) (k + p)) o
-behind_more n k p None = refl
-behind_more n k p (Some q) = same_row (q.number + 1 + n) (q.number + suc n) (q.pairs + p + k) (q.pairs + (k + p)) q.row (omega arith) (omega arith)
+behind_more : (k p : ℕ) (o : Option RowAt) → option_map (row_behind k) (option_map (row_behind p) o) ≡ option_map (row_behind (k + p)) o
+behind_more k p None = refl
+behind_more k p (Some q) = same_row (q.pairs + p + k) (q.pairs + (k + p)) q.row (omega arith)
 
-behind_nothing : (o : Option RowAt) → option_map (row_behind 0 0) o ≡ o
+behind_nothing : (o : Option RowAt) → option_map (row_behind 0) o ≡ o
 behind_nothing None = refl
-behind_nothing (Some q) = same_row (q.number + 0) q.number (q.pairs + 0) q.pairs q.row (omega arith) (omega arith)
+behind_nothing (Some q) = same_row (q.pairs + 0) q.pairs q.row (omega arith)
 
--- the rows from one on
+-- the row of a field among the rows from one on, with so many paired rows before them
 abbrev pub found_from : List FormRow → Side → List ℕ → ℕ → ℕ → Option RowAt
-found_from rows side f i k = option_map (row_behind i k) (row_of (map row_tree (drop i rows)) side f)
+found_from rows side f i k = option_map (row_behind k) (row_of (map row_tree (drop i rows)) side f)
 
 pub found_first : (rows : List FormRow) (side : Side) (f : List ℕ) → found_from rows side f 0 0 ≡ row_of (map row_tree rows) side f
 found_first rows side f = behind_nothing (row_of (map row_tree rows) side f)
 
 pub found_here : (rows : List FormRow) (side : Side) (f : List ℕ) (i k : ℕ) (r : FormRow) → i < length rows → r ≡ get_or rows i r → has_near side f (row_tree r) ≡ true
-    → found_from rows side f i k ≡ Some (record { number = i; pairs = k; row = row_tree r })
-found_here rows side f i k r h is e = rw (drop-cons rows i r h, sym is, e) (same_row (0 + i) i (0 + k) k (row_tree r) (omega arith) (omega arith))
+    → found_from rows side f i k ≡ Some (record { pairs = k; row = row_tree r })
+found_here rows side f i k r h is e = rw (drop-cons rows i r h, sym is, e) (same_row (0 + k) k (row_tree r) (omega arith))
 
 pub found_next : (rows : List FormRow) (side : Side) (f : List ℕ) (i k : ℕ) (r : FormRow) → i < length rows → r ≡ get_or rows i r → has_near side f (row_tree r) ≡ false
     → found_from rows side f i k ≡ found_from rows side f (i + 1) (k + pairs_of (row_tree r))
 found_next rows side f i k r h is e =
-    rw (drop-cons rows i r h, sym is, e, add-one i) (behind_more i k (pairs_of (row_tree r)) (row_of (map row_tree (drop (suc i) rows)) side f))
+    rw (drop-cons rows i r h, sym is, e, add-one i) (behind_more k (pairs_of (row_tree r)) (row_of (map row_tree (drop (suc i) rows)) side f))
 
 pub found_all : (rows : List FormRow) (side : Side) (f : List ℕ) (i k : ℕ) → length rows ≤ i → found_from rows side f i k ≡ None
 found_all rows side f i k h = rw (drop_all i rows h) refl
@@ -85,28 +84,44 @@ count_next rows i r h is = rw (drop-cons rows i r h, sym is, add-one) (with_row-
 pub count_all : (rows : List FormRow) (i : ℕ) → length rows ≤ i → pair_count (drop i rows) ≡ 0
 count_all rows i h = rw (drop_all i rows h) refl
 
--- ---- the lens of the row of a number
+-- ---- the lens of the paired row of a number
 
--- a row that is there
-row_at : (items : List FormRow) (rows : RowTrees) (i : ℕ) (r : FormRow) → form_rows_of (map row_tree items) ≡ rows → i < length items → r ≡ get_or items i r
-    → row_lens (row_list rows) i ≡ lens_of (row_tree r)
-row_at items rows i r e h is =
-    rw (← e, row_list-form_rows_of, slice_get-map row_tree items i, slice_get_read items (length items) i r refl h is) refl
+lens_here : (items : List FormRow) (i : ℕ) (r : FormRow) (a b : List ℕ) (l : Form) → i < length items → r ≡ get_or items i r → r ≡ Both a b l
+    → row_lens (map row_tree (drop i items)) 0 ≡ Some (form_tree l)
+lens_here items i r a b l h is row = rw (drop-cons items i r h, sym is, row, row_tree-both a b l) refl
 
-pub paired_at : (items : List FormRow) (rows : RowTrees) (i : ℕ) (r : FormRow) (a b : List ℕ) (l : Form) → form_rows_of (map row_tree items) ≡ rows → i < length items → r ≡ get_or items i r
-    → r ≡ Both a b l → row_lens (row_list rows) i ≡ Some (form_tree l)
-paired_at items rows i r a b l e h is row = row_at items rows i r e h is ∙ ap (λ z. lens_of z) (ap row_tree row ∙ row_tree-both a b l)
+one_before : (k n : ℕ) (a b : List ℕ) (l : FormTree) (rows : List RowTree) → k ≡ suc n → row_lens (row_both a b l ∷ rows) k ≡ row_lens rows n
+one_before k n a b l rows e = rw e refl
 
-pub left_at : (items : List FormRow) (rows : RowTrees) (i : ℕ) (r : FormRow) (a : List ℕ) (t : Ty) → form_rows_of (map row_tree items) ≡ rows → i < length items → r ≡ get_or items i r
-    → r ≡ OnlyLeft a t → row_lens (row_list rows) i ≡ None
-left_at items rows i r a t e h is row = row_at items rows i r e h is ∙ ap (λ z. lens_of z) (ap row_tree row ∙ row_tree-left a t)
+pub lens_behind : (items : List FormRow) (i k : ℕ) (r : FormRow) (a b : List ℕ) (l : Form) → i < length items → r ≡ get_or items i r → r ≡ Both a b l → 0 < k
+    → row_lens (map row_tree (drop i items)) k ≡ row_lens (map row_tree (drop (i + 1) items)) (k - 1)
+lens_behind items i k r a b l h is row more =
+    let one_more : k ≡ suc (k - 1) = omega (arith, more) in
+    rw (drop-cons items i r h, sym is, row, row_tree-both a b l, add-one i) (one_before k (k - 1) a b (form_tree l) (map row_tree (drop (suc i) items)) one_more)
 
-pub right_at : (items : List FormRow) (rows : RowTrees) (i : ℕ) (r : FormRow) (b : List ℕ) (t : Ty) → form_rows_of (map row_tree items) ≡ rows → i < length items → r ≡ get_or items i r
-    → r ≡ OnlyRight b t → row_lens (row_list rows) i ≡ None
-right_at items rows i r b t e h is row = row_at items rows i r e h is ∙ ap (λ z. lens_of z) (ap row_tree row ∙ row_tree-right b t)
+pub lens_past_left : (items : List FormRow) (i k : ℕ) (r : FormRow) (a : List ℕ) (t : Ty) → i < length items → r ≡ get_or items i r → r ≡ OnlyLeft a t
+    → row_lens (map row_tree (drop i items)) k ≡ row_lens (map row_tree (drop (i + 1) items)) k
+lens_past_left items i k r a t h is row = rw (drop-cons items i r h, sym is, row, row_tree-left a t, add-one i) refl
 
-pub past_rows : (items : List FormRow) (rows : RowTrees) (i : ℕ) → form_rows_of (map row_tree items) ≡ rows → length items ≤ i → row_lens (row_list rows) i ≡ None
-past_rows items rows i e h = rw (← e, row_list-form_rows_of, slice_get-map row_tree items i, slice_get_past items i h) refl
+pub lens_past_right : (items : List FormRow) (i k : ℕ) (r : FormRow) (b : List ℕ) (t : Ty) → i < length items → r ≡ get_or items i r → r ≡ OnlyRight b t
+    → row_lens (map row_tree (drop i items)) k ≡ row_lens (map row_tree (drop (i + 1) items)) k
+lens_past_right items i k r b t h is row = rw (drop-cons items i r h, sym is, row, row_tree-right b t, add-one i) refl
+
+lens_past_all : (items : List FormRow) (i k : ℕ) → length items ≤ i → row_lens (map row_tree (drop i items)) k ≡ None
+lens_past_all items i k h = rw (drop_all i items h) refl
+
+in_items : (items : List FormRow) (rows : RowTrees) (n : ℕ) → form_rows_of (map row_tree items) ≡ rows → row_lens (row_list rows) n ≡ row_lens (map row_tree items) n
+in_items items rows n e = rw (← e, row_list-form_rows_of) refl
+
+pub lens_is_here : (items : List FormRow) (rows : RowTrees) (n i k : ℕ) (r : FormRow) (a b : List ℕ) (l : Form) → form_rows_of (map row_tree items) ≡ rows
+    → row_lens (map row_tree (drop i items)) k ≡ row_lens (map row_tree items) n → i < length items → r ≡ get_or items i r → r ≡ Both a b l → k ≡ 0
+    → Some (form_tree l) ≡ row_lens (row_list rows) n
+lens_is_here items rows n i k r a b l e same h is row first =
+    sym (lens_here items i r a b l h is row) ∙ (ap (row_lens (map row_tree (drop i items))) (sym first) ∙ (same ∙ sym (in_items items rows n e)))
+
+pub no_lens : (items : List FormRow) (rows : RowTrees) (n i k : ℕ) → form_rows_of (map row_tree items) ≡ rows
+    → row_lens (map row_tree (drop i items)) k ≡ row_lens (map row_tree items) n → length items ≤ i → None ≡ row_lens (row_list rows) n
+no_lens items rows n i k e same h = sym (lens_past_all items i k h) ∙ (same ∙ sym (in_items items rows n e))
 
 -- a lens inside has fewer parts than the rows
 pub paired_smaller : (items : List FormRow) (rows : RowTrees) (i : ℕ) (r : FormRow) (a b : List ℕ) (l : Form) → form_rows_of (map row_tree items) ≡ rows → i < length items → r ≡ get_or items i r
@@ -117,7 +132,7 @@ paired_smaller items rows i r a b l e h is row =
     let whole = ap rows_parts e in
     omega (arith, low, same, whole)
 
-pub ruleset place_rules = (paired_at, left_at, right_at, past_rows, paired_smaller)
+pub ruleset place_rules = (lens_is_here, lens_behind, lens_past_left, lens_past_right, no_lens, paired_smaller)
 
 -- ---- after a beginning in a row, the row of the field is there and is paired
 
@@ -129,10 +144,10 @@ row_inside : (cs : CompTrees) (u : WordTree) (o : Option RowAt) → IsInside (op
 row_inside cs u None h e = h
 row_inside cs u (Some q) h e = cc
 
-paired_inside : (cs : CompTrees) (u : WordTree) (n k : ℕ) (r : RowTree) → IsInside (Some (begin_row cs u n k r)) → pairs_of r ≡ 1
-paired_inside cs u n k (row_both a b l) h = refl
-paired_inside cs u n k (row_left a t) h = absurd h
-paired_inside cs u n k (row_right b t) h = absurd h
+paired_inside : (cs : CompTrees) (u : WordTree) (k : ℕ) (r : RowTree) → IsInside (Some (begin_row cs u k r)) → pairs_of r ≡ 1
+paired_inside cs u k (row_both a b l) h = refl
+paired_inside cs u k (row_left a t) h = absurd h
+paired_inside cs u k (row_right b t) h = absurd h
 
 pub begun_counted : (rows : RowTrees) (side : Side) (cs : CompTrees) (f : List ℕ) (u : WordTree) → IsInside (begin_record rows side cs (at f u)) → comp_count cs ≡ paired_rows rows
 begun_counted rows side cs f u h =
@@ -147,7 +162,7 @@ pub begun_is_paired : (rows : RowTrees) (side : Side) (cs : CompTrees) (f : List
     → pairs_of q.row ≡ 1
 begun_is_paired rows side cs f u q h e =
     let there = (counted (nat_eq (comp_count cs) (paired_rows rows)) (option_map (begin_in cs u) (row_of (row_list rows) side f)) h).1 in
-    paired_inside cs u q.number q.pairs q.row (subst (λ (o : Option RowAt). IsInside (option_map (begin_in cs u) o)) e there)
+    paired_inside cs u q.pairs q.row (subst (λ (o : Option RowAt). IsInside (option_map (begin_in cs u) o)) e there)
 
 abbrev pub is_at : PrimitiveTree → Bool
 is_at (at f u) = true

@@ -1,5 +1,5 @@
 -- How a record translates one primitive: At of a field begins in the row of that field and finishes there.
-use Rattle.std.specs.Prelude.{ℕ, ◌+◌, nat_eq, Bool, false, bytes_eq, if◌then◌else◌, List, [], ◌∷◌, Option, None, Some, option_map, option_and_then, slice_get}
+use Rattle.std.specs.Prelude.{ℕ, zero, suc, ◌+◌, nat_eq, Bool, false, bytes_eq, if◌then◌else◌, List, [], ◌∷◌, Option, None, Some, option_map, option_and_then}
 use Rattle.texts.specs.declared.side.Side.{Side}
 use Rattle.texts.specs.declared.side.Side.TheVariants.{Left, Right}
 use Rattle.edit_module.specs.Words.{PrimitiveTree, at, WordTree, no_primitives}
@@ -27,32 +27,33 @@ pairs_of (row_both a b l) = 1
 pairs_of (row_left a t) = 0
 pairs_of (row_right b t) = 0
 
--- a row among rows: its number from 0, how many paired rows are before it, and the row
+-- a row among rows: how many paired rows are before it, and the row
 pub record RowAt : Type 0 where
-  pub number : ℕ
   pub pairs : ℕ
   pub row : RowTree
 
--- the same row behind a number of rows with a number of paired ones
-abbrev pub row_behind : ℕ → ℕ → RowAt → RowAt
-row_behind n k r = record { number = r.number + n; pairs = r.pairs + k; row = r.row }
+-- the same row behind more paired rows
+abbrev pub row_behind : ℕ → RowAt → RowAt
+row_behind k r = record { pairs = r.pairs + k; row = r.row }
 
 -- the first row with this field on this side
 abbrev pub row_of : List RowTree → Side → List ℕ → Option RowAt
 row_of [] side f = None
 row_of (r ∷ rows) side f =
-    if has_near side f r then Some (record { number = 0; pairs = 0; row = r }) else option_map (row_behind 1 (pairs_of r)) (row_of rows side f)
+    if has_near side f r then Some (record { pairs = 0; row = r }) else option_map (row_behind (pairs_of r)) (row_of rows side f)
 
 -- ---- beginning and finish
 
--- in a paired row its lens translates the word; in a row of one side alone the word is translated to the empty word
-abbrev pub begin_row : CompTrees → WordTree → ℕ → ℕ → RowTree → Beginning
-begin_row cs u i k (row_both a b l) = inside i (comp_at cs k) u
-begin_row cs u i k (row_left a t) = finished (no_primitives, rec_comp cs)
-begin_row cs u i k (row_right b t) = finished (no_primitives, rec_comp cs)
+-- in a paired row its lens, the one with the number of the paired rows before it, translates the word; in a row of one
+-- side alone the word is translated to the empty word
+abbrev pub begin_row : CompTrees → WordTree → ℕ → RowTree → Beginning
+begin_row cs u k (row_both a b l) = inside k (comp_at cs k) u
+begin_row cs u k (row_left a t) = finished (no_primitives, rec_comp cs)
+begin_row cs u k (row_right b t) = finished (no_primitives, rec_comp cs)
 
+-- the beginning in a row that was found
 abbrev pub begin_in : CompTrees → WordTree → RowAt → Beginning
-begin_in cs u r = begin_row cs u r.number r.pairs r.row
+begin_in cs u r = begin_row cs u r.pairs r.row
 
 -- the beginning in a record with these complements, one for each paired row
 abbrev pub begin_record : RowTrees → Side → CompTrees → PrimitiveTree → Option Beginning
@@ -77,21 +78,19 @@ finish_record rows side cs _ r = r
 
 -- ---- the lens inside
 
--- the lens of a paired row
-abbrev pub lens_of : RowTree → Option FormTree
-lens_of (row_both a b l) = Some l
-lens_of (row_left a t) = None
-lens_of (row_right b t) = None
-
--- the lens of the row of a number
+-- the lens of the paired row of a number, which is counted from 0 among the paired rows
 abbrev pub row_lens : List RowTree → ℕ → Option FormTree
-row_lens rows i = option_and_then lens_of (slice_get rows i)
+row_lens [] i = None
+row_lens (row_both a b l ∷ rows) zero = Some l
+row_lens (row_both a b l ∷ rows) (suc i) = row_lens rows i
+row_lens (row_left a t ∷ rows) i = row_lens rows i
+row_lens (row_right b t ∷ rows) i = row_lens rows i
 
--- the translation by the lens of a row
+-- the translation by the lens of the paired row of a number
 abbrev pub row_translation : RowTrees → Side → ℕ → CompTree → WordTree → Option Translated
 row_translation rows side i c w = option_and_then (λ l. translate l side c w) (row_lens (row_list rows) i)
 
 -- ---- how contracts see a `FoundRow`
 
 abbrev pub row_seen : FoundRow → RowAt
-row_seen r = record { number = r.number; pairs = r.pairs; row = row_tree r.row.now }
+row_seen r = record { pairs = r.pairs; row = row_tree r.row.now }

@@ -37,7 +37,7 @@ pub fn record_goes_round()
         ≡ option_and_then (carried_on (row_translation rows side) (finish_record rows side cs p)) (begin_record rows side cs p) }
 {}
 
-/// Where the beginning in a record needs a lens inside, it is the lens of the row of this number, which is paired.
+/// Where the beginning in a record needs a lens inside, it is the lens of the paired row of this number, which is there.
 #[tactic(auto, using(crate::proofs::RecordRounds::record_begins_in_row))]
 pub fn record_begins_in_row()
     ensures { (rows : RowTrees) (side : Side) (cs : CompTrees) (p : PrimitiveTree) (i : ℕ) (c : CompTree) (w : WordTree)

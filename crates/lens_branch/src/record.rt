@@ -19,19 +19,18 @@ use lens_forms::{Form, FormRow, FormRows};
 use std::alloc::{AllocError, Global};
 use texts::{Name, Side, Twin};
 
-// The row of a field: its number from 0, how many paired rows are before it, and the row.
+// The row of a field: how many paired rows are before it, and the row.
 #[derive(Clone, Copy)]
 struct FoundRow<'a> {
-    number: usize,
     pairs: usize,
     row: &'a FormRow,
 }
 
 /// Begins the translation of one primitive of a side through a record, with the complements of its paired rows.
 ///
-/// At of a field of a paired row needs the lens of that row: the result says the number of the row, its complement, and
-/// the word to translate. At of a field of this side alone is translated to the empty word, and the complements stay. It
-/// passes over the rows, and does not translate the word.
+/// At of a field of a paired row needs the lens of that row: the result says the number of that lens, counted from 0
+/// among the paired rows, its complement, and the word to translate. At of a field of this side alone is translated to
+/// the empty word, and the complements stay. It passes over the rows, and does not translate the word.
 ///
 /// - `Unfit`: if and only if there is no such beginning: for other primitives, for a field of no row, and where the
 ///   complements are not as many as the paired rows.
@@ -60,7 +59,7 @@ pub fn rec_begin(
     };
     match found.row {
         FormRow::Both(_, _, _) => Ok(Begun::Inner {
-            part: found.number as u64,
+            part: found.pairs as u64,
             comp: comps.get(found.pairs).twin(alloc)?,
             word: word.twin(alloc)?,
         }),
@@ -114,8 +113,8 @@ fn with_comp(alloc: Global, comps: &Comps, place: usize, comp: Comp) -> Result<C
     Ok(Comp::Rec(comps))
 }
 
-/// The lens of the row of a number, which is counted from 0, or `None` where there is no such row and where it is not
-/// paired.
+/// The lens of the paired row of a number, which is counted from 0 among the paired rows, or `None` where there are not
+/// so many.
 ///
 /// It has fewer parts than the rows.
 #[tactic(auto, using(crate::proofs::RowSearch::place_rules))]
@@ -123,16 +122,20 @@ pub fn row_form(rows: &FormRows, number: u64) -> Option<&Form>
     ensures lens { option_map (λ l. form_tree l.now) result ≡ row_lens (row_list (rows_tree rows.now)) number }
     ensures smaller { MatchOption result (Unit {0}) (λ l. form_parts (form_tree l.now) < rows_parts (rows_tree rows.now)) }
 {
-    let items = rows.as_slice();
-    let place = number as usize;
-    if place >= items.len() {
-        return None;
+    let mut before = number;
+    for row in rows.as_slice() {
+        match row {
+            FormRow::Both(_, _, form) => {
+                if before == 0 {
+                    return Some(form);
+                }
+                before -= 1;
+            }
+            FormRow::OnlyLeft(_, _) => {}
+            FormRow::OnlyRight(_, _) => {}
+        }
     }
-    match &items[place] {
-        FormRow::Both(_, _, form) => Some(form),
-        FormRow::OnlyLeft(_, _) => None,
-        FormRow::OnlyRight(_, _) => None,
-    }
+    None
 }
 
 // The empty word, and the complements as they are.
@@ -151,12 +154,10 @@ fn find_row<'a>(rows: &'a FormRows, side: Side, field: &Name) -> Option<FoundRow
     ensures found { option_map row_seen result ≡ row_of (row_list (rows_tree rows.now)) side field.now }
     ensures within { MatchOption result (Unit {0}) (λ r. r.pairs + pairs_of (row_tree r.row.now) ≤ paired_rows (rows_tree rows.now)) }
 {
-    let items = rows.as_slice();
     let mut pairs = 0;
-    for number in 0..items.len() {
-        let row = &items[number];
+    for row in rows.as_slice() {
         if has_near(row, side, field) {
-            return Some(FoundRow { number, pairs, row });
+            return Some(FoundRow { pairs, row });
         }
         pairs += pairs_of(row);
     }
