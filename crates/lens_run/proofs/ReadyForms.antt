@@ -28,10 +28,8 @@ typed_row : (rows : RowTrees) (i : ℕ) (l : FormTree) → row_lens (row_list ro
 typed_row no_rows i l e h = cc
 typed_row (both a b k rows) zero l e h = let first = first_and (is_typed k) (are_typed_rows rows) h in cc
 typed_row (both a b k rows) (suc i) l e h = typed_row rows i l e (second_and (is_typed k) (are_typed_rows rows) h)
-typed_row (only_left a t rows) zero l e h = cc
-typed_row (only_left a t rows) (suc i) l e h = typed_row rows i l e (second_and (is_well_formed t) (are_typed_rows rows) h)
-typed_row (only_right b t rows) zero l e h = cc
-typed_row (only_right b t rows) (suc i) l e h = typed_row rows i l e (second_and (is_well_formed t) (are_typed_rows rows) h)
+typed_row (only_left a t rows) i l e h = typed_row rows i l e (second_and (is_well_formed t) (are_typed_rows rows) h)
+typed_row (only_right b t rows) i l e h = typed_row rows i l e (second_and (is_well_formed t) (are_typed_rows rows) h)
 
 same_parts : (l k : FormTree) → Some k ≡ Some l → form_parts k ≡ form_parts l
 same_parts l k e = cc
@@ -40,10 +38,8 @@ pub row_smaller : (rows : RowTrees) (i : ℕ) (l : FormTree) → row_lens (row_l
 row_smaller no_rows i l e = cc
 row_smaller (both a b k rows) zero l e = omega (arith, same_parts l k e)
 row_smaller (both a b k rows) (suc i) l e = let rest : form_parts l < rows_parts rows = row_smaller rows i l e in omega (arith, rest)
-row_smaller (only_left a t rows) zero l e = cc
-row_smaller (only_left a t rows) (suc i) l e = let rest : form_parts l < rows_parts rows = row_smaller rows i l e in omega (arith, rest)
-row_smaller (only_right b t rows) zero l e = cc
-row_smaller (only_right b t rows) (suc i) l e = let rest : form_parts l < rows_parts rows = row_smaller rows i l e in omega (arith, rest)
+row_smaller (only_left a t rows) i l e = let rest : form_parts l < rows_parts rows = row_smaller rows i l e in omega (arith, rest)
+row_smaller (only_right b t rows) i l e = let rest : form_parts l < rows_parts rows = row_smaller rows i l e in omega (arith, rest)
 
 -- the lens of a row
 pub ready_row : (rows : RowTrees) (i : ℕ) (l : FormTree) → row_lens (row_list rows) i ≡ Some l → IsReady (form_rec rows) → IsReady l

@@ -1,0 +1,12 @@
+pub mod Glue
+pub mod Normals
+pub mod Alikes
+pub mod KeptByLeaves
+pub mod KeptByCompositions
+pub mod EmittedAlike
+pub mod KeptByRecords
+pub mod KeptByAlternatives
+pub mod KeptByContainers
+pub mod ItemsAlike
+pub mod KeptByPartitions
+pub mod EveryForm
