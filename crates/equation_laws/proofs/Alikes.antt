@@ -1,17 +1,17 @@
 -- What a translation of one primitive owes so that equal words are translated alike: a primitive with a normal inner word is
 -- translated alike, and so are two primitives that merge, and the merged one.
-use Rattle.std.proofs.Common.{◌≡◌, refl, sym, ap, ap₂, subst, Option, None, Some, option_map, ◌∙◌}
+use Rattle.std.proofs.Common.{◌≡◌, refl, sym, ap, ap₂, Option, None, Some, option_map, ◌∙◌}
 use Rattle.std.specs.Prelude.{option_and_then}
 use Rattle.texts.specs.declared.side.Side.{Side}
-use Rattle.edit_module.specs.Words.{PrimitiveTree, set, add, splice, at, stay, switch, modify, shape, WordTree, no_primitives, more_primitives, joined}
-use Rattle.edit_module.specs.Normal.{merge, placed, merged_onto, merged, inside, inside_each, normal}
+use Rattle.edit_module.specs.Words.{PrimitiveTree, WordTree, no_primitives, more_primitives, joined}
+use Rattle.edit_module.specs.Normal.{merge, placed, merged_onto, inside, inside_each}
 use Rattle.lens_forms.specs.Forms.{FormTree}
 use Rattle.lens_core.specs.Complements.{CompTree}
 use Rattle.lens_core.specs.Emitted.{one, behind, one_by_one}
 use Rattle.lens_core.specs.Translation.{Translated, translate_one, translate}
 use Rattle.equation_laws.specs.Alike.{AreAlike, KeepsEquations}
 use Rattle.equation_laws.proofs.Glue.{glue, put_on, normalized, normalized_one, normalized_joined}
-use Rattle.equation_laws.proofs.Normals.{normalized_one-inside, normalized-merge, normalized-merged, normalized_normalized, normalized_one_normalized_one, normal-normalized}
+use Rattle.equation_laws.proofs.Normals.{normalized_one-inside, normalized-merge, normalized-merged, normalized_one-again, normal-normalized}
 
 -- ---- what was translated, with its word in normal form
 
@@ -164,7 +164,7 @@ owed-form l h = keeps-form l (λ side. owed-keeps (translate_one l side) (h side
 -- ---- of words of one primitive
 
 pub normalized-one : (p : PrimitiveTree) → normalized (one (normalized_one p)) ≡ normalized (one p)
-normalized-one p = ap (λ z. put_on z no_primitives) (normalized_one_normalized_one p)
+normalized-one p = ap (λ z. put_on z no_primitives) (normalized_one-again p)
 
 pub normalized-two : (p q r : PrimitiveTree) → merge p q ≡ Some r → normalized (one r) ≡ normalized (more_primitives p (one q))
 normalized-two p q r e = normalized-merge p q r e no_primitives

@@ -1,10 +1,10 @@
 -- What translation emits for equal inner words is equal.
-use Rattle.std.proofs.Common.{◌≡◌, refl, sym, ap, subst, Bool, true, false, cond, List, ℕ, bytes_eq, ◌∙◌}
+use Rattle.std.proofs.Common.{◌≡◌, refl, sym, ap, Bool, true, false, List, ℕ, ◌∙◌}
 use Rattle.hold_shapes.specs.declared.edit.Place.{Place}
 use Rattle.doc_values.proofs.InitialTypes.{bytes_eq-refl}
 use Rattle.edit_module.specs.Words.{PrimitiveTree, at, stay, switch, modify, WordTree, no_primitives, more_primitives, joined}
 use Rattle.lens_core.specs.Emitted.{one, at_word, stay_word, mod_word, switch_word}
-use Rattle.equation_laws.proofs.Glue.{glue, put_on, normalized, normalized_one, normalized_joined, same_place_same}
+use Rattle.equation_laws.proofs.Glue.{put_on, normalized, normalized_one, normalized_joined, same_place_same}
 use Rattle.equation_laws.proofs.Alikes.{joined-none}
 use Rattle.equation_laws.proofs.Normals.{comes_first}
 

@@ -1,5 +1,5 @@
 -- A second form of normal words, by recursion on the word alone: each primitive is glued before the glued rest.
-use Rattle.std.proofs.Common.{◌≡◌, refl, sym, ap, subst, Bool, true, false, cond, ℕ, zero, suc, List, bytes_eq, nat_eq, arith, ◌∙◌}
+use Rattle.std.proofs.Common.{◌≡◌, refl, sym, ap, subst, Bool, true, false, cond, ℕ, List, bytes_eq, nat_eq, arith, ◌∙◌}
 use Rattle.std.proofs.lemmas.Bool.Decides.{nat_tests}
 use Rattle.std.proofs.lemmas.Slice.Eq.{bytes_eq-Decides}
 use Rattle.hold_shapes.specs.declared.edit.Place.{Place}
@@ -90,6 +90,7 @@ at_glue f a (more_primitives (at g b) w) v h = go (bytes_eq f g) refl
     go true e = subst (λ n. at_on f (glue a b) (λ x. glue (glue a b) x) (glue w v) ≡ at_on f a (λ x. glue a x) (at_on n b (λ x. glue b x) (glue w v))) ((bytes_eq-Decides f g).0 e) (at_at f a b (glue w v) (λ c. h b c))
     go false e = refl
 at_glue f a u v h = refl
+
 pub stay_stay : (f : List ℕ) (a b : WordTree) (z : WordTree) → ((c : WordTree) → glue (glue a b) c ≡ glue a (glue b c)) → stay_on f (glue a b) (λ v. glue (glue a b) v) z ≡ stay_on f a (λ v. glue a v) (stay_on f b (λ v. glue b v) z)
 stay_stay f a b (more_primitives (stay g c) z) h = go (bytes_eq f g) refl
   where
@@ -106,6 +107,7 @@ stay_glue f a (more_primitives (stay g b) w) v h = go (bytes_eq f g) refl
     go true e = subst (λ n. stay_on f (glue a b) (λ x. glue (glue a b) x) (glue w v) ≡ stay_on f a (λ x. glue a x) (stay_on n b (λ x. glue b x) (glue w v))) ((bytes_eq-Decides f g).0 e) (stay_stay f a b (glue w v) (λ c. h b c))
     go false e = refl
 stay_glue f a u v h = refl
+
 pub mod_mod : (f : Place) (a b : WordTree) (z : WordTree) → ((c : WordTree) → glue (glue a b) c ≡ glue a (glue b c)) → mod_on f (glue a b) (λ v. glue (glue a b) v) z ≡ mod_on f a (λ v. glue a v) (mod_on f b (λ v. glue b v) z)
 mod_mod f a b (more_primitives (modify g c) z) h = go (is_same_place f g) refl
   where

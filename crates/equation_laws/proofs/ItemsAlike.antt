@@ -1,6 +1,6 @@
 -- Equal words of an item of a partition, and of one of its lists, are translated alike.
-use Rattle.std.proofs.Common.{◌≡◌, refl, sym, ap, ap₂, subst, Bool, true, false, ◌&&◌, cond, Option, None, Some, option_map, List, [], ◌∷◌, length, ℕ, zero, suc, ◌+◌, ◌-◌, ◌<◌, nat_eq, nat_lt, arith, ◌∙◌}
-use Rattle.std.specs.Prelude.{option_and_then, slice_index, slice_set, take, bytes_eq}
+use Rattle.std.proofs.Common.{◌≡◌, refl, sym, ap, subst, Bool, true, false, cond, Option, None, Some, option_map, List, [], ◌∷◌, length, ℕ, zero, suc, ◌+◌, ◌-◌, ◌<◌, nat_eq, nat_lt, arith, ◌∙◌}
+use Rattle.std.specs.Prelude.{option_and_then, slice_index, slice_set, bytes_eq}
 use Rattle.std.proofs.lemmas.Bool.Decides.{nat_tests}
 use Rattle.std.proofs.lemmas.List.{length-set, get_or-set_same}
 use Rattle.texts.proofs.Conjunction.{both, first, second}
@@ -10,15 +10,14 @@ use Rattle.hold_shapes.specs.declared.edit.ShapeEdit.TheVariants.{Ins, Del}
 use Rattle.doc_values.specs.Types.{TyTree, FieldTrees, no_fields, more_fields}
 use Rattle.doc_values.specs.Typing.{lookup_field, later_field}
 use Rattle.edit_module.specs.Words.{PrimitiveTree, set, add, splice, at, stay, switch, modify, shape, WordTree, no_primitives, more_primitives, joined}
-use Rattle.edit_module.specs.Normal.{merge}
-use Rattle.tag_seq.specs.Tags.{one_if_same, count, rank, place, are_below}
-use Rattle.lens_core.specs.Tags.{tag_count, tag_number, tag_name}
-use Rattle.lens_core.specs.Emitted.{one, at_word, stay_word, mod_word, shape_word, behind, one_by_one}
+use Rattle.tag_seq.specs.Tags.{one_if_same, count, rank, are_below}
+use Rattle.lens_core.specs.Tags.{tag_count, tag_number}
+use Rattle.lens_core.specs.Emitted.{at_word, stay_word, mod_word, shape_word, behind, one_by_one}
 use Rattle.lens_core.specs.Partition.{Parted, mv, place_in, where_holds, stay_item, switch_item, part_item, mod_occurrence, part_occurrence}
 use Rattle.equation_laws.proofs.Glue.{normalized, normalized_one, nat_eq-same}
-use Rattle.equation_laws.proofs.Normals.{merge-cases, normalized_normalized}
+use Rattle.equation_laws.proofs.Normals.{merge-cases, normalized-again}
 use Rattle.equation_laws.proofs.EmittedAlike.{at_word-normalized, at_word-joined, stay_word-normalized, stay_word-joined, mod_word-normalized, mod_word-joined}
-use Rattle.equation_laws.proofs.Alikes.{in_normal_form, in_order, in_order-same, normalized_joined-same, joined-again, Owed, Keeps, owed-keeps}
+use Rattle.equation_laws.proofs.Alikes.{in_normal_form, in_order, normalized_joined-same, joined-again, Owed, owed-keeps}
 
 -- ---- what each primitive of a word keeps, the word keeps
 
@@ -30,6 +29,7 @@ word-kept {C = C} rule Kept h (more_primitives p w) c r k e = first_one (rule c 
     rest : (q : WordTree × C) (o : Option (WordTree × C)) → ((s : WordTree × C) → o ≡ Some s → Kept s.1) → option_map (behind q.0) o ≡ Some r → Kept r.1
     rest q None g e = cc
     rest q (Some s) g e = let same : behind q.0 s ≡ r = cc in subst (λ z. Kept z.1) same (g s refl)
+
     first_one : (o : Option (WordTree × C)) → ((q : WordTree × C) → o ≡ Some q → Kept q.1) → ((q : C) (s : WordTree × C) → Kept q → one_by_one rule q w ≡ Some s → Kept s.1)
         → in_order o (λ d. one_by_one rule d w) ≡ Some r → Kept r.1
     first_one None g i e = cc
@@ -84,6 +84,7 @@ item-tags fs p ts (stay n u) r e Kept k h = go (tag_number fs n) e
     there : (b : Bool) (w : WordTree) → where_holds b (w, ts) ≡ Some r → Kept r.1
     there false w e = cc
     there true w e = let same : (w, ts) ≡ r = cc in subst (λ z. Kept z.1) same k
+
     go : (o : Option ℕ) → option_and_then (stay_item fs p ts n u) o ≡ Some r → Kept r.1
     go None e = cc
     go (Some t) e = there (nat_eq t (slice_index ts p)) (at_word n (mod_word (Index (rank t p ts)) u)) e
@@ -92,11 +93,14 @@ item-tags fs p ts (switch a b u) r e Kept k h = from (tag_number fs a) e
     there : (x : Bool) (w : WordTree) (j : ℕ) → j < tag_count fs → where_holds x (w, slice_set ts p j) ≡ Some r → Kept r.1
     there false w j l e = cc
     there true w j l e = let same : (w, slice_set ts p j) ≡ r = cc in subst (λ z. Kept z.1) same (h j l)
+
     held : (i : ℕ) (x : Bool) (y : Parted) (j : ℕ) → j < tag_count fs → y.1 ≡ slice_set ts p j → where_holds x y ≡ Some r → Kept r.1
     held i x y j l s e = there x y.0 j l (ap (λ z. where_holds x (y.0, z)) (sym s) ∙ e)
+
     to : (i : ℕ) (o : Option ℕ) → tag_number fs b ≡ o → option_and_then (switch_item p ts a b u i) o ≡ Some r → Kept r.1
     to i None f e = cc
     to i (Some j) f e = held i (nat_eq i (slice_index ts p)) _ j (tag-below fs b j f) refl e
+
     from : (o : Option ℕ) → option_and_then (λ i. option_and_then (switch_item p ts a b u i) (tag_number fs b)) o ≡ Some r → Kept r.1
     from None e = cc
     from (Some i) e = to i (tag_number fs b) refl e
@@ -167,16 +171,17 @@ item-one fs p ts (stay n u) = go (tag_number fs n)
     go None = refl
     go (Some t) =
         holds-same (nat_eq t (slice_index ts p)) (at_word n (mod_word (Index (rank t p ts)) (normalized u))) (at_word n (mod_word (Index (rank t p ts)) u)) ts
-        (at_word-normalized n (mod_word (Index (rank t p ts)) (normalized u)) (mod_word (Index (rank t p ts)) u) (mod_word-normalized (Index (rank t p ts)) (normalized u) u (normalized_normalized u)))
+        (at_word-normalized n (mod_word (Index (rank t p ts)) (normalized u)) (mod_word (Index (rank t p ts)) u) (mod_word-normalized (Index (rank t p ts)) (normalized u) u (normalized-again u)))
 item-one fs p ts (switch a b u) = from (tag_number fs a)
   where
     to : (i : ℕ) (o : Option ℕ) → in_normal_form (option_and_then (switch_item p ts a b (normalized u) i) o) ≡ in_normal_form (option_and_then (switch_item p ts a b u i) o)
     to i None = refl
-    to i (Some j) = 
+    to i (Some j) =
         let off = off_word p ts a i in
         let move = move_word p ts i j in
         holds-same (nat_eq i (slice_index ts p)) (switched off b (shape_word (Ins 1)) move (rank j p ts) (normalized u)) (switched off b (shape_word (Ins 1)) move (rank j p ts) u) (slice_set ts p j)
-        (switched-normalized off b (shape_word (Ins 1)) move (rank j p ts) (normalized u) u (normalized_normalized u))
+        (switched-normalized off b (shape_word (Ins 1)) move (rank j p ts) (normalized u) u (normalized-again u))
+
     from : (o : Option ℕ) → in_normal_form (option_and_then (λ i. option_and_then (switch_item p ts a b (normalized u) i) (tag_number fs b)) o)
         ≡ in_normal_form (option_and_then (λ i. option_and_then (switch_item p ts a b u i) (tag_number fs b)) o)
     from None = refl
@@ -211,6 +216,7 @@ item-stay fs p ts n u v = go (nat_lt p (length ts)) refl (tag_number fs n) refl
         let x = Index (rank t p ts) in
         ap (λ z. Some (z, ts)) (at_word-normalized n (mod_word x (joined u v)) (joined (mod_word x u) (mod_word x v)) (mod_word-joined x u v) ∙ at_word-joined n (mod_word x u) (mod_word x v))
         ∙ ap (λ o. in_normal_form (option_map (behind (at_word n (mod_word x u))) o)) (sym (stay_there fs p ts n t v e f g))
+
     go : (b : Bool) → nat_lt p (length ts) ≡ b → (o : Option ℕ) → tag_number fs n ≡ o
         → in_normal_form (cond b (option_and_then (stay_item fs p ts n (joined u v)) o) None)
         ≡ in_normal_form (in_order (cond b (option_and_then (stay_item fs p ts n u) o) None) (λ us. item_rule fs p us (stay n v)))
@@ -237,10 +243,12 @@ item-switch fs p ts a b u v = go (nat_lt p (length ts)) refl (tag_number fs a)
     there j e f true off ins mv =
         ap (λ z. Some (z, slice_set ts p j)) (switched-stay off b ins mv (rank j p ts) u v)
         ∙ ap (λ o. in_normal_form (option_map (behind (switched off b ins mv (rank j p ts) u)) o)) (sym (stay_after fs p ts b j v e f))
+
     to : nat_lt p (length ts) ≡ true → (i : ℕ) (o : Option ℕ) → tag_number fs b ≡ o
         → in_normal_form (option_and_then (switch_item p ts a b (joined u v) i) o) ≡ in_normal_form (in_order (option_and_then (switch_item p ts a b u i) o) (λ us. item_rule fs p us (stay b v)))
     to e i None f = refl
     to e i (Some j) f = there j e f (nat_eq i (slice_index ts p)) (off_word p ts a i) (shape_word (Ins 1)) (move_word p ts i j)
+
     go : (x : Bool) → nat_lt p (length ts) ≡ x → (o : Option ℕ)
         → in_normal_form (cond x (option_and_then (λ i. option_and_then (switch_item p ts a b (joined u v) i) (tag_number fs b)) o) None)
         ≡ in_normal_form (in_order (cond x (option_and_then (λ i. option_and_then (switch_item p ts a b u i) (tag_number fs b)) o) None) (λ us. item_rule fs p us (stay b v)))
@@ -278,7 +286,7 @@ items-keep fs p ts u w k e =
 occurrence-one : (first_tag n : List ℕ) (t : ℕ) (ts : List ℕ) (q : PrimitiveTree) → in_normal_form (part_occurrence first_tag n t ts (normalized_one q)) ≡ in_normal_form (part_occurrence first_tag n t ts q)
 occurrence-one first_tag n t ts (modify (Index q) u) =
     holds-same (nat_lt q (count t ts)) (mod_word (Index (place_in ts t q)) (stay_word n (normalized u))) (mod_word (Index (place_in ts t q)) (stay_word n u)) ts
-    (mod_word-normalized (Index (place_in ts t q)) (stay_word n (normalized u)) (stay_word n u) (stay_word-normalized n (normalized u) u (normalized_normalized u)))
+    (mod_word-normalized (Index (place_in ts t q)) (stay_word n (normalized u)) (stay_word n u) (stay_word-normalized n (normalized u) u (normalized-again u)))
 occurrence-one first_tag n t ts (modify (Key k) u) = refl
 occurrence-one first_tag n t ts (modify (Node k) u) = refl
 occurrence-one first_tag n t ts (set a) = refl

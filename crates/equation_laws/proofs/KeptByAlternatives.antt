@@ -1,26 +1,24 @@
 -- Alternatives keep the equations.
-use Rattle.std.proofs.Common.{◌≡◌, refl, sym, ap, ap₂, subst, Bool, true, false, not, ◌&&◌, ◌||◌, cond, Option, None, Some, option_map, List, [], ◌∷◌, ℕ, bytes_eq, ◌∙◌}
+use Rattle.std.proofs.Common.{◌≡◌, refl, sym, ap, ap₂, subst, Bool, true, false, not, ◌&&◌, ◌||◌, cond, Option, None, Some, option_map, List, ℕ, bytes_eq, ◌∙◌}
 use Rattle.std.specs.Prelude.{option_and_then}
 use Rattle.std.proofs.lemmas.Slice.Eq.{bytes_eq-Decides}
 use Rattle.hold_shapes.specs.declared.edit.Place.{Place}
 use Rattle.texts.specs.declared.side.Side.{Side}
-use Rattle.texts.specs.declared.side.Side.TheVariants.{Left, Right}
 use Rattle.texts.specs.Keys.{has_name}
 use Rattle.doc_values.specs.Types.{are_distinct}
 use Rattle.doc_values.proofs.InitialTypes.{bytes_eq-refl}
-use Rattle.edit_module.specs.Words.{PrimitiveTree, set, add, splice, at, stay, switch, modify, shape, WordTree, no_primitives, more_primitives, joined}
-use Rattle.edit_module.specs.Normal.{merge}
-use Rattle.lens_forms.specs.Forms.{FormTree, form_alt, ArmTrees, no_arms, more_arms}
+use Rattle.edit_module.specs.Words.{PrimitiveTree, set, add, splice, at, stay, switch, modify, shape, WordTree, joined}
+use Rattle.lens_forms.specs.Forms.{form_alt, ArmTrees, no_arms, more_arms}
 use Rattle.lens_forms.specs.Typing.{left_arms}
-use Rattle.lens_core.specs.Complements.{CompTree, nil, then_comp, rec_comp, alt_comp, hold_comp, tags_comp, missing}
+use Rattle.lens_core.specs.Complements.{CompTree, alt_comp, missing}
 use Rattle.lens_core.specs.Sides.{near, far}
-use Rattle.lens_core.specs.Emitted.{one, stay_word, switch_word, behind, one_by_one}
-use Rattle.lens_core.specs.Translation.{Translated, far_tag, in_arm, to_arm, translate_one, translate_stay, translate_switch, translate}
+use Rattle.lens_core.specs.Emitted.{stay_word, switch_word, behind, one_by_one}
+use Rattle.lens_core.specs.Translation.{Translated, far_tag, in_arm, to_arm, translate_one, translate_stay, translate_switch}
 use Rattle.equation_laws.specs.Alike.{KeepsEquations, ArmsKeepEquations}
 use Rattle.equation_laws.proofs.Glue.{normalized, normalized_one}
-use Rattle.equation_laws.proofs.Normals.{merge-cases, normalized_normalized}
+use Rattle.equation_laws.proofs.Normals.{merge-cases, normalized-again}
 use Rattle.equation_laws.proofs.EmittedAlike.{stay_word-normalized, stay_word-joined, switch_word-normalized, switch_word-joined}
-use Rattle.equation_laws.proofs.Alikes.{in_normal_form, same-parts, in_order, in_order-same, in_order-given, in_parts, Keeps, form-keeps, owed-form}
+use Rattle.equation_laws.proofs.Alikes.{in_normal_form, same-parts, in_order, in_order-same, in_order-given, in_parts, form-keeps, owed-form}
 
 -- ---- a word in an arm
 
@@ -96,11 +94,12 @@ stay-two (more_arms a b l arms) h side t c m u v = go (bytes_eq a t) refl (bytes
     later e r i =
         let s = stay-tag arms side t c m u r i in
         subst (λ d. stay_at arms side m v d ≡ stay_at (more_arms a b l arms) side m v d) (sym s.1) (rw e refl)
+
     go : (x : Bool) → bytes_eq a t ≡ x → (y : Bool) → bytes_eq (near side a b) m ≡ y
         → in_normal_form (translate_stay arms side t c m (joined u v)) ≡ in_normal_form (in_order (translate_stay arms side t c m u) (λ d. stay_at arms side m v d))
         → in_normal_form (cond x (cond y (option_map (in_arm a (far side a b)) (one_by_one (translate_one l side) c (joined u v))) None) (translate_stay arms side t c m (joined u v)))
         ≡ in_normal_form (in_order (cond x (cond y (option_map (in_arm a (far side a b)) (one_by_one (translate_one l side) c u)) None) (translate_stay arms side t c m u))
-            (λ d. stay_at (more_arms a b l arms) side m v d))
+        (λ d. stay_at (more_arms a b l arms) side m v d))
     go true e true f i =
         ap (λ o. in_normal_form (option_map (in_arm a (far side a b)) o)) (in_parts (translate_one l side) c u v)
         ∙ in_arm-order a (far side a b) (one_by_one (translate_one l side) c u) (λ d. one_by_one (translate_one l side) d v) (λ d. stay_at (more_arms a b l arms) side m v d)
@@ -165,11 +164,12 @@ switch-two (more_arms a b l arms) h k side from n u v =
     later e r i =
         let s = switch-tag arms side from n u r i in
         subst (λ d. stay_at arms side n v d ≡ stay_at (more_arms a b l arms) side n v d) (sym s.2) (rw (other-tag a s.0 (left_arms arms) e s.3) refl)
+
     go : has_name a (left_arms arms) ≡ false → (y : Bool) → bytes_eq (near side a b) n ≡ y
         → in_normal_form (translate_switch arms side from n (joined u v)) ≡ in_normal_form (in_order (translate_switch arms side from n u) (λ d. stay_at arms side n v d))
         → in_normal_form (cond y (option_map (to_arm from a (far side a b)) (one_by_one (translate_one l side) (missing l) (joined u v))) (translate_switch arms side from n (joined u v)))
         ≡ in_normal_form (in_order (cond y (option_map (to_arm from a (far side a b)) (one_by_one (translate_one l side) (missing l) u)) (translate_switch arms side from n u))
-            (λ d. stay_at (more_arms a b l arms) side n v d))
+        (λ d. stay_at (more_arms a b l arms) side n v d))
     go e true f i =
         ap (λ o. in_normal_form (option_map (to_arm from a (far side a b)) o)) (in_parts (translate_one l side) (missing l) u v)
         ∙ to_arm-order from a (far side a b) (one_by_one (translate_one l side) (missing l) u) (λ d. one_by_one (translate_one l side) d v) (λ d. stay_at (more_arms a b l arms) side n v d)
@@ -182,12 +182,12 @@ switch-two (more_arms a b l arms) h k side from n u v =
 
 alt-one : (arms : ArmTrees) → ArmsKeepEquations arms → (side : Side) (c : CompTree) (p : PrimitiveTree)
     → in_normal_form (translate_one (form_alt arms) side c (normalized_one p)) ≡ in_normal_form (translate_one (form_alt arms) side c p)
-alt-one arms h side (alt_comp t c) (stay m u) = stay-same arms h side t c m (normalized u) u (normalized_normalized u)
+alt-one arms h side (alt_comp t c) (stay m u) = stay-same arms h side t c m (normalized u) u (normalized-again u)
 alt-one arms h side (alt_comp t c) (switch m n u) = go (far_tag arms side t m)
   where
     go : (o : Option (List ℕ)) → in_normal_form (option_and_then (λ from. translate_switch arms side from n (normalized u)) o) ≡ in_normal_form (option_and_then (λ from. translate_switch arms side from n u) o)
     go None = refl
-    go (Some from) = switch-same arms h side from n (normalized u) u (normalized_normalized u)
+    go (Some from) = switch-same arms h side from n (normalized u) u (normalized-again u)
 alt-one arms h side (alt_comp t c) (set a) = refl
 alt-one arms h side (alt_comp t c) (add a) = refl
 alt-one arms h side (alt_comp t c) (splice i k s) = refl

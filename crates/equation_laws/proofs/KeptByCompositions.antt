@@ -1,21 +1,18 @@
 -- Inverses and compositions keep the equations.
-use Rattle.std.proofs.Common.{◌≡◌, refl, sym, ap, ap₂, subst, Option, None, Some, option_map, List, ℕ, ◌∙◌}
+use Rattle.std.proofs.Common.{◌≡◌, refl, sym, ap, ap₂, Option, None, Some, option_map, ◌∙◌}
 use Rattle.std.specs.Prelude.{option_and_then}
-use Rattle.hold_shapes.specs.declared.edit.Place.{Place}
 use Rattle.texts.specs.declared.side.Side.{Side}
 use Rattle.texts.specs.declared.side.Side.TheVariants.{Left, Right}
 use Rattle.texts.specs.Sides.{other}
-use Rattle.edit_module.specs.Words.{PrimitiveTree, set, add, splice, at, stay, switch, modify, shape, WordTree, no_primitives, more_primitives, joined}
+use Rattle.edit_module.specs.Words.{PrimitiveTree, WordTree, no_primitives, more_primitives}
 use Rattle.edit_module.specs.Normal.{merge}
-use Rattle.doc_values.specs.Types.{TyTree}
-use Rattle.lens_forms.specs.Forms.{FormTree, form_id, form_bij, form_disc, form_then, form_inv}
-use Rattle.lens_core.specs.Complements.{CompTree, nil, then_comp, rec_comp, alt_comp, hold_comp, tags_comp}
+use Rattle.lens_forms.specs.Forms.{FormTree, form_then, form_inv}
+use Rattle.lens_core.specs.Complements.{CompTree, then_comp}
 use Rattle.lens_core.specs.Emitted.{one, behind, one_by_one}
-use Rattle.lens_core.specs.Translation.{Translated, at_nil, set_partner, onward, translate_one, translate}
+use Rattle.lens_core.specs.Translation.{Translated, onward, translate_one, translate}
 use Rattle.equation_laws.specs.Alike.{AreAlike, KeepsEquations}
 use Rattle.equation_laws.proofs.Glue.{normalized, normalized_one}
-use Rattle.equation_laws.proofs.Normals.{merge-cases, normalized_normalized}
-use Rattle.equation_laws.proofs.Alikes.{joined-none, in_normal_form, same-parts, in_order, in_order-same, in_parts, Owed, Keeps, form-keeps, keeps-form, owed-form, normalized-one, normalized-two}
+use Rattle.equation_laws.proofs.Alikes.{joined-none, in_normal_form, same-parts, in_order, in_order-same, in_parts, Keeps, form-keeps, owed-form, normalized-one, normalized-two}
 
 -- ---- an inverse
 
@@ -64,13 +61,16 @@ through-order rule d pack (Some r) k next h = second (k r.1) (λ x. h r.1 x)
         → option_map (λ q. (q.0, pack c q.1)) (option_map (behind w) o) ≡ option_map (behind w) (option_map (λ q. (q.0, pack c q.1)) o)
     packed-behind w c None = refl
     packed-behind w c (Some q) = refl
+
     none : (o : Option Translated) → ((x : CompTree) → next (pack r.1 x) ≡ None) → None ≡ in_order (option_map (λ q. (q.0, pack r.1 q.1)) o) next
     none None e = refl
     none (Some q) e = rw (e q.1) refl
+
     some : (s : Translated) (o : Option Translated) → ((x : CompTree) → next (pack r.1 x) ≡ option_map (λ q. (q.0, pack s.1 q.1)) (one_by_one rule x s.0))
         → option_map (λ q. (q.0, pack s.1 q.1)) (in_order o (λ x. one_by_one rule x s.0)) ≡ in_order (option_map (λ q. (q.0, pack r.1 q.1)) o) next
     some s None e = refl
     some s (Some q) e = rw (e q.1) (packed-behind q.0 s.1 (one_by_one rule q.1 s.0))
+
     second : (o : Option Translated) → ((x : CompTree) → next (pack r.1 x) ≡ through rule x pack o)
         → through rule d pack (option_map (behind r.0) o) ≡ in_order (option_map (λ q. (q.0, pack r.1 q.1)) (one_by_one rule d r.0)) next
     second None e = none (one_by_one rule d r.0) e

@@ -1,6 +1,6 @@
 -- The maps of a lens over lists, keyed maps and ordered trees keep the equations.
-use Rattle.std.proofs.Common.{◌≡◌, refl, sym, ap, ap₂, subst, Bool, true, false, cond, Option, None, Some, option_map, List, [], ◌∷◌, ℕ, zero, suc, ◌+◌, nat_eq, ◌∙◌}
-use Rattle.std.specs.Prelude.{option_and_then, slice_index_or, slice_set}
+use Rattle.std.proofs.Common.{◌≡◌, refl, sym, ap, ap₂, Bool, true, false, cond, Option, None, Some, option_map, ℕ, zero, suc, ◌+◌, nat_eq, ◌∙◌}
+use Rattle.std.specs.Prelude.{option_and_then}
 use Rattle.hold_shapes.specs.declared.shape.Shape.{Shape}
 use Rattle.hold_shapes.specs.declared.shape.Shape.TheVariants.{List as ListOf, Keyed as KeyedOf, Tree as TreeOf}
 use Rattle.hold_shapes.specs.declared.edit.Place.{Place}
@@ -11,14 +11,14 @@ use Rattle.texts.specs.Sides.{other}
 use Rattle.edit_module.specs.Words.{PrimitiveTree, set, add, splice, at, stay, switch, modify, shape, WordTree, no_primitives, more_primitives, joined}
 use Rattle.edit_module.specs.Normal.{merge}
 use Rattle.lens_forms.specs.Forms.{FormTree, form_id, form_bij, form_disc, form_then, form_rec, form_alt, form_each, form_keyed, form_ordered, form_part, form_inv}
-use Rattle.lens_core.specs.Complements.{CompTree, nil, then_comp, rec_comp, alt_comp, hold_comp, tags_comp, CompTrees, no_comps, more_comps, comps_of, comp_list, comp_count, missing}
+use Rattle.lens_core.specs.Complements.{CompTree, nil, hold_comp, CompTrees, no_comps, more_comps, comps_of, comp_list, comp_count, missing}
 use Rattle.lens_core.specs.Emitted.{one, mod_word, behind, one_by_one}
 use Rattle.lens_core.specs.Translation.{Translated, at_nil, set_partner, comp_at, put_comp, held_row, translate_held, translate_one, translate}
 use Rattle.equation_laws.specs.Alike.{KeepsEquations}
 use Rattle.equation_laws.proofs.Glue.{normalized, normalized_one}
-use Rattle.equation_laws.proofs.Normals.{merge-cases, normalized_normalized}
+use Rattle.equation_laws.proofs.Normals.{merge-cases, normalized-again}
 use Rattle.equation_laws.proofs.EmittedAlike.{mod_word-normalized, mod_word-joined}
-use Rattle.equation_laws.proofs.Alikes.{in_normal_form, same-parts, in_order, in_order-same, in_order-given, in_parts, Keeps, form-keeps, owed-form}
+use Rattle.equation_laws.proofs.Alikes.{in_normal_form, same-parts, in_order, in_parts, form-keeps, owed-form}
 
 -- ---- complements at places
 
@@ -70,6 +70,7 @@ nil-word l side (more_primitives p w) c r n e =
     rest : (q : Translated) (o : Option Translated) → ((s : Translated) → o ≡ Some s → s.1 ≡ nil) → option_map (behind q.0) o ≡ Some r → r.1 ≡ nil
     rest q None h e = cc
     rest q (Some s) h e = let same : behind q.0 s ≡ r = cc in sym (ap (λ z. z.1) same) ∙ h s refl
+
     first : (o : Option Translated) → ((q : Translated) → o ≡ Some q → q.1 ≡ nil)
         → ((q s : Translated) → q.1 ≡ nil → translate l side q.1 w ≡ Some s → s.1 ≡ nil) → in_order o (λ d. translate l side d w) ≡ Some r → r.1 ≡ nil
     first None h k e = cc
@@ -108,7 +109,7 @@ held-one l h side s cs (modify x u) = go (nat_eq (comp_count cs) (size_of s)) (p
         ≡ in_normal_form (cond b (option_and_then (λ i. option_map (at_item x s cs i) (translate l side (comp_at cs i) u)) o) None)
     go false o = refl
     go true None = refl
-    go true (Some i) = at_item-same x s cs i (translate l side (comp_at cs i) (normalized u)) (translate l side (comp_at cs i) u) (form-keeps l h side (comp_at cs i) (normalized u) u (normalized_normalized u))
+    go true (Some i) = at_item-same x s cs i (translate l side (comp_at cs i) (normalized u)) (translate l side (comp_at cs i) u) (form-keeps l h side (comp_at cs i) (normalized u) u (normalized-again u))
 held-one l h side s cs (set a) = refl
 held-one l h side s cs (add a) = refl
 held-one l h side s cs (splice i k t) = refl
@@ -116,7 +117,6 @@ held-one l h side s cs (at f u) = refl
 held-one l h side s cs (stay f u) = refl
 held-one l h side s cs (switch m n u) = refl
 held-one l h side s cs (shape a) = refl
-
 
 held-mod : (form l : FormTree) → KeepsEquations l → (side : Side) (s : Shape) → ((cs : CompTrees) (p : PrimitiveTree) → translate_one form side (hold_comp s cs) p ≡ held l side s cs p)
     → (cs : CompTrees) (x : Place) (u v : WordTree)
@@ -128,6 +128,7 @@ held-mod form l h side s is cs x u v = go (nat_eq (comp_count cs) (size_of s)) r
     second e i f r g =
         is (put_comp cs i r.1) (modify x v)
         ∙ rw (put-count cs i r.1, e, f) (ap (λ c. option_map (at_item x s (put_comp cs i r.1) i) (translate l side c v)) (put-at cs i r.1 (λ n. nil-word l side u (comp_at cs i) r n g)))
+
     go : (b : Bool) → nat_eq (comp_count cs) (size_of s) ≡ b → (o : Option ℕ) → place_of s x ≡ o
         → in_normal_form (cond b (option_and_then (λ i. option_map (at_item x s cs i) (translate l side (comp_at cs i) (joined u v))) o) None)
         ≡ in_normal_form (in_order (cond b (option_and_then (λ i. option_map (at_item x s cs i) (translate l side (comp_at cs i) u)) o) None) (λ d. translate_one form side d (modify x v)))
@@ -188,12 +189,12 @@ ordered-two l h side (hold_comp (TreeOf s) cs) p q r e = held-two (form_ordered 
 ordered-two l h side _ p q r e = refl
 
 pub list_keeps : (l : FormTree) → KeepsEquations l → KeepsEquations (form_each l)
-list_keeps l h = owed-form (form_each l) (λ side. record { ones = λ c p. each-one l h side c p; pairs = λ c p q r e. each-two l h side c p q r e; })
+list_keeps l h = owed-form (form_each l) (λ side. record { ones = λ c p. each-one l h side c p; pairs = λ c p q r e. each-two l h side c p q r e })
 
 pub keyed_keeps : (l : FormTree) → KeepsEquations l → KeepsEquations (form_keyed l)
-keyed_keeps l h = owed-form (form_keyed l) (λ side. record { ones = λ c p. keyed-one l h side c p; pairs = λ c p q r e. keyed-two l h side c p q r e; })
+keyed_keeps l h = owed-form (form_keyed l) (λ side. record { ones = λ c p. keyed-one l h side c p; pairs = λ c p q r e. keyed-two l h side c p q r e })
 
 pub tree_keeps : (l : FormTree) → KeepsEquations l → KeepsEquations (form_ordered l)
-tree_keeps l h = owed-form (form_ordered l) (λ side. record { ones = λ c p. ordered-one l h side c p; pairs = λ c p q r e. ordered-two l h side c p q r e; })
+tree_keeps l h = owed-form (form_ordered l) (λ side. record { ones = λ c p. ordered-one l h side c p; pairs = λ c p q r e. ordered-two l h side c p q r e })
 
 pub ruleset container_keep = (list_keeps, keyed_keeps, tree_keeps)

@@ -1,21 +1,17 @@
 -- The lenses that keep nothing keep the equations.
-use Rattle.std.proofs.Common.{◌≡◌, refl, sym, ap, ap₂, subst, Option, None, Some, option_map, List, ℕ, ◌∙◌}
-use Rattle.std.specs.Prelude.{option_and_then}
-use Rattle.hold_shapes.specs.declared.edit.Place.{Place}
+use Rattle.std.proofs.Common.{◌≡◌, refl, ap, Option, None, Some, List, ℕ}
 use Rattle.texts.specs.declared.side.Side.{Side}
-use Rattle.texts.specs.declared.side.Side.TheVariants.{Left, Right}
-use Rattle.texts.specs.Sides.{other}
-use Rattle.edit_module.specs.Words.{PrimitiveTree, set, add, splice, at, stay, switch, modify, shape, WordTree, no_primitives, more_primitives, joined}
+use Rattle.edit_module.specs.Words.{PrimitiveTree, set, add, splice, at, stay, switch, modify, shape, WordTree, no_primitives}
 use Rattle.edit_module.specs.Normal.{merge}
 use Rattle.doc_values.specs.Types.{TyTree}
-use Rattle.lens_forms.specs.Forms.{FormTree, form_id, form_bij, form_disc, form_then, form_inv}
-use Rattle.lens_core.specs.Complements.{CompTree, nil, then_comp, rec_comp, alt_comp, hold_comp, tags_comp}
-use Rattle.lens_core.specs.Emitted.{one, behind, one_by_one}
-use Rattle.lens_core.specs.Translation.{Translated, at_nil, set_partner, onward, translate_one, translate}
-use Rattle.equation_laws.specs.Alike.{AreAlike, KeepsEquations}
+use Rattle.lens_forms.specs.Forms.{form_id, form_bij, form_disc}
+use Rattle.lens_core.specs.Complements.{CompTree, nil}
+use Rattle.lens_core.specs.Emitted.{one}
+use Rattle.lens_core.specs.Translation.{Translated, at_nil, set_partner}
+use Rattle.equation_laws.specs.Alike.{KeepsEquations}
 use Rattle.equation_laws.proofs.Glue.{normalized, normalized_one}
-use Rattle.equation_laws.proofs.Normals.{merge-cases, normalized_normalized}
-use Rattle.equation_laws.proofs.Alikes.{in_normal_form, same-parts, in_order, in_order-same, in_parts, Owed, Keeps, form-keeps, keeps-form, owed-form, normalized-one, normalized-two}
+use Rattle.equation_laws.proofs.Normals.{merge-cases}
+use Rattle.equation_laws.proofs.Alikes.{in_normal_form, in_order, owed-form, normalized-one, normalized-two}
 
 -- ---- at the complement that keeps nothing
 

@@ -1,28 +1,27 @@
 -- Partitions keep the equations, from both sides.
-use Rattle.std.proofs.Common.{◌≡◌, refl, sym, ap, ap₂, subst, Bool, true, false, ◌&&◌, cond, Option, None, Some, option_map, List, [], ◌∷◌, ◌++◌, length, take, drop, replicate, get_or, ℕ, zero, suc, ◌+◌, ◌-◌, ◌<◌, nat_eq, nat_lt, arith, ◌∙◌}
-use Rattle.std.specs.Prelude.{option_and_then, slice_index, slice_set, nat_le}
-use Rattle.std.specs.List.{insert, remove}
+use Rattle.std.proofs.Common.{◌≡◌, refl, sym, ap, ap₂, subst, Bool, true, false, ◌&&◌, cond, Option, None, Some, option_map, List, [], ◌∷◌, ◌++◌, length, take, drop, replicate, get_or, ℕ, zero, suc, ◌-◌, ◌<◌, nat_eq, nat_lt, arith, ◌∙◌}
+use Rattle.std.specs.Prelude.{option_and_then, nat_le}
+use Rattle.std.specs.List.{remove}
 use Rattle.texts.proofs.Conjunction.{both, first, second}
 use Rattle.texts.specs.declared.side.Side.{Side}
 use Rattle.texts.specs.declared.side.Side.TheVariants.{Left, Right}
 use Rattle.hold_shapes.specs.declared.edit.Place.{Place}
 use Rattle.hold_shapes.specs.declared.edit.Place.TheVariants.{Index, Key, Node}
-use Rattle.hold_shapes.specs.declared.edit.ShapeEdit.{ShapeEdit}
-use Rattle.hold_shapes.specs.declared.edit.ShapeEdit.TheVariants.{Ins, Del, MoveItem, Reorder, PutKey, DropKey, RenameKey, Graft, Prune, Shift, Hang}
+use Rattle.hold_shapes.specs.declared.edit.ShapeEdit.TheVariants.{Ins, Del, MoveItem, Reorder}
 use Rattle.hold_shapes.specs.Plans.{is_count, is_each_new}
 use Rattle.doc_values.specs.Types.{FieldTrees}
-use Rattle.edit_module.specs.Words.{PrimitiveTree, set, add, splice, at, stay, switch, modify, shape, WordTree, no_primitives, more_primitives, joined}
+use Rattle.edit_module.specs.Words.{PrimitiveTree, set, add, splice, at, stay, switch, modify, shape, WordTree, joined}
 use Rattle.edit_module.specs.Normal.{merge}
 use Rattle.tag_seq.specs.Tags.{count, are_below, moved}
 use Rattle.lens_forms.specs.Forms.{form_part}
-use Rattle.lens_core.specs.Complements.{CompTree, nil, then_comp, rec_comp, alt_comp, hold_comp, tags_comp}
+use Rattle.lens_core.specs.Complements.{CompTree, tags_comp}
 use Rattle.lens_core.specs.Tags.{tag_count, tag_number, tag_name}
-use Rattle.lens_core.specs.Emitted.{one, behind, one_by_one}
+use Rattle.lens_core.specs.Emitted.{behind, one_by_one}
 use Rattle.lens_core.specs.Partition.{Parted, place_in, where_holds, part_item, part_left, insert_occurrences, delete_last, delete_occurrences, move_occurrence, reorder_occurrences, mod_occurrence, part_occurrence, part_right}
-use Rattle.lens_core.specs.Translation.{Translated, tagged, part_one, translate_one}
+use Rattle.lens_core.specs.Translation.{tagged, part_one, translate_one}
 use Rattle.equation_laws.specs.Alike.{KeepsEquations}
 use Rattle.equation_laws.proofs.Glue.{normalized, normalized_one}
-use Rattle.equation_laws.proofs.Normals.{merge-cases, normalized_normalized}
+use Rattle.equation_laws.proofs.Normals.{merge-cases, normalized-again}
 use Rattle.equation_laws.proofs.Alikes.{in_normal_form, same-parts, in_order, in_order-same, in_order-given, in_parts, Owed, owed-keeps, owed-form}
 use Rattle.equation_laws.proofs.ItemsAlike.{word-kept, is_below, below, tag-below, item-long, item-below, items-keep, occurrences-owed}
 
@@ -33,7 +32,7 @@ left-one fs ts (modify (Index p) u) = go (nat_lt p (length ts)) refl
   where
     go : (b : Bool) → nat_lt p (length ts) ≡ b → in_normal_form (cond b (one_by_one (part_item fs p) ts (normalized u)) None) ≡ in_normal_form (cond b (one_by_one (part_item fs p) ts u) None)
     go false e = refl
-    go true e = items-keep fs p ts (normalized u) u e (normalized_normalized u)
+    go true e = items-keep fs p ts (normalized u) u e (normalized-again u)
 left-one fs ts (modify (Key k) u) = refl
 left-one fs ts (modify (Node k) u) = refl
 left-one fs ts (set a) = refl
@@ -49,6 +48,7 @@ left-mod fs ts (Index p) u v = go (nat_lt p (length ts)) refl
   where
     long : nat_lt p (length ts) ≡ true → (r : Parted) → one_by_one (part_item fs p) ts u ≡ Some r → nat_lt p (length r.1) ≡ true
     long e r i = word-kept (part_item fs p) (λ us. nat_lt p (length us) ≡ true) (λ us q s k j. item-long fs p us q s k j) u ts r e i
+
     go : (b : Bool) → nat_lt p (length ts) ≡ b → in_normal_form (cond b (one_by_one (part_item fs p) ts (joined u v)) None)
         ≡ in_normal_form (in_order (cond b (one_by_one (part_item fs p) ts u) None) (λ us. part_left fs us (modify (Index p) v)))
     go false e = refl
@@ -137,7 +137,7 @@ right-one fs ts (at n u) = go (tag_number fs n)
   where
     go : (o : Option ℕ) → in_normal_form (option_and_then (λ t. one_by_one (part_occurrence (tag_name fs 0) n t) ts (normalized u)) o) ≡ in_normal_form (option_and_then (λ t. one_by_one (part_occurrence (tag_name fs 0) n t) ts u) o)
     go None = refl
-    go (Some t) = owed-keeps (part_occurrence (tag_name fs 0) n t) (occurrences-owed (tag_name fs 0) n t) ts (normalized u) u (normalized_normalized u)
+    go (Some t) = owed-keeps (part_occurrence (tag_name fs 0) n t) (occurrences-owed (tag_name fs 0) n t) ts (normalized u) u (normalized-again u)
 right-one fs ts (modify x u) = refl
 right-one fs ts (set a) = refl
 right-one fs ts (add a) = refl
@@ -213,6 +213,7 @@ part-two fs side (tags_comp ts) p q r e = go (are_below (tag_count fs) ts) refl
         last : (o : Option Parted) → in_normal_form (option_map tagged (option_map (behind s.0) o)) ≡ in_normal_form (option_map (behind s.0) (option_map tagged o))
         last None = refl
         last (Some x) = refl
+
     go : (b : Bool) → are_below (tag_count fs) ts ≡ b → in_normal_form (cond b (option_map tagged (part_one side fs ts r)) None)
         ≡ in_normal_form (in_order (cond b (option_map tagged (part_one side fs ts p)) None) (λ d. translate_one (form_part fs) side d q))
     go false f = refl
@@ -222,4 +223,4 @@ part-two fs side (tags_comp ts) p q r e = go (are_below (tag_count fs) ts) refl
 part-two fs side _ p q r e = refl
 
 pub partition_keeps : (fs : FieldTrees) → KeepsEquations (form_part fs)
-partition_keeps fs = owed-form (form_part fs) (λ side. record { ones = λ c p. part-one fs side c p; pairs = λ c p q r e. part-two fs side c p q r e; })
+partition_keeps fs = owed-form (form_part fs) (λ side. record { ones = λ c p. part-one fs side c p; pairs = λ c p q r e. part-two fs side c p q r e })

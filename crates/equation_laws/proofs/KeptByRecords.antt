@@ -1,22 +1,19 @@
 -- Records keep the equations.
 use Rattle.std.proofs.Common.{◌≡◌, refl, sym, ap, ap₂, subst, Bool, true, false, cond, Option, None, Some, option_map, List, ℕ, ◌+◌, nat_eq, bytes_eq, ◌∙◌}
-use Rattle.std.specs.Prelude.{option_and_then}
 use Rattle.hold_shapes.specs.declared.edit.Place.{Place}
 use Rattle.texts.specs.declared.side.Side.{Side}
 use Rattle.texts.specs.declared.side.Side.TheVariants.{Left, Right}
-use Rattle.texts.specs.Sides.{other}
-use Rattle.edit_module.specs.Words.{PrimitiveTree, set, add, splice, at, stay, switch, modify, shape, WordTree, no_primitives, more_primitives, joined}
-use Rattle.edit_module.specs.Normal.{merge}
-use Rattle.lens_forms.specs.Forms.{FormTree, form_rec, RowTrees, no_rows, both, only_left, only_right, paired_rows}
-use Rattle.lens_core.specs.Complements.{CompTree, nil, then_comp, rec_comp, alt_comp, hold_comp, tags_comp, CompTrees, no_comps, more_comps, comp_count}
+use Rattle.edit_module.specs.Words.{PrimitiveTree, set, add, splice, at, stay, switch, modify, shape, WordTree, no_primitives, joined}
+use Rattle.lens_forms.specs.Forms.{form_rec, RowTrees, no_rows, both, only_left, only_right, paired_rows}
+use Rattle.lens_core.specs.Complements.{CompTree, rec_comp, CompTrees, no_comps, more_comps, comp_count}
 use Rattle.lens_core.specs.Sides.{near, far}
-use Rattle.lens_core.specs.Emitted.{one, at_word, behind, one_by_one}
-use Rattle.lens_core.specs.Translation.{Translated, in_row, past_row, in_record, translate_one, translate_at, translate}
+use Rattle.lens_core.specs.Emitted.{at_word, behind, one_by_one}
+use Rattle.lens_core.specs.Translation.{Translated, in_row, past_row, in_record, translate_one, translate_at}
 use Rattle.equation_laws.specs.Alike.{KeepsEquations, RowsKeepEquations}
-use Rattle.equation_laws.proofs.Glue.{glue, put_on, normalized, normalized_one, normalized_joined}
-use Rattle.equation_laws.proofs.Normals.{merge-cases, normalized_normalized}
+use Rattle.equation_laws.proofs.Glue.{normalized, normalized_one}
+use Rattle.equation_laws.proofs.Normals.{merge-cases, normalized-again}
 use Rattle.equation_laws.proofs.EmittedAlike.{at_word-normalized, at_word-joined}
-use Rattle.equation_laws.proofs.Alikes.{in_normal_form, same-parts, in_order, in_order-same, in_order-given, in_parts, Keeps, form-keeps, owed-form}
+use Rattle.equation_laws.proofs.Alikes.{in_normal_form, same-parts, in_order, in_order-same, in_parts, form-keeps, owed-form}
 
 -- ---- a word in a row
 
@@ -97,7 +94,7 @@ field-two (both a b l rows) h side f u v (more_comps c cs) = go (bytes_eq (near 
     go : (t : Bool) → bytes_eq (near side a b) f ≡ t → in_normal_form (translate_at rows side f (joined u v) cs) ≡ in_normal_form (in_order (translate_at rows side f u cs) (λ ds. translate_at rows side f v ds))
         → in_normal_form (cond t (option_map (in_row (far side a b) cs) (one_by_one (translate_one l side) c (joined u v))) (option_map (past_row c) (translate_at rows side f (joined u v) cs)))
         ≡ in_normal_form (in_order (cond t (option_map (in_row (far side a b) cs) (one_by_one (translate_one l side) c u)) (option_map (past_row c) (translate_at rows side f u cs)))
-            (λ ds. translate_at (both a b l rows) side f v ds))
+        (λ ds. translate_at (both a b l rows) side f v ds))
     go true e i =
         ap (λ o. in_normal_form (option_map (in_row (far side a b) cs) o)) (in_parts (translate_one l side) c u v)
         ∙ in_row-order (far side a b) cs (one_by_one (translate_one l side) c u) (λ d. one_by_one (translate_one l side) d v) (λ ds. translate_at (both a b l rows) side f v ds) (λ d. rw e refl)
@@ -151,7 +148,7 @@ record-one : (rows : RowTrees) → RowsKeepEquations rows → (side : Side) (c :
 record-one rows h side (rec_comp cs) (at f u) = go (nat_eq (comp_count cs) (paired_rows rows))
   where
     go : (b : Bool) → in_normal_form (cond b (option_map in_record (translate_at rows side f (normalized u) cs)) None) ≡ in_normal_form (cond b (option_map in_record (translate_at rows side f u cs)) None)
-    go true = in_record-same (translate_at rows side f (normalized u) cs) (translate_at rows side f u cs) (field-same rows h side f (normalized u) u cs (normalized_normalized u))
+    go true = in_record-same (translate_at rows side f (normalized u) cs) (translate_at rows side f u cs) (field-same rows h side f (normalized u) u cs (normalized-again u))
     go false = refl
 record-one rows h side (rec_comp cs) (set a) = refl
 record-one rows h side (rec_comp cs) (add a) = refl
@@ -174,6 +171,7 @@ record-at rows h side (rec_comp cs) f u v = go (nat_eq (comp_count cs) (paired_r
         last : (o : Option (WordTree × CompTrees)) → in_normal_form (option_map in_record (option_map (behind r.0) o)) ≡ in_normal_form (option_map (behind r.0) (option_map in_record o))
         last None = refl
         last (Some q) = refl
+
     go : (b : Bool) → nat_eq (comp_count cs) (paired_rows rows) ≡ b → in_normal_form (cond b (option_map in_record (translate_at rows side f (joined u v) cs)) None)
         ≡ in_normal_form (in_order (cond b (option_map in_record (translate_at rows side f u cs)) None) (λ d. translate_one (form_rec rows) side d (at f v)))
     go true e =

@@ -2,11 +2,10 @@
 use Rattle.std.proofs.Common.{◌≡◌, refl, sym, ap, ap₂, subst, Bool, true, false, cond, ℕ, zero, suc, ◌+◌, ◌≤◌, arith, List, bytes_eq, Option, None, Some, ◌∙◌}
 use Rattle.std.proofs.lemmas.Slice.Eq.{bytes_eq-Decides}
 use Rattle.hold_shapes.specs.declared.edit.Place.{Place}
-use Rattle.doc_values.proofs.InitialTypes.{bytes_eq-refl}
 use Rattle.edit_module.specs.Words.{PrimitiveTree, set, add, splice, at, stay, switch, modify, shape, WordTree, no_primitives, more_primitives, joined}
 use Rattle.edit_module.specs.Depths.{primitive_depth, word_depth}
 use Rattle.edit_module.specs.Normal.{is_same_place, merge, placed, merged_onto, merged, inside, inside_each, normal_to, normal}
-use Rattle.equation_laws.proofs.Glue.{at_on, stay_on, switch_on, mod_on, glue, put_on, normalized, normalized_one, at_at, stay_stay, mod_mod, switch_stay, glue_assoc, put_glue, normalized_joined, same_place-is, same_place_same}
+use Rattle.equation_laws.proofs.Glue.{at_on, stay_on, switch_on, mod_on, glue, put_on, normalized, normalized_one, at_at, stay_stay, mod_mod, switch_stay, glue_assoc, put_glue, normalized_joined, same_place-is}
 
 -- ---- two primitives that merge, case by case
 
@@ -103,19 +102,19 @@ mutual
   normalized_put (switch s f a) w = normalized_switch_on s f a w (λ b. normalized_glue a b)
 
 mutual
-  pub normalized_normalized : (w : WordTree) → normalized (normalized w) ≡ normalized w
-  normalized_normalized no_primitives = refl
-  normalized_normalized (more_primitives p w) = normalized_put (normalized_one p) (normalized w) ∙ ap₂ put_on (normalized_one_normalized_one p) (normalized_normalized w)
+  pub normalized-again : (w : WordTree) → normalized (normalized w) ≡ normalized w
+  normalized-again no_primitives = refl
+  normalized-again (more_primitives p w) = normalized_put (normalized_one p) (normalized w) ∙ ap₂ put_on (normalized_one-again p) (normalized-again w)
 
-  pub normalized_one_normalized_one : (p : PrimitiveTree) → normalized_one (normalized_one p) ≡ normalized_one p
-  normalized_one_normalized_one (set a) = refl
-  normalized_one_normalized_one (add n) = refl
-  normalized_one_normalized_one (splice i k s) = refl
-  normalized_one_normalized_one (shape e) = refl
-  normalized_one_normalized_one (at f a) = ap (at f) (normalized_normalized a)
-  normalized_one_normalized_one (stay f a) = ap (stay f) (normalized_normalized a)
-  normalized_one_normalized_one (modify f a) = ap (modify f) (normalized_normalized a)
-  normalized_one_normalized_one (switch s f a) = ap (switch s f) (normalized_normalized a)
+  pub normalized_one-again : (p : PrimitiveTree) → normalized_one (normalized_one p) ≡ normalized_one p
+  normalized_one-again (set a) = refl
+  normalized_one-again (add n) = refl
+  normalized_one-again (splice i k s) = refl
+  normalized_one-again (shape e) = refl
+  normalized_one-again (at f a) = ap (at f) (normalized-again a)
+  normalized_one-again (stay f a) = ap (stay f) (normalized-again a)
+  normalized_one-again (modify f a) = ap (modify f) (normalized-again a)
+  normalized_one-again (switch s f a) = ap (switch s f) (normalized-again a)
 
 -- ---- both definitions of the normal form are the same
 
@@ -205,6 +204,7 @@ normalized-merged (more_primitives p w) = onto w p
         → inside_each normalized (placed o p q (λ r. merged_onto r w)) ≡ put_on (normalized_one p) (put_on (normalized_one q) (normalized w))
     placed-normalized p q w None e h = ap₂ more_primitives (normalized_one-inside p) (h q) ∙ sym (kept_apart p q (normalized w) e)
     placed-normalized p q w (Some r) e h = h r ∙ normalized-merge p q r e (normalized w)
+
     onto : (w : WordTree) (p : PrimitiveTree) → inside_each normalized (merged_onto p w) ≡ put_on (normalized_one p) (normalized w)
     onto no_primitives (set a) = refl
     onto no_primitives (add a) = refl
@@ -251,7 +251,6 @@ depth-merged_onto n p (more_primitives q w) h k =
 depth-merged : (n : ℕ) (w : WordTree) → word_depth w ≤ n + 1 → word_depth (merged w) ≤ n + 1
 depth-merged n no_primitives h = h
 depth-merged n (more_primitives p w) h = depth-merged_onto n p w (omega (arith, h)) (omega (arith, h))
-
 
 inside-same : (f g : WordTree → WordTree) (n : ℕ) → ((u : WordTree) → word_depth u ≤ n → f u ≡ g u) → (p : PrimitiveTree) → primitive_depth p ≤ n → inside f p ≡ inside g p
 inside-same f g n h (at a w) d = ap (at a) (h w d)
