@@ -1,10 +1,9 @@
-pub mod CarriedCounts
-pub mod ComplementFloats
-pub mod ComplementItems
-pub mod ComplementSizes
+pub mod AcceptedForms
+pub mod ActingCounts
 mod Examples
 pub mod FirstLines
 pub mod RunEnds
 pub mod RunInStep
 pub mod RunReports
 pub mod ScriptParts
+pub mod StepCounts

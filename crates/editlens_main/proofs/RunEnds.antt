@@ -9,41 +9,19 @@ use Rattle.lens_io.specs.declared.failed.TakeFault.{TakeFault}
 use Rattle.lens_io.specs.declared.failed.TakeFault.TheVariants as taking
 use Rattle.value_json.proofs.Facts.{map_some}
 use Rattle.lens_forms.specs.Forms.{FormTree}
-use Rattle.lens_core.specs.Built.{is_paired_int}
 use Rattle.editlens_main.specs.Lines.{program_part}
-use Rattle.program_terms.specs.Terms.{ProgramTree}
-use Rattle.lens_syntax.specs.Programs.{ProgramCause, bounded}
-use Rattle.lens_types.specs.Checking.{Failure, first_failure}
-use Rattle.lens_types.specs.Earlier.{main_form}
-use Rattle.editlens_main.specs.Program.{Refusal, not_built, form_without_failure, form_of_program, lens_of}
-use Rattle.editlens_main.specs.Step.{TripleTree, first, AnswerTree}
-use Rattle.editlens_main.specs.Report.{items_of, answer_lines, state_lines, type_lines, ending, report_with, report, refusal_line}
-use Rattle.editlens_main.specs.Run.{Item, run, last, any_refused}
+use Rattle.editlens_main.specs.Program.{Refusal, lens_of}
+use Rattle.edit_session.specs.Step.{TripleTree}
+use Rattle.edit_session.specs.Run.{any_refused}
+use Rattle.editlens_main.specs.Report.{items_of, text_of_steps, type_lines, ending, report_with, report, refusal_line}
+use Rattle.editlens_main.specs.Runs.{JournalItem, JournalAnswer, run_of}
 use Rattle.editlens_main.specs.Ends.{IsFinished, StaysInStep, Reports, IsCleanStop, Stops, IsComplete}
+use Rattle.editlens_main.proofs.AcceptedForms.{accepted_typed}
 use Rattle.editlens_main.proofs.RunInStep.{triples_in_step}
 use Rattle.editlens_main.specs.declared.words.Command.{Command}
 use Rattle.editlens_main.specs.declared.words.Command.TheVariants.{Run, Check}
 use Rattle.editlens_main.specs.declared.status.Status.{Status}
 use Rattle.editlens_main.specs.declared.status.Status.TheVariants.{Done, SomeRefused, Usage, ProgramRefused, SourceFault, SinkFault, InputTooLong, NoMemory}
-
--- the lens of a run is one that is carried today
-abbrev accepts : FormTree → Result FormTree Refusal
-accepts f = Ok f
-
-run_form_is_paired : (form f : FormTree) (b : Bool) → is_paired_int form ≡ b → cond b (Ok form) (Err not_built) ≡ accepts f → IsTrue (is_paired_int f)
-run_form_is_paired form f true is h = let same : form ≡ f = cc in subst (λ g. IsTrue (is_paired_int g)) same is
-run_form_is_paired form f false is h = absurd cc
-
-run_program_is_paired : (program : ProgramTree) (o : Option Failure) (f : FormTree) → form_without_failure Run program o ≡ Ok f → IsTrue (is_paired_int f)
-run_program_is_paired program None f h = run_form_is_paired (main_form program) f (is_paired_int (main_form program)) refl h
-run_program_is_paired program (Some failure) f h = absurd cc
-
-run_result_is_paired : (r : Result ProgramTree ProgramCause) (f : FormTree) → form_of_program Run r ≡ Ok f → IsTrue (is_paired_int f)
-run_result_is_paired (Ok program) f h = run_program_is_paired program (first_failure program) f h
-run_result_is_paired (Err fault) f h = absurd cc
-
-pub run_lens_is_paired : (text : List ℕ) (f : FormTree) → lens_of Run text ≡ Ok f → IsTrue (is_paired_int f)
-run_lens_is_paired text f h = run_result_is_paired (bounded text) f h
 
 finished : (b : Bool) → IsFinished (ending b)
 finished true = inr refl
@@ -56,12 +34,11 @@ Accepted outcome status = (f : FormTree) × (outcome ≡ Ok f) × IsFinished sta
 abbrev pub Refuses : Result FormTree Refusal → List ℕ → Status → Type 0
 Refuses outcome text status = (r : Refusal) × (outcome ≡ Err r) × (text ≡ refusal_line r) × (status ≡ ProgramRefused)
 
-pub ended : (command : Command) (outcome : Result FormTree Refusal) (items : List Item) (text : List ℕ) (status : Status) → report_with command outcome items ≡ Some (text, status)
+pub ended : (command : Command) (outcome : Result FormTree Refusal) (items : List JournalItem) (text : List ℕ) (status : Status) → report_with command outcome items ≡ Some (text, status)
     → Accepted outcome status ⊎ Refuses outcome text status
 ended Run (Ok form) items text status h =
-    let answer : List (TripleTree × AnswerTree) → List ℕ × Status =
-    λ steps. (answer_lines 1 steps ++ state_lines form (last (first form) steps), ending (any_refused steps)) in
-    let steps = map_some answer (run form (first form) items) (text, status) h in
+    let answer : List (TripleTree × JournalAnswer) → List ℕ × Status = λ steps. (text_of_steps form steps, ending (any_refused steps)) in
+    let steps = map_some answer (run_of form items) (text, status) h in
     inl (form, refl, subst IsFinished (ap (λ (r : List ℕ × Status). r.1) steps.2) (finished (any_refused steps.0)))
 ended Check (Ok form) items text status h =
     let same : (type_lines form, Done) ≡ (text, status) = cc in
@@ -72,8 +49,8 @@ ended command (Err refusal) items text status h =
 
 -- no report ends with a fault of a device
 pub no_fault : (command : Command) (bytes text : List ℕ) (status : Status) → report command bytes ≡ Some (text, status) → (status ≡ SourceFault → ⊥) × (status ≡ SinkFault → ⊥)
-no_fault command bytes text status h = by_end (ended command (lens_of command (program_part bytes)) (items_of bytes) text status h) where
-  by_end : Accepted (lens_of command (program_part bytes)) status ⊎ Refuses (lens_of command (program_part bytes)) text status
+no_fault command bytes text status h = by_end (ended command (lens_of (program_part bytes)) (items_of bytes) text status h) where
+  by_end : Accepted (lens_of (program_part bytes)) status ⊎ Refuses (lens_of (program_part bytes)) text status
       → (status ≡ SourceFault → ⊥) × (status ≡ SinkFault → ⊥)
   by_end (inl (f, some, inl done)) = ((λ e. cc), (λ e. cc))
   by_end (inl (f, some, inr refused)) = ((λ e. cc), (λ e. cc))
@@ -100,14 +77,14 @@ module _ (command : Command) (left left' held held' : Option (List ℕ)) where
   }
 
   clean_end : (bytes text : List ℕ) (status : Status) → IsAtEnd left' → Appends held held' text
-      → Accepted (lens_of command (program_part bytes)) status ⊎ Refuses (lens_of command (program_part bytes)) text status → IsCleanStop command left left' held held' bytes status
+      → Accepted (lens_of (program_part bytes)) status ⊎ Refuses (lens_of (program_part bytes)) text status → IsCleanStop command left left' held held' bytes status
   clean_end bytes text status end given (inl (f, some, inl done)) = subst (IsCleanStop command left left' held held' bytes) (sym done) tt
   clean_end bytes text status end given (inl (f, some, inr refused)) = subst (IsCleanStop command left left' held held' bytes) (sym refused) tt
   clean_end bytes text status end given (inr (r, none, line, refused)) =
       subst (IsCleanStop command left left' held held' bytes) (sym refused) (end, (r, none, subst (Appends held held') line given))
 
   not_too_long : (bytes text : List ℕ) (status : Status)
-      → Accepted (lens_of command (program_part bytes)) status ⊎ Refuses (lens_of command (program_part bytes)) text status → status ≡ InputTooLong → ⊥
+      → Accepted (lens_of (program_part bytes)) status ⊎ Refuses (lens_of (program_part bytes)) text status → status ≡ InputTooLong → ⊥
   not_too_long bytes text status (inl (f, some, inl done)) e = cc
   not_too_long bytes text status (inl (f, some, inr refused)) e = cc
   not_too_long bytes text status (inr (r, none, line, refused)) e = cc
@@ -119,7 +96,7 @@ module _ (command : Command) (left left' held held' : Option (List ℕ)) where
   pub stops_given : (answer : List ℕ) (text : List ℕ) (status : Status) → Takes (2 ^ 30) left left' (Ok answer) → report command answer ≡ Some (text, status) → Appends held held' text
       → Stops command left left' held held' status
   stops_given answer text status t h given =
-      let kind = ended command (lens_of command (program_part t.bytes)) (items_of t.bytes) text status (reported answer t text status h) in
+      let kind = ended command (lens_of (program_part t.bytes)) (items_of t.bytes) text status (reported answer t text status h) in
       stops (Ok answer) status t (λ e. cc) (not_too_long t.bytes text status kind) (clean_end t.bytes text status t.all.1 given kind)
 
   pub stops_sink : (answer : List ℕ) (text : List ℕ) (status : Status) → Takes (2 ^ 30) left left' (Ok answer) → report command answer ≡ Some (text, status) → AppendsFront held held' text
@@ -127,13 +104,13 @@ module _ (command : Command) (left left' held held' : Option (List ℕ)) where
   stops_sink answer text status t h front = stops (Ok answer) SinkFault t (λ e. cc) (λ e. cc) (t.all.1, (text, status, reported answer t text status h, front))
 
 -- every triple of a run stays in step
-stays : (command : Command) (text : List ℕ) (f : FormTree) (items : List Item) → lens_of command text ≡ Ok f → StaysInStep command f items
-stays Run text f items h = triples_in_step f (run_lens_is_paired text f h) items
+stays : (command : Command) (text : List ℕ) (f : FormTree) (items : List JournalItem) → lens_of text ≡ Ok f → StaysInStep command f items
+stays Run text f items h = triples_in_step f (accepted_typed text f h) items
 stays Check text f items h = tt
 
 module _ (command : Command) (left left' held held' : Option (List ℕ)) where
   reports_kind : (t : (bytes : List ℕ) × Consumes left left' bytes × IsAtEnd left' × (length bytes ≤ 2 ^ 30)) (text : List ℕ) (status : Status) → report command t.0 ≡ Some (text, status) → Appends held held' text → IsFinished status
-      → Accepted (lens_of command (program_part t.0)) status ⊎ Refuses (lens_of command (program_part t.0)) text status → Reports command left left' held held' status
+      → Accepted (lens_of (program_part t.0)) status ⊎ Refuses (lens_of (program_part t.0)) text status → Reports command left left' held held' status
   reports_kind t text status h given fin (inl (f, some, is)) =
       record {
         bytes = t.0;
@@ -156,7 +133,7 @@ module _ (command : Command) (left left' held held' : Option (List ℕ)) where
       let few : 2 ^ 30 < length t.bytes → ⊥ = λ more. (let bad = t.too_long.1 more in cc) in
       let within : length t.bytes ≤ 2 ^ 30 = omega (arith, few) in
       let is = subst (λ bytes. report command bytes ≡ Some (text, status)) t.all.0 h in
-      reports_kind (t.bytes, t.consumes, t.all.1, within) text status is given fin (ended command (lens_of command (program_part t.bytes)) (items_of t.bytes) text status is)
+      reports_kind (t.bytes, t.consumes, t.all.1, within) text status is given fin (ended command (lens_of (program_part t.bytes)) (items_of t.bytes) text status is)
 
 -- before anything is given
 module _ (command : Command) (left left' held : Option (List ℕ)) where
@@ -184,12 +161,12 @@ pub complete : (command : Command) (left left' held held' : Option (List ℕ)) (
     → IfSome left (λ bytes. length bytes ≤ 2 ^ 30 → (R → ⊥) → (F → ⊥) → IsComplete command bytes status)
 complete command None left' held held' status R F s r source sink = tt
 complete command (Some bytes) left' held held' Done R F s r source sink =
-    λ few no_source no_sink. ((λ form is. inl (inl refl)), λ x none. let e = r (inl refl) in let same = ap (λ b. lens_of command (program_part b)) (all_taken bytes left' e.bytes e.consumes e.at_end) in let some = e.has_lens in cc)
+    λ few no_source no_sink. ((λ form is. inl (inl refl)), λ x none. let e = r (inl refl) in let same = ap (λ b. lens_of (program_part b)) (all_taken bytes left' e.bytes e.consumes e.at_end) in let some = e.has_lens in cc)
 complete command (Some bytes) left' held held' SomeRefused R F s r source sink =
-    λ few no_source no_sink. ((λ form is. inl (inr refl)), λ x none. let e = r (inr refl) in let same = ap (λ b. lens_of command (program_part b)) (all_taken bytes left' e.bytes e.consumes e.at_end) in let some = e.has_lens in cc)
+    λ few no_source no_sink. ((λ form is. inl (inr refl)), λ x none. let e = r (inr refl) in let same = ap (λ b. lens_of (program_part b)) (all_taken bytes left' e.bytes e.consumes e.at_end) in let some = e.has_lens in cc)
 complete command (Some bytes) left' held held' Usage R F s r source sink = λ few no_source no_sink. absurd s.clean
 complete command (Some bytes) left' held held' ProgramRefused R F s r source sink =
-    λ few no_source no_sink. ((λ form is. let same = ap (λ b. lens_of command (program_part b)) (all_taken bytes left' s.bytes s.consumes s.clean.0) in let none = s.clean.1.1 in cc), λ x none. inl refl)
+    λ few no_source no_sink. ((λ form is. let same = ap (λ b. lens_of (program_part b)) (all_taken bytes left' s.bytes s.consumes s.clean.0) in let none = s.clean.1.1 in cc), λ x none. inl refl)
 complete command (Some bytes) left' held held' SourceFault R F s r source sink = λ few no_source no_sink. absurd (no_source (source refl))
 complete command (Some bytes) left' held held' SinkFault R F s r source sink = λ few no_source no_sink. absurd (no_sink (sink refl))
 complete command (Some bytes) left' held held' InputTooLong R F s r source sink =

@@ -9,8 +9,8 @@ use Rattle.lens_forms.specs.Forms.{FormTree}
 use Rattle.editlens_main.specs.Lines.{program_part}
 use Rattle.editlens_main.specs.Program.{Refusal, lens_of}
 use Rattle.editlens_main.specs.Report.{items_of, report, refusal_line}
-use Rattle.editlens_main.specs.Run.{Item, triples}
-use Rattle.editlens_main.specs.Step.{TripleTree, IsInStep}
+use Rattle.edit_session.specs.Step.{TripleTree}
+use Rattle.editlens_main.specs.Runs.{JournalItem, IsInStepFor, triples_of}
 use Rattle.editlens_main.specs.Words.{usage_line}
 use Rattle.editlens_main.specs.declared.words.Command.{Command}
 use Rattle.editlens_main.specs.declared.words.Command.TheVariants.{Run, Check}
@@ -22,8 +22,8 @@ abbrev pub IsFinished : Status → Type 0
 IsFinished status = (status ≡ Done) ⊎ (status ≡ SomeRefused)
 
 -- Every triple of a run is in the lens's consistency relation. The command `check` makes no triple.
-abbrev pub StaysInStep : Command → FormTree → List Item → Type 0
-StaysInStep Run form items = (all : List TripleTree) × (triples form items ≡ Some all) × All (IsInStep form) all
+abbrev pub StaysInStep : Command → FormTree → List JournalItem → Type 0
+StaysInStep Run form items = (all : List TripleTree) × (triples_of form items ≡ Some all) × All (IsInStepFor form) all
 StaysInStep Check form items = Unit {0}
 
 -- The source was read to its end and gave these bytes, at most 2^30. Their report, with this status, was written to the sink. The
@@ -38,7 +38,7 @@ pub record Reports (command : Command) (left left' held held' : Option (List ℕ
   pub is_report : report command bytes ≡ Some (text, status)
   pub appends : Appends held held' text
   pub form : FormTree
-  pub has_lens : lens_of command (program_part bytes) ≡ Ok form
+  pub has_lens : lens_of (program_part bytes) ≡ Ok form
   pub in_step : StaysInStep command form (items_of bytes)
 
 -- What holds after each status of a call that is not finished. The source gave these bytes.
@@ -50,7 +50,7 @@ IsCleanStop command left left' held held' bytes Done = Unit {0}
 IsCleanStop command left left' held held' bytes SomeRefused = Unit {0}
 IsCleanStop command left left' held held' bytes Usage = ⊥
 IsCleanStop command left left' held held' bytes ProgramRefused =
-    IsAtEnd left' × ((refusal : Refusal) × (lens_of command (program_part bytes) ≡ Err refusal) × Appends held held' (refusal_line refusal))
+    IsAtEnd left' × ((refusal : Refusal) × (lens_of (program_part bytes) ≡ Err refusal) × Appends held held' (refusal_line refusal))
 IsCleanStop command left left' held held' bytes SourceFault = Appends held held' []
 IsCleanStop command left left' held held' bytes SinkFault =
     IsAtEnd left' × ((text : List ℕ) × (status : Status) × (report command bytes ≡ Some (text, status)) × AppendsFront held held' text)
@@ -76,5 +76,5 @@ GivesUsage held held' status = (status ≡ Usage) × Appends held held' usage_li
 -- A command over these bytes came to its end if the program part is accepted, and refused it if it is refused; or memory ran out.
 abbrev pub IsComplete : Command → List ℕ → Status → Type 0
 IsComplete command bytes status =
-    (((form : FormTree) → lens_of command (program_part bytes) ≡ Ok form → IsFinished status ⊎ (status ≡ NoMemory))
-    × ((refusal : Refusal) → lens_of command (program_part bytes) ≡ Err refusal → (status ≡ ProgramRefused) ⊎ (status ≡ NoMemory)))
+    (((form : FormTree) → lens_of (program_part bytes) ≡ Ok form → IsFinished status ⊎ (status ≡ NoMemory))
+    × ((refusal : Refusal) → lens_of (program_part bytes) ≡ Err refusal → (status ≡ ProgramRefused) ⊎ (status ≡ NoMemory)))

@@ -1,13 +1,11 @@
 pub mod AnswerLines
-pub mod ComplementJson
 pub mod Ends
 pub mod Lines
 pub mod Program
 pub mod Refused
 pub mod Report
-pub mod Run
 pub mod Running
+pub mod Runs
 pub mod Status
-pub mod Step
 pub mod Views
 pub mod Words

@@ -8,9 +8,9 @@ use Rattle.lens_types.specs.declared.fault.TypeFault.TheVariants as types
 use Rattle.lens_syntax.specs.Programs.{ProgramCause, cause_of}
 use Rattle.lens_syntax.specs.declared.fault.ProgramFault.{ProgramFault}
 use Rattle.lens_syntax.specs.declared.fault.ProgramFault.TheVariants as reading
-use Rattle.editlens_main.specs.Program.{Refusal, syntax, typing, not_built}
+use Rattle.editlens_main.specs.Program.{Refusal, syntax, typing}
 use Rattle.editlens_main.specs.declared.program.Refused.{Refused}
-use Rattle.editlens_main.specs.declared.program.Refused.TheVariants.{Syntax, Typing, NotBuilt, NoMemory}
+use Rattle.editlens_main.specs.declared.program.Refused.TheVariants.{Syntax, Typing, NoMemory}
 
 -- The text is not a program, and the fault says its cause.
 pub record IsSyntaxRefusal (outcome : Result FormTree Refusal) (fault : ProgramFault) : Type 0 where
@@ -29,12 +29,10 @@ pub record IsTypingRefusal (outcome : Result FormTree Refusal) (fault : TypeFaul
 abbrev pub IsRefusal : Result FormTree Refusal → Refused → Type 0
 IsRefusal outcome (Syntax fault) = IsSyntaxRefusal outcome fault
 IsRefusal outcome (Typing fault) = IsTypingRefusal outcome fault
-IsRefusal outcome NotBuilt = outcome ≡ Err not_built
 IsRefusal outcome NoMemory = Unit {0}
 
 -- the refusal has a line: running out of memory has none
 abbrev pub IsKnown : Refused → Type 0
 IsKnown (Syntax fault) = fault ≡ reading.NoMemory → ⊥
 IsKnown (Typing fault) = fault ≡ types.NoMemory → ⊥
-IsKnown NotBuilt = Unit {0}
 IsKnown NoMemory = Unit {0}

@@ -1,31 +1,40 @@
--- The report once more, in the form of the code: what a run has written, and what it will write for the items that are left.
--- proofs/Reports.antt shows that it is the report.
+-- A run once more, in the form of the code: what it has written, and what it will write for the items that are left.
+-- proofs/RunReports.antt shows that it is the run.
 use Rattle.std.specs.Prelude.{ℕ, ◌+◌, List, [], ◌∷◌, ◌++◌, Bool, ◌||◌, Option, option_map, if◌then◌else◌}
-use Rattle.lens_forms.specs.Forms.{FormTree}
+use Rattle.texts.specs.declared.side.Side.{Side}
+use Rattle.doc_values.specs.Types.{TyTree}
+use Rattle.edit_module.specs.Words.{WordTree}
 use Rattle.edit_journal.specs.Lines.{line_of, is_blank}
 use Rattle.edit_journal.specs.EntryJson.{entry_of_line}
-use Rattle.editlens_main.specs.Step.{TripleTree}
-use Rattle.editlens_main.specs.Run.{Item, run, last, any_refused}
-use Rattle.editlens_main.specs.Report.{answer_lines, state_lines, ending}
-use Rattle.editlens_main.specs.Views.{triple_tree}
-use Rattle.editlens_main.specs.declared.status.Status.{Status}
-use Rattle.editlens_main.specs.declared.report.Running.{Running}
+use Rattle.lens_core.specs.Complements.{CompTree}
+use Rattle.lens_core.specs.Translation.{Translated}
+use Rattle.edit_session.specs.Step.{TripleTree}
+use Rattle.edit_session.specs.Run.{run, last, any_refused}
+use Rattle.editlens_main.specs.Report.{answer_lines}
+use Rattle.editlens_main.specs.Runs.{JournalItem, JournalAnswer}
+use Rattle.editlens_main.specs.declared.journal.Progress.{Progress}
 
 -- the items among some lines
-abbrev pub items_among : List (List ℕ) → List Item
+abbrev pub items_among : List (List ℕ) → List JournalItem
 items_among [] = []
 items_among (line ∷ lines) = if is_blank (line_of line) then items_among lines else entry_of_line (line_of line) ∷ items_among lines
 
--- what is written from a triple on, where the next item has this number and some item before may have been refused
-abbrev pub report_from : FormTree → TripleTree → ℕ → Bool → List Item → Option (List ℕ × Status)
-report_from form t n refused items =
-    option_map (λ steps. (answer_lines n steps ++ state_lines form (last t steps), ending (refused || any_refused steps)))
-    (run form t items)
+-- a text, whether an item was refused, and a triple
+abbrev pub Written : Type 0
+Written = List ℕ × Bool × TripleTree
 
--- a text in front of a report
-abbrev pub behind_text : List ℕ → List ℕ × Status → List ℕ × Status
-behind_text text r = (text ++ r.0, r.1)
+-- what the steps of a run from a triple come to
+abbrev pub of_steps : TripleTree → List (TripleTree × JournalAnswer) → Written
+of_steps t steps = (answer_lines 1 steps, any_refused steps, last t steps)
 
--- what a run has written and what it will write for the items that are left
-abbrev pub report_at : FormTree → Running → List Item → Option (List ℕ × Status)
-report_at form r items = option_map (behind_text r.text.items) (report_from form (triple_tree r.triple) (r.number + 1) r.refused items)
+-- the same for steps that come after some progress
+abbrev pub after_progress : TripleTree → Progress → List (TripleTree × JournalAnswer) → Written
+after_progress t p steps = (p.text.items ++ answer_lines (p.number + 1) steps, p.refused || any_refused steps, last t steps)
+
+-- what a run over these items comes to, for a lens of these types and this translation
+abbrev pub written : TyTree → TyTree → (Side → CompTree → WordTree → Option Translated) → TripleTree → List JournalItem → Option Written
+written left right translation t items = option_map (of_steps t) (run left right translation t items)
+
+-- what it comes to with the progress before, and the items that are left
+abbrev pub written_after : TyTree → TyTree → (Side → CompTree → WordTree → Option Translated) → TripleTree → Progress → List JournalItem → Option Written
+written_after left right translation t p items = option_map (after_progress t p) (run left right translation t items)

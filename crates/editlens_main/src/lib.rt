@@ -2,17 +2,16 @@
 //!
 //! [`editlens`] is the complete program apart from its real streams. Its contract is the main theorem: the output is the
 //! command's report of the input, and every triple of a run is in the lens's consistency relation. The report is defined in
-//! specs/Report.antt, over a run (specs/Run.antt) of steps (specs/Step.antt). specs/Program.antt says why a program part is
-//! refused, and specs/Ends.antt what holds after each status.
+//! specs/Report.antt, over the run of a form (specs/Runs.antt). specs/Program.antt says why a program part is refused, and
+//! specs/Ends.antt what holds after each status.
 #![tactic(auto)]
 
 mod answers;
-mod complements;
+mod journal;
 mod lines;
 mod program;
 mod report;
 mod status;
-mod step;
 mod sure;
 mod top;
 mod words;

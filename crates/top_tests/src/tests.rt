@@ -7,8 +7,9 @@ use edit_journal::EntryFault;
 use edit_json::{has_tree, read_word, write_word_text};
 use edit_module::{Cause, Word};
 use editlens_main::{Status, run_sure};
-use lens_core::{Comp, is_built, missing, record_carry};
+use lens_core::{Comp, EditLens};
 use lens_io::{Bytes, SureSink, SureSource};
+use lens_run::Checked;
 use lens_syntax::{ProgramFault, read_program};
 use lens_types::{TypeFault, check};
 use serde_json::Value;
@@ -25,8 +26,8 @@ fn word(alloc: Global, text: &str) -> Result<Word, Fail> {
 // The complement of one paired row.
 fn is_one_nil(comp: &Comp) -> bool {
     match comp {
-        Comp::Nil => false,
-        Comp::Rec(comps) => matches!(comps.as_slice(), [Comp::Nil]),
+        Comp::Rec(comps) => comps.len() == 1 && matches!(comps.get(0), Comp::Nil),
+        _ => false,
     }
 }
 
@@ -34,12 +35,11 @@ fn is_one_nil(comp: &Comp) -> bool {
 fn a_word_is_translated(rt: HostRuntime) -> Result<(), Fail> {
     let alloc = rt.alloc();
     let program = read_program(alloc, b"main {a ~ b: id int}")?;
-    let lens = check(alloc, &program).ok().ok_or("no type")?;
-    assert!(rt; is_built(lens.form()));
-    let comp = missing(alloc, lens.form())?.twin(alloc)?;
+    let lens = Checked::new(check(alloc, &program).ok().ok_or("no type")?);
+    let comp = lens.missing(alloc)?.twin(alloc)?;
     assert!(rt; is_one_nil(&comp));
     let edit = word(alloc, "[{\"at\":[\"a\",[{\"set\":5}]]}]")?;
-    let carried = record_carry(alloc, lens.form(), Side::Left, &comp, &edit)?.twin(alloc)?;
+    let carried = lens.carry(alloc, Side::Left, &comp, &edit)?.twin(alloc)?;
     assert!(rt; has_tree(&carried.word));
     let text = write_word_text(alloc, &carried.word)?;
     assert_eq!(rt; text.as_str(), "[{\"at\":[\"b\",[{\"set\":5}]]}]");

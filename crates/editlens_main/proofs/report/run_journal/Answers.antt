@@ -1,43 +1,24 @@
-use Rattle.std.proofs.Common.{◌++◌, ◌∷◌, false, Some, map, length, refl, sym, ap, ap₂, ◌∙◌, length-append, arith}
+use Rattle.std.proofs.Common.{map, ap, sym, ◌∙◌}
 use Rattle.lens_forms.specs.Forms.{form_tree}
+use Rattle.edit_session.specs.Views.{triple_tree}
 use Rattle.editlens_main.specs.Lines.{cut, up_to_line_end}
-use Rattle.editlens_main.specs.Running.{items_among, report_at}
-use Rattle.editlens_main.specs.Views.{triple_tree}
-use Rattle.editlens_main.specs.declared.report.Running.{Running}
-use Rattle.editlens_main.proofs.RunInStep.{first_in_step}
-use Rattle.editlens_main.proofs.RunReports.{at_start, at_end}
+use Rattle.editlens_main.specs.Runs.{first_of}
+use Rattle.editlens_main.specs.Running.{items_among}
+use Rattle.editlens_main.proofs.RunReports.{run_reported, report_is}
+use Rattle.lens_run.specs.declared.checked.Checked.{Checked}
 use Rattle.editlens_main.proofs.report.run_journal.Goals as goal
-
-pub lines-init : goal.lines-init
-lines-init c =
-    let start : Running = record { triple = c.in_ok-first_triple.field-0; number = 0; refused = false; text = c.new.result } in
-    record {
-      reports = at_start (form_tree c.args.lens.now) start (items_among (map up_to_line_end (cut c.args.journal.now))) c.in_ok-first_triple.ensures refl refl c.new.ensures.items;
-      in_step = first_in_step (form_tree c.args.lens.now) (triple_tree c.in_ok-first_triple.field-0) c.requires c.in_ok-first_triple.ensures;
-      number = omega arith;
-    }
-
-pub lines-preserved : goal.lines-preserved
-lines-preserved c =
-    let form = form_tree c.args.lens.now in
-    let later = map up_to_line_end (cut c.in-Some.behind.now) in
-    let parts = c.in-Some.ensures in
-    let taken = c.in_ok-running.ensures in
-    record {
-      reports = sym (taken.reports later)
-          ∙ ap (λ line. report_at form c.lines.running (items_among (line ∷ later))) c.without_end.ensures
-          ∙ ap (λ lines. report_at form c.lines.running (items_among (map up_to_line_end lines))) (sym parts.0)
-          ∙ c.lines.invariant.reports;
-      in_step = taken.in_step;
-      number = omega (arith, ap length parts.1, length-append c.in-Some.line.now c.in-Some.behind.now, parts.2, taken.number, c.lines.invariant.number);
-    }
 
 pub returns : goal.returns
 returns c =
-    let form = form_tree c.args.lens.now in
-    let running = c.lines.running in
-    let text = c.in_ok-extend_from_slice.ensures.items ∙ ap (λ x. running.text.items ++ x) (c.deref.ensures.value ∙ c.in_ok-state.ensures) in
-    sym c.lines.invariant.reports
-    ∙ ap (λ lines. report_at form running (items_among (map up_to_line_end lines))) c.in_default.ensures
-    ∙ at_end form running
-    ∙ ap₂ (λ x s. Some (x, s)) (sym text) (sym c.ending-status.ensures)
+    let form = form_tree c.args.lens in
+    let items = items_among (map up_to_line_end (cut c.args.journal.now)) in
+    let start = c.in_ok-session.session in
+    let end = c.take_lines.new.session in
+    let progress = c.in_ok-progress.progress in
+    let before = ap (λ (l : Checked). form_tree l.typed) c.in_ok-session.ensures.lens ∙ ap form_tree c.new.ensures in
+    let first = c.in_ok-session.ensures.first ∙ ap (λ (l : Checked). first_of (form_tree l.typed)) (sym c.in_ok-session.ensures.lens) in
+    let after = ap (λ (l : Checked). form_tree l.typed) c.in_ok-progress.ensures.lens in
+    report_is c.report_of_state-report.result form items _ _
+    (run_reported form (form_tree start.lens.typed) (form_tree end.lens.typed) (triple_tree start.triple) items progress.text.items progress.refused (triple_tree end.triple)
+    before after first c.in_ok-progress.ensures.written)
+    c.report_of_state-report.ensures.text c.report_of_state-report.ensures.status
