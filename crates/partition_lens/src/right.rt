@@ -29,7 +29,7 @@ use texts::Name;
 ///   of that list.
 /// - `NoMemory`: only if memory ran out, or if the mixed list would have 2^64 items.
 ///
-/// The arguments stay as they are. docs/MEANING.md has the rows.
+/// The arguments stay as they are. docs/TRANSLATION.md has the rows.
 #[tactic(auto, using(crate::proofs::RowSteps::fault_carried))]
 pub fn part_right(
     alloc: Global,
