@@ -1,8 +1,8 @@
 -- A composition translates a primitive by the lens of the edited side, and the word that comes of it by the other lens.
-use Rattle.std.proofs.Common.{◌≡◌, None, Some, Box, Global, refl, ap, ◌∙◌, rules}
+use Rattle.std.proofs.Common.{◌≡◌, Some, Box, Global, refl, ap, ◌∙◌, rules}
 use Rattle.texts.specs.declared.side.Side.{Side}
 use Rattle.texts.specs.declared.side.Side.TheVariants.{Left, Right}
-use Rattle.edit_module.specs.Words.{PrimitiveTree, WordTree}
+use Rattle.edit_module.specs.Words.{PrimitiveTree}
 use Rattle.lens_forms.specs.Forms.{FormTree, form_then}
 use Rattle.lens_core.specs.Complements.{CompTree, then_comp, comp_tree}
 use Rattle.lens_core.specs.declared.comp.Comp.{Comp, the_lemmas as comp_lemmas}

@@ -1,5 +1,5 @@
 -- A partition at a complement: at numbers of its tags it is translated by its rows, at any other complement not at all.
-use Rattle.std.proofs.Common.{◌≡◌, ℕ, ◌+◌, ◌≤◌, Bool, true, false, List, length, Option, None, option_map, refl, ap, ◌∙◌, subst, arith, rules}
+use Rattle.std.proofs.Common.{◌≡◌, ℕ, ◌≤◌, Bool, true, false, List, length, Option, None, option_map, refl, ap, ◌∙◌, subst, arith, rules}
 use Rattle.std.specs.Prelude.{if◌then◌else◌}
 use Rattle.tag_seq.specs.Tags.{are_below}
 use Rattle.texts.specs.declared.side.Side.{Side}

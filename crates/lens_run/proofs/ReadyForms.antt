@@ -1,5 +1,5 @@
 -- The parts of a form that is ready are ready, and have fewer parts.
-use Rattle.std.proofs.Common.{◌≡◌, ℕ, zero, suc, ◌+◌, ◌<◌, ◌≤◌, true, ◌&&◌, Option, None, Some, arith}
+use Rattle.std.proofs.Common.{◌≡◌, ℕ, zero, suc, ◌<◌, true, ◌&&◌, Some, arith}
 use Rattle.texts.proofs.Conjunction.{first as first_and, second as second_and}
 use Rattle.doc_values.specs.Types.{is_well_formed, are_distinct, are_choices, is_same_ty}
 use Rattle.lens_forms.specs.Forms.{FormTree, form_then, form_rec, form_alt, RowTrees, no_rows, both, only_left, only_right, row_list, ArmTrees, no_arms, more_arms, left_type, right_type}

@@ -1,5 +1,5 @@
 -- A translation that goes round that of the lens inside: what its steps give, the whole gives.
-use Rattle.std.proofs.Common.{◌≡◌, ℕ, List, Option, None, Some, option_map, Box, Global, sym, ap, ◌∙◌, rules}
+use Rattle.std.proofs.Common.{◌≡◌, ℕ, List, Option, Some, option_map, Box, Global, sym, ap, ◌∙◌, rules}
 use Rattle.std.specs.Prelude.{option_and_then}
 use Rattle.texts.specs.declared.side.Side.{Side}
 use Rattle.edit_module.specs.Words.{PrimitiveTree, WordTree}

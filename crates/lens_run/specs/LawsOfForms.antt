@@ -2,14 +2,13 @@
 -- owes its callers, from these laws. All are lemmas, and stand here since the laws of an `impl` cite them.
 use Rattle.std.proofs.Common.{◌≡◌, ℕ, true, ◌&&◌, List, [], ◌∷◌, refl}
 use Rattle.texts.specs.declared.side.Side.{Side}
-use Rattle.texts.specs.declared.side.Side.TheVariants.{Left, Right}
 use Rattle.texts.proofs.Conjunction.{first as first_and, second as second_and}
 use Rattle.doc_values.specs.Types.{are_distinct, are_choices, is_well_formed, is_same_ty}
 use Rattle.doc_values.proofs.SameTypes.{is_same_ty-equal}
 use Rattle.lens_forms.specs.Forms.{FormTree, form_id, form_bij, form_disc, form_then, form_rec, form_alt, form_each, form_keyed, form_ordered, form_part, form_inv, RowTrees, no_rows, both, only_left, only_right, ArmTrees, no_arms, more_arms, left_type, right_type}
 use Rattle.lens_forms.specs.Typing.{is_typed, are_typed_rows, are_typed_arms, left_names, right_names, left_arms, right_arms}
 use Rattle.lens_forms.proofs.TypingLaws.{left_formed, right_formed}
-use Rattle.lens_core.specs.Complements.{CompTree, missing}
+use Rattle.lens_core.specs.Complements.{missing}
 use Rattle.lens_core.specs.Consistency.{IsConsistent}
 use Rattle.lens_core.specs.Translation.{translate}
 use Rattle.lens_core.specs.Laws.{TypesAreWellFormed, StartTogether, TogetherAreTyped, EditsCarry, EmptyIsKept, JoinedInTurn, Laws}

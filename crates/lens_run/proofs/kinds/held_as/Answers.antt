@@ -1,4 +1,4 @@
-use Rattle.std.proofs.Common.{◌≡◌, true, ◌∙◌, sym, rules}
+use Rattle.std.proofs.Common.{◌≡◌, true, rules}
 use Rattle.lens_core.specs.Complements.{comp_tree, comps_tree, hold_comp}
 use Rattle.lens_run.specs.Kinds.{is_of_kind}
 use Rattle.lens_run.proofs.KindRows.{held_row, held_tree}
