@@ -1,0 +1,4 @@
+pub mod ClapMatches
+pub mod OrderOfWords
+pub mod DecimalNumbers
+pub mod SubcommandRows
