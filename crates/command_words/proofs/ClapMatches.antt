@@ -1,5 +1,5 @@
 -- What clap makes of two and of four words.
-use Rattle.std.proofs.Common.{◌≡◌, ℕ, List, [], ◌∷◌, Bool, true, false, true≢false, Option, Some, None, codes, length, option_map, option_and_then, cond, bytes_eq, refl, sym, ap, ◌∙◌, subst, arith, get_or, ◌==◌}
+use Rattle.std.proofs.Common.{◌≡◌, ℕ, List, [], ◌∷◌, Bool, true, false, Option, Some, None, codes, length, option_map, cond, bytes_eq, refl, sym, ap, ◌∙◌, subst, arith, get_or}
 use Rattle.clap.specs.Lexer.{long_of, short_of}
 use Rattle.clap.specs.Walk.{Text, Row, first_of}
 use Rattle.clap.specs.Simple.{is_simple, subcommand_of}
@@ -11,7 +11,7 @@ use Rattle.command_words.specs.Orders.{plain_order, gen_order, order_of}
 use Rattle.command_words.specs.Matches.{gen_of_values, order_of_match, begins_with_hyphen}
 use Rattle.command_words.specs.declared.orders.Order.{Order}
 
--- the word has no hyphen in front
+-- the word does not begin with a hyphen, so clap reads it as a value
 pub record IsPlainWord (w : Text) : Type 0 where
   pub dashes : bytes_eq w (45 ∷ 45 ∷ []) ≡ false
   pub long : long_of w ≡ None
@@ -32,7 +32,7 @@ pub gen_entered : (n a b : Text) → IsPlainWord a → IsPlainWord b → option_
 unfolding clap_on_literals
 gen_entered n a b p q = rw (p.dashes, p.long, p.short, q.dashes, q.long, q.short) refl
 
--- ---- by the number of words
+-- ---- two words
 
 abbrev pub GenRow : Type 0
 GenRow = Text × Option Text × Option Text
@@ -40,7 +40,7 @@ GenRow = Text × Option Text × Option Text
 same_text : (k t : List ℕ) → bytes_eq k t ≡ true → k ≡ t
 same_text k t h = (bytes_eq-Decides k t).0 h
 
--- under a word that is no command of two words, whatever clap met is none
+-- where the second word is not a command of one word, any subcommand gives none
 other_two : (w : Text) (o : Option (Text × List Row)) → plain_order w ≡ None → order_of_match 2 w o ≡ None
 other_two w None none = refl
 other_two w (Some p) none = by (bytes_eq p.0 w) refl
@@ -57,10 +57,10 @@ check_entered : (n : Text) → subcommand_of editlens_app (n ∷ codes "check" �
 unfolding clap_on_literals
 check_entered n = refl
 
-pub two_by : (n w : Text) (r s : Bool) → bytes_eq w (codes "run") ≡ r → bytes_eq w (codes "check") ≡ s → order_of_match 2 w (subcommand_of editlens_app (n ∷ w ∷ [])) ≡ plain_order w
-two_by n w true s run check = subst (λ v. order_of_match 2 v (subcommand_of editlens_app (n ∷ v ∷ [])) ≡ plain_order v) (sym (same_text w (codes "run") run)) (ap (order_of_match 2 (codes "run")) (run_entered n))
-two_by n w false true run check = subst (λ v. order_of_match 2 v (subcommand_of editlens_app (n ∷ v ∷ [])) ≡ plain_order v) (sym (same_text w (codes "check") check)) (ap (order_of_match 2 (codes "check")) (check_entered n))
-two_by n w false false run check = let none : plain_order w ≡ None = rw (run, check) refl in other_two w _ none ∙ sym none
+pub two_found : (n w : Text) (r s : Bool) → bytes_eq w (codes "run") ≡ r → bytes_eq w (codes "check") ≡ s → order_of_match 2 w (subcommand_of editlens_app (n ∷ w ∷ [])) ≡ plain_order w
+two_found n w true s run check = subst (λ v. order_of_match 2 v (subcommand_of editlens_app (n ∷ v ∷ [])) ≡ plain_order v) (sym (same_text w (codes "run") run)) (ap (order_of_match 2 (codes "run")) (run_entered n))
+two_found n w false true run check = subst (λ v. order_of_match 2 v (subcommand_of editlens_app (n ∷ v ∷ [])) ≡ plain_order v) (sym (same_text w (codes "check") check)) (ap (order_of_match 2 (codes "check")) (check_entered n))
+two_found n w false false run check = let none : plain_order w ≡ None = rw (run, check) refl in other_two w _ none ∙ sym none
 
 run_taken : (n : Text) → takes editlens_app (n ∷ codes "run" ∷ []) ≡ true
 unfolding clap_on_literals
@@ -98,7 +98,7 @@ other_four w (Some p) apart = by (bytes_eq p.0 w) refl
     by true is = ap (λ c. cond c (gen_of_values (first_of (codes "count") p.1) (first_of (codes "seed") p.1)) None) (ap (λ v. bytes_eq v (codes "gen")) (same_text p.0 w is) ∙ apart)
     by false is = refl
 
--- the command under `gen`, by what order_of_match reads of it
+-- a subcommand `gen` with two values gives the command of these values
 gen_at : (o : Option (Text × List Row)) (a b : Text) → option_map {U = GenRow} (λ p. (p.0, first_of (codes "count") p.1, first_of (codes "seed") p.1)) o ≡ Some (codes "gen", Some a, Some b) → order_of_match 4 (codes "gen") o ≡ gen_order a b
 gen_at None a b h = cc
 gen_at (Some p) a b h =
@@ -108,9 +108,9 @@ gen_at (Some p) a b h =
     let seed = ap (λ (q : GenRow). q.2) e in
     rw (name, count, seed) refl
 
-pub four_by : (n w a b : Text) → IsPlainWord a → IsPlainWord b → (r : Bool) → bytes_eq w (codes "gen") ≡ r → order_of_match 4 w (subcommand_of editlens_app (n ∷ w ∷ a ∷ b ∷ [])) ≡ four_order w a b
-four_by n w a b p q true gen = subst (λ v. order_of_match 4 v (subcommand_of editlens_app (n ∷ v ∷ a ∷ b ∷ [])) ≡ four_order v a b) (sym (same_text w (codes "gen") gen)) (gen_at _ a b (gen_entered n a b p q))
-four_by n w a b p q false gen = other_four w _ gen ∙ rw gen refl
+pub four_found : (n w a b : Text) → IsPlainWord a → IsPlainWord b → (r : Bool) → bytes_eq w (codes "gen") ≡ r → order_of_match 4 w (subcommand_of editlens_app (n ∷ w ∷ a ∷ b ∷ [])) ≡ four_order w a b
+four_found n w a b p q true gen = subst (λ v. order_of_match 4 v (subcommand_of editlens_app (n ∷ v ∷ a ∷ b ∷ [])) ≡ four_order v a b) (sym (same_text w (codes "gen") gen)) (gen_at _ a b (gen_entered n a b p q))
+four_found n w a b p q false gen = other_four w _ gen ∙ rw gen refl
 
 four_taken : (n w a b : Text) → IsPlainWord a → IsPlainWord b → (o : Order) (r : Bool) → bytes_eq w (codes "gen") ≡ r → four_order w a b ≡ Some o → takes editlens_app (n ∷ w ∷ a ∷ b ∷ []) ≡ true
 four_taken n w a b p q o true gen h = ap (λ v. takes editlens_app (n ∷ v ∷ a ∷ b ∷ [])) (same_text w (codes "gen") gen) ∙ gen_taken n a b p q

@@ -1,14 +1,14 @@
--- What parses as a number.
-use Rattle.std.proofs.Common.{◌≡◌, ℕ, zero, suc, ◌==◌, true≢false, ◌<◌, ◌≤◌, ◌^◌, List, length, Bool, true, false, Option, Some, None, Result, Ok, Err, nat_lt, nat_le, refl, sym, ap, ◌∙◌, arith, rules, lt-ltb, le-leb}
+-- What std parses from digits is number_of.
+use Rattle.std.proofs.Common.{◌≡◌, ℕ, zero, suc, ◌==◌, true≢false, ◌<◌, ◌≤◌, ◌^◌, List, length, true, false, Some, Result, Ok, Err, refl, sym, ap, arith, rules, lt-ltb, le-leb}
 use Rattle.std.specs.Result.{OkIff, result_ok}
 use Rattle.std.specs.List.{list_all}
 use Rattle.std.specs.Char.{is_ascii_digit}
-use Rattle.std.proofs.lemmas.Str.Parse.{IsNumeralModel, numerals_by_fold, IsDigitsTest}
+use Rattle.std.proofs.lemmas.Str.Parse.{IsNumeralModel, numerals_by_fold}
 use Rattle.std.proofs.lemmas.Bool.{le-ltb}
 use Rattle.command_words.specs.Orders.{decimal_after, number_of}
 
-pub own : IsNumeralModel (λ ds. list_all is_ascii_digit ds ≡ true) (decimal_after 0)
-own = numerals_by_fold _ (search rules) decimal_after (search rules)
+pub decimal_is_numeral : IsNumeralModel (λ ds. list_all is_ascii_digit ds ≡ true) (decimal_after 0)
+decimal_is_numeral = numerals_by_fold _ (search rules) decimal_after (search rules)
 
 pub ok_number : {E : Type 0} (bs : List ℕ) (r : Result ℕ E) → list_all is_ascii_digit bs ≡ true → 0 < length bs → length bs ≤ 20 → OkIff r ((0 < length bs) × (decimal_after 0 bs < 2 ^ 64)) (decimal_after 0 bs) → result_ok r ≡ number_of bs
 ok_number bs (Ok x) digits some short h = rw (digits, lt-ltb 0 (length bs) some, le-leb (length bs) 20 short, lt-ltb (decimal_after 0 bs) (2 ^ 64) h.0.1) (ap Some h.1)

@@ -1,8 +1,8 @@
--- What the matches of a subcommand say.
-use Rattle.std.proofs.Common.{◌≡◌, ℕ, List, Bool, true, false, not, true≢false, Option, Some, None, codes, option_map, bytes_eq, ◌==◌, refl, sym, ap, ◌∙◌, arith, ne_eqb, cond}
+-- What clap stores of a subcommand, as order_of_match reads it.
+use Rattle.std.proofs.Common.{◌≡◌, ℕ, List, Bool, true, false, not, true≢false, Option, Some, None, codes, option_map, bytes_eq, refl, sym, ne_eqb}
 use Rattle.std.specs.Prelude.{Box}
 use Rattle.std.specs.Box.{box_value}
-use Rattle.clap.specs.Walk.{Text, Row, first_of, rows_of}
+use Rattle.clap.specs.Walk.{Text, Row, rows_of}
 use Rattle.clap.specs.Simple.{subcommand_rows}
 use Rattle.clap.specs.Matches.{first_value}
 use Rattle.clap.specs.declared.parser.matches.Found.{Found}

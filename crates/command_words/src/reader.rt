@@ -8,9 +8,9 @@ ghost use Rattle.command_words.specs.Matches.{gen_of_values, order_of_match, beg
 ghost use Rattle.command_words.specs.Orders.{order_of};
 
 use crate::command_line::command_line;
-use crate::orders::{gen_order, plain_order, Order, WordsFault};
-use clap::error::ErrorKind;
+use crate::orders::{Order, WordsFault, gen_order, plain_order};
 use clap::ArgMatches;
+use clap::error::ErrorKind;
 use std::alloc::Global;
 
 /// The command that the words name, the program's own name first.
@@ -34,6 +34,7 @@ pub fn read_words(alloc: Global, words: &[String]) -> Result<Order, WordsFault>
     }
 }
 
+// Two words name a command of one word, or nothing.
 fn read_two(alloc: Global, words: &[String]) -> Result<Order, WordsFault>
     requires { length words.now ≡ 2 }
     ensures order { IfOk result (λ order. order_of (map string_bytes words.now) ≡ Some order) }
@@ -46,6 +47,7 @@ fn read_two(alloc: Global, words: &[String]) -> Result<Order, WordsFault>
     }
 }
 
+// Four words name `gen` with its numbers, or nothing. clap would read a word with a hyphen as a flag.
 fn read_four(alloc: Global, words: &[String]) -> Result<Order, WordsFault>
     requires { length words.now ≡ 4 }
     ensures order { IfOk result (λ order. order_of (map string_bytes words.now) ≡ Some order) }
