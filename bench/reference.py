@@ -1,10 +1,10 @@
 #!/usr/bin/env python3
 """Writes cases of edits and documents for crates/layer_cases, worked out from the rules alone: python3 bench/reference.py.
 
-Each answer is computed here in the words of docs/EDITS.md (plans and the action), docs/FORMATS.md (documents, words and
-entries) and docs/MEANING.md (what words are translated to), and never taken from the program. The rows are the same in every run. They go to
-crates/layer_cases/data/*_reference.jsonl, in the forms of crates/layer_cases/CASES.md. It is run by hand, as is
-bench/reference_programs.py, which writes the cases of programs.
+Each answer is computed here in the words of docs/EDITS.md (plans and the action) and docs/FORMATS.md (documents, words and
+entries), and never taken from the program. The rows are the same in every run. They go to
+crates/layer_cases/data/*_reference.jsonl, in the forms of crates/layer_cases/CASES.md. It is run by hand, as are
+bench/reference_programs.py, which writes the cases of programs, and bench/reference_lenses.py, which writes those of lenses.
 """
 import itertools, json, os, random, re
 
@@ -607,42 +607,12 @@ def entry_rows(chance, count):
         yield {'call': 'is_blank', 'bytes': [32, byte, 9], 'ok': byte in (9, 13, 32)}
 
 
-# ---- the record of one pair of ints, as docs/MEANING.md says that it is carried
-
-def carried(near, far, complement, word):
-    """The word of the other side, or None where there is none. The complement stays."""
-    other = []
-    for primitive in word:
-        (name, what), = primitive.items()
-        parts = complement['rec'] if complement else []
-        if name != 'at' or what[0] != near or len(parts) != 1 or parts != [None] and what[1]:
-            return None
-        other += [{'at': [far, what[1]]}] if what[1] else []
-    return other
-
-
-def lens_rows(chance, count):
-    for number in range(count):
-        left, right = chance.sample(FIELDS, 2)
-        near, far = (left, right) if number % 2 else (right, left)
-        complement = chance.choice([{'rec': [None]}] * 8 + [None, {'rec': []}, {'rec': [None] * 2}, {'rec': [{'rec': []}]}])
-        fields = [near] * 8 + [far, 'q']
-        word = [{'at': [chance.choice(fields), chance.word('int', 2)]} for _ in range(chance.randint(0, 3))]
-        if number % 16 == 0:
-            word.insert(chance.randint(0, len(word)), chance.primitive(chance.type(1)))
-        row = {'call': 'carry', 'program': 'main {%s ~ %s: id int}' % (field_text(left), field_text(right)),
-               'side': ('right', 'left')[number % 2], 'complement': complement, 'edit': word}
-        other = carried(near, far, complement, word)
-        yield {**row, **({'fault': 'unfit'} if other is None else {'ok': other, 'then': complement})}
-
-
 def main():
     chance = Chance(14)
     rows_to('plans', itertools.chain(plan_rows(chance), place_rows()))
     rows_to('edits', itertools.chain(act_rows(chance, 1200), word_rows(chance, 500)))
     rows_to('documents', itertools.chain(document_rows(chance, 600), type_rows(chance, 150)))
     rows_to('lines', entry_rows(chance, 200))
-    rows_to('lenses', lens_rows(chance, 160))
 
 
 if __name__ == '__main__':
