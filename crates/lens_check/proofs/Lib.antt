@@ -1,0 +1,4 @@
+pub mod ImagesOfCompositions
+pub mod ImagesOfContainers
+pub mod ImagesOfLeaves
+pub mod SidesOfTriples

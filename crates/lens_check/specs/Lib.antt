@@ -1,0 +1,4 @@
+pub mod Image
+pub mod ImageLaws
+pub mod PartImage
+pub mod Patterns

@@ -1,0 +1,2 @@
+//! Deciding consistency.
+#![tactic(auto)]
