@@ -148,8 +148,8 @@ shapes_are (TreeOf ds) (KeyedOf ns) e = cc
 record IsContainer (f l : FormTree) (is_of : Shape → ℕ → Bool) : Type 0 where
   size : (r : Shape) (m n : ℕ) → is_of r m ≡ true → is_of r n ≡ true → m ≡ n
   has_is : (s : Side) (r : Shape) (ds : DocTrees) → has (type_on s f) (hold r ds) ≡ (is_of r (length (doc_list ds)) && has_each (type_on s l) ds)
-  open : (s : Side) (v : DocTree) (c : CompTree) (w : DocTree) → IsRelated f s v c w → AreHeld (IsRelated l s) v c w
-  close : (s : Side) (v : DocTree) (c : CompTree) (w : DocTree) → has (type_on s f) v ≡ true → Fits f c → has (type_on (other s) f) w ≡ true → AreHeld (IsRelated l s) v c w → IsRelated f s v c w
+  opened : (s : Side) (v : DocTree) (c : CompTree) (w : DocTree) → IsRelated f s v c w → AreHeld (IsRelated l s) v c w
+  closed : (s : Side) (v : DocTree) (c : CompTree) (w : DocTree) → has (type_on s f) v ≡ true → Fits f c → has (type_on (other s) f) w ≡ true → AreHeld (IsRelated l s) v c w → IsRelated f s v c w
 
 -- a triple taken apart
 record IsHeldTriple (l : FormTree) (s : Side) (r : Shape) (v : DocTree) (cs : CompTrees) (w : DocTree) : Type 0 where
@@ -232,12 +232,12 @@ module _ (f l : FormTree) (is_of : Shape → ℕ → Bool) (k : IsContainer f l 
   held_given : (s : Side) (r : Shape) (cs : CompTrees) (p : PatternTree) (ps : PatternTrees) → Fits f (hold_comp r cs) → is_of r (comp_count cs) ≡ true → IsInside r (comp_count cs) (type_on s l) p ps
       → (o : Option PatternTrees) → AreImages l s cs ps o → IsImage f s (hold_comp r cs) p (option_map (hold_pattern r) o)
   held_given s r cs p ps fit is inside None a = λ v w m h.
-      let g = held_triple l s r v cs w (k.open s v (hold_comp r cs) w h) in
+      let g = held_triple l s r v cs w (k.opened s v (hold_comp r cs) w h) in
       a g.ds g.es (inside.down g.ds (each_long l s g.ds cs g.es g.each) (subst (Matches p) g.near_is m)) g.each
   held_given s r cs p ps fit is inside (Some qs) a = record {
     some_doc = (hold r a.docs, held_has (other s) r cs a.docs is a.long a.have, (a.docs, refl, a.match));
     into = λ v w m h.
-        let g = held_triple l s r v cs w (k.open s v (hold_comp r cs) w h) in
+        let g = held_triple l s r v cs w (k.opened s v (hold_comp r cs) w h) in
         (g.es, g.far_is, a.into g.ds g.es (inside.down g.ds (each_long l s g.ds cs g.es g.each) (subst (Matches p) g.near_is m)) g.each);
     onto = λ w h m.
         let h' = subst (λ z. has (type_on (other s) f) z ≡ true) m.1 h in
@@ -246,7 +246,7 @@ module _ (f l : FormTree) (is_of : Shape → ℕ → Bool) (k : IsContainer f l 
           hold r x.0,
           inside.up x.0 x.1,
           subst (λ z. IsRelated f s (hold r x.0) (hold_comp r cs) z) (sym m.1)
-              (k.close s (hold r x.0) (hold_comp r cs) (hold r m.0) (held_has s r cs x.0 is (each_long l s x.0 cs m.0 x.2) (each_near l s x.0 cs m.0 x.2)) fit h' (refl, refl, x.2)),
+              (k.closed s (hold r x.0) (hold_comp r cs) (hold r m.0) (held_has s r cs x.0 is (each_long l s x.0 cs m.0 x.2) (each_near l s x.0 cs m.0 x.2)) fit h' (refl, refl, x.2)),
         );
   }
 
@@ -265,7 +265,7 @@ module _ (f l : FormTree) (is_of : Shape → ℕ → Bool) (k : IsContainer f l 
 
   -- a pattern that no container is in
   not_held : (s : Side) (r : Shape) (cs : CompTrees) (p : PatternTree) → ((ds : DocTrees) → Matches p (hold r ds) → ⊥) → IsImage f s (hold_comp r cs) p None
-  not_held s r cs p none = λ v w m h. let g = held_triple l s r v cs w (k.open s v (hold_comp r cs) w h) in none g.ds (subst (Matches p) g.near_is m)
+  not_held s r cs p none = λ v w m h. let g = held_triple l s r v cs w (k.opened s v (hold_comp r cs) w h) in none g.ds (subst (Matches p) g.near_is m)
 
   held_shape : (s : Side) (r : Shape) (cs : CompTrees) (q : Shape) (ps : PatternTrees) → ImageLaw l → Fits f (hold_comp r cs) → is_of r (comp_count cs) ≡ true → AllFit (Fits l) cs → HasSome (type_on s f) (hold_pattern q ps)
       → (b : Bool) → is_same_shape q r ≡ b → IsImage f s (hold_comp r cs) (hold_pattern q ps) (option_map (hold_pattern r) (option_and_then (image_each (image l s) cs) (cond b (Some ps) None)))
@@ -343,7 +343,7 @@ each_close l Right v c w a f b h = (record { left_has = b; comp_fits = f; right_
 
 pub each_images : (l : FormTree) → ((s : Side) → is_well_formed (type_on s l) ≡ true) → ImageLaw l → ImageLaw (form_each l)
 each_images l wf law s (hold_comp r cs) p fit some =
-    held_images (form_each l) l is_list_of (record { size = list_size; has_is = each_has l; open = each_open l; close = each_close l }) s r cs p (wf s) law fit fit.0 fit.1 some
+    held_images (form_each l) l is_list_of (record { size = list_size; has_is = each_has l; opened = each_open l; closed = each_close l }) s r cs p (wf s) law fit fit.0 fit.1 some
 each_images l wf law s nil p fit some = absurd fit
 each_images l wf law s (then_comp c d) p fit some = absurd fit
 each_images l wf law s (rec_comp cs) p fit some = absurd fit
@@ -364,7 +364,7 @@ keyed_close l Right v c w a f b h = (record { left_has = b; comp_fits = f; right
 
 pub keyed_images : (l : FormTree) → ((s : Side) → is_well_formed (type_on s l) ≡ true) → ImageLaw l → ImageLaw (form_keyed l)
 keyed_images l wf law s (hold_comp r cs) p fit some =
-    held_images (form_keyed l) l is_keyed_of (record { size = keyed_size; has_is = keyed_has l; open = keyed_open l; close = keyed_close l }) s r cs p (wf s) law fit fit.0 fit.1 some
+    held_images (form_keyed l) l is_keyed_of (record { size = keyed_size; has_is = keyed_has l; opened = keyed_open l; closed = keyed_close l }) s r cs p (wf s) law fit fit.0 fit.1 some
 keyed_images l wf law s nil p fit some = absurd fit
 keyed_images l wf law s (then_comp c d) p fit some = absurd fit
 keyed_images l wf law s (rec_comp cs) p fit some = absurd fit
@@ -385,7 +385,7 @@ ordered_close l Right v c w a f b h = (record { left_has = b; comp_fits = f; rig
 
 pub ordered_images : (l : FormTree) → ((s : Side) → is_well_formed (type_on s l) ≡ true) → ImageLaw l → ImageLaw (form_ordered l)
 ordered_images l wf law s (hold_comp r cs) p fit some =
-    held_images (form_ordered l) l is_tree_of (record { size = tree_size; has_is = ordered_has l; open = ordered_open l; close = ordered_close l }) s r cs p (wf s) law fit fit.0 fit.1 some
+    held_images (form_ordered l) l is_tree_of (record { size = tree_size; has_is = ordered_has l; opened = ordered_open l; closed = ordered_close l }) s r cs p (wf s) law fit fit.0 fit.1 some
 ordered_images l wf law s nil p fit some = absurd fit
 ordered_images l wf law s (then_comp c d) p fit some = absurd fit
 ordered_images l wf law s (rec_comp cs) p fit some = absurd fit

@@ -1,4 +1,9 @@
+pub mod DealtPatterns
+pub mod ImagesOfAlternatives
 pub mod ImagesOfCompositions
 pub mod ImagesOfContainers
 pub mod ImagesOfLeaves
+pub mod ImagesOfRecords
+pub mod PatternsByName
+pub mod PatternsOfItems
 pub mod SidesOfTriples

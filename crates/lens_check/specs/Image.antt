@@ -12,7 +12,7 @@ use Rattle.lens_forms.specs.Forms.{FormTree, form_id, form_bij, form_disc, form_
 use Rattle.lens_core.specs.Sides.{near, far}
 use Rattle.lens_core.specs.Complements.{CompTree, then_comp, rec_comp, alt_comp, hold_comp, tags_comp, CompTrees, no_comps, more_comps, comp_count}
 use Rattle.lens_core.specs.Translation.{partner}
-use Rattle.lens_check.specs.Patterns.{PatternTree, hole, pick_pattern, rec_pattern, alt_pattern, hold_pattern, PatternTrees, no_patterns, more_patterns}
+use Rattle.lens_check.specs.Patterns.{PatternTree, hole, pick_pattern, rec_pattern, alt_pattern, hold_pattern, PatternTrees, no_patterns, more_patterns, in_order}
 use Rattle.lens_check.specs.PartImage.{holes, parted_image, joined_image}
 
 -- ---- bijection
@@ -46,11 +46,6 @@ patterns_by_name fs _ n = hole
 abbrev pub named : List (List ℕ × PatternTree) → List ℕ → PatternTree
 named [] n = hole
 named (q ∷ qs) n = if bytes_eq q.0 n then q.1 else named qs n
-
--- the named patterns in the order of the fields
-abbrev pub in_order : FieldTrees → List (List ℕ × PatternTree) → PatternTrees
-in_order no_fields qs = no_patterns
-in_order (more_fields n t fs) qs = more_patterns (named qs n) (in_order fs qs)
 
 -- a named pattern before others
 abbrev pub with_named : List ℕ → PatternTree → List (List ℕ × PatternTree) → List (List ℕ × PatternTree)
@@ -112,7 +107,7 @@ abbrev mutual
   image (form_then l k) s (then_comp c d) p = through_both s (image l s c) (image k s d) p
   image (form_then l k) s _ p = None
   image (form_rec rows) s (rec_comp cs) p =
-      option_map (λ qs. rec_pattern (in_order (fields_on (other s) rows) qs)) (image_rows rows s cs (patterns_by_name (fields_on s rows) p))
+      option_map (λ qs. rec_pattern (in_order (fields_on (other s) rows) (named qs))) (image_rows rows s cs (patterns_by_name (fields_on s rows) p))
   image (form_rec rows) s _ p = None
   image (form_alt arms) s (alt_comp t c) p = image_arm arms s t c p
   image (form_alt arms) s _ p = None

@@ -6,7 +6,7 @@ use Rattle.doc_values.specs.Types.{FieldTrees, no_fields, more_fields}
 use Rattle.doc_values.specs.Typing.{is_list_of}
 use Rattle.tag_seq.specs.Tags.{count}
 use Rattle.lens_core.specs.Tags.{tag_number, tag_name}
-use Rattle.lens_check.specs.Patterns.{PatternTree, hole, rec_pattern, alt_pattern, hold_pattern, PatternTrees, no_patterns, more_patterns, pattern_count}
+use Rattle.lens_check.specs.Patterns.{PatternTree, hole, rec_pattern, alt_pattern, hold_pattern, PatternTrees, no_patterns, more_patterns, pattern_count, in_order}
 
 -- so many holes
 abbrev pub holes : ℕ → PatternTrees
@@ -49,18 +49,13 @@ patterns_at k (t ∷ ts) (more_patterns q qs) = if nat_eq t k then more_patterns
 abbrev pub list_at : FieldTrees → List ℕ → PatternTrees → List ℕ → PatternTree
 list_at fs ts qs n = elim (tag_number fs n) [ None ↦ hole | Some k ↦ list_pattern (count k ts) (patterns_at k ts qs) ]
 
--- the record of these lists, of the fields gs
-abbrev pub lists_in_order : FieldTrees → FieldTrees → List ℕ → PatternTrees → PatternTrees
-lists_in_order fs no_fields ts qs = no_patterns
-lists_in_order fs (more_fields n t gs) ts qs = more_patterns (list_at fs ts qs n) (lists_in_order fs gs ts qs)
-
 -- ---- from the right
 
 -- the patterns of the list of each tag, by its number, the first number being k; the pattern of each field by its name
 abbrev pub list_patterns : FieldTrees → ℕ → List ℕ → (List ℕ → PatternTree) → Option (ℕ → PatternTrees)
 list_patterns no_fields k ts at = Some (λ j. no_patterns)
 list_patterns (more_fields n t fs) k ts at =
-    option_and_then (λ ps. option_map (λ others j. if nat_eq j k then ps else others j) (list_patterns fs (k + 1) ts at)) (patterns_in_list (count k ts) (at n))
+    option_and_then (λ ps. option_map (λ others j. if nat_eq k j then ps else others j) (list_patterns fs (k + 1) ts at)) (patterns_in_list (count k ts) (at n))
 
 abbrev pub first_pattern : PatternTrees → PatternTree
 first_pattern no_patterns = hole
@@ -73,7 +68,7 @@ other_patterns (more_patterns p ps) = ps
 -- for each item the next pattern of its tag's list
 abbrev pub dealt : List ℕ → (ℕ → PatternTrees) → PatternTrees
 dealt [] lists = no_patterns
-dealt (t ∷ ts) lists = more_patterns (first_pattern (lists t)) (dealt ts (λ k. if nat_eq k t then other_patterns (lists t) else lists k))
+dealt (t ∷ ts) lists = more_patterns (first_pattern (lists t)) (dealt ts (λ k. if nat_eq t k then other_patterns (lists t) else lists k))
 
 -- the items with these contents
 abbrev pub item_patterns : FieldTrees → List ℕ → PatternTrees → PatternTrees
@@ -86,7 +81,7 @@ item_patterns fs (t ∷ ts) (more_patterns q qs) = more_patterns (alt_pattern (t
 -- from the left: a hole or a list of items with these tags becomes a record of lists
 abbrev pub parted_image : FieldTrees → FieldTrees → List ℕ → PatternTree → Option PatternTree
 parted_image fs gs ts p =
-    option_map (λ qs. rec_pattern (lists_in_order fs gs ts qs)) (option_and_then (content_patterns fs ts) (patterns_in_list (length ts) p))
+    option_map (λ qs. rec_pattern (in_order gs (list_at fs ts qs))) (option_and_then (content_patterns fs ts) (patterns_in_list (length ts) p))
 
 -- from the right: a hole or a record of lists as long as their tags are often becomes a list of items
 abbrev pub joined_image : FieldTrees → (List ℕ → PatternTree) → List ℕ → Option PatternTree

@@ -28,6 +28,11 @@ abbrev pub pattern_count : PatternTrees → ℕ
 pattern_count no_patterns = 0
 pattern_count (more_patterns p ps) = pattern_count ps + 1
 
+-- the patterns with the names of the fields, in the order of the fields
+abbrev pub in_order : FieldTrees → (List ℕ → PatternTree) → PatternTrees
+in_order no_fields at = no_patterns
+in_order (more_fields n t fs) at = more_patterns (at n) (in_order fs at)
+
 -- ---- the documents in a pattern
 
 -- the document differs from the pattern only where the pattern has holes; of its type nothing is said
