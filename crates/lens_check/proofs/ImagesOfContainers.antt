@@ -391,4 +391,3 @@ ordered_images l wf law s (then_comp c d) p fit some = absurd fit
 ordered_images l wf law s (rec_comp cs) p fit some = absurd fit
 ordered_images l wf law s (alt_comp t c) p fit some = absurd fit
 ordered_images l wf law s (tags_comp ts) p fit some = absurd fit
-

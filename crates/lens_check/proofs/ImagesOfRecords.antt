@@ -325,9 +325,12 @@ module _ (rows : RowTrees) (s : Side) (cs : CompTrees) (p : PatternTree) (ds0 : 
         (rec r.docs, subst (λ t. has t (rec r.docs) ≡ true) (sym (type_is rows (other s))) r.have, (r.docs, refl, match_in_order gs (named qs) r.docs far_apart r.have r.like));
     into = λ v w m h.
         let g = record_triple rows s v cs w h in
-        let gs = fields_on (other s) rows in
-        (g.es, g.far_is, match_in_order gs (named qs) g.es far_apart g.far_fields
-            (a.into (content (fields_on s rows) g.ds) (content gs g.es) (like_by_name (fields_on s rows) p g.ds (subst (Matches p) g.near_is m)) g.each));
+        let gs = fields_on (other s) rows in (
+          g.es,
+          g.far_is,
+          match_in_order gs (named qs) g.es far_apart g.far_fields
+              (a.into (content (fields_on s rows) g.ds) (content gs g.es) (like_by_name (fields_on s rows) p g.ds (subst (Matches p) g.near_is m)) g.each),
+        );
     onto = λ w h m.
         let h' = subst (λ t. has t (rec m.0) ≡ true) (type_is rows (other s)) (subst (λ z. has (type_on (other s) (form_rec rows)) z ≡ true) m.1 h) in
         let r = record_onto qs a m.0 h' m.2 in

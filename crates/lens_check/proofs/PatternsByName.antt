@@ -166,7 +166,7 @@ match_by_name fs (hold_pattern x y) es ds apart h a b like = let e = h.1 in cc
 
 -- ---- records and contents by name
 
-found_content : (fs : FieldTrees) (ds : DocTrees) (n : List ℕ) (t : TyTree) → has_fields fs ds ≡ true → lookup_type fs n ≡ Some t → (v : DocTree) × (content fs ds n ≡ Some v) × (has t v ≡ true)
+pub found_content : (fs : FieldTrees) (ds : DocTrees) (n : List ℕ) (t : TyTree) → has_fields fs ds ≡ true → lookup_type fs n ≡ Some t → (v : DocTree) × (content fs ds n ≡ Some v) × (has t v ≡ true)
 found_content no_fields ds n t h e = cc
 found_content (more_fields m u fs) no_docs n t h e = cc
 found_content (more_fields m u fs) (more_docs d ds) n t h e =

@@ -222,7 +222,7 @@ left_same fs its p = go (patterns_in_list (length (tags_of its)) p) (in_list (le
 same_pattern : (p q : PatternTree) → Some p ≡ Some q → p ≡ q
 same_pattern p q e = cc
 
-tag_has : (fs : FieldTrees) (n : List ℕ) (v : DocTree) (t : TyTree) → lookup_type fs n ≡ Some t → has (ty_alt fs) (alt n v) ≡ true → has t v ≡ true
+pub tag_has : (fs : FieldTrees) (n : List ℕ) (v : DocTree) (t : TyTree) → lookup_type fs n ≡ Some t → has (ty_alt fs) (alt n v) ≡ true → has t v ≡ true
 tag_has fs n v t e h = subst (λ (o : Option TyTree). elim o [ None ↦ false | Some u ↦ has u v ] ≡ true) e h
 
 pub has_tag : (fs : FieldTrees) (n : List ℕ) (v : DocTree) (t : TyTree) → lookup_type fs n ≡ Some t → has t v ≡ true → has (ty_alt fs) (alt n v) ≡ true
