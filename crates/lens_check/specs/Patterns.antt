@@ -1,10 +1,13 @@
 -- Patterns of documents: documents with holes. Which documents are in a pattern, and which patterns are of a type.
-use Rattle.std.specs.Prelude.{◌≡◌, IsTrue, ℕ, ◌+◌, ℤ, Bool, true, false, ◌&&◌, List, None, Some}
+use Rattle.std.specs.Prelude.{◌≡◌, IsTrue, ℕ, ◌+◌, ℤ, Bool, true, false, ◌&&◌, List, [], ◌∷◌, None, Some}
 use Rattle.texts.specs.Keys.{has_name}
 use Rattle.hold_shapes.specs.declared.shape.Shape.{Shape}
 use Rattle.doc_values.specs.Documents.{DocTree, unit, truth, int, text, pick, rec, alt, hold, DocTrees, no_docs, more_docs}
 use Rattle.doc_values.specs.Types.{TyTree, ty_unit, ty_bool, ty_int, ty_text, ty_enum, ty_rec, ty_alt, ty_list, ty_keyed, ty_ordered, FieldTrees, no_fields, more_fields}
 use Rattle.doc_values.specs.Typing.{has, lookup_type, is_list_of, is_keyed_of, is_tree_of}
+use Rattle.lens_check.specs.declared.pattern.Pattern.{Pattern, fold-Pattern}
+use Rattle.lens_check.specs.declared.pattern.Patterns.{Patterns, fold-Patterns}
+use Rattle.lens_check.specs.declared.pattern.Pattern.TheOpen.{Pattern-F, Patterns-F}
 
 -- a hole, or the outermost constructor of a document with patterns inside
 mutual
@@ -108,3 +111,36 @@ abbrev mutual
   pub patterns_of : DocTrees → PatternTrees
   patterns_of no_docs = no_patterns
   patterns_of (more_docs d ds) = more_patterns (pattern_of d) (patterns_of ds)
+
+-- ---- how contracts see a `Pattern`
+
+-- a list of patterns as trees, and back
+abbrev pub patterns_from : List PatternTree → PatternTrees
+patterns_from [] = no_patterns
+patterns_from (p ∷ ps) = more_patterns p (patterns_from ps)
+
+abbrev pub pattern_list : PatternTrees → List PatternTree
+pattern_list no_patterns = []
+pattern_list (more_patterns p ps) = p ∷ pattern_list ps
+
+-- one level of a `Pattern`, each pattern inside already seen as its tree
+abbrev pub pattern_step : Pattern-F PatternTree PatternTrees → PatternTree
+pattern_step Pattern-F.Hole = hole
+pattern_step Pattern-F.Unit = unit_pattern
+pattern_step (Pattern-F.Bool b) = truth_pattern b
+pattern_step (Pattern-F.Int n) = int_pattern n
+pattern_step (Pattern-F.Text s) = text_pattern s
+pattern_step (Pattern-F.Pick n) = pick_pattern n
+pattern_step (Pattern-F.Rec ps) = rec_pattern ps
+pattern_step (Pattern-F.Alt n p) = alt_pattern n p.value
+pattern_step (Pattern-F.Hold s ps) = hold_pattern s ps
+
+abbrev pub patterns_step : Patterns-F PatternTree PatternTrees → PatternTrees
+patterns_step ps = patterns_from ps.items
+
+-- the tree of a `Pattern`, and the trees of a `Patterns`
+abbrev pub pattern_tree : Pattern → PatternTree
+pattern_tree = fold-Pattern PatternTree PatternTrees pattern_step patterns_step
+
+abbrev pub patterns_tree : Patterns → PatternTrees
+patterns_tree = fold-Patterns PatternTree PatternTrees pattern_step patterns_step

@@ -7,3 +7,6 @@
 #![tactic(auto)]
 
 pub mod laws;
+mod pattern;
+
+pub use crate::pattern::{Pattern, Patterns};
