@@ -1,6 +1,7 @@
 mod Examples
 pub mod DealtPatterns
 pub mod ExactImages
+pub mod FitTests
 pub mod ImagesOfAlternatives
 pub mod ImagesOfCompositions
 pub mod ImagesOfContainers

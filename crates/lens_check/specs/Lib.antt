@@ -1,3 +1,4 @@
+pub mod FitTest
 pub mod Image
 pub mod ImageLaws
 pub mod PartImage
