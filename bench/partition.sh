@@ -11,7 +11,7 @@ set -eu
 here=$(cd "$(dirname "${BASH_SOURCE[0]}")/.." && pwd)
 [ -x "$here/crates/editlens/out/editlens" ] || { echo "run ./build first" >&2; exit 1; }
 
-exec python3 - "$here/editlens" "${1:-10000}" <<'PYTHON'
+exec python3 - "$here/crates/editlens/out/editlens" "${1:-10000}" <<'PYTHON'
 import json, os, random, subprocess, sys, tempfile, time
 
 PROGRAM, COUNT = sys.argv[1], int(sys.argv[2])
