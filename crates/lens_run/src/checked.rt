@@ -1,7 +1,13 @@
 //! A lens that can be run.
 
-ghost use Rattle.std.specs.Prelude.{◌≡◌};
+ghost use Rattle.std.specs.Prelude.{◌≡◌, Some, MatchResult};
+ghost use Rattle.edit_module.specs.Normal.{normal};
+ghost use Rattle.edit_module.specs.Views.{word_tree};
+ghost use Rattle.edit_module.specs.Words.{WordTree};
 ghost use Rattle.lens_forms.specs.Forms.{form_tree};
+ghost use Rattle.lens_core.specs.Complements.{comp_tree};
+ghost use Rattle.lens_core.specs.Translation.{translate, carried_tree, IsCarryFault};
+ghost use Rattle.equation_laws.specs.Alike.{AreAlike};
 ghost use Rattle.lens_run.specs.Ready.{IsReady};
 
 use crate::run::carry_word;
@@ -81,13 +87,23 @@ impl EditLens for Checked {
         missing(alloc, self.typed.form())
     }
 
+    /// Translates a word of a side, with a complement. Beside what every lens says of it, words that differ only by where
+    /// their primitives are joined are carried alike: to words that differ only so, with the same complement, or not at all.
+    #[tactic(auto, using(equation_laws::proofs::EveryForm::typed_keeps))]
     fn carry(
         &self,
         alloc: Global,
         side: Side,
         comp: &Comp,
         word: &Word,
-    ) -> Result<Carried, CarryFault> {
+    ) -> Result<Carried, CarryFault>
+        ensures translated { MatchResult result
+            (λ r. translate (form_tree self.now.typed) side (comp_tree comp.now) (word_tree word.now) ≡ Some (carried_tree r))
+            (IsCarryFault (translate (form_tree self.now.typed) side (comp_tree comp.now) (word_tree word.now))) }
+        ensures equal_words { (other : WordTree) → normal (word_tree word.now) ≡ normal other
+            → AreAlike (translate (form_tree self.now.typed) side (comp_tree comp.now) (word_tree word.now))
+            (translate (form_tree self.now.typed) side (comp_tree comp.now) other) }
+    {
         carry_word(alloc, self.typed.form(), side, comp, word)
     }
 }
