@@ -1,5 +1,7 @@
 pub mod AnswerLines
+pub mod Commands
 pub mod Ends
+pub mod Generated
 pub mod Lines
 pub mod Program
 pub mod Refused
@@ -8,4 +10,3 @@ pub mod Running
 pub mod Runs
 pub mod Status
 pub mod Views
-pub mod Words

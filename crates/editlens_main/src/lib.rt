@@ -7,6 +7,8 @@
 #![tactic(auto)]
 
 mod answers;
+mod commands;
+mod generated;
 mod journal;
 mod lines;
 mod program;
@@ -14,9 +16,8 @@ mod report;
 mod status;
 mod sure;
 mod top;
-mod words;
 
+pub use commands::Command;
 pub use status::Status;
 pub use sure::run_sure;
 pub use top::editlens;
-pub use words::Command;

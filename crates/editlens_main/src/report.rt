@@ -11,10 +11,10 @@ ghost use Rattle.editlens_main.specs.Runs.{JournalItem};
 
 use crate::Status;
 use crate::answers::state_lines;
+use crate::commands::Command;
 use crate::journal::{Progress, take_lines};
 use crate::lines::part_script;
 use crate::program::{Refused, read_lens};
-use crate::words::Command;
 use answer_text::{syntax_line, type_line, typing_line};
 use edit_session::Session;
 use lens_run::Checked;
