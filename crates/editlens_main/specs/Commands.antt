@@ -7,7 +7,7 @@ use Rattle.command_words.specs.declared.orders.Order.TheVariants as order
 use Rattle.editlens_main.specs.declared.commands.Command.{Command}
 use Rattle.editlens_main.specs.declared.commands.Command.TheVariants.{Run, Check}
 
--- what the words order
+-- the order that the words give
 abbrev pub order_named : List (String Global) → Option Order
 order_named words = order_of (map string_bytes words)
 

@@ -1,4 +1,4 @@
-// The commands that read a script, and the line that stands for all words that name no command.
+// The commands that read a script, and the usage line.
 
 /// The line that is written if the words name no command.
 pub const USAGE: &str = "usage: editlens run|check|init|apply|show|verify|pack|gen N SEED\n";
