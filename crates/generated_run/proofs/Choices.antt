@@ -24,8 +24,8 @@ use Rattle.generated_run.proofs.Counted.{stepped, counted_step}
 -- ---- choices
 
 either : (b : Bool) (x y : Choice) (k p o : ℕ) → (b ≡ true → IsPossible x k p o) → (b ≡ false → IsPossible y k p o) → IsPossible (cond b x y) k p o
-either true x y k p o yes no = yes refl
-either false x y k p o yes no = no refl
+either true x y k p o f g = f refl
+either false x y k p o f g = g refl
 
 not_zero : (n : ℕ) → nat_eq n 0 ≡ false → 0 < n
 not_zero n h = grind (arith, nat_tests)
@@ -88,3 +88,11 @@ taken form is c k p o seed t t' e w small possible h entry steps consistent =
       generated = a.next t' (subst R is consistent) made;
       counts = λ rest. counted_step k t t' (entry_of c) w rest s;
     }
+
+-- the rest of a journal after it
+pub counts_on : (c : Choice) (k p o s s' p' o' : ℕ) (t t' : TripleTree) → c ≡ choice (k + 1) p o (drawn_from s') → s' ≡ next_seed s
+    → p' ≡ texts_after c p → o' ≡ numbers_after c o → IsTaken c k p o s t t' → (rest : ℕ)
+    → counted k t (run_from t (entries (suc rest) (k + 1) s p o)) ≡ counted (k + 1) t' (run_from t' (entries rest (k + 1 + 1) s' p' o'))
+counts_on c k p o s s' p' o' t t' is_c is_s is_p is_o h rest =
+    let same : entries (suc rest) (k + 1) s p o ≡ entry_of c ∷ entries rest (k + 1 + 1) s' p' o' = rw (is_p, is_o, is_c, is_s) refl in
+    ap (λ (es : List (Side × WordTree)). counted k t (run_from t es)) same ∙ h.counts (entries rest (k + 1 + 1) s' p' o')

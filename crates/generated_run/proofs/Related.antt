@@ -157,7 +157,7 @@ has_items x _ y h = absurd h.1
 
 -- ---- documents that are lists of the same items
 
-list_again : (ds : List DocTree) → doc_list (docs_of ds) ≡ ds
+pub list_again : (ds : List DocTree) → doc_list (docs_of ds) ≡ ds
 list_again [] = refl
 list_again (d ∷ ds) = ap (λ z. d ∷ z) (list_again ds)
 
