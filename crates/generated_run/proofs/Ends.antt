@@ -12,12 +12,12 @@ use Rattle.generated_run.proofs.Related.{list_again}
 
 pub starts : IsGenerated 0 0 0 first_triple
 starts = record {
-    documents = record { items = []; left_is = refl; right_is = refl; are = record { all = refl; ints = tt } };
-    texts = refl;
-    numbers = refl;
-    few = omega arith;
-    light = omega arith;
-  }
+  documents = record { items = []; left_is = refl; right_is = refl; are = record { all = refl; ints = tt } };
+  texts = refl;
+  numbers = refl;
+  few = omega arith;
+  light = omega arith;
+}
 
 -- the right document has two lists
 pub has_lists : (k p o : ℕ) (t : TripleTree) → IsGenerated k p o t → HasLists t.right

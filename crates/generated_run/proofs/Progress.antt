@@ -26,19 +26,19 @@ begins count seed form t lens is =
       lens = lens;
       generated = starts;
       counts = λ rest e.
-      let same : rest ≡ count = omega arith in
-      subst (λ n. summary_of count seed ≡ counted 0 first_triple (run_from first_triple (entries n 1 seed 0 0))) (sym same)
-      (counted_none first_triple (run_from first_triple (entries count 1 seed 0 0)));
+          let same : rest ≡ count = omega arith in
+          subst (λ n. summary_of count seed ≡ counted 0 first_triple (run_from first_triple (entries n 1 seed 0 0))) (sym same)
+          (counted_none first_triple (run_from first_triple (entries count 1 seed 0 0)));
     })
 
 pub goes_on : (count seed k s p o s' p' o' : ℕ) (form form' : FormTree) (t t' : TripleTree) → IsAt count seed k s p o form t → form' ≡ form → IsGenerated (k + 1) p' o' t'
     → ((rest : ℕ) → counted k t (run_from t (entries (suc rest) (k + 1) s p o)) ≡ counted (k + 1) t' (run_from t' (entries rest (k + 1 + 1) s' p' o')))
     → IsAt count seed (k + 1) s' p' o' form' t'
 goes_on count seed k s p o s' p' o' form form' t t' h same generated step = record {
-    lens = same ∙ h.lens;
-    generated = generated;
-    counts = λ rest e. h.counts (suc rest) (omega arith) ∙ step rest;
-  }
+  lens = same ∙ h.lens;
+  generated = generated;
+  counts = λ rest e. h.counts (suc rest) (omega arith) ∙ step rest;
+}
 
 pub ends : (count seed s p o : ℕ) (form : FormTree) (t : TripleTree) → IsAt count seed count s p o form t
     → summary_of count seed ≡ Some (record { accepted = count; refused = 0; names = p; nums = o; sum = sum_of (nums_in t.right) })

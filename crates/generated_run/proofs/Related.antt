@@ -78,9 +78,10 @@ list_is : (s : Shape) (xs : DocTrees) → has (ty_list (ty_alt item_tags)) (hold
 list_is (ListOf r) xs h =
     let typed = split (is_list_of (ListOf r) (length (doc_list xs))) (has_each (ty_alt item_tags) xs) h in
     let long : r.count ≡ length (doc_list xs) = eqb-true r.count (length (doc_list xs)) typed.0 in
-    let back = docs_again xs in
-    (ap (λ k. hold (ListOf (record { count = k })) xs) long ∙ ap (λ z. hold (ListOf (record { count = length (doc_list xs) })) z) (sym back),
-      items_are xs typed.1)
+    let back = docs_again xs in (
+      ap (λ k. hold (ListOf (record { count = k })) xs) long ∙ ap (λ z. hold (ListOf (record { count = length (doc_list xs) })) z) (sym back),
+      items_are xs typed.1,
+    )
 list_is (KeyedOf ks) xs h = cc
 list_is (TreeOf ds) xs h = cc
 

@@ -121,12 +121,12 @@ refused_among (s ∷ steps) = (if is_refused s.1 then 1 else 0) + refused_among 
 -- the summary of the steps of a run from a triple on
 abbrev pub summarized : TripleTree → List (TripleTree × AnswerTree ⊥) → Summary
 summarized t steps = record {
-    accepted = accepted_among steps;
-    refused = refused_among steps;
-    names = length (names_in (last t steps).right);
-    nums = length (nums_in (last t steps).right);
-    sum = sum_of (nums_in (last t steps).right);
-  }
+  accepted = accepted_among steps;
+  refused = refused_among steps;
+  names = length (names_in (last t steps).right);
+  nums = length (nums_in (last t steps).right);
+  sum = sum_of (nums_in (last t steps).right);
+}
 
 -- an entry as an item of a journal, which has no line that is not an entry
 abbrev pub entry_item : Side × WordTree → Item ⊥

@@ -24,9 +24,9 @@ generated_form = form_then (form_part item_tags) (form_rec list_rows)
 -- the program that is spelled so
 abbrev pub program_tree : Term.ProgramTree
 program_tree = record {
-    definitions = [];
-    main = Term.then_of
+  definitions = [];
+  main = Term.then_of
       (Term.part_of (Term.more_fields (codes "p") (Term.text []) (Term.more_fields (codes "o") (Term.int (pos 0)) Term.no_fields)))
       (Term.rec_lens (Term.both (codes "o") (codes "nums") (Term.each_of (Term.id_of (Term.int (pos 0))))
       (Term.both (codes "p") (codes "names") (Term.each_of (Term.id_of (Term.text []))) Term.no_rows)));
-  }
+}

@@ -5,7 +5,6 @@ ghost use Rattle.edit_module.specs.Views.{primitive_tree, word_tree, entry_tree}
 ghost use Rattle.edit_module.specs.Words.{no_primitives, more_primitives, shape};
 ghost use Rattle.generated_run.specs.Journal.{choice, entry_of, in_numbers, next_seed, drawn_from};
 ghost use Rattle.generated_run.specs.Invariant.{AddsAtMost};
-
 ghost use Rattle.texts.specs.declared.side.Side.TheVariants.{Left};
 
 use crate::choice::Choice;
@@ -15,6 +14,7 @@ use hold_shapes::{Name, Place, ShapeEdit};
 use std::alloc::{AllocError, Global};
 
 const FACTOR: u64 = 6_364_136_223_846_793_005;
+
 const SUMMAND: u64 = 1_442_695_040_888_963_407;
 
 // 2 to the power of 33.
