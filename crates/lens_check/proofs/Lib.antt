@@ -1,0 +1,7 @@
+pub mod FitLoops
+pub mod FitTests
+pub mod Levels
+pub mod MatchLoops
+pub mod MatchTests
+pub mod TagNumbers
+pub mod WholePatterns

@@ -1,0 +1,2 @@
+pub mod FitTest
+pub mod MatchTest
