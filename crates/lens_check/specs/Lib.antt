@@ -1,2 +1,5 @@
 pub mod FitTest
+pub mod ImageParts
 pub mod MatchTest
+pub mod PartLists
+pub mod ReadyComplements

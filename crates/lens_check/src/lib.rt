@@ -5,6 +5,16 @@
 #![tactic(auto)]
 
 mod fit;
+mod image;
+mod image_arm;
+mod image_held;
+mod image_leaf;
+mod image_part;
+mod image_part_left;
+mod image_part_lists;
+mod image_part_right;
+mod image_part_tags;
+mod image_record;
 mod membership;
 mod whole;
 
