@@ -1,3 +1,5 @@
+mod Examples
+pub mod Decisions
 pub mod FitLoops
 pub mod FitTests
 pub mod Levels

@@ -1,13 +1,18 @@
-//! What deciding consistency rests on.
+//! Deciding consistency.
 //!
-//! [`conforms`] says whether a complement fits a form, [`matches`] whether a document is in a pattern, and [`pattern_of`]
-//! makes the pattern of a document, which has no holes.
+//! [`consistent`] says whether two documents and a complement are consistent. It goes by images: the image of a pattern
+//! through a lens is the pattern of all documents of the other side that are consistent with some document in the given
+//! one, and [`image`] makes it. [`conforms`] says whether a complement fits a form, [`matches`] whether a document is in a
+//! pattern, and [`pattern_of`] makes the pattern of a document.
 #![tactic(auto)]
 
+mod decision;
 mod fit;
+mod images;
 mod membership;
 mod whole;
 
+pub use crate::decision::{consistent, image};
 pub use crate::fit::conforms;
 pub use crate::membership::matches;
 pub use crate::whole::pattern_of;
