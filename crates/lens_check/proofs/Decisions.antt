@@ -60,3 +60,5 @@ in_image b l x c y q t a e m = (
 pub exact_image : (l : FormTree) (s : Side) (c : CompTree) (p : PatternTree) (o : Option PatternTree) → is_typed l ≡ true → Fits l c → is_of_type p (type_on s l) ≡ true
     → o ≡ image l s c p → IsExactImage l s c p o
 exact_image l s c p o t f h e = subst (λ z. IsExactImage l s c p z) (sym e) (images_are_exact l t s c p f h)
+
+pub ruleset decision_rules = (not_typed, whole_typed, no_image, in_image, exact_image)

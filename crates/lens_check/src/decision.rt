@@ -27,6 +27,7 @@ use texts::Side;
 /// of other types, and complements that do not fit, are not consistent.
 ///
 /// Fails only if memory runs out. Without partitions it takes time in proportion to the left document and the complement.
+#[tactic(auto, using(crate::proofs::Decisions::decision_rules))]
 pub fn consistent(
     alloc: Global,
     typed: &Typed,
@@ -37,6 +38,7 @@ pub fn consistent(
     ensures { IfOk result (λ b. IsTrue b
         ↔ IsConsistent (form_tree typed.now) (doc_tree left.now) (comp_tree comp.now) (doc_tree right.now)) }
 {
+    let _form = typed.form();
     if are_typed(typed, left, comp, right) {
         is_reached(alloc, typed, left, comp, right)
     } else {
@@ -53,6 +55,7 @@ fn are_typed(typed: &Typed, left: &Doc, comp: &Comp, right: &Doc) -> bool
 }
 
 // Whether the right document is in the image of the left one.
+#[tactic(auto, using(crate::proofs::Decisions::decision_rules))]
 fn is_reached(
     alloc: Global,
     typed: &Typed,
@@ -77,6 +80,7 @@ fn is_reached(
 /// The complement fits the form, and the pattern is of the type of its side.
 ///
 /// Fails only if memory runs out. Without partitions it takes time in proportion to the pattern and the complement.
+#[tactic(auto, using(crate::proofs::Decisions::decision_rules))]
 pub fn image(
     alloc: Global,
     typed: &Typed,
