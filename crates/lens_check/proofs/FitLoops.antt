@@ -4,7 +4,7 @@ use Rattle.std.specs.Prelude.{bytes_eq}
 use Rattle.std.proofs.lemmas.List.{drop_all}
 use Rattle.doc_values.specs.Types.{ty_tree}
 use Rattle.doc_values.specs.declared.ty.Ty.{Ty}
-use Rattle.lens_forms.specs.Forms.{FormTree, form_tree, RowTrees, no_rows, both, row_both, row_left, row_right, row_tree, form_rows_of, with_row, ArmTrees, more_arms, arm_tree, form_arms_of}
+use Rattle.lens_forms.specs.Forms.{form_tree, no_rows, row_left, row_right, row_tree, form_rows_of, with_row, arm_tree, form_arms_of}
 use Rattle.lens_forms.specs.Measures.{form_parts, arms_parts}
 use Rattle.lens_forms.specs.declared.form.Form.{Form}
 use Rattle.lens_forms.specs.declared.form.FormRow.{FormRow, the_lemmas as row_lemmas}

@@ -3,12 +3,11 @@ use Rattle.std.proofs.Common.{◌≡◌, ◌⊎◌, inl, inr, ℕ, Bool, true, f
 use Rattle.std.specs.Prelude.{◌↔◌, IsTrue, bytes_eq}
 use Rattle.std.proofs.lemmas.Slice.Eq.{bytes_eq-Decides}
 use Rattle.texts.proofs.Conjunction.{first, second, both as both_true}
-use Rattle.hold_shapes.specs.declared.shape.Shape.{Shape}
 use Rattle.doc_values.specs.Typing.{is_list_of, is_keyed_of, is_tree_of}
 use Rattle.lens_forms.specs.Forms.{FormTree, form_id, form_bij, form_disc, form_then, form_rec, form_alt, form_each, form_keyed, form_ordered, form_part, form_inv, RowTrees, no_rows, both, only_left, only_right, ArmTrees, no_arms, more_arms}
 use Rattle.lens_core.specs.Complements.{CompTree, nil, then_comp, rec_comp, alt_comp, hold_comp, tags_comp, CompTrees, no_comps, more_comps, comp_count, IsNil, AllFit, Fits, FitRows, FitsArm}
 use Rattle.lens_core.proofs.NameTests.{or_later}
-use Rattle.lens_check.specs.FitTest.{is_nil, all_pass, held_passes, fits, rows_fit, arm_fits}
+use Rattle.lens_check.specs.FitTest.{is_nil, all_pass, fits, rows_fit, arm_fits}
 
 nil_passes : (c : CompTree) → IsNil c → is_nil c ≡ true
 nil_passes nil h = refl

@@ -1,7 +1,6 @@
 -- The test of a document is true if and only if the document is in the pattern.
-use Rattle.std.proofs.Common.{◌≡◌, Bool, true, false, ◌&&◌, refl, sym, ap, subst}
+use Rattle.std.proofs.Common.{◌≡◌, Bool, true, false, refl, sym, ap, subst}
 use Rattle.std.specs.Prelude.{◌↔◌, IsTrue, bytes_eq}
-use Rattle.std.specs.Ordering.{int_eq}
 use Rattle.std.proofs.lemmas.Bool.Decides.{Decides-int_eq}
 use Rattle.std.proofs.lemmas.Slice.Eq.{bytes_eq-Decides}
 use Rattle.texts.proofs.Conjunction.{first, second, both}

@@ -1,5 +1,5 @@
 -- The tags of a partition: how many they are.
-use Rattle.std.proofs.Common.{◌≡◌, ℕ, ◌+◌, ◌≤◌, length, refl, arith}
+use Rattle.std.proofs.Common.{◌≡◌, ◌≤◌, length, refl, arith}
 use Rattle.doc_values.specs.Types.{FieldTrees, no_fields, more_fields, field_list}
 use Rattle.lens_forms.specs.Measures.{fields_parts}
 use Rattle.lens_core.specs.Tags.{tag_count}

@@ -1,5 +1,5 @@
 -- The patterns of a list of documents, one by one.
-use Rattle.std.proofs.Common.{◌≡◌, List, map, refl, ap}
+use Rattle.std.proofs.Common.{◌≡◌, map, refl, ap}
 use Rattle.doc_values.specs.Documents.{DocTrees, no_docs, more_docs, doc_list}
 use Rattle.image_laws.specs.Patterns.{more_patterns, patterns_from, pattern_of, patterns_of}
 

@@ -1,7 +1,7 @@
 use Rattle.std.proofs.Common.{◌≡◌, ◌≤◌, ◌<◌, true, false, ap, sym, ◌∙◌, arith}
 use Rattle.std.specs.Prelude.{nat_le}
 use Rattle.std.proofs.lemmas.Bool.{leb-true, leb-false}
-use Rattle.lens_forms.specs.Forms.{form_tree, rows_tree, row_tree}
+use Rattle.lens_forms.specs.Forms.{form_tree, row_tree}
 use Rattle.lens_forms.specs.Measures.{rows_parts, arms_parts}
 use Rattle.lens_core.specs.Complements.{nil, comp_tree, comps_tree, comp_count}
 use Rattle.lens_core.proofs.FormParts.{row_parts, row_smaller}
