@@ -1,1 +1,3 @@
+pub mod FitTest
+pub mod MatchTest
 pub mod PartLists
