@@ -20,14 +20,13 @@ use Rattle.editlens_main.specs.Program.{Refusal, form_of_program, lens_of}
 use Rattle.editlens_main.specs.Refused.{IsRefusal, IsKnown, IsSyntaxRefusal}
 use Rattle.editlens_main.specs.Runs.{JournalItem, JournalAnswer, first_of, run_of}
 use Rattle.editlens_main.specs.Report.{answer_line, answer_lines, state_lines, text_of_steps, ending, run_report, items_of, report_with, refusal_line, report}
-use Rattle.editlens_main.specs.Running.{items_among, Written, of_steps, after_progress, written, written_after}
+use Rattle.editlens_main.specs.Running.{items_among, Come, Written, of_steps, after_progress, written, written_after}
 use Rattle.editlens_main.specs.declared.program.Refused.{Refused}
 use Rattle.editlens_main.specs.declared.program.Refused.TheVariants.{Syntax, Typing, NoMemory}
 use Rattle.editlens_main.specs.declared.words.Command.{Command}
 use Rattle.editlens_main.specs.declared.words.Command.TheVariants.{Run, Check}
 use Rattle.editlens_main.specs.declared.status.Status.{Status}
 use Rattle.editlens_main.specs.declared.status.Status.TheVariants.{ProgramRefused}
-use Rattle.editlens_main.specs.declared.journal.Progress.{Progress}
 use Rattle.editlens_main.specs.declared.report.Report.{Report}
 use Rattle.std.specs.declared.alloc.AllocError.{AllocError}
 
@@ -59,49 +58,49 @@ same_written x y b c t u p q r = rw (p, q, r) refl
 
 module _ (left right : TyTree) (translation : Side → CompTree → WordTree → Option Translated) where
   -- one more item that was answered
-  after_item : (t t' : TripleTree) (old new : Progress) (a : JournalAnswer) (o : Option (List (TripleTree × JournalAnswer)))
-      → new.number ≡ old.number + 1 → new.refused ≡ (old.refused || is_refused a) → new.text.items ≡ old.text.items ++ answer_line new.number a
+  after_item : (t t' : TripleTree) (old new : Come) (a : JournalAnswer) (o : Option (List (TripleTree × JournalAnswer)))
+      → new.number ≡ old.number + 1 → new.refused ≡ (old.refused || is_refused a) → new.text ≡ old.text ++ answer_line new.number a
       → option_map (after_progress t old) (option_map (λ steps. (t', a) ∷ steps) o) ≡ option_map (after_progress t' new) o
   after_item t t' old new a None number refused text = refl
   after_item t t' old new a (Some steps) number refused text =
       same_written _ _ _ _ _ _
-      (ap (λ n. old.text.items ++ (answer_line n a ++ answer_lines (n + 1) steps)) (sym number)
-      ∙ sym (append_assoc old.text.items (answer_line new.number a) (answer_lines (new.number + 1) steps))
+      (ap (λ n. old.text ++ (answer_line n a ++ answer_lines (n + 1) steps)) (sym number)
+      ∙ sym (append_assoc old.text (answer_line new.number a) (answer_lines (new.number + 1) steps))
       ∙ ap (λ x. x ++ answer_lines (new.number + 1) steps) (sym text))
       (or_assoc old.refused (is_refused a) (any_refused steps) ∙ ap (λ b. b || any_refused steps) (sym refused))
       refl
 
-  pub item_step : (t t' : TripleTree) (old new : Progress) (item : JournalItem) (a : JournalAnswer) (items : List JournalItem)
+  pub item_step : (t t' : TripleTree) (old new : Come) (item : JournalItem) (a : JournalAnswer) (items : List JournalItem)
       → take_item left right translation t item ≡ Some (t', a) → new.number ≡ old.number + 1
-      → new.refused ≡ (old.refused || is_refused a) → new.text.items ≡ old.text.items ++ answer_line new.number a
+      → new.refused ≡ (old.refused || is_refused a) → new.text ≡ old.text ++ answer_line new.number a
       → written_after left right translation t old (item ∷ items) ≡ written_after left right translation t' new items
   item_step t t' old new item a items taken number refused text =
       ap (λ o. option_map (after_progress t old) (option_and_then (λ (s : TripleTree × JournalAnswer). option_map (λ steps. s ∷ steps) (run left right translation s.0 items)) o)) taken
       ∙ after_item t t' old new a (run left right translation t' items) number refused text
 
   -- a blank line is passed over, and any other is an item
-  pub blank_line_step : (t : TripleTree) (p : Progress) (line : List ℕ) (lines : List (List ℕ)) → is_blank (line_of line) ≡ true
+  pub blank_line_step : (t : TripleTree) (p : Come) (line : List ℕ) (lines : List (List ℕ)) → is_blank (line_of line) ≡ true
       → written_after left right translation t p (items_among (line ∷ lines)) ≡ written_after left right translation t p (items_among lines)
   blank_line_step t p line lines blank = ap (λ b. written_after left right translation t p (cond b (items_among lines) (entry_of_line (line_of line) ∷ items_among lines))) blank
 
-  pub line_step : (t t' : TripleTree) (old new : Progress) (line : List ℕ) (lines : List (List ℕ)) → is_blank (line_of line) ≡ false
+  pub line_step : (t t' : TripleTree) (old new : Come) (line : List ℕ) (lines : List (List ℕ)) → is_blank (line_of line) ≡ false
       → written_after left right translation t old (entry_of_line (line_of line) ∷ items_among lines) ≡ written_after left right translation t' new (items_among lines)
       → written_after left right translation t old (items_among (line ∷ lines)) ≡ written_after left right translation t' new (items_among lines)
   line_step t t' old new line lines full taken =
       ap (λ b. written_after left right translation t old (cond b (items_among lines) (entry_of_line (line_of line) ∷ items_among lines))) full ∙ taken
 
   -- with no items left, what was written is all
-  pub at_end : (t : TripleTree) (p : Progress) → written_after left right translation t p [] ≡ Some (p.text.items, p.refused, t)
-  at_end t p = same_written _ _ _ _ _ _ (append-nil p.text.items) (or_false p.refused) refl
+  pub at_end : (t : TripleTree) (p : Come) → written_after left right translation t p [] ≡ Some (p.text, p.refused, t)
+  at_end t p = same_written _ _ _ _ _ _ (append-nil p.text) (or_false p.refused) refl
 
   -- with nothing written
-  from_nothing : (t : TripleTree) (p : Progress) (o : Option (List (TripleTree × JournalAnswer))) → p.number ≡ 0 → p.refused ≡ false → p.text.items ≡ []
+  from_nothing : (t : TripleTree) (p : Come) (o : Option (List (TripleTree × JournalAnswer))) → p.number ≡ 0 → p.refused ≡ false → p.text ≡ []
       → option_map (after_progress t p) o ≡ option_map (of_steps t) o
   from_nothing t p None number refused text = refl
   from_nothing t p (Some steps) number refused text =
       same_written _ _ _ _ _ _ (ap₂ (λ x n. x ++ answer_lines (n + 1) steps) text number) (ap (λ b. b || any_refused steps) refused) refl
 
-  pub at_start : (t : TripleTree) (p : Progress) (items : List JournalItem) → p.number ≡ 0 → p.refused ≡ false → p.text.items ≡ []
+  pub at_start : (t : TripleTree) (p : Come) (items : List JournalItem) → p.number ≡ 0 → p.refused ≡ false → p.text ≡ []
       → written_after left right translation t p items ≡ written left right translation t items
   at_start t p items number refused text = from_nothing t p (run left right translation t items) number refused text
 

@@ -1,5 +1,5 @@
 -- How a call ends, and what holds then: the clauses of the top call.
-use Rattle.std.specs.Prelude.{◌≡◌, ◌⊎◌, ◌↔◌, ℕ, ◌+◌, ◌^◌, ◌<◌, ◌≤◌, List, [], length, Some, Ok, Err}
+use Rattle.std.specs.Prelude.{◌≡◌, ◌⊎◌, ℕ, ◌+◌, ◌++◌, ◌^◌, ◌<◌, ◌≤◌, List, [], length, true, Some, Ok, Err}
 use Rattle.std.specs.List.{All}
 use Rattle.std.specs.declared.option.Option.{Option}
 use Rattle.std.specs.Io.KnownBytes.{Appends, Consumes, IsAtEnd}
@@ -7,6 +7,7 @@ use Rattle.lens_io.specs.Causes.{Increased}
 use Rattle.lens_io.specs.Content.{IsFull, AppendsFront}
 use Rattle.lens_forms.specs.Forms.{FormTree}
 use Rattle.editlens_main.specs.Lines.{program_part}
+use Rattle.editlens_main.specs.Coming.{has_separator, answers_of, GoesOn, IsRefusedPart}
 use Rattle.editlens_main.specs.Program.{Refusal, lens_of}
 use Rattle.editlens_main.specs.Report.{items_of, report, refusal_line}
 use Rattle.edit_session.specs.Step.{TripleTree}
@@ -41,28 +42,49 @@ pub record Reports (command : Command) (left left' held held' : Option (List ℕ
   pub has_lens : lens_of (program_part bytes) ≡ Ok form
   pub in_step : StaysInStep command form (items_of bytes)
 
+-- the program part is known whole: the separator has come, or the source is at its end
+abbrev pub IsWhole : Option (List ℕ) → List ℕ → Type 0
+IsWhole left' bytes = (has_separator bytes ≡ true) ⊎ IsAtEnd left'
+
+-- what a call that the sink stopped would have written next: answers, a complete report, or the line of a refusal
+abbrev pub WouldWrite : Command → Option (List ℕ) → List ℕ → List ℕ → Type 0
+WouldWrite command left' bytes text =
+    GoesOn bytes × (answers_of command bytes ≡ Some text)
+    ⊎ IsAtEnd left' × ((status : Status) × (report command bytes ≡ Some (text, status)))
+    ⊎ IsWhole left' bytes × ((refusal : Refusal) × IsRefusedPart bytes refusal × (text ≡ refusal_line refusal))
+
 -- What holds after each status of a call that is not finished. The source gave these bytes.
--- ProgramRefused: the source was read to its end, the program part is refused, and the line of that refusal was written to the sink.
--- SourceFault, InputTooLong, NoMemory: nothing was written to the sink.
--- SinkFault: the source was read to its end, and a prefix of the report, and not all of it, was written to the sink.
+-- ProgramRefused: the program part is known whole and refused, and the line of that refusal was written to the sink.
+-- SourceFault, InputTooLong: the answers to all lines that an LF has ended were written, and no more.
+-- SinkFault: a prefix of what the call would have written, and not all of it, was written.
+-- NoMemory: the answers to all lines that an LF has ended in a prefix of these bytes were written, and no more.
 abbrev pub IsCleanStop : Command → Option (List ℕ) → Option (List ℕ) → Option (List ℕ) → Option (List ℕ) → List ℕ → Status → Type 0
 IsCleanStop command left left' held held' bytes Done = Unit {0}
 IsCleanStop command left left' held held' bytes SomeRefused = Unit {0}
 IsCleanStop command left left' held held' bytes Usage = ⊥
 IsCleanStop command left left' held held' bytes ProgramRefused =
-    IsAtEnd left' × ((refusal : Refusal) × (lens_of (program_part bytes) ≡ Err refusal) × Appends held held' (refusal_line refusal))
-IsCleanStop command left left' held held' bytes SourceFault = Appends held held' []
-IsCleanStop command left left' held held' bytes SinkFault =
-    IsAtEnd left' × ((text : List ℕ) × (status : Status) × (report command bytes ≡ Some (text, status)) × AppendsFront held held' text)
-IsCleanStop command left left' held held' bytes InputTooLong = Appends held held' []
-IsCleanStop command left left' held held' bytes NoMemory = Appends held held' []
+    IsWhole left' bytes × ((refusal : Refusal) × IsRefusedPart bytes refusal × Appends held held' (refusal_line refusal))
+IsCleanStop command left left' held held' bytes SourceFault = GoesOn bytes × ((text : List ℕ) × (answers_of command bytes ≡ Some text) × Appends held held' text)
+IsCleanStop command left left' held held' bytes SinkFault = (text : List ℕ) × WouldWrite command left' bytes text × AppendsFront held held' text
+IsCleanStop command left left' held held' bytes InputTooLong = GoesOn bytes × ((text : List ℕ) × (answers_of command bytes ≡ Some text) × Appends held held' text)
+IsCleanStop command left left' held held' bytes NoMemory =
+    (front : List ℕ) × (rest : List ℕ) × (bytes ≡ front ++ rest) × ((text : List ℕ) × (answers_of command front ≡ Some text) × Appends held held' text)
 
--- These bytes were taken, at most 2^30 + 1. The status is InputTooLong if and only if they are more than 2^30.
+-- a status that may come while the last piece is handled, before it is said that the input is too long
+abbrev pub ComesBefore : Status → Type 0
+ComesBefore ProgramRefused = Unit {0}
+ComesBefore SinkFault = Unit {0}
+ComesBefore NoMemory = Unit {0}
+ComesBefore status = ⊥
+
+-- These bytes were taken, at most 2^30 + 1. If they are more than 2^30, the status is InputTooLong, unless a refusal, the sink or
+-- memory stopped the call before; and it is InputTooLong only then.
 pub record Stops (command : Command) (left left' held held' : Option (List ℕ)) (status : Status) : Type 0 where
   pub bytes : List ℕ
   pub consumes : Consumes left left' bytes
   pub at_most : length bytes ≤ 2 ^ 30 + 1
-  pub too_long : (status ≡ InputTooLong) ↔ (2 ^ 30 < length bytes)
+  pub only_too_long : status ≡ InputTooLong → 2 ^ 30 < length bytes
+  pub if_too_long : 2 ^ 30 < length bytes → (status ≡ InputTooLong) ⊎ ComesBefore status
   pub clean : IsCleanStop command left left' held held' bytes status
 
 -- the sink failed, or took 0 bytes of a piece that is not empty; in the latter case a sink whose room is known is full

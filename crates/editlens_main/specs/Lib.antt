@@ -1,11 +1,15 @@
 pub mod AnswerLines
+pub mod Answered
+pub mod Coming
 pub mod Ends
 pub mod Lines
+pub mod Parts
 pub mod Program
 pub mod Refused
 pub mod Report
 pub mod Running
 pub mod Runs
 pub mod Status
+pub mod Taking
 pub mod Views
 pub mod Words

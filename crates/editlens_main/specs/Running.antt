@@ -19,6 +19,16 @@ abbrev pub items_among : List (List ℕ) → List JournalItem
 items_among [] = []
 items_among (line ∷ lines) = if is_blank (line_of line) then items_among lines else entry_of_line (line_of line) ∷ items_among lines
 
+-- How far a run has come: how many items it has read, whether it refused one, and all its answers.
+pub record Come : Type 0 where
+  pub number : ℕ
+  pub refused : Bool
+  pub text : List ℕ
+
+-- how far it has come, with the answers that were written before
+abbrev pub come : List ℕ → Progress → Come
+come given p = record { number = p.number; refused = p.refused; text = given ++ p.text.items }
+
 -- a text, whether an item was refused, and a triple
 abbrev pub Written : Type 0
 Written = List ℕ × Bool × TripleTree
@@ -28,13 +38,13 @@ abbrev pub of_steps : TripleTree → List (TripleTree × JournalAnswer) → Writ
 of_steps t steps = (answer_lines 1 steps, any_refused steps, last t steps)
 
 -- the same for steps that come after some progress
-abbrev pub after_progress : TripleTree → Progress → List (TripleTree × JournalAnswer) → Written
-after_progress t p steps = (p.text.items ++ answer_lines (p.number + 1) steps, p.refused || any_refused steps, last t steps)
+abbrev pub after_progress : TripleTree → Come → List (TripleTree × JournalAnswer) → Written
+after_progress t p steps = (p.text ++ answer_lines (p.number + 1) steps, p.refused || any_refused steps, last t steps)
 
 -- what a run over these items comes to, for a lens of these types and this translation
 abbrev pub written : TyTree → TyTree → (Side → CompTree → WordTree → Option Translated) → TripleTree → List JournalItem → Option Written
 written left right translation t items = option_map (of_steps t) (run left right translation t items)
 
 -- what it comes to with the progress before, and the items that are left
-abbrev pub written_after : TyTree → TyTree → (Side → CompTree → WordTree → Option Translated) → TripleTree → Progress → List JournalItem → Option Written
+abbrev pub written_after : TyTree → TyTree → (Side → CompTree → WordTree → Option Translated) → TripleTree → Come → List JournalItem → Option Written
 written_after left right translation t p items = option_map (after_progress t p) (run left right translation t items)

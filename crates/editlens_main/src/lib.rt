@@ -7,10 +7,11 @@
 #![tactic(auto)]
 
 mod answers;
+mod input;
 mod journal;
-mod lines;
 mod program;
 mod report;
+mod script;
 mod status;
 mod sure;
 mod top;

@@ -11,10 +11,9 @@ ghost use Rattle.editlens_main.specs.Runs.{JournalItem};
 
 use crate::Status;
 use crate::answers::state_lines;
-use crate::journal::{Progress, take_lines};
-use crate::lines::part_script;
-use crate::program::{Refused, read_lens};
-use crate::words::Command;
+use crate::input::Input;
+use crate::journal::{Progress, take_line};
+use crate::program::Refused;
 use answer_text::{syntax_line, type_line, typing_line};
 use edit_session::Session;
 use lens_run::Checked;
@@ -29,42 +28,23 @@ pub struct Report {
     pub status: Status,
 }
 
-/// The command's report of an input. The only error is running out of memory.
-pub fn make_report(alloc: Global, command: Command, bytes: &[u8]) -> Result<Report, AllocError>
-    ensures { IfOk result (λ r. report command bytes.now ≡ Some (r.text.items, r.status)) }
-{
-    let script = part_script(bytes);
-    match read_lens(alloc, script.program) {
-        Ok(lens) => lens_report(alloc, command, lens, script.journal),
-        Err(refused) => {
-            let report = refusal_report(alloc, &refused);
-            drop(refused);
-            report
-        }
-    }
-}
-
-// The report if there is a lens.
-fn lens_report(
+/// The report of a script whose program part is accepted and whose input is at its end, for `run`: the answer to the last
+/// line, which no LF ends, and the state lines. The only error is running out of memory.
+pub fn last_report(
     alloc: Global,
-    command: Command,
-    lens: Typed,
-    journal: &[u8],
-) -> Result<Report, AllocError>
-    ensures { IfOk result (λ r. report_with command (Ok (form_tree lens)) (items_among (map up_to_line_end (cut journal.now))) ≡ Some (r.text.items, r.status)) }
-{
-    match command {
-        Command::Run => run_journal(alloc, lens, journal),
-        Command::Check => {
-            let report = type_report(alloc, &lens);
-            drop(lens);
-            report
-        }
-    }
+    session: &mut Session<Checked>,
+    progress: Progress,
+    input: Input,
+) -> Result<Report, AllocError> {
+    let progress = match input.last() {
+        Some(line) => take_line(alloc, session, progress, &line)?,
+        None => progress,
+    };
+    report_of_state(alloc, session, progress)
 }
 
-// The two types of a lens.
-fn type_report(alloc: Global, lens: &Typed) -> Result<Report, AllocError>
+/// The two types of a lens. The only error is running out of memory.
+pub fn type_report(alloc: Global, lens: &Typed) -> Result<Report, AllocError>
     ensures { IfOk result (λ r. (r.text.items ≡ type_lines (form_tree lens.now)) × (r.status ≡ Status.Done)) }
 {
     let left = type_line(alloc, Side::Left, lens.left())?;
@@ -77,8 +57,8 @@ fn type_report(alloc: Global, lens: &Typed) -> Result<Report, AllocError>
     })
 }
 
-// The report if the program part is refused. Running out of memory is not a refusal.
-fn refusal_report(alloc: Global, refused: &Refused) -> Result<Report, AllocError>
+/// The report if the program part is refused. Running out of memory is not a refusal, and the only error.
+pub fn refusal_report(alloc: Global, refused: &Refused) -> Result<Report, AllocError>
     requires { IsKnown refused.now }
     ensures { IfOk result (λ r. (outcome : Result FormTree Refusal) (command : Command) (items : List JournalItem) → IsRefusal outcome refused.now
         → report_with command outcome items ≡ Some (r.text.items, r.status)) }
@@ -101,20 +81,10 @@ fn refused_with(line: Bytes) -> Report
     }
 }
 
-// The report of the items among the lines of a journal.
-fn run_journal(alloc: Global, lens: Typed, journal: &[u8]) -> Result<Report, AllocError>
-    ensures { IfOk result (λ r. run_report (form_tree lens) (items_among (map up_to_line_end (cut journal.now))) ≡ Some (r.text.items, r.status)) }
-{
-    let mut session = Session::start(alloc, Checked::new(lens))?;
-    let progress = take_lines(alloc, &mut session, journal)?;
-    let report = report_of_state(alloc, &session, progress);
-    drop(session);
-    report
-}
-
-// The report of a run that has written all its answers, with the state lines of its session.
+/// The report of a run that is at its end: the answers that are not written yet, and the state lines of its session. The
+/// only error is running out of memory.
 #[tactic(auto, using(crate::proofs::RunInStep::in_step_fits))]
-fn report_of_state(
+pub fn report_of_state(
     alloc: Global,
     session: &Session<Checked>,
     progress: Progress,

@@ -7,18 +7,23 @@ ghost use Rattle.editlens_main.specs.Words.{command_of};
 ghost use Rattle.editlens_main.specs.declared.words.Command.TheVariants.{Run, Check};
 
 use crate::Status;
-use crate::report::make_report;
+use crate::input::{Input, piece_buffer};
+use crate::journal::{Progress, answer_pieces, stopped_by};
+use crate::program::Refused;
+use crate::report::{Report, last_report, refusal_report, report_of_state, type_report};
+use crate::script::{ProgramText, is_separator, read_head};
 use crate::words::{Command, USAGE, read_command};
-use lens_io::{Sink, Source, TakeFault, give_all, take_all};
-use std::alloc::Global;
-
-// The most bytes of an input. One more is asked for, which shows that there are too many.
-const MOST: u64 = 1 << 30;
+use edit_session::Session;
+use lens_io::{Sink, Source, TakeFault, give_all};
+use lens_run::Checked;
+use lens_types::Typed;
+use std::alloc::{AllocError, Global};
 
 /// Does what the program's words say, with its input and its output.
 ///
-/// For the words `NAME run` and `NAME check` the source is read to its end, and the report of what was read is written to
-/// the sink. docs/FORMATS.md says what a script is, and docs/MEANING.md what its report says. For all other words the usage
+/// For the words `NAME run` and `NAME check` the source is read in pieces, and the report of what was read is written to the
+/// sink. The answers to the lines of a piece are written before the next piece is asked for, and a program part is refused as
+/// soon as it is known whole. docs/FORMATS.md says what a script is, and docs/MEANING.md what its report says. For all other words the usage
 /// line is written. The status says how the call ended, and the clauses say what holds then:
 ///
 /// - `run_reports`: after `Done` and `SomeRefused` the complete report of the input was written, and every triple of the run
@@ -69,7 +74,7 @@ pub fn editlens<S: Source, K: Sink>(
     run(alloc, command, source, sink)
 }
 
-// Reads the complete input, and writes the report of it.
+// Reads the input in pieces, and writes the answers to each piece before it asks for the next.
 fn run<S: Source, K: Sink>(alloc: Global, command: Command, source: &mut S, sink: &mut K) -> Status
     ensures stops { Stops command (S.left source.old) (S.left source.new) (K.held sink.old) (K.held sink.new) result }
     ensures reports { IsFinished result → Reports command (S.left source.old) (S.left source.new) (K.held sink.old) (K.held sink.new) result }
@@ -80,13 +85,117 @@ fn run<S: Source, K: Sink>(alloc: Global, command: Command, source: &mut S, sink
         → (SinkFailed K.faults K.empty_takes K.room K.held sink.old sink.new → ⊥)
         → IsComplete command bytes result) }
 {
-    let bytes = match take_all(alloc, source, MOST) {
-        Ok(bytes) => bytes,
-        Err(TakeFault::SourceFault) => return Status::SourceFault,
-        Err(TakeFault::TooLong) => return Status::InputTooLong,
-        Err(TakeFault::NoMemory) => return Status::NoMemory,
+    let Ok(mut piece) = piece_buffer(alloc) else {
+        return Status::NoMemory;
     };
-    let Ok(report) = make_report(alloc, command, bytes.as_slice()) else {
+    let mut input = Input::new(alloc);
+    let head = match read_head(alloc, source, &mut piece, &mut input) {
+        Ok(head) => head,
+        Err(fault) => return stopped_by(fault),
+    };
+    if head.at_end {
+        return run_alone(alloc, command, head.program, input, sink);
+    }
+    match head.program.lens(alloc) {
+        Ok(lens) => run_lens(alloc, command, lens, input, source, &mut piece, sink),
+        Err(refused) => refuse(alloc, &refused, sink),
+    }
+}
+
+// A script of which no LF has ended a separator: the last line is the separator, or it goes to the program part.
+fn run_alone<K: Sink>(
+    alloc: Global,
+    command: Command,
+    program: ProgramText,
+    input: Input,
+    sink: &mut K,
+) -> Status {
+    let mut program = program;
+    if let Some(line) = input.last() {
+        if !is_separator(&line) && program.add(&line, &[]).is_err() {
+            return Status::NoMemory;
+        }
+    }
+    match program.lens(alloc) {
+        Ok(lens) => match command {
+            Command::Run => run_empty(alloc, lens, sink),
+            Command::Check => give_report(type_report(alloc, &lens), sink),
+        },
+        Err(refused) => refuse(alloc, &refused, sink),
+    }
+}
+
+// A script whose program part is accepted, behind its separator.
+fn run_lens<S: Source, K: Sink>(
+    alloc: Global,
+    command: Command,
+    lens: Typed,
+    input: Input,
+    source: &mut S,
+    piece: &mut [u8],
+    sink: &mut K,
+) -> Status {
+    match command {
+        Command::Run => run_journal(alloc, lens, input, source, piece, sink),
+        Command::Check => match read_rest(input, source, piece) {
+            Ok(()) => give_report(type_report(alloc, &lens), sink),
+            Err(fault) => stopped_by(fault),
+        },
+    }
+}
+
+// Runs a journal as it comes.
+fn run_journal<S: Source, K: Sink>(
+    alloc: Global,
+    lens: Typed,
+    input: Input,
+    source: &mut S,
+    piece: &mut [u8],
+    sink: &mut K,
+) -> Status {
+    let mut input = input;
+    let Ok(mut session) = Session::start(alloc, Checked::new(lens)) else {
+        return Status::NoMemory;
+    };
+    match answer_pieces(alloc, &mut session, &mut input, source, piece, sink) {
+        Ok(progress) => give_report(last_report(alloc, &mut session, progress, input), sink),
+        Err(status) => status,
+    }
+}
+
+// Runs an empty journal.
+fn run_empty<K: Sink>(alloc: Global, lens: Typed, sink: &mut K) -> Status {
+    let Ok(session) = Session::start(alloc, Checked::new(lens)) else {
+        return Status::NoMemory;
+    };
+    give_report(report_of_state(alloc, &session, Progress::new(alloc)), sink)
+}
+
+// Reads an input to its end. Its bytes are not looked at.
+fn read_rest<S: Source>(
+    input: Input,
+    source: &mut S,
+    piece: &mut [u8],
+) -> Result<(), TakeFault> {
+    let mut input = input;
+    let mut more = true;
+    'pieces: while more {
+        more = input.skip_piece(source, piece)?;
+    }
+    Ok(())
+}
+
+// Writes the line of a refusal.
+fn refuse<K: Sink>(alloc: Global, refused: &Refused, sink: &mut K) -> Status {
+    match refused {
+        Refused::NoMemory => Status::NoMemory,
+        _ => give_report(refusal_report(alloc, refused), sink),
+    }
+}
+
+// Writes a report, and ends with its status.
+fn give_report<K: Sink>(report: Result<Report, AllocError>, sink: &mut K) -> Status {
+    let Ok(report) = report else {
         return Status::NoMemory;
     };
     match give_all(sink, &report.text) {
