@@ -10,7 +10,7 @@ use std::io::{self, ErrorKind};
 use std::process::ExitCode;
 
 fn main(rt: HostRuntime) -> ExitCode {
-    let Ok(words) = read_words(&rt) else {
+    let Ok(words) = given_words(&rt) else {
         return ExitCode::from(Status::NoMemory.code());
     };
     let mut source = RealSource::new(rt.stdin());
@@ -21,7 +21,7 @@ fn main(rt: HostRuntime) -> ExitCode {
 
 // The words of the command line, the program's name first. Words that are not text are given as no words, which name no
 // command.
-fn read_words(rt: &HostRuntime) -> Result<Vec<String>, AllocError> {
+fn given_words(rt: &HostRuntime) -> Result<Vec<String>, AllocError> {
     match env::args(rt) {
         Ok(words) => words.collect(rt.alloc()),
         Err(fault) if fault.kind() == ErrorKind::OutOfMemory => Err(AllocError),

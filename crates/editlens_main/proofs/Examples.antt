@@ -15,6 +15,7 @@ use Rattle.std.specs.Fmt.{digits}
 use Rattle.serde_json.proofs.OnLiterals.{serde_json_on_literals}
 use Rattle.edit_journal.specs.declared.fault.EntryFault.TheVariants.{NotAnEdit}
 use Rattle.edit_journal.specs.declared.line.Line.TheVariants.{Text}
+use Rattle.editlens_main.specs.Generated.{summary_lines}
 use Rattle.editlens_main.specs.Lines.{cut, is_separator, program_part, journal}
 use Rattle.edit_session.specs.Step.{TripleTree, step}
 use Rattle.edit_session.specs.Run.{carried, no_apply, no_entry}
@@ -84,3 +85,7 @@ line_of_a_fault = refl
 start_lines : state_lines ab (first_of ab) ≡ codes "left {\"a\":0}" ++ 10 ∷ codes "right {\"b\":0}" ++ 10 ∷ codes "complement {\"rec\":[null]}" ++ 10 ∷ []
 unfolding digits serde_json_on_literals
 start_lines = refl
+
+lines_of_a_summary : summary_lines (record { accepted = 12; refused = 0; names = 7; nums = 5; sum = negsuc 2 }) ≡ codes "accepted 12\nrefused 0\nnames 7\nnums 5\nsum -3\n"
+unfolding digits
+lines_of_a_summary = refl

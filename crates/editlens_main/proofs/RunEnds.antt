@@ -18,8 +18,8 @@ use Rattle.editlens_main.specs.Runs.{JournalItem, JournalAnswer, run_of}
 use Rattle.editlens_main.specs.Ends.{IsFinished, StaysInStep, Reports, IsCleanStop, Stops, IsComplete}
 use Rattle.editlens_main.proofs.AcceptedForms.{accepted_typed}
 use Rattle.editlens_main.proofs.RunInStep.{triples_in_step}
-use Rattle.editlens_main.specs.declared.words.Command.{Command}
-use Rattle.editlens_main.specs.declared.words.Command.TheVariants.{Run, Check}
+use Rattle.editlens_main.specs.declared.commands.Command.{Command}
+use Rattle.editlens_main.specs.declared.commands.Command.TheVariants.{Run, Check}
 use Rattle.editlens_main.specs.declared.status.Status.{Status}
 use Rattle.editlens_main.specs.declared.status.Status.TheVariants.{Done, SomeRefused, Usage, ProgramRefused, SourceFault, SinkFault, InputTooLong, NoMemory}
 
@@ -192,12 +192,6 @@ by_room (inr p) = p.1
 pub complete_sink : (left : Option (List ℕ)) (A B : Type 0) (D : List ℕ → Type 0) → B → IfSome left (λ bytes. length bytes ≤ 2 ^ 30 → (A → ⊥) → (B → ⊥) → D bytes)
 complete_sink None A B D b = tt
 complete_sink (Some bytes) A B D b = λ few a no. absurd (no b)
-
--- what is complete for the command that was named is so for the one that is wanted
-pub complete_for : (left : Option (List ℕ)) (A B : Type 0) (status : Status) (command wanted : Command) → Some command ≡ Some wanted
-    → IfSome left (λ bytes. length bytes ≤ 2 ^ 30 → (A → ⊥) → (B → ⊥) → IsComplete command bytes status) → IfSome left (λ bytes. length bytes ≤ 2 ^ 30 → (A → ⊥) → (B → ⊥) → IsComplete wanted bytes status)
-complete_for left A B status command wanted e h =
-    let same : command ≡ wanted = cc in subst (λ k. IfSome left (λ bytes. length bytes ≤ 2 ^ 30 → (A → ⊥) → (B → ⊥) → IsComplete k bytes status)) same h
 
 pub reports_for : (left left' held held' : Option (List ℕ)) (status : Status) (o : Option Command) (command : Command) → o ≡ Some command
     → (o ≡ Some Run → IsFinished status → Reports Run left left' held held' status) → (o ≡ Some Check → IsFinished status → Reports Check left left' held held' status)

@@ -23,8 +23,8 @@ use Rattle.editlens_main.specs.Report.{answer_line, answer_lines, state_lines, t
 use Rattle.editlens_main.specs.Running.{items_among, Come, Written, of_steps, after_progress, written, written_after}
 use Rattle.editlens_main.specs.declared.program.Refused.{Refused}
 use Rattle.editlens_main.specs.declared.program.Refused.TheVariants.{Syntax, Typing, NoMemory}
-use Rattle.editlens_main.specs.declared.words.Command.{Command}
-use Rattle.editlens_main.specs.declared.words.Command.TheVariants.{Run, Check}
+use Rattle.editlens_main.specs.declared.commands.Command.{Command}
+use Rattle.editlens_main.specs.declared.commands.Command.TheVariants.{Run, Check}
 use Rattle.editlens_main.specs.declared.status.Status.{Status}
 use Rattle.editlens_main.specs.declared.status.Status.TheVariants.{ProgramRefused}
 use Rattle.editlens_main.specs.declared.report.Report.{Report}

@@ -12,9 +12,9 @@ use Rattle.editlens_main.specs.Program.{Refusal, lens_of}
 use Rattle.editlens_main.specs.Report.{items_of, report, refusal_line}
 use Rattle.edit_session.specs.Step.{TripleTree}
 use Rattle.editlens_main.specs.Runs.{JournalItem, IsInStepFor, triples_of}
-use Rattle.editlens_main.specs.Words.{usage_line}
-use Rattle.editlens_main.specs.declared.words.Command.{Command}
-use Rattle.editlens_main.specs.declared.words.Command.TheVariants.{Run, Check}
+use Rattle.editlens_main.specs.Commands.{usage_line}
+use Rattle.editlens_main.specs.declared.commands.Command.{Command}
+use Rattle.editlens_main.specs.declared.commands.Command.TheVariants.{Run, Check}
 use Rattle.editlens_main.specs.declared.status.Status.{Status}
 use Rattle.editlens_main.specs.declared.status.Status.TheVariants.{Done, SomeRefused, Usage, ProgramRefused, SourceFault, SinkFault, InputTooLong, NoMemory}
 
@@ -91,9 +91,12 @@ pub record Stops (command : Command) (left left' held held' : Option (List ℕ))
 abbrev pub SinkFailed : {K : Type 0} (faults empty_takes : K → ℕ) (room : K → Option ℕ) (held : K → Option (List ℕ)) → K → K → Type 0
 SinkFailed faults empty_takes room held old new = Increased (faults old) (faults new) ⊎ Increased (empty_takes old) (empty_takes new) × IsFull (room new) (held new)
 
--- the usage line was written to the sink, or a prefix of it and the sink failed
+-- the usage line was written to the sink, or a prefix of it and the sink failed; or memory ran out, and nothing was written
 abbrev pub GivesUsage : Option (List ℕ) → Option (List ℕ) → Status → Type 0
-GivesUsage held held' status = (status ≡ Usage) × Appends held held' usage_line ⊎ (status ≡ SinkFault) × AppendsFront held held' usage_line
+GivesUsage held held' status =
+    (status ≡ Usage) × Appends held held' usage_line
+    ⊎ (status ≡ SinkFault) × AppendsFront held held' usage_line
+    ⊎ (status ≡ NoMemory) × Appends held held' []
 
 -- A command over these bytes came to its end if the program part is accepted, and refused it if it is refused; or memory ran out.
 abbrev pub IsComplete : Command → List ℕ → Status → Type 0

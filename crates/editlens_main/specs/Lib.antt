@@ -1,7 +1,9 @@
 pub mod AnswerLines
 pub mod Answered
 pub mod Coming
+pub mod Commands
 pub mod Ends
+pub mod Generated
 pub mod Lines
 pub mod Parts
 pub mod Program
@@ -12,4 +14,3 @@ pub mod Runs
 pub mod Status
 pub mod Taking
 pub mod Views
-pub mod Words

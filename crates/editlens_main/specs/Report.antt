@@ -11,8 +11,8 @@ use Rattle.answer_text.specs.Lines.{ok_line, no_apply_line, fault_line, syntax_l
 use Rattle.editlens_main.specs.Lines.{program_part, journal}
 use Rattle.editlens_main.specs.Program.{Refusal, syntax, typing, lens_of}
 use Rattle.editlens_main.specs.Runs.{JournalItem, JournalAnswer, first_of, run_of}
-use Rattle.editlens_main.specs.declared.words.Command.{Command}
-use Rattle.editlens_main.specs.declared.words.Command.TheVariants.{Run, Check}
+use Rattle.editlens_main.specs.declared.commands.Command.{Command}
+use Rattle.editlens_main.specs.declared.commands.Command.TheVariants.{Run, Check}
 use Rattle.editlens_main.specs.declared.status.Status.{Status}
 use Rattle.editlens_main.specs.declared.status.Status.TheVariants.{Done, SomeRefused, ProgramRefused}
 

@@ -7,6 +7,8 @@
 #![tactic(auto)]
 
 mod answers;
+mod commands;
+mod generated;
 mod input;
 mod journal;
 mod program;
@@ -15,9 +17,8 @@ mod script;
 mod status;
 mod sure;
 mod top;
-mod words;
 
+pub use commands::Command;
 pub use status::Status;
 pub use sure::run_sure;
 pub use top::editlens;
-pub use words::Command;

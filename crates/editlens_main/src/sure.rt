@@ -1,9 +1,10 @@
 //! The top call over devices that do not fail.
-ghost use Rattle.std.specs.Prelude.{◌≡◌, ◌⊎◌, ◌^◌, ◌≤◌, Some, length};
+ghost use Rattle.std.specs.Prelude.{◌≡◌, ◌⊎◌, ◌^◌, ◌≤◌, ℕ, Some, length};
+ghost use Rattle.command_words.specs.declared.orders.Order.TheVariants.{Gen};
 ghost use Rattle.editlens_main.specs.Ends.{IsFinished, Reports, IsComplete};
-ghost use Rattle.editlens_main.specs.Words.{command_of};
-ghost use Rattle.editlens_main.specs.declared.words.Command.{Command};
-ghost use Rattle.editlens_main.specs.declared.words.Command.TheVariants.{Run, Check};
+ghost use Rattle.editlens_main.specs.Commands.{command_of, order_named};
+ghost use Rattle.editlens_main.specs.declared.commands.Command.{Command};
+ghost use Rattle.editlens_main.specs.declared.commands.Command.TheVariants.{Run, Check};
 
 use crate::{Status, editlens};
 use lens_io::{SureSink, SureSource};
@@ -15,6 +16,7 @@ use std::alloc::Global;
 ///   `ProgramRefused` if it is refused. It is `NoMemory` instead if memory ran out, and `SinkFault` only if the sink's room
 ///   is full.
 /// - `run_reports`, `check_types`: after `Done` and `SomeRefused` the sink holds what [`editlens`] says.
+/// - `gen_sure`: `gen` ends with `Done`, or with `NoMemory` or `SinkFault` as above.
 pub fn run_sure(
     alloc: Global,
     words: &[String],
@@ -28,6 +30,8 @@ pub fn run_sure(
         → Reports Run (Some source.old) (Some source.new) (Some sink.old.held) (Some sink.new.held) result }
     ensures check_types { command_of words.now ≡ Some Check → IsFinished result
         → Reports Check (Some source.old) (Some source.new) (Some sink.old.held) (Some sink.new.held) result }
+    ensures gen_sure { (count seed : ℕ) → order_named words.now ≡ Some (Gen count seed) → (result ≡ Status.Done) ⊎ (result ≡ Status.NoMemory)
+        ⊎ ((result ≡ Status.SinkFault) × (length sink.new.held ≡ sink.new.room)) }
 {
     editlens(alloc, words, source, sink)
 }

@@ -1,18 +1,22 @@
 //! The top call.
-ghost use Rattle.std.specs.Prelude.{◌≡◌, ◌⊎◌, ◌^◌, ◌<◌, ◌≤◌, IfSome, Some, None, length};
+ghost use Rattle.std.specs.Prelude.{◌≡◌, ◌⊎◌, ◌^◌, ◌<◌, ◌≤◌, ℕ, IfSome, Some, None, length};
+ghost use Rattle.command_words.specs.declared.orders.Order.TheVariants.{Gen};
 ghost use Rattle.lens_io.specs.Causes.{Increased};
 ghost use Rattle.lens_io.specs.Content.{IsFull};
+ghost use Rattle.editlens_main.specs.Commands.{command_of, order_named};
 ghost use Rattle.editlens_main.specs.Ends.{IsFinished, Reports, Stops, SinkFailed, GivesUsage, IsComplete};
-ghost use Rattle.editlens_main.specs.Words.{command_of};
-ghost use Rattle.editlens_main.specs.declared.words.Command.TheVariants.{Run, Check};
+ghost use Rattle.editlens_main.specs.Generated.{WritesSummary};
+ghost use Rattle.editlens_main.specs.declared.commands.Command.TheVariants.{Run, Check};
 
 use crate::Status;
+use crate::commands::{Command, USAGE};
+use crate::generated::run_generated;
 use crate::input::{Input, piece_buffer};
 use crate::journal::{Progress, answer_pieces, stopped_by};
 use crate::program::Refused;
 use crate::report::{Report, last_report, refusal_report, report_of_state, type_report};
 use crate::script::{ProgramText, is_separator, read_head};
-use crate::words::{Command, USAGE, read_command};
+use command_words::{Order, WordsFault, read_words};
 use edit_session::Session;
 use lens_io::{Sink, Source, TakeFault, give_all};
 use lens_run::Checked;
@@ -23,18 +27,23 @@ use std::alloc::{AllocError, Global};
 ///
 /// For the words `NAME run` and `NAME check` the source is read in pieces, and the report of what was read is written to the
 /// sink. The answers to the lines of a piece are written before the next piece is asked for, and a program part is refused as
-/// soon as it is known whole. docs/FORMATS.md says what a script is, and docs/MEANING.md what its report says. For all other words the usage
-/// line is written. The status says how the call ended, and the clauses say what holds then:
+/// soon as it is known whole. For `NAME gen N SEED` the summary of a generated run is written, and for all other words the
+/// usage line. docs/FORMATS.md says what the words and a script are, and docs/MEANING.md what a report says. The status says
+/// how the call ended, and the clauses say what holds then:
 ///
 /// - `run_reports`: after `Done` and `SomeRefused` the complete report of the input was written, and every triple of the run
 ///   is in the lens's consistency relation.
 /// - `check_types`: after `Done` the two types of the lens of the program part were written.
 /// - `stops_are_clean`: what was taken from the source and written to the sink for every other status, and that
 ///   `ProgramRefused` comes only if the program part is refused and `InputTooLong` if and only if the input is too long.
-/// - `usage`, `no_usage`: the words name no command if and only if the status is `Usage`, or `SinkFault` at the usage line.
-///   The source is then left as it was.
+/// - `gen_summarizes`: the status is `Done`, `SinkFault` or `NoMemory`. After `Done` the summary of the generated run was
+///   written, in which every entry is accepted; after `SinkFault` a prefix of it; after `NoMemory` nothing.
+/// - `unread`: `gen`, and words that name no command, leave the source as it was.
+/// - `usage`, `no_usage`: the words name no command if and only if the status is `Usage`, or the sink failed or memory ran
+///   out at the usage line.
 /// - `source_fault`, `sink_fault`: these statuses come only if the source, or the sink, failed.
-/// - `complete`: if neither device failed, the command comes to its end, or the program part is refused, or memory ran out.
+/// - `complete`, `gen_complete`: if neither device failed, the command comes to its end, or the program part is refused, or
+///   memory ran out.
 ///
 /// `NoMemory` comes only if memory ran out, which no clause can say. Whether a program part is accepted is said by a
 /// definition that follows the reader (`bounded` of lens_syntax). It is the grammar's: the law
@@ -51,11 +60,14 @@ pub fn editlens<S: Source, K: Sink>(
         → Reports Check (S.left source.old) (S.left source.new) (K.held sink.old) (K.held sink.new) result }
     ensures stops_are_clean { (command : Command) → command_of words.now ≡ Some command
         → Stops command (S.left source.old) (S.left source.new) (K.held sink.old) (K.held sink.new) result }
+    ensures gen_summarizes { (count seed : ℕ) → order_named words.now ≡ Some (Gen count seed)
+        → WritesSummary count seed (K.held sink.old) (K.held sink.new) result }
 
-    // If and only if the words name no command, the usage line is written; the source is then left as it was.
-    ensures usage { command_of words.now ≡ None → GivesUsage (K.held sink.old) (K.held sink.new) result
-        × (S.left source.new ≡ S.left source.old) × (S.faults source.new ≡ S.faults source.old) }
-    ensures no_usage { result ≡ Status.Usage → command_of words.now ≡ None }
+    // The words name `gen` or no command.
+    ensures unread { command_of words.now ≡ None → source.new ≡ source.old }
+
+    ensures usage { order_named words.now ≡ None → GivesUsage (K.held sink.old) (K.held sink.new) result }
+    ensures no_usage { result ≡ Status.Usage → order_named words.now ≡ None }
 
     ensures source_fault { result ≡ Status.SourceFault → Increased (S.faults source.old) (S.faults source.new) }
     ensures sink_fault { result ≡ Status.SinkFault → SinkFailed K.faults K.empty_takes K.room K.held sink.old sink.new }
@@ -64,14 +76,28 @@ pub fn editlens<S: Source, K: Sink>(
         → (Increased (S.faults source.old) (S.faults source.new) → ⊥)
         → (SinkFailed K.faults K.empty_takes K.room K.held sink.old sink.new → ⊥)
         → IsComplete command bytes result) }
+    ensures gen_complete { (count seed : ℕ) → order_named words.now ≡ Some (Gen count seed)
+        → (SinkFailed K.faults K.empty_takes K.room K.held sink.old sink.new → ⊥)
+        → (result ≡ Status.Done) ⊎ (result ≡ Status.NoMemory) }
 {
-    let Some(command) = read_command(words) else {
-        return match give_all(sink, USAGE.as_bytes()) {
-            Ok(()) => Status::Usage,
-            Err(_) => Status::SinkFault,
-        };
-    };
-    run(alloc, command, source, sink)
+    match read_words(alloc, words) {
+        Ok(Order::Run) => run(alloc, Command::Run, source, sink),
+        Ok(Order::Check) => run(alloc, Command::Check, source, sink),
+        Ok(Order::Gen { count, seed }) => run_generated(alloc, count, seed, sink),
+        Err(WordsFault::Usage) => give_usage(sink),
+        Err(WordsFault::NoMemory) => Status::NoMemory,
+    }
+}
+
+// Writes the usage line.
+fn give_usage<K: Sink>(sink: &mut K) -> Status
+    ensures given { GivesUsage (K.held sink.old) (K.held sink.new) result }
+    ensures sink_fault { result ≡ Status.SinkFault → SinkFailed K.faults K.empty_takes K.room K.held sink.old sink.new }
+{
+    match give_all(sink, USAGE.as_bytes()) {
+        Ok(()) => Status::Usage,
+        Err(_) => Status::SinkFault,
+    }
 }
 
 // Reads the input in pieces, and writes the answers to each piece before it asks for the next.

@@ -1,0 +1,29 @@
+-- What clap stores of a subcommand, as order_of_match reads it.
+use Rattle.std.proofs.Common.{◌≡◌, ℕ, List, Bool, true, false, not, true≢false, Option, Some, None, codes, option_map, bytes_eq, refl, sym, ne_eqb}
+use Rattle.std.specs.Prelude.{Box}
+use Rattle.std.specs.Box.{box_value}
+use Rattle.clap.specs.Walk.{Text, Row, rows_of}
+use Rattle.clap.specs.Simple.{subcommand_rows}
+use Rattle.clap.specs.Matches.{first_value}
+use Rattle.clap.specs.declared.parser.matches.Found.{Found}
+use Rattle.clap.specs.declared.parser.matches.ArgMatches.TheViews.{out-SubCommand}
+use Rattle.clap.specs.declared.parser.matches.SubCommand.{SubCommand}
+use Rattle.clap.proofs.WalkLemmas.{first_value-rows}
+use Rattle.command_words.specs.Matches.{gen_of_values, order_of_match}
+
+pub name_of_rows : {Z : Type 0} (o : Option (Box SubCommand Z)) → option_map (λ b. (out-SubCommand (box_value b)).name.now) o ≡ option_map (λ p. p.0) (subcommand_rows o)
+name_of_rows None = refl
+name_of_rows (Some b) = refl
+
+pair_of : (o : Option (Text × List Row)) (a : Text) (b : List Row) → Some a ≡ option_map (λ p. p.0) o → Some b ≡ option_map (λ p. p.1) o → o ≡ Some (a, b)
+pair_of None a b h k = cc
+pair_of (Some p) a b h k = let e : a ≡ p.0 = cc in let f : b ≡ p.1 = cc in rw (e, f) refl
+
+true_of : (b : Bool) → false ≡ not b → b ≡ true
+true_of true h = refl
+true_of false h = absurd (true≢false (sym h))
+
+pub gen_matches : (n : ℕ) (word name : Text) (o : Option (Text × List Row)) (f : Found) → Some name ≡ option_map (λ p. p.0) o → Some (rows_of f) ≡ option_map (λ p. p.1) o → false ≡ not (bytes_eq name word) → (n ≡ 2 → ⊥) → false ≡ not (bytes_eq name (codes "gen"))
+    → gen_of_values (first_value f (codes "count")) (first_value f (codes "seed")) ≡ order_of_match n word o
+gen_matches n word name o f plain_order rows same more is_gen =
+    rw (pair_of o name (rows_of f) plain_order rows, true_of (bytes_eq name word) same, ne_eqb n 2 more, true_of (bytes_eq name (codes "gen")) is_gen, first_value-rows f (codes "count"), first_value-rows f (codes "seed")) refl

@@ -1,0 +1,14 @@
+//! The words of the command line.
+//!
+//! `read_words` returns the command that the words name: the program's name, then `run`, `check`,
+//! or `gen N SEED`. The words that name a command are defined in specs/Orders.antt. They are read
+//! with `clap`, as specs/CommandLine.antt describes the command line to it.
+#![tactic(auto)]
+
+mod command_line;
+mod numbers;
+mod orders;
+mod reader;
+
+pub use crate::orders::{Order, WordsFault};
+pub use crate::reader::read_words;
