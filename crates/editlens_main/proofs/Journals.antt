@@ -17,7 +17,7 @@ use Rattle.editlens_main.specs.Program.{Refusal, lens_of}
 use Rattle.editlens_main.specs.Report.{answer_lines, items_of}
 use Rattle.editlens_main.specs.Runs.{JournalItem, JournalAnswer, first_of, run_of}
 use Rattle.editlens_main.specs.Running.{items_among, Come, Written, of_steps, written, written_after}
-use Rattle.editlens_main.specs.declared.words.Command.TheVariants.{Run}
+use Rattle.editlens_main.specs.declared.commands.Command.TheVariants.{Run}
 use Rattle.editlens_main.proofs.Fronts.{cut_line, up_to_end, ended_line, none_ended}
 use Rattle.editlens_main.proofs.RunReports.{items_among-lines, at_start, at_end, done}
 

@@ -9,8 +9,8 @@ use Rattle.editlens_main.specs.Lines.{cut, up_to_line_end, is_separator, program
 use Rattle.editlens_main.specs.Program.{Refusal, lens_of}
 use Rattle.editlens_main.specs.Report.{answer_lines, items_of}
 use Rattle.editlens_main.specs.Runs.{JournalItem, run_of}
-use Rattle.editlens_main.specs.declared.words.Command.{Command}
-use Rattle.editlens_main.specs.declared.words.Command.TheVariants.{Run, Check}
+use Rattle.editlens_main.specs.declared.commands.Command.{Command}
+use Rattle.editlens_main.specs.declared.commands.Command.TheVariants.{Run, Check}
 
 -- the line is the separator
 abbrev pub is_separator_line : Line → Bool
