@@ -15,15 +15,16 @@ module _ {X : Type 0} (xs ys : List X) where
   take-append_beyond : (n : ℕ) → length xs ≤ n → take n (xs ++ ys) ≡ xs ++ take (n - length xs) ys
   take-append_beyond n p = subst (λ k. take k (xs ++ ys) ≡ xs ++ take (n - length xs) ys) (omega arith) (take-append-add xs ys (n - length xs))
 
-  drop-append_beyond : (n : ℕ) → length xs ≤ n → drop n (xs ++ ys) ≡ drop (n - length xs) ys
+  pub drop-append_beyond : (n : ℕ) → length xs ≤ n → drop n (xs ++ ys) ≡ drop (n - length xs) ys
   drop-append_beyond n p = subst (λ k. drop k (xs ++ ys) ≡ drop (n - length xs) ys) (omega arith) (drop-append-add xs ys (n - length xs))
 
   module _ (more : List X) (from to : ℕ) (order : from ≤ to) where
     pub spliced_left : to ≤ length xs → (take from xs ++ more ++ drop to xs) ++ ys ≡ take from (xs ++ ys) ++ more ++ drop to (xs ++ ys)
     spliced_left p = rw (take-append-le from xs ys (omega arith), drop-append-le to xs ys p) (simp append_assoc)
 
-    pub spliced_right : length xs ≤ from → xs ++ (take (from - length xs) ys ++ more ++ drop (to - length xs) ys) ≡ take from (xs ++ ys) ++ more ++ drop to (xs ++ ys)
-    spliced_right p = rw (take-append_beyond from p, drop-append_beyond to (omega arith)) (simp append_assoc)
+    pub spliced_right : (middle : ℕ) → middle ≡ length xs → middle ≤ from
+        → xs ++ (take (from - middle) ys ++ more ++ drop (to - middle) ys) ≡ take from (xs ++ ys) ++ more ++ drop to (xs ++ ys)
+    spliced_right middle e p = rw (e, take-append_beyond from (omega arith), drop-append_beyond to (omega arith)) (simp append_assoc)
 
     pub spliced_across : from ≤ length xs → length xs ≤ to
         → (take from xs ++ more ++ drop (length xs) xs) ++ (take 0 ys ++ [] ++ drop (to - length xs) ys) ≡ take from (xs ++ ys) ++ more ++ drop to (xs ++ ys)

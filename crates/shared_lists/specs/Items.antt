@@ -1,5 +1,5 @@
 -- The items that shared owners hold.
-use Rattle.std.specs.Prelude.{List, [], map}
+use Rattle.std.specs.Prelude.{List, [], ◌∷◌, ◌++◌, map}
 use Rattle.std.specs.declared.alloc.Global.{Global}
 use Rattle.std.specs.declared.option.Option.{Option}
 use Rattle.std.specs.declared.option.Option.TheVariants.{None, Some}
@@ -13,3 +13,8 @@ items_of owners = map (λ r. r.value) owners
 abbrev pub optional_items : {T : Type 0} → Option (Rc (List T) Global) → List T
 optional_items None = []
 optional_items (Some tree) = tree.value
+
+-- the items of trees, one tree after another
+abbrev pub all_items : {T : Type 0} → List (Rc (List T) Global) → List T
+all_items [] = []
+all_items (tree ∷ trees) = tree.value ++ all_items trees

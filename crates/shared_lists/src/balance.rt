@@ -23,14 +23,14 @@ pub(crate) fn join<T: Drop>(
     if is_higher(left, right) {
         match &left.node {
             Node::Chunk(_) => pair(alloc, left.clone()?, right.clone()?),
-            Node::Join(outer, inner, _, _) => {
+            Node::Join(outer, inner, _, _, _) => {
                 rebalance(alloc, outer.clone()?, join(alloc, inner, right)?)
             }
         }
     } else if is_higher(right, left) {
         match &right.node {
             Node::Chunk(_) => pair(alloc, left.clone()?, right.clone()?),
-            Node::Join(inner, outer, _, _) => {
+            Node::Join(inner, outer, _, _, _) => {
                 rebalance(alloc, join(alloc, left, inner)?, outer.clone()?)
             }
         }
@@ -73,7 +73,7 @@ fn rotate_right<T: Drop>(
 {
     match &left.node {
         Node::Chunk(_) => {}
-        Node::Join(outer, inner, _, _) => {
+        Node::Join(outer, inner, _, _, _) => {
             if outer.height() < inner.height() {
                 return split_between(alloc, outer.clone()?, inner, right);
             }
@@ -94,7 +94,7 @@ fn rotate_left<T: Drop>(
 {
     match &right.node {
         Node::Chunk(_) => {}
-        Node::Join(inner, outer, _, _) => {
+        Node::Join(inner, outer, _, _, _) => {
             if outer.height() < inner.height() {
                 return split_between(alloc, left, inner, outer.clone()?);
             }
@@ -116,7 +116,7 @@ fn split_between<T: Drop>(
 {
     match &middle.node {
         Node::Chunk(_) => pair(alloc, left, pair(alloc, middle.clone()?, right)?),
-        Node::Join(first, second, _, _) => pair(
+        Node::Join(first, second, _, _, _) => pair(
             alloc,
             pair(alloc, left, first.clone()?)?,
             pair(alloc, second.clone()?, right)?,

@@ -2,6 +2,7 @@
 
 ghost use Rattle.std.specs.Prelude.{◌≡◌, ◌↔◌, ◌≤◌, ◌<◌, ◌+◌, ◌-◌, ◌^◌, ◌++◌, [], length, take, drop, slice_get, slice_set, IsTrue, IfOk, OnOk, OnErr};
 ghost use Rattle.std.specs.declared.option.Option.TheVariants.{Some};
+ghost use Rattle.shared_lists.specs.Items.{items_of};
 
 use crate::root::Root;
 use crate::splices;
@@ -71,6 +72,19 @@ impl<T> SharedList<T> {
             Some(root) => root.tree().get(place),
         }
     }
+
+    /// The owners of the items from a place on that are in the chunk of that place.
+    pub(crate) fn chunk_from(&self, place: usize) -> &[Rc<T>]
+        requires { place < length self.now }
+        ensures some { 0 < length result.now }
+        ensures within { place + length result.now ≤ length self.now }
+        ensures items { items_of result.now ++ drop (place + length result.now) self.now ≡ drop place self.now }
+    {
+        match &self.root {
+            None => unreachable!(),
+            Some(root) => root.tree().chunk_from(place),
+        }
+    }
 }
 
 impl<T: Drop> SharedList<T> {
@@ -94,15 +108,18 @@ impl<T: Drop> SharedList<T> {
     /// Replaces the item at a place.
     ///
     /// The place is one of the list's. If there is no memory, the list is as it was and the item is dropped.
-    #[tactic(auto, using(crate::proofs::SplicedLists::edit_rules))]
     pub fn set(&mut self, alloc: Global, place: usize, item: T) -> Result<(), AllocError>
         requires { place < length self.old }
         ensures replaced { OnOk result (self.new ≡ slice_set self.old place item) }
         ensures unchanged { OnErr result (self.new ≡ self.old) }
     {
-        let _len = self.len();
-        let more = splices::tree_of_one(alloc, item)?;
-        self.splice(alloc, place, place + 1, &more)
+        let owner = Rc::new(alloc, item)?;
+        let tree = match &self.root {
+            None => unreachable!(),
+            Some(root) => splices::set(alloc, root.tree(), place, owner)?,
+        };
+        *self = SharedList::from_tree(alloc, Some(tree))?;
+        Ok(())
     }
 
     /// Puts items in before the item at a place, or at the end if the place is the list's length.

@@ -1,42 +1,105 @@
 //! Edits of trees: each makes new nodes on its path and shares all others.
 
-ghost use Rattle.std.specs.Prelude.{◌≡◌, ◌<◌, ◌≤◌, ◌+◌, ◌-◌, ◌^◌, ◌++◌, ◌∷◌, [], length, take, drop, IfOk};
+ghost use Rattle.std.specs.Prelude.{◌≡◌, ◌<◌, ◌≤◌, ◌+◌, ◌-◌, ◌^◌, ◌++◌, length, take, drop, slice_set, IfOk};
 ghost use Rattle.std.specs.declared.option.Option.TheVariants.{Some, None};
-ghost use Rattle.shared_lists.specs.Items.{items_of, optional_items};
+ghost use Rattle.shared_lists.specs.Items.{items_of, optional_items, all_items};
 
 use crate::balance::join;
 use crate::tree::{CHUNK, Node, Tree, chunk, pair, share, share_all};
 use std::alloc::{AllocError, Global};
 use std::rc::Rc;
 
-/// A tree of the items of a `Vec`.
+/// How many items a chunk of a longer `Vec` gets: fewer than a chunk may have, so that some can be put in.
+const FILL: usize = 24;
+
+/// A tree of the items of a `Vec`, which are moved into its chunks.
+#[tactic(auto, using(crate::proofs::ChunkedLists::push_rules))]
 pub(crate) fn from_vec<T: Drop>(
     alloc: Global,
     items: Vec<T>,
 ) -> Result<Option<Rc<Tree<T>>>, AllocError>
     ensures { IfOk result (λ t. optional_items t ≡ items.items) }
 {
-    let mut owners = Vec::with_capacity(alloc, items.len())?;
+    let count = items.len();
+    let fill = if count <= CHUNK { count } else { FILL };
+    let mut trees = Vec::with_capacity(alloc, count / FILL + 1)?;
+    let mut owners = Vec::with_capacity(alloc, fill)?;
     for item in items {
+        owners = with_room(alloc, &mut trees, owners, fill)?;
         owners.push(Rc::new(alloc, item)?)?;
     }
-    build_optional(alloc, owners)
+    push_chunk(alloc, &mut trees, owners)?;
+    build_optional(alloc, trees.as_slice())
 }
 
-/// A tree of one item.
-pub(crate) fn tree_of_one<T: Drop>(
+// A `Vec` with room for one more item. Items that fill a chunk become one, at the end of some trees.
+#[tactic(auto, using(crate::proofs::ChunkedLists::push_rules))]
+fn with_room<T: Drop>(
     alloc: Global,
-    item: T,
-) -> Result<Option<Rc<Tree<T>>>, AllocError>
-    ensures { IfOk result (λ t. optional_items t ≡ item ∷ []) }
+    trees: &mut Vec<Rc<Tree<T>>>,
+    items: Vec<Rc<T>>,
+    fill: usize,
+) -> Result<Vec<Rc<T>>, AllocError>
+    ensures { IfOk result (λ v. all_items trees.new.items ++ items_of v.items
+        ≡ all_items trees.old.items ++ items_of items.items) }
 {
-    let mut owners = Vec::with_capacity(alloc, 1)?;
-    owners.push(Rc::new(alloc, item)?)?;
-    Ok(Some(chunk(alloc, owners)?))
+    if items.len() < fill {
+        return Ok(items);
+    }
+    push_chunk(alloc, trees, items)?;
+    Ok(Vec::with_capacity(alloc, fill)?)
 }
 
-// A tree of some items, which may be none.
+// Puts a tree of some items at the end of others, if there is an item.
+#[tactic(auto, using(crate::proofs::ChunkedLists::push_rules))]
+fn push_chunk<T: Drop>(
+    alloc: Global,
+    trees: &mut Vec<Rc<Tree<T>>>,
+    items: Vec<Rc<T>>,
+) -> Result<(), AllocError>
+    ensures { IfOk result (λ _. all_items trees.new.items
+        ≡ all_items trees.old.items ++ items_of items.items) }
+{
+    if items.is_empty() {
+        return Ok(());
+    }
+    trees.push(chunk(alloc, items)?)?;
+    Ok(())
+}
+
+// One tree of the items of trees, of which there may be none.
 fn build_optional<T: Drop>(
+    alloc: Global,
+    trees: &[Rc<Tree<T>>],
+) -> Result<Option<Rc<Tree<T>>>, AllocError>
+    requires { length (all_items trees.now) < 2 ^ 64 }
+    ensures { IfOk result (λ t. optional_items t ≡ all_items trees.now) }
+{
+    if trees.is_empty() {
+        return Ok(None);
+    }
+    Ok(Some(build(alloc, trees)?))
+}
+
+// One tree of the items of trees, of which there is at least one.
+#[cycle(build)]
+#[tactic(auto, using(crate::proofs::ChunkedLists::build_rules))]
+fn build<T: Drop>(alloc: Global, trees: &[Rc<Tree<T>>]) -> Result<Rc<Tree<T>>, AllocError>
+    requires some { 0 < length trees.now }
+    requires fits { length (all_items trees.now) < 2 ^ 64 }
+    ensures { IfOk result (λ t. t.value ≡ all_items trees.now) }
+{
+    if trees.len() == 1 {
+        return Ok(trees[0].clone()?);
+    }
+    let (front, back) = trees.split_at(trees.len() / 2);
+    let left = build(alloc, front)?;
+    let right = build(alloc, back)?;
+    pair(alloc, left, right)
+}
+
+// A chunk of some items, which may be none.
+fn chunk_optional<T: Drop>(
     alloc: Global,
     items: Vec<Rc<T>>,
 ) -> Result<Option<Rc<Tree<T>>>, AllocError>
@@ -45,26 +108,56 @@ fn build_optional<T: Drop>(
     if items.is_empty() {
         return Ok(None);
     }
-    if items.len() <= CHUNK {
-        return Ok(Some(chunk(alloc, items)?));
-    }
-    Ok(Some(build(alloc, items.as_slice())?))
+    Ok(Some(chunk(alloc, items)?))
 }
 
-// A tree of shared items, of which there is at least one.
-#[cycle(build)]
-#[tactic(auto, using(crate::proofs::SplicedLists::items_rules))]
-fn build<T: Drop>(alloc: Global, items: &[Rc<T>]) -> Result<Rc<Tree<T>>, AllocError>
-    requires { 0 < length items.now }
-    ensures { IfOk result (λ t. t.value ≡ items_of items.now) }
+/// The items of a tree with the one at a place replaced.
+///
+/// Makes new nodes on the path to the place alone, of the same heights.
+#[cycle(set)]
+#[tactic(auto, using(crate::proofs::ChunkedLists::set_rules))]
+pub(crate) fn set<T: Drop>(
+    alloc: Global,
+    tree: &Rc<Tree<T>>,
+    place: usize,
+    item: Rc<T>,
+) -> Result<Rc<Tree<T>>, AllocError>
+    requires { place < length tree.now.value }
+    ensures { IfOk result (λ t. t.value ≡ slice_set tree.now.value place item.value) }
 {
-    if items.len() <= CHUNK {
-        return chunk(alloc, owners_of(alloc, items)?);
+    match &tree.node {
+        Node::Chunk(items) => set_in_chunk(alloc, items.as_slice(), place, item),
+        Node::Join(left, right, middle, len, height) => {
+            if place < *middle {
+                let left = set(alloc, left, place, item)?;
+                let node = Node::Join(left, right.clone()?, *middle, *len, *height);
+                return Ok(Rc::new(alloc, Tree { node })?);
+            }
+            let right = set(alloc, right, place - *middle, item)?;
+            let node = Node::Join(left.clone()?, right, *middle, *len, *height);
+            Ok(Rc::new(alloc, Tree { node })?)
+        }
     }
-    let (front, back) = items.split_at(items.len() / 2);
-    let left = build(alloc, front)?;
-    let right = build(alloc, back)?;
-    pair(alloc, left, right)
+}
+
+// A chunk of these items with the one at a place replaced.
+#[tactic(auto, using(crate::proofs::ChunkedLists::chunk_set_rules))]
+fn set_in_chunk<T: Drop>(
+    alloc: Global,
+    items: &[Rc<T>],
+    place: usize,
+    item: Rc<T>,
+) -> Result<Rc<Tree<T>>, AllocError>
+    requires { place < length items.now }
+    ensures { IfOk result (λ t. t.value ≡ slice_set (items_of items.now) place item.value) }
+{
+    let (front, _) = items.split_at(place);
+    let (_, back) = items.split_at(place + 1);
+    let mut owners = Vec::with_capacity(alloc, items.len())?;
+    share(&mut owners, front)?;
+    owners.push(item)?;
+    share(&mut owners, back)?;
+    chunk(alloc, owners)
 }
 
 // One more owner of each item.
@@ -101,8 +194,8 @@ pub(crate) fn splice<T: Drop>(
     }
     match &tree.node {
         Node::Chunk(items) => splice_chunk(alloc, items.as_slice(), from, to, more),
-        Node::Join(left, right, _, _) => {
-            let middle = left.len();
+        Node::Join(left, right, middle, _, _) => {
+            let middle = *middle;
             if to <= middle {
                 let front = splice(alloc, left, from, to, more)?;
                 join_optional(alloc, front, Some(right.clone()?))
@@ -169,10 +262,10 @@ fn splice_chunk<T: Drop>(
         share(&mut owners, front)?;
         share_optional(&mut owners, more)?;
         share(&mut owners, back)?;
-        return build_optional(alloc, owners);
+        return chunk_optional(alloc, owners);
     }
-    let front = build_optional(alloc, owners_of(alloc, front)?)?;
-    let back = build_optional(alloc, owners_of(alloc, back)?)?;
+    let front = chunk_optional(alloc, owners_of(alloc, front)?)?;
+    let back = chunk_optional(alloc, owners_of(alloc, back)?)?;
     let front = join_optional(alloc, front, owner_of(more)?)?;
     join_optional(alloc, front, back)
 }

@@ -1,6 +1,6 @@
 //! The balanced tree of a list that is not empty.
 
-ghost use Rattle.std.specs.Prelude.{◌≡◌, ◌<◌, ◌+◌, ◌^◌, ◌++◌, length, slice_get, IfOk};
+ghost use Rattle.std.specs.Prelude.{◌≡◌, ◌<◌, ◌≤◌, ◌+◌, ◌^◌, ◌++◌, length, drop, slice_get, IfOk};
 ghost use Rattle.std.specs.declared.option.Option.TheVariants.{Some};
 ghost use Rattle.shared_lists.specs.Items.{items_of};
 
@@ -16,8 +16,8 @@ pub(crate) const CHUNK: usize = 32;
 pub(crate) enum Node<T> {
     /// Some items, at least one.
     Chunk(Vec<Rc<T>>),
-    /// Two trees one after the other, the number of their items, and the height of this tree.
-    Join(Rc<Tree<T>>, Rc<Tree<T>>, usize, u8),
+    /// Two trees one after the other, the number of items of the first, that of both, and the height of this tree.
+    Join(Rc<Tree<T>>, Rc<Tree<T>>, usize, usize, u8),
 }
 
 /// At least one item, in order.
@@ -56,7 +56,7 @@ impl<T> Tree<T> {
     {
         match &self.node {
             Node::Chunk(items) => items.len(),
-            Node::Join(_, _, len, _) => *len,
+            Node::Join(_, _, _, len, _) => *len,
         }
     }
 
@@ -64,7 +64,7 @@ impl<T> Tree<T> {
     pub(crate) fn height(&self) -> u8 {
         match &self.node {
             Node::Chunk(_) => 0,
-            Node::Join(_, _, _, height) => *height,
+            Node::Join(_, _, _, _, height) => *height,
         }
     }
 
@@ -75,12 +75,34 @@ impl<T> Tree<T> {
     {
         match &self.node {
             Node::Chunk(items) => &items[place],
-            Node::Join(left, right, _, _) => {
-                let middle = left.len();
-                if place < middle {
+            Node::Join(left, right, middle, _, _) => {
+                if place < *middle {
                     left.get(place)
                 } else {
-                    right.get(place - middle)
+                    right.get(place - *middle)
+                }
+            }
+        }
+    }
+
+    /// The items from a place on that are in the chunk of the item at that place.
+    #[tactic(auto, using(crate::proofs::ChunkedLists::chunk_rules))]
+    pub(crate) fn chunk_from(&self, place: usize) -> &[Rc<T>]
+        requires { place < length self.now }
+        ensures some { 0 < length result.now }
+        ensures within { place + length result.now ≤ length self.now }
+        ensures items { items_of result.now ++ drop (place + length result.now) self.now ≡ drop place self.now }
+    {
+        match &self.node {
+            Node::Chunk(items) => {
+                let (_, rest) = items.as_slice().split_at(place);
+                rest
+            }
+            Node::Join(left, right, middle, _, _) => {
+                if place < *middle {
+                    left.chunk_from(place)
+                } else {
+                    right.chunk_from(place - *middle)
                 }
             }
         }
@@ -116,7 +138,7 @@ pub(crate) fn share_all<T: Drop>(
 {
     match &tree.node {
         Node::Chunk(items) => share(into, items.as_slice()),
-        Node::Join(left, right, _, _) => {
+        Node::Join(left, right, _, _, _) => {
             share_all(into, left)?;
             share_all(into, right)
         }
@@ -132,7 +154,8 @@ pub(crate) fn pair<T: Drop>(
     requires { length left.value + length right.value < 2 ^ 64 }
     ensures { IfOk result (λ t. t.value ≡ left.value ++ right.value) }
 {
-    let len = left.len() + right.len();
+    let middle = left.len();
+    let len = middle + right.len();
     if len <= CHUNK {
         let mut items = Vec::with_capacity(alloc, len)?;
         share_all(&mut items, &left)?;
@@ -140,6 +163,6 @@ pub(crate) fn pair<T: Drop>(
         return chunk(alloc, items);
     }
     let height = left.height().max(right.height()).saturating_add(1);
-    let node = Node::Join(left, right, len, height);
+    let node = Node::Join(left, right, middle, len, height);
     Ok(Rc::new(alloc, Tree { node })?)
 }

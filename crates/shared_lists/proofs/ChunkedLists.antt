@@ -1,0 +1,92 @@
+-- The items of chunks and of trees that are put together.
+use Rattle.std.proofs.Common.{arith}
+use Rattle.std.specs.Prelude.{ℕ, ◌≡◌, ◌<◌, ◌≤◌, ◌+◌, ◌-◌, List, [], ◌∷◌, ◌++◌, length, take, drop, slice_set, get_or}
+use Rattle.std.proofs.lemmas.List.{drop-append-le, append_assoc, append-nil, length-append, length-map, length-set, take-append-drop, set-append_right, map-append}
+use Rattle.std.proofs.Math.ListN.{drop_of_length-le}
+use Rattle.std_alloc.proofs.Rotate.{set_front}
+use Rattle.std.specs.declared.alloc.Global.{Global}
+use Rattle.std.specs.declared.rc.Rc.{Rc}
+use Rattle.shared_lists.specs.Items.{items_of, all_items}
+use Rattle.shared_lists.proofs.SplicedLists.{drop-append_beyond, items_of-take, items_of-drop, spliced_one}
+use mathlib.Core.Path.{ap, sym, refl, ◌∙◌}
+
+-- what is in one side of a tree from a place on, and what is behind it
+module _ {X : Type 0} (xs ys front : List X) (place n : ℕ) where
+  pub chunk_of_left : place + n ≤ length xs → front ++ drop (place + n) xs ≡ drop place xs → front ++ drop (place + n) (xs ++ ys) ≡ drop place (xs ++ ys)
+  chunk_of_left p e = rw (drop-append-le (place + n) xs ys p, drop-append-le place xs ys (omega arith), sym e) (simp append_assoc)
+
+  pub chunk_of_right : length xs ≤ place → front ++ drop (place - length xs + n) ys ≡ drop (place - length xs) ys → front ++ drop (place + n) (xs ++ ys) ≡ drop place (xs ++ ys)
+  chunk_of_right p e =
+      let same : place + n - length xs ≡ place - length xs + n = omega arith in
+      rw (drop-append_beyond xs ys (place + n) (omega arith), drop-append_beyond xs ys place p) (ap (λ k. front ++ drop k ys) same ∙ e)
+
+module _ {T : Type 0} (owners : List (Rc T Global)) where
+  pub length-items_of : length (items_of owners) ≡ length owners
+  length-items_of = length-map owners (λ r. r.value)
+
+  pub chunk_to_end : (rest : List (Rc T Global)) (place : ℕ) → rest ≡ drop place owners → place + length rest ≡ length owners
+      → items_of rest ++ drop (place + length rest) (items_of owners) ≡ drop place (items_of owners)
+  chunk_to_end rest place e n =
+      let past : length (items_of owners) ≤ place + length rest = omega (arith, n, length-items_of) in
+      rw (drop_of_length-le (items_of owners) {i = place + length rest} past, e, items_of-drop owners place) (append-nil (drop place (items_of owners)))
+
+pub ruleset chunk_rules = (chunk_of_left, chunk_of_right, chunk_to_end, length-items_of, length-append)
+
+module _ {T : Type 0} where
+  pub all_items-append : (front back : List (Rc (List T) Global)) → all_items (front ++ back) ≡ all_items front ++ all_items back
+  all_items-append [] back = refl
+  all_items-append (t ∷ front) back = simp append_assoc (ap (λ l. t.value ++ l) (all_items-append front back))
+
+  pub all_items-parts : (trees : List (Rc (List T) Global)) (n : ℕ) → all_items (take n trees) ++ all_items (drop n trees) ≡ all_items trees
+  all_items-parts trees n = sym (all_items-append (take n trees) (drop n trees)) ∙ ap all_items (take-append-drop n trees)
+
+  pub length-all_items : (trees : List (Rc (List T) Global)) (n : ℕ) → length (all_items (take n trees)) + length (all_items (drop n trees)) ≡ length (all_items trees)
+  length-all_items trees n = sym (length-append (all_items (take n trees)) (all_items (drop n trees))) ∙ ap length (all_items-parts trees n)
+
+  pub all_items-one : (trees : List (Rc (List T) Global)) (d : Rc (List T) Global) → length trees ≡ 1 → all_items trees ≡ (get_or trees 0 d).value
+  all_items-one [] d e = absurd (omega arith)
+  all_items-one (t ∷ []) d e = append-nil t.value
+  all_items-one (t ∷ u ∷ trees) d e = absurd (omega arith)
+
+module _ {T : Type 0} (trees : List (Rc (List T) Global)) (n b : ℕ) (fits : length (all_items trees) < b) where
+  pub front_fits : (front : List (Rc (List T) Global)) → front ≡ take n trees → length (all_items front) < b
+  front_fits front e = rw e (omega (arith, fits, length-all_items trees n))
+
+  pub back_fits : (back : List (Rc (List T) Global)) → back ≡ drop n trees → length (all_items back) < b
+  back_fits back e = rw e (omega (arith, fits, length-all_items trees n))
+
+  pub both_fit : (front back : List (Rc (List T) Global)) (left right : List T) → front ≡ take n trees → back ≡ drop n trees
+      → left ≡ all_items front → right ≡ all_items back → length left + length right < b
+  both_fit front back left right e f l r = rw (l, r, e, f) (omega (arith, fits, length-all_items trees n))
+
+pub ruleset build_rules = (front_fits, back_fits, both_fit, all_items-parts, all_items-one)
+
+module _ {T : Type 0} (trees : List (Rc (List T) Global)) where
+  pub all_items-push : (t : Rc (List T) Global) → all_items (trees ++ (t ∷ [])) ≡ all_items trees ++ t.value
+  all_items-push t = all_items-append trees (t ∷ []) ∙ ap (λ l. all_items trees ++ l) (append-nil t.value)
+
+  pub none_behind : (owners : List (Rc T Global)) → length owners ≡ 0 → all_items trees ++ items_of owners ≡ all_items trees
+  none_behind [] e = append-nil (all_items trees)
+  none_behind (o ∷ owners) e = absurd (omega arith)
+
+  pub one_behind : (owners : List (Rc T Global)) (o : Rc T Global) → all_items trees ++ items_of (owners ++ (o ∷ [])) ≡ all_items trees ++ items_of owners ++ (o.value ∷ [])
+  one_behind owners o = rw (map-append (λ r. r.value) owners (o ∷ [])) (sym (append_assoc (all_items trees) (items_of owners) (o.value ∷ [])))
+
+pub ruleset push_rules = (all_items-push, none_behind, one_behind, append-nil)
+
+module _ {X : Type 0} (xs ys : List X) (i : ℕ) (x : X) where
+  pub set_of_left : i < length xs → slice_set (xs ++ ys) i x ≡ slice_set xs i x ++ ys
+  set_of_left p = set_front xs ys i x p
+
+  pub set_of_right : length xs ≤ i → slice_set (xs ++ ys) i x ≡ xs ++ slice_set ys (i - length xs) x
+  set_of_right p = set-append_right xs ys (length xs) i x refl p
+
+pub ruleset set_rules = (set_of_left, set_of_right, length-set, length-append)
+
+pub set_in_chunk : {T : Type 0} (owners : List (Rc T Global)) (i : ℕ) (x : T) → i < length owners
+    → (items_of (take i owners) ++ (x ∷ [])) ++ items_of (drop (i + 1) owners) ≡ slice_set (items_of owners) i x
+set_in_chunk owners i x p =
+    let within : i < length (items_of owners) = omega (arith, p, length-items_of owners) in
+    rw (items_of-take owners i, items_of-drop owners (i + 1)) (spliced_one (items_of owners) i x within)
+
+pub ruleset chunk_set_rules = (set_in_chunk, length-items_of, length-set)
