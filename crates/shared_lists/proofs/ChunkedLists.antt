@@ -1,13 +1,13 @@
 -- The items of chunks and of trees that are put together.
 use Rattle.std.proofs.Common.{arith}
 use Rattle.std.specs.Prelude.{ℕ, ◌≡◌, ◌<◌, ◌≤◌, ◌+◌, ◌-◌, List, [], ◌∷◌, ◌++◌, length, take, drop, slice_set, get_or}
-use Rattle.std.proofs.lemmas.List.{drop-append-le, append_assoc, append-nil, length-append, length-map, length-set, take-append-drop, set-append_right, map-append}
+use Rattle.std.proofs.lemmas.List.{drop-append-le, append_assoc, append-nil, length-append, length-map, length-set, map-append, map-set, set-append_right, take-append-drop}
 use Rattle.std.proofs.Math.ListN.{drop_of_length-le}
 use Rattle.std_alloc.proofs.Rotate.{set_front}
 use Rattle.std.specs.declared.alloc.Global.{Global}
 use Rattle.std.specs.declared.rc.Rc.{Rc}
 use Rattle.shared_lists.specs.Items.{items_of, all_items}
-use Rattle.shared_lists.proofs.SplicedLists.{drop-append_beyond, items_of-take, items_of-drop, spliced_one}
+use Rattle.shared_lists.proofs.SplicedLists.{drop-append_beyond, items_of-drop}
 use mathlib.Core.Path.{ap, sym, refl, ◌∙◌}
 
 -- what is in one side of a tree from a place on, and what is behind it
@@ -40,26 +40,14 @@ module _ {T : Type 0} where
   pub all_items-parts : (trees : List (Rc (List T) Global)) (n : ℕ) → all_items (take n trees) ++ all_items (drop n trees) ≡ all_items trees
   all_items-parts trees n = sym (all_items-append (take n trees) (drop n trees)) ∙ ap all_items (take-append-drop n trees)
 
-  pub length-all_items : (trees : List (Rc (List T) Global)) (n : ℕ) → length (all_items (take n trees)) + length (all_items (drop n trees)) ≡ length (all_items trees)
-  length-all_items trees n = sym (length-append (all_items (take n trees)) (all_items (drop n trees))) ∙ ap length (all_items-parts trees n)
-
   pub all_items-one : (trees : List (Rc (List T) Global)) (d : Rc (List T) Global) → length trees ≡ 1 → all_items trees ≡ (get_or trees 0 d).value
   all_items-one [] d e = absurd (omega arith)
   all_items-one (t ∷ []) d e = append-nil t.value
   all_items-one (t ∷ u ∷ trees) d e = absurd (omega arith)
 
-module _ {T : Type 0} (trees : List (Rc (List T) Global)) (n b : ℕ) (fits : length (all_items trees) < b) where
-  pub front_fits : (front : List (Rc (List T) Global)) → front ≡ take n trees → length (all_items front) < b
-  front_fits front e = rw e (omega (arith, fits, length-all_items trees n))
+pub ruleset halves_rules = (all_items-parts)
 
-  pub back_fits : (back : List (Rc (List T) Global)) → back ≡ drop n trees → length (all_items back) < b
-  back_fits back e = rw e (omega (arith, fits, length-all_items trees n))
-
-  pub both_fit : (front back : List (Rc (List T) Global)) (left right : List T) → front ≡ take n trees → back ≡ drop n trees
-      → left ≡ all_items front → right ≡ all_items back → length left + length right < b
-  both_fit front back left right e f l r = rw (l, r, e, f) (omega (arith, fits, length-all_items trees n))
-
-pub ruleset build_rules = (front_fits, back_fits, both_fit, all_items-parts, all_items-one)
+pub ruleset build_rules = (all_items-one, length-append)
 
 module _ {T : Type 0} (trees : List (Rc (List T) Global)) where
   pub all_items-push : (t : Rc (List T) Global) → all_items (trees ++ (t ∷ [])) ≡ all_items trees ++ t.value
@@ -83,10 +71,7 @@ module _ {X : Type 0} (xs ys : List X) (i : ℕ) (x : X) where
 
 pub ruleset set_rules = (set_of_left, set_of_right, length-set, length-append)
 
-pub set_in_chunk : {T : Type 0} (owners : List (Rc T Global)) (i : ℕ) (x : T) → i < length owners
-    → (items_of (take i owners) ++ (x ∷ [])) ++ items_of (drop (i + 1) owners) ≡ slice_set (items_of owners) i x
-set_in_chunk owners i x p =
-    let within : i < length (items_of owners) = omega (arith, p, length-items_of owners) in
-    rw (items_of-take owners i, items_of-drop owners (i + 1)) (spliced_one (items_of owners) i x within)
+pub items_of-set : {T : Type 0} (owners : List (Rc T Global)) (i : ℕ) (o : Rc T Global) → items_of (slice_set owners i o) ≡ slice_set (items_of owners) i o.value
+items_of-set owners i o = map-set (λ r. r.value) owners i o
 
-pub ruleset chunk_set_rules = (set_in_chunk, length-items_of, length-set)
+pub ruleset chunk_set_rules = (items_of-set, length-items_of, length-set)

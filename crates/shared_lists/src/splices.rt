@@ -92,10 +92,22 @@ fn build<T: Drop>(alloc: Global, trees: &[Rc<Tree<T>>]) -> Result<Rc<Tree<T>>, A
     if trees.len() == 1 {
         return Ok(trees[0].clone()?);
     }
-    let (front, back) = trees.split_at(trees.len() / 2);
+    let (front, back) = halves(trees);
     let left = build(alloc, front)?;
     let right = build(alloc, back)?;
     pair(alloc, left, right)
+}
+
+// The first half of some trees, and the rest.
+#[tactic(auto, using(crate::proofs::ChunkedLists::halves_rules))]
+fn halves<T>(trees: &[Rc<Tree<T>>]) -> (&[Rc<Tree<T>>], &[Rc<Tree<T>>])
+    requires { 1 < length trees.now }
+    ensures front { 0 < length result.0.now }
+    ensures back { 0 < length result.1.now }
+    ensures count { length result.0.now + length result.1.now ≡ length trees.now }
+    ensures items { all_items result.0.now ++ all_items result.1.now ≡ all_items trees.now }
+{
+    trees.split_at(trees.len() / 2)
 }
 
 // A chunk of some items, which may be none.
@@ -151,12 +163,8 @@ fn set_in_chunk<T: Drop>(
     requires { place < length items.now }
     ensures { IfOk result (λ t. t.value ≡ slice_set (items_of items.now) place item.value) }
 {
-    let (front, _) = items.split_at(place);
-    let (_, back) = items.split_at(place + 1);
-    let mut owners = Vec::with_capacity(alloc, items.len())?;
-    share(&mut owners, front)?;
-    owners.push(item)?;
-    share(&mut owners, back)?;
+    let mut owners = owners_of(alloc, items)?;
+    owners[place] = item;
     chunk(alloc, owners)
 }
 
