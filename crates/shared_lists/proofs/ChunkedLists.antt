@@ -1,9 +1,8 @@
 -- The items of chunks and of trees that are put together.
 use Rattle.std.proofs.Common.{arith}
-use Rattle.std.specs.Prelude.{ℕ, ◌≡◌, ◌<◌, ◌≤◌, ◌+◌, ◌-◌, List, [], ◌∷◌, ◌++◌, length, take, drop, slice_set, get_or}
-use Rattle.std.proofs.lemmas.List.{drop-append-le, append_assoc, append-nil, length-append, length-map, length-set, map-append, map-set, set-append_right, take-append-drop}
+use Rattle.std.specs.Prelude.{ℕ, ◌≡◌, ◌≤◌, ◌+◌, ◌-◌, List, [], ◌∷◌, ◌++◌, length, take, drop, get_or}
+use Rattle.std.proofs.lemmas.List.{drop-append-le, append_assoc, append-nil, length-append, length-map, length-set, map-append, map-set, set-append_left, set-append_right, take-append-drop}
 use Rattle.std.proofs.Math.ListN.{drop_of_length-le}
-use Rattle.std_alloc.proofs.Rotate.{set_front}
 use Rattle.std.specs.declared.alloc.Global.{Global}
 use Rattle.std.specs.declared.rc.Rc.{Rc}
 use Rattle.shared_lists.specs.Items.{items_of, all_items}
@@ -62,16 +61,6 @@ module _ {T : Type 0} (trees : List (Rc (List T) Global)) where
 
 pub ruleset push_rules = (all_items-push, none_behind, one_behind, append-nil)
 
-module _ {X : Type 0} (xs ys : List X) (i : ℕ) (x : X) where
-  pub set_of_left : i < length xs → slice_set (xs ++ ys) i x ≡ slice_set xs i x ++ ys
-  set_of_left p = set_front xs ys i x p
+pub ruleset set_rules = (set-append_left, set-append_right, length-set, length-append)
 
-  pub set_of_right : length xs ≤ i → slice_set (xs ++ ys) i x ≡ xs ++ slice_set ys (i - length xs) x
-  set_of_right p = set-append_right xs ys (length xs) i x refl p
-
-pub ruleset set_rules = (set_of_left, set_of_right, length-set, length-append)
-
-pub items_of-set : {T : Type 0} (owners : List (Rc T Global)) (i : ℕ) (o : Rc T Global) → items_of (slice_set owners i o) ≡ slice_set (items_of owners) i o.value
-items_of-set owners i o = map-set (λ r. r.value) owners i o
-
-pub ruleset chunk_set_rules = (items_of-set, length-items_of, length-set)
+pub ruleset chunk_set_rules = (map-set, length-map, length-set)

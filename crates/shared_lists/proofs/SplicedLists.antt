@@ -1,7 +1,7 @@
 -- A splice of two lists, one after the other, is a splice of one of them or of both.
 use Rattle.std.proofs.Common.{arith}
-use Rattle.std.specs.Prelude.{ℕ, ◌≡◌, ◌<◌, ◌≤◌, ◌+◌, ◌-◌, List, [], ◌∷◌, ◌++◌, length, take, drop, suc, slice_get, slice_set}
-use Rattle.std.proofs.lemmas.List.{take-append-le, drop-append-le, append_assoc, append-nil, length-append, length-take, length-drop, take-append-drop, set_split, take-map, drop-map}
+use Rattle.std.specs.Prelude.{ℕ, ◌≡◌, ◌≤◌, ◌+◌, ◌-◌, List, [], ◌∷◌, ◌++◌, length, take, drop, suc, slice_get}
+use Rattle.std.proofs.lemmas.List.{take-append-le, drop-append-le, append_assoc, append-nil, length-append, length-take, length-drop, take-append-drop, take-map, drop-map}
 use Rattle.std.proofs.Math.Seq.{take-append-add, drop-append-add, drop-length, drop-cons}
 use Rattle.std.proofs.Math.ListN.{drop_of_length-le}
 use Rattle.std.proofs.lemmas.Option.{get_or_from_slice_get, slice_get_within}
@@ -55,9 +55,6 @@ module _ {T : Type 0} (owners : List (Rc T Global)) (n : ℕ) where
 
 pub ruleset items_rules = (items_of-take, items_of-drop, items_of-parts)
 
-pub spliced_one : {X : Type 0} (xs : List X) (i : ℕ) (x : X) → i < length xs → take i xs ++ (x ∷ []) ++ drop (i + 1) xs ≡ slice_set xs i x
-spliced_one xs i x p = rw (set_split xs i x p) (simp append_assoc (ap (λ k. take i xs ++ x ∷ drop k xs) (sym (one_more i))))
+pub ruleset edit_rules = (drop_of_length-le, append-nil)
 
-pub ruleset edit_rules = (spliced_one, drop_of_length-le, append-nil)
-
-pub ruleset iter_rules = (drop-at, drop_of_length-le)
+pub ruleset iter_rules = (drop_of_length-le)
