@@ -1,4 +1,5 @@
 -- The lines that the program writes, each with the line feed at its end.
+-- From the end: `tree_line` and `type_line`, the refusals of a program, `fault_line`, `no_apply_line` and `ok_line`.
 use Rattle.std.specs.Prelude.{ℕ, List, ◌++◌, codes, decimal}
 use Rattle.serde_json.specs.Data.{Data}
 use Rattle.serde_json.specs.Written.{compact_text}

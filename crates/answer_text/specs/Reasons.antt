@@ -1,4 +1,5 @@
 -- The words for causes and reasons in the lines that the program writes.
+-- From the end: `typing_reason`, `syntax_reason`, `fault_text`, `cause_text`.
 use Rattle.std.specs.Prelude.{ℕ, List, [], ◌++◌, codes, decimal}
 use Rattle.edit_module.specs.declared.fault.Cause.{Cause}
 use Rattle.edit_module.specs.declared.fault.Cause.TheVariants.{Kind, Place, Tag, Range, Overflow, Value, Present, Length, Deep}

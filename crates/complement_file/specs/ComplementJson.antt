@@ -1,4 +1,5 @@
 -- Complements as JSON trees: the tree of a complement that fits the form of a lens.
+-- Read it from the end: `tree_of_complement` has a line for each form, and the helpers stand before it.
 use Rattle.std.specs.Prelude.{ℕ, List, [], ◌∷◌, Option, Some, None, if◌then◌else◌, codes, bytes_eq}
 use Rattle.serde_json.specs.Data.{Data, null, string, array, object, Items, no_items, item, Members, no_members, member}
 use Rattle.hold_shapes.specs.declared.shape.Shape.TheVariants.{List as ListOf, Keyed as KeyedOf, Tree as TreeOf}

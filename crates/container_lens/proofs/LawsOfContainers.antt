@@ -37,6 +37,8 @@ use Rattle.edit_module.proofs.ActionKeepsTypes.{has_primitive, has_act, list-hel
 use Rattle.edit_module.proofs.PlannedShapes.{place_of-within}
 use Rattle.lens_core.proofs.LawsOfWords.{edits_carry, consistent_is_typed}
 use Rattle.lens_core.proofs.ComplementTrees.{comp_count-length}
+use Rattle.lens_core.proofs.RecordFields.{put_same}
+use Rattle.lens_core.proofs.Results.{acted_at}
 use Rattle.container_lens.proofs.EachPlace.{each-length, each-at, each-set, each-gathered, each-turned, each-fit}
 
 -- the three kinds
@@ -197,20 +199,6 @@ held_of of_list t sh xs h = list-held t sh xs h
 held_of of_keyed t sh xs h = keyed-held t sh xs h
 held_of of_tree t sh xs h = tree-held t sh xs h
 
-pub acted_at : (t : TyTree) (w : WordTree) (s : Shape) (ds : DocTrees) (q : PlaceOf) (x' : DocTree) → act_at_place (λ v. act t w v) s ds q ≡ Ok x'
-    → (i : ℕ) × (v : DocTree) × (place_of s q ≡ Some i) × (act t w (doc_at ds i) ≡ Ok v) × (x' ≡ hold s (put_at ds i v))
-acted_at t w s ds q x' e = at_found (place_of s q) refl e
-  where
-    put_ok : (i : ℕ) → place_of s q ≡ Some i → (r : Result DocTree Why) → act t w (doc_at ds i) ≡ r → map_ok (hold s) (map_ok (put_at ds i) (inner r)) ≡ Ok x'
-        → (i : ℕ) × (v : DocTree) × (place_of s q ≡ Some i) × (act t w (doc_at ds i) ≡ Ok v) × (x' ≡ hold s (put_at ds i v))
-    put_ok i f (Ok v) a h = (i, v, f, a, cc)
-    put_ok i f (Err why) a h = cc
-
-    at_found : (o : Option ℕ) → place_of s q ≡ o → if_present o Place (λ i. map_ok (hold s) (put_result_at ds i (act t w (doc_at ds i)))) ≡ Ok x'
-        → (i : ℕ) × (v : DocTree) × (place_of s q ≡ Some i) × (act t w (doc_at ds i) ≡ Ok v) × (x' ≡ hold s (put_at ds i v))
-    at_found None f h = cc
-    at_found (Some i) f h = put_ok i f (act t w (doc_at ds i)) refl h
-
 acts_at_place : (k : Kind) (t : TyTree) (sh : Shape) (xs : DocTrees) (q : PlaceOf) (w : WordTree) (x' : DocTree) → act_at_place (λ v. act t w v) sh xs q ≡ Ok x' → ActsOnHeld k t sh xs (modify q w) x'
 acts_at_place k t sh xs q w x' e = let a = acted_at t w sh xs q x' e in acts_at q w a.0 a.1 refl a.2 a.3 a.4
 
@@ -228,11 +216,6 @@ acts_on_held of_tree t sh xs (shape a) x' e = reshaped_ok of_tree t sh xs a x' (
 acts_on_held _ t sh xs _ x' e = cc
 
 -- ---- what acts on the other container
-
-pub put_same : (ds : DocTrees) (i : ℕ) → put_at ds i (doc_at ds i) ≡ ds
-put_same no_docs i = refl
-put_same (more_docs d ds) zero = ap (more_docs d) (docs_of-doc_list ds)
-put_same (more_docs d ds) (suc i) = ap (more_docs d) (put_same ds i)
 
 acts_there : (t : TyTree) (w : WordTree) (s : Shape) (ds : DocTrees) (q : PlaceOf) (i : ℕ) (v : DocTree) → place_of s q ≡ Some i → act t w (doc_at ds i) ≡ Ok v
     → act_at_place (λ u. act t w u) s ds q ≡ Ok (hold s (put_at ds i v))

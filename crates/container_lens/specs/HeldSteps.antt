@@ -1,4 +1,5 @@
 -- How a container translates one primitive: Mod begins and finishes at its place, a shape edit is finished by its plan.
+-- Read it from the end: `finish_held`, then `begin_held`.
 use Rattle.std.specs.Prelude.{ℕ, nat_eq, if◌then◌else◌, Option, None, Some, option_map}
 use Rattle.hold_shapes.specs.declared.shape.Shape.{Shape}
 use Rattle.hold_shapes.specs.declared.edit.Place.{Place}

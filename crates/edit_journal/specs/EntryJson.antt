@@ -1,4 +1,5 @@
 -- Entries as JSON: the tree of an entry, and the entry that a tree, a text and a line are.
+-- From the end: `entry_of_line`, `entry_of_text`, `entry_of_tree`, and the other way `tree_of_entry`.
 use Rattle.std.specs.Prelude.{ℕ, ◌&&◌, List, Option, Some, None, option_map, Result, Ok, Err, if◌then◌else◌, codes, bytes_eq}
 use Rattle.std.specs.Str.{is_utf8}
 use Rattle.serde_json.specs.Data.{Data, string, object, no_members, member}

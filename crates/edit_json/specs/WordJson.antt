@@ -1,4 +1,5 @@
 -- Words as JSON trees: the tree of a word, the word that a tree is, and which words have a tree.
+-- From the end: which numbers fit (`numbers_fit`, `counts_fit`), `word_of_tree`, `tree_of_word`.
 use Rattle.std.specs.Prelude.{ℕ, ◌&&◌, Bool, true, List, Option, Some, None, option_map, option_and_then, codes}
 use Rattle.serde_json.specs.Data.{Data, string, array, object, Items, no_items, item, no_members, member}
 use Rattle.serde_json.specs.Find.{as_str}

@@ -37,7 +37,7 @@ depth-merged_onto n p (more_primitives q w) h k =
     depth-placed n (merge p q) p q (λ r. merged_onto r w) (λ r e. depth-merge n p q r e h next) h next
     (λ r d. depth-merged_onto n r w d (omega (arith, k)))
 
-depth-merged : (n : ℕ) (w : WordTree) → word_depth w ≤ n + 1 → word_depth (merged w) ≤ n + 1
+pub depth-merged : (n : ℕ) (w : WordTree) → word_depth w ≤ n + 1 → word_depth (merged w) ≤ n + 1
 depth-merged n no_primitives h = h
 depth-merged n (more_primitives p w) h = depth-merged_onto n p w (omega (arith, h)) (omega (arith, h))
 
@@ -50,12 +50,12 @@ inside-same f g n h (switch a b w) d = ap (switch a b) (h w d)
 inside-same f g n h (modify p w) d = ap (modify p) (h w d)
 inside-same f g n h _ d = refl
 
-inside_each-same : (f g : WordTree → WordTree) (n : ℕ) → ((u : WordTree) → word_depth u ≤ n → f u ≡ g u) → (w : WordTree) → word_depth w ≤ n + 1 → inside_each f w ≡ inside_each g w
+pub inside_each-same : (f g : WordTree → WordTree) (n : ℕ) → ((u : WordTree) → word_depth u ≤ n → f u ≡ g u) → (w : WordTree) → word_depth w ≤ n + 1 → inside_each f w ≡ inside_each g w
 inside_each-same f g n h no_primitives d = refl
 inside_each-same f g n h (more_primitives p w) d =
     ap₂ more_primitives (inside-same f g n h p (omega (arith, d))) (inside_each-same f g n h w (omega (arith, d)))
 
-depth-some : (w : WordTree) → 1 ≤ word_depth w
+pub depth-some : (w : WordTree) → 1 ≤ word_depth w
 depth-some no_primitives = omega arith
 depth-some (more_primitives p w) = omega arith
 

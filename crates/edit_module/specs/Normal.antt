@@ -1,4 +1,5 @@
 -- The normal form of a word: neighbouring primitives that act on the same part are merged into one.
+-- Read it from the end: `normal`, then `normal_to`, `merged_onto` and `merged`.
 use Rattle.std.specs.Prelude.{ℕ, zero, suc, Bool, false, if◌then◌else◌, nat_eq, bytes_eq, Option, None, Some}
 use Rattle.hold_shapes.specs.declared.edit.Place.{Place}
 use Rattle.hold_shapes.specs.declared.edit.Place.TheVariants.{Index, Key, Node}

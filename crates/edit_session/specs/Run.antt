@@ -1,5 +1,5 @@
 -- A run: the items of a journal, one after another. A lens comes as its two types and its translation of words; F is the type of
--- what may be wrong with a line.
+-- what may be wrong with a line. Read it from the end: `RunsStayInStep`, then `AnswerTree` and `Item`.
 use Rattle.std.specs.Prelude.{◌≡◌, ℕ, List, [], ◌∷◌, Bool, true, false, Option, Some, option_map, option_and_then, Result, Ok, Err, map}
 use Rattle.std.specs.List.{list_any, All}
 use Rattle.texts.specs.declared.side.Side.{Side}

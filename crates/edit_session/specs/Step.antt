@@ -1,5 +1,5 @@
 -- One step: what an entry makes of a left document, a complement and a right document. A lens comes as its two types and its
--- translation of words.
+-- translation of words. Read it from the end: `step`, then `IsInStep` near the head.
 use Rattle.std.specs.Prelude.{Option, Some, None, option_and_then, Result, Ok, Err}
 use Rattle.texts.specs.declared.side.Side.{Side}
 use Rattle.texts.specs.declared.side.Side.TheVariants.{Left, Right}

@@ -1,4 +1,4 @@
--- The lines of a script: its program part, and the lines of its journal.
+-- The lines of a script: its program part, and the lines of its journal. Read it from the end: `journal`, then `program_part`.
 use Rattle.std.specs.Prelude.{ℕ, ◌==◌, List, [], ◌∷◌, ◌++◌, Bool, not, ◌||◌, if◌then◌else◌, bytes_eq, codes, filter, map}
 use Rattle.std.specs.List.{onto_first, concat}
 use Rattle.edit_journal.specs.Lines.{line_of, is_blank}

@@ -1,4 +1,5 @@
 -- The report of a whole input: all that a command writes for it, and how it ends.
+-- Read it from the end: `report`, then `report_with` and `run_report`.
 use Rattle.std.specs.Prelude.{ℕ, ◌+◌, List, [], ◌∷◌, ◌++◌, Bool, true, false, Option, Some, option_map, Result, Ok, Err, map, codes}
 use Rattle.texts.specs.declared.side.Side.TheVariants.{Left, Right}
 use Rattle.lens_forms.specs.Forms.{FormTree, left_type, right_type}

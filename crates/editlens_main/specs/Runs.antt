@@ -1,4 +1,4 @@
--- The run of the lens of a form over the items of a journal.
+-- The run of the lens of a form over the items of a journal. Read it from the end: `triples_of`, `run_of`, `IsInStepFor`.
 use Rattle.std.specs.Prelude.{List, Option}
 use Rattle.edit_journal.specs.declared.fault.EntryFault.{EntryFault}
 use Rattle.lens_forms.specs.Forms.{FormTree, left_type, right_type}

@@ -1,4 +1,5 @@
 -- Words that are equal by the equations, which have the same normal form, are translated alike.
+-- In order: `AreAlike`, then `KeepsEquations`, which each constructor keeps.
 use Rattle.std.specs.Prelude.{◌≡◌, Option, Some, None}
 use Rattle.texts.specs.declared.side.Side.{Side}
 use Rattle.edit_module.specs.Words.{WordTree}

@@ -1,4 +1,5 @@
 -- A generated journal: its entries, made from a seed, and the summary of its run.
+-- Read it from the end: `summary_of`, then `journal`, `entries` and `next_seed`.
 use Rattle.std.specs.Prelude.{ℕ, ℤ, pos, ◌+ℤ◌, length, zero, suc, ◌+◌, ◌*◌, ◌/◌, ◌%◌, ◌^◌, nat_eq, nat_lt, if◌then◌else◌, codes, List, [], ◌∷◌, map, Option, Some, None, option_map, Ok}
 use Rattle.texts.specs.declared.side.Side.{Side}
 use Rattle.texts.specs.declared.side.Side.TheVariants.{Left, Right}

@@ -1,5 +1,5 @@
 -- The lens of a generated journal: a list of texts and numbers on the left, and on the right a list of the texts and a list of the
--- numbers.
+-- numbers. From the end: `program_tree`, `generated_form`, `program_text`.
 use Rattle.std.specs.Prelude.{ℕ, pos, List, [], codes}
 use Rattle.program_terms.specs.Terms as Term
 use Rattle.doc_values.specs.Types.{FieldTrees, ty_int, ty_text, no_fields, more_fields}

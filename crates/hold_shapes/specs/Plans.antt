@@ -1,4 +1,5 @@
 -- The plan of a shape edit: the new shape and where each of its places comes from, or the cause for which there is none. docs/EDITS.md states the rules in words.
+-- Read it from the end: `plan`, then `plan_tree`, `plan_keyed` and `plan_list`.
 use Rattle.std.specs.Prelude.{ℕ, ◌+◌, ◌-◌, Bool, true, false, not, ◌&&◌, ◌||◌, if◌then◌else◌, List, [], ◌∷◌, ◌++◌, length, map, take, drop, replicate, slice_index, slice_range, Option, Some, None, Result, Ok, Err, nat_eq, nat_lt, nat_le, bytes_eq}
 use Rattle.std.specs.List.{insert, remove, range_with_len}
 use Rattle.hold_shapes.specs.declared.shape.Shape.{Shape}

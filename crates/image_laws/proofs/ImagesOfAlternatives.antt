@@ -20,67 +20,13 @@ use Rattle.lens_core.specs.Laws.{IsRelated}
 use Rattle.lens_core.proofs.LawsOfLeaves.{bytes_are, bytes_same, differs_back}
 use Rattle.lens_core.proofs.NameTests.{not_false, not_that, or_later}
 use Rattle.lens_core.proofs.RecordFields.{lookup_type-more}
+use Rattle.lens_branch.proofs.Arms.{arm_names, tags_on, AreApart, ArmIs, arm_left, arm_right, from_left, from_right, left_among, head_apart, tail_apart}
 use Rattle.image_laws.specs.Patterns.{PatternTree, hole, unit_pattern, truth_pattern, int_pattern, text_pattern, pick_pattern, rec_pattern, alt_pattern, hold_pattern, Matches, HasSome}
 use Rattle.image_laws.specs.Image.{image, image_arm, arm_pattern}
 use Rattle.image_laws.specs.ImageLaws.{IsImage, ImageLaw}
 use Rattle.image_laws.proofs.SidesOfTriples.{near_has}
 
 -- ---- the arms, seen from a side
-
-abbrev tags_on : Side → ArmTrees → FieldTrees
-tags_on Left arms = left_tags arms
-tags_on Right arms = right_tags arms
-
--- the tags of a side in written order
-abbrev names_on : Side → ArmTrees → List (List ℕ)
-names_on Left arms = left_arms arms
-names_on Right arms = right_arms arms
-
--- the tags and contents of one arm, those of the side first
-abbrev ArmIs : Side → ArmTrees → List ℕ → DocTree → List ℕ → CompTree → List ℕ → DocTree → Type 0
-ArmIs s no_arms i v t c j w = ⊥
-ArmIs s (more_arms a b l arms) i v t c j w = ((i ≡ near s a b) × (t ≡ a) × (j ≡ far s a b) × IsRelated l s v c w) ⊎ ArmIs s arms i v t c j w
-
-arm_left : (arms : ArmTrees) (m : List ℕ) (x : DocTree) (t : List ℕ) (c : CompTree) (n : List ℕ) (y : DocTree) → IsInArm arms m x t c n y → ArmIs Left arms m x t c n y
-arm_left no_arms m x t c n y h = h
-arm_left (more_arms a b l arms) m x t c n y (inl h) = inl h
-arm_left (more_arms a b l arms) m x t c n y (inr h) = inr (arm_left arms m x t c n y h)
-
-arm_right : (arms : ArmTrees) (m : List ℕ) (x : DocTree) (t : List ℕ) (c : CompTree) (n : List ℕ) (y : DocTree) → IsInArm arms m x t c n y → ArmIs Right arms n y t c m x
-arm_right no_arms m x t c n y h = h
-arm_right (more_arms a b l arms) m x t c n y (inl h) = inl (h.2, h.1, h.0, h.3)
-arm_right (more_arms a b l arms) m x t c n y (inr h) = inr (arm_right arms m x t c n y h)
-
-from_left : (arms : ArmTrees) (m : List ℕ) (x : DocTree) (t : List ℕ) (c : CompTree) (n : List ℕ) (y : DocTree) → ArmIs Left arms m x t c n y → IsInArm arms m x t c n y
-from_left no_arms m x t c n y h = h
-from_left (more_arms a b l arms) m x t c n y (inl h) = inl h
-from_left (more_arms a b l arms) m x t c n y (inr h) = inr (from_left arms m x t c n y h)
-
-from_right : (arms : ArmTrees) (m : List ℕ) (x : DocTree) (t : List ℕ) (c : CompTree) (n : List ℕ) (y : DocTree) → ArmIs Right arms n y t c m x → IsInArm arms m x t c n y
-from_right no_arms m x t c n y h = h
-from_right (more_arms a b l arms) m x t c n y (inl h) = inl (h.2, h.1, h.0, h.3)
-from_right (more_arms a b l arms) m x t c n y (inr h) = inr (from_right arms m x t c n y h)
-
--- the left tag of a triple is among those of the arms
-left_among : (s : Side) (arms : ArmTrees) (i : List ℕ) (v : DocTree) (t : List ℕ) (c : CompTree) (j : List ℕ) (w : DocTree) → ArmIs s arms i v t c j w → has_name t (left_arms arms) ≡ true
-left_among s no_arms i v t c j w h = absurd h
-left_among s (more_arms a b l arms) i v t c j w (inl h) = same_first t a (has_name t (left_arms arms)) h.1
-  where
-    same_first : (n k : List ℕ) (b : Bool) → n ≡ k → (bytes_eq n k || b) ≡ true
-    same_first n k b e = rw (e, bytes_same k) refl
-left_among s (more_arms a b l arms) i v t c j w (inr h) = or_later (bytes_eq t a) (has_name t (left_arms arms)) (left_among s arms i v t c j w h)
-
--- the tags of a side are distinct
-abbrev AreApart : Side → ArmTrees → Type 0
-AreApart s arms = are_distinct (names_on s arms) ≡ true
-
-head_apart : (s : Side) (a b : List ℕ) (l : FormTree) (arms : ArmTrees) → AreApart s (more_arms a b l arms) → has_name (near s a b) (names_on s arms) ≡ false
-head_apart Left a b l arms h = not_false (has_name a (left_arms arms)) (first (not (has_name a (left_arms arms))) (are_distinct (left_arms arms)) h)
-head_apart Right a b l arms h = not_false (has_name b (right_arms arms)) (first (not (has_name b (right_arms arms))) (are_distinct (right_arms arms)) h)
-
-tail_apart : (s : Side) (a b : List ℕ) (l : FormTree) (arms : ArmTrees) → AreApart s (more_arms a b l arms) → AreApart s arms
-tail_apart Left a b l arms h = second (not (has_name a (left_arms arms))) (are_distinct (left_arms arms)) h
-tail_apart Right a b l arms h = second (not (has_name b (right_arms arms))) (are_distinct (right_arms arms)) h
 
 tag_type : (s : Side) (a b : List ℕ) (l : FormTree) (arms : ArmTrees) (n : List ℕ) → lookup_type (tags_on s (more_arms a b l arms)) n ≡ cond (bytes_eq (near s a b) n) (Some (type_on s l)) (lookup_type (tags_on s arms) n)
 tag_type Left a b l arms n = lookup_type-more a (left_type l) (left_tags arms) n
@@ -107,8 +53,8 @@ record IsArmOf (s : Side) (arms : ArmTrees) (t : List ℕ) (c : CompTree) : Type
   formed : is_well_formed (type_on s form) ≡ true
   fit : Fits form c
   picks : (p : PatternTree) → image_arm arms s t c p ≡ arm_pattern near_tag far_tag (image form s c) p
-  near_named : has_name near_tag (names_on s arms) ≡ true
-  far_named : has_name far_tag (names_on (other s) arms) ≡ true
+  near_named : has_name near_tag (arm_names s arms) ≡ true
+  far_named : has_name far_tag (arm_names (other s) arms) ≡ true
   near_type : lookup_type (tags_on s arms) near_tag ≡ Some (type_on s form)
   far_type : lookup_type (tags_on (other s) arms) far_tag ≡ Some (type_on (other s) form)
   inside : (i : List ℕ) (v : DocTree) (j : List ℕ) (w : DocTree) → ArmIs s arms i v t c j w → (i ≡ near_tag) × (j ≡ far_tag) × IsRelated form s v c w
@@ -119,11 +65,11 @@ abbrev pub ArmImages : ArmTrees → Type 0
 ArmImages no_arms = Unit {0}
 ArmImages (more_arms a b l arms) = ((s : Side) → is_well_formed (type_on s l) ≡ true) × ImageLaw l × ArmImages arms
 
-name_here : (s : Side) (a b : List ℕ) (l : FormTree) (arms : ArmTrees) → has_name (near s a b) (names_on s (more_arms a b l arms)) ≡ true
+name_here : (s : Side) (a b : List ℕ) (l : FormTree) (arms : ArmTrees) → has_name (near s a b) (arm_names s (more_arms a b l arms)) ≡ true
 name_here Left a b l arms = rw (bytes_same a) refl
 name_here Right a b l arms = rw (bytes_same b) refl
 
-name_later : (s : Side) (a b : List ℕ) (l : FormTree) (arms : ArmTrees) (n : List ℕ) → has_name n (names_on s arms) ≡ true → has_name n (names_on s (more_arms a b l arms)) ≡ true
+name_later : (s : Side) (a b : List ℕ) (l : FormTree) (arms : ArmTrees) (n : List ℕ) → has_name n (arm_names s arms) ≡ true → has_name n (arm_names s (more_arms a b l arms)) ≡ true
 name_later Left a b l arms n h = or_later (bytes_eq n a) (has_name n (left_arms arms)) h
 name_later Right a b l arms n h = or_later (bytes_eq n b) (has_name n (right_arms arms)) h
 
@@ -138,7 +84,7 @@ arm_here a b l arms wf law s t c apart test fit = record {
   fit = fit;
   picks = λ p. ap (λ z. cond z (arm_pattern (near s a b) (far s a b) (image l s c) p) (image_arm arms s t c p)) test;
   near_named = name_here s a b l arms;
-  far_named = subst (λ z. has_name z (names_on (other s) (more_arms a b l arms)) ≡ true) (across s a b) (name_here (other s) a b l arms);
+  far_named = subst (λ z. has_name z (arm_names (other s) (more_arms a b l arms)) ≡ true) (across s a b) (name_here (other s) a b l arms);
   near_type = tag_type_here s a b l arms;
   far_type = subst (λ z. lookup_type (tags_on (other s) (more_arms a b l arms)) z ≡ Some (type_on (other s) l)) (across s a b) (tag_type_here (other s) a b l arms);
   inside = inside;
@@ -161,9 +107,9 @@ arm_later a b l arms s t c apart apart' test r = record {
   picks = λ p. ap (λ z. cond z (arm_pattern (near s a b) (far s a b) (image l s c) p) (image_arm arms s t c p)) test ∙ r.picks p;
   near_named = name_later s a b l arms r.near_tag r.near_named;
   far_named = name_later (other s) a b l arms r.far_tag r.far_named;
-  near_type = tag_type_later s a b l arms r.near_tag (type_on s r.form) (differs_back r.near_tag (near s a b) (not_that r.near_tag (near s a b) (names_on s arms) (head_apart s a b l arms apart) r.near_named)) r.near_type;
+  near_type = tag_type_later s a b l arms r.near_tag (type_on s r.form) (differs_back r.near_tag (near s a b) (not_that r.near_tag (near s a b) (arm_names s arms) (head_apart s a b l arms apart) r.near_named)) r.near_type;
   far_type = tag_type_later (other s) a b l arms r.far_tag (type_on (other s) r.form)
-      (differs_back r.far_tag (near (other s) a b) (not_that r.far_tag (near (other s) a b) (names_on (other s) arms) (head_apart (other s) a b l arms apart') r.far_named)) r.far_type;
+      (differs_back r.far_tag (near (other s) a b) (not_that r.far_tag (near (other s) a b) (arm_names (other s) arms) (head_apart (other s) a b l arms apart') r.far_named)) r.far_type;
   inside = inside;
   back = λ v w k. inr (r.back v w k);
 }

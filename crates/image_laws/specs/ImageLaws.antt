@@ -1,4 +1,5 @@
 -- The law of images. The first part is what a caller has of it; the second is the form in which each constructor keeps it.
+-- From the end: `ImageLaw`; for a caller `DecidesConsistency` and `ImagesAreExact`.
 use Rattle.std.specs.Prelude.{◌≡◌, IsTrue, Option, None, Some}
 use Rattle.texts.specs.declared.side.Side.{Side}
 use Rattle.texts.specs.declared.side.Side.TheVariants.{Left}

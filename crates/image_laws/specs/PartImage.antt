@@ -1,5 +1,5 @@
 -- The image of a pattern through a partition, both ways. Between the two sides stands a list of patterns: one for the content of each
--- item, in the order of the complement's tags.
+-- item, in the order of the complement's tags. Read it from the end: `joined_image`, then `parted_image`.
 use Rattle.std.specs.Prelude.{ℕ, zero, suc, ◌+◌, ◌&&◌, nat_eq, bytes_eq, if◌then◌else◌, List, [], ◌∷◌, length, Option, None, Some, option_map, option_and_then}
 use Rattle.hold_shapes.specs.declared.shape.Shape.TheVariants.{List as ListOf}
 use Rattle.doc_values.specs.Types.{FieldTrees, no_fields, more_fields}

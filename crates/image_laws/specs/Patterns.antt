@@ -1,4 +1,5 @@
 -- Patterns of documents: documents with holes. Which documents are in a pattern, and which patterns are of a type.
+-- In order: `PatternTree`, `Matches`, `is_of_type`, `pattern_of`, and `pattern_tree`, the tree that contracts see a pattern as.
 use Rattle.std.specs.Prelude.{◌≡◌, IsTrue, ℕ, ◌+◌, ℤ, Bool, true, false, ◌&&◌, List, [], ◌∷◌, None, Some}
 use Rattle.texts.specs.Keys.{has_name}
 use Rattle.hold_shapes.specs.declared.shape.Shape.{Shape}

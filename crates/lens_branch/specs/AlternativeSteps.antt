@@ -1,4 +1,5 @@
 -- How alternatives translate one primitive: Stay begins and finishes in the arm of the complement, Switch in another arm.
+-- In order: `begin_alternatives`, `finish_alternatives`; what is behind them is for the proofs.
 use Rattle.std.specs.Prelude.{ℕ, ◌+◌, bytes_eq, if◌then◌else◌, List, Option, None, Some, option_map, option_and_then, slice_get}
 use Rattle.texts.specs.declared.side.Side.{Side}
 use Rattle.texts.specs.declared.side.Side.TheVariants.{Left}

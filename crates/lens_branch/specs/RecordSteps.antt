@@ -1,4 +1,5 @@
 -- How a record translates one primitive: At of a field begins in the row of that field and finishes there.
+-- In order: `begin_record`, `finish_record`; what is behind them is for the proofs.
 use Rattle.std.specs.Prelude.{ℕ, zero, suc, ◌+◌, nat_eq, Bool, false, bytes_eq, if◌then◌else◌, List, [], ◌∷◌, Option, None, Some, option_map, option_and_then}
 use Rattle.texts.specs.declared.side.Side.{Side}
 use Rattle.texts.specs.declared.side.Side.TheVariants.{Left, Right}

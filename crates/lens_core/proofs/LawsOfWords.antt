@@ -12,6 +12,7 @@ use Rattle.lens_core.specs.Emitted.{behind}
 use Rattle.lens_core.specs.Complements.{CompTree}
 use Rattle.lens_core.specs.Translation.{Translated, translate_one, translate}
 use Rattle.lens_core.specs.Laws.{IsRelated, Carries, Laws, StartsConsistent, EditsCarry, EmptyStays, WordsCompose, ConsistentIsTyped}
+use Rattle.lens_core.proofs.JoinedWords.{behind_behind}
 use Rattle.lens_core.proofs.Results.{after_ok, acts_joined}
 
 -- the first primitive and then the rest
@@ -40,14 +41,6 @@ edits_carry l laws s (more_primitives p w) x c y x'' k e =
 
 pub empty_stays : (l : FormTree) → EmptyStays l
 empty_stays l s c = refl
-
-joined_again : (u v w : WordTree) → joined (joined u v) w ≡ joined u (joined v w)
-joined_again no_primitives v w = refl
-joined_again (more_primitives p u) v w = ap (more_primitives p) (joined_again u v w)
-
-behind_behind : (u : WordTree) (v : WordTree) (o : Option Translated) → option_map (behind u) (option_map (behind v) o) ≡ option_map (behind (joined u v)) o
-behind_behind u v None = refl
-behind_behind u v (Some r) = ap (λ z. Some (z, r.1)) (sym (joined_again u v r.0))
 
 -- the rest of a word behind what was translated
 compose_on : (rest : CompTree → Option Translated) (o : Option Translated) (u : WordTree)

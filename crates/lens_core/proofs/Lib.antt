@@ -1,6 +1,7 @@
-pub mod ComplementTrees
 mod Examples
+pub mod ComplementTrees
 pub mod FormParts
+pub mod JoinedWords
 pub mod LawsOfCompositions
 pub mod LawsOfLeaves
 pub mod LawsOfWords

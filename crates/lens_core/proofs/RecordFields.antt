@@ -148,7 +148,7 @@ acts_on_field fs xs (modify p w) x' e = cc
 acts_on_field fs xs (shape a) x' e = cc
 
 -- a content that is put back leaves the contents as they were
-put_same : (ds : DocTrees) (i : ℕ) → put_at ds i (doc_at ds i) ≡ ds
+pub put_same : (ds : DocTrees) (i : ℕ) → put_at ds i (doc_at ds i) ≡ ds
 put_same no_docs i = refl
 put_same (more_docs d ds) zero = ap (more_docs d) (docs_of-doc_list ds)
 put_same (more_docs d ds) (suc i) = ap (more_docs d) (put_same ds i)

@@ -1,4 +1,5 @@
 -- How a form with lenses inside translates one primitive: it begins, a lens inside translates a word, and it finishes.
+-- In order: `Beginning`, `carried_on`, then what the code knows of a beginning.
 use Rattle.std.specs.Prelude.{◌≡◌, ℕ, Option, None, Some, option_map}
 use Rattle.edit_module.specs.Words.{WordTree}
 use Rattle.edit_module.specs.Views.{word_tree}

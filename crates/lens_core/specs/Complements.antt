@@ -1,4 +1,5 @@
 -- Complements as plain trees: what neither document holds and a lens needs. Which complements fit a form, and its first one.
+-- In order: `CompTree`, `Fits`, `missing`, and `comp_tree`, the tree that contracts see a complement as.
 use Rattle.std.specs.Prelude.{◌≡◌, ◌⊎◌, ℕ, ◌+◌, IsTrue, List, [], ◌∷◌}
 use Rattle.hold_shapes.specs.declared.shape.Shape.{Shape}
 use Rattle.hold_shapes.specs.declared.shape.Shape.TheVariants.{List as ListOf, Keyed as KeyedOf, Tree as TreeOf}

@@ -1,4 +1,5 @@
 -- Forms of lenses as plain trees, and the two types of a form.
+-- In order: `FormTree`, `left_type` and `right_type`, and `form_tree`, the tree that contracts see a form as.
 use Rattle.std.specs.Prelude.{ℕ, ◌+◌, bytes_eq, if◌then◌else◌, List, [], ◌∷◌}
 use Rattle.texts.specs.Keys.{is_before}
 use Rattle.doc_values.specs.Types.{TyTree, ty_enum, ty_rec, ty_alt, ty_list, ty_keyed, ty_ordered, FieldTrees, no_fields, more_fields, ty_tree, fields_tree}

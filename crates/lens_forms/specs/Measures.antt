@@ -1,4 +1,5 @@
 -- How large and how high types and forms are, all names put in.
+-- In order: how many parts a type and a form have, how high a form is, and its longest list; the two bounds stand at the end.
 use Rattle.std.specs.Prelude.{ℕ, ◌+◌, length, max}
 use Rattle.doc_values.specs.Types.{TyTree, ty_unit, ty_bool, ty_int, ty_text, ty_enum, ty_rec, ty_alt, ty_list, ty_keyed, ty_ordered, FieldTrees, no_fields, more_fields, names_of}
 use Rattle.lens_forms.specs.Forms.{FormTree, form_id, form_bij, form_disc, form_then, form_rec, form_alt, form_each, form_keyed, form_ordered, form_part, form_inv, RowTrees, no_rows, both, only_left, only_right, row_list, ArmTrees, no_arms, more_arms, arm_list}

@@ -1,4 +1,5 @@
 -- Typing: which forms are lenses, and from which type to which.
+-- Read it from the end: `is_typed` computes `IsTyped`, which has a line for each form.
 use Rattle.std.specs.Prelude.{◌≡◌, IsTrue, ℕ, Bool, true, ◌&&◌, List, [], ◌∷◌}
 use Rattle.texts.specs.Keys.{has_name}
 use Rattle.doc_values.specs.Types.{TyTree, ty_enum, ty_rec, ty_alt, ty_list, ty_keyed, ty_ordered, FieldTrees, no_fields, more_fields, names_of, are_distinct, are_choices, is_well_formed, are_well_formed, is_same_ty}

@@ -9,26 +9,10 @@ use Rattle.edit_module.specs.declared.word.Primitive.{Primitive}
 use Rattle.lens_forms.specs.Forms.{FormTree}
 use Rattle.lens_core.specs.Complements.{CompTree}
 use Rattle.lens_core.specs.Emitted.{behind}
+use Rattle.lens_core.proofs.JoinedWords.{joined_nothing, behind_nothing, behind_behind}
 use Rattle.lens_core.specs.Translation.{Translated, translate_one, translate, IsCarryFault}
 use Rattle.lens_core.specs.declared.carry.CarryFault.{CarryFault}
 use Rattle.lens_core.specs.declared.carry.CarryFault.TheVariants.{Unfit, NoMemory}
-
-joined_again : (u v w : WordTree) → joined (joined u v) w ≡ joined u (joined v w)
-joined_again no_primitives v w = refl
-joined_again (more_primitives p u) v w = ap (more_primitives p) (joined_again u v w)
-
-joined_nothing : (u : WordTree) → joined u no_primitives ≡ u
-joined_nothing no_primitives = refl
-joined_nothing (more_primitives p u) = ap (more_primitives p) (joined_nothing u)
-
-behind_behind : (u v : WordTree) (o : Option Translated) → option_map (behind u) (option_map (behind v) o) ≡ option_map (behind (joined u v)) o
-behind_behind u v None = refl
-behind_behind u v (Some r) = ap (λ z. Some (z, r.1)) (sym (joined_again u v r.0))
-
--- at first nothing was translated
-pub behind_nothing : (o : Option Translated) → option_map (behind no_primitives) o ≡ o
-behind_nothing None = refl
-behind_nothing (Some r) = refl
 
 -- what is left to do from a place of a word on, with the complement there, behind what was translated
 abbrev pub left_to_do : FormTree → Side → CompTree → WordTree → List Primitive → ℕ → Option Translated

@@ -1,4 +1,5 @@
 -- The program of a text, or the cause why it has none.
+-- In order: `Tells` says of a text which program it is or why it is none; `unbounded` and `bounded` compute it.
 use Rattle.std.specs.Prelude.{◌≡◌, ℕ, List, Option, Some, None, Result, Ok, Err, length, nat_le, if◌then◌else◌}
 use Rattle.program_tokens.specs.Tokens.{tokens_of}
 use Rattle.program_terms.specs.Terms.{ProgramTree}

@@ -1,4 +1,5 @@
 -- The first failure of a program, in the order of checking.
+-- Read it from the end: `first_failure`, then `def_failure`, `lens_failure` and `type_failure`.
 use Rattle.std.specs.Prelude.{ℕ, ◌&&◌, nat_le, max, if◌then◌else◌, List, [], ◌∷◌, ◌++◌, Option, Some, None, option_map}
 use Rattle.texts.specs.Keys.{has_name}
 use Rattle.doc_values.specs.Types.{TyTree, height, highest, is_same_ty}

@@ -1,4 +1,5 @@
 -- Names expanded: what a type and a lens stand for, where earlier definitions say what their names stand for.
+-- Read it from the end: `main_form`, then `expanded_form` and `expanded_type`.
 use Rattle.std.specs.Prelude.{ℕ, bytes_eq, if◌then◌else◌, List, [], ◌∷◌, ◌++◌, Option, Some, None}
 use Rattle.doc_values.specs.Types.{TyTree, ty_unit, ty_bool, ty_int, ty_text, ty_enum, ty_rec, ty_alt, ty_list, ty_keyed, ty_ordered, FieldTrees, no_fields, more_fields}
 use Rattle.program_terms.specs.Terms as Term

@@ -7,7 +7,7 @@ use Rattle.edit_module.specs.Words.{WordTree, no_primitives, joined}
 use Rattle.lens_core.specs.Emitted.{at_word}
 use Rattle.lens_core.specs.Tags.{tag_count}
 use Rattle.lens_core.specs.Partition.{at_each_tag}
-use Rattle.partition_lens.proofs.RowSteps.{joined_nothing, joined_again}
+use Rattle.lens_core.proofs.JoinedWords.{joined_nothing, joined_again}
 
 -- what is left of the tags, from the number i on, behind the word u
 abbrev pub left_tags : WordTree → List (List ℕ × Ty) → ℕ → (ℕ → WordTree) → WordTree

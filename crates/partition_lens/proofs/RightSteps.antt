@@ -11,7 +11,7 @@ use Rattle.lens_core.specs.Emitted.{behind, mod_word, switch_word}
 use Rattle.lens_core.specs.Partition.{Parted, switch_places, delete_last, delete_occurrences, place_from}
 use Rattle.tag_seq.specs.Tags.{moved}
 use Rattle.tag_seq.proofs.Sides.{take_all_left}
-use Rattle.partition_lens.proofs.RowSteps.{joined_nothing, joined_again}
+use Rattle.lens_core.proofs.JoinedWords.{joined_nothing, joined_again}
 use Rattle.partition_lens.proofs.Counts.{length_moved}
 
 -- ---- switches

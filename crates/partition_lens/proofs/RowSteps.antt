@@ -6,26 +6,11 @@ use Rattle.edit_module.specs.Words.{PrimitiveTree, WordTree, no_primitives, more
 use Rattle.edit_module.specs.Views.{primitive_tree}
 use Rattle.lens_core.specs.Emitted.{behind, one_by_one}
 use Rattle.lens_core.specs.Partition.{Parted}
+use Rattle.lens_core.proofs.JoinedWords.{joined_nothing, behind_nothing, behind_behind}
 use Rattle.lens_core.specs.Translation.{tagged, IsCarryFault}
 use Rattle.lens_core.specs.declared.carry.CarryFault.{CarryFault}
 use Rattle.lens_core.specs.declared.carry.CarryFault.TheVariants.{Unfit, NoMemory}
 use Rattle.partition_lens.specs.Rows.{IsRowFault}
-
-pub joined_nothing : (u : WordTree) → joined u no_primitives ≡ u
-joined_nothing no_primitives = refl
-joined_nothing (more_primitives p u) = ap (more_primitives p) (joined_nothing u)
-
-pub joined_again : (u v w : WordTree) → joined (joined u v) w ≡ joined u (joined v w)
-joined_again no_primitives v w = refl
-joined_again (more_primitives p u) v w = ap (more_primitives p) (joined_again u v w)
-
-behind_nothing : (o : Option Parted) → option_map (behind no_primitives) o ≡ o
-behind_nothing None = refl
-behind_nothing (Some r) = refl
-
-behind_behind : (u v : WordTree) (o : Option Parted) → option_map (behind u) (option_map (behind v) o) ≡ option_map (behind (joined u v)) o
-behind_behind u v None = refl
-behind_behind u v (Some r) = ap (λ z. Some (z, r.1)) (sym (joined_again u v r.0))
 
 -- what is left of a word, from the primitive number i on, behind the word u
 abbrev pub left_over : (List ℕ → PrimitiveTree → Option Parted) → WordTree → List ℕ → List Primitive → ℕ → Option Parted

@@ -1,4 +1,5 @@
 -- Canonical text. Each form is written before the text behind it, which is the last argument.
+-- Read it from the end: `canonical_type` and `canonical`, then `put_lens` and `put_type`.
 use Rattle.std.specs.Prelude.{ℕ, List, [], ◌∷◌, ◌++◌, codes, bytes_eq, if◌then◌else◌}
 use Rattle.std.specs.Fmt.{signed_decimal}
 use Rattle.std.specs.Ordering.{int_eq}

@@ -1,4 +1,5 @@
 -- What the grammar can say: the programs and types that have a text.
+-- From the end: `IsSpeakable` for types, `IsWritable` for programs.
 use Rattle.std.specs.Prelude.{◌≡◌, ◌⊎◌, ◌<◌, ◌^◌, ℕ, zero, suc, true, List, [], ◌∷◌}
 use lib.IntN.{ℤ}
 use lib.Signed.{mag}

@@ -1,4 +1,5 @@
 -- Edits of trees in the words of their table: by paths, numbers of children and origins.
+-- In order: `children_at`, `HangsLastChild`, `MovesChild`, `LosesLastChild`.
 use Rattle.std.specs.Prelude.{◌≡◌, ℕ, suc, ◌+◌, if◌then◌else◌, nat_lt, List, [], ◌∷◌, ◌++◌, length, Option, Some, None}
 use Rattle.std.specs.Option.{option_map}
 use Rattle.std.specs.List.{slice_get}

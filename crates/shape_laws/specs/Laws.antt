@@ -1,4 +1,4 @@
--- What every plan keeps, by the kind of its edit.
+-- What every plan keeps, by the kind of its edit. From the end: `KeepsFamily`, `KeepsContent`, `KeepsPlaces`, `IsArranged`.
 use Rattle.std.specs.Prelude.{◌≡◌, ℕ, ◌+◌, ◌<◌, ◌≤◌, Bool, true, false, List, [], ◌∷◌, ◌++◌, length, map, take, drop, replicate, slice_index, slice_range, slice_set, Option, Some, None, nat_eq}
 use Rattle.std.specs.List.{All, count_by}
 use Rattle.std.specs.List.Sorted.{IsPermutation}

@@ -1,4 +1,5 @@
 -- Documents as JSON trees: the tree of a document of a type, and the document of a type that a tree is.
+-- From the end: `holds_i64s`, `document_of`, `tree_of_document`.
 use Rattle.std.specs.Prelude.{ℕ, ◌&&◌, Bool, true, List, [], ◌∷◌, length, Option, Some, None, option_map, option_and_then, if◌then◌else◌, codes, bytes_eq, nat_eq}
 use Rattle.serde_json.specs.Data.{Data, null, boolean, number, string, array, object, Items, no_items, item, Members, no_members, member}
 use Rattle.texts.specs.Keys.{is_rising, has_name}
