@@ -12,3 +12,4 @@ pub mod PatternsByName
 pub mod PatternsOfItems
 pub mod SidesOfTriples
 pub mod TypedPatterns
+pub mod PatternLists
