@@ -35,11 +35,11 @@ pub ruleset arm_rules = (found_here, found_next, found_all)
 
 -- ---- the lens of a tag
 
-not_true : (q : Bool) → not q ≡ true → q ≡ false
+pub not_true : (q : Bool) → not q ≡ true → q ≡ false
 not_true true h = cc
 not_true false h = refl
 
-or_true : (q : Bool) → (q || true) ≡ true
+pub or_true : (q : Bool) → (q || true) ≡ true
 or_true true = refl
 or_true false = refl
 
@@ -83,7 +83,7 @@ fits t (more_arms a b m arms) c l d e h =
     (λ s f. fits t arms c l (second (not (has_name a (left_arms arms))) _ d) s f)
 
 -- what holds of the lens of each arm holds of the one that is found
-found_step : (P : FormTree → Type 0) (l m : FormTree) (rest : Option FormTree) (k : Bool) → cond k (Some m) rest ≡ Some l → P m → (rest ≡ Some l → P l) → P l
+pub found_step : (P : FormTree → Type 0) (l m : FormTree) (rest : Option FormTree) (k : Bool) → cond k (Some m) rest ≡ Some l → P m → (rest ≡ Some l → P l) → P l
 found_step P l m rest true e here again = subst P (same e) here
 found_step P l m rest false e here again = again e
 
@@ -106,7 +106,7 @@ pub arm_tree_is : (t : List ℕ) (arms : ArmTrees) (l : FormTree) (c : CompTree)
 arm_tree_is t no_arms l c e = cc
 arm_tree_is t (more_arms a b m arms) l c e = tree_step l m c (arm_with arms t) (tree_in_arm arms t c) (bytes_eq a t) e (λ s. arm_tree_is t arms l c s)
 
-distinct_choices : (ns : List (List ℕ)) → are_choices ns ≡ true → are_distinct ns ≡ true
+pub distinct_choices : (ns : List (List ℕ)) → are_choices ns ≡ true → are_distinct ns ≡ true
 distinct_choices [] h = cc
 distinct_choices (n ∷ ns) h = h
 
