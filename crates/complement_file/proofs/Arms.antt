@@ -1,13 +1,13 @@
 -- The arm of a left tag, as the code looks it up, and what holds of its lens.
-use Rattle.std.proofs.Common.{◌≡◌, ◌⊎◌, inl, inr, ℕ, ◌+◌, ◌<◌, ◌≤◌, Bool, true, false, not, ◌&&◌, ◌||◌, cond, List, [], ◌∷◌, length, map, drop, drop-cons, get_or, add-one, Option, None, Some, IsTrue, refl, sym, ap, subst, ◌∙◌, arith}
+use Rattle.std.proofs.Common.{◌≡◌, ◌⊎◌, inl, inr, ℕ, ◌+◌, ◌<◌, ◌≤◌, Bool, true, false, not, ◌||◌, cond, List, [], ◌∷◌, length, map, drop, drop-cons, get_or, add-one, Option, None, Some, IsTrue, refl, sym, ap, subst, arith}
 use Rattle.std.specs.Prelude.{bytes_eq}
 use Rattle.std.proofs.lemmas.List.{drop_all}
 use Rattle.texts.specs.Keys.{has_name}
-use Rattle.texts.proofs.Conjunction.{both, first, second}
+use Rattle.texts.proofs.Conjunction.{first, second}
 use Rattle.value_json.proofs.Facts.{equal_bytes, same_bytes}
 use Rattle.doc_values.specs.Types.{are_distinct, are_choices}
 use Rattle.lens_forms.specs.Forms.{FormTree, form_alt, ArmTrees, no_arms, more_arms, form_arms_of, arm_tree, form_tree}
-use Rattle.lens_forms.specs.Typing.{is_typed, are_typed_arms, left_arms, right_arms}
+use Rattle.lens_forms.specs.Typing.{is_typed, are_typed_arms, left_arms}
 use Rattle.lens_forms.specs.Measures.{form_parts, arms_parts}
 use Rattle.lens_forms.specs.declared.form.Form.{Form}
 use Rattle.lens_core.specs.Complements.{CompTree, alt_comp, Fits, FitsArm}

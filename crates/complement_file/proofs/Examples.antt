@@ -1,10 +1,10 @@
 -- The definition, tried on small examples.
-use Rattle.std.proofs.Common.{◌≡◌, ℕ, pos, List, [], ◌∷◌, codes, inl, inr, refl}
+use Rattle.std.proofs.Common.{◌≡◌, pos, [], ◌∷◌, codes, inl, inr, refl}
 use Rattle.serde_json.specs.Data.{Items, null, string, array, object, no_items, item, no_members, member}
 use Rattle.hold_shapes.specs.declared.shape.Shape.TheVariants.{List as ListOf, Keyed as KeyedOf, Tree as TreeOf}
 use Rattle.doc_values.specs.Types.{ty_int, ty_text, ty_bool, FieldTrees, no_fields, more_fields}
 use Rattle.value_json.specs.Numbers.{count_tree}
-use Rattle.lens_forms.specs.Forms.{FormTree, form_id, form_disc, form_then, form_rec, form_alt, form_each, form_keyed, form_ordered, form_part, form_inv, no_rows, both, only_left, only_right, no_arms, more_arms}
+use Rattle.lens_forms.specs.Forms.{FormTree, form_id, form_then, form_rec, form_alt, form_each, form_keyed, form_ordered, form_part, form_inv, no_rows, both, only_left, only_right, no_arms, more_arms}
 use Rattle.lens_core.specs.Complements.{CompTree, nil, then_comp, rec_comp, alt_comp, hold_comp, tags_comp, no_comps, more_comps}
 use Rattle.complement_file.specs.ComplementJson.{tree_of_complement, one, two}
 use Rattle.complement_file.specs.Reading.{IsComplement}

@@ -1,5 +1,5 @@
 -- What was found, and what was refused.
-use Rattle.std.proofs.Common.{◌≡◌, Result, Ok, Err, IfOk, IsErrOf}
+use Rattle.std.proofs.Common.{Result, Ok, Err, IfOk, IsErrOf}
 use Rattle.complement_file.specs.Reading.{Refuses, Finds}
 use Rattle.complement_file.specs.declared.fault.CompFault.{CompFault}
 use Rattle.complement_file.specs.declared.fault.CompFault.TheVariants.{NotAComplement, NoMemory}

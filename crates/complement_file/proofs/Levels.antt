@@ -1,5 +1,5 @@
 -- One level of a form and of a complement, and what holds of the parts.
-use Rattle.std.proofs.Common.{◌≡◌, ℕ, ◌&&◌, List, length, Result, Ok, Err, IfOk, IsTrue, Box, Global, refl, sym, ap, ap₂, subst, ◌∙◌, rules}
+use Rattle.std.proofs.Common.{◌≡◌, ℕ, List, length, Result, Ok, Err, IfOk, IsTrue, Box, Global, sym, ap, subst, ◌∙◌, rules}
 use Rattle.std.specs.declared.alloc.AllocError.{AllocError}
 use Rattle.texts.specs.Keys.{is_rising}
 use Rattle.texts.proofs.Conjunction.{first, second}
@@ -8,7 +8,7 @@ use Rattle.serde_json.specs.View.{view}
 use Rattle.serde_json.specs.declared.value.Value.{Value}
 use Rattle.value_json.proofs.Facts.{equal}
 use Rattle.hold_shapes.specs.declared.shape.Shape.{Shape}
-use Rattle.hold_shapes.specs.declared.shape.Shape.TheVariants.{List as ListOf, Keyed as KeyedOf, Tree as TreeOf}
+use Rattle.hold_shapes.specs.declared.shape.Shape.TheVariants.{Keyed as KeyedOf}
 use Rattle.doc_values.specs.Typing.{is_keyed_of}
 use Rattle.lens_forms.specs.Forms.{FormTree, form_each, form_keyed, form_ordered, form_tree}
 use Rattle.lens_forms.specs.Typing.{is_typed}

@@ -3,7 +3,7 @@ use Rattle.std.proofs.Common.{◌≡◌, ◌≢◌, ℕ, ◌&&◌, Bool, true, f
 use Rattle.std.specs.Prelude.{nat_eq}
 use Rattle.texts.specs.Keys.{is_rising}
 use Rattle.texts.proofs.Conjunction.{both, first, second}
-use Rattle.serde_json.specs.Data.{Data, null, string, array, object, Items, no_items, item, Members, no_members, member}
+use Rattle.serde_json.specs.Data.{Data, string, array, object, Items, Members}
 use Rattle.serde_json.specs.Find.{as_str}
 use Rattle.serde_json.specs.View.{items_view}
 use Rattle.serde_json.specs.declared.value.Value.{Value}
@@ -15,16 +15,13 @@ use Rattle.value_json.specs.DocumentJson.{member_names}
 use Rattle.value_json.proofs.Facts.{equal, equal_tests, equal_bytes}
 use Rattle.value_json.proofs.ReadingHasTree.{counts_take}
 use Rattle.value_json.proofs.WritingReadsBack.{counts_again}
-use Rattle.lens_forms.specs.Forms.{FormTree, form_id, form_then, form_rec, form_alt, form_each, form_keyed, form_ordered, form_part, RowTrees, ArmTrees, no_arms, more_arms}
+use Rattle.lens_forms.specs.Forms.{FormTree, form_then, form_rec, form_alt, form_each, form_keyed, form_ordered, form_part, RowTrees, ArmTrees, no_arms, more_arms}
 use Rattle.lens_forms.specs.Typing.{is_typed}
-use Rattle.lens_core.specs.Complements.{CompTree, nil, then_comp, rec_comp, alt_comp, hold_comp, tags_comp, CompTrees, comp_count, Fits, FitsArm, AllFit}
+use Rattle.lens_core.specs.Complements.{CompTree, then_comp, rec_comp, alt_comp, hold_comp, tags_comp, CompTrees, comp_count, Fits, FitsArm}
 use Rattle.complement_file.specs.ComplementJson.{tree_of_complement, tree_in_arm, arm_with, one, two, row_items, place_items, place_members, tag_items}
 use Rattle.complement_file.specs.Reading.{IsComplement, ArePlaces, AreRows, AreTags, nodes_tree, member_contents}
 use Rattle.complement_file.proofs.Arms.{arm_is_there, arm_fits, arm_tree_is}
 use Rattle.complement_file.proofs.ReadPlaces.{names_again, contents_again, members_join, places_many}
-
-same_content : (n : List ℕ) (d e : Data) → one n d ≡ one n e → d ≡ e
-same_content n d e q = cc
 
 same_pair : (n : List ℕ) (a b c d : Data) → one n (two a b) ≡ one n (two c d) → (a ≡ c) × (b ≡ d)
 same_pair n a b c d q = let first : a ≡ c = cc in let second : b ≡ d = cc in (first, second)

@@ -1,5 +1,5 @@
 -- Reading the places of a container: a complement of one lens for each item.
-use Rattle.std.proofs.Common.{◌≡◌, ℕ, ◌+◌, ◌<◌, ◌≤◌, List, [], ◌∷◌, ◌++◌, drop, length, map, get_or, String, Global, string_bytes, refl, sym, ap, ap₂, subst, arith, add-one}
+use Rattle.std.proofs.Common.{◌≡◌, ℕ, ◌+◌, ◌<◌, ◌≤◌, List, [], ◌∷◌, ◌++◌, drop, length, get_or, String, Global, refl, sym, ap, ap₂, subst, arith}
 use Rattle.std.proofs.lemmas.List.{drop_all}
 use Rattle.serde_json.specs.Data.{Data, Items, no_items, item, Members, no_members, member}
 use Rattle.serde_json.specs.View.{view, items_view, members_view}
@@ -7,7 +7,7 @@ use Rattle.serde_json.specs.declared.value.Value.{Value}
 use Rattle.value_json.specs.DocumentJson.{member_names}
 use Rattle.value_json.proofs.Counts.{left_items}
 use Rattle.lens_forms.specs.Forms.{FormTree}
-use Rattle.lens_core.specs.Complements.{CompTree, CompTrees, no_comps, more_comps, comps_of, comp_count, Fits, AllFit}
+use Rattle.lens_core.specs.Complements.{CompTree, CompTrees, no_comps, more_comps, comps_of, comp_count}
 use Rattle.complement_file.specs.ComplementJson.{tree_of_complement, place_items, place_members}
 use Rattle.complement_file.specs.Reading.{IsComplement, ArePlaces, member_contents}
 use Rattle.complement_file.proofs.ReadSoFar.{CompsRead, next_comp, all_comps, none_left, then_comps}

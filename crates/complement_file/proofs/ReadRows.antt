@@ -1,5 +1,5 @@
 -- Reading the paired rows of a record: a complement for each, in written order.
-use Rattle.std.proofs.Common.{◌≡◌, ◌≢◌, ℕ, zero, suc, ◌+◌, ◌<◌, ◌≤◌, ◌&&◌, true, List, [], ◌∷◌, ◌++◌, length-append, map, drop, length, get_or, IsTrue, refl, sym, ap, ap₂, subst, ◌∙◌, arith, add-one}
+use Rattle.std.proofs.Common.{◌≡◌, ◌≢◌, ℕ, zero, suc, ◌+◌, ◌<◌, ◌≤◌, ◌&&◌, true, List, [], ◌∷◌, ◌++◌, map, drop, length, get_or, IsTrue, sym, ap, ap₂, subst, ◌∙◌, arith}
 use Rattle.std.proofs.lemmas.List.{drop_all}
 use Rattle.texts.proofs.Conjunction.{first, second}
 use Rattle.serde_json.specs.Data.{Data, Items, no_items, item}
@@ -12,7 +12,7 @@ use Rattle.lens_forms.specs.Typing.{is_typed, are_typed_rows}
 use Rattle.lens_forms.specs.declared.form.Form.{Form}
 use Rattle.lens_forms.specs.declared.form.FormRow.{FormRow}
 use Rattle.lens_forms.specs.declared.form.FormRow.TheVariants.{Both, OnlyLeft, OnlyRight}
-use Rattle.lens_core.specs.Complements.{CompTree, CompTrees, no_comps, more_comps, comps_of, Fits, FitRows}
+use Rattle.lens_core.specs.Complements.{CompTree, CompTrees, no_comps, more_comps, comps_of}
 use Rattle.complement_file.specs.ComplementJson.{tree_of_complement, row_items}
 use Rattle.complement_file.specs.Reading.{IsComplement, AreRows}
 use Rattle.complement_file.proofs.ReadSoFar.{CompsRead, no_comps_yet, next_comp, all_comps, none_left, then_comps}

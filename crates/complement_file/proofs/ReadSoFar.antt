@@ -48,9 +48,6 @@ all_comps Whole Rest cs r h = subst Whole (then_comps-nil cs) (r.up no_comps h)
 abbrev pub NumbersRead : (List ℕ → Type 0) → (List ℕ → Type 0) → List ℕ → Type 0
 NumbersRead Whole Rest ks = ReadSoFar (List ℕ) Whole Rest (λ js. ks ++ js)
 
-pub no_numbers_yet : (Whole : List ℕ → Type 0) → NumbersRead Whole Whole []
-no_numbers_yet Whole = record { up = λ js h. h; down = λ js h. (js, h) }
-
 pub next_number : (Whole Rest Later : List ℕ → Type 0) (ks : List ℕ) (k : ℕ) → NumbersRead Whole Rest ks
     → ((js : List ℕ) → Later js → Rest (k ∷ js)) → ((js : List ℕ) → Rest js → (is : List ℕ) × Later is) → NumbersRead Whole Later (ks ++ k ∷ [])
 next_number Whole Rest Later ks k r into out = record {

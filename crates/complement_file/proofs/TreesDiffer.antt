@@ -1,13 +1,11 @@
 -- Two complements of one lens never have the same tree.
-use Rattle.std.proofs.Common.{◌≡◌, ℕ, zero, suc, ◌+◌, ◌<◌, Bool, true, false, not, ◌&&◌, ◌||◌, List, [], ◌∷◌, length, Option, Some, None, IsTrue, bytes_eq, codes, refl, sym, ap, ap₂, subst, ◌∙◌, arith}
+use Rattle.std.proofs.Common.{◌≡◌, ℕ, zero, suc, ◌<◌, true, false, not, ◌&&◌, List, [], ◌∷◌, length, Option, Some, None, bytes_eq, refl, sym, ap, ap₂, subst, ◌∙◌, arith}
 use Rattle.std.specs.Prelude.{nat_eq, nat_lt}
 use Rattle.texts.specs.Keys.{is_rising, has_name}
 use Rattle.texts.proofs.Conjunction.{first as left, second as right}
-use Rattle.hold_shapes.specs.Trees.{is_valid}
 use Rattle.hold_shapes.specs.declared.shape.Shape.TheVariants.{List as ListOf, Keyed as KeyedOf, Tree as TreeOf}
-use Rattle.serde_json.specs.Data.{Data, string, Items, item}
 use Rattle.tag_seq.specs.Tags.{are_below}
-use Rattle.doc_values.specs.Types.{TyTree, FieldTrees, no_fields, more_fields, names_of, are_distinct, are_choices, are_well_formed, is_well_formed, is_same_ty}
+use Rattle.doc_values.specs.Types.{FieldTrees, no_fields, more_fields, names_of, are_distinct, are_choices, are_well_formed, is_well_formed, is_same_ty}
 use Rattle.value_json.specs.Numbers.{count_items}
 use Rattle.value_json.specs.DocumentJson.{member_names}
 use Rattle.value_json.proofs.Facts.{equal, same_bytes}

@@ -1,5 +1,5 @@
 -- What a reader of complements returns: what is found has the tree that is read, and a refusal says that nothing has it.
-use Rattle.std.specs.Prelude.{◌≡◌, ℕ, IsTrue, List, [], ◌∷◌, Option, Some, None, Result, Ok, Err, codes, nat_lt}
+use Rattle.std.specs.Prelude.{◌≡◌, ℕ, IsTrue, List, Option, Some, None, Result, Ok, Err, codes, nat_lt}
 use Rattle.serde_json.specs.Data.{Data, null, string, array, object, Items, no_items, item, Members, no_members, member}
 use Rattle.doc_values.specs.Types.{FieldTrees}
 use Rattle.tag_seq.specs.Tags.{are_below}

@@ -1,12 +1,10 @@
-use Rattle.std.proofs.Common.{◌≡◌, List, codes, sym, ap, subst}
+use Rattle.std.proofs.Common.{List, codes, sym, subst}
 use Rattle.std.proofs.lemmas.Result.{err_from_is_err_and}
 use Rattle.serde_json.specs.View.{view, items_view}
 use Rattle.serde_json.specs.declared.value.Value.{Value}
-use Rattle.doc_values.specs.Types.{fields_tree}
-use Rattle.lens_forms.specs.Forms.{form_part}
-use Rattle.complement_file.specs.Reading.{HasArray, IsComplement}
+use Rattle.complement_file.specs.Reading.{HasArray}
 use Rattle.complement_file.proofs.Found.{refused_with}
-use Rattle.complement_file.proofs.ReadForms.{tags_found, no_tags, tags_refused}
+use Rattle.complement_file.proofs.ReadForms.{no_tags, tags_refused}
 use Rattle.complement_file.proofs.numbers.read_tags.Goals as goal
 
 pub returns-in_default : goal.returns-in_default

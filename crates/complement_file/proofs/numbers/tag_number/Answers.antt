@@ -1,4 +1,4 @@
-use Rattle.std.proofs.Common.{◌≡◌, ℕ, ◌<◌, ◌≤◌, sym, arith}
+use Rattle.std.proofs.Common.{sym, arith}
 use Rattle.serde_json.specs.View.{view}
 use Rattle.doc_values.specs.Types.{fields_tree}
 use Rattle.complement_file.proofs.ReadTags.{is_tag, no_text, no_tag, tag_found, few_tags}

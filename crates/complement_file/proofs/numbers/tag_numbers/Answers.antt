@@ -1,4 +1,3 @@
-use Rattle.std.proofs.Common.{◌≡◌, ◌<◌, ◌≤◌, arith}
 use Rattle.serde_json.specs.View.{view, items_view}
 use Rattle.doc_values.specs.Types.{fields_tree}
 use Rattle.complement_file.specs.Reading.{AreTags}

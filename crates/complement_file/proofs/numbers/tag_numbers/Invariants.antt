@@ -1,4 +1,4 @@
-use Rattle.std.proofs.Common.{◌≡◌, drop}
+use Rattle.std.proofs.Common.{drop}
 use Rattle.serde_json.specs.View.{items_view}
 use Rattle.doc_values.specs.Types.{fields_tree}
 use Rattle.complement_file.specs.Reading.{AreTags}

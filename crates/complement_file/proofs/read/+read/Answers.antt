@@ -1,4 +1,4 @@
-use Rattle.std.proofs.Common.{◌≡◌, ◌≢◌, ℕ, ◌+◌, ◌<◌, ◌≤◌, List, [], ◌∷◌, ◌++◌, length, length-append, map, option_map, get_or, codes, Some, None, IsTrue, Vec, Global, string_bytes, refl, sym, ap, subst, ◌∙◌, arith}
+use Rattle.std.proofs.Common.{◌≡◌, ◌≢◌, ℕ, ◌+◌, ◌<◌, ◌≤◌, List, [], ◌∷◌, ◌++◌, length, length-append, map, option_map, get_or, codes, Some, None, Vec, Global, sym, ap, subst, ◌∙◌, arith}
 use Rattle.std.proofs.lemmas.List.{map-append}
 use Rattle.std.proofs.lemmas.Result.{err_from_is_err_and}
 use Rattle.hold_shapes.specs.Trees.{is_valid}
@@ -6,12 +6,11 @@ use Rattle.texts.specs.Keys.{is_rising}
 use Rattle.serde_json.specs.View.{view, items_view, members_view}
 use Rattle.serde_json.specs.declared.value.Value.{Value}
 use Rattle.value_json.specs.Numbers.{counts_of}
-use Rattle.value_json.specs.DocumentJson.{member_names}
 use Rattle.lens_forms.specs.Forms.{RowTrees, form_tree, rows_tree, arms_tree, form_then, form_rec, form_alt, form_each, form_keyed, form_ordered}
-use Rattle.lens_forms.specs.Measures.{form_parts, rows_parts}
+use Rattle.lens_forms.specs.Measures.{rows_parts}
 use Rattle.lens_forms.specs.Typing.{are_typed_rows}
 use Rattle.lens_forms.specs.declared.form.FormRow.{FormRow}
-use Rattle.lens_core.specs.Complements.{CompTree, CompTrees, alt_comp, comp_tree, comps_tree, comps_of}
+use Rattle.lens_core.specs.Complements.{CompTrees, alt_comp, comp_tree, comps_tree, comps_of}
 use Rattle.lens_core.specs.declared.comp.Comp.{Comp}
 use Rattle.complement_file.specs.ComplementJson.{tree_of_complement}
 use Rattle.complement_file.specs.Reading.{nodes_tree, HasArray, IsComplement, ArePlaces, AreRows, member_contents}
@@ -21,7 +20,6 @@ use Rattle.complement_file.proofs.Levels.{rec_level, alt_level, hold_level}
 use Rattle.complement_file.proofs.ReadForms.{pair_found, no_pair, first_refused, second_refused, rec_found, no_rec, rec_refused, tagged_found, no_tagged, not_text, no_arm, arm_refused, list_found, no_list, list_refused, keyed_found, no_keyed, keys_not_rising, contents_refused, nodes_found, no_nodes, not_counts, not_as_many, not_valid, nodes_refused}
 use Rattle.complement_file.proofs.ReadPlaces.{places_many, next_place, refused_place, all_places, items_next, items_end, contents_next, contents_end}
 use Rattle.complement_file.proofs.ReadRows.{RowsRead, rows_at_first, lens_typed, row_read, no_item, item_refused, left_skipped, right_skipped, all_rows, item_left}
-use Rattle.complement_file.proofs.ReadSoFar.{no_comps_yet}
 use Rattle.complement_file.proofs.Rows.{row_smaller_is}
 use Rattle.complement_file.proofs.read.+read.Goals as goal
 use Rattle.complement_file.proofs.read.+read.Goals.{read_rows-in-Both+else-next-items+in_ok-comp-in-Both+in_ok-push-in-Both, read_rows-in-OnlyLeft, read_rows-in-OnlyRight}

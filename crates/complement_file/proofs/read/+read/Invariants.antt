@@ -1,4 +1,4 @@
-use Rattle.std.proofs.Common.{◌≡◌, ◌+◌, ◌*◌, drop, length, map}
+use Rattle.std.proofs.Common.{◌+◌, ◌*◌, drop, length, map}
 use Rattle.serde_json.specs.View.{items_view, members_view}
 use Rattle.lens_forms.specs.Forms.{form_tree, rows_tree, arms_tree}
 use Rattle.lens_forms.specs.Measures.{form_parts, rows_parts, arms_parts}

@@ -1,5 +1,4 @@
-use Rattle.std.proofs.Common.{◌≡◌, ◌∙◌, sym}
-use Rattle.serde_json.specs.View.{view}
+use Rattle.std.proofs.Common.{◌∙◌}
 use Rattle.complement_file.proofs.TreeParts.{not_a_pair}
 use Rattle.complement_file.proofs.trees.pair_in.Goals as goal
 
