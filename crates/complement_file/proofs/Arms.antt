@@ -1,13 +1,13 @@
 -- The arm of a left tag, as the code looks it up, and what holds of its lens.
-use Rattle.std.proofs.Common.{◌≡◌, ◌⊎◌, inl, inr, ℕ, ◌+◌, ◌<◌, ◌≤◌, Bool, true, false, not, ◌&&◌, ◌||◌, cond, List, [], ◌∷◌, length, map, drop, drop-cons, get_or, add-one, Option, None, Some, IsTrue, refl, sym, ap, subst, ◌∙◌, arith}
+use Rattle.std.proofs.Common.{◌≡◌, ◌⊎◌, inl, inr, ℕ, ◌+◌, ◌<◌, ◌≤◌, Bool, true, false, not, ◌||◌, cond, List, [], ◌∷◌, length, map, drop, drop-cons, get_or, add-one, Option, None, Some, IsTrue, refl, sym, ap, subst, arith}
 use Rattle.std.specs.Prelude.{bytes_eq}
 use Rattle.std.proofs.lemmas.List.{drop_all}
 use Rattle.texts.specs.Keys.{has_name}
-use Rattle.texts.proofs.Conjunction.{both, first, second}
+use Rattle.texts.proofs.Conjunction.{first, second}
 use Rattle.value_json.proofs.Facts.{equal_bytes, same_bytes}
 use Rattle.doc_values.specs.Types.{are_distinct, are_choices}
 use Rattle.lens_forms.specs.Forms.{FormTree, form_alt, ArmTrees, no_arms, more_arms, form_arms_of, arm_tree, form_tree}
-use Rattle.lens_forms.specs.Typing.{is_typed, are_typed_arms, left_arms, right_arms}
+use Rattle.lens_forms.specs.Typing.{is_typed, are_typed_arms, left_arms}
 use Rattle.lens_forms.specs.Measures.{form_parts, arms_parts}
 use Rattle.lens_forms.specs.declared.form.Form.{Form}
 use Rattle.lens_core.specs.Complements.{CompTree, alt_comp, Fits, FitsArm}
@@ -35,11 +35,11 @@ pub ruleset arm_rules = (found_here, found_next, found_all)
 
 -- ---- the lens of a tag
 
-not_true : (q : Bool) → not q ≡ true → q ≡ false
+pub not_true : (q : Bool) → not q ≡ true → q ≡ false
 not_true true h = cc
 not_true false h = refl
 
-or_true : (q : Bool) → (q || true) ≡ true
+pub or_true : (q : Bool) → (q || true) ≡ true
 or_true true = refl
 or_true false = refl
 
@@ -83,7 +83,7 @@ fits t (more_arms a b m arms) c l d e h =
     (λ s f. fits t arms c l (second (not (has_name a (left_arms arms))) _ d) s f)
 
 -- what holds of the lens of each arm holds of the one that is found
-found_step : (P : FormTree → Type 0) (l m : FormTree) (rest : Option FormTree) (k : Bool) → cond k (Some m) rest ≡ Some l → P m → (rest ≡ Some l → P l) → P l
+pub found_step : (P : FormTree → Type 0) (l m : FormTree) (rest : Option FormTree) (k : Bool) → cond k (Some m) rest ≡ Some l → P m → (rest ≡ Some l → P l) → P l
 found_step P l m rest true e here again = subst P (same e) here
 found_step P l m rest false e here again = again e
 
@@ -106,7 +106,7 @@ pub arm_tree_is : (t : List ℕ) (arms : ArmTrees) (l : FormTree) (c : CompTree)
 arm_tree_is t no_arms l c e = cc
 arm_tree_is t (more_arms a b m arms) l c e = tree_step l m c (arm_with arms t) (tree_in_arm arms t c) (bytes_eq a t) e (λ s. arm_tree_is t arms l c s)
 
-distinct_choices : (ns : List (List ℕ)) → are_choices ns ≡ true → are_distinct ns ≡ true
+pub distinct_choices : (ns : List (List ℕ)) → are_choices ns ≡ true → are_distinct ns ≡ true
 distinct_choices [] h = cc
 distinct_choices (n ∷ ns) h = h
 

@@ -1,12 +1,14 @@
 -- The definition, tried on small examples.
-use Rattle.std.proofs.Common.{◌≡◌, ℕ, pos, List, [], ◌∷◌, codes, refl}
-use Rattle.serde_json.specs.Data.{null, string, array, object, no_items, item, no_members, member}
+use Rattle.std.proofs.Common.{◌≡◌, pos, [], ◌∷◌, codes, inl, inr, refl}
+use Rattle.serde_json.specs.Data.{Items, null, string, array, object, no_items, item, no_members, member}
 use Rattle.hold_shapes.specs.declared.shape.Shape.TheVariants.{List as ListOf, Keyed as KeyedOf, Tree as TreeOf}
 use Rattle.doc_values.specs.Types.{ty_int, ty_text, ty_bool, FieldTrees, no_fields, more_fields}
 use Rattle.value_json.specs.Numbers.{count_tree}
-use Rattle.lens_forms.specs.Forms.{FormTree, form_id, form_disc, form_then, form_rec, form_alt, form_each, form_keyed, form_ordered, form_part, form_inv, no_rows, both, only_left, only_right, no_arms, more_arms}
+use Rattle.lens_forms.specs.Forms.{FormTree, form_id, form_then, form_rec, form_alt, form_each, form_keyed, form_ordered, form_part, form_inv, no_rows, both, only_left, only_right, no_arms, more_arms}
 use Rattle.lens_core.specs.Complements.{CompTree, nil, then_comp, rec_comp, alt_comp, hold_comp, tags_comp, no_comps, more_comps}
 use Rattle.complement_file.specs.ComplementJson.{tree_of_complement, one, two}
+use Rattle.complement_file.specs.Reading.{IsComplement}
+use Rattle.complement_file.proofs.ReadForms.{no_list}
 
 abbrev number : FormTree
 number = form_id (ty_int (pos 0))
@@ -44,3 +46,31 @@ of_tags = refl
 -- both complements of a composition, and that of the lens of an inverse
 of_both : tree_of_complement (form_then (form_part tags) (form_inv number)) (then_comp (tags_comp []) nil) ≡ one (codes "then") (two (one (codes "tags") (array no_items)) null)
 of_both = refl
+
+-- ---- what is read from a tree
+
+read_of_a_number : IsComplement number null nil
+read_of_a_number = (tt, refl)
+
+read_of_a_record : IsComplement (form_rec (only_left (codes "x") ty_bool (both (codes "a") (codes "b") number no_rows))) (one (codes "rec") (array (item null no_items))) (rec_comp (more_comps nil no_comps))
+read_of_a_record = ((tt, tt), refl)
+
+read_of_an_arm : IsComplement (form_alt (more_arms (codes "s") (codes "S") number (more_arms (codes "t") (codes "T") (form_each number) no_arms))) (one (codes "alt") (two (string (codes "t")) (one (codes "list") (array no_items))))
+    (alt_comp (codes "t") (hold_comp (ListOf (record { count = 0 })) no_comps))
+read_of_an_arm = (inr (inl (refl, (refl, tt))), refl)
+
+read_of_keys : IsComplement (form_keyed number) (one (codes "keyed") (object (member (codes "0") null (member (codes "a") null no_members)))) (hold_comp (KeyedOf (codes "0" ∷ codes "a" ∷ [])) (more_comps nil (more_comps nil no_comps)))
+read_of_keys = ((refl, (tt, (tt, tt))), refl)
+
+read_of_nodes : IsComplement (form_ordered number) (one (codes "tree") (object (member (codes "depths") (array (item (count_tree 0) no_items)) (member (codes "items") (array (item null no_items)) no_members)))) (hold_comp (TreeOf (0 ∷ [])) (more_comps nil no_comps))
+read_of_nodes = ((refl, (tt, tt)), refl)
+
+read_of_tags : IsComplement (form_part tags) (one (codes "tags") (array (item (string (codes "o")) (item (string (codes "p")) no_items)))) (tags_comp (1 ∷ 0 ∷ []))
+read_of_tags = (refl, refl)
+
+read_of_both : IsComplement (form_then (form_inv number) (form_part tags)) (one (codes "then") (two null (one (codes "tags") (array no_items)))) (then_comp nil (tags_comp []))
+read_of_both = ((tt, refl), refl)
+
+-- {"list":null} is the tree of no complement of a list
+not_a_list : (c : CompTree) → IsComplement (form_each number) (one (codes "list") null) c → ⊥
+not_a_list = no_list number (one (codes "list") null) (λ (ds : Items) q. cc)

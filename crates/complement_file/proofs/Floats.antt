@@ -7,7 +7,7 @@ use Rattle.serde_json.specs.Written.{has_float, items_have_float, members_have_f
 use Rattle.doc_values.specs.Types.{FieldTrees}
 use Rattle.value_json.proofs.TreeDepths.{counts_whole}
 use Rattle.lens_forms.specs.Forms.{FormTree, form_id, form_bij, form_disc, form_then, form_rec, form_alt, form_each, form_keyed, form_ordered, form_part, form_inv, RowTrees, no_rows, both, only_left, only_right, ArmTrees, no_arms, more_arms}
-use Rattle.lens_core.specs.Complements.{CompTree, nil, then_comp, rec_comp, alt_comp, hold_comp, tags_comp, CompTrees, no_comps, more_comps}
+use Rattle.lens_core.specs.Complements.{CompTree, then_comp, rec_comp, alt_comp, hold_comp, tags_comp, CompTrees, no_comps, more_comps}
 use Rattle.complement_file.specs.ComplementJson.{tree_of_complement, row_items, tree_in_arm, place_items, place_members, tag_items}
 
 neither : (a b : Bool) → a ≡ false → b ≡ false → (a || b) ≡ false

@@ -1,5 +1,5 @@
 -- One level of a form and of a complement, and what holds of the parts.
-use Rattle.std.proofs.Common.{◌≡◌, ℕ, ◌&&◌, List, length, Result, Ok, Err, IfOk, IsTrue, Box, Global, refl, sym, ap, ap₂, subst, ◌∙◌, rules}
+use Rattle.std.proofs.Common.{◌≡◌, ℕ, List, length, Result, Ok, Err, IfOk, IsTrue, Box, Global, sym, ap, subst, ◌∙◌, rules}
 use Rattle.std.specs.declared.alloc.AllocError.{AllocError}
 use Rattle.texts.specs.Keys.{is_rising}
 use Rattle.texts.proofs.Conjunction.{first, second}
@@ -8,15 +8,15 @@ use Rattle.serde_json.specs.View.{view}
 use Rattle.serde_json.specs.declared.value.Value.{Value}
 use Rattle.value_json.proofs.Facts.{equal}
 use Rattle.hold_shapes.specs.declared.shape.Shape.{Shape}
-use Rattle.hold_shapes.specs.declared.shape.Shape.TheVariants.{List as ListOf, Keyed as KeyedOf, Tree as TreeOf}
+use Rattle.hold_shapes.specs.declared.shape.Shape.TheVariants.{Keyed as KeyedOf}
 use Rattle.doc_values.specs.Typing.{is_keyed_of}
 use Rattle.lens_forms.specs.Forms.{FormTree, form_each, form_keyed, form_ordered, form_tree}
 use Rattle.lens_forms.specs.Typing.{is_typed}
 use Rattle.lens_forms.specs.declared.form.Form.{Form, the_lemmas as form_lemmas}
 use Rattle.lens_forms.specs.declared.form.Form.TheVariants.{Each, Keyed, Tree}
-use Rattle.lens_core.specs.Complements.{CompTree, CompTrees, hold_comp, comp_tree, comps_tree, comp_count, Fits, AllFit}
+use Rattle.lens_core.specs.Complements.{CompTree, CompTrees, rec_comp, alt_comp, hold_comp, comp_tree, comps_tree, comp_count, Fits, AllFit}
 use Rattle.lens_core.specs.declared.comp.Comp.{Comp, the_lemmas as comp_lemmas}
-use Rattle.lens_core.specs.declared.comp.Comp.TheVariants.{Hold}
+use Rattle.lens_core.specs.declared.comp.Comp.TheVariants.{Rec, Alt, Hold}
 use Rattle.lens_core.specs.declared.comp.Comps.{Comps}
 
 each_level : (b : Box Form Global) → form_tree (Each b) ≡ form_each (form_tree b.value)
@@ -28,8 +28,14 @@ keyed_level b = search (rules, form_lemmas)
 tree_level : (b : Box Form Global) → form_tree (Tree b) ≡ form_ordered (form_tree b.value)
 tree_level b = search (rules, form_lemmas)
 
-hold_level : (s : Shape) (cs : Comps) → comp_tree (Hold s cs) ≡ hold_comp s (comps_tree cs)
+pub hold_level : (s : Shape) (cs : Comps) → comp_tree (Hold s cs) ≡ hold_comp s (comps_tree cs)
 hold_level s cs = search (rules, comp_lemmas)
+
+pub rec_level : (cs : Comps) → comp_tree (Rec cs) ≡ rec_comp (comps_tree cs)
+rec_level cs = search (rules, comp_lemmas)
+
+pub alt_level : (n : List ℕ) (b : Box Comp Global) → comp_tree (Alt n b) ≡ alt_comp n (comp_tree b.value)
+alt_level n b = search (rules, comp_lemmas)
 
 pub each_form : (f : Form) (b : Box Form Global) (i : Form) → f ≡ Each b → i ≡ b.value → form_tree f ≡ form_each (form_tree i)
 each_form f b i is e = ap form_tree is ∙ each_level b ∙ ap (λ x. form_each (form_tree x)) (sym e)

@@ -29,23 +29,23 @@ behind_nothing : (xs : List Data) → behind xs no_items ≡ items_of xs
 behind_nothing [] = refl
 behind_nothing (x ∷ xs) = ap (item x) (behind_nothing xs)
 
-row_tree-both : (a b : List ℕ) (l : Form) → row_tree (Both a b l) ≡ row_both a b (form_tree l)
+pub row_tree-both : (a b : List ℕ) (l : Form) → row_tree (Both a b l) ≡ row_both a b (form_tree l)
 row_tree-both a b l = search (rules, row_lemmas)
 
-row_tree-left : (a : List ℕ) (t : Ty) → row_tree (OnlyLeft a t) ≡ row_left a (ty_tree t)
+pub row_tree-left : (a : List ℕ) (t : Ty) → row_tree (OnlyLeft a t) ≡ row_left a (ty_tree t)
 row_tree-left a t = search (rules, row_lemmas)
 
-row_tree-right : (b : List ℕ) (t : Ty) → row_tree (OnlyRight b t) ≡ row_right b (ty_tree t)
+pub row_tree-right : (b : List ℕ) (t : Ty) → row_tree (OnlyRight b t) ≡ row_right b (ty_tree t)
 row_tree-right b t = search (rules, row_lemmas)
 
 -- the rows from one on
 abbrev pub rows_from : List FormRow → ℕ → RowTrees
 rows_from rows i = form_rows_of (map row_tree (drop i rows))
 
-rows_next : (rows : List FormRow) (i : ℕ) (r : FormRow) → i < length rows → r ≡ get_or rows i r → rows_from rows i ≡ with_row (row_tree r) (rows_from rows (i + 1))
+pub rows_next : (rows : List FormRow) (i : ℕ) (r : FormRow) → i < length rows → r ≡ get_or rows i r → rows_from rows i ≡ with_row (row_tree r) (rows_from rows (i + 1))
 rows_next rows i r h is = rw (drop-cons rows i r h, add-one) (ap (λ (q : FormRow). with_row (row_tree q) (rows_from rows (suc i))) (sym is))
 
-next_both : (rows : List FormRow) (i : ℕ) (r : FormRow) (a b : List ℕ) (l : Form) → i < length rows → r ≡ get_or rows i r → r ≡ Both a b l
+pub next_both : (rows : List FormRow) (i : ℕ) (r : FormRow) (a b : List ℕ) (l : Form) → i < length rows → r ≡ get_or rows i r → r ≡ Both a b l
     → rows_from rows i ≡ both a b (form_tree l) (rows_from rows (i + 1))
 next_both rows i r a b l h is row = rows_next rows i r h is ∙ ap (λ q. with_row q (rows_from rows (i + 1))) (ap row_tree row ∙ row_tree-both a b l)
 

@@ -1,5 +1,5 @@
 -- The names of tags by their numbers, in the lists that the code reads.
-use Rattle.std.proofs.Common.{◌≡◌, ℕ, zero, suc, ◌+◌, ◌<◌, true, List, [], ◌∷◌, length, map, get_or, refl, sym, ap, arith}
+use Rattle.std.proofs.Common.{◌≡◌, ℕ, zero, suc, ◌<◌, true, List, [], ◌∷◌, length, map, get_or, refl, sym, ap, arith}
 use Rattle.std.specs.Prelude.{nat_lt, slice_index}
 use Rattle.std.proofs.lemmas.Bool.Decides.{nat_tests}
 use Rattle.texts.proofs.Conjunction.{first, second}
@@ -20,7 +20,7 @@ tags_length : (fs : List (List ℕ × Ty)) → tag_count (type_fields_of (map fi
 tags_length [] = refl
 tags_length (f ∷ fs) = omega (arith, tags_length fs)
 
-lower : (a b : ℕ) → nat_lt a b ≡ true → a < b
+pub lower : (a b : ℕ) → nat_lt a b ≡ true → a < b
 lower a b h = grind (arith, nat_tests)
 
 below_at : (bound : ℕ) (ks : List ℕ) (i : ℕ) → i < length ks → are_below bound ks ≡ true → slice_index ks i < bound

@@ -1,1 +1,2 @@
 pub mod ComplementJson
+pub mod Reading

@@ -1,6 +1,6 @@
 //! Writing a complement as a JSON tree.
 
-ghost use Rattle.std.specs.Prelude.{◌≡◌, IfOk, IsTrue, codes, length, option_map};
+ghost use Rattle.std.specs.Prelude.{◌≡◌, IfOk, IsTrue, codes, length};
 ghost use Rattle.serde_json.specs.Data.{array, object, member, no_members};
 ghost use Rattle.serde_json.specs.View.{view};
 ghost use Rattle.texts.specs.Keys.{is_rising};
@@ -9,8 +9,9 @@ ghost use Rattle.value_json.specs.Numbers.{count_items};
 ghost use Rattle.lens_forms.specs.Forms.{form_tree, rows_tree, arms_tree, form_rec, form_alt, form_keyed};
 ghost use Rattle.lens_forms.specs.Typing.{is_typed};
 ghost use Rattle.lens_core.specs.Complements.{comp_tree, comps_tree, rec_comp, alt_comp, hold_comp, comp_count, Fits, AllFit};
-ghost use Rattle.complement_file.specs.ComplementJson.{tree_of_complement, one, two, arm_with, place_items, place_members};
+ghost use Rattle.complement_file.specs.ComplementJson.{tree_of_complement, one, two, place_items, place_members};
 
+use crate::lookup::find_arm;
 use crate::tags::write_tags;
 use hold_shapes::Shape;
 use lens_core::{Comp, Comps};
@@ -125,18 +126,6 @@ fn write_tagged(
     };
     let part = write(alloc, form, inner)?;
     write_pair(alloc, "alt", write_text(alloc, name)?, part)
-}
-
-// The lens of the first arm with a left tag. None if and only if no arm has it.
-fn find_arm<'a>(arms: &'a FormArms, tag: &str) -> Option<&'a Form>
-    ensures { option_map (λ f. form_tree f.now) result ≡ arm_with (arms_tree arms.now) tag.now }
-{
-    for arm in arms.as_slice() {
-        if arm.0.as_str() == tag {
-            return Some(&arm.2);
-        }
-    }
-    None
 }
 
 // An array with an item for each place.

@@ -6,7 +6,7 @@ use Rattle.serde_json.proofs.Views.{view-Array}
 use Rattle.doc_values.specs.Types.{type_fields_of, field_tree}
 use Rattle.doc_values.specs.declared.ty.Ty.{Ty}
 use Rattle.tag_seq.specs.Tags.{are_below}
-use Rattle.lens_core.specs.Tags.{tag_count, tag_name}
+use Rattle.lens_core.specs.Tags.{tag_count}
 use Rattle.value_json.proofs.Writing.{push_item}
 use Rattle.complement_file.specs.ComplementJson.{tag_items}
 use Rattle.complement_file.proofs.TagNames.{name_at, number_within, tag_tree, items_of_tags}

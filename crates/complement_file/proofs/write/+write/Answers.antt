@@ -1,16 +1,14 @@
-use Rattle.std.proofs.Common.{◌≡◌, ℕ, ◌+◌, ◌<◌, ◌≤◌, List, [], ◌∷◌, ◌++◌, length-append, slice_index_or, codes, map, length, IsTrue, Vec, Global, sym, ap, ap₂, subst, ◌∙◌, arith, rules}
-use Rattle.texts.specs.Keys.{is_rising}
+use Rattle.std.proofs.Common.{◌≡◌, ℕ, ◌+◌, ◌<◌, ◌≤◌, List, [], ◌∷◌, ◌++◌, length-append, slice_index_or, codes, map, length, Vec, Global, sym, ap, ap₂, subst, ◌∙◌, arith}
 use Rattle.std.proofs.lemmas.List.{take_all, map-append}
 use Rattle.serde_json.specs.Data.{array, object, string, put}
 use Rattle.serde_json.specs.View.{view, items_of, members_view}
 use Rattle.serde_json.specs.declared.value.Value.{Value}
 use Rattle.serde_json.proofs.Views.{view-Array, view-Object}
-use Rattle.hold_shapes.specs.declared.shape.Shape.TheVariants.{Keyed as KeyedOf}
 use Rattle.hold_shapes.proofs.SharedItems.{item-at}
-use Rattle.lens_forms.specs.Forms.{form_tree, rows_tree, arms_tree}
+use Rattle.lens_forms.specs.Forms.{form_tree, arms_tree}
 use Rattle.lens_forms.specs.declared.form.FormRow.{FormRow}
 use Rattle.lens_forms.specs.Measures.{form_parts, rows_parts}
-use Rattle.lens_core.specs.Complements.{CompTree, nil, comp_tree, comps_tree, comps_of, comp_list, hold_comp, Fits, AllFit}
+use Rattle.lens_core.specs.Complements.{CompTree, nil, comp_tree, comps_tree, comps_of, comp_list, Fits, AllFit}
 use Rattle.lens_core.proofs.ComplementTrees.{comps_of-comp_list, comp_count-length}
 use Rattle.value_json.proofs.Writing.{push_item}
 use Rattle.complement_file.specs.ComplementJson.{tree_of_complement, one, two, place_items, place_members, row_items}
