@@ -22,9 +22,18 @@ impl Outcome {
     }
 }
 
-/// Runs the command of a step.
+/// Runs the command of a step, with its input in the pieces that the step says.
 pub fn run_step(alloc: Global, step: &Step) -> Result<Outcome> {
-    let pieces = step.head.pieces.clone()?;
+    run_in_pieces(alloc, step, step.head.pieces.clone()?)
+}
+
+/// Runs the command of a step with its input in pieces of one length.
+pub fn run_cut(alloc: Global, step: &Step, piece: u64) -> Result<Outcome> {
+    let pieces = vec![in alloc; piece; step.input.len()]?;
+    run_in_pieces(alloc, step, pieces)
+}
+
+fn run_in_pieces(alloc: Global, step: &Step, pieces: Vec<u64>) -> Result<Outcome> {
     if !are_positive(&pieces) {
         bail!("a piece has 0 bytes");
     }

@@ -26,6 +26,13 @@ pub struct Head {
     pub sink_fails: Vec<u64>,
 }
 
+impl Head {
+    /// Whether the line says in which pieces the source gives the input, or which of its calls fail.
+    pub fn says_source(&self) -> bool {
+        !self.pieces.is_empty() || !self.source_fails.is_empty()
+    }
+}
+
 /// The lengths of the parts that follow the line, in bytes.
 #[derive(Clone, Copy)]
 pub struct Lengths {

@@ -1,12 +1,15 @@
 //! All cases of a file, and how many of them differ.
 
-use crate::compare::{run_step, write_difference};
+use crate::compare::{Outcome, run_cut, run_step, write_difference};
 use crate::step::{Step, read_step};
 use anyhow::{Result, bail};
 use std::alloc::{AllocError, Global};
 
 // How many differing steps of a file are shown.
 const MOST_SHOWN: u64 = 10;
+
+// The lengths of the pieces that an input is cut into, each in a run of its own, where the step says nothing of its source.
+const CUTS: [u64; 5] = [1, 2, 3, 7, 65_536];
 
 /// How the cases of a file have come out.
 #[derive(Drop)]
@@ -93,13 +96,29 @@ impl Tally {
             self.count_not_run();
             return Ok(());
         }
-        let outcome = run_step(alloc, step)?;
+        self.take_outcome(alloc, step, &run_step(alloc, step)?)?;
+        if step.head.says_source() {
+            return Ok(());
+        }
+        for &piece in &CUTS {
+            self.take_outcome(alloc, step, &run_cut(alloc, step, piece)?)?;
+        }
+        Ok(())
+    }
+
+    // Compares what came of a step with what is wanted.
+    fn take_outcome(
+        &mut self,
+        alloc: Global,
+        step: &Step,
+        outcome: &Outcome,
+    ) -> Result<(), AllocError> {
         if outcome.agrees(step) {
             return Ok(());
         }
         self.count_difference();
         if self.differ <= MOST_SHOWN {
-            write_difference(alloc, &mut self.text, self.cases, step, &outcome)?;
+            write_difference(alloc, &mut self.text, self.cases, step, outcome)?;
         }
         Ok(())
     }
