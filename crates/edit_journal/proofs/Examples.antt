@@ -1,5 +1,5 @@
 -- The definitions on small cases.
-use Rattle.std.proofs.Common.{◌≡◌, pos, negsuc, true, false, [], ◌∷◌, Some, None, Ok, Err, codes, refl}
+use Rattle.std.proofs.Common.{◌≡◌, pos, negsuc, true, false, [], ◌∷◌, ◌++◌, Some, None, Ok, Err, codes, refl}
 use Rattle.std.specs.Str.{is_utf8, chars}
 use lib.Utf8.{encode}
 use Rattle.serde_json.specs.Data.{null, string, array, object, no_items, item, no_members, member}
@@ -9,6 +9,7 @@ use Rattle.edit_module.specs.Words.{add, no_primitives, more_primitives}
 use Rattle.texts.specs.declared.side.Side.TheVariants.{Left, Right}
 use Rattle.edit_json.specs.WordJson.{primitive_of}
 use Rattle.edit_journal.specs.Lines.{line_of, is_blank}
+use Rattle.edit_journal.specs.Pieces.{nothing_fed, continued, fed, take_first, last_line, lines_of}
 use Rattle.edit_journal.specs.EntryJson.{tree_of_entry, parts_of, entry_of_tree, tree_of_text, entry_of_line}
 use Rattle.edit_journal.specs.declared.line.Line.TheVariants.{Text, TooLong}
 use Rattle.edit_journal.specs.declared.fault.EntryFault.TheVariants.{LineTooLong, NotJson, NotAnEntry, NotAnEdit}
@@ -24,6 +25,29 @@ blank = refl
 
 not_blank : is_blank (Text (32 ∷ 11 ∷ [])) ≡ false
 not_blank = refl
+
+-- ---- pieces
+
+-- the pieces `a` and `b LF c`: a line that is ended, and a line that is begun
+two_pieces : fed (fed nothing_fed (codes "a")) (codes "b" ++ 10 ∷ codes "c") ≡ record { ended = Text (codes "ab") ∷ []; begun = Text (codes "c") }
+two_pieces = refl
+
+-- the first line is taken, without its LF
+first_taken : take_first (fed nothing_fed (codes "a" ++ 10 ∷ 10 ∷ [])) ≡ (Some (Text (codes "a")), record { ended = Text [] ∷ []; begun = Text [] })
+first_taken = refl
+
+none_to_take : take_first (fed nothing_fed (codes "a")) ≡ (None, record { ended = []; begun = Text (codes "a") })
+none_to_take = refl
+
+-- nothing follows the last LF, so there is no last line
+no_last_line : last_line (fed nothing_fed (codes "a" ++ 10 ∷ [])).begun ≡ None
+no_last_line = refl
+
+stays_too_long : continued TooLong 97 ≡ TooLong
+stays_too_long = refl
+
+three_lines : lines_of (codes "a" ++ 10 ∷ 10 ∷ codes "b") ≡ Text (codes "a") ∷ Text [] ∷ Text (codes "b") ∷ []
+three_lines = refl
 
 -- ---- trees
 

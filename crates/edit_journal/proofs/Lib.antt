@@ -1,4 +1,7 @@
 mod Examples
+pub mod Feeding
+pub mod FirstEnds
+pub mod LinesHeld
 pub mod Texts
 pub mod Entries
 pub mod Reading

@@ -1,15 +1,28 @@
-//! Laws of entries and their trees.
+//! Laws of lines that come in pieces, and of entries and their trees.
 //!
 //! Each function here does nothing: its clauses are the laws, for other crates to rest on.
 
-ghost use Rattle.std.specs.Prelude.{◌≡◌, ◌≤◌, ◌*◌, ◌+◌, true, false, Some, Ok};
+ghost use Rattle.std.specs.Prelude.{◌≡◌, ◌≤◌, ◌*◌, ◌+◌, ◌++◌, ℕ, List, true, false, Some, Ok, option_to_list};
 ghost use Rattle.serde_json.specs.Data.{Data, depth};
 ghost use Rattle.serde_json.specs.Written.{has_float};
 ghost use Rattle.texts.specs.declared.side.Side.{Side};
 ghost use Rattle.edit_module.specs.Words.{WordTree};
 ghost use Rattle.edit_json.specs.WordJson.{tree_of_word, counts_fit, numbers_fit};
 ghost use Rattle.edit_json.specs.Depths.{word_depth};
+ghost use Rattle.edit_journal.specs.Pieces.{FedLines, nothing_fed, fed, last_line, lines_of};
 ghost use Rattle.edit_journal.specs.EntryJson.{tree_of_entry, parts_of, entry_of_tree};
+
+/// Feeding two pieces one after the other leaves what feeding the joined piece leaves.
+pub fn feeding_joins()
+    ensures { (lines : FedLines) (piece next : List ℕ)
+        → fed (fed lines piece) next ≡ fed lines (piece ++ next) }
+{}
+
+/// However a text is cut into pieces, its ended lines and its last line are the lines of the text.
+pub fn feeding_gives_all_lines()
+    ensures { (bytes : List ℕ) → (fed nothing_fed bytes).ended
+        ++ option_to_list (last_line (fed nothing_fed bytes).begun) ≡ lines_of bytes }
+{}
 
 /// Two entries never have the same tree, whatever their counts and numbers are.
 pub fn trees_differ()
