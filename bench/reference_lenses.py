@@ -6,7 +6,8 @@ same in every run. They go to crates/command_cases/data/lenses_reference.cases, 
 
 A lens is a tuple: ('id', T), ('rec', [row, ..]), ('alt', [(a, b, lens), ..]), ('each', lens), ('keyed', lens), ('tree', lens),
 ('part', [(tag, T), ..]), ('inv', lens) and ('then', lens, lens). A row is (a, b, lens), ('left', a, T) or ('right', b, T). A side is 0 for
-the left and 1 for the right. A complement is as docs/FORMATS.md writes it.
+the left and 1 for the right. A complement is as docs/FORMATS.md writes it. bench/reference_consistency.py has besides ('bij', [(a, b), ..])
+and ('disc', T, U).
 """
 import json, os
 from reference import Fails, act, field_text, initial, place_in, plan, type_text
@@ -23,6 +24,10 @@ def text_of(lens):
         return 'id ' + type_text(what)
     if kind == 'then':
         return 'then(%s, %s)' % (text_of(what), text_of(lens[2]))
+    if kind == 'bij':
+        return 'bij[%s]' % ', '.join('"%s"="%s"' % pair for pair in what)
+    if kind == 'disc':
+        return 'disc %s %s' % (type_text(what), type_text(lens[2]))
     if kind == 'rec':
         return '{%s}' % ', '.join(row_text(row) for row in what)
     if kind == 'alt':
@@ -50,6 +55,10 @@ def type_on(side, lens):
         return type_on(1 - side, what)
     if kind == 'then':
         return type_on(side, lens[1 + side])
+    if kind == 'bij':
+        return ('enum', [pair[side] for pair in what])
+    if kind == 'disc':
+        return lens[1 + side]
     if kind == 'rec':
         fields = [(row[side], type_on(side, row[2])) if is_paired(row) else (row[1], row[2])
                   for row in what if is_paired(row) or row[0] == ('left', 'right')[side]]

@@ -1,0 +1,6 @@
+use Rattle.std.proofs.Common.{◌≡◌, map, replicate}
+use Rattle.image_laws.specs.Patterns.{hole, pattern_tree}
+use Rattle.lens_check.proofs.image_part_lists.holes.Given as goal
+
+abbrev pub invariant-loop : goal.invariant-loop
+invariant-loop l = map pattern_tree l.items.items ≡ replicate l.counter hole

@@ -1,0 +1,31 @@
+//! The places of a container's pattern.
+
+ghost use Rattle.std.specs.Prelude.{◌≡◌};
+ghost use Rattle.image_laws.specs.Patterns.{pattern_tree};
+ghost use Rattle.lens_check.specs.ImageParts.{has_shape, HasPlace, place_pattern};
+
+use hold_shapes::Shape;
+use image_laws::Pattern;
+
+// Whether a container of a shape, with this many places, is in the pattern.
+#[tactic(auto, using(crate::proofs::HeldPatterns::shape_rules))]
+pub(crate) fn has_shape(pattern: &Pattern, shape: &Shape, places: usize) -> bool
+    ensures { result ≡ has_shape shape.now places (pattern_tree pattern.now) }
+{
+    match pattern {
+        Pattern::Hole => true,
+        Pattern::Hold(other, patterns) => other.is_same(shape) && patterns.len() == places,
+        _ => false,
+    }
+}
+
+// The pattern at a place of a container's pattern: that of a hole is the hole.
+pub(crate) fn place_pattern(pattern: &Pattern, place: usize) -> &Pattern
+    requires { HasPlace (pattern_tree pattern.now) place }
+    ensures { pattern_tree result.now ≡ place_pattern (pattern_tree pattern.now) place }
+{
+    match pattern {
+        Pattern::Hold(_, patterns) => patterns.get(place),
+        _ => pattern,
+    }
+}
