@@ -1,23 +1,32 @@
 -- What stands at each end of a run.
-use Rattle.std.proofs.Common.{◌≡◌, ◌⊎◌, inl, inr, ℕ, ◌+◌, ◌^◌, ◌<◌, ◌≤◌, List, ◌++◌, length, Bool, true, false, cond, Option, Some, None, Result, Ok, Err, IsTrue, IfSome, refl, sym, ap, subst, ◌∙◌, append-nil, length-append, arith}
+use Rattle.std.proofs.Common.{◌≡◌, ◌⊎◌, inl, inr, ℕ, ◌+◌, ◌^◌, ◌<◌, ◌≤◌, List, [], ◌∷◌, ◌++◌, length, Bool, true, false, cond, Option, Some, None, Result, Ok, Err, IsTrue, IfSome, refl, sym, ap, subst, ◌∙◌, append-nil, length-append, arith}
 use Rattle.std.specs.Io.KnownBytes.{Appends, Consumes, IsAtEnd}
-use Rattle.std.proofs.KnownBytes.{Appends-nil}
+use Rattle.std.specs.List.{list_any}
+use Rattle.std.specs.Prelude.{◌||◌, IfOk}
+use Rattle.std.specs.declared.alloc.AllocError.{AllocError}
+use Rattle.std.proofs.KnownBytes.{Appends-nil, Appends-trans}
 use Rattle.lens_io.specs.Causes.{Increased}
 use Rattle.lens_io.specs.Content.{AppendsFront}
-use Rattle.lens_io.specs.Takes.{Takes}
 use Rattle.lens_io.specs.declared.failed.TakeFault.{TakeFault}
 use Rattle.lens_io.specs.declared.failed.TakeFault.TheVariants as taking
 use Rattle.value_json.proofs.Facts.{map_some}
 use Rattle.lens_forms.specs.Forms.{FormTree}
+use Rattle.edit_journal.specs.declared.line.Line.{Line}
+use Rattle.editlens_main.specs.Coming.{ended_lines, is_separator_line, behind_separator, has_separator, journal_lines, HasPart}
 use Rattle.editlens_main.specs.Lines.{program_part}
 use Rattle.editlens_main.specs.Program.{Refusal, lens_of}
 use Rattle.edit_session.specs.Step.{TripleTree}
 use Rattle.edit_session.specs.Run.{any_refused}
 use Rattle.editlens_main.specs.Report.{items_of, text_of_steps, type_lines, ending, report_with, report, refusal_line}
 use Rattle.editlens_main.specs.Runs.{JournalItem, JournalAnswer, run_of}
-use Rattle.editlens_main.specs.Ends.{IsFinished, StaysInStep, Reports, IsCleanStop, Stops, IsComplete}
+use Rattle.editlens_main.specs.Ends.{IsFinished, StaysInStep, Reports, answers_with, answers_to, AnswersAll, AnswersSome, GoesOn, RefusesPart, WouldWrite, IsCleanStop, Stops, IsComplete}
+use Rattle.editlens_main.specs.Ending.{Ended, Gives}
+use Rattle.editlens_main.specs.Parts.{StopsHead}
+use Rattle.editlens_main.specs.Stopping.{status_of}
 use Rattle.editlens_main.proofs.AcceptedForms.{accepted_typed}
+use Rattle.editlens_main.proofs.Journals.{front_behind}
 use Rattle.editlens_main.proofs.RunInStep.{triples_in_step}
+use Rattle.editlens_main.specs.declared.report.Report.{Report}
 use Rattle.editlens_main.specs.declared.commands.Command.{Command}
 use Rattle.editlens_main.specs.declared.commands.Command.TheVariants.{Run, Check}
 use Rattle.editlens_main.specs.declared.status.Status.{Status}
@@ -65,95 +74,213 @@ few_taken : (bytes : List ℕ) (left' : Option (List ℕ)) (taken : List ℕ) �
 few_taken bytes None taken h = absurd h
 few_taken bytes (Some rest) taken h = omega (arith, ap length h, length-append taken rest)
 
-module _ (command : Command) (left left' held held' : Option (List ℕ)) where
-  stops : (r : Result (List ℕ) TakeFault) (status : Status) (t : Takes (2 ^ 30) left left' r) → (r ≡ Err taking.TooLong → ⊥) → (status ≡ InputTooLong → ⊥)
-      → IsCleanStop command left left' held held' t.bytes status → Stops command left left' held held' status
-  stops r status t whole other clean = record {
-    bytes = t.bytes;
-    consumes = t.consumes;
-    at_most = t.at_most;
-    too_long = ((λ e. absurd (other e)), (λ more. absurd (whole (t.too_long.1 more))));
-    clean = clean;
-  }
-
-  clean_end : (bytes text : List ℕ) (status : Status) → IsAtEnd left' → Appends held held' text
-      → Accepted (lens_of (program_part bytes)) status ⊎ Refuses (lens_of (program_part bytes)) text status → IsCleanStop command left left' held held' bytes status
-  clean_end bytes text status end given (inl (f, some, inl done)) = subst (IsCleanStop command left left' held held' bytes) (sym done) tt
-  clean_end bytes text status end given (inl (f, some, inr refused)) = subst (IsCleanStop command left left' held held' bytes) (sym refused) tt
-  clean_end bytes text status end given (inr (r, none, line, refused)) =
-      subst (IsCleanStop command left left' held held' bytes) (sym refused) (end, (r, none, subst (Appends held held') line given))
-
-  not_too_long : (bytes text : List ℕ) (status : Status)
-      → Accepted (lens_of (program_part bytes)) status ⊎ Refuses (lens_of (program_part bytes)) text status → status ≡ InputTooLong → ⊥
-  not_too_long bytes text status (inl (f, some, inl done)) e = cc
-  not_too_long bytes text status (inl (f, some, inr refused)) e = cc
-  not_too_long bytes text status (inr (r, none, line, refused)) e = cc
-
-  -- the report of what was taken
-  reported : (answer : List ℕ) (t : Takes (2 ^ 30) left left' (Ok answer)) (text : List ℕ) (status : Status) → report command answer ≡ Some (text, status) → report command t.bytes ≡ Some (text, status)
-  reported answer t text status h = subst (λ bytes. report command bytes ≡ Some (text, status)) t.all.0 h
-
-  pub stops_given : (answer : List ℕ) (text : List ℕ) (status : Status) → Takes (2 ^ 30) left left' (Ok answer) → report command answer ≡ Some (text, status) → Appends held held' text
-      → Stops command left left' held held' status
-  stops_given answer text status t h given =
-      let kind = ended command (lens_of (program_part t.bytes)) (items_of t.bytes) text status (reported answer t text status h) in
-      stops (Ok answer) status t (λ e. cc) (not_too_long t.bytes text status kind) (clean_end t.bytes text status t.all.1 given kind)
-
-  pub stops_sink : (answer : List ℕ) (text : List ℕ) (status : Status) → Takes (2 ^ 30) left left' (Ok answer) → report command answer ≡ Some (text, status) → AppendsFront held held' text
-      → Stops command left left' held held' SinkFault
-  stops_sink answer text status t h front = stops (Ok answer) SinkFault t (λ e. cc) (λ e. cc) (t.all.1, (text, status, reported answer t text status h, front))
-
 -- every triple of a run stays in step
 stays : (command : Command) (text : List ℕ) (f : FormTree) (items : List JournalItem) → lens_of text ≡ Ok f → StaysInStep command f items
 stays Run text f items h = triples_in_step f (accepted_typed text f h) items
 stays Check text f items h = tt
 
-module _ (command : Command) (left left' held held' : Option (List ℕ)) where
-  reports_kind : (t : (bytes : List ℕ) × Consumes left left' bytes × IsAtEnd left' × (length bytes ≤ 2 ^ 30)) (text : List ℕ) (status : Status) → report command t.0 ≡ Some (text, status) → Appends held held' text → IsFinished status
-      → Accepted (lens_of (program_part t.0)) status ⊎ Refuses (lens_of (program_part t.0)) text status → Reports command left left' held held' status
-  reports_kind t text status h given fin (inl (f, some, is)) =
-      record {
-        bytes = t.0;
-        consumes = t.1;
-        at_end = t.2;
-        within = t.3;
-        text = text;
-        is_report = h;
-        appends = given;
-        form = f;
-        has_lens = some;
-        in_step = stays command (program_part t.0) f (items_of t.0) some;
-      }
-  reports_kind t text status h given (inl done) (inr (r, none, line, refused)) = cc
-  reports_kind t text status h given (inr some) (inr (r, none, line, refused)) = cc
+-- ---- a call that ends
 
-  pub reports_given : (answer : List ℕ) (text : List ℕ) (status : Status) → Takes (2 ^ 30) left left' (Ok answer) → report command answer ≡ Some (text, status) → Appends held held' text
-      → IsFinished status → Reports command left left' held held' status
-  reports_given answer text status t h given fin =
-      let few : 2 ^ 30 < length t.bytes → ⊥ = λ more. (let bad = t.too_long.1 more in cc) in
-      let within : length t.bytes ≤ 2 ^ 30 = omega (arith, few) in
-      let is = subst (λ bytes. report command bytes ≡ Some (text, status)) t.all.0 h in
-      reports_kind (t.bytes, t.consumes, t.all.1, within) text status is given fin (ended command (lens_of (program_part t.bytes)) (items_of t.bytes) text status is)
+-- a status that is not the end of a run
+not_refused : IsFinished ProgramRefused → ⊥
+not_refused (inl e) = cc
+not_refused (inr e) = cc
 
--- before anything is given
-module _ (command : Command) (left left' held : Option (List ℕ)) where
-  pub stops_source : Takes (2 ^ 30) left left' (Err taking.SourceFault) → Stops command left left' held held SourceFault
-  stops_source t = stops command left left' held held (Err taking.SourceFault) SourceFault t (λ e. cc) (λ e. cc) (Appends-nil held)
+not_source : IsFinished SourceFault → ⊥
+not_source (inl e) = cc
+not_source (inr e) = cc
 
-  pub stops_memory : Takes (2 ^ 30) left left' (Err taking.NoMemory) → Stops command left left' held held NoMemory
-  stops_memory t = stops command left left' held held (Err taking.NoMemory) NoMemory t (λ e. cc) (λ e. cc) (Appends-nil held)
+not_sink : IsFinished SinkFault → ⊥
+not_sink (inl e) = cc
+not_sink (inr e) = cc
 
-  pub stops_memory_later : (answer : List ℕ) → Takes (2 ^ 30) left left' (Ok answer) → Stops command left left' held held NoMemory
-  stops_memory_later answer t = stops command left left' held held (Ok answer) NoMemory t (λ e. cc) (λ e. cc) (Appends-nil held)
+not_long : IsFinished InputTooLong → ⊥
+not_long (inl e) = cc
+not_long (inr e) = cc
 
-  pub stops_too_long : Takes (2 ^ 30) left left' (Err taking.TooLong) → Stops command left left' held held InputTooLong
-  stops_too_long t = record {
-    bytes = t.bytes;
-    consumes = t.consumes;
-    at_most = t.at_most;
-    too_long = ((λ _. t.too_long.0 refl), (λ _. refl));
-    clean = Appends-nil held;
+not_memory : IsFinished NoMemory → ⊥
+not_memory (inl e) = cc
+not_memory (inr e) = cc
+
+-- the answers to no lines
+pub no_answers : (command : Command) (bytes : List ℕ) → answers_to command bytes [] ≡ Some []
+no_answers Check bytes = refl
+no_answers Run bytes = by_outcome (lens_of (program_part bytes)) where
+  by_outcome : (outcome : Result FormTree Refusal) → answers_with outcome [] ≡ Some []
+  by_outcome (Ok form) = refl
+  by_outcome (Err refusal) = refl
+
+pub none_answered : (command : Command) (bytes : List ℕ) → AnswersSome command bytes []
+none_answered command bytes = (journal_lines bytes, record { lines = []; ended = refl; are = no_answers command bytes })
+
+-- before a separator no line of a journal has come
+none_behind : (lines : List Line) → list_any is_separator_line lines ≡ false → behind_separator lines ≡ []
+none_behind [] h = refl
+none_behind (line ∷ lines) h = by_test (is_separator_line line) (λ e. none_behind lines e) h where
+  by_test : (b : Bool) → (list_any is_separator_line lines ≡ false → behind_separator lines ≡ []) → (b || list_any is_separator_line lines) ≡ false → cond b lines (behind_separator lines) ≡ []
+  by_test true f e = cc
+  by_test false f e = f e
+
+pub no_journal : (command : Command) (bytes : List ℕ) → has_separator bytes ≡ false → GoesOn bytes × AnswersAll command bytes []
+no_journal command bytes h =
+    ((λ has. absurd (both (has_separator bytes) h has)), record { lines = []; ended = none_behind (ended_lines bytes) h; are = no_answers command bytes }) where
+      both : (b : Bool) → b ≡ false → b ≡ true → ⊥
+      both true e f = cc
+      both false e f = cc
+
+module _ (command : Command) (left left' held held' : Option (List ℕ)) (bytes : List ℕ) (consumes : Consumes left left' bytes) where
+  -- the source failed, or gave too many bytes, or memory ran out, and so much was written
+  pub ended_source : length bytes ≤ 2 ^ 30 → (text : List ℕ) → GoesOn bytes → AnswersAll command bytes text → Appends held held' text → Ended command left left' held held' SourceFault
+  ended_source few text goes are given = record {
+    stops = record {
+      bytes = bytes;
+      consumes = consumes;
+      at_most = omega (arith, few);
+      only_too_long = λ e. cc;
+      if_too_long = λ more. absurd (omega (arith, few, more));
+      clean = (goes, (text, are, given));
+    };
+    reports = λ f. absurd (not_source f);
   }
+
+  pub ended_long : length bytes ≤ 2 ^ 30 + 1 → 2 ^ 30 < length bytes → (text : List ℕ) → GoesOn bytes → AnswersAll command bytes text → Appends held held' text → Ended command left left' held held' InputTooLong
+  ended_long few many text goes are given = record {
+    stops = record {
+      bytes = bytes;
+      consumes = consumes;
+      at_most = few;
+      only_too_long = λ e. many;
+      if_too_long = λ more. inl refl;
+      clean = (goes, (text, are, given));
+    };
+    reports = λ f. absurd (not_long f);
+  }
+
+  pub ended_memory : length bytes ≤ 2 ^ 30 + 1 → (text : List ℕ) → AnswersSome command bytes text → Appends held held' text → Ended command left left' held held' NoMemory
+  ended_memory few text are given = record {
+    stops = record {
+      bytes = bytes;
+      consumes = consumes;
+      at_most = few;
+      only_too_long = λ e. cc;
+      if_too_long = λ more. inr tt;
+      clean = (text, are, given);
+    };
+    reports = λ f. absurd (not_memory f);
+  }
+
+  pub ended_sink : length bytes ≤ 2 ^ 30 + 1 → (text : List ℕ) → WouldWrite command left' bytes text → AppendsFront held held' text → Ended command left left' held held' SinkFault
+  ended_sink few text would front = record {
+    stops = record {
+      bytes = bytes;
+      consumes = consumes;
+      at_most = few;
+      only_too_long = λ e. cc;
+      if_too_long = λ more. inr tt;
+      clean = (text, would, front);
+    };
+    reports = λ f. absurd (not_sink f);
+  }
+
+  pub ended_refused : length bytes ≤ 2 ^ 30 + 1 → (refusal : Refusal) → RefusesPart left' bytes refusal → Appends held held' (refusal_line refusal) → Ended command left left' held held' ProgramRefused
+  ended_refused few refusal refuses given = record {
+    stops = record {
+      bytes = bytes;
+      consumes = consumes;
+      at_most = few;
+      only_too_long = λ e. cc;
+      if_too_long = λ more. inr tt;
+      clean = (refusal, refuses, given);
+    };
+    reports = λ f. absurd (not_refused f);
+  }
+
+-- ---- a whole report
+
+module _ (command : Command) (left left' held held' : Option (List ℕ)) (bytes : List ℕ) (consumes : Consumes left left' bytes) (end : IsAtEnd left') (few : length bytes ≤ 2 ^ 30) where
+  -- the report of an accepted program part was written
+  reported : (text : List ℕ) (status : Status) → report command bytes ≡ Some (text, status) → Appends held held' text → (form : FormTree) → lens_of (program_part bytes) ≡ Ok form → Reports command left left' held held' status
+  reported text status h given form lens = record {
+    bytes = bytes;
+    consumes = consumes;
+    at_end = end;
+    within = few;
+    text = text;
+    is_report = h;
+    appends = given;
+    form = form;
+    has_lens = lens;
+    in_step = stays command (program_part bytes) form (items_of bytes) lens;
+  }
+
+  finished_stops : (status : Status) → IsFinished status → Stops command left left' held held' status
+  finished_stops status f = record {
+    bytes = bytes;
+    consumes = consumes;
+    at_most = omega (arith, few);
+    only_too_long = λ e. absurd (not_long (subst IsFinished e f));
+    if_too_long = λ more. absurd (omega (arith, few, more));
+    clean = by_end f;
+  } where
+    by_end : IsFinished status → IsCleanStop command left left' held held' bytes status
+    by_end (inl e) = subst (IsCleanStop command left left' held held' bytes) (sym e) tt
+    by_end (inr e) = subst (IsCleanStop command left left' held held' bytes) (sym e) tt
+
+  pub ended_whole : (text : List ℕ) (status : Status) → report command bytes ≡ Some (text, status) → Appends held held' text → Ended command left left' held held' status
+  ended_whole text status h given = by_kind (ended command (lens_of (program_part bytes)) (items_of bytes) text status h) where
+    by_kind : Accepted (lens_of (program_part bytes)) status ⊎ Refuses (lens_of (program_part bytes)) text status → Ended command left left' held held' status
+    by_kind (inl (form, lens, f)) = record { stops = finished_stops status f; reports = λ _. reported text status h given form lens }
+    by_kind (inr (refusal, none, line, refused)) =
+        subst (Ended command left left' held held') (sym refused)
+        (ended_refused command left left' held held' bytes consumes (omega (arith, few)) refusal (record { whole = inr end; refused = none }) (subst (Appends held held') line given))
+
+-- The report that was made is given, behind answers that were written before.
+pub ended_report : (command : Command) (left left' held mid held' : Option (List ℕ)) (bytes : List ℕ) (r : Result Report AllocError) (status : Status) → Consumes left left' bytes → IsAtEnd left' → length bytes ≤ 2 ^ 30
+    → (given : List ℕ) → AnswersSome command bytes given → Appends held mid given → IfOk r (λ q. report command bytes ≡ Some (given ++ q.text.items, q.status)) → Gives r mid held' status
+    → Ended command left left' held held' status
+ended_report command left left' held mid held' bytes (Ok q) status consumes end few given are appends h (inl (same, all)) =
+    subst (Ended command left left' held held') (sym same)
+    (ended_whole command left left' held held' bytes consumes end few (given ++ q.text.items) q.status h (Appends-trans held mid held' given q.text.items appends all))
+ended_report command left left' held mid held' bytes (Ok q) status consumes end few given are appends h (inr (same, front)) =
+    subst (Ended command left left' held held') (sym same)
+    (ended_sink command left left' held held' bytes consumes (omega (arith, few)) (given ++ q.text.items) (inr (inr (end, (q.status, h)))) (front_behind held mid held' given q.text.items appends front))
+ended_report command left left' held mid held' bytes (Err e) status consumes end few given are appends h (same, all) =
+    subst (Ended command left left' held held') (sym same)
+    (ended_memory command left left' held held' bytes consumes (omega (arith, few)) given are (subst (Appends held held') (append-nil given) (Appends-trans held mid held' given [] appends all)))
+
+-- The refusal of a program part that is known whole is given.
+pub ended_refusal : (command : Command) (left left' held held' : Option (List ℕ)) (bytes : List ℕ) (r : Result Report AllocError) (status : Status) → Consumes left left' bytes → length bytes ≤ 2 ^ 30 + 1 → HasPart bytes
+    → IfOk r (λ q. report_with command (lens_of (program_part bytes)) [] ≡ Some (q.text.items, q.status)) → IfOk r (λ q. q.status ≡ ProgramRefused) → Gives r held held' status
+    → Ended command left left' held held' status
+ended_refusal command left left' held held' bytes (Err e) status consumes few part h refused (same, all) =
+    subst (Ended command left left' held held') (sym same) (ended_memory command left left' held held' bytes consumes few [] (none_answered command bytes) all)
+ended_refusal command left left' held held' bytes (Ok q) status consumes few part h refused gives = by_kind (ended command (lens_of (program_part bytes)) [] q.text.items q.status h) gives where
+  by_kind : Accepted (lens_of (program_part bytes)) q.status ⊎ Refuses (lens_of (program_part bytes)) q.text.items q.status → Gives (Ok q) held held' status → Ended command left left' held held' status
+  by_kind (inl (form, lens, f)) g = absurd (not_refused (subst IsFinished refused f))
+  by_kind (inr (refusal, none, line, is)) (inl (same, all)) =
+      subst (Ended command left left' held held') (sym (same ∙ is))
+      (ended_refused command left left' held held' bytes consumes few refusal (record { whole = inl part; refused = none }) (subst (Appends held held') line all))
+  by_kind (inr (refusal, none, line, is)) (inr (same, front)) =
+      subst (Ended command left left' held held') (sym same)
+      (ended_sink command left left' held held' bytes consumes few q.text.items (inr (inl (refusal, record { whole = inl part; refused = none }, line))) front)
+
+-- A fault came before the separator.
+pub ended_head : (command : Command) (left left' held : Option (List ℕ)) (fault : TakeFault) → StopsHead left left' fault → Ended command left left' held held (status_of fault)
+ended_head command left left' held taking.SourceFault s =
+    let none = no_journal command s.bytes s.not_yet in
+    ended_source command left left' held held s.bytes s.consumes s.stops [] none.0 none.1 (Appends-nil held)
+ended_head command left left' held taking.TooLong s =
+    let none = no_journal command s.bytes s.not_yet in
+    ended_long command left left' held held s.bytes s.consumes s.at_most s.stops [] none.0 none.1 (Appends-nil held)
+ended_head command left left' held taking.NoMemory s = ended_memory command left left' held held s.bytes s.consumes s.at_most [] (none_answered command s.bytes) (Appends-nil held)
+
+-- ---- completeness
+
+-- if the separator has come, the program part of all bytes is that of those taken
+part_of_all : (bytes : List ℕ) (left' : Option (List ℕ)) (taken : List ℕ) → Consumes (Some bytes) left' taken → HasPart taken ⊎ IsAtEnd left' → program_part bytes ≡ program_part taken
+part_of_all bytes None taken h whole = absurd h
+part_of_all bytes (Some rest) taken h (inl part) = ap program_part h ∙ part.stays rest
+part_of_all bytes (Some rest) taken h (inr end) = ap program_part (all_taken bytes (Some rest) taken h end)
 
 -- A command that met no fault is complete. R says that the source failed, F that the sink did.
 pub complete : (command : Command) (left left' held held' : Option (List ℕ)) (status : Status) (R F : Type 0) → Stops command left left' held held' status
@@ -166,11 +293,11 @@ complete command (Some bytes) left' held held' SomeRefused R F s r source sink =
     λ few no_source no_sink. ((λ form is. inl (inr refl)), λ x none. let e = r (inr refl) in let same = ap (λ b. lens_of (program_part b)) (all_taken bytes left' e.bytes e.consumes e.at_end) in let some = e.has_lens in cc)
 complete command (Some bytes) left' held held' Usage R F s r source sink = λ few no_source no_sink. absurd s.clean
 complete command (Some bytes) left' held held' ProgramRefused R F s r source sink =
-    λ few no_source no_sink. ((λ form is. let same = ap (λ b. lens_of (program_part b)) (all_taken bytes left' s.bytes s.consumes s.clean.0) in let none = s.clean.1.1 in cc), λ x none. inl refl)
+    λ few no_source no_sink. ((λ form is. let same = ap lens_of (part_of_all bytes left' s.bytes s.consumes s.clean.1.whole) in let none = s.clean.1.refused in cc), λ x none. inl refl)
 complete command (Some bytes) left' held held' SourceFault R F s r source sink = λ few no_source no_sink. absurd (no_source (source refl))
 complete command (Some bytes) left' held held' SinkFault R F s r source sink = λ few no_source no_sink. absurd (no_sink (sink refl))
 complete command (Some bytes) left' held held' InputTooLong R F s r source sink =
-    λ few no_source no_sink. absurd (omega (arith, s.too_long.0 refl, few_taken bytes left' s.bytes s.consumes))
+    λ few no_source no_sink. absurd (omega (arith, s.only_too_long refl, few_taken bytes left' s.bytes s.consumes))
 complete command (Some bytes) left' held held' NoMemory R F s r source sink = λ few no_source no_sink. ((λ form is. inr refl), λ x none. inr refl)
 
 -- Where the source does not fail, a command is complete, or it ends with the sink's fault and what that says.

@@ -1,11 +1,14 @@
 -- The run in the form of the code is the run, and the report in the form of the code is the report.
 use Rattle.std.proofs.Common.{◌≡◌, ℕ, ◌+◌, List, [], ◌∷◌, ◌++◌, append-nil, Bool, true, false, not, ◌||◌, cond, Option, Some, None, option_map, option_and_then, Result, Ok, Err, map, refl, sym, ap, ap₂, ◌∙◌, append_assoc, subst}
-use Rattle.std.specs.Prelude.{IfOk, IfSome}
+use Rattle.std.specs.Prelude.{IfOk, IfSome, ◌==◌}
+use Rattle.std.specs.List.{onto_first}
 use Rattle.texts.specs.declared.side.Side.{Side}
 use Rattle.doc_values.specs.Types.{TyTree}
 use Rattle.edit_module.specs.Words.{WordTree}
 use Rattle.edit_journal.specs.Lines.{line_of, is_blank}
 use Rattle.edit_journal.specs.EntryJson.{entry_of_line}
+use Rattle.edit_journal.specs.Pieces.{texts_of, lines_of}
+use Rattle.edit_journal.specs.declared.line.Line.{Line}
 use Rattle.lens_forms.specs.Forms.{FormTree, left_type, right_type}
 use Rattle.lens_core.specs.Complements.{CompTree}
 use Rattle.lens_core.specs.Translation.{Translated, translate}
@@ -15,31 +18,47 @@ use Rattle.program_terms.specs.Terms.{ProgramTree}
 use Rattle.lens_syntax.specs.Programs.{ProgramCause, too_long, not_a_program, unknown_name, repeated_name, cause_of, IsRefusal as IsSyntaxFault}
 use Rattle.lens_syntax.specs.declared.fault.ProgramFault.{ProgramFault}
 use Rattle.lens_syntax.specs.declared.fault.ProgramFault.TheVariants as reading
-use Rattle.editlens_main.specs.Lines.{cut, up_to_line_end, journal_of, lines_behind, program_part}
+use Rattle.editlens_main.specs.Lines.{cut, up_to_line_end, journal_of}
 use Rattle.editlens_main.specs.Program.{Refusal, form_of_program, lens_of}
 use Rattle.editlens_main.specs.Refused.{IsRefusal, IsKnown, IsSyntaxRefusal}
 use Rattle.editlens_main.specs.Runs.{JournalItem, JournalAnswer, first_of, run_of}
 use Rattle.editlens_main.specs.Report.{answer_line, answer_lines, state_lines, text_of_steps, ending, run_report, items_of, report_with, refusal_line, report}
-use Rattle.editlens_main.specs.Running.{items_among, Written, of_steps, after_progress, written, written_after}
+use Rattle.editlens_main.specs.Running.{items_in, Come, Written, of_steps, after_progress, written, written_after}
 use Rattle.editlens_main.specs.declared.program.Refused.{Refused}
 use Rattle.editlens_main.specs.declared.program.Refused.TheVariants.{Syntax, Typing, NoMemory}
 use Rattle.editlens_main.specs.declared.commands.Command.{Command}
 use Rattle.editlens_main.specs.declared.commands.Command.TheVariants.{Run, Check}
 use Rattle.editlens_main.specs.declared.status.Status.{Status}
 use Rattle.editlens_main.specs.declared.status.Status.TheVariants.{ProgramRefused}
-use Rattle.editlens_main.specs.declared.journal.Progress.{Progress}
 use Rattle.editlens_main.specs.declared.report.Report.{Report}
 use Rattle.std.specs.declared.alloc.AllocError.{AllocError}
 
+-- ---- the lines of a whole text
+
+onto : (byte : ℕ) (lines : List (List ℕ)) → byte == 10 ≡ false → map up_to_line_end (onto_first byte lines) ≡ onto_first byte (map up_to_line_end lines)
+onto byte [] plain = rw plain refl
+onto byte (line ∷ lines) plain = rw plain refl
+
+texts_cut : (bytes : List ℕ) → map up_to_line_end (cut bytes) ≡ texts_of bytes
+texts_cut [] = refl
+texts_cut (byte ∷ bytes) =
+    (elim (byte == 10) as (λ b. byte == 10 ≡ b → map up_to_line_end (cond b ((byte ∷ []) ∷ cut bytes) (onto_first byte (cut bytes))) ≡ cond b ([] ∷ texts_of bytes) (onto_first byte (texts_of bytes))) [
+      | true ↦ λ is. ap₂ (λ (b : Bool) (texts : List (List ℕ)). cond b [] (byte ∷ []) ∷ texts) is (texts_cut bytes)
+      | false ↦ λ is. onto byte (cut bytes) is ∙ ap (onto_first byte) (texts_cut bytes)
+    ]) refl
+
 -- the items among the lines are those of the journal
-pub items_among-lines : (lines : List (List ℕ)) → items_among (map up_to_line_end lines) ≡ map entry_of_line (journal_of lines)
-items_among-lines [] = refl
-items_among-lines (l ∷ ls) =
-    elim (is_blank (line_of (up_to_line_end l))) as (λ b. cond b (items_among (map up_to_line_end ls)) (entry_of_line (line_of (up_to_line_end l)) ∷ items_among (map up_to_line_end ls))
+items_of_lines : (lines : List (List ℕ)) → items_in (map line_of (map up_to_line_end lines)) ≡ map entry_of_line (journal_of lines)
+items_of_lines [] = refl
+items_of_lines (l ∷ ls) =
+    elim (is_blank (line_of (up_to_line_end l))) as (λ b. cond b (items_in (map line_of (map up_to_line_end ls))) (entry_of_line (line_of (up_to_line_end l)) ∷ items_in (map line_of (map up_to_line_end ls)))
     ≡ map entry_of_line (cond (not b) (line_of (up_to_line_end l) ∷ journal_of ls) (journal_of ls))) [
-      | true ↦ items_among-lines ls
-      | false ↦ ap (λ items. entry_of_line (line_of (up_to_line_end l)) ∷ items) (items_among-lines ls)
+      | true ↦ items_of_lines ls
+      | false ↦ ap (λ items. entry_of_line (line_of (up_to_line_end l)) ∷ items) (items_of_lines ls)
     ]
+
+pub items_of_text : (bytes : List ℕ) → map entry_of_line (journal_of (cut bytes)) ≡ items_in (lines_of bytes)
+items_of_text bytes = sym (items_of_lines (cut bytes)) ∙ ap (λ texts. items_in (map line_of texts)) (texts_cut bytes)
 
 or_assoc : (a b c : Bool) → (a || (b || c)) ≡ ((a || b) || c)
 or_assoc true b c = refl
@@ -59,49 +78,49 @@ same_written x y b c t u p q r = rw (p, q, r) refl
 
 module _ (left right : TyTree) (translation : Side → CompTree → WordTree → Option Translated) where
   -- one more item that was answered
-  after_item : (t t' : TripleTree) (old new : Progress) (a : JournalAnswer) (o : Option (List (TripleTree × JournalAnswer)))
-      → new.number ≡ old.number + 1 → new.refused ≡ (old.refused || is_refused a) → new.text.items ≡ old.text.items ++ answer_line new.number a
+  after_item : (t t' : TripleTree) (old new : Come) (a : JournalAnswer) (o : Option (List (TripleTree × JournalAnswer)))
+      → new.number ≡ old.number + 1 → new.refused ≡ (old.refused || is_refused a) → new.text ≡ old.text ++ answer_line new.number a
       → option_map (after_progress t old) (option_map (λ steps. (t', a) ∷ steps) o) ≡ option_map (after_progress t' new) o
   after_item t t' old new a None number refused text = refl
   after_item t t' old new a (Some steps) number refused text =
       same_written _ _ _ _ _ _
-      (ap (λ n. old.text.items ++ (answer_line n a ++ answer_lines (n + 1) steps)) (sym number)
-      ∙ sym (append_assoc old.text.items (answer_line new.number a) (answer_lines (new.number + 1) steps))
+      (ap (λ n. old.text ++ (answer_line n a ++ answer_lines (n + 1) steps)) (sym number)
+      ∙ sym (append_assoc old.text (answer_line new.number a) (answer_lines (new.number + 1) steps))
       ∙ ap (λ x. x ++ answer_lines (new.number + 1) steps) (sym text))
       (or_assoc old.refused (is_refused a) (any_refused steps) ∙ ap (λ b. b || any_refused steps) (sym refused))
       refl
 
-  pub item_step : (t t' : TripleTree) (old new : Progress) (item : JournalItem) (a : JournalAnswer) (items : List JournalItem)
+  pub item_step : (t t' : TripleTree) (old new : Come) (item : JournalItem) (a : JournalAnswer) (items : List JournalItem)
       → take_item left right translation t item ≡ Some (t', a) → new.number ≡ old.number + 1
-      → new.refused ≡ (old.refused || is_refused a) → new.text.items ≡ old.text.items ++ answer_line new.number a
+      → new.refused ≡ (old.refused || is_refused a) → new.text ≡ old.text ++ answer_line new.number a
       → written_after left right translation t old (item ∷ items) ≡ written_after left right translation t' new items
   item_step t t' old new item a items taken number refused text =
       ap (λ o. option_map (after_progress t old) (option_and_then (λ (s : TripleTree × JournalAnswer). option_map (λ steps. s ∷ steps) (run left right translation s.0 items)) o)) taken
       ∙ after_item t t' old new a (run left right translation t' items) number refused text
 
   -- a blank line is passed over, and any other is an item
-  pub blank_line_step : (t : TripleTree) (p : Progress) (line : List ℕ) (lines : List (List ℕ)) → is_blank (line_of line) ≡ true
-      → written_after left right translation t p (items_among (line ∷ lines)) ≡ written_after left right translation t p (items_among lines)
-  blank_line_step t p line lines blank = ap (λ b. written_after left right translation t p (cond b (items_among lines) (entry_of_line (line_of line) ∷ items_among lines))) blank
+  pub blank_line_step : (t : TripleTree) (p : Come) (line : Line) (lines : List Line) → is_blank line ≡ true
+      → written_after left right translation t p (items_in (line ∷ lines)) ≡ written_after left right translation t p (items_in lines)
+  blank_line_step t p line lines blank = ap (λ b. written_after left right translation t p (cond b (items_in lines) (entry_of_line line ∷ items_in lines))) blank
 
-  pub line_step : (t t' : TripleTree) (old new : Progress) (line : List ℕ) (lines : List (List ℕ)) → is_blank (line_of line) ≡ false
-      → written_after left right translation t old (entry_of_line (line_of line) ∷ items_among lines) ≡ written_after left right translation t' new (items_among lines)
-      → written_after left right translation t old (items_among (line ∷ lines)) ≡ written_after left right translation t' new (items_among lines)
+  pub line_step : (t t' : TripleTree) (old new : Come) (line : Line) (lines : List Line) → is_blank line ≡ false
+      → written_after left right translation t old (entry_of_line line ∷ items_in lines) ≡ written_after left right translation t' new (items_in lines)
+      → written_after left right translation t old (items_in (line ∷ lines)) ≡ written_after left right translation t' new (items_in lines)
   line_step t t' old new line lines full taken =
-      ap (λ b. written_after left right translation t old (cond b (items_among lines) (entry_of_line (line_of line) ∷ items_among lines))) full ∙ taken
+      ap (λ b. written_after left right translation t old (cond b (items_in lines) (entry_of_line line ∷ items_in lines))) full ∙ taken
 
   -- with no items left, what was written is all
-  pub at_end : (t : TripleTree) (p : Progress) → written_after left right translation t p [] ≡ Some (p.text.items, p.refused, t)
-  at_end t p = same_written _ _ _ _ _ _ (append-nil p.text.items) (or_false p.refused) refl
+  pub at_end : (t : TripleTree) (p : Come) → written_after left right translation t p [] ≡ Some (p.text, p.refused, t)
+  at_end t p = same_written _ _ _ _ _ _ (append-nil p.text) (or_false p.refused) refl
 
   -- with nothing written
-  from_nothing : (t : TripleTree) (p : Progress) (o : Option (List (TripleTree × JournalAnswer))) → p.number ≡ 0 → p.refused ≡ false → p.text.items ≡ []
+  from_nothing : (t : TripleTree) (p : Come) (o : Option (List (TripleTree × JournalAnswer))) → p.number ≡ 0 → p.refused ≡ false → p.text ≡ []
       → option_map (after_progress t p) o ≡ option_map (of_steps t) o
   from_nothing t p None number refused text = refl
   from_nothing t p (Some steps) number refused text =
       same_written _ _ _ _ _ _ (ap₂ (λ x n. x ++ answer_lines (n + 1) steps) text number) (ap (λ b. b || any_refused steps) refused) refl
 
-  pub at_start : (t : TripleTree) (p : Progress) (items : List JournalItem) → p.number ≡ 0 → p.refused ≡ false → p.text.items ≡ []
+  pub at_start : (t : TripleTree) (p : Come) (items : List JournalItem) → p.number ≡ 0 → p.refused ≡ false → p.text ≡ []
       → written_after left right translation t p items ≡ written left right translation t items
   at_start t p items number refused text = from_nothing t p (run left right translation t items) number refused text
 
@@ -119,7 +138,7 @@ with_states form (Some steps) text refused t e =
     ap (λ (r : Written). Some (r.0 ++ state_lines form r.2, ending r.1)) same
 
 -- the state lines of the last triple follow what the run has written
-form_reported : (form : FormTree) (start : TripleTree) (items : List JournalItem) (text : List ℕ) (refused : Bool) (t : TripleTree) → start ≡ first_of form
+pub form_reported : (form : FormTree) (start : TripleTree) (items : List JournalItem) (text : List ℕ) (refused : Bool) (t : TripleTree) → start ≡ first_of form
     → written (left_type form) (right_type form) (translate form) start items ≡ done text refused t → run_report form items ≡ Some (text ++ state_lines form t, ending refused)
 form_reported form start items text refused t is e =
     with_states form (run_of form items) text refused t (ap (λ u. written (left_type form) (right_type form) (translate form) u items) (sym is) ∙ e)
@@ -138,14 +157,6 @@ pub report_is : (r : Result Report AllocError) (form : FormTree) (items : List J
 report_is (Ok q) form items text status is h k = is ∙ ap₂ (λ x s. Some (x, s)) (sym h) (sym k)
 report_is (Err e) form items text status is h k = tt
 
--- the report of the items among the lines behind the separator is that of the whole input
-pub of_parts : (command : Command) (bytes program lines : List ℕ) (outcome : Result FormTree Refusal) (answer : List ℕ × Status) → program ≡ program_part bytes → lens_of program ≡ outcome
-    → cut lines ≡ lines_behind (cut bytes) → report_with command outcome (items_among (map up_to_line_end (cut lines))) ≡ Some answer → report command bytes ≡ Some answer
-of_parts command bytes program lines outcome answer is lens behind run =
-    let items : items_of bytes ≡ items_among (map up_to_line_end (cut lines)) =
-    sym (items_among-lines (lines_behind (cut bytes))) ∙ ap (λ ls. items_among (map up_to_line_end ls)) (sym behind) in
-    ap₂ (report_with command) (ap lens_of (sym is) ∙ lens) items ∙ run
-
 -- ---- refusals
 
 -- a fault of the reader that is not memory is the refusal of the program part
@@ -161,11 +172,6 @@ syntax_refused wanted reading.NoMemory h known = absurd (known refl)
 pub if_cause : (o : Option ProgramCause) (P : ProgramCause → Type 0) (cause : ProgramCause) → IfSome o P → o ≡ Some cause → P cause
 if_cause o P cause h e = subst (λ q. IfSome q P) e h
 
--- the line of a refusal is the report, whatever the items
-pub refused_parts : (command : Command) (bytes program lines : List ℕ) (answer : List ℕ × Status) → program ≡ program_part bytes → cut lines ≡ lines_behind (cut bytes)
-    → report_with command (lens_of program) (items_among (map up_to_line_end (cut lines))) ≡ Some answer → report command bytes ≡ Some answer
-refused_parts command bytes program lines answer is behind run = of_parts command bytes program lines (lens_of program) answer is refl behind run
-
 -- the report of a program part that is refused is the line of the refusal
 refused_is : (command : Command) (r : Refusal) (items : List JournalItem) → report_with command (Err r) items ≡ Some (refusal_line r, ProgramRefused)
 refused_is Run r items = refl
@@ -180,8 +186,3 @@ pub known : (outcome : Result FormTree Refusal) (refused : Refused) → IsRefusa
 known outcome (Syntax fault) h = λ e. let bad = subst (λ f. cause_of f ≡ Some h.cause) e h.is_fault in cc
 known outcome (Typing fault) h = h.known
 known outcome NoMemory h = tt
-
--- what holds of a value holds of another
-pub if_ok : {A E : Type 0} (r : Result A E) (P Q : A → Type 0) → ((a : A) → P a → Q a) → IfOk r P → IfOk r Q
-if_ok (Ok a) P Q f h = f a h
-if_ok (Err e) P Q f h = tt

@@ -1,10 +1,11 @@
 -- A run once more, in the form of the code: what it has written, and what it will write for the items that are left.
 -- proofs/RunReports.antt shows that it is the run.
-use Rattle.std.specs.Prelude.{ℕ, ◌+◌, List, [], ◌∷◌, ◌++◌, Bool, ◌||◌, Option, option_map, if◌then◌else◌}
+use Rattle.std.specs.Prelude.{◌≡◌, ℕ, ◌+◌, List, [], ◌∷◌, ◌++◌, Bool, ◌||◌, Option, option_map, if◌then◌else◌}
 use Rattle.texts.specs.declared.side.Side.{Side}
 use Rattle.doc_values.specs.Types.{TyTree}
 use Rattle.edit_module.specs.Words.{WordTree}
-use Rattle.edit_journal.specs.Lines.{line_of, is_blank}
+use Rattle.edit_journal.specs.Lines.{is_blank}
+use Rattle.edit_journal.specs.declared.line.Line.{Line}
 use Rattle.edit_journal.specs.EntryJson.{entry_of_line}
 use Rattle.lens_core.specs.Complements.{CompTree}
 use Rattle.lens_core.specs.Translation.{Translated}
@@ -14,10 +15,20 @@ use Rattle.editlens_main.specs.Report.{answer_lines}
 use Rattle.editlens_main.specs.Runs.{JournalItem, JournalAnswer}
 use Rattle.editlens_main.specs.declared.journal.Progress.{Progress}
 
--- the items among some lines
-abbrev pub items_among : List (List ℕ) → List JournalItem
-items_among [] = []
-items_among (line ∷ lines) = if is_blank (line_of line) then items_among lines else entry_of_line (line_of line) ∷ items_among lines
+-- the items among some lines: each that is not blank
+abbrev pub items_in : List Line → List JournalItem
+items_in [] = []
+items_in (line ∷ lines) = if is_blank line then items_in lines else entry_of_line line ∷ items_in lines
+
+-- How far a run has come: how many items it has read, whether it refused one, and all its answers.
+pub record Come : Type 0 where
+  pub number : ℕ
+  pub refused : Bool
+  pub text : List ℕ
+
+-- how far it has come, with the answers that were written before
+abbrev pub come : List ℕ → Progress → Come
+come given p = record { number = p.number; refused = p.refused; text = given ++ p.text.items }
 
 -- a text, whether an item was refused, and a triple
 abbrev pub Written : Type 0
@@ -28,13 +39,19 @@ abbrev pub of_steps : TripleTree → List (TripleTree × JournalAnswer) → Writ
 of_steps t steps = (answer_lines 1 steps, any_refused steps, last t steps)
 
 -- the same for steps that come after some progress
-abbrev pub after_progress : TripleTree → Progress → List (TripleTree × JournalAnswer) → Written
-after_progress t p steps = (p.text.items ++ answer_lines (p.number + 1) steps, p.refused || any_refused steps, last t steps)
+abbrev pub after_progress : TripleTree → Come → List (TripleTree × JournalAnswer) → Written
+after_progress t p steps = (p.text ++ answer_lines (p.number + 1) steps, p.refused || any_refused steps, last t steps)
 
 -- what a run over these items comes to, for a lens of these types and this translation
 abbrev pub written : TyTree → TyTree → (Side → CompTree → WordTree → Option Translated) → TripleTree → List JournalItem → Option Written
 written left right translation t items = option_map (of_steps t) (run left right translation t items)
 
 -- what it comes to with the progress before, and the items that are left
-abbrev pub written_after : TyTree → TyTree → (Side → CompTree → WordTree → Option Translated) → TripleTree → Progress → List JournalItem → Option Written
+abbrev pub written_after : TyTree → TyTree → (Side → CompTree → WordTree → Option Translated) → TripleTree → Come → List JournalItem → Option Written
 written_after left right translation t p items = option_map (after_progress t p) (run left right translation t items)
+
+-- A run of a lens of these types and this translation goes over these lines: from the first triple and progress it comes to the
+-- second, whatever was written before and whatever lines follow.
+abbrev pub GoesOver : TyTree → TyTree → (Side → CompTree → WordTree → Option Translated) → TripleTree → Progress → List Line → TripleTree → Progress → Type 0
+GoesOver left right translation t p lines t' p' = (given : List ℕ) (more : List Line)
+    → written_after left right translation t (come given p) (items_in (lines ++ more)) ≡ written_after left right translation t' (come given p') (items_in more)

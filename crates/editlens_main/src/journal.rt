@@ -1,26 +1,32 @@
 //! The lines of a journal, one after another, over a session.
-ghost use Rattle.std.specs.Prelude.{◌≡◌, ◌+◌, ◌^◌, ◌<◌, ◌≤◌, ◌∷◌, ◌||◌, List, ℕ, IfOk, Some, map, option_map};
+ghost use Rattle.std.specs.Prelude.{◌≡◌, ◌+◌, ◌^◌, ◌<◌, ◌≤◌, ◌∷◌, ◌++◌, ◌||◌, [], false, length, List, ℕ, IfOk, OnErr, OnOk, IsErrOf, Some, option_map};
 ghost use Rattle.edit_module.specs.Views.{entry_tree};
-ghost use Rattle.edit_journal.specs.Lines.{line_of, is_blank};
 ghost use Rattle.edit_journal.specs.EntryJson.{entry_of_line};
-ghost use Rattle.edit_session.specs.Step.{step};
+ghost use Rattle.edit_journal.specs.declared.line.Line.{Line};
+ghost use Rattle.edit_session.specs.Step.{TripleTree, step};
 ghost use Rattle.edit_session.specs.Run.{answered, take_item};
 ghost use Rattle.edit_session.specs.Views.{triple_tree};
+ghost use Rattle.lens_io.specs.Causes.{Increased};
 ghost use Rattle.editlens_main.specs.AnswerLines.{HasAnswerLine};
-ghost use Rattle.editlens_main.specs.Lines.{cut, up_to_line_end};
-ghost use Rattle.editlens_main.specs.Running.{items_among, written, written_after};
+ghost use Rattle.editlens_main.specs.Answered.{AnswersPieces};
+ghost use Rattle.editlens_main.specs.Ends.{SinkFailed};
+ghost use Rattle.editlens_main.specs.Running.{items_in, come, written_after, GoesOver};
 ghost use Rattle.editlens_main.specs.Runs.{JournalItem};
+ghost use Rattle.editlens_main.specs.Stopping.{status_of};
+ghost use Rattle.editlens_main.specs.Taking.{IsWithin};
 ghost use Rattle.editlens_main.specs.Views.{answer_tree};
 
+use crate::Status;
 use crate::answers::{Answer, answer_line};
-use crate::lines::{first_line, without_end};
+use crate::input::Input;
 use edit_journal::{EntryFault, Line, is_blank, read_entry};
 use edit_module::Entry;
 use edit_session::{Session, StepFault};
 use lens_core::EditLens;
+use lens_io::{Sink, Source, TakeFault, give_all};
 use std::alloc::{AllocError, Global};
 
-/// How far a run has come: how many items it has read, whether it refused one, and what it has written.
+/// How far a run has come: how many items it has read, whether it refused one, and the answers that are not written yet.
 #[derive(Drop)]
 pub struct Progress {
     pub number: u64,
@@ -28,84 +34,151 @@ pub struct Progress {
     pub text: Vec<u8>,
 }
 
-/// Steps a session through the items among the lines of a journal. The only error is running out of memory.
-pub fn take_lines<L: EditLens>(
-    alloc: Global,
-    session: &mut Session<L>,
-    journal: &[u8],
-) -> Result<Progress, AllocError>
-    ensures written { IfOk result (λ end. written (L.left_type session.old.lens) (L.right_type session.old.lens) (L.carried session.old.lens)
-        (triple_tree session.old.triple) (items_among (map up_to_line_end (cut journal.now)))
-        ≡ Some (end.text.items, end.refused, triple_tree session.new.triple)) }
-    ensures lens { session.new.lens ≡ session.old.lens }
-{
-    let most = journal.len() as u64;
-    let mut progress = Progress {
-        number: 0,
-        refused: false,
-        text: Vec::new(alloc),
-    };
-    let mut rest = journal;
-    'lines: while let Some((line, behind)) = first_line(rest) {
-        progress = take_line(alloc, session, progress, without_end(line))?;
-        rest = behind;
+impl Progress {
+    /// No item was read. Does not allocate.
+    pub fn new(alloc: Global) -> Self
+        ensures number { result.number ≡ 0 }
+        ensures refused { result.refused ≡ false }
+        ensures text { result.text.items ≡ [] }
+    {
+        Progress {
+            number: 0,
+            refused: false,
+            text: Vec::new(alloc),
+        }
     }
-    Ok(progress)
+
+    // Adds the answer line of the next item. The only error is running out of memory, and then nothing changes.
+    fn add(&mut self, line: &[u8], refused: bool) -> Result<(), AllocError>
+        requires fits { self.old.number + 1 < 2 ^ 64 }
+        ensures number { OnOk result (self.new.number ≡ self.old.number + 1) }
+        ensures refused { OnOk result (self.new.refused ≡ (self.old.refused || refused)) }
+        ensures text { OnOk result (self.new.text.items ≡ self.old.text.items ++ line.now) }
+        ensures unchanged { OnErr result (come [] self.new ≡ come [] self.old) }
+    {
+        self.text.extend_from_slice(line)?;
+        self.number += 1;
+        self.refused = self.refused || refused;
+        Ok(())
+    }
 }
 
-// Handles a line without its LF: a blank line is skipped, any other is an item.
-#[tactic(auto, using(crate::proofs::RunReports::blank_line_step, crate::proofs::RunReports::line_step))]
-fn take_line<L: EditLens>(
+/// Steps a session through the items of a journal as their lines come. The answers to all lines that an LF has ended are
+/// written before the source is asked for more, and also when memory runs out at one of them.
+///
+/// An error is the status of a run that did not come to the end of its input.
+pub fn answer_pieces<S: Source, K: Sink, L: EditLens>(
     alloc: Global,
     session: &mut Session<L>,
-    progress: Progress,
-    line: &[u8],
-) -> Result<Progress, AllocError>
-    requires fits { progress.number + 1 < 2 ^ 64 }
-    ensures written { IfOk result (λ next. (lines : List (List ℕ))
-        → written_after (L.left_type session.old.lens) (L.right_type session.old.lens) (L.carried session.old.lens) (triple_tree session.old.triple) progress (items_among (line.now ∷ lines))
-        ≡ written_after (L.left_type session.old.lens) (L.right_type session.old.lens) (L.carried session.old.lens) (triple_tree session.new.triple) next (items_among lines)) }
+    input: &mut Input,
+    source: &mut S,
+    piece: &mut [u8],
+    sink: &mut K,
+) -> Result<Progress, Status>
+    requires some { 0 < length piece.old }
+    requires within { IsWithin input.old }
+    ensures answers { AnswersPieces (L.left_type session.old.lens) (L.right_type session.old.lens) (L.carried session.old.lens) (triple_tree session.old.triple)
+        input.old input.new (S.left source.old) (S.left source.new) (K.held sink.old) (K.held sink.new) (triple_tree session.new.triple) result }
+    ensures number { IfOk result (λ p. p.number ≤ 2 ^ 30 + 1) }
     ensures lens { session.new.lens ≡ session.old.lens }
-    ensures number { IfOk result (λ next. next.number ≤ progress.number + 1) }
+    ensures source_fault { IsErrOf result Status.SourceFault → Increased (S.faults source.old) (S.faults source.new) }
+    ensures sink_faults { (K.faults sink.old ≤ K.faults sink.new) × (K.empty_takes sink.old ≤ K.empty_takes sink.new) }
+    ensures sink_fault { IsErrOf result Status.SinkFault → SinkFailed K.faults K.empty_takes K.room K.held sink.old sink.new }
 {
-    let line = Line::from_slice(alloc, line)?;
-    if is_blank(&line) {
-        return Ok(progress);
+    let mut progress = Progress::new(alloc);
+    'pieces: loop {
+        let answered = answer_lines(alloc, session, &mut progress, input);
+        if give_all(sink, &progress.text).is_err() {
+            return Err(Status::SinkFault);
+        }
+        if answered.is_err() {
+            return Err(Status::NoMemory);
+        }
+        progress.text.clear();
+        match input.take_piece(source, piece) {
+            Ok(true) => {}
+            Ok(false) => return Ok(progress),
+            Err(fault) => return Err(stopped_by(fault)),
+        }
     }
-    take_item(alloc, session, progress, &line)
+}
+
+/// The status of a call that stopped at a piece.
+pub fn stopped_by(fault: TakeFault) -> Status
+    ensures { result ≡ status_of fault }
+{
+    match fault {
+        TakeFault::SourceFault => Status::SourceFault,
+        TakeFault::TooLong => Status::InputTooLong,
+        TakeFault::NoMemory => Status::NoMemory,
+    }
+}
+
+// Steps a session through the items among the lines that an LF has ended. The only error is running out of memory, and then
+// the progress is that of the lines before the one at which it came.
+fn answer_lines<L: EditLens>(
+    alloc: Global,
+    session: &mut Session<L>,
+    progress: &mut Progress,
+    input: &mut Input,
+) -> Result<(), AllocError>
+    requires fits { progress.old.number + length input.old.lines.ended < 2 ^ 64 }
+    ensures goes { OnOk result (GoesOver (L.left_type session.old.lens) (L.right_type session.old.lens) (L.carried session.old.lens) (triple_tree session.old.triple) progress.old
+        input.old.lines.ended (triple_tree session.new.triple) progress.new) }
+    ensures rest { OnOk result (input.new.lines ≡ record { ended = []; begun = input.old.lines.begun }) }
+    ensures some { OnErr result ((lines : List Line) × (rest : List Line) × (t : TripleTree) × (input.old.lines.ended ≡ lines ++ rest)
+        × GoesOver (L.left_type session.old.lens) (L.right_type session.old.lens) (L.carried session.old.lens) (triple_tree session.old.triple) progress.old lines t progress.new) }
+    ensures number { OnOk result (progress.new.number ≤ progress.old.number + length input.old.lines.ended) }
+    ensures lens { session.new.lens ≡ session.old.lens }
+    ensures count { input.new.taken ≡ input.old.taken }
+{
+    'lines: while let Some(line) = input.take_line()? {
+        handle_line(alloc, session, progress, &line)?;
+    }
+    Ok(())
+}
+
+/// Handles a line: a blank one is skipped, and any other is an item. The only error is running out of memory, and then the
+/// progress is as it was.
+#[tactic(auto, using(crate::proofs::RunReports::blank_line_step, crate::proofs::RunReports::line_step))]
+pub fn handle_line<L: EditLens>(
+    alloc: Global,
+    session: &mut Session<L>,
+    progress: &mut Progress,
+    line: &Line,
+) -> Result<(), AllocError>
+    requires fits { progress.old.number + 1 < 2 ^ 64 }
+    ensures goes { OnOk result ((given : List ℕ) (lines : List Line)
+        → written_after (L.left_type session.old.lens) (L.right_type session.old.lens) (L.carried session.old.lens) (triple_tree session.old.triple) (come given progress.old) (items_in (line.now ∷ lines))
+        ≡ written_after (L.left_type session.old.lens) (L.right_type session.old.lens) (L.carried session.old.lens) (triple_tree session.new.triple) (come given progress.new) (items_in lines)) }
+    ensures lens { session.new.lens ≡ session.old.lens }
+    ensures number { OnOk result (progress.new.number ≤ progress.old.number + 1) }
+    ensures unchanged { OnErr result (come [] progress.new ≡ come [] progress.old) }
+{
+    if is_blank(line) {
+        return Ok(());
+    }
+    take_item(alloc, session, progress, line)
 }
 
 // Handles a line that is not blank.
 fn take_item<L: EditLens>(
     alloc: Global,
     session: &mut Session<L>,
-    progress: Progress,
+    progress: &mut Progress,
     line: &Line,
-) -> Result<Progress, AllocError>
-    requires fits { progress.number + 1 < 2 ^ 64 }
-    ensures written { IfOk result (λ next. (items : List JournalItem)
-        → written_after (L.left_type session.old.lens) (L.right_type session.old.lens) (L.carried session.old.lens) (triple_tree session.old.triple) progress (entry_of_line line.now ∷ items)
-        ≡ written_after (L.left_type session.old.lens) (L.right_type session.old.lens) (L.carried session.old.lens) (triple_tree session.new.triple) next items) }
+) -> Result<(), AllocError>
+    requires fits { progress.old.number + 1 < 2 ^ 64 }
+    ensures goes { OnOk result ((given : List ℕ) (items : List JournalItem)
+        → written_after (L.left_type session.old.lens) (L.right_type session.old.lens) (L.carried session.old.lens) (triple_tree session.old.triple) (come given progress.old) (entry_of_line line.now ∷ items)
+        ≡ written_after (L.left_type session.old.lens) (L.right_type session.old.lens) (L.carried session.old.lens) (triple_tree session.new.triple) (come given progress.new) items) }
     ensures lens { session.new.lens ≡ session.old.lens }
-    ensures number { IfOk result (λ next. next.number ≡ progress.number + 1) }
+    ensures number { OnOk result (progress.new.number ≡ progress.old.number + 1) }
+    ensures unchanged { OnErr result (come [] progress.new ≡ come [] progress.old) }
 {
     let answer = answer_to(alloc, session, line)?;
-    let number = progress.number + 1;
-    let next_line = answer_line(alloc, number, &answer)?;
-    let mut text = progress.text;
-    text.extend_from_slice(next_line.as_slice())?;
-    let refused = either(progress.refused, answer.is_refused());
-    Ok(Progress {
-        number,
-        refused,
-        text,
-    })
-}
-
-fn either(first: bool, second: bool) -> bool
-    ensures { result ≡ (first || second) }
-{
-    first || second
+    let text = answer_line(alloc, progress.number + 1, &answer)?;
+    progress.add(text.as_slice(), answer.is_refused())
 }
 
 // The answer to an item, which steps the session.

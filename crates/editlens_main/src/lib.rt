@@ -9,10 +9,11 @@
 mod answers;
 mod commands;
 mod generated;
+mod input;
 mod journal;
-mod lines;
 mod program;
 mod report;
+mod script;
 mod status;
 mod sure;
 mod top;

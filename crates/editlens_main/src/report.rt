@@ -1,71 +1,88 @@
-//! The report of a whole input.
-ghost use Rattle.std.specs.Prelude.{◌≡◌, ◌++◌, List, IfOk, Some, Result, Ok, map};
+//! What is written at the end of an input, and the status.
+ghost use Rattle.std.specs.Prelude.{◌≡◌, ◌+◌, ◌^◌, ◌<◌, ◌++◌, [], List, ℕ, IfOk, OnOk, Some, Result, Ok, option_to_list};
+ghost use Rattle.edit_journal.specs.Pieces.{last_line};
 ghost use Rattle.edit_session.specs.Views.{triple_tree};
 ghost use Rattle.lens_forms.specs.Forms.{FormTree, form_tree};
-ghost use Rattle.editlens_main.specs.Lines.{cut, up_to_line_end};
-ghost use Rattle.editlens_main.specs.Program.{Refusal};
+ghost use Rattle.editlens_main.specs.Ending.{IsEnd, HasEnd};
+ghost use Rattle.editlens_main.specs.Parts.{HoldsPart};
+ghost use Rattle.editlens_main.specs.Program.{Refusal, lens_of};
 ghost use Rattle.editlens_main.specs.Refused.{IsKnown, IsRefusal};
-ghost use Rattle.editlens_main.specs.Report.{ending, report, report_with, run_report, state_lines, type_lines};
-ghost use Rattle.editlens_main.specs.Running.{items_among};
+ghost use Rattle.editlens_main.specs.Report.{ending, report_with, run_report, state_lines, type_lines};
+ghost use Rattle.editlens_main.specs.Running.{GoesOver};
 ghost use Rattle.editlens_main.specs.Runs.{JournalItem};
+ghost use Rattle.editlens_main.specs.Skipped.{EndsReport};
 
 use crate::Status;
 use crate::answers::state_lines;
 use crate::commands::Command;
-use crate::journal::{Progress, take_lines};
-use crate::lines::part_script;
-use crate::program::{Refused, read_lens};
+use crate::input::Input;
+use crate::journal::{Progress, handle_line};
+use crate::program::Refused;
+use crate::script::ProgramText;
 use answer_text::{syntax_line, type_line, typing_line};
 use edit_session::Session;
+use lens_core::EditLens;
 use lens_run::Checked;
 use lens_types::Typed;
 use std::alloc::{AllocError, Global};
 use texts::{Bytes, Side};
 
-/// What is written for an input, and the status.
+/// What is written at the end of an input, and the status.
 #[derive(Drop)]
 pub struct Report {
     pub text: Vec<u8>,
     pub status: Status,
 }
 
-/// The command's report of an input. The only error is running out of memory.
-pub fn make_report(alloc: Global, command: Command, bytes: &[u8]) -> Result<Report, AllocError>
-    ensures { IfOk result (λ r. report command bytes.now ≡ Some (r.text.items, r.status)) }
-{
-    let script = part_script(bytes);
-    match read_lens(alloc, script.program) {
-        Ok(lens) => lens_report(alloc, command, lens, script.journal),
-        Err(refused) => {
-            let report = refusal_report(alloc, &refused);
-            drop(refused);
-            report
-        }
-    }
-}
-
-// The report if there is a lens.
-fn lens_report(
+/// The report of a script that is a program part alone. The only error is running out of memory.
+pub fn report_alone(
     alloc: Global,
     command: Command,
-    lens: Typed,
-    journal: &[u8],
+    program: &ProgramText,
 ) -> Result<Report, AllocError>
-    ensures { IfOk result (λ r. report_with command (Ok (form_tree lens)) (items_among (map up_to_line_end (cut journal.now))) ≡ Some (r.text.items, r.status)) }
+    ensures report { IfOk result (λ r. (part : List ℕ) → HoldsPart program.now part → report_with command (lens_of part) [] ≡ Some (r.text.items, r.status)) }
+    ensures end { HasEnd result }
 {
-    match command {
-        Command::Run => run_journal(alloc, lens, journal),
-        Command::Check => {
-            let report = type_report(alloc, &lens);
-            drop(lens);
-            report
-        }
+    match program.lens(alloc) {
+        Ok(lens) => report_of_lens(alloc, command, lens),
+        Err(refused) => refusal(alloc, refused),
     }
 }
 
-// The two types of a lens.
+// The report of an empty journal.
+fn report_of_lens(alloc: Global, command: Command, lens: Typed) -> Result<Report, AllocError>
+    ensures report { IfOk result (λ r. report_with command (Ok (form_tree lens)) [] ≡ Some (r.text.items, r.status)) }
+    ensures end { HasEnd result }
+{
+    match command {
+        Command::Run => run_empty(alloc, lens),
+        Command::Check => types_of(alloc, lens),
+    }
+}
+
+fn run_empty(alloc: Global, lens: Typed) -> Result<Report, AllocError>
+    ensures report { IfOk result (λ r. run_report (form_tree lens) [] ≡ Some (r.text.items, r.status)) }
+    ensures end { HasEnd result }
+{
+    let session = Session::start(alloc, Checked::new(lens))?;
+    let report = report_of_state(alloc, &session, Progress::new(alloc));
+    drop(session);
+    report
+}
+
+/// The two types of a lens, which is then given up. The only error is running out of memory.
+pub fn types_of(alloc: Global, lens: Typed) -> Result<Report, AllocError>
+    ensures text { IfOk result (λ r. (r.text.items ≡ type_lines (form_tree lens)) × (r.status ≡ Status.Done)) }
+    ensures end { HasEnd result }
+{
+    let report = type_report(alloc, &lens);
+    drop(lens);
+    report
+}
+
 fn type_report(alloc: Global, lens: &Typed) -> Result<Report, AllocError>
-    ensures { IfOk result (λ r. (r.text.items ≡ type_lines (form_tree lens.now)) × (r.status ≡ Status.Done)) }
+    ensures text { IfOk result (λ r. (r.text.items ≡ type_lines (form_tree lens.now)) × (r.status ≡ Status.Done)) }
+    ensures end { HasEnd result }
 {
     let left = type_line(alloc, Side::Left, lens.left())?;
     let right = type_line(alloc, Side::Right, lens.right())?;
@@ -77,11 +94,25 @@ fn type_report(alloc: Global, lens: &Typed) -> Result<Report, AllocError>
     })
 }
 
-// The report if the program part is refused. Running out of memory is not a refusal.
+/// The report if the program part is refused. Running out of memory is not a refusal, and the only error.
+pub fn refusal(alloc: Global, refused: Refused) -> Result<Report, AllocError>
+    requires { IsKnown refused }
+    ensures report { IfOk result (λ r. (outcome : Result FormTree Refusal) (command : Command) (items : List JournalItem) → IsRefusal outcome refused
+        → report_with command outcome items ≡ Some (r.text.items, r.status)) }
+    ensures status { IfOk result (λ r. r.status ≡ Status.ProgramRefused) }
+    ensures end { HasEnd result }
+{
+    let report = refusal_report(alloc, &refused);
+    drop(refused);
+    report
+}
+
 fn refusal_report(alloc: Global, refused: &Refused) -> Result<Report, AllocError>
     requires { IsKnown refused.now }
-    ensures { IfOk result (λ r. (outcome : Result FormTree Refusal) (command : Command) (items : List JournalItem) → IsRefusal outcome refused.now
+    ensures report { IfOk result (λ r. (outcome : Result FormTree Refusal) (command : Command) (items : List JournalItem) → IsRefusal outcome refused.now
         → report_with command outcome items ≡ Some (r.text.items, r.status)) }
+    ensures status { IfOk result (λ r. r.status ≡ Status.ProgramRefused) }
+    ensures end { HasEnd result }
 {
     match refused {
         Refused::Syntax(fault) => Ok(refused_with(syntax_line(alloc, fault)?)),
@@ -101,18 +132,44 @@ fn refused_with(line: Bytes) -> Report
     }
 }
 
-// The report of the items among the lines of a journal.
-fn run_journal(alloc: Global, lens: Typed, journal: &[u8]) -> Result<Report, AllocError>
-    ensures { IfOk result (λ r. run_report (form_tree lens) (items_among (map up_to_line_end (cut journal.now))) ≡ Some (r.text.items, r.status)) }
+/// The end of the report of a run whose input is at its end: the answers that are not written yet, with that to the last
+/// line, which no LF ends, and the state lines. The only error is running out of memory.
+pub fn last_report(
+    alloc: Global,
+    session: &mut Session<Checked>,
+    progress: Progress,
+    input: Input,
+) -> Result<Report, AllocError>
+    requires none { input.lines.ended ≡ [] }
+    requires fits { progress.number + 1 < 2 ^ 64 }
+    ensures report { IfOk result (λ r. EndsReport (form_tree session.old.lens.typed) (triple_tree session.old.triple) progress input.lines.begun r) }
+    ensures end { HasEnd result }
 {
-    let mut session = Session::start(alloc, Checked::new(lens))?;
-    let progress = take_lines(alloc, &mut session, journal)?;
-    let report = report_of_state(alloc, &session, progress);
-    drop(session);
-    report
+    let mut progress = progress;
+    take_last(alloc, session, &mut progress, input)?;
+    report_of_state(alloc, session, progress)
 }
 
-// The report of a run that has written all its answers, with the state lines of its session.
+// Handles the last line, which no LF ends, if there is one.
+fn take_last<L: EditLens>(
+    alloc: Global,
+    session: &mut Session<L>,
+    progress: &mut Progress,
+    input: Input,
+) -> Result<(), AllocError>
+    requires none { input.lines.ended ≡ [] }
+    requires fits { progress.old.number + 1 < 2 ^ 64 }
+    ensures goes { OnOk result (GoesOver (L.left_type session.old.lens) (L.right_type session.old.lens) (L.carried session.old.lens) (triple_tree session.old.triple) progress.old
+        (option_to_list (last_line input.lines.begun)) (triple_tree session.new.triple) progress.new) }
+    ensures lens { session.new.lens ≡ session.old.lens }
+{
+    match input.last() {
+        Some(line) => handle_line(alloc, session, progress, &line),
+        None => Ok(()),
+    }
+}
+
+// The answers that are not written yet, and the state lines of a session.
 #[tactic(auto, using(crate::proofs::RunInStep::in_step_fits))]
 fn report_of_state(
     alloc: Global,
@@ -122,6 +179,7 @@ fn report_of_state(
     ensures text { IfOk result (λ r. r.text.items
         ≡ progress.text.items ++ state_lines (form_tree session.now.lens.typed) (triple_tree session.now.triple)) }
     ensures status { IfOk result (λ r. r.status ≡ ending progress.refused) }
+    ensures end { HasEnd result }
 {
     let state = state_lines(alloc, session.lens().typed(), session)?;
     let mut text = progress.text;
@@ -132,7 +190,8 @@ fn report_of_state(
 
 // The status of a run that came to its end.
 fn ending(refused: bool) -> Status
-    ensures { result ≡ ending refused }
+    ensures status { result ≡ ending refused }
+    ensures end { IsEnd result }
 {
     if refused {
         Status::SomeRefused

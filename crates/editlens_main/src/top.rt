@@ -1,23 +1,35 @@
 //! The top call.
-ghost use Rattle.std.specs.Prelude.{◌≡◌, ◌⊎◌, ◌^◌, ◌<◌, ◌≤◌, ℕ, IfSome, Some, None, length};
+ghost use Rattle.std.specs.Prelude.{◌≡◌, ◌⊎◌, ◌+◌, ◌^◌, ◌<◌, ◌≤◌, List, ℕ, IfOk, IfSome, Some, None, Ok, IsErrOf, length};
+ghost use Rattle.std.specs.declared.option.Option.{Option};
 ghost use Rattle.command_words.specs.declared.orders.Order.TheVariants.{Gen};
+ghost use Rattle.edit_session.specs.Views.{triple_tree};
+ghost use Rattle.lens_forms.specs.Forms.{FormTree, form_tree};
 ghost use Rattle.lens_io.specs.Causes.{Increased};
-ghost use Rattle.lens_io.specs.Content.{IsFull};
 ghost use Rattle.editlens_main.specs.Commands.{command_of, order_named};
+ghost use Rattle.editlens_main.specs.Ending.{Ended, Gives, HasEnd};
 ghost use Rattle.editlens_main.specs.Ends.{IsFinished, Reports, Stops, SinkFailed, GivesUsage, IsComplete};
 ghost use Rattle.editlens_main.specs.Generated.{WritesSummary};
+ghost use Rattle.editlens_main.specs.Parts.{IsTaken, IsHead};
+ghost use Rattle.editlens_main.specs.Program.{lens_of};
+ghost use Rattle.editlens_main.specs.Report.{type_lines};
+ghost use Rattle.editlens_main.specs.Runs.{first_of};
+ghost use Rattle.editlens_main.specs.Skipped.{SkipsRest};
+ghost use Rattle.editlens_main.specs.Taking.{IsWithin};
 ghost use Rattle.editlens_main.specs.declared.commands.Command.TheVariants.{Run, Check};
 
 use crate::Status;
 use crate::commands::{Command, USAGE};
 use crate::generated::run_generated;
-use crate::report::make_report;
+use crate::input::{Input, piece_buffer};
+use crate::journal::{answer_pieces, stopped_by};
+use crate::report::{Report, last_report, refusal, report_alone, types_of};
+use crate::script::{Head, read_head};
 use command_words::{Order, WordsFault, read_words};
-use lens_io::{Sink, Source, TakeFault, give_all, take_all};
-use std::alloc::Global;
-
-// The most bytes of an input. One more is asked for, which shows that there are too many.
-const MOST: u64 = 1 << 30;
+use edit_session::Session;
+use lens_io::{Sink, Source, TakeFault, give_all};
+use lens_run::Checked;
+use lens_types::Typed;
+use std::alloc::{AllocError, Global};
 
 /// Does what the program's words say, with its input and its output.
 ///
@@ -29,8 +41,11 @@ const MOST: u64 = 1 << 30;
 /// - `run_reports`: after `Done` and `SomeRefused` the complete report of the input was written, and every triple of the run
 ///   is in the lens's consistency relation.
 /// - `check_types`: after `Done` the two types of the lens of the program part were written.
-/// - `stops_are_clean`: what was taken from the source and written to the sink for every other status, and that
-///   `ProgramRefused` comes only if the program part is refused and `InputTooLong` if and only if the input is too long.
+/// - `stops_are_clean`: what was taken from the source, at most 2^30 + 1 bytes, and written to the sink for every other
+///   status. After `SourceFault` and `InputTooLong` these are the answers to exactly the lines of the journal that have ended.
+///   `ProgramRefused` comes only if the program part is refused, with the piece that ends the separator or at the end of the
+///   source. `InputTooLong` comes if and only if more than 2^30 bytes were taken, and neither a refusal of the program part
+///   nor the sink nor memory stopped the call first.
 /// - `gen_summarizes`: the status is `Done`, `SinkFault` or `NoMemory`. After `Done` the summary of the generated run was
 ///   written, in which every entry is accepted; after `SinkFault` a prefix of it; after `NoMemory` nothing.
 /// - `unread`: `gen`, and words that name no command, leave the source as it was.
@@ -95,7 +110,7 @@ fn give_usage<K: Sink>(sink: &mut K) -> Status
     }
 }
 
-// Reads the complete input, and writes the report of it.
+// Reads the input in pieces, and writes what there is to write for each before it asks for the next.
 fn run<S: Source, K: Sink>(alloc: Global, command: Command, source: &mut S, sink: &mut K) -> Status
     ensures stops { Stops command (S.left source.old) (S.left source.new) (K.held sink.old) (K.held sink.new) result }
     ensures reports { IsFinished result → Reports command (S.left source.old) (S.left source.new) (K.held sink.old) (K.held sink.new) result }
@@ -106,13 +121,145 @@ fn run<S: Source, K: Sink>(alloc: Global, command: Command, source: &mut S, sink
         → (SinkFailed K.faults K.empty_takes K.room K.held sink.old sink.new → ⊥)
         → IsComplete command bytes result) }
 {
-    let bytes = match take_all(alloc, source, MOST) {
-        Ok(bytes) => bytes,
-        Err(TakeFault::SourceFault) => return Status::SourceFault,
-        Err(TakeFault::TooLong) => return Status::InputTooLong,
-        Err(TakeFault::NoMemory) => return Status::NoMemory,
+    run_script(alloc, command, source, sink)
+}
+
+fn run_script<S: Source, K: Sink>(
+    alloc: Global,
+    command: Command,
+    source: &mut S,
+    sink: &mut K,
+) -> Status
+    ensures ended { Ended command (S.left source.old) (S.left source.new) (K.held sink.old) (K.held sink.new) result }
+    ensures source_fault { result ≡ Status.SourceFault → Increased (S.faults source.old) (S.faults source.new) }
+    ensures sink_fault { result ≡ Status.SinkFault → SinkFailed K.faults K.empty_takes K.room K.held sink.old sink.new }
+{
+    let Ok(mut piece) = piece_buffer(alloc) else {
+        return Status::NoMemory;
     };
-    let Ok(report) = make_report(alloc, command, bytes.as_slice()) else {
+    match read_head(alloc, source, &mut piece) {
+        Ok(Head::Whole(program)) => give_report(report_alone(alloc, command, &program), sink),
+        Ok(Head::Separated(program, input)) => match program.lens(alloc) {
+            Ok(lens) => run_lens(alloc, command, lens, input, source, &mut piece, sink),
+            Err(refused) => give_report(refusal(alloc, refused), sink),
+        },
+        Err(fault) => stopped_by(fault),
+    }
+}
+
+// A script whose program part is accepted, behind its separator.
+fn run_lens<S: Source, K: Sink>(
+    alloc: Global,
+    command: Command,
+    lens: Typed,
+    input: Input,
+    source: &mut S,
+    piece: &mut [u8],
+    sink: &mut K,
+) -> Status
+    requires some { 0 < length piece.old }
+    requires within { IsWithin input }
+    ensures ended { (left : Option (List ℕ)) (front rest part : List ℕ) → IsTaken left (S.left source.old) input front rest → IsHead front part
+        → lens_of part ≡ Ok (form_tree lens) → Ended command left (S.left source.new) (K.held sink.old) (K.held sink.new) result }
+    ensures source_fault { result ≡ Status.SourceFault → Increased (S.faults source.old) (S.faults source.new) }
+    ensures sink_fault { result ≡ Status.SinkFault → SinkFailed K.faults K.empty_takes K.room K.held sink.old sink.new }
+{
+    match command {
+        Command::Run => run_journal(alloc, lens, input, source, piece, sink),
+        Command::Check => show_types(types_of(alloc, lens), input, source, piece, sink),
+    }
+}
+
+// Shows the two types of a lens, once the input is read to its end.
+fn show_types<S: Source, K: Sink>(
+    types: Result<Report, AllocError>,
+    input: Input,
+    source: &mut S,
+    piece: &mut [u8],
+    sink: &mut K,
+) -> Status
+    requires some { 0 < length piece.old }
+    requires end { HasEnd types }
+    ensures ended { (left : Option (List ℕ)) (front rest part : List ℕ) (form : FormTree) → IsTaken left (S.left source.old) input front rest → IsHead front part
+        → lens_of part ≡ Ok form → IfOk types (λ r. (r.text.items ≡ type_lines form) × (r.status ≡ Status.Done))
+        → Ended Check left (S.left source.new) (K.held sink.old) (K.held sink.new) result }
+    ensures source_fault { result ≡ Status.SourceFault → Increased (S.faults source.old) (S.faults source.new) }
+    ensures sink_fault { result ≡ Status.SinkFault → SinkFailed K.faults K.empty_takes K.room K.held sink.old sink.new }
+{
+    match skip_rest(input, source, piece) {
+        Ok(()) => give_report(types, sink),
+        Err(fault) => stopped_by(fault),
+    }
+}
+
+// Runs a journal as it comes.
+fn run_journal<S: Source, K: Sink>(
+    alloc: Global,
+    lens: Typed,
+    input: Input,
+    source: &mut S,
+    piece: &mut [u8],
+    sink: &mut K,
+) -> Status
+    requires some { 0 < length piece.old }
+    requires within { IsWithin input }
+    ensures ended { (left : Option (List ℕ)) (front rest part : List ℕ) → IsTaken left (S.left source.old) input front rest → IsHead front part
+        → lens_of part ≡ Ok (form_tree lens) → Ended Run left (S.left source.new) (K.held sink.old) (K.held sink.new) result }
+    ensures source_fault { result ≡ Status.SourceFault → Increased (S.faults source.old) (S.faults source.new) }
+    ensures sink_fault { result ≡ Status.SinkFault → SinkFailed K.faults K.empty_takes K.room K.held sink.old sink.new }
+{
+    let Ok(mut session) = Session::start(alloc, Checked::new(lens)) else {
+        return Status::NoMemory;
+    };
+    let status = answer_journal(alloc, &mut session, input, source, piece, sink);
+    drop(session);
+    status
+}
+
+// Answers a journal as it comes, and ends with the state of the session.
+fn answer_journal<S: Source, K: Sink>(
+    alloc: Global,
+    session: &mut Session<Checked>,
+    input: Input,
+    source: &mut S,
+    piece: &mut [u8],
+    sink: &mut K,
+) -> Status
+    requires some { 0 < length piece.old }
+    requires within { IsWithin input }
+    ensures ended { (left : Option (List ℕ)) (front rest part : List ℕ) → IsTaken left (S.left source.old) input front rest → IsHead front part
+        → lens_of part ≡ Ok (form_tree session.old.lens.typed) → triple_tree session.old.triple ≡ first_of (form_tree session.old.lens.typed)
+        → Ended Run left (S.left source.new) (K.held sink.old) (K.held sink.new) result }
+    ensures source_fault { result ≡ Status.SourceFault → Increased (S.faults source.old) (S.faults source.new) }
+    ensures sink_fault { result ≡ Status.SinkFault → SinkFailed K.faults K.empty_takes K.room K.held sink.old sink.new }
+{
+    let mut input = input;
+    match answer_pieces(alloc, session, &mut input, source, piece, sink) {
+        Ok(progress) => give_report(last_report(alloc, session, progress, input), sink),
+        Err(status) => status,
+    }
+}
+
+// Reads an input to its end. Its bytes are not looked at.
+fn skip_rest<S: Source>(input: Input, source: &mut S, piece: &mut [u8]) -> Result<(), TakeFault>
+    requires some { 0 < length piece.old }
+    ensures skips { SkipsRest input.taken (S.left source.old) (S.left source.new) result }
+    ensures faults { S.faults source.old ≤ S.faults source.new }
+    ensures cause { IsErrOf result TakeFault.SourceFault → Increased (S.faults source.old) (S.faults source.new) }
+{
+    let mut input = input;
+    'pieces: while input.skip_piece(source, piece)? {}
+    Ok(())
+}
+
+// Writes a report, and ends with its status. Out of memory there is none.
+fn give_report<K: Sink>(report: Result<Report, AllocError>, sink: &mut K) -> Status
+    requires { HasEnd report }
+    ensures gives { Gives report (K.held sink.old) (K.held sink.new) result }
+    ensures no_fault { result ≡ Status.SourceFault → ⊥ }
+    ensures sink_fault { result ≡ Status.SinkFault → SinkFailed K.faults K.empty_takes K.room K.held sink.old sink.new }
+{
+    let Ok(report) = report else {
         return Status::NoMemory;
     };
     match give_all(sink, &report.text) {

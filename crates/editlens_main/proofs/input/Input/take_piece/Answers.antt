@@ -1,0 +1,11 @@
+use Rattle.std.proofs.Common.{◌+◌, ◌≤◌, length, ap, arith, take}
+use Rattle.std.proofs.lemmas.List.{length-take}
+use Rattle.edit_journal.specs.Pieces.{FedLines}
+use Rattle.editlens_main.proofs.EndedLines.{count, few_ended}
+use Rattle.editlens_main.proofs.input.Input.take_piece.Goals as goal
+
+pub invariant_of-self-2 : goal.invariant_of-self-2
+invariant_of-self-2 g c =
+    let bytes = c.in_ok-count.ensures.bytes in
+    let piece = take c.in_ok-count.count c.take_bytes.new.piece in
+    (bytes.2, omega (arith, ap count c.in_ok-feed.ensures.fed, few_ended c.self.inside.lines piece, c.self.invariant.1, length-take c.in_ok-count.count c.take_bytes.new.piece))

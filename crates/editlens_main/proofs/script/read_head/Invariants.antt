@@ -1,0 +1,15 @@
+use Rattle.std.proofs.Common.{◌≡◌, ◌+◌, ◌-◌, ◌^◌, ◌≤◌, length}
+use Rattle.editlens_main.specs.Parts.{ReadsOn}
+use Rattle.editlens_main.proofs.script.read_head.Given as goal
+
+-- no separator was met so far
+abbrev pub invariant-pieces : goal.invariant-pieces
+invariant-pieces g l = record {
+  reads : ReadsOn (g.S.Source.left l.fn.source) (g.S.Source.left l.source) l.input l.program;
+  faults : g.S.Source.faults l.fn.source ≤ g.S.Source.faults l.source;
+  at_most : l.input.taken ≤ 2 ^ 30 + 1;
+  piece : length l.piece ≡ length l.fn.piece;
+}
+
+abbrev pub decreases-pieces : goal.decreases-pieces
+decreases-pieces g l = 2 ^ 30 + 1 - l.input.taken
