@@ -1,5 +1,5 @@
 -- A word that acts on a document has counts that fit: the action refuses every other insertion and deletion.
-use Rattle.std.proofs.Common.{◌≡◌, ℕ, Bool, true, false, ◌&&◌, cond, List, Option, None, Some, Result, Ok, Err, refl, ap}
+use Rattle.std.proofs.Common.{◌≡◌, ℕ, Bool, true, false, ◌&&◌, cond, List, Option, None, Some, Result, Ok, Err, refl}
 use Rattle.std.specs.Prelude.{bytes_eq, nat_le}
 use Rattle.texts.proofs.Conjunction.{both}
 use Rattle.hold_shapes.specs.declared.shape.Shape.{Shape}
@@ -7,9 +7,9 @@ use Rattle.hold_shapes.specs.declared.shape.Shape.TheVariants.{List as ListOf, K
 use Rattle.hold_shapes.specs.declared.edit.Place.{Place as PlaceOf}
 use Rattle.hold_shapes.specs.declared.edit.Place.TheVariants.{Index, Key, Node}
 use Rattle.hold_shapes.specs.declared.edit.ShapeEdit.{ShapeEdit}
-use Rattle.hold_shapes.specs.declared.edit.ShapeEdit.TheVariants.{Ins, Del, MoveItem, Reorder, PutKey, DropKey, RenameKey, Graft, Prune, Shift, Hang}
+use Rattle.hold_shapes.specs.declared.edit.ShapeEdit.TheVariants.{Ins, Del}
 use Rattle.hold_shapes.specs.declared.origins.Origin.{Origin}
-use Rattle.hold_shapes.specs.Causes.{PlanCause, Range as TooMany}
+use Rattle.hold_shapes.specs.Causes.{Range as TooMany}
 use Rattle.hold_shapes.specs.Plans.{plan, Planned, is_count}
 use Rattle.hold_shapes.specs.Shapes.{place_of}
 use Rattle.doc_values.specs.Documents.{DocTree, rec, alt, hold, DocTrees}

@@ -1,7 +1,7 @@
 -- What a line that was taken does to the program part.
 use Rattle.std.proofs.Common.{◌≡◌, ◌<◌, ℕ, List, [], ◌∷◌, ◌++◌, length, Bool, true, false, Option, Some, None, refl, sym, ap, subst, ◌∙◌, append_assoc, arith}
 use Rattle.edit_journal.specs.Lines.{line_of}
-use Rattle.edit_journal.specs.Pieces.{FedLines, nothing_fed, fed, take_first, has_no_end}
+use Rattle.edit_journal.specs.Pieces.{FedLines, take_first}
 use Rattle.edit_journal.specs.declared.line.Line.{Line}
 use Rattle.editlens_main.specs.Coming.{is_separator_line}
 use Rattle.editlens_main.specs.Lines.{is_separator}

@@ -1,12 +1,11 @@
 -- A script as it comes: the part that was handled is at the front, and what is still to come may be anything.
 use Rattle.std.proofs.Common.{◌≡◌, ◌<◌, ◌≤◌, ℕ, length, arith, List, [], ◌∷◌, ◌++◌, Bool, true, false, cond, refl, sym, ap, ◌∙◌, append_assoc, append-nil}
-use Rattle.std.specs.Prelude.{◌==◌, ◌||◌, bytes_eq, nat_le, codes}
+use Rattle.std.specs.Prelude.{◌||◌, bytes_eq, nat_le, codes}
 use Rattle.std.specs.List.{concat, onto_first, list_any}
 use Rattle.std.proofs.lemmas.Bool.{leb-false}
 use Rattle.std.proofs.lemmas.Slice.Eq.{bytes_eq-Decides}
 use Rattle.edit_journal.specs.Lines.{line_of}
 use Rattle.edit_journal.specs.Pieces.{FedLines, has_no_end}
-use Rattle.edit_journal.specs.declared.line.Line.{Line}
 use Rattle.edit_journal.specs.declared.line.Line.TheVariants.{Text, TooLong}
 use Rattle.edit_journal.proofs.Feeding.{both_plain, first_line}
 use Rattle.editlens_main.specs.Lines.{cut, up_to_line_end, is_separator, lines_before, lines_behind, program_part}

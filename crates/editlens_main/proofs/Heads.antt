@@ -1,16 +1,15 @@
 -- The reading of a program part: its start, one more piece, and its ends.
-use Rattle.std.proofs.Common.{◌≡◌, ℕ, ◌+◌, ◌^◌, ◌<◌, ◌≤◌, List, [], ◌∷◌, ◌++◌, length, true, false, Option, Some, None, Ok, Err, refl, sym, ap, subst, ◌∙◌, append-nil, append_assoc, length-append, arith}
+use Rattle.std.proofs.Common.{◌≡◌, ℕ, ◌+◌, ◌≤◌, List, [], ◌++◌, length, true, false, Option, Ok, Err, refl, sym, ap, subst, ◌∙◌, append-nil, append_assoc, length-append, arith}
 use Rattle.std.specs.List.{list_any}
-use Rattle.std.specs.Io.KnownBytes.{Consumes, IsAtEnd}
+use Rattle.std.specs.Io.KnownBytes.{Consumes}
 use Rattle.std.proofs.KnownBytes.{Consumes-nil, Consumes-trans}
 use Rattle.lens_io.specs.declared.failed.TakeFault.{TakeFault}
 use Rattle.lens_io.specs.declared.failed.TakeFault.TheVariants.{SourceFault, TooLong, NoMemory}
 use Rattle.edit_journal.specs.Lines.{line_of}
 use Rattle.edit_journal.specs.Pieces.{FedLines, nothing_fed, fed, last_line, has_no_end}
-use Rattle.edit_journal.specs.declared.line.Line.{Line}
 use Rattle.edit_journal.proofs.Feeding.{joins, plain, none_ended as no_end_left}
 use Rattle.editlens_main.specs.Coming.{ended_lines, is_separator_line, has_separator}
-use Rattle.editlens_main.specs.Lines.{program_part, journal, journal_of}
+use Rattle.editlens_main.specs.Lines.{program_part, journal_of}
 use Rattle.editlens_main.specs.Parts.{HoldsPart, IsProgramFront, MovesOn, AddsLines, HasLastPiece, IsTaken, ReadsOn, ReadsPart, ReadsAll, NotYet, StopsHead}
 use Rattle.editlens_main.specs.Taking.{TakenInput, IsWithin, StopsAt, TakesNone, TakesMore}
 use Rattle.editlens_main.specs.declared.script.ProgramText.{ProgramText}

@@ -1,5 +1,5 @@
 -- What is added to the text of a program part.
-use Rattle.std.proofs.Common.{◌≡◌, ℕ, ◌<◌, List, [], ◌∷◌, ◌++◌, length, Bool, true, false, cond, Option, Some, None, refl, sym, ap, subst, ◌∙◌, append-nil, arith, length-append}
+use Rattle.std.proofs.Common.{◌≡◌, ℕ, ◌<◌, List, [], ◌∷◌, ◌++◌, length, Bool, true, false, cond, Some, None, refl, sym, ap, subst, ◌∙◌, append-nil, arith, length-append}
 use Rattle.std.specs.Prelude.{nat_le}
 use Rattle.std.proofs.lemmas.Bool.{leb-false}
 use Rattle.edit_journal.specs.Lines.{line_of}
@@ -7,7 +7,7 @@ use Rattle.edit_journal.specs.Pieces.{last_line, has_no_end}
 use Rattle.edit_journal.specs.declared.line.Line.{Line}
 use Rattle.edit_journal.specs.declared.line.Line.TheVariants.{Text, TooLong}
 use Rattle.editlens_main.specs.Coming.{is_separator_line}
-use Rattle.editlens_main.specs.Lines.{is_separator, program_part}
+use Rattle.editlens_main.specs.Lines.{program_part}
 use Rattle.editlens_main.specs.Parts.{HoldsText, HoldsPart, IsProgramFront}
 use Rattle.editlens_main.specs.declared.script.ProgramText.{ProgramText}
 use Rattle.editlens_main.proofs.Fronts.{separator_line, last_separator, last_in_part}

@@ -1,5 +1,5 @@
 -- A refusal that the code found is known to be one.
-use Rattle.std.proofs.Common.{◌≡◌, ℕ, List, Result, Ok, Err}
+use Rattle.std.proofs.Common.{Result, Ok, Err}
 use Rattle.std.specs.Prelude.{IfErr, MatchResult}
 use Rattle.lens_forms.specs.Forms.{FormTree}
 use Rattle.editlens_main.specs.Program.{Refusal}

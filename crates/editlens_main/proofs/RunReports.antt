@@ -19,10 +19,10 @@ use Rattle.lens_syntax.specs.Programs.{ProgramCause, too_long, not_a_program, un
 use Rattle.lens_syntax.specs.declared.fault.ProgramFault.{ProgramFault}
 use Rattle.lens_syntax.specs.declared.fault.ProgramFault.TheVariants as reading
 use Rattle.editlens_main.specs.Lines.{cut, up_to_line_end, journal_of}
-use Rattle.editlens_main.specs.Program.{Refusal, form_of_program, lens_of}
+use Rattle.editlens_main.specs.Program.{Refusal, form_of_program}
 use Rattle.editlens_main.specs.Refused.{IsRefusal, IsKnown, IsSyntaxRefusal}
 use Rattle.editlens_main.specs.Runs.{JournalItem, JournalAnswer, first_of, run_of}
-use Rattle.editlens_main.specs.Report.{answer_line, answer_lines, state_lines, text_of_steps, ending, run_report, items_of, report_with, refusal_line, report}
+use Rattle.editlens_main.specs.Report.{answer_line, answer_lines, state_lines, text_of_steps, ending, run_report, report_with, refusal_line}
 use Rattle.editlens_main.specs.Running.{items_in, Come, Written, of_steps, after_progress, written, written_after}
 use Rattle.editlens_main.specs.declared.program.Refused.{Refused}
 use Rattle.editlens_main.specs.declared.program.Refused.TheVariants.{Syntax, Typing, NoMemory}

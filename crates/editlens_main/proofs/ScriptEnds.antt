@@ -1,33 +1,33 @@
 -- The ends of a call behind the separator, where the program part is accepted.
-use Rattle.std.proofs.Common.{◌≡◌, ◌⊎◌, inl, inr, ℕ, ◌+◌, ◌^◌, ◌<◌, ◌≤◌, List, [], ◌∷◌, ◌++◌, length, Bool, true, Option, Some, None, option_map, Result, Ok, Err, map, refl, sym, ap, ap₂, subst, ◌∙◌, append-nil, append_assoc, length-append, arith}
-use Rattle.std.specs.Prelude.{IfOk, IfErr, option_to_list}
+use Rattle.std.proofs.Common.{◌≡◌, inl, ℕ, ◌+◌, ◌^◌, ◌≤◌, List, [], ◌++◌, length, Bool, Option, Some, None, option_map, Result, Ok, Err, map, refl, sym, ap, ap₂, subst, ◌∙◌, append-nil, append_assoc, length-append, arith}
+use Rattle.std.specs.Prelude.{IfOk, option_to_list}
 use Rattle.std.specs.declared.alloc.AllocError.{AllocError}
-use Rattle.std.specs.Io.KnownBytes.{Appends, Consumes, IsAtEnd}
+use Rattle.std.specs.Io.KnownBytes.{Consumes}
 use Rattle.std.proofs.KnownBytes.{Appends-nil, Consumes-nil, Consumes-trans}
 use Rattle.lens_io.specs.declared.failed.TakeFault.{TakeFault}
 use Rattle.lens_io.specs.declared.failed.TakeFault.TheVariants as taking
 use Rattle.edit_journal.specs.EntryJson.{entry_of_line}
-use Rattle.edit_journal.specs.Pieces.{FedLines, nothing_fed, fed, last_line, lines_of}
+use Rattle.edit_journal.specs.Pieces.{FedLines, nothing_fed, fed, last_line}
 use Rattle.edit_journal.specs.declared.line.Line.{Line}
 use Rattle.edit_journal.proofs.Feeding.{joins, all_lines_given}
 use Rattle.edit_session.specs.Step.{TripleTree}
 use Rattle.edit_session.specs.Run.{any_refused, last}
 use Rattle.lens_forms.specs.Forms.{FormTree, left_type, right_type}
 use Rattle.lens_core.specs.Translation.{translate}
-use Rattle.editlens_main.specs.Answered.{AreAnswered, ComesTo, StopsRun, EndsRun}
-use Rattle.editlens_main.specs.Coming.{has_separator, journal_lines, HasPart}
+use Rattle.editlens_main.specs.Answered.{AreAnswered, StopsRun, EndsRun}
+use Rattle.editlens_main.specs.Coming.{journal_lines, HasPart}
 use Rattle.editlens_main.specs.Ending.{Ended, Gives}
-use Rattle.editlens_main.specs.Ends.{answers_with, answers_to, AnswersBut, AnswersAll, AnswersSome, GoesOn}
-use Rattle.editlens_main.specs.Lines.{cut, lines_behind, program_part, journal_of}
-use Rattle.editlens_main.specs.Parts.{HasLastPiece, HoldsPart, IsHead, IsTaken, ReadsPart, ReadsAll}
+use Rattle.editlens_main.specs.Ends.{answers_with, AnswersBut, AnswersAll, GoesOn}
+use Rattle.editlens_main.specs.Lines.{program_part, journal_of}
+use Rattle.editlens_main.specs.Parts.{HoldsPart, IsHead, IsTaken, ReadsPart, ReadsAll}
 use Rattle.editlens_main.specs.Program.{Refusal, lens_of}
 use Rattle.editlens_main.specs.Refused.{IsRefusal}
-use Rattle.editlens_main.specs.Report.{answer_lines, state_lines, type_lines, ending, run_report, items_of, report_with, report}
+use Rattle.editlens_main.specs.Report.{answer_lines, state_lines, type_lines, ending, items_of, report_with, report}
 use Rattle.editlens_main.specs.Running.{items_in, Written, of_steps, come, written, written_after, GoesOver}
 use Rattle.editlens_main.specs.Runs.{JournalItem, JournalAnswer, first_of, run_of}
 use Rattle.editlens_main.specs.Skipped.{SkipsRest, EndsReport}
 use Rattle.editlens_main.specs.Stopping.{status_of}
-use Rattle.editlens_main.specs.Taking.{TakenInput, StopsAt}
+use Rattle.editlens_main.specs.Taking.{TakenInput}
 use Rattle.editlens_main.specs.declared.commands.Command.{Command}
 use Rattle.editlens_main.specs.declared.commands.Command.TheVariants.{Run, Check}
 use Rattle.editlens_main.specs.declared.journal.Progress.{Progress}
@@ -37,7 +37,7 @@ use Rattle.editlens_main.specs.declared.script.ProgramText.{ProgramText}
 use Rattle.editlens_main.specs.declared.status.Status.{Status}
 use Rattle.editlens_main.specs.declared.status.Status.TheVariants.{Done, SomeRefused, Usage, ProgramRefused, SourceFault, SinkFault, InputTooLong, NoMemory}
 use Rattle.editlens_main.proofs.Journals.{are_answered}
-use Rattle.editlens_main.proofs.RunEnds.{none_answered, no_answers, ended_source, ended_long, ended_memory, ended_sink, ended_report, ended_refusal}
+use Rattle.editlens_main.proofs.RunEnds.{none_answered, ended_source, ended_long, ended_memory, ended_sink, ended_report, ended_refusal}
 use Rattle.editlens_main.proofs.RunReports.{items_of_text, form_reported, done, at_end}
 
 -- the separator came with the last piece

@@ -1,5 +1,5 @@
 -- The reading of an input whose rest is forgotten.
-use Rattle.std.proofs.Common.{◌≡◌, ℕ, ◌+◌, ◌^◌, ◌≤◌, List, [], ◌++◌, length, Bool, true, false, Option, Result, Ok, Err, refl, sym, ap, subst, ◌∙◌, length-append, arith}
+use Rattle.std.proofs.Common.{◌≡◌, ℕ, ◌+◌, List, [], ◌++◌, length, Bool, false, Option, Result, Ok, Err, refl, subst, length-append, arith}
 use Rattle.std.proofs.KnownBytes.{Consumes-nil, Consumes-trans}
 use Rattle.lens_io.specs.declared.failed.TakeFault.{TakeFault}
 use Rattle.editlens_main.specs.Skipped.{SkipsOn, SkipsRest}

@@ -1,5 +1,5 @@
 -- The word that a step carries has counts that fit, since it acts on the other document.
-use Rattle.std.proofs.Common.{◌≡◌, Option, None, Some, Result, Ok, Err, true, refl, ap, subst}
+use Rattle.std.proofs.Common.{◌≡◌, Option, None, Some, Result, Ok, Err, true, refl, subst}
 use Rattle.std.specs.Prelude.{option_and_then}
 use Rattle.texts.specs.declared.side.Side.{Side}
 use Rattle.texts.specs.Sides.{other}
@@ -11,7 +11,7 @@ use Rattle.edit_json.specs.WordJson.{counts_fit}
 use Rattle.lens_core.specs.Complements.{CompTree}
 use Rattle.lens_core.specs.Sides.{near}
 use Rattle.lens_core.specs.Translation.{Translated}
-use Rattle.edit_session.specs.Step.{TripleTree, Stepped, document_on, triple_from, after_carrying, after_action, step}
+use Rattle.edit_session.specs.Step.{TripleTree, document_on, triple_from, after_carrying, after_action, step}
 use Rattle.editlens_main.proofs.ActingCounts.{acting_fits}
 
 module _ (left right : TyTree) (translation : Side → CompTree → WordTree → Option Translated) where

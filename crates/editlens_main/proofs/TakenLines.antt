@@ -1,5 +1,5 @@
 -- What taking a line says of the bytes that were fed.
-use Rattle.std.proofs.Common.{◌≡◌, ℕ, ◌+◌, List, [], ◌∷◌, ◌++◌, Option, Some, None, true, take, drop, refl, sym, ap, ◌∙◌}
+use Rattle.std.proofs.Common.{◌≡◌, ℕ, ◌+◌, List, [], ◌∷◌, ◌++◌, Option, Some, None, true, take, drop, refl, ap, ◌∙◌}
 use Rattle.std.specs.List.{position}
 use Rattle.std.proofs.lemmas.Option.{same_Some}
 use Rattle.edit_journal.specs.Lines.{line_of}

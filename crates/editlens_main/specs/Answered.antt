@@ -6,12 +6,12 @@ use Rattle.lens_io.specs.Content.{AppendsFront}
 use Rattle.texts.specs.declared.side.Side.{Side}
 use Rattle.doc_values.specs.Types.{TyTree}
 use Rattle.edit_module.specs.Words.{WordTree}
-use Rattle.edit_journal.specs.Pieces.{FedLines, fed}
+use Rattle.edit_journal.specs.Pieces.{fed}
 use Rattle.edit_journal.specs.declared.line.Line.{Line}
 use Rattle.lens_core.specs.Complements.{CompTree}
 use Rattle.lens_core.specs.Translation.{Translated}
 use Rattle.edit_session.specs.Step.{TripleTree}
-use Rattle.editlens_main.specs.Running.{items_in, come, written, written_after, GoesOver}
+use Rattle.editlens_main.specs.Running.{items_in, come, written, written_after}
 use Rattle.editlens_main.specs.Taking.{TakenInput}
 use Rattle.editlens_main.specs.declared.journal.Progress.{Progress}
 use Rattle.editlens_main.specs.declared.status.Status.{Status}

@@ -4,7 +4,7 @@ use Rattle.std.specs.declared.option.Option.{Option}
 use Rattle.std.specs.Io.KnownBytes.{Consumes, IsAtEnd}
 use Rattle.lens_io.specs.declared.failed.TakeFault.{TakeFault}
 use Rattle.lens_io.specs.declared.failed.TakeFault.TheVariants.{SourceFault, TooLong, NoMemory}
-use Rattle.edit_journal.specs.Pieces.{nothing_fed, fed, has_no_end}
+use Rattle.edit_journal.specs.Pieces.{nothing_fed, fed}
 use Rattle.editlens_main.specs.Coming.{ended_lines, has_separator, journal_lines}
 use Rattle.editlens_main.specs.Lines.{cut, lines_behind, program_part, journal}
 use Rattle.editlens_main.specs.Taking.{TakenInput, StopsAt}

@@ -1,10 +1,9 @@
-use Rattle.std.proofs.Common.{◌≡◌, ◌∷◌, [], ◌++◌, ◌+◌, ◌≤◌, List, refl, sym, ap, subst, ◌∙◌, append_assoc, length, arith, ℕ, Some, Ok, Err}
-use Rattle.std.specs.Prelude.{OnErr}
+use Rattle.std.proofs.Common.{◌≡◌, ◌∷◌, [], ◌++◌, List, refl, sym, ap, subst, ◌∙◌, append_assoc, length, arith, ℕ}
 use Rattle.edit_journal.specs.declared.line.Line.{Line}
 use Rattle.edit_session.specs.Views.{triple_tree}
-use Rattle.editlens_main.specs.Running.{come, items_in, written_after, GoesOver}
-use Rattle.editlens_main.proofs.EndedLines.{taken_line, none_taken}
-use Rattle.editlens_main.proofs.Journals.{Handled, goes_nowhere, goes_on, goes_same, goes_all}
+use Rattle.editlens_main.specs.Running.{come, items_in, written_after}
+use Rattle.editlens_main.proofs.EndedLines.{taken_line}
+use Rattle.editlens_main.proofs.Journals.{Handled, goes_nowhere, goes_on, goes_same}
 use Rattle.editlens_main.proofs.Outcomes.{on_err_of}
 use Rattle.editlens_main.proofs.journal.answer_lines.Goals as goal
 

@@ -1,4 +1,4 @@
-use Rattle.std.proofs.Common.{◌≡◌, ℕ, List, ◌∷◌, ◌+◌, ◌++◌, ◌||◌, refl, sym, ap, ap₂, ◌∙◌, append_assoc}
+use Rattle.std.proofs.Common.{◌≡◌, ℕ, List, ◌∷◌, ◌++◌, ◌||◌, sym, ap, ◌∙◌, append_assoc}
 use Rattle.edit_journal.specs.EntryJson.{entry_of_line}
 use Rattle.edit_session.specs.Views.{triple_tree}
 use Rattle.editlens_main.specs.Report.{answer_line}

@@ -1,6 +1,5 @@
-use Rattle.std.proofs.Common.{◌≡◌, ℕ, List, [], ◌∷◌, ◌++◌, true, false, refl, sym, ap, ◌∙◌}
-use Rattle.edit_journal.specs.Pieces.{FedLines, take_first}
-use Rattle.editlens_main.proofs.AddedLines.{fewer, found, added, all_added}
+use Rattle.std.proofs.Common.{◌++◌, refl, sym, ap, ◌∙◌}
+use Rattle.editlens_main.proofs.AddedLines.{found, added, all_added}
 use Rattle.editlens_main.proofs.script.add_lines.Goals as goal
 
 pub lines-init : goal.lines-init

@@ -1,4 +1,4 @@
-use Rattle.std.proofs.Common.{◌≡◌, ◌++◌, length, true, false, Ok, refl, sym, subst, ap, ◌∙◌, arith}
+use Rattle.std.proofs.Common.{◌≡◌, ◌++◌, length, Ok, refl, sym, subst, ◌∙◌, arith}
 use Rattle.lens_io.specs.declared.failed.TakeFault.TheVariants.{NoMemory}
 use Rattle.editlens_main.specs.Parts.{MovesOn, AddsLines, ReadsHead, StopsHead}
 use Rattle.editlens_main.specs.Taking.{TakesMore}

@@ -1,4 +1,4 @@
-use Rattle.std.proofs.Common.{◌+◌, ◌≤◌, Ok, Err, sym, subst, ap, arith}
+use Rattle.std.proofs.Common.{Ok, Err, subst, arith}
 use Rattle.std.specs.Prelude.{IfOk}
 use Rattle.lens_io.specs.Content.{IsFull}
 use Rattle.edit_session.specs.Views.{triple_tree}

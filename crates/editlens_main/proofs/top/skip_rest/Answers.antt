@@ -1,4 +1,4 @@
-use Rattle.std.proofs.Common.{Ok, Err, ◌≤◌, subst, ◌∙◌, arith}
+use Rattle.std.proofs.Common.{Ok, subst, ◌∙◌, arith}
 use Rattle.editlens_main.specs.Skipped.{SkipsRest}
 use Rattle.editlens_main.specs.Taking.{SkipsMore}
 use Rattle.editlens_main.proofs.Outcomes.{as_error}

@@ -1,6 +1,5 @@
-use Rattle.std.proofs.Common.{◌+◌, ◌≤◌, length, ap, arith, take}
+use Rattle.std.proofs.Common.{ap, arith, take}
 use Rattle.std.proofs.lemmas.List.{length-take}
-use Rattle.edit_journal.specs.Pieces.{FedLines}
 use Rattle.editlens_main.proofs.EndedLines.{count, few_ended}
 use Rattle.editlens_main.proofs.input.Input.take_piece.Goals as goal
 
