@@ -9,10 +9,17 @@ set -eu
 here=$(cd "$(dirname "${BASH_SOURCE[0]}")/.." && pwd)
 [ -x "$here/crates/editlens/out/editlens" ] || { echo "run ./build first" >&2; exit 1; }
 
+# serde_json comes from Debian's librust-serde-json-dev where that is installed, or else from cargo's registry.
 floor=
+debian=/usr/share/cargo/registry
+sources=()
+if [ -d "$debian" ]; then
+    sources=(--offline --config 'source.crates-io.replace-with="debian"' --config "source.debian.directory=\"$debian\"")
+fi
 if command -v cargo >/dev/null; then
     target=${TMPDIR:-/tmp}/editlens-floor
-    cargo build --quiet --release --manifest-path "$here/bench/floor/Cargo.toml" --target-dir "$target" && floor=$target/release/floor
+    mkdir -p "$target" && cp -r "$here/bench/floor/." "$target"
+    (cd "$target" && cargo "${sources[@]}" build --quiet --release) && floor=$target/target/release/floor
 fi
 
 exec python3 - "$here/crates/editlens/out/editlens" "${1:-5000000}" "$floor" <<'PYTHON'
