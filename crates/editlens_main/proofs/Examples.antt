@@ -15,6 +15,7 @@ use Rattle.std.specs.Fmt.{digits}
 use Rattle.serde_json.proofs.OnLiterals.{serde_json_on_literals}
 use Rattle.edit_journal.specs.declared.fault.EntryFault.TheVariants.{NotAnEdit}
 use Rattle.edit_journal.specs.declared.line.Line.TheVariants.{Text}
+use Rattle.editlens_main.specs.Coming.{ended_lines, has_separator, journal_lines}
 use Rattle.editlens_main.specs.Generated.{summary_lines}
 use Rattle.editlens_main.specs.Lines.{cut, is_separator, program_part, journal}
 use Rattle.edit_session.specs.Step.{TripleTree, step}
@@ -45,6 +46,16 @@ items = refl
 
 no_separator : journal (codes "p" ++ 10 ∷ codes "q") ≡ []
 no_separator = refl
+
+-- a line has ended once its LF has come, the separator too
+ended_line : ended_lines (codes "p" ++ 10 ∷ codes "---") ≡ Text (codes "p") ∷ []
+ended_line = refl
+
+separator_not_ended : has_separator (codes "p" ++ 10 ∷ codes "---") ≡ false
+separator_not_ended = refl
+
+ended_journal : journal_lines (codes "p" ++ 10 ∷ codes "---" ++ 10 ∷ codes "a" ++ 10 ∷ codes "b") ≡ Text (codes "a") ∷ []
+ended_journal = refl
 
 -- `{a ~ b: id int}`
 abbrev ab : FormTree
