@@ -14,6 +14,8 @@ here=$(cd "$(dirname "${BASH_SOURCE[0]}")/.." && pwd)
 exec python3 - "$here/crates/editlens/out/editlens" "${1:-10000}" <<'PYTHON'
 import os, random, subprocess, sys, tempfile
 
+# As ./editlens runs the program.
+os.environ.setdefault('GLIBC_TUNABLES', 'glibc.malloc.hugetlb=1')
 program, count = sys.argv[1], int(sys.argv[2])
 SIZES = [1000, 100000]
 MOST = 3
