@@ -28,6 +28,7 @@ use Rattle.lens_check.specs.ImageParts.{place_among, if_far}
 use Rattle.lens_check.specs.ReadyComplements.{IsReady, AreReadyRows}
 use Rattle.lens_check.proofs.SortedNames.{insert_name, sort_names, put_names, put_sorted, insert-place, insert-place-name}
 use Rattle.lens_check.proofs.FieldPlaces.{names_on, fields_on-names}
+use Rattle.lens_check.proofs.FitLoops.{row_tree-left, row_tree-right, rows_next}
 
 -- ---- named patterns put at their places
 
@@ -133,12 +134,6 @@ record_is rows s cs p apart = record_of rows s cs p (image_rows rows s cs (patte
 
 -- ---- the rows one after the other
 
-row_tree-left : (a : List ℕ) (t : Ty) → row_tree (OnlyLeft a t) ≡ row_left a (ty_tree t)
-row_tree-left a t = search (rules, row_lemmas)
-
-row_tree-right : (b : List ℕ) (t : Ty) → row_tree (OnlyRight b t) ≡ row_right b (ty_tree t)
-row_tree-right b t = search (rules, row_lemmas)
-
 -- the rows from one on, and the complements from one on
 abbrev pub rows_from : List FormRow → ℕ → RowTrees
 rows_from rows i = form_rows_of (map row_tree (drop i rows))
@@ -149,10 +144,6 @@ comps_from cs k = comps_of (drop k (comp_list cs))
 -- the patterns of the record, where those of the rows before are at their places
 abbrev pub still_placed : List FormRow → Side → CompTrees → (List ℕ → PatternTree) → ℕ → ℕ → List (List ℕ) → List PatternTree → Option (List PatternTree)
 still_placed rows s cs at i k ns ps = option_map (λ qs. placed qs ns ps) (image_rows (rows_from rows i) s (comps_from cs k) at)
-
-rows_next : (rows : List FormRow) (i : ℕ) (r : FormRow) → i < length rows → r ≡ get_or rows i r → rows_from rows i ≡ with_row (row_tree r) (rows_from rows (i + 1))
-rows_next rows i r h is =
-    rw (drop-cons rows i r h, add-one) (ap (λ (q : FormRow). with_row (row_tree q) (form_rows_of (map row_tree (drop (suc i) rows)))) (sym is))
 
 pub both_next : (rows : List FormRow) (i : ℕ) (r : FormRow) (a b : List ℕ) (l : Form) → i < length rows → r ≡ get_or rows i r → r ≡ Both a b l
     → rows_from rows i ≡ both a b (form_tree l) (rows_from rows (i + 1))

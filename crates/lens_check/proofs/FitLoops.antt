@@ -46,10 +46,10 @@ pass_done test cs i h = rw (drop_all i (comp_list cs) (omega (arith, comp_count-
 
 -- ---- the rows of a record
 
-row_tree-left : (a : List ℕ) (t : Ty) → row_tree (OnlyLeft a t) ≡ row_left a (ty_tree t)
+pub row_tree-left : (a : List ℕ) (t : Ty) → row_tree (OnlyLeft a t) ≡ row_left a (ty_tree t)
 row_tree-left a t = search (rules, row_lemmas)
 
-row_tree-right : (b : List ℕ) (t : Ty) → row_tree (OnlyRight b t) ≡ row_right b (ty_tree t)
+pub row_tree-right : (b : List ℕ) (t : Ty) → row_tree (OnlyRight b t) ≡ row_right b (ty_tree t)
 row_tree-right b t = search (rules, row_lemmas)
 
 -- whether the complements from the place j on fit the rows from the place i on
@@ -59,7 +59,7 @@ rows_from rows cs i j = rows_fit (form_rows_of (map row_tree (drop i rows))) (co
 pub rows_all : (rows : List FormRow) (cs : CompTrees) → rows_from rows cs 0 0 ≡ rows_fit (form_rows_of (map row_tree rows)) cs
 rows_all rows cs = ap (rows_fit (form_rows_of (map row_tree rows))) (comps_of-comp_list cs)
 
-rows_next : (rows : List FormRow) (i : ℕ) (r : FormRow) → i < length rows → r ≡ get_or rows i r
+pub rows_next : (rows : List FormRow) (i : ℕ) (r : FormRow) → i < length rows → r ≡ get_or rows i r
     → form_rows_of (map row_tree (drop i rows)) ≡ with_row (row_tree r) (form_rows_of (map row_tree (drop (i + 1) rows)))
 rows_next rows i r h is =
     rw (drop-cons rows i r h, add-one) (ap (λ (q : FormRow). with_row (row_tree q) (form_rows_of (map row_tree (drop (suc i) rows)))) (sym is))
