@@ -1,4 +1,4 @@
--- The command line of the program, as it is described to clap.
+-- The command line of the program, as it is described to clap. Read it from the end: `editlens_app`.
 use Rattle.std.specs.Prelude.{List, ℕ, codes, true}
 use Rattle.clap.specs.Walk.{Rule}
 use Rattle.clap.specs.Simple.{App, new_app, new_rule, on_top, with_rule, with_subcommand}

@@ -1,4 +1,4 @@
--- The command of what clap found in the words.
+-- The command of what clap found in the words. The main definition is `order_of_match`.
 use Rattle.std.specs.Prelude.{ℕ, ◌==◌, List, [], ◌∷◌, Bool, false, Option, Some, None, codes, if◌then◌else◌, bytes_eq, option_and_then}
 use Rattle.clap.specs.Walk.{Row, first_of}
 use Rattle.command_words.specs.Orders.{plain_order, gen_order}

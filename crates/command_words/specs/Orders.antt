@@ -1,4 +1,5 @@
 -- The command that the words name. A word is its bytes, and the program's name is the first word.
+-- Read it from the end: `HasFewEntries` is the bound on `gen`, and `order_of` has a line for each number of words.
 use Rattle.std.specs.Prelude.{ℕ, ◌≤◌, ◌+◌, ◌-◌, ◌*◌, ◌^◌, List, [], ◌∷◌, ◌&&◌, nat_lt, nat_le, length, Option, Some, None, codes, if◌then◌else◌, bytes_eq, option_map, option_and_then}
 use Rattle.std.specs.List.{list_all}
 use Rattle.std.specs.Char.{is_ascii_digit}

@@ -1,4 +1,5 @@
 -- Why an edit of a shape has no plan, and what a fault of the code says of it.
+-- In order: `PlanCause` has the causes, and `IsRefusal`, at the end, is what a contract says of a fault.
 use Rattle.std.specs.Prelude.{◌≡◌, Option, Some, None, Result, Err}
 use Rattle.hold_shapes.specs.declared.plan.PlanFault.{PlanFault}
 use Rattle.hold_shapes.specs.declared.plan.PlanFault.TheVariants as fault

@@ -1,4 +1,4 @@
--- What a place of a new shape holds.
+-- What a place of a new shape holds: `content_at`.
 use Rattle.std.specs.Prelude.{ℕ, ◌<◌, List, slice_index_or}
 use Rattle.hold_shapes.specs.declared.origins.Origin.{Origin}
 use Rattle.hold_shapes.specs.declared.origins.Origin.TheVariants.{Old, Fresh}

@@ -1,4 +1,4 @@
--- Sizes and places of shapes.
+-- Sizes and places of shapes. The main definitions are `size_of` and `place_of`.
 use Rattle.std.specs.Prelude.{ℕ, if◌then◌else◌, length, Option, Some, None, nat_lt}
 use Rattle.hold_shapes.specs.declared.shape.Shape.{Shape}
 use Rattle.hold_shapes.specs.declared.shape.Shape.TheVariants.{List as ListOf, Keyed as KeyedOf, Tree as TreeOf}

@@ -1,4 +1,5 @@
 -- The grammar of programs: symbols, productions, and the viable prefixes of what they derive. docs/LANGUAGE.md has it in prose.
+-- In order: `alternatives` has the productions, `contents` their optional and repeated parts, and `IsViablePrefix`, at the end, is the main definition.
 use Rattle.std.specs.Prelude.{◌≡◌, ℕ, zero, suc, List, [], ◌∷◌, ◌++◌, ◌⊎◌}
 use lib.IntN.{ℤ}
 use Rattle.program_tokens.specs.declared.keyword.Keyword.{Keyword}

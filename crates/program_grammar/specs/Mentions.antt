@@ -1,4 +1,5 @@
 -- What a text says besides its terms: the names that are mentioned, with their offsets.
+-- The main definitions are `Point` and `NotedProgram`; `without_notes`, at the end, is the program itself.
 use Rattle.std.specs.Prelude.{ℕ, List, map}
 use Rattle.program_tokens.specs.declared.token.PlacedToken.{PlacedToken}
 use Rattle.program_terms.specs.Terms.{DefTree, LensTree, ProgramTree}

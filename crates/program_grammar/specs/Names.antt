@@ -1,4 +1,5 @@
--- Unknown and repeated names. Earlier definitions are names, each with what it is defined as.
+-- Unknown and repeated names. The definitions before one are a list of names, each with what it is defined as.
+-- Read it from the end: `first_fault`, then `first_after` and `first_unknown`.
 use Rattle.std.specs.Prelude.{ℕ, Bool, true, false, ◌&&◌, List, [], ◌∷◌, ◌++◌, Option, Some, None, bytes_eq, if◌then◌else◌}
 use Rattle.std.specs.List.{list_any}
 use Rattle.program_terms.specs.Terms.{DefTree, type_def, lens_def, is_defined}

@@ -1,4 +1,5 @@
 -- The plain grammar of programs, without a bound on nesting, and how deep the types and lenses of a text are nested.
+-- In order: `alternatives` has the productions, `IsPlainPrefix` says which tokens begin a program, and `IsNestedBelow` how deep they are nested.
 use Rattle.std.specs.Prelude.{ℕ, suc, ◌<◌, List, [], ◌∷◌, ◌++◌}
 use lib.IntN.{ℤ}
 use Rattle.program_tokens.specs.declared.keyword.Keyword.{Keyword}

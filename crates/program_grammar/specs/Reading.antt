@@ -1,5 +1,6 @@
 -- Reading from left to right, without going back: the value and the point behind it, or the offset of the unexpected token (none if the
 -- tokens ran out). A form for proofs: the laws show that it reads what is spelled, and that it stops at the unexpected token.
+-- Read it from the end: `program_at`, then `lens_at` and `type_at`; `lens_from` and `type_from` have a line for each first token.
 use Rattle.std.specs.Prelude.{ℕ, zero, suc, ◌-◌, Bool, true, false, List, [], ◌∷◌, ◌++◌, length, Option, Some, None, Result, Ok, Err, ◌==◌, if◌then◌else◌}
 use lib.IntN.{ℤ}
 use Rattle.program_tokens.specs.Words.{mark_byte}

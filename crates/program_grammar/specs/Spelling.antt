@@ -1,4 +1,5 @@
--- How programs are spelled: from one point of a text to another stand the tokens of a type, of a lens, of a program.
+-- How programs are spelled: which tokens of a text, from one point to another, are those of a type, of a lens, of a program.
+-- Read it from the end: `IsProgram`, then `IsDefinition`, `IsLens` and `IsType`.
 use Rattle.std.specs.Prelude.{◌≡◌, ℕ, zero, suc, List, [], ◌∷◌, ◌++◌, ◌⊎◌}
 use Rattle.program_tokens.specs.declared.keyword.Keyword.TheVariants as words
 use Rattle.program_tokens.specs.declared.mark.Mark.TheVariants.{Equals, Semicolon, OpenBrace, CloseBrace, Less, Greater, OpenBracket, CloseBracket, OpenParen, CloseParen, Colon, Comma, Tilde}

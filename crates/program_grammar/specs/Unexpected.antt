@@ -1,4 +1,4 @@
--- The unexpected token: the first that cannot continue.
+-- The unexpected token, the first that cannot continue: `IsUnexpectedToken`, at the end.
 use Rattle.std.specs.Prelude.{◌≡◌, ℕ, List, [], ◌∷◌, ◌++◌, map}
 use Rattle.program_tokens.specs.declared.token.Token.{Token}
 use Rattle.program_tokens.specs.declared.token.PlacedToken.{PlacedToken}

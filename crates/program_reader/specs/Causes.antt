@@ -1,4 +1,5 @@
--- The program that tokens spell, or the cause why they spell none.
+-- The program that tokens spell, or the cause for which they spell none.
+-- The main definition is `program_of`; behind it stands what a fault of the code says of the cause.
 use Rattle.std.specs.Prelude.{◌≡◌, ℕ, List, Option, Some, None, Result, Ok, Err}
 use Rattle.program_tokens.specs.declared.token.PlacedToken.{PlacedToken}
 use Rattle.program_terms.specs.Terms.{ProgramTree}
@@ -12,7 +13,7 @@ use Rattle.program_reader.specs.declared.fault.ReadFault.TheVariants as faults
 use Rattle.program_reader.specs.declared.fault.ProgramReadFault.{ProgramReadFault}
 use Rattle.program_reader.specs.declared.fault.ProgramReadFault.TheVariants.{NoMemory, Ended, NotAProgram, UnknownName, RepeatedName}
 
--- Why tokens are no program: they run out, or this is the offset of the unexpected token, of the unknown or of the repeated name.
+-- Why tokens do not spell a program: they run out, or this is the offset of the unexpected token, of the unknown or of the repeated name.
 pub data ReadCause : Type 0 where
   ended : ReadCause
   not_a_program : ℕ → ReadCause

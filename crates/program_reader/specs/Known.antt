@@ -1,4 +1,4 @@
--- Unknown and repeated names among definitions without notes, no two of which have the same name.
+-- Unknown and repeated names, computed from the definitions alone, as the code finds them. Read it from the end: `first_fault_among`, then `definition_fault`.
 use Rattle.std.specs.Prelude.{ℕ, Bool, false, List, [], ◌∷◌, ◌++◌, Option, Some, None, Result, Ok, Err, if◌then◌else◌}
 use Rattle.program_terms.specs.Terms.{DefTree, def_named, is_defined}
 use Rattle.program_grammar.specs.declared.mention.Sort.{Sort}

@@ -1,4 +1,4 @@
--- Programs before their names are checked, as contracts see them.
+-- Programs before their names are checked, as contracts see them. The main definition is `program_with_notes`.
 use Rattle.std.specs.Prelude.{ℕ, List, [], Option, Result, Ok, map}
 use Rattle.program_tokens.specs.declared.token.PlacedToken.{PlacedToken}
 use Rattle.program_terms.specs.Terms.{DefTree}

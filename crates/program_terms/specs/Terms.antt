@@ -1,4 +1,5 @@
 -- Types, lenses, definitions and programs as plain trees.
+-- In order: `TypeTree`, `LensTree`, what an initial value is where it is left out, and `ProgramTree`.
 use Rattle.std.specs.Prelude.{ℕ, Bool, true, ◌&&◌, not, bytes_eq, is_some, Option, Some, None, if◌then◌else◌, List, [], ◌∷◌}
 use lib.IntN.{ℤ, pos}
 
@@ -32,7 +33,7 @@ abbrev pub field_list : FieldTrees → List (List ℕ × TypeTree)
 field_list no_fields = []
 field_list (more_fields n t fs) = (n, t) ∷ field_list fs
 
--- the lenses in the order of the grammar; a bijection has its pairs, and the initial value on the left; a row of a record is paired, or stands on one side alone; an arm of
+-- the lenses in the order of the grammar; a bijection has its pairs, and the initial value on the left; a row of a record is paired, or is on one side alone; an arm of
 -- alternatives has its left tag, its right tag and its lens; a name refers to the lens that it is defined as
 mutual
   pub data LensTree : Type 0 where

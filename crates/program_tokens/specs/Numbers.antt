@@ -1,4 +1,5 @@
--- Numbers as they are written: 1 to 19 digits, behind a `-` or without, of a value in i64.
+-- Numbers as they are written: 1 to 19 digits, with or without a `-` before them, of a value in i64.
+-- Read it from the end: `number_of`.
 use Rattle.std.specs.Prelude.{ℕ, ◌+◌, ◌-◌, ◌*◌, ◌^◌, Bool, true, false, ◌&&◌, List, [], ◌∷◌, length, Option, Some, None, nat_le, nat_lt, if◌then◌else◌}
 use lib.IntN.{ℤ, pos, neg_ℤ}
 

@@ -1,4 +1,5 @@
--- The tokens of a program's text, each with the offset of its first byte.
+-- The tokens of a program's text, each with the offset of its first byte. docs/LANGUAGE.md has the rules in words.
+-- Read it from the end: `tokens_of`, then `tokens_from` and `piece_of`, which has a line for each kind of token.
 use Rattle.std.specs.Prelude.{ℕ, zero, suc, ◌+◌, ◌≤◌, List, [], ◌∷◌, length, take, true, false, Option, Some, None, ◌==◌, nat_le, not, if◌then◌else◌, position}
 use Rattle.std.specs.List.{prefix_len}
 use lib.IntN.{ℤ}
@@ -17,13 +18,13 @@ abbrev pub keyword_or_name : Option Keyword → List ℕ → Token
 keyword_or_name (Some k) w = tokens.Keyword k
 keyword_or_name None w = tokens.Name w
 
--- A piece is a gap between tokens, a token, or something that keeps no form. Its number counts the bytes behind its first.
+-- A piece is a gap between tokens, a token, or bytes that are neither. Its number counts the bytes behind its first one.
 
 -- a word of up to 64 bytes
 abbrev pub word_piece : List ℕ → ℕ → Piece
 word_piece w others = if nat_le (length w) 64 then pieces.Token (keyword_or_name (keyword_of w) w) others else pieces.Bad
 
--- what stands before the closing quote, if there is one
+-- the string before the closing quote, if there is one
 abbrev pub text_piece : List ℕ → Option ℕ → Piece
 text_piece bs None = pieces.Bad
 text_piece bs (Some n) = if is_text (take n bs) then pieces.Token (tokens.Text (take n bs)) (n + 1) else pieces.Bad
@@ -45,7 +46,7 @@ word_run bs = prefix_len in_word bs
 abbrev pub digit_run : List ℕ → ℕ
 digit_run bs = prefix_len is_digit bs
 
--- how many bytes stand before the next LF, or before the end
+-- how many bytes are before the next LF, or before the end
 abbrev pub line_run : List ℕ → ℕ
 line_run bs = prefix_len (λ b. not (b == 10)) bs
 

@@ -1,4 +1,5 @@
 -- The bytes of words, of marks and of strings.
+-- The main definitions are `keyword_of`, `mark_of` and, at the end, `is_name` and `is_text`.
 use Rattle.std.specs.Prelude.{ℕ, Bool, false, ◌&&◌, ◌||◌, List, [], ◌∷◌, length, Option, is_none, ◌==◌, nat_le, not, bytes_eq, codes, find}
 use Rattle.std.specs.List.{list_all}
 use Rattle.std.specs.Str.{is_utf8, chars}
@@ -73,12 +74,12 @@ all_marks = Equals ∷ Semicolon ∷ OpenBrace ∷ CloseBrace ∷ Less ∷ Great
 unfoldable pub mark_of : ℕ → Option Mark
 mark_of b = find (λ m. b == mark_byte m) all_marks
 
--- letters, digits and `_`, beginning with no digit
+-- letters, digits and `_`, of which the first is not a digit
 unfoldable pub is_word : List ℕ → Bool
 is_word [] = false
 is_word (b ∷ bs) = begins_word b && list_all in_word bs
 
--- a word of 1 to 64 bytes that is no keyword
+-- a word of 1 to 64 bytes that is not a keyword
 unfoldable pub is_name : List ℕ → Bool
 is_name w = is_word w && nat_le (length w) 64 && is_none (keyword_of w)
 
@@ -86,6 +87,6 @@ is_name w = is_word w && nat_le (length w) 64 && is_none (keyword_of w)
 unfoldable pub in_text : ℕ → Bool
 in_text c = nat_le 32 c && not (c == 34) && not (c == 92)
 
--- what may stand in a string: 1 to 64 such characters in valid UTF-8
+-- what a string may hold: 1 to 64 such characters in valid UTF-8
 unfoldable pub is_text : List ℕ → Bool
 is_text s = is_utf8 s && nat_le 1 (length (chars s)) && nat_le (length (chars s)) 64 && list_all in_text (chars s)

@@ -11,6 +11,6 @@ Puts old new put = (rest : List ℕ) → new ++ rest ≡ old ++ put rest
 abbrev pub put_row : RowTree → List ℕ → List ℕ
 put_row row = put_rows [] (with_row row no_rows)
 
--- what stands before an element of a list
+-- what is put before an element of a list
 abbrev pub comma : Bool → List ℕ
 comma first = if first then [] else codes ", "

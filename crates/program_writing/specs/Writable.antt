@@ -8,14 +8,14 @@ use Rattle.program_terms.specs.Terms.{TypeTree, FieldTrees, unit, bool, int, tex
 use Rattle.doc_values.specs.Types.{TyTree, ty_unit, ty_bool, ty_int, ty_text, ty_enum, ty_rec, ty_alt, ty_list, ty_keyed, ty_ordered}
 use Rattle.doc_values.specs.Types as of_documents
 
--- it is a name; it may stand in a string
+-- it is a name; a string may hold it
 abbrev pub IsName : List ℕ → Type 0
 IsName n = is_name n ≡ true
 
 abbrev pub IsText : List ℕ → Type 0
 IsText s = is_text s ≡ true
 
--- the initial value of `text` may stand in a string, or it is the empty text and left out
+-- a string may hold the initial value of `text`, or it is the empty text and left out
 abbrev pub IsInitialText : List ℕ → Type 0
 IsInitialText s = (s ≡ []) ⊎ IsText s
 
@@ -105,7 +105,7 @@ AreWritableDefinitions (d ∷ ds) = IsName d.0 × IsWritableTerm d.1 × AreWrita
 abbrev pub IsWritable : ProgramTree → Type 0
 IsWritable p = AreWritableDefinitions p.definitions × IsWritableLens 100 p.main
 
--- a type of documents in which each member, field and tag may stand in a string, and each initial value may be written
+-- a type of documents in which a string may hold each member, field and tag, and each initial value may be written
 abbrev mutual
   pub IsSpeakable : TyTree → Type 0
   IsSpeakable ty_unit = Unit {0}

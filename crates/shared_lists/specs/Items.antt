@@ -1,4 +1,4 @@
--- The items that shared owners hold.
+-- The items that shared owners hold: `items_of` for owners of items, `all_items` for owners of trees.
 use Rattle.std.specs.Prelude.{List, [], ◌∷◌, ◌++◌, map}
 use Rattle.std.specs.declared.alloc.Global.{Global}
 use Rattle.std.specs.declared.option.Option.{Option}

@@ -1,4 +1,4 @@
--- The items below a node of the tree, in order.
+-- The nodes of a tree: `node_items` are the items below a node, in order, and `IsSound` is what holds of each node.
 use Rattle.std.specs.Prelude.{◌≡◌, ◌<◌, List, ◌++◌, length}
 use Rattle.shared_lists.specs.declared.tree.Node.{Node}
 use Rattle.shared_lists.specs.declared.tree.Node.TheVariants.{Chunk, Join}

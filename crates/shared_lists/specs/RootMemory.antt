@@ -1,4 +1,4 @@
--- What the root of a tree owns: what a box that holds an owner of the tree owns.
+-- What the root of a tree owns: what a box that holds an owner of the tree owns. The main definitions are `root_owns` and `root_shares`.
 use Rattle.std.specs.Prelude.{List}
 use base.Fml.{Fml, Lft}
 use base.Stored.{Coded, coded×, coded_list, coded_via}

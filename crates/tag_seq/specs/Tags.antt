@@ -1,4 +1,4 @@
--- Lists of tags: how often a tag stands there, its rank at a place, and the place of one of its occurrences.
+-- Lists of tags. The main definitions are `count`, how often a tag occurs, `rank`, how often it occurs before a place, and `place`, where one of its occurrences is.
 use Rattle.std.specs.Prelude.{ℕ, ◌+◌, ◌-◌, Bool, true, List, [], ◌∷◌, take, Option, Some, None, nat_eq, nat_lt, ◌&&◌, if◌then◌else◌, slice_index}
 use Rattle.std.specs.List.{insert, remove}
 
@@ -6,16 +6,16 @@ use Rattle.std.specs.List.{insert, remove}
 abbrev pub one_if_same : ℕ → ℕ → ℕ
 one_if_same x t = if nat_eq x t then 1 else 0
 
--- how often a tag stands in a list
+-- how often a tag occurs in a list
 abbrev pub count : ℕ → List ℕ → ℕ
 count t [] = 0
 count t (x ∷ xs) = one_if_same x t + count t xs
 
--- the rank of a tag at a place: how often it stands before the place
+-- the rank of a tag at a place: how often it occurs before the place
 abbrev pub rank : ℕ → ℕ → List ℕ → ℕ
 rank t p xs = count t (take p xs)
 
--- a place of a list, seen from a list that has so many tags more at its front
+-- a place of a list, seen from a list that has n more tags at its front
 abbrev pub further : ℕ → Option ℕ → Option ℕ
 further n None = None
 further n (Some p) = Some (n + p)

@@ -1,4 +1,5 @@
 -- Trees of tags: the tags in order, the height, and what holds of each node.
+-- The main definitions are `tags` and `IsNode`; `IsShort` bounds the height.
 use Rattle.std.specs.Prelude.{◌≡◌, ℕ, ◌+◌, ◌*◌, ◌^◌, ◌<◌, ◌≤◌, max, List, [], ◌∷◌, ◌++◌, length}
 use Rattle.tag_seq.specs.Totals.{AreTotals}
 use Rattle.tag_seq.specs.declared.node.TagTree.{TagTree}
@@ -18,7 +19,7 @@ height (Node n) = n.value.1
 abbrev pub DifferByAtMost : ℕ → ℕ → ℕ → Type 0
 DifferByAtMost by l r = (l ≤ r + by) × (r ≤ l + by)
 
--- the height of so many tags is at most twice the number of binary digits
+-- the height of a tree of n tags is at most twice the number of binary digits of n
 abbrev pub IsShort : ℕ → ℕ → Type 0
 IsShort n h = (d : ℕ) → n < 2 ^ d → h ≤ 2 * d
 
