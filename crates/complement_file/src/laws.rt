@@ -1,6 +1,6 @@
 //! Laws of complements and their trees.
 //!
-//! Each function here does nothing: its clauses are the laws, for other crates to rest on.
+//! Each function here does nothing: its clauses are the laws, which other crates rely on.
 
 ghost use Rattle.std.specs.Prelude.{◌≡◌, true};
 ghost use Rattle.lens_forms.specs.Forms.{FormTree};

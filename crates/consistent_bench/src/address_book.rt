@@ -19,7 +19,7 @@ pub struct Book {
 }
 
 impl Book {
-    /// A book of so many people. The names on the right are those on the left if this word is `name`.
+    /// A book of `people` people. The names on the right are those on the left if this word is `name`.
     pub fn new(alloc: Global, people: u64, word: &str) -> Result<Book, AllocError> {
         let items = items(alloc, people)?;
         let left = list(Docs::from_vec(alloc, items)?);
@@ -29,7 +29,7 @@ impl Book {
     }
 }
 
-// Whether a firm stands behind the person with this number.
+// Whether a firm follows the person with this number.
 fn has_firm(number: u64) -> bool {
     number % 10 == 9
 }

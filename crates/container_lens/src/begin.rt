@@ -30,8 +30,8 @@ use texts::Twin;
 /// place.
 ///
 /// - `Unfit`: if and only if there is no such beginning: for other primitives, for a place or an edit of another kind of
-///   shape, for a place that the shape does not have, for an edit that has no plan, and where the complements are not as
-///   many as the places.
+///   shape, for a place that the shape does not have, for an edit that has no plan, and where the number of complements is
+///   not that of the places.
 /// - `NoMemory`: only if memory ran out.
 ///
 /// The arguments stay as they are.

@@ -1,6 +1,6 @@
 //! Laws of lines that come in pieces, and of entries and their trees.
 //!
-//! Each function here does nothing: its clauses are the laws, for other crates to rest on.
+//! Each function here does nothing: its clauses are the laws, which other crates rely on.
 
 ghost use Rattle.std.specs.Prelude.{◌≡◌, ◌≤◌, ◌*◌, ◌+◌, ◌++◌, ℕ, List, true, false, Some, Ok, option_to_list};
 ghost use Rattle.serde_json.specs.Data.{Data, depth};

@@ -11,7 +11,7 @@ use doc_values::{Doc, Ty};
 use edit_module::{Word, act};
 use std::alloc::Global;
 
-/// What the last of the words makes of the document. Each word is applied to the same document, so often.
+/// What the last of the words makes of the document. Each word is applied to the same document, `times` times.
 pub fn applied(alloc: Global, book: &Book, words: &[Word], times: u64) -> anyhow::Result<Doc> {
     if !book.ty.is_well_formed() || !book.doc.has_type(&book.ty) {
         bail!("the document has another type");

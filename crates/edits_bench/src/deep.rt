@@ -10,7 +10,7 @@ use hold_shapes::{ListShape, Place, Shape, ShapeEdit, Twin};
 use std::alloc::{AllocError, Global};
 
 /// The number of records of a list, after it was put below 29 lists, which makes a type of 32 levels, and a record was
-/// added there so often. The document, its copy and what the edit made of it are dropped.
+/// added there `times` times. The document, its copy and what the edit made of it are dropped.
 pub fn records_below(alloc: Global, book: Book, times: u64) -> anyhow::Result<usize> {
     let count = record_count(&book.doc);
     let mut book = book;
@@ -23,7 +23,7 @@ pub fn records_below(alloc: Global, book: Book, times: u64) -> anyhow::Result<us
     Ok(count)
 }
 
-// Copies a document of 32 levels, edits it so often, and drops both and what was made.
+// Copies a document of 32 levels, edits it `times` times, and drops both and what was made.
 fn edit_copied(alloc: Global, book: Book, word: Word, times: u64) -> anyhow::Result<()> {
     if !book.ty.is_within(32) || book.ty.is_within(31) {
         bail!("the type has not 32 levels");

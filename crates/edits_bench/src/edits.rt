@@ -39,7 +39,7 @@ pub fn words_of(alloc: Global, kind: Kind, edit: Edit, size: u64) -> Result<Vec<
     Ok(words)
 }
 
-/// What a word of so many inserts makes of the document, applied to it so often.
+/// What a word of `count` inserts makes of the document, applied to it `times` times.
 pub fn inserted(alloc: Global, book: &Book, count: u64, times: u64) -> anyhow::Result<Doc> {
     let mut inserts = Vec::new(alloc);
     for _ in 0..count {

@@ -7,7 +7,7 @@ use serde_json::Value;
 use std::alloc::Global;
 use value_json::{read_doc, write_doc};
 
-/// The tree of the document, written so often.
+/// The tree of the document, written `times` times.
 pub fn written(alloc: Global, book: &Book, times: u64) -> anyhow::Result<Value> {
     if !book.ty.is_well_formed() || !book.doc.has_type(&book.ty) {
         bail!("the document has another type");
@@ -19,7 +19,7 @@ pub fn written(alloc: Global, book: &Book, times: u64) -> anyhow::Result<Value> 
     Ok(tree)
 }
 
-/// The document, read so often from its tree. It is dropped before it is read.
+/// The document, read `times` times from its tree. It is dropped before it is read.
 pub fn read_back(alloc: Global, book: Book, times: u64) -> anyhow::Result<Doc> {
     let tree = written(alloc, &book, 1)?;
     let Book { ty, doc } = book;

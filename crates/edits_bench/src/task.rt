@@ -44,7 +44,7 @@ impl Task {
         }
     }
 
-    /// The number of records that are left after the task was done so often to a document of this size.
+    /// The number of records that are left after the task was done `times` times to a document of this size.
     pub fn records_left(self, alloc: Global, size: u64, times: u64) -> anyhow::Result<usize> {
         match self {
             Task::Edit(kind, edit) => records_edited(alloc, kind, edit, size, times),

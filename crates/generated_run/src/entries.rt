@@ -27,7 +27,7 @@ pub(crate) fn next_seed(seed: u64) -> u64
     FACTOR.wrapping_mul(seed).wrapping_add(SUMMAND)
 }
 
-/// The choice of an entry by its number and its seed, where there are so many texts and numbers.
+/// The choice of an entry by its number and its seed, where there are `names` texts and `nums` numbers.
 pub(crate) fn choose(number: u64, names: u64, nums: u64, seed: u64) -> Choice
     requires few { names + nums < 2 ^ 64 }
     ensures { result ≡ choice number names nums (drawn_from seed) }

@@ -43,7 +43,7 @@ pub enum PlanFault {
     Length,
     /// A node would be more than 15 below the root.
     Deep,
-    /// Memory ran out. This is no cause of the edit: with more memory there may be a plan.
+    /// Memory ran out. This does not come from the edit: with more memory there may be a plan.
     NoMemory,
 }
 

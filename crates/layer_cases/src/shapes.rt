@@ -85,7 +85,7 @@ pub fn run_from_depths(alloc: Global, case: &Case<'_>) -> Result<Value> {
     Ok(Value::Bool(TreeShape::from_depths(depths).is_some()))
 }
 
-/// Runs `gather`: the texts that stand at the new places. It is refused if an origin is not a place.
+/// Runs `gather`: the texts at the new places. It is refused if an origin is not a place.
 pub fn run_gather(alloc: Global, case: &Case<'_>) -> Result<Value> {
     let from = origins_of(alloc, case.argument("from")?)?;
     let items = texts_of(alloc, case.items("items")?)?;

@@ -10,7 +10,7 @@ use std::alloc::Global;
 use texts::{Name, Names, Twin};
 use value_json::{only_member, read_doc, write_doc};
 
-// How many built types may nest: as many as values of JSON may.
+// How many built types may nest: the same number as values of JSON.
 const MOST_LEVELS: u32 = 128;
 
 /// Returns the type that a tree is: its text as in a lens program, or an object that says how it is built. It is refused if
@@ -31,7 +31,7 @@ fn written_ty(alloc: Global, text: &str) -> Result<Ty> {
     Ok(typed.left().twin(alloc)?)
 }
 
-// The type that a tree is, built on at most so many levels.
+// The type that a tree is, built on at most `levels` levels.
 #[cycle(ty)]
 fn ty_within(alloc: Global, levels: u32, tree: &Value) -> Result<Ty> {
     match tree.as_str() {
@@ -41,7 +41,7 @@ fn ty_within(alloc: Global, levels: u32, tree: &Value) -> Result<Ty> {
     }
 }
 
-// The type that an object builds, of types on at most so many levels.
+// The type that an object builds, of types on at most `levels` levels.
 #[cycle(ty)]
 fn built_ty(alloc: Global, levels: u32, tree: &Value) -> Result<Ty> {
     let (kind, content) = only_member(tree).context("not a type")?;

@@ -33,8 +33,8 @@ struct FoundArm<'a> {
 /// of the new tag with its missing complement. The result says the number of the arm, the complement, and the word to
 /// translate. It passes over the arms, and does not translate the word.
 ///
-/// - `Unfit`: if and only if there is no such beginning: for other primitives, where the left tag is no arm's, where
-///   the first tag of the primitive is not the near tag of that arm, and where the new tag is no arm's.
+/// - `Unfit`: if and only if there is no such beginning: for other primitives, where no arm has the left tag, where
+///   the first tag of the primitive is not the near tag of that arm, and where no arm has the new tag.
 /// - `NoMemory`: only if memory ran out.
 ///
 /// The arguments stay as they are.

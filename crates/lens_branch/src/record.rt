@@ -33,7 +33,7 @@ struct FoundRow<'a> {
 /// the empty word, and the complements stay. It passes over the rows, and does not translate the word.
 ///
 /// - `Unfit`: if and only if there is no such beginning: for other primitives, for a field of no row, and where the
-///   complements are not as many as the paired rows.
+///   number of complements is not that of the paired rows.
 /// - `NoMemory`: only if memory ran out.
 ///
 /// The arguments stay as they are.
@@ -113,8 +113,8 @@ fn with_comp(alloc: Global, comps: &Comps, place: usize, comp: Comp) -> Result<C
     Ok(Comp::Rec(comps))
 }
 
-/// The lens of the paired row of a number, which is counted from 0 among the paired rows, or `None` where there are not
-/// so many.
+/// The lens of the paired row of a number, which is counted from 0 among the paired rows, or `None` where there are
+/// fewer.
 ///
 /// It has fewer parts than the rows.
 #[tactic(auto, using(crate::proofs::RowSearch::place_rules))]

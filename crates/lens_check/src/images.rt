@@ -105,8 +105,8 @@ fn image_then(
     }
 }
 
-// Through a record: the image of each paired row's near field at its far field, and a hole at each far field that stands
-// alone.
+// Through a record: the image of each paired row's near field at its far field, and a hole at each far field that is
+// not paired.
 #[cycle(image)]
 #[tactic(auto, using(crate::proofs::ImageSteps::record_rules))]
 fn image_record(

@@ -1,4 +1,4 @@
-//! The result of a translation, and why there is none.
+//! The result of a translation, and why it has failed.
 
 use crate::comp::Comp;
 use edit_module::Word;

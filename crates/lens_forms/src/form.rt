@@ -44,9 +44,9 @@ pub enum Form {
 pub enum FormRow {
     /// A left field paired with a right field, and the form between their contents.
     Both(Name, Name, Form),
-    /// A field that stands on the left alone, with its type.
+    /// A field on the left alone, with its type.
     OnlyLeft(Name, Ty),
-    /// A field that stands on the right alone, with its type.
+    /// A field on the right alone, with its type.
     OnlyRight(Name, Ty),
 }
 

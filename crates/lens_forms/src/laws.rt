@@ -13,7 +13,7 @@ pub fn typing_is_functional()
         → (left ≡ left_type form) × (right ≡ right_type form) }
 {}
 
-/// A form is typed exactly where it passes the test.
+/// A form is typed if and only if it passes the test.
 #[tactic(auto, using(crate::proofs::TypingLaws::test_laws))]
 pub fn test_is_typing()
     ensures passes { (form : FormTree) (left : TyTree) (right : TyTree) → IsTyped form left right → IsTrue (is_typed form) }

@@ -1,4 +1,4 @@
-//! Laws of texts and programs. Each function here does nothing: its clauses are the laws, for callers to rest on.
+//! Laws of texts and programs. Each function here does nothing: its clauses are the laws, which callers rely on.
 
 ghost use Rattle.std.specs.Prelude.{◌≡◌, ℕ, List, Ok, Result};
 ghost use Rattle.program_terms.specs.Terms.{ProgramTree};

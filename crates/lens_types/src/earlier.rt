@@ -1,4 +1,4 @@
-//! The definitions that stand before the one that is checked.
+//! The definitions before the one that is checked.
 
 ghost use Rattle.std.specs.Prelude.{◌≡◌, ◌≤◌, ◌∷◌, ◌++◌, [], IsTrue, None, OnOk, MatchOption, length, take};
 ghost use Rattle.doc_values.specs.Types.{ty_unit, height};
@@ -62,7 +62,7 @@ impl<'a> Earlier<'a> {
         Ok(())
     }
 
-    // What a name stands for among the first definitions, as many as `scope`.
+    // What a name stands for among the first `scope` definitions.
     fn find(&self, name: &Name, scope: usize) -> Option<Known<'a>>
         ensures { MatchOption result (known (take scope (earlier_tree self.now)) name.now ≡ None) (λ k. IsFound self.now scope name.now k) }
     {

@@ -1,6 +1,6 @@
 //! Types, forms and sides with all names expanded.
 //!
-//! A lens is seen among the first definitions of a program, as many as `scope`. Only the main lens is expanded to its
+//! A lens is seen among the first `scope` definitions of a program. Only the main lens is expanded to its
 //! form; a side is expanded where a composition compares it, and for the main lens.
 
 ghost use Rattle.std.specs.Prelude.{◌≡◌, IfOk, map, take};

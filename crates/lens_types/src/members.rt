@@ -12,7 +12,7 @@ use program_terms::Pairs;
 use std::alloc::Global;
 use texts::{Name, Names, Twin};
 
-// Refuses an enum with a member that stands twice, or else with an initial value that is not a member.
+// Refuses an enum with a member that occurs twice, or else with an initial value that is not a member.
 pub(crate) fn check_enum(alloc: Global, members: &Names, value: &Name) -> Result<(), TypeFault>
     ensures { MatchResult result
         (λ _. enum_failure members.now value.now ≡ None)
@@ -22,7 +22,7 @@ pub(crate) fn check_enum(alloc: Global, members: &Names, value: &Name) -> Result
     listed_member(alloc, members, value)
 }
 
-// Refuses pairs with a member that stands twice on its side, or else with an initial value that is not a left member.
+// Refuses pairs with a member that occurs twice on its side, or else with an initial value that is not a left member.
 pub(crate) fn check_pairs(alloc: Global, pairs: &Pairs, value: &Name) -> Result<(), TypeFault>
     ensures { MatchResult result
         (λ _. pairs_failure pairs.now value.now ≡ None)

@@ -1,4 +1,4 @@
-//! Names that stand twice on a side.
+//! Names that occur twice on a side.
 
 ghost use Rattle.std.specs.Prelude.{◌≡◌, IfOk, MatchResult, None, option_map, map};
 ghost use Rattle.program_terms.specs.Terms.{term_fields_of, term_rows_of, term_arms_of};
@@ -14,7 +14,7 @@ use program_terms::{Lens, Row, TyExpr};
 use std::alloc::{AllocError, Global};
 use texts::{Name, Side, Twin};
 
-// Refuses a member that stands twice on its side.
+// Refuses a member that occurs twice on its side.
 pub(crate) fn distinct_members(alloc: Global, names: &[(Side, &Name)]) -> Result<(), TypeFault>
     ensures { MatchResult result
         (λ _. option_map repeated_member (first_repeat (map sided names.now)) ≡ None)
@@ -28,7 +28,7 @@ pub(crate) fn distinct_members(alloc: Global, names: &[(Side, &Name)]) -> Result
     }
 }
 
-// Refuses a field that stands twice on its side.
+// Refuses a field that occurs twice on its side.
 pub(crate) fn distinct_fields(alloc: Global, names: &[(Side, &Name)]) -> Result<(), TypeFault>
     ensures { MatchResult result
         (λ _. option_map repeated_field (first_repeat (map sided names.now)) ≡ None)
@@ -42,7 +42,7 @@ pub(crate) fn distinct_fields(alloc: Global, names: &[(Side, &Name)]) -> Result<
     }
 }
 
-// Refuses a tag that stands twice on its side.
+// Refuses a tag that occurs twice on its side.
 pub(crate) fn distinct_tags(alloc: Global, names: &[(Side, &Name)]) -> Result<(), TypeFault>
     ensures { MatchResult result
         (λ _. option_map repeated_tag (first_repeat (map sided names.now)) ≡ None)

@@ -182,7 +182,7 @@ fn side_value(
     }
 }
 
-// The right member of the first pair with this left member; of what is no left member, the empty name.
+// The right member of the first pair with this left member; the empty name if no pair has it.
 fn partner(alloc: Global, pairs: &[(Name, Name)], left: &Name) -> Result<Name, AllocError>
     ensures { IfOk result (λ n. n ≡ partner_of pairs.now left.now) }
 {

@@ -63,7 +63,7 @@ impl Task {
         }
     }
 
-    // A number that rests on what was done, so that nothing is left out.
+    // A number that depends on what was done, so that nothing is left out.
     fn done(&self, alloc: Global, list: SharedList<u64>, times: u32) -> anyhow::Result<u64> {
         let mut list = list;
         let mut sum: u64 = 0;
@@ -77,7 +77,7 @@ impl Task {
         Ok(sum.wrapping_add(list.len() as u64))
     }
 
-    // One time, at a place that rests on a seed.
+    // One time, at a place that depends on a seed.
     fn once(
         &self,
         alloc: Global,

@@ -182,7 +182,7 @@ fn deletion(
     at_word(alloc, name.twin(alloc)?, word)
 }
 
-// How often a tag stands from a place on.
+// How often a tag occurs from a place on.
 #[tactic(auto, using(crate::proofs::Counts::behind_rules))]
 fn count_behind(seq: &TagSeq, tag: u32, kept: u64) -> u32
     requires within { kept ≤ length seq.now }

@@ -16,7 +16,7 @@ pub(crate) fn tag_at(tags: &TagSeq, place: u64) -> u32
     counted_tag_at::<Brand>(tags, place, Blank::new(1))
 }
 
-/// How often a tag stands before a place, which is at most the length.
+/// How often a tag occurs before a place, which is at most the length.
 pub(crate) fn rank(tags: &TagSeq, tag: u32, place: u64) -> u64
     requires { place ≤ length tags.now }
     ensures { result ≡ rank tag place tags.now }
@@ -24,7 +24,7 @@ pub(crate) fn rank(tags: &TagSeq, tag: u32, place: u64) -> u64
     counted_rank::<Brand>(tags, tag, place, Blank::new(1))
 }
 
-/// How often a tag stands in the list.
+/// How often a tag occurs in the list.
 #[tactic(auto, using(crate::proofs::Counts::whole_rank))]
 pub(crate) fn count(tags: &TagSeq, tag: u32) -> u64
     ensures { result ≡ count tag tags.now }

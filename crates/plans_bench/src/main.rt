@@ -51,7 +51,7 @@ impl Task {
         }
     }
 
-    // How many places the new shape has, after the plan was made so often.
+    // How many places the new shape has, after the plan was made `repeats` times.
     fn planned(&self, alloc: Global, repeats: u64) -> anyhow::Result<u64> {
         let mut places = 0;
         for _ in 0..repeats {
@@ -77,7 +77,7 @@ fn backwards(alloc: Global, size: u64) -> Result<Places, AllocError> {
     Ok(Places::from_vec(places))
 }
 
-// The first of so many keys comes last.
+// The first of `size` keys comes last.
 fn keyed_task(alloc: Global, size: u64) -> Result<Option<Task>, AllocError> {
     let mut names = Vec::new(alloc);
     for number in 0..size {
@@ -94,7 +94,7 @@ fn keyed_task(alloc: Global, size: u64) -> Result<Option<Task>, AllocError> {
     }
 }
 
-// A tree of so many nodes, in which every other child of the root has a child.
+// A tree of `size` nodes, in which every other child of the root has a child.
 fn tree_task(alloc: Global, size: u64, edit: ShapeEdit) -> Result<Option<Task>, AllocError> {
     let mut depths = Vec::new(alloc);
     for number in 0..size {

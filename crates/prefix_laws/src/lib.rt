@@ -1,6 +1,6 @@
 //! Reading stops at the unexpected token, and nowhere else.
 //!
-//! Each function here does nothing: its clauses are laws of the grammar of programs, for other crates to rest on.
+//! Each function here does nothing: its clauses are laws of the grammar of programs, which other crates rely on.
 //! docs/LANGUAGE.md has the rules in prose.
 #![tactic(auto)]
 

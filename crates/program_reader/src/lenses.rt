@@ -116,7 +116,7 @@ fn read_begun_lens(alloc: Global, reader: &mut Reader, room: u32) -> Result<Lens
     }
 }
 
-/// A lens behind its first word, which stands at this offset.
+/// A lens behind its first word, which is at this offset.
 #[cycle(lenses)]
 #[tactic(auto, unfolding(program_grammar::specs::Reading::word_lens))]
 fn read_word_lens(
@@ -158,7 +158,7 @@ fn read_word_lens(
     }
 }
 
-/// A record or alternatives, behind the opening mark, which stands at this offset.
+/// A record or alternatives, behind the opening mark, which is at this offset.
 #[cycle(lenses)]
 #[tactic(auto, unfolding(program_grammar::specs::Reading::mark_lens, program_grammar::specs::Reading::rec_at, program_grammar::specs::Reading::alt_at, program_grammar::specs::Reading::closed_at))]
 fn read_mark_lens(
@@ -233,7 +233,7 @@ fn read_rows(alloc: Global, reader: &mut Reader, room: u32) -> Result<Vec<Row>, 
     Ok(rows)
 }
 
-/// A row: a field that stands on one side alone, behind the word for its side, or a pair of fields.
+/// A row: a field on one side alone, behind the word for its side, or a pair of fields.
 #[cycle(lenses)]
 #[tactic(auto, unfolding(program_grammar::specs::Reading::row_at, program_grammar::specs::Reading::left_row_at, program_grammar::specs::Reading::right_row_at, program_grammar::specs::Reading::both_row_at))]
 fn read_row(alloc: Global, reader: &mut Reader, room: u32) -> Result<Row, ReadFault>

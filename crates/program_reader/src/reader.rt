@@ -180,7 +180,7 @@ impl Reader {
         }
     }
 
-    /// Takes the end of the text, behind which no token may stand.
+    /// Takes the end of the text. No token may follow it.
     #[tactic(auto, unfolding(program_grammar::specs::Reading::end_at))]
     pub fn take_end(&mut self) -> Result<(), ReadFault>
         ensures rest { GivesRest result self.new.1 (end_at self.old.1) }

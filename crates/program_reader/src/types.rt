@@ -80,7 +80,7 @@ fn read_begun_type(alloc: Global, reader: &mut Reader, room: u32) -> Result<TyEx
     }
 }
 
-/// A type behind its first word, which stands at this offset.
+/// A type behind its first word, which is at this offset.
 #[cycle(types)]
 #[tactic(auto, unfolding(program_grammar::specs::Reading::word_type))]
 fn read_word_type(
@@ -114,7 +114,7 @@ fn read_word_type(
     }
 }
 
-/// A record or alternatives, behind the opening mark, which stands at this offset.
+/// A record or alternatives, behind the opening mark, which is at this offset.
 #[cycle(types)]
 #[tactic(auto, unfolding(program_grammar::specs::Reading::mark_type, program_grammar::specs::Reading::record_at, program_grammar::specs::Reading::one_of_at))]
 fn read_mark_type(

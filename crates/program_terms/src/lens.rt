@@ -48,9 +48,9 @@ pub enum Lens {
 pub enum Row {
     /// A left field paired with a right field, and the lens between their contents: `a ~ b: id int`.
     Both(Name, Name, Lens),
-    /// A field that stands on the left alone, with its type: `left f: unit`.
+    /// A field on the left alone, with its type: `left f: unit`.
     OnlyLeft(Name, TyExpr),
-    /// A field that stands on the right alone, with its type: `right g: text`.
+    /// A field on the right alone, with its type: `right g: text`.
     OnlyRight(Name, TyExpr),
 }
 

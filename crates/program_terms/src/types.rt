@@ -40,7 +40,7 @@ pub enum TyExpr {
 
 /// The fields of a record or the tags of alternatives: names, each with its type, in written order.
 ///
-/// A name may stand more than once; whether it may in a program is a question of typing.
+/// A name may occur more than once; whether it may in a program is a question of typing.
 #[derive(Drop)]
 #[cycle(types)]
 pub struct TyFields {

@@ -5,7 +5,7 @@ ghost use Rattle.program_tokens.specs.Words.{keyword_text, keyword_of};
 use std::alloc::{AllocError, Global};
 use texts::Twin;
 
-/// A word that the language keeps for itself, so that it is no name.
+/// A word that the language keeps for itself, so that it is never a name.
 #[derive(Clone, Copy, Debug, PartialEq, Eq)]
 pub enum Keyword {
     Type,
@@ -83,7 +83,7 @@ impl Keyword {
         }
     }
 
-    /// The keyword that is written so, or `None` where the bytes are no keyword.
+    /// The keyword that is written so, or `None` where the bytes are not a keyword.
     #[tactic(auto, unfolding(crate::specs::Words::keyword_of))]
     pub fn from_bytes(word: &[u8]) -> Option<Keyword>
         ensures { result ≡ keyword_of word.now }

@@ -45,7 +45,7 @@ impl Mark {
         }
     }
 
-    /// The mark of this byte, or `None` where the byte is no mark.
+    /// The mark of this byte, or `None` where the byte is not a mark.
     #[tactic(auto, unfolding(crate::specs::Words::mark_of))]
     pub fn from_byte(byte: u8) -> Option<Mark>
         ensures { result ≡ mark_of byte }

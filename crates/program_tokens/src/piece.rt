@@ -48,7 +48,7 @@ pub(crate) fn first_piece(alloc: Global, first: u8, rest: &[u8]) -> Result<Piece
     }
 }
 
-/// How many bytes stand before the next LF, or before the end of the text.
+/// How many bytes are before the next LF, or before the end of the text.
 fn line_run(rest: &[u8]) -> usize
     ensures run { result ≡ line_run rest.now }
     ensures within { result ≤ length rest.now }

@@ -1,4 +1,4 @@
-//! Which texts may stand in a string.
+//! Which texts a string may hold.
 ghost use Rattle.std.specs.Prelude.{◌≡◌, length};
 ghost use Rattle.std.specs.List.{list_all};
 ghost use Rattle.std.specs.Str.{chars};

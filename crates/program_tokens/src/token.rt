@@ -1,4 +1,4 @@
-//! Tokens, and where they stand.
+//! Tokens, and where they are.
 
 use crate::keyword::Keyword;
 use crate::mark::Mark;
@@ -9,7 +9,7 @@ use texts::Name;
 pub enum Token {
     /// A word that the language keeps for itself.
     Keyword(Keyword),
-    /// A word of 1 to 64 bytes that is no keyword.
+    /// A word of 1 to 64 bytes that is not a keyword.
     Name(Name),
     /// A string, without its quotes.
     Text(Name),

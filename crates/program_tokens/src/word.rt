@@ -54,7 +54,7 @@ fn all_in_word(bytes: &[u8]) -> bool
     bytes.iter().all(|byte| in_word(*byte))
 }
 
-/// Whether the bytes are a name: a word of 1 to 64 bytes that is no keyword.
+/// Whether the bytes are a name: a word of 1 to 64 bytes that is not a keyword.
 #[tactic(auto, unfolding(crate::specs::Words::is_name))]
 pub fn is_name(bytes: &[u8]) -> bool
     ensures { result ≡ is_name bytes.now }

@@ -31,7 +31,7 @@ pub fn names_stay_good()
 /// The tokens of the canonical text of a type spell this type, and the end of the text is behind it.
 ///
 /// So it is for each type that keeps the condition on types, has at most 100 levels, and has no member, field or tag
-/// but such as may stand in a string, and no initial value but such a string, the empty text of `text`, or a number in
+/// that a string may not hold, and no initial value but such a string, the empty text of `text`, or a number in
 /// i64. (The numbers of a `Ty` are.)
 pub fn type_text_is_spelled()
     ensures spelled { (t : TyTree) → IsSpeakable t → is_well_formed t ≡ true → height t ≤ 100

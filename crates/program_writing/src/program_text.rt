@@ -13,7 +13,7 @@ use texts::{Name, Str};
 
 /// The canonical text of a program.
 ///
-/// Each definition stands on a line of its own, and the main lens on the last line, which no line feed ends. The
+/// Each definition is on a line of its own, and the main lens on the last line, which no line feed ends. The
 /// only error is running out of memory. docs/LANGUAGE.md has the rule.
 pub fn write_program(alloc: Global, program: &Program) -> Result<Str, AllocError>
     ensures canonical { IfOk result (λ text. text ≡ canonical (program_tree program.now)) }

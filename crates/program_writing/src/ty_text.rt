@@ -12,8 +12,8 @@ use texts::Str;
 
 /// The canonical text of a type, as a program writes it.
 ///
-/// The only error is running out of memory. Where each member, field and tag of the type may stand in a string, and each
-/// initial value that is a text may too or is the empty text of `text`, the tokens of the text spell the type, as
+/// The only error is running out of memory. Where a string may hold each member, field and tag of the type, and each
+/// initial value that is a text or is the empty text of `text`, the tokens of the text spell the type, as
 /// `laws::type_text_is_spelled` says. docs/LANGUAGE.md has the rule.
 pub fn write_type(alloc: Global, ty: &Ty) -> Result<Str, AllocError>
     ensures canonical { IfOk result (λ text. text ≡ canonical_type (ty_tree ty.now)) }

@@ -2,7 +2,7 @@
 //!
 //! The grammar says how a program is spelled, and how one is read from left to right. The laws here say that the two
 //! agree: what is read is spelled so, and what is spelled so is read. So tokens spell one program at most. Each function
-//! does nothing: its clauses are the laws, for other crates to rest on. docs/LANGUAGE.md has the rules in prose.
+//! does nothing: its clauses are the laws, which other crates rely on. docs/LANGUAGE.md has the rules in prose.
 #![tactic(auto)]
 
 ghost use Rattle.std.specs.Prelude.{◌≡◌, ℕ, false, List, Option, Ok, Err};
@@ -29,7 +29,7 @@ pub fn what_is_read_is_spelled()
 
 /// What is spelled so is read.
 ///
-/// - `types`: where a type is spelled from one point to another, and no `=` stands behind it, it is read at the first, and
+/// - `types`: where a type is spelled from one point to another, and no `=` follows it, it is read at the first, and
 ///   the other is left. (With `=` behind it, a type that leaves its initial value out would be read on.)
 /// - `lenses`: so is a lens.
 /// - `programs`: a program that the tokens spell is read from them, with its names and their offsets.

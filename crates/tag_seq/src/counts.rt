@@ -1,4 +1,4 @@
-//! How often each tag stands in a part of a list.
+//! How often each tag occurs in a part of a list.
 
 ghost use Rattle.std.specs.Prelude.{◌≡◌, ◌<◌, ◌≤◌, ◌+◌, ◌^◌, ℕ, [], length, IfOk, IsTrue, ◌↔◌, nat_eq, if◌then◌else◌};
 ghost use Rattle.tag_seq.specs.Numbers.{IsMap, number, merged, reduced, pairs_before};

@@ -86,7 +86,7 @@ impl TagSeq {
         walks::tag_at(&self.root, at, steps)
     }
 
-    /// How often a tag stands before a place, which is at most the length. Does not allocate. With n tags, n below 2^d,
+    /// How often a tag occurs before a place, which is at most the length. Does not allocate. With n tags, n below 2^d,
     /// it takes at most 2d steps.
     pub fn rank<L: Ledger>(&self, tag: u32, upto: u64, steps: &mut Steps<L>) -> u64
         requires { upto ≤ length self.now }
@@ -127,7 +127,7 @@ impl TagSeq {
         Ok(())
     }
 
-    /// Drops the last tags, so many of them, which are no more than there are. Only running out of memory is refused;
+    /// Drops the last `count` tags, which are no more than there are. Only running out of memory is refused;
     /// the list is then as it was.
     pub fn cut_last(&mut self, count: u64) -> Result<(), AllocError>
         requires { count ≤ length self.old }
@@ -141,7 +141,7 @@ impl TagSeq {
         Ok(())
     }
 
-    /// Appends so many of one tag. Only running out of memory is refused, which is also said where the length would not
+    /// Appends `count` of one tag. Only running out of memory is refused, which is also said where the length would not
     /// fit in a `u64`; the list is then as it was.
     pub fn push_many(&mut self, tag: u32, count: u64) -> Result<(), AllocError>
         ensures done { OnOk result (self.new ≡ self.old ++ replicate count tag) }

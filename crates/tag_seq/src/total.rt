@@ -26,7 +26,7 @@ impl Total {
         }
     }
 
-    /// Of so many of one tag.
+    /// Of `count` of one tag.
     pub(crate) fn of_one(alloc: Global, tag: u32, count: u64) -> Result<Total, AllocError>
         ensures { IfOk result (λ r. AreTotals r.size r.counts (replicate count tag)) }
     {

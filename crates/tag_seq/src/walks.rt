@@ -30,7 +30,7 @@ pub(crate) fn tag_at<L: Ledger>(tree: &TagTree, at: u64, steps: &mut Steps<L>) -
     }
 }
 
-/// How often a tag stands before a place.
+/// How often a tag occurs before a place.
 #[tactic(auto, using(crate::proofs::Ranks::rank_rules))]
 pub(crate) fn rank<L: Ledger>(tree: &TagTree, tag: u32, upto: u64, steps: &mut Steps<L>) -> u64
     requires { upto ≤ length (tags tree.now) }
@@ -53,7 +53,7 @@ pub(crate) fn rank<L: Ledger>(tree: &TagTree, tag: u32, upto: u64, steps: &mut S
     }
 }
 
-/// The place of the occurrence of a tag that has so many others before it, if there is one.
+/// The place of the occurrence of a tag that has `k` others before it, if there is one.
 #[tactic(auto, using(crate::proofs::Ranks::place_rules))]
 pub(crate) fn select<L: Ledger>(
     tree: &TagTree,
@@ -83,7 +83,7 @@ pub(crate) fn select<L: Ledger>(
     }
 }
 
-// How often a tag stands where one tag is seen.
+// How often a tag occurs where one tag is seen.
 fn count_here(seen: u32, tag: u32) -> u64
     ensures value { result ≡ one_if_same seen tag }
     ensures within { result ≤ 1 }
@@ -91,7 +91,7 @@ fn count_here(seen: u32, tag: u32) -> u64
     if seen == tag { 1 } else { 0 }
 }
 
-// A place of a list, seen from a list that has so many tags more at its front.
+// A place of a list, seen from a list that has `more` tags more at its front.
 fn further(more: u64, place: Option<u64>) -> Option<u64>
     requires { IfSome place (λ p. more + p < 2 ^ 64) }
     ensures { result ≡ further more place }

@@ -1,6 +1,6 @@
 //! Laws of documents and their trees.
 //!
-//! Each function here does nothing: its clauses are the laws, for other crates to rest on.
+//! Each function here does nothing: its clauses are the laws, which other crates rely on.
 
 ghost use Rattle.std.specs.Prelude.{◌≡◌, ◌*◌, ◌<◌, true, false, Some};
 ghost use Rattle.serde_json.specs.Data.{Data, depth};

@@ -9,7 +9,7 @@ use crate::node::{TagNode, TagTree};
 use crate::total::Total;
 use std::alloc::{AllocError, Global};
 
-/// The first tags of a tree, so many of them.
+/// The first `count` tags of a tree.
 #[tactic(auto, using(crate::proofs::Sides::side_rules))]
 pub(crate) fn first(alloc: Global, tree: &TagTree, count: u64) -> Result<TagTree, AllocError>
     requires { count ≤ length (tags tree.now) }

@@ -24,7 +24,7 @@ pub(crate) fn build(alloc: Global, list: &[u32]) -> Result<TagTree, AllocError>
     Ok(whole)
 }
 
-/// A tree of so many of one tag. Both parts of a node are the same tree, so that it takes as many nodes as the number
+/// A tree of `count` of one tag. Both parts of a node are the same tree, so that it takes as many nodes as the number
 /// has binary digits, or twice as many.
 pub(crate) fn repeat(alloc: Global, tag: u32, count: u64) -> Result<TagTree, AllocError>
     ensures { IfOk result (λ t. tags t ≡ replicate count tag) }
