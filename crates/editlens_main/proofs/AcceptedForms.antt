@@ -1,17 +1,18 @@
 -- The form of a program part that is accepted is typed.
 use Rattle.std.proofs.Common.{◌≡◌, ℕ, true, List, [], ◌∷◌, ◌++◌, Option, None, Some, Result, Ok, Err, IsTrue, refl, subst}
+use Rattle.std.specs.Option.{option_or}
 use Rattle.texts.proofs.Conjunction.{first}
 use Rattle.program_terms.specs.Terms as Term
 use Rattle.lens_syntax.specs.Programs.{ProgramCause, bounded}
 use Rattle.lens_forms.specs.Forms.{FormTree}
 use Rattle.lens_forms.specs.Typing.{is_typed}
 use Rattle.lens_types.specs.Sound.{is_sound}
-use Rattle.lens_types.specs.Checking.{Failure, or_else, def_failure, failure_after, first_failure}
+use Rattle.lens_types.specs.Checking.{Failure, def_failure, failure_after, first_failure}
 use Rattle.lens_types.specs.Earlier.{Definitions, known_of, all_known, expanded_form, main_form}
 use Rattle.lens_types.proofs.SoundForms.{are_sound, sound_more, lens_sound, def_sound}
 use Rattle.editlens_main.specs.Program.{form_without_failure, form_of_program, lens_of}
 
-no_failures : (a b : Option Failure) → or_else a b ≡ None → (a ≡ None) × (b ≡ None)
+no_failures : (a b : Option Failure) → option_or a b ≡ None → (a ≡ None) × (b ≡ None)
 no_failures None b h = (refl, h)
 no_failures (Some f) b h = cc
 

@@ -1,12 +1,13 @@
 -- One definition after another.
 use Rattle.std.proofs.Common.{◌≡◌, ℕ, zero, suc, ◌+◌, ◌≤◌, true, false, true≢false, ◌||◌, List, [], ◌∷◌, ◌++◌, length, map, take, drop, bytes_eq, Option, Some, None, is_some, refl, ap, ap₂, sym, ◌∙◌, subst, add-one}
 use Rattle.std.specs.Prelude.{option_map, unwrap_or, slice_get, if◌then◌else◌}
+use Rattle.std.specs.Option.{option_or}
 use Rattle.std.proofs.lemmas.List.{drop_all, map-append}
 use Rattle.texts.specs.Keys.{has_name}
 use Rattle.program_terms.specs.Terms as Term
 use Rattle.program_terms.proofs.DistinctNames.{not_before, one_more}
 use Rattle.lens_types.specs.Earlier.{KnownTree, Definitions, known, known_of, all_known}
-use Rattle.lens_types.specs.Checking.{Failure, or_else, def_failure, failure_after}
+use Rattle.lens_types.specs.Checking.{Failure, def_failure, failure_after}
 use Rattle.lens_types.specs.Faults.{IsFaultOf}
 use Rattle.lens_types.specs.declared.fault.TypeFault.{TypeFault}
 use Rattle.lens_types.specs.declared.fault.TypeFault.TheVariants.{MiddleDiffers, RepeatedField, RepeatedTag, RepeatedMember, NotAMember, TooLarge, TooDeep, NoMemory}
@@ -35,14 +36,14 @@ second_is (Some x) b k = (x.0, ap (λ d. Some (x.0, d)) (value_is x.1 b k))
 
 -- ---- a definition that has a failure
 
-first_fault : (a b : Option Failure) (fault : TypeFault) → IsFaultOf a fault → IsFaultOf (or_else a b) fault
-first_fault a b (MiddleDiffers left right) h = ap (λ o. or_else o b) h
-first_fault a b (RepeatedField name) h = ap (λ o. or_else o b) h
-first_fault a b (RepeatedTag name) h = ap (λ o. or_else o b) h
-first_fault a b (RepeatedMember name) h = ap (λ o. or_else o b) h
-first_fault a b (NotAMember name) h = ap (λ o. or_else o b) h
-first_fault a b TooLarge h = ap (λ o. or_else o b) h
-first_fault a b TooDeep h = ap (λ o. or_else o b) h
+first_fault : (a b : Option Failure) (fault : TypeFault) → IsFaultOf a fault → IsFaultOf (option_or a b) fault
+first_fault a b (MiddleDiffers left right) h = ap (λ o. option_or o b) h
+first_fault a b (RepeatedField name) h = ap (λ o. option_or o b) h
+first_fault a b (RepeatedTag name) h = ap (λ o. option_or o b) h
+first_fault a b (RepeatedMember name) h = ap (λ o. option_or o b) h
+first_fault a b (NotAMember name) h = ap (λ o. option_or o b) h
+first_fault a b TooLarge h = ap (λ o. option_or o b) h
+first_fault a b TooDeep h = ap (λ o. option_or o b) h
 first_fault a b NoMemory h = tt
 
 pub fault_at : (ds : Definitions) (defs : List (List ℕ × Term.DefTree)) (i : ℕ) (d : Term.DefTree) (main : Term.LensTree) (whole : Option Failure) (fault : TypeFault)
@@ -80,7 +81,7 @@ after_next ds new defs i n d k main whole all name def none known made h =
     record {
       failure =
           ap (λ xs. failure_after (ds ++ (n, known_of ds d) ∷ []) xs main) next
-          ∙ ap (λ o. or_else o (failure_after (ds ++ (n, known_of ds d) ∷ []) (drop (suc i) defs) main)) (sym none)
+          ∙ ap (λ o. option_or o (failure_after (ds ++ (n, known_of ds d) ∷ []) (drop (suc i) defs) main)) (sym none)
           ∙ ap (λ xs. failure_after ds xs main) (sym from) ∙ h.failure;
       known = ap (all_known (ds ++ (n, known_of ds d) ∷ [])) next ∙ ap (all_known ds) (sym from) ∙ h.known;
       sound = sound_more ds n (known_of ds d) h.sound (def_sound ds h.sound d none);

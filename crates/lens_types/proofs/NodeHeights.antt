@@ -1,6 +1,7 @@
 -- The heights of the sides of a form, from those of its parts.
 use Rattle.std.proofs.Common.{◌≡◌, ℕ, suc, Option, None, ◌+◌, ◌<◌, Bool, true, false, nat_eq, cond, List, [], ◌∷◌, length, map, drop, get_or, refl, ap, sym, ◌∙◌, add-one, drop-cons, arith}
 use Rattle.std.specs.Prelude.{max, nat_lt}
+use Rattle.std.specs.Option.{option_or}
 use Rattle.std.specs.Ordering.{ord_max, nat_cmp, is_lt}
 use Rattle.std.specs.declared.cmp.Ordering.TheVariants.{Less, Equal, Greater}
 use Rattle.std.proofs.lemmas.Bool.Decides.{nat_tests}
@@ -12,7 +13,7 @@ use Rattle.program_terms.specs.declared.lens.Lens.{Lens}
 use Rattle.program_terms.specs.declared.lens.Row.{Row}
 use Rattle.lens_forms.specs.Forms.{FormTree, form_each, form_rec, RowTrees, ArmTrees, no_arms, more_arms, left_type, right_type, left_fields, right_fields, left_tags, right_tags, sorted, lists_of}
 use Rattle.lens_types.specs.Earlier.{Definitions, expanded_type, expanded_fields, expanded_form, expanded_rows, alternatives, partition}
-use Rattle.lens_types.specs.Checking.{Failure, or_else, rows_failure}
+use Rattle.lens_types.specs.Checking.{Failure, rows_failure}
 use Rattle.lens_types.specs.Heights.{capped, HasHeights, HasRowHeights, HasArmHeights}
 use Rattle.lens_types.specs.Nodes.{HasFieldHeights, row_failure}
 use Rattle.lens_types.specs.declared.known.SideHeights.{SideHeights}
@@ -141,7 +142,7 @@ next_row_right ds rows i r n a h low is e all =
     max_more n h.right _ _ (row_right ds (row_tree r) (rows_from (i + 1) rows) h e)
     ∙ ap (λ xs. max n (capped (highest (right_fields (expanded_rows ds (Term.term_rows_of (map row_tree xs))))))) (sym (from_place rows i r low is)) ∙ all
 
-row_first : (ds : Definitions) (row : Term.RowTree) (rows : Term.RowTrees) → rows_failure ds (Term.with_row row rows) ≡ or_else (row_failure ds row) (rows_failure ds rows)
+row_first : (ds : Definitions) (row : Term.RowTree) (rows : Term.RowTrees) → rows_failure ds (Term.with_row row rows) ≡ option_or (row_failure ds row) (rows_failure ds rows)
 row_first ds (Term.row_both a b l) rows = refl
 row_first ds (Term.row_left a t) rows = refl
 row_first ds (Term.row_right b t) rows = refl
@@ -149,6 +150,6 @@ row_first ds (Term.row_right b t) rows = refl
 pub next_row_failure : (ds : Definitions) (rows : List Row) (i : ℕ) (r : Row) (all : Option Failure) → i < length rows → r ≡ get_or rows i r
     → row_failure ds (row_tree r) ≡ None → rows_failure ds (rows_from i rows) ≡ all → rows_failure ds (rows_from (i + 1) rows) ≡ all
 next_row_failure ds rows i r all low is none h =
-    ap (λ o. or_else o (rows_failure ds (rows_from (i + 1) rows))) (sym none)
+    ap (λ o. option_or o (rows_failure ds (rows_from (i + 1) rows))) (sym none)
     ∙ sym (row_first ds (row_tree r) (rows_from (i + 1) rows))
     ∙ ap (λ xs. rows_failure ds (Term.term_rows_of (map row_tree xs))) (sym (from_place rows i r low is)) ∙ h

@@ -1,6 +1,7 @@
 -- What has no failure is typed and keeps the limits.
 use Rattle.std.proofs.Common.{◌≡◌, ℕ, Bool, true, false, ◌&&◌, List, [], ◌∷◌, ◌++◌, Option, Some, None, refl}
 use Rattle.std.specs.Prelude.{bytes_eq, nat_le, if◌then◌else◌, option_map}
+use Rattle.std.specs.Option.{option_or}
 use Rattle.texts.specs.Keys.{has_name}
 use Rattle.doc_values.specs.Types.{FieldTrees, no_fields, more_fields, names_of, are_distinct, are_choices, is_well_formed, are_well_formed, height, is_same_ty}
 use Rattle.texts.proofs.Conjunction.{both as both_true, first as first_and, second as second_and}
@@ -10,14 +11,14 @@ use Rattle.lens_forms.specs.Typing.{is_typed, are_typed_rows, are_typed_arms, le
 use Rattle.lens_forms.specs.Measures.{form_parts, form_height, most_parts, greatest_height}
 use Rattle.lens_types.specs.Sound.{is_sound}
 use Rattle.lens_types.specs.Earlier.{KnownTree, known_type, known_lens, Definitions, known, type_of_known, form_of_known, type_named, form_named, alternatives_type, alternatives, partition, expanded_type, expanded_fields, expanded_form, expanded_rows, expanded_arms, known_of}
-use Rattle.lens_types.specs.Checking.{Failure, repeated_field, repeated_tag, repeated_member, not_a_member, too_large, too_deep, or_else, value_failure, enum_failure, pairs_failure, type_failure, fields_failure, lens_failure, rows_failure, arms_failure, middle_failure, sides_failure, written_height, size_failure, height_failure, def_failure}
+use Rattle.lens_types.specs.Checking.{Failure, repeated_field, repeated_tag, repeated_member, not_a_member, too_large, too_deep, value_failure, enum_failure, pairs_failure, type_failure, fields_failure, lens_failure, rows_failure, arms_failure, middle_failure, sides_failure, written_height, size_failure, height_failure, def_failure}
 use Rattle.lens_types.specs.Repeats.{first_repeat, member_names, field_names, pair_names, row_names, arm_names}
 use Rattle.lens_types.proofs.RepeatedNames.{members_distinct, fields_distinct, lefts_distinct, rights_distinct, left_names_distinct, right_names_distinct, left_arms_distinct, right_arms_distinct}
 use Rattle.lens_forms.proofs.SortedFields.{sorted-rising, sorted-well_formed}
 
 -- ---- no failure
 
-none_both : (a b : Option Failure) → or_else a b ≡ None → (a ≡ None) × (b ≡ None)
+none_both : (a b : Option Failure) → option_or a b ≡ None → (a ≡ None) × (b ≡ None)
 none_both None b h = (refl, h)
 none_both (Some f) b h = cc
 
@@ -190,7 +191,7 @@ low_sides f = nat_le (height (left_type f)) greatest_height && nat_le (height (r
 sides_low : (f : FormTree) → sides_failure f ≡ None → low_sides f ≡ true
 sides_low f h = none_if (low_sides f) too_deep h
 
-last_low : (a : Option Failure) (f : FormTree) → or_else a (sides_failure f) ≡ None → low_sides f ≡ true
+last_low : (a : Option Failure) (f : FormTree) → option_or a (sides_failure f) ≡ None → low_sides f ≡ true
 last_low a f h = sides_low f (none_both a (sides_failure f) h).1
 
 pub lens_low : (ds : Definitions) → are_sound ds ≡ true → (l : Term.LensTree) → lens_failure ds l ≡ None → low_sides (expanded_form ds l) ≡ true

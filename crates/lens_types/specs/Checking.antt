@@ -1,6 +1,7 @@
 -- The first failure of a program, in the order of checking.
 -- Read it from the end: `first_failure`, then `def_failure`, `lens_failure` and `type_failure`.
 use Rattle.std.specs.Prelude.{ℕ, ◌&&◌, nat_le, max, if◌then◌else◌, List, [], ◌∷◌, ◌++◌, Option, Some, None, option_map}
+use Rattle.std.specs.Option.{option_or}
 use Rattle.texts.specs.Keys.{has_name}
 use Rattle.doc_values.specs.Types.{TyTree, height, highest, is_same_ty}
 use Rattle.program_terms.specs.Terms as Term
@@ -19,11 +20,6 @@ pub data Failure : Type 0 where
   too_large : Failure
   too_deep : Failure
 
--- one failure, or where there is none the other
-abbrev pub or_else : Option Failure → Option Failure → Option Failure
-or_else (Some failure) other = Some failure
-or_else None other = other
-
 -- ---- enums and bijections: first the members are distinct, then the initial value is one of them
 
 -- the initial value is one of the members
@@ -31,11 +27,11 @@ abbrev pub value_failure : List ℕ → List (List ℕ) → Option Failure
 value_failure v ms = if has_name v ms then None else Some (not_a_member v)
 
 abbrev pub enum_failure : List (List ℕ) → List ℕ → Option Failure
-enum_failure ms v = or_else (option_map repeated_member (first_repeat (member_names ms))) (value_failure v ms)
+enum_failure ms v = option_or (option_map repeated_member (first_repeat (member_names ms))) (value_failure v ms)
 
 -- the members of a bijection are distinct on each side, and its initial value is a left one
 abbrev pub pairs_failure : List (List ℕ × List ℕ) → List ℕ → Option Failure
-pairs_failure ps v = or_else (option_map repeated_member (first_repeat (pair_names ps))) (value_failure v (lefts ps))
+pairs_failure ps v = option_or (option_map repeated_member (first_repeat (pair_names ps))) (value_failure v (lefts ps))
 
 -- ---- the nodes of a type, each after its parts: fields and tags are distinct
 
@@ -46,8 +42,8 @@ abbrev mutual
   type_failure (Term.int z) = None
   type_failure (Term.text s) = None
   type_failure (Term.enum_of ms v) = enum_failure ms v
-  type_failure (Term.record_of fs) = or_else (fields_failure fs) (option_map repeated_field (first_repeat (field_names fs)))
-  type_failure (Term.one_of fs) = or_else (fields_failure fs) (option_map repeated_tag (first_repeat (field_names fs)))
+  type_failure (Term.record_of fs) = option_or (fields_failure fs) (option_map repeated_field (first_repeat (field_names fs)))
+  type_failure (Term.one_of fs) = option_or (fields_failure fs) (option_map repeated_tag (first_repeat (field_names fs)))
   type_failure (Term.list t) = type_failure t
   type_failure (Term.keyed t) = type_failure t
   type_failure (Term.tree t) = type_failure t
@@ -56,7 +52,7 @@ abbrev mutual
 
   pub fields_failure : Term.FieldTrees → Option Failure
   fields_failure Term.no_fields = None
-  fields_failure (Term.more_fields n t fs) = or_else (type_failure t) (fields_failure fs)
+  fields_failure (Term.more_fields n t fs) = option_or (type_failure t) (fields_failure fs)
 
 -- ---- the nodes of a lens, each after its parts
 
@@ -73,38 +69,38 @@ sides_failure f =
 -- first the failures in the parts, then the node's own condition, then the heights of its two sides
 abbrev mutual
   pub lens_failure : Definitions → Term.LensTree → Option Failure
-  lens_failure ds (Term.id_of t) = or_else (type_failure t) (sides_failure (expanded_form ds (Term.id_of t)))
-  lens_failure ds (Term.bij_of ps v) = or_else (pairs_failure ps v) (sides_failure (expanded_form ds (Term.bij_of ps v)))
+  lens_failure ds (Term.id_of t) = option_or (type_failure t) (sides_failure (expanded_form ds (Term.id_of t)))
+  lens_failure ds (Term.bij_of ps v) = option_or (pairs_failure ps v) (sides_failure (expanded_form ds (Term.bij_of ps v)))
   lens_failure ds (Term.disc_of t u) =
-      or_else (type_failure t) (or_else (type_failure u) (sides_failure (expanded_form ds (Term.disc_of t u))))
+      option_or (type_failure t) (option_or (type_failure u) (sides_failure (expanded_form ds (Term.disc_of t u))))
   lens_failure ds (Term.then_of l k) =
-      or_else (lens_failure ds l) (or_else (lens_failure ds k)
-      (or_else (middle_failure (expanded_form ds l) (expanded_form ds k)) (sides_failure (expanded_form ds (Term.then_of l k)))))
+      option_or (lens_failure ds l) (option_or (lens_failure ds k)
+      (option_or (middle_failure (expanded_form ds l) (expanded_form ds k)) (sides_failure (expanded_form ds (Term.then_of l k)))))
   lens_failure ds (Term.rec_lens rows) =
-      or_else (rows_failure ds rows)
-      (or_else (option_map repeated_field (first_repeat (row_names rows))) (sides_failure (expanded_form ds (Term.rec_lens rows))))
+      option_or (rows_failure ds rows)
+      (option_or (option_map repeated_field (first_repeat (row_names rows))) (sides_failure (expanded_form ds (Term.rec_lens rows))))
   lens_failure ds (Term.alt_lens arms) =
-      or_else (arms_failure ds arms)
-      (or_else (option_map repeated_tag (first_repeat (arm_names arms))) (sides_failure (expanded_form ds (Term.alt_lens arms))))
-  lens_failure ds (Term.each_of l) = or_else (lens_failure ds l) (sides_failure (expanded_form ds (Term.each_of l)))
-  lens_failure ds (Term.keyed_each l) = or_else (lens_failure ds l) (sides_failure (expanded_form ds (Term.keyed_each l)))
-  lens_failure ds (Term.tree_each l) = or_else (lens_failure ds l) (sides_failure (expanded_form ds (Term.tree_each l)))
+      option_or (arms_failure ds arms)
+      (option_or (option_map repeated_tag (first_repeat (arm_names arms))) (sides_failure (expanded_form ds (Term.alt_lens arms))))
+  lens_failure ds (Term.each_of l) = option_or (lens_failure ds l) (sides_failure (expanded_form ds (Term.each_of l)))
+  lens_failure ds (Term.keyed_each l) = option_or (lens_failure ds l) (sides_failure (expanded_form ds (Term.keyed_each l)))
+  lens_failure ds (Term.tree_each l) = option_or (lens_failure ds l) (sides_failure (expanded_form ds (Term.tree_each l)))
   lens_failure ds (Term.part_of fs) =
-      or_else (fields_failure fs)
-      (or_else (option_map repeated_tag (first_repeat (field_names fs))) (sides_failure (expanded_form ds (Term.part_of fs))))
-  lens_failure ds (Term.inv_of l) = or_else (lens_failure ds l) (sides_failure (expanded_form ds (Term.inv_of l)))
+      option_or (fields_failure fs)
+      (option_or (option_map repeated_tag (first_repeat (field_names fs))) (sides_failure (expanded_form ds (Term.part_of fs))))
+  lens_failure ds (Term.inv_of l) = option_or (lens_failure ds l) (sides_failure (expanded_form ds (Term.inv_of l)))
   -- a name counts as passed
   lens_failure ds (Term.named_lens n) = None
 
   pub rows_failure : Definitions → Term.RowTrees → Option Failure
   rows_failure ds Term.no_rows = None
-  rows_failure ds (Term.both a b l rows) = or_else (lens_failure ds l) (rows_failure ds rows)
-  rows_failure ds (Term.only_left a t rows) = or_else (type_failure t) (rows_failure ds rows)
-  rows_failure ds (Term.only_right b t rows) = or_else (type_failure t) (rows_failure ds rows)
+  rows_failure ds (Term.both a b l rows) = option_or (lens_failure ds l) (rows_failure ds rows)
+  rows_failure ds (Term.only_left a t rows) = option_or (type_failure t) (rows_failure ds rows)
+  rows_failure ds (Term.only_right b t rows) = option_or (type_failure t) (rows_failure ds rows)
 
   pub arms_failure : Definitions → Term.ArmTrees → Option Failure
   arms_failure ds Term.no_arms = None
-  arms_failure ds (Term.more_arms a b l arms) = or_else (lens_failure ds l) (arms_failure ds arms)
+  arms_failure ds (Term.more_arms a b l arms) = option_or (lens_failure ds l) (arms_failure ds arms)
 
 -- ---- definitions
 
@@ -144,16 +140,16 @@ height_failure levels = if nat_le levels greatest_height then None else Some too
 -- a definition: its parts are counted, then its heights are tested, then its nodes
 abbrev pub def_failure : Definitions → Term.DefTree → Option Failure
 def_failure ds (Term.type_def t) =
-    or_else (size_failure (type_parts (expanded_type ds t))) (or_else (height_failure (height (expanded_type ds t))) (type_failure t))
+    option_or (size_failure (type_parts (expanded_type ds t))) (option_or (height_failure (height (expanded_type ds t))) (type_failure t))
 def_failure ds (Term.lens_def l) =
-    or_else (size_failure (form_parts (expanded_form ds l)))
-    (or_else (height_failure (form_height (expanded_form ds l))) (or_else (height_failure (written_height ds l)) (lens_failure ds l)))
+    option_or (size_failure (form_parts (expanded_form ds l)))
+    (option_or (height_failure (form_height (expanded_form ds l))) (option_or (height_failure (written_height ds l)) (lens_failure ds l)))
 
 -- definitions in written order, each with what the earlier ones stand for, and the main lens last
 abbrev pub failure_after : Definitions → List (List ℕ × Term.DefTree) → Term.LensTree → Option Failure
 failure_after ds [] main = def_failure ds (Term.lens_def main)
 failure_after ds (d ∷ rest) main =
-    or_else (def_failure ds d.1) (failure_after (ds ++ (d.0, known_of ds d.1) ∷ []) rest main)
+    option_or (def_failure ds d.1) (failure_after (ds ++ (d.0, known_of ds d.1) ∷ []) rest main)
 
 abbrev pub first_failure : Term.ProgramTree → Option Failure
 first_failure p = failure_after [] p.definitions p.main

@@ -1,10 +1,11 @@
 -- For the helpers of the checker: what the check of one node or one row gives.
 use Rattle.std.specs.Prelude.{◌≡◌, ℕ, List, Option, None, Result, MatchResult}
+use Rattle.std.specs.Option.{option_or}
 use Rattle.doc_values.specs.Types.{height}
 use Rattle.program_terms.specs.Terms as Term
 use Rattle.lens_forms.specs.Forms.{FormTree, form_bij, RowTree, row_both, row_left, row_right}
 use Rattle.lens_types.specs.Earlier.{Definitions, expanded_type, expanded_form}
-use Rattle.lens_types.specs.Checking.{Failure, or_else, pairs_failure, type_failure, lens_failure, sides_failure}
+use Rattle.lens_types.specs.Checking.{Failure, pairs_failure, type_failure, lens_failure, sides_failure}
 use Rattle.lens_types.specs.Faults.{IsFaultOf}
 use Rattle.lens_types.specs.Heights.{capped, HasHeights}
 use Rattle.lens_types.specs.declared.fault.TypeFault.{TypeFault}
@@ -15,7 +16,7 @@ abbrev pub IsLowForm : FormTree → Result SideHeights TypeFault → Type 0
 IsLowForm f r = MatchResult r (λ h. (sides_failure f ≡ None) × HasHeights f h) (λ fault. IsFaultOf (sides_failure f) fault)
 
 abbrev pub bijection_failure : List (List ℕ × List ℕ) → List ℕ → Option Failure
-bijection_failure ps v = or_else (pairs_failure ps v) (sides_failure (form_bij ps v))
+bijection_failure ps v = option_or (pairs_failure ps v) (sides_failure (form_bij ps v))
 
 -- the failure of one row, and the heights of its fields, 0 on a side where it has none
 abbrev pub row_failure : Definitions → Term.RowTree → Option Failure

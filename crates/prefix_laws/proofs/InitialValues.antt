@@ -1,5 +1,6 @@
 -- What may follow a type or a lens never begins with `=`. So the next token alone says whether an initial value is there.
 use Rattle.std.proofs.Common.{◌≡◌, ℕ, zero, suc, true, false, cond, List, [], ◌∷◌, ◌++◌, Some, None, refl, sym, ap, ◌∙◌, eqb, arith, inl, inr}
+use Rattle.std.specs.Option.{option_or}
 use Rattle.std.proofs.lemmas.Bool.Decides.{nat_tests}
 use Rattle.program_tokens.specs.declared.mark.Mark.TheVariants.{Equals}
 use Rattle.program_tokens.specs.declared.token.Token.{Token}
@@ -7,7 +8,7 @@ use Rattle.program_tokens.specs.declared.token.Token.TheVariants as tokens
 use Rattle.program_tokens.specs.Words.{mark_byte}
 use Rattle.program_grammar.specs.Grammar.{Rule, program, field, type, lens, row, Part, definitions, other_members, other_pairs, declared_number, declared_string, fields, other_fields, rows, other_rows, other_arms, Symbol, mark, word, a_name, a_string, a_number, the_end, rule, perhaps, repeated, contents}
 use Rattle.program_grammar.specs.Reading.{is_mark}
-use Rattle.prefix_laws.proofs.Machine.{or_else, first_of, take_inside, take_one}
+use Rattle.prefix_laws.proofs.Machine.{first_of, take_inside, take_one}
 use Rattle.prefix_laws.proofs.MachineSteps.{either_way}
 use Rattle.program_grammar.proofs.MarkTokens.{mark_is}
 use Rattle.prefix_laws.proofs.SymbolTokens.{absent, nothing_there}
@@ -76,7 +77,7 @@ refuses_equals (a_number ∷ s) h = refl
 refuses_equals (the_end ∷ s) h = refl
 refuses_equals (rule r ∷ s) h = rule_refuses r s
 refuses_equals (perhaps p ∷ s) h = absurd h
-refuses_equals (repeated p ∷ s) h = ap (λ o. or_else o (take_one s (tokens.Mark Equals))) (part_refuses p (repeated p ∷ s) h.0) ∙ refuses_equals s h.1
+refuses_equals (repeated p ∷ s) h = ap (λ o. option_or o (take_one s (tokens.Mark Equals))) (part_refuses p (repeated p ∷ s) h.0) ∙ refuses_equals s h.1
 
 -- ---- an initial value is there, or it is not
 
@@ -87,8 +88,8 @@ Declares p e = contents p ≡ (mark Equals ∷ e) ∷ []
 pub equals_or : (p : Part) (e s : List Symbol) (k : Token) → Declares p e → take_one (perhaps p ∷ s) k ≡ cond (is_mark Equals k) (Some (e ++ s)) (take_one s k)
 unfolding take_one
 equals_or p e s k h =
-    ap (λ c. or_else (first_of (λ a. take_inside (a ++ s) k) c) (take_one s k)) h
-    ∙ elim (is_mark Equals k) as (λ b. or_else (or_else (cond b (Some (e ++ s)) None) None) (take_one s k) ≡ cond b (Some (e ++ s)) (take_one s k)) [ true ↦ refl | false ↦ refl ]
+    ap (λ c. option_or (first_of (λ a. take_inside (a ++ s) k) c) (take_one s k)) h
+    ∙ elim (is_mark Equals k) as (λ b. option_or (option_or (cond b (Some (e ++ s)) None) None) (take_one s k) ≡ cond b (Some (e ++ s)) (take_one s k)) [ true ↦ refl | false ↦ refl ]
 
 -- before a token other than `=` it is not there
 pub not_declared : (p : Part) (e s : List Symbol) (k : Token) → Declares p e → is_mark Equals k ≡ false → take_one (perhaps p ∷ s) k ≡ take_one s k

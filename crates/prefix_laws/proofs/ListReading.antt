@@ -1,5 +1,6 @@
 -- Lists with commas and initial values, read beside the machine.
 use Rattle.std.proofs.Common.{◌≡◌, ℕ, zero, suc, ◌-◌, true, false, cond, List, [], ◌∷◌, ◌++◌, length, drop, Some, None, Ok, refl, sym, ap, subst, ◌∙◌, inl, inr}
+use Rattle.std.specs.Option.{option_or}
 use Rattle.program_tokens.specs.declared.mark.Mark.{Mark}
 use Rattle.program_tokens.specs.declared.mark.Mark.TheVariants.{Comma, Equals}
 use Rattle.program_tokens.specs.declared.token.Token.{Token}
@@ -9,7 +10,7 @@ use Rattle.program_grammar.specs.declared.mention.Mention.{Mention}
 use Rattle.program_grammar.specs.Grammar.{Symbol, mark, Part, perhaps, repeated, contents}
 use Rattle.program_grammar.specs.Mentions.{Point}
 use Rattle.program_grammar.specs.Reading.{Read, is_mark, mark_at, more_at, list_at, closed_at, perhaps_at, initial_at}
-use Rattle.prefix_laws.proofs.Machine.{or_else, first_of, take_inside, take_one, stop}
+use Rattle.prefix_laws.proofs.Machine.{first_of, take_inside, take_one, stop}
 use Rattle.program_grammar.proofs.RestOfTokens.{drop_to_rest}
 use Rattle.prefix_laws.proofs.MachineSteps.{Takes, Reads, stop_nothing, takes_ok, takes_then, none_as, takes_first, takes_as, either_way}
 use Rattle.program_grammar.proofs.MarkTokens.{mark_is}
@@ -23,8 +24,8 @@ Commas p e = contents p ≡ (mark Comma ∷ e) ∷ []
 comma_or : (p : Part) (e s : List Symbol) (k : Token) → Commas p e → take_one (repeated p ∷ s) k ≡ cond (is_mark Comma k) (Some (e ++ (repeated p ∷ s))) (take_one s k)
 unfolding take_one
 comma_or p e s k h =
-    ap (λ c. or_else (first_of (λ a. take_inside (a ++ (repeated p ∷ s)) k) c) (take_one s k)) h
-    ∙ elim (is_mark Comma k) as (λ b. or_else (or_else (cond b (Some (e ++ (repeated p ∷ s))) None) None) (take_one s k) ≡ cond b (Some (e ++ (repeated p ∷ s))) (take_one s k)) [ true ↦ refl | false ↦ refl ]
+    ap (λ c. option_or (first_of (λ a. take_inside (a ++ (repeated p ∷ s)) k) c) (take_one s k)) h
+    ∙ elim (is_mark Comma k) as (λ b. option_or (option_or (cond b (Some (e ++ (repeated p ∷ s))) None) None) (take_one s k) ≡ cond b (Some (e ++ (repeated p ∷ s))) (take_one s k)) [ true ↦ refl | false ↦ refl ]
 
 -- an element behind a comma, or none
 comma_takes : {A : Type 0} (p : Part) (e s : List Symbol) (t : PlacedToken) (ms : List Mention) (ts : List PlacedToken) (r : Read (List A)) → Commas p e

@@ -1,5 +1,6 @@
 -- A machine whose stack is a list of symbols, where the next token alone decides: the middle term between reading and viable prefixes.
 use Rattle.std.specs.Prelude.{ℕ, Bool, true, false, List, [], ◌∷◌, ◌++◌, Option, Some, None, ◌==◌, if◌then◌else◌}
+use Rattle.std.specs.Option.{option_or}
 use Rattle.program_tokens.specs.declared.keyword.Keyword.{Keyword}
 use Rattle.program_tokens.specs.declared.keyword.Keyword.TheVariants as words
 use Rattle.program_tokens.specs.declared.token.Token.{Token}
@@ -47,14 +48,9 @@ abbrev pub is_word : Keyword → Token → Bool
 is_word k (tokens.Keyword j) = code j == code k
 is_word k _ = false
 
--- the first of two, where there is one
-abbrev pub or_else : Option (List Symbol) → Option (List Symbol) → Option (List Symbol)
-or_else (Some a) other = Some a
-or_else None other = other
-
 abbrev pub first_of : (List Symbol → Option (List Symbol)) → List (List Symbol) → Option (List Symbol)
 first_of f [] = None
-first_of f (a ∷ others) = or_else (f a) (first_of f others)
+first_of f (a ∷ others) = option_or (f a) (first_of f others)
 
 -- The symbols that are left after a token, where it fits. What a rule or a part is replaced by is asked of the function inside.
 abbrev pub step : (List Symbol → Token → Option (List Symbol)) → List Symbol → Token → Option (List Symbol)
@@ -66,8 +62,8 @@ step inner (a_string ∷ s) t = if is_string t then Some s else None
 step inner (a_number ∷ s) t = if is_number t then Some s else None
 step inner (the_end ∷ s) t = if is_end t then Some s else None
 step inner (rule r ∷ s) t = first_of (λ a. inner (a ++ s) t) (alternatives r)
-step inner (perhaps p ∷ s) t = or_else (first_of (λ a. inner (a ++ s) t) (contents p)) (step inner s t)
-step inner (repeated p ∷ s) t = or_else (first_of (λ a. inner (a ++ (repeated p ∷ s)) t) (contents p)) (step inner s t)
+step inner (perhaps p ∷ s) t = option_or (first_of (λ a. inner (a ++ s) t) (contents p)) (step inner s t)
+step inner (repeated p ∷ s) t = option_or (first_of (λ a. inner (a ++ (repeated p ∷ s)) t) (contents p)) (step inner s t)
 
 abbrev pub no_step : List Symbol → Token → Option (List Symbol)
 no_step s t = None

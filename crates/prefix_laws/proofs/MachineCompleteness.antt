@@ -1,5 +1,6 @@
 -- The machine goes on with every viable prefix.
 use Rattle.std.proofs.Common.{◌≡◌, ℕ, zero, suc, true, false, List, [], ◌∷◌, ◌++◌, Option, Some, None, refl, sym, ap, subst, ◌∙◌, eqb, inl, inr}
+use Rattle.std.specs.Option.{option_or}
 use Rattle.std.proofs.lemmas.Bool.{eq-eqb}
 use lib.IntN.{ℤ}
 use Rattle.program_tokens.specs.declared.keyword.Keyword.{Keyword}
@@ -11,7 +12,7 @@ use Rattle.program_tokens.specs.declared.token.Token.TheVariants as tokens
 use Rattle.program_tokens.specs.Words.{mark_byte}
 use Rattle.program_grammar.specs.Grammar.{Rule, program, field, type, lens, row, Part, definitions, other_members, other_pairs, declared_number, declared_string, fields, other_fields, rows, other_rows, other_arms, Symbol, mark, word, a_name, a_string, a_number, the_end, rule, perhaps, repeated, an_arm, contents, alternatives, IsAmong, IsViablePrefix, no_tokens, mark_first, word_first, name_first, string_first, number_first, end_first, rule_replaced, option_present, option_absent, repeated_once_more, repeated_no_more}
 use Rattle.program_grammar.specs.Reading.{is_mark}
-use Rattle.prefix_laws.proofs.Machine.{is_name, is_string, is_word, code, or_else, first_of, take_inside, take_one, goes}
+use Rattle.prefix_laws.proofs.Machine.{is_name, is_string, is_word, code, first_of, take_inside, take_one, goes}
 use Rattle.program_grammar.proofs.MarkTokens.{mark_is}
 use Rattle.prefix_laws.proofs.InitialValues.{NoEquals, not_declared, takes_no_equals}
 use Rattle.prefix_laws.proofs.SymbolTokens.{nothing_there, word_is, chosen, name_is, string_is}
@@ -178,7 +179,7 @@ by_string all s t h = record {
       subst (λ x. first_of (λ a. take_inside (a ++ s) x) all ≡ Some q) (sym n.1) (h n.0 ∙ ap Some c.1);
 }
 
-pub or_none : (o : Option (List Symbol)) → or_else o None ≡ o
+pub or_none : (o : Option (List Symbol)) → option_or o None ≡ o
 or_none (Some a) = refl
 or_none None = refl
 
@@ -297,16 +298,16 @@ passed_by p behind (repeated r ∷ s) q t c e = absurd c
 -- what may follow a part that is missing takes no token with which the part begins
 pub absent_passes : (p : Part) (s q : List Symbol) (t : Token) → Follows p s → take_one s t ≡ Some q → take_one (perhaps p ∷ s) t ≡ Some q
 unfolding take_one
-absent_passes definitions s q t c e = ap (λ o. or_else o (take_one s t)) (passed_by definitions s s q t c e) ∙ e
-absent_passes other_members s q t c e = ap (λ o. or_else o (take_one s t)) (passed_by other_members s s q t c e) ∙ e
-absent_passes other_pairs s q t c e = ap (λ o. or_else o (take_one s t)) (passed_by other_pairs s s q t c e) ∙ e
+absent_passes definitions s q t c e = ap (λ o. option_or o (take_one s t)) (passed_by definitions s s q t c e) ∙ e
+absent_passes other_members s q t c e = ap (λ o. option_or o (take_one s t)) (passed_by other_members s s q t c e) ∙ e
+absent_passes other_pairs s q t c e = ap (λ o. option_or o (take_one s t)) (passed_by other_pairs s s q t c e) ∙ e
 absent_passes declared_number s q t c e = not_declared declared_number (a_number ∷ []) s t refl (takes_no_equals s q t c e) ∙ e
 absent_passes declared_string s q t c e = not_declared declared_string (a_string ∷ []) s t refl (takes_no_equals s q t c e) ∙ e
-absent_passes (fields n) s q t c e = ap (λ o. or_else o (take_one s t)) (passed_by (fields n) s s q t c e) ∙ e
-absent_passes (other_fields n) s q t c e = ap (λ o. or_else o (take_one s t)) (passed_by (other_fields n) s s q t c e) ∙ e
-absent_passes (rows n) s q t c e = ap (λ o. or_else o (take_one s t)) (passed_by (rows n) s s q t c e) ∙ e
-absent_passes (other_rows n) s q t c e = ap (λ o. or_else o (take_one s t)) (passed_by (other_rows n) s s q t c e) ∙ e
-absent_passes (other_arms n) s q t c e = ap (λ o. or_else o (take_one s t)) (passed_by (other_arms n) s s q t c e) ∙ e
+absent_passes (fields n) s q t c e = ap (λ o. option_or o (take_one s t)) (passed_by (fields n) s s q t c e) ∙ e
+absent_passes (other_fields n) s q t c e = ap (λ o. option_or o (take_one s t)) (passed_by (other_fields n) s s q t c e) ∙ e
+absent_passes (rows n) s q t c e = ap (λ o. option_or o (take_one s t)) (passed_by (rows n) s s q t c e) ∙ e
+absent_passes (other_rows n) s q t c e = ap (λ o. option_or o (take_one s t)) (passed_by (other_rows n) s s q t c e) ∙ e
+absent_passes (other_arms n) s q t c e = ap (λ o. option_or o (take_one s t)) (passed_by (other_arms n) s s q t c e) ∙ e
 
 -- The machine goes on, symbol by symbol.
 
@@ -360,13 +361,13 @@ goes_there : (p : Part) (a s : List Symbol) (ts : List Token) → IsAmong a (con
 unfolding take_one
 goes_there p a s [] k g = goes_nothing (perhaps p ∷ s)
 goes_there p a s (t ∷ ts) k g =
-    goes_by (a ++ s) (perhaps p ∷ s) t ts (λ q e. ap (λ o. or_else o (take_one s t)) ((each (Lifts (contents p) s t) (contents p) (lifts_part p s t) a k).lifted q e)) g
+    goes_by (a ++ s) (perhaps p ∷ s) t ts (λ q e. ap (λ o. option_or o (take_one s t)) ((each (Lifts (contents p) s t) (contents p) (lifts_part p s t) a k).lifted q e)) g
 
 goes_again : (p : Part) (a s : List Symbol) (ts : List Token) → IsAmong a (contents p) → goes (a ++ (repeated p ∷ s)) ts ≡ true → goes (repeated p ∷ s) ts ≡ true
 unfolding take_one
 goes_again p a s [] k g = goes_nothing (repeated p ∷ s)
 goes_again p a s (t ∷ ts) k g =
-    goes_by (a ++ (repeated p ∷ s)) (repeated p ∷ s) t ts (λ q e. ap (λ o. or_else o (take_one s t)) ((each (Lifts (contents p) (repeated p ∷ s) t) (contents p) (lifts_part p (repeated p ∷ s) t) a k).lifted q e)) g
+    goes_by (a ++ (repeated p ∷ s)) (repeated p ∷ s) t ts (λ q e. ap (λ o. option_or o (take_one s t)) ((each (Lifts (contents p) (repeated p ∷ s) t) (contents p) (lifts_part p (repeated p ∷ s) t) a k).lifted q e)) g
 
 goes_past : (p : Part) (s : List Symbol) (ts : List Token) → Follows p s → goes s ts ≡ true → goes (perhaps p ∷ s) ts ≡ true
 unfolding take_one
@@ -376,7 +377,7 @@ goes_past p s (t ∷ ts) c g = goes_by s (perhaps p ∷ s) t ts (λ q e. absent_
 goes_out : (p : Part) (s : List Symbol) (ts : List Token) → Closes s → goes s ts ≡ true → goes (repeated p ∷ s) ts ≡ true
 unfolding take_one
 goes_out p s [] c g = goes_nothing (repeated p ∷ s)
-goes_out p s (t ∷ ts) c g = goes_by s (repeated p ∷ s) t ts (λ q e. ap (λ o. or_else o (take_one s t)) (passed_by p (repeated p ∷ s) s q t c e) ∙ e) g
+goes_out p s (t ∷ ts) c g = goes_by s (repeated p ∷ s) t ts (λ q e. ap (λ o. option_or o (take_one s t)) (passed_by p (repeated p ∷ s) s q t c e) ∙ e) g
 
 pub viable_goes : {s : List Symbol} {ts : List Token} → IsViablePrefix s ts → Fine s → goes s ts ≡ true
 viable_goes (no_tokens s) f = goes_nothing s

@@ -1,9 +1,10 @@
 -- Where the machine goes on, the tokens are a viable prefix.
 use Rattle.std.proofs.Common.{◌≡◌, true, false, List, [], ◌∷◌, ◌++◌, Option, Some, None, refl, sym, subst, ◌⊎◌, inl, inr}
+use Rattle.std.specs.Option.{option_or}
 use Rattle.program_tokens.specs.declared.token.Token.{Token}
 use Rattle.program_grammar.specs.Grammar.{mark, word, a_name, a_string, a_number, the_end, rule, perhaps, repeated, Symbol, contents, alternatives, IsAmong, IsViablePrefix, no_tokens, mark_first, word_first, name_first, string_first, number_first, end_first, rule_replaced, option_present, option_absent, repeated_once_more, repeated_no_more}
 use Rattle.program_grammar.specs.Reading.{is_mark, is_end}
-use Rattle.prefix_laws.proofs.Machine.{is_name, is_string, is_number, is_word, or_else, first_of, step, no_step, take_inside, take_one, goes}
+use Rattle.prefix_laws.proofs.Machine.{is_name, is_string, is_number, is_word, first_of, step, no_step, take_inside, take_one, goes}
 use Rattle.program_grammar.proofs.MarkTokens.{mark_is}
 use Rattle.prefix_laws.proofs.SymbolTokens.{nothing_there, word_is, chosen, name_is, string_is, number_is, end_is}
 
@@ -11,7 +12,7 @@ use Rattle.prefix_laws.proofs.SymbolTokens.{nothing_there, word_is, chosen, name
 abbrev Sound : (List Symbol → Token → Option (List Symbol)) → Type 0
 Sound f = (s : List Symbol) (t : Token) (q : List Symbol) (ts : List Token) → f s t ≡ Some q → IsViablePrefix q ts → IsViablePrefix s (t ∷ ts)
 
-or_either : (o other : Option (List Symbol)) (q : List Symbol) → or_else o other ≡ Some q → (o ≡ Some q) ⊎ (other ≡ Some q)
+or_either : (o other : Option (List Symbol)) (q : List Symbol) → option_or o other ≡ Some q → (o ≡ Some q) ⊎ (other ≡ Some q)
 or_either (Some a) other q e = inl e
 or_either None other q e = inr e
 

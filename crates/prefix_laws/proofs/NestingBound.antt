@@ -1,5 +1,6 @@
 -- In a prefix that the numbered grammar has, each type and each lens is inside fewer than 100 others, however the plain grammar derives it.
 use Rattle.std.proofs.Common.{◌≡◌, ℕ, zero, suc, ◌-◌, ◌<◌, true, false, List, [], ◌∷◌, ◌++◌, Option, Some, None, refl, sym, ap, subst, ◌∙◌, eqb, arith, inl, inr}
+use Rattle.std.specs.Option.{option_or}
 use Rattle.std.proofs.lemmas.Bool.{eq-eqb}
 use lib.IntN.{ℤ}
 use Rattle.program_tokens.specs.declared.keyword.Keyword.{Keyword}
@@ -11,7 +12,7 @@ use Rattle.program_tokens.specs.Words.{mark_byte}
 use Rattle.program_grammar.specs.Grammar.{Rule, program, type, lens, Part, definitions, other_members, other_pairs, declared_number, declared_string, fields, other_fields, rows, other_rows, other_arms, Symbol, mark, word, a_name, a_string, a_number, the_end, rule, perhaps, repeated, contents, alternatives, IsAmong}
 use Rattle.program_grammar.specs.PlainGrammar.{PlainRule, PlainPart, PlainSymbol, IsPlainPrefix, inside_rule, inside_part, first_depth, other_depths, depths_before, IsAllowed, IsNestedBelow}
 use Rattle.program_grammar.specs.PlainGrammar as plain
-use Rattle.prefix_laws.proofs.Machine.{code, or_else, take_inside, take_one, goes}
+use Rattle.prefix_laws.proofs.Machine.{code, take_inside, take_one, goes}
 use Rattle.prefix_laws.proofs.MachineCompleteness.{Closes, Follows, FollowsRule, Fine, Each, ◌also◌, each, fine_rule, fine_part, fine_again, Lifts, lifts_rule, lifts_part, passed_by, absent_passes, or_none}
 use Rattle.prefix_laws.proofs.InitialValues.{IsNotInitial, NoEquals, not_declared}
 use Rattle.prefix_laws.proofs.MachineSteps.{either_way}
@@ -82,16 +83,16 @@ rule_takes r a behind t q k e = (each (Lifts (alternatives r) behind t) (alterna
 
 perhaps_takes : (p : Part) (a behind : List Symbol) (t : Token) (q : List Symbol) → IsAmong a (contents p) → take_one (a ++ behind) t ≡ Some q → take_one (perhaps p ∷ behind) t ≡ Some q
 unfolding take_one
-perhaps_takes p a behind t q k e = ap (λ o. or_else o (take_one behind t)) ((each (Lifts (contents p) behind t) (contents p) (lifts_part p behind t) a k).lifted q e)
+perhaps_takes p a behind t q k e = ap (λ o. option_or o (take_one behind t)) ((each (Lifts (contents p) behind t) (contents p) (lifts_part p behind t) a k).lifted q e)
 
 repeated_takes : (p : Part) (a behind : List Symbol) (t : Token) (q : List Symbol) → IsAmong a (contents p) → take_one (a ++ (repeated p ∷ behind)) t ≡ Some q → take_one (repeated p ∷ behind) t ≡ Some q
 unfolding take_one
 repeated_takes p a behind t q k e =
-    ap (λ o. or_else o (take_one behind t)) ((each (Lifts (contents p) (repeated p ∷ behind) t) (contents p) (lifts_part p (repeated p ∷ behind) t) a k).lifted q e)
+    ap (λ o. option_or o (take_one behind t)) ((each (Lifts (contents p) (repeated p ∷ behind) t) (contents p) (lifts_part p (repeated p ∷ behind) t) a k).lifted q e)
 
 ended_takes : (p : Part) (behind : List Symbol) (t : Token) (q : List Symbol) → Closes behind → take_one behind t ≡ Some q → take_one (repeated p ∷ behind) t ≡ Some q
 unfolding take_one
-ended_takes p behind t q c e = ap (λ o. or_else o (take_one behind t)) (passed_by p (repeated p ∷ behind) behind q t c e) ∙ e
+ended_takes p behind t q c e = ap (λ o. option_or o (take_one behind t)) (passed_by p (repeated p ∷ behind) behind q t c e) ∙ e
 
 -- so takes what begins with such a symbol
 all_take : (a s : List PlainSymbol) (t : Token) (ts : List Token) → AllStart a → TakesFirst (a ++ s) (t ∷ ts) → (n : ℕ) (behind : List Symbol) → Takes (number_all n a ++ behind) t

@@ -1,5 +1,6 @@
 -- Programs, read beside the machine.
 use Rattle.std.proofs.Common.{◌≡◌, ℕ, zero, suc, ◌-◌, List, [], ◌∷◌, length, drop, Option, Some, None, Result, Ok, Err, refl, subst, ◌∙◌}
+use Rattle.std.specs.Option.{option_or}
 use Rattle.program_tokens.specs.declared.keyword.Keyword.{Keyword}
 use Rattle.program_tokens.specs.declared.keyword.Keyword.TheVariants as words
 use Rattle.program_tokens.specs.declared.mark.Mark.TheVariants.{Equals, Semicolon}
@@ -12,7 +13,7 @@ use Rattle.program_grammar.specs.declared.mention.Mention.{Mention}
 use Rattle.program_grammar.specs.Grammar.{Symbol, mark, word, a_name, the_end, rule, repeated, type, lens, definitions, program_and_end}
 use Rattle.program_grammar.specs.Mentions.{Point, NotedDefinition, NotedProgram}
 use Rattle.program_grammar.specs.Reading.{Read, ◌>>=◌, mark_at, token_value, name_in, name_from, name_at, type_at, lens_at, type_term_at, lens_term_at, definition_at, definitions_at, main_at, none_left, end_at, program_at}
-use Rattle.prefix_laws.proofs.Machine.{or_else, take_one, stop}
+use Rattle.prefix_laws.proofs.Machine.{take_one, stop}
 use Rattle.prefix_laws.proofs.MachineSteps.{through, Takes, Reads, takes_ok, takes_then, takes_mapped, takes_none, takes_first, takes_not, takes_as, stop_nothing}
 use Rattle.prefix_laws.proofs.TokenReading.{mark_takes}
 use Rattle.program_grammar.proofs.RestOfTokens.{drop_to_rest}
@@ -115,7 +116,7 @@ unfolding end_at
 end_takes [] = takes_none (the_end ∷ []) []
 end_takes (t ∷ ts) = end_by t.token t.at ts
 
-or_none : (o : Option (List Symbol)) → or_else o None ≡ o
+or_none : (o : Option (List Symbol)) → option_or o None ≡ o
 or_none (Some a) = refl
 or_none None = refl
 

@@ -1,6 +1,7 @@
 -- Unknown and repeated names. The definitions before one are a list of names, each with what it is defined as.
 -- Read it from the end: `first_fault`, then `first_after` and `first_unknown`.
 use Rattle.std.specs.Prelude.{ℕ, Bool, true, false, ◌&&◌, List, [], ◌∷◌, ◌++◌, Option, Some, None, bytes_eq, if◌then◌else◌}
+use Rattle.std.specs.Option.{option_or}
 use Rattle.std.specs.List.{list_any}
 use Rattle.program_terms.specs.Terms.{DefTree, type_def, lens_def, is_defined}
 use Rattle.program_grammar.specs.declared.mention.Sort.{Sort}
@@ -26,11 +27,6 @@ abbrev pub first_unknown : List (List ℕ × DefTree) → List Mention → Optio
 first_unknown earlier [] = None
 first_unknown earlier (m ∷ ms) = if is_known m earlier then first_unknown earlier ms else Some (Unknown m.at)
 
--- the first of two faults, where there is one
-abbrev pub or_else : Option NameFault → Option NameFault → Option NameFault
-or_else (Some fault) other = Some fault
-or_else None other = other
-
 -- The first fault of the definitions behind the earlier ones, and of the names that the main lens mentions, in written order: a
 -- defined name that an earlier definition of either sort has, or a name mentioned that is unknown there. A definition is not in
 -- scope in its own body.
@@ -38,7 +34,7 @@ abbrev pub first_after : List (List ℕ × DefTree) → List NotedDefinition →
 first_after earlier [] main = first_unknown earlier main
 first_after earlier (d ∷ ds) main =
     if is_defined d.name earlier then Some (Repeated d.at)
-    else or_else (first_unknown earlier d.mentions) (first_after (earlier ++ definition_without_notes d ∷ []) ds main)
+    else option_or (first_unknown earlier d.mentions) (first_after (earlier ++ definition_without_notes d ∷ []) ds main)
 
 -- the first fault of a program
 abbrev pub first_fault : NotedProgram → Option NameFault

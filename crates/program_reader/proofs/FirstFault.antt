@@ -1,5 +1,6 @@
 -- The first fault as the code finds it, by looking up the definition with a name, is the first fault of the names.
 use Rattle.std.proofs.Common.{◌≡◌, ℕ, Bool, true, false, true≢false, cond, ◌&&◌, ◌||◌, List, [], ◌∷◌, ◌++◌, bytes_eq, Option, Some, None, is_some, refl, sym, ap, ◌∙◌}
+use Rattle.std.specs.Option.{option_or}
 use Rattle.std.proofs.lemmas.Cmp.{nat_list_eq_equiv}
 use Rattle.std.proofs.lemmas.List.Folds.{list_any-append}
 use Rattle.std.proofs.lemmas.Slice.Eq.{bytes_eq-Decides}
@@ -8,7 +9,7 @@ use Rattle.program_grammar.specs.declared.mention.Sort.{Sort}
 use Rattle.program_grammar.specs.declared.mention.Mention.{Mention}
 use Rattle.program_grammar.specs.declared.mention.NameFault.TheVariants.{Unknown, Repeated}
 use Rattle.program_grammar.specs.Mentions.{NotedDefinition, NotedProgram, definition_without_notes}
-use Rattle.program_grammar.specs.Names.{is_of, is_known, first_unknown, or_else, first_after, first_fault}
+use Rattle.program_grammar.specs.Names.{is_of, is_known, first_unknown, first_after, first_fault}
 use Rattle.program_reader.specs.Known.{is_wanted, is_known_among, first_unknown_among, first_fault_among}
 
 -- the same names are known by looking up the definition with the name, and by looking for one of the wanted sort
@@ -81,12 +82,12 @@ fault_same ds (d ∷ rest) main same = by (is_defined d.name ds) refl (fault_sam
   where
     by : (b : Bool) → is_defined d.name ds ≡ b
         → (SameNames (ds ++ definition_without_notes d ∷ []) → first_fault_among (ds ++ definition_without_notes d ∷ []) rest main ≡ first_after (ds ++ definition_without_notes d ∷ []) rest main)
-        → or_else (cond b (Some (Repeated d.at)) (first_unknown_among ds d.mentions)) (first_fault_among (ds ++ definition_without_notes d ∷ []) rest main)
-        ≡ cond b (Some (Repeated d.at)) (or_else (first_unknown ds d.mentions) (first_after (ds ++ definition_without_notes d ∷ []) rest main))
+        → option_or (cond b (Some (Repeated d.at)) (first_unknown_among ds d.mentions)) (first_fault_among (ds ++ definition_without_notes d ∷ []) rest main)
+        ≡ cond b (Some (Repeated d.at)) (option_or (first_unknown ds d.mentions) (first_after (ds ++ definition_without_notes d ∷ []) rest main))
     by true is others = refl
     by false is others =
-        ap (λ fault. or_else fault (first_fault_among (ds ++ definition_without_notes d ∷ []) rest main)) (unknown_same ds same d.mentions)
-        ∙ ap (λ fault. or_else (first_unknown ds d.mentions) fault) (others (same_push ds (definition_without_notes d) same is))
+        ap (λ fault. option_or fault (first_fault_among (ds ++ definition_without_notes d ∷ []) rest main)) (unknown_same ds same d.mentions)
+        ∙ ap (λ fault. option_or (first_unknown ds d.mentions) fault) (others (same_push ds (definition_without_notes d) same is))
 
 pub first_fault_same : (p : NotedProgram) → first_fault_among [] p.definitions p.mentions ≡ first_fault p
 first_fault_same p = fault_same [] p.definitions p.mentions (λ m. refl)

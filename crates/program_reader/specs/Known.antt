@@ -1,12 +1,13 @@
 -- Unknown and repeated names, computed from the definitions alone, as the code finds them. Read it from the end: `first_fault_among`, then `definition_fault`.
 use Rattle.std.specs.Prelude.{ℕ, Bool, false, List, [], ◌∷◌, ◌++◌, Option, Some, None, Result, Ok, Err, if◌then◌else◌}
+use Rattle.std.specs.Option.{option_or}
 use Rattle.program_terms.specs.Terms.{DefTree, def_named, is_defined}
 use Rattle.program_grammar.specs.declared.mention.Sort.{Sort}
 use Rattle.program_grammar.specs.declared.mention.Mention.{Mention}
 use Rattle.program_grammar.specs.declared.mention.NameFault.{NameFault}
 use Rattle.program_grammar.specs.declared.mention.NameFault.TheVariants.{Unknown, Repeated}
 use Rattle.program_grammar.specs.Mentions.{NotedDefinition, definition_without_notes}
-use Rattle.program_grammar.specs.Names.{is_of, or_else}
+use Rattle.program_grammar.specs.Names.{is_of}
 
 -- a definition was found, and it is of this sort
 abbrev pub is_wanted : Sort → Option DefTree → Bool
@@ -29,7 +30,7 @@ definition_fault earlier d = if is_defined d.name earlier then Some (Repeated d.
 -- the first fault of definitions behind the earlier ones, and of the names that the main lens mentions
 abbrev pub first_fault_among : List (List ℕ × DefTree) → List NotedDefinition → List Mention → Option NameFault
 first_fault_among earlier [] main = first_unknown_among earlier main
-first_fault_among earlier (d ∷ ds) main = or_else (definition_fault earlier d) (first_fault_among (earlier ++ definition_without_notes d ∷ []) ds main)
+first_fault_among earlier (d ∷ ds) main = option_or (definition_fault earlier d) (first_fault_among (earlier ++ definition_without_notes d ∷ []) ds main)
 
 -- a fault as an error
 abbrev pub or_fault : Option NameFault → Result (Unit {0}) NameFault

@@ -1,6 +1,7 @@
 -- Whether the names of a program are good is said by the program: how it is spelled does not count.
 use Rattle.std.proofs.Common.{◌≡◌, ℕ, Bool, true, false, cond, not, ◌&&◌, List, [], ◌∷◌, ◌++◌, map, bytes_eq, Option, Some, None, refl, sym, ap, ◌∙◌}
 use Rattle.std.specs.Prelude.{is_none}
+use Rattle.std.specs.Option.{option_or}
 use Rattle.std.specs.List.{list_any}
 use Rattle.program_tokens.specs.declared.token.PlacedToken.{PlacedToken}
 use Rattle.program_terms.specs.Terms.{DefTree, ProgramTree, is_defined}
@@ -9,7 +10,7 @@ use Rattle.program_grammar.specs.declared.mention.Mention.{Mention}
 use Rattle.program_grammar.specs.declared.mention.NameFault.{NameFault}
 use Rattle.program_grammar.specs.declared.mention.NameFault.TheVariants.{Unknown, Repeated}
 use Rattle.program_grammar.specs.Mentions.{NotedDefinition, NotedProgram, definition_without_notes, without_notes}
-use Rattle.program_grammar.specs.Names.{is_of, is_known, first_unknown, or_else, first_after, first_fault}
+use Rattle.program_grammar.specs.Names.{is_of, is_known, first_unknown, first_after, first_fault}
 use Rattle.program_grammar.specs.Spelling.{AreDefinitions, IsProgram}
 use Rattle.program_writing.proofs.MentionedNames.{unplaced, def_names, lens_names, definition_names, main_names}
 
@@ -39,7 +40,7 @@ unknown : (earlier : List (List ℕ × DefTree)) (ms : List Mention) → is_none
 unknown earlier [] = refl
 unknown earlier (m ∷ ms) = is_none-cond (is_known m earlier) (Unknown m.at) (first_unknown earlier ms) ∙ ap (λ b. is_known m earlier && b) (unknown earlier ms)
 
-neither : (b : Bool) (fault : NameFault) (o p : Option NameFault) → is_none (cond b (Some fault) (or_else o p)) ≡ (not b && (is_none o && is_none p))
+neither : (b : Bool) (fault : NameFault) (o p : Option NameFault) → is_none (cond b (Some fault) (option_or o p)) ≡ (not b && (is_none o && is_none p))
 neither true fault o p = refl
 neither false fault None p = refl
 neither false fault (Some f) p = refl
