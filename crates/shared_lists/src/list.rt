@@ -21,7 +21,7 @@ use std::rc::Rc;
 /// nothing but the cost rests on the heights.
 #[derive(Drop)]
 pub struct SharedList<T> {
-    root: Option<Root<T>>,
+    pub(crate) root: Option<Root<T>>,
 }
 
 impl<T> Model for SharedList<T> {

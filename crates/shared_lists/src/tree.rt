@@ -85,6 +85,16 @@ impl<T> Tree<T> {
         }
     }
 
+    /// The first item.
+    pub(crate) fn first(&self) -> &T
+        ensures { slice_get self.now 0 ≡ Some result.now }
+    {
+        match &self.node {
+            Node::Chunk(items) => &items[0],
+            Node::Join(left, _, _, _, _) => left.first(),
+        }
+    }
+
     /// The items from a place on that are in the chunk of the item at that place.
     #[tactic(auto, using(crate::proofs::ChunkedLists::chunk_rules))]
     pub(crate) fn chunk_from(&self, place: usize) -> &[Rc<T>]
