@@ -9,7 +9,7 @@ use std::marker::Model;
 use std::rc::Rc;
 
 /// How many items a chunk has at most.
-pub(crate) const CHUNK: usize = 32;
+pub(crate) const CHUNK: usize = 16;
 
 #[cycle(tree)]
 #[derive(Drop)]
