@@ -1,5 +1,6 @@
 mod Examples
 pub mod MovedDepths
+pub mod NameEdges
 pub mod Nodes
 pub mod OldPlaces
 pub mod Pieces

@@ -1,8 +1,8 @@
 //! Keys in byte order: a test of the order, the place of a key, and the place for a new one.
 ghost use Rattle.std.specs.Prelude.{◌≡◌, ◌↔◌, ◌<◌, ◌≤◌, length, slice_index_or, IfSome, IsTrue, true};
-ghost use Rattle.texts.specs.Keys.{is_rising, key_place, rank};
+ghost use Rattle.texts.specs.Keys.{is_before, is_rising, key_place, rank};
 
-use shared_lists::SharedList;
+use shared_lists::{SharedList, Test};
 use texts::Name;
 
 // The name at a place.
@@ -50,26 +50,29 @@ pub(crate) fn place(names: &SharedList<Name>, name: &Name) -> Option<u64>
     }
 }
 
+// The test whether a name is before another one.
+#[derive(Clone, Copy)]
+struct BeforeName<'a> {
+    name: &'a Name,
+}
+
+impl<'a> Test<Name> for BeforeName<'a> {
+    ghost test = { λ before item. is_before item before.name.now };
+
+    fn passes(&self, item: &Name) -> bool {
+        item.is_before(self.name)
+    }
+}
+
 /// How many of these names in byte order are before a name: the place that a new one takes.
 ///
 /// Does not allocate. It compares some log n names, where n is how many there are.
-#[tactic(auto, using(texts::proofs::KeyOrder::search_rules))]
 pub(crate) fn rank(names: &SharedList<Name>, name: &Name) -> usize
     requires { is_rising names.now ≡ true }
     ensures value { result ≡ rank name.now names.now }
     ensures within { result ≤ length names.now }
 {
-    let mut low = 0;
-    let mut high = names.len();
-    while low < high {
-        let middle = low + (high - low) / 2;
-        if name_at(names, middle).is_before(name) {
-            low = middle + 1;
-        } else {
-            high = middle;
-        }
-    }
-    low
+    names.edge(&BeforeName { name })
 }
 
 /// Whether both lists have the same names in the same order. Does not allocate.

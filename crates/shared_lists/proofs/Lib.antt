@@ -1,3 +1,4 @@
 pub mod AsBox
 pub mod ChunkedLists
+pub mod Edges
 pub mod SplicedLists

@@ -1,3 +1,4 @@
+pub mod Edges
 pub mod Items
 pub mod ListItems
 pub mod Nodes

@@ -6,11 +6,13 @@
 #![tactic(auto)]
 
 mod balance;
+mod edge;
 pub mod iter;
 pub mod list;
 mod root;
 mod splices;
 mod tree;
 
+pub use crate::edge::Test;
 pub use crate::iter::Iter;
 pub use crate::list::SharedList;

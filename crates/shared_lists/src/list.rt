@@ -15,13 +15,13 @@ use std::rc::Rc;
 ///
 /// Contracts see it as the list of its items. An edit that runs out of memory leaves the list as it was.
 ///
-/// The items are in chunks of at most 32, and the chunks are the leaves of a balanced tree. Dropping the last
+/// The items are in chunks of at most 16, and the chunks are the leaves of a balanced tree. Dropping the last
 /// list that owns a tree recurses as deep as the tree is high: at most about 1.44 times the binary logarithm
 /// of the number of chunks, so fewer than 40 levels for a hundred million items. No contract says so, since
 /// nothing but the cost rests on the heights.
 #[derive(Drop)]
 pub struct SharedList<T> {
-    root: Option<Root<T>>,
+    pub(crate) root: Option<Root<T>>,
 }
 
 impl<T> Model for SharedList<T> {

@@ -10,7 +10,7 @@ use std::alloc::{AllocError, Global};
 use std::rc::Rc;
 
 /// How many items a chunk of a longer `Vec` gets: fewer than a chunk may have, so that some can be put in.
-const FILL: usize = 24;
+const FILL: usize = 12;
 
 /// A tree of the items of a `Vec`, which are moved into its chunks.
 #[tactic(auto, using(crate::proofs::ChunkedLists::push_rules))]

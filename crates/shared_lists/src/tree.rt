@@ -9,7 +9,7 @@ use std::marker::Model;
 use std::rc::Rc;
 
 /// How many items a chunk has at most.
-pub(crate) const CHUNK: usize = 32;
+pub(crate) const CHUNK: usize = 16;
 
 #[cycle(tree)]
 #[derive(Drop)]
@@ -82,6 +82,16 @@ impl<T> Tree<T> {
                     right.get(place - *middle)
                 }
             }
+        }
+    }
+
+    /// The first item.
+    pub(crate) fn first(&self) -> &T
+        ensures { slice_get self.now 0 ≡ Some result.now }
+    {
+        match &self.node {
+            Node::Chunk(items) => &items[0],
+            Node::Join(left, _, _, _, _) => left.first(),
         }
     }
 
