@@ -6,10 +6,14 @@ ghost use Rattle.answer_text.specs.Lines.{ok_line, no_apply_line, fault_line};
 
 use crate::words::{bytes_of, cause_text, fault_text};
 use edit_journal::{EntryFault, side_text};
-use edit_json::write_word_text;
+use edit_json::append_word;
 use edit_module::{Cause, Word};
+use itoa::Buffer;
 use std::alloc::{AllocError, Global};
 use texts::{Bytes, Side};
+
+// The bytes of most answers, for which room is made at once.
+const USUAL: usize = 128;
 
 /// `ok N SIDE WORD` and a line feed: the entry with this number was accepted, and translated to this
 /// word of this side. The word is written as compact JSON.
@@ -20,10 +24,16 @@ pub fn ok_line(alloc: Global, number: u64, side: Side, word: &Word) -> Result<By
     requires counts_fit { counts_fit (word_tree word.now) ≡ true }
     ensures line { IfOk result (λ line. line ≡ ok_line number side (word_tree word.now)) }
 {
-    let side = side_text(side);
-    let word = write_word_text(alloc, word)?;
-    let line = format!(in alloc; "ok {number} {side} {word}\n")?;
-    Ok(bytes_of(line))
+    let mut digits = Buffer::new();
+    let mut line = Vec::with_capacity(alloc, USUAL)?;
+    line.extend_from_slice(b"ok ")?;
+    line.extend_from_slice(digits.format(number).as_bytes())?;
+    line.extend_from_slice(b" ")?;
+    line.extend_from_slice(side_text(side).as_bytes())?;
+    line.extend_from_slice(b" ")?;
+    let mut line = append_word(line, word)?;
+    line.extend_from_slice(b"\n")?;
+    Ok(Bytes::from_vec(line))
 }
 
 /// `refused N no-apply AT CAUSE` and a line feed: in the entry with this number the primitive with

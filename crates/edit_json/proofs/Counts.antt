@@ -8,7 +8,7 @@ use Rattle.edit_module.specs.declared.word.Primitive.{Primitive}
 use Rattle.edit_json.specs.WordJson.{primitive_counts_fit, counts_fit}
 
 -- what is left begins with the primitive at the index
-left_primitives : (ps : List Primitive) (i : ℕ) (p : Primitive) → i < length ps → p ≡ get_or ps i p → drop i ps ≡ p ∷ drop (i + 1) ps
+pub left_primitives : (ps : List Primitive) (i : ℕ) (p : Primitive) → i < length ps → p ≡ get_or ps i p → drop i ps ≡ p ∷ drop (i + 1) ps
 left_primitives ps i p within is = rw (add-one, drop-cons ps i p within) (ap (λ x. x ∷ drop (suc i) ps) (sym is))
 
 fits_first : (p b : Bool) → p ≡ true → (p && b) ≡ b

@@ -8,3 +8,4 @@ pub mod Shapes
 pub mod ReadingHasTree
 pub mod Writing
 pub mod TreesDiffer
+pub mod Tokens

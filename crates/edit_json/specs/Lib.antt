@@ -4,3 +4,4 @@ pub mod Values
 pub mod WordJson
 pub mod Depths
 pub mod Reading
+pub mod Tokens

@@ -6,6 +6,7 @@
 //! no tree, which `has_tree` tests. The page docs/FORMATS.md has the forms with examples.
 #![tactic(auto)]
 
+pub mod compact;
 pub mod fault;
 pub mod fits;
 pub mod kind;
@@ -17,6 +18,7 @@ pub mod text;
 mod values;
 pub mod write;
 
+pub use crate::compact::append_word;
 pub use crate::fault::EditFault;
 pub use crate::fits::has_tree;
 pub use crate::read::read_word;

@@ -5,6 +5,7 @@ pub mod Arms
 pub mod EmittedWords
 pub mod LawsOfAlternatives
 pub mod LawsOfRecords
+pub mod NilPlaces
 pub mod RecordRounds
 pub mod RecordRows
 pub mod RowSearch

@@ -1,11 +1,11 @@
 //! Translating one primitive through a record, round the translation of the lens inside.
 
-ghost use Rattle.std.specs.Prelude.{◌≡◌, ◌+◌, ◌<◌, ◌≤◌, IfOk, MatchOption, MatchResult, Some, option_map};
+ghost use Rattle.std.specs.Prelude.{◌≡◌, ◌+◌, ◌<◌, ◌≤◌, IfOk, IsTrue, MatchOption, MatchResult, Some, option_map};
 ghost use Rattle.edit_module.specs.Views.{primitive_tree, word_tree};
 ghost use Rattle.edit_module.specs.Words.{no_primitives};
 ghost use Rattle.lens_forms.specs.Forms.{form_tree, row_tree, row_list, rows_tree, paired_rows};
 ghost use Rattle.lens_forms.specs.Measures.{form_parts, rows_parts};
-ghost use Rattle.lens_core.specs.Complements.{comp_tree, comps_tree, comp_count, rec_comp};
+ghost use Rattle.lens_core.specs.Complements.{comp_tree, comps_tree, comp_count, rec_comp, nil};
 ghost use Rattle.lens_core.specs.Emitted.{at_word};
 ghost use Rattle.lens_core.specs.Sides.{far};
 ghost use Rattle.lens_core.specs.Translation.{carried_tree, put_comp};
@@ -103,14 +103,28 @@ pub fn rec_finish(
     }
 }
 
-// The complements of a record with another one at a place.
+// The complements of a record with another one at a place. One that keeps nothing, as the one before it, changes nothing.
+#[tactic(auto, using(crate::proofs::NilPlaces::put_nil))]
 fn with_comp(alloc: Global, comps: &Comps, place: usize, comp: Comp) -> Result<Comp, AllocError>
     requires { place < comp_count (comps_tree comps.now) }
     ensures { IfOk result (λ c. comp_tree c ≡ rec_comp (put_comp (comps_tree comps.now) place (comp_tree comp))) }
 {
-    let mut comps = comps.twin(alloc)?;
-    comps.set(alloc, place, comp)?;
-    Ok(Comp::Rec(comps))
+    let mut copy = comps.twin(alloc)?;
+    if are_nil(comps.get(place), &comp) {
+        return Ok(Comp::Rec(copy));
+    }
+    copy.set(alloc, place, comp)?;
+    Ok(Comp::Rec(copy))
+}
+
+// Whether both complements are Nil.
+fn are_nil(first: &Comp, second: &Comp) -> bool
+    ensures { IsTrue result → (comp_tree first.now ≡ nil) × (comp_tree second.now ≡ nil) }
+{
+    match (first, second) {
+        (Comp::Nil, Comp::Nil) => true,
+        _ => false,
+    }
 }
 
 /// The lens of the paired row of a number, which is counted from 0 among the paired rows, or `None` where there are

@@ -44,9 +44,14 @@ pub(crate) fn carry_word(
         (λ r. translate (form_tree form.now) side (comp_tree comp.now) (word_tree word.now) ≡ Some (carried_tree r))
         (IsCarryFault (translate (form_tree form.now) side (comp_tree comp.now) (word_tree word.now))) }
 {
+    let primitives = word.as_slice();
+    if primitives.len() == 1 {
+        // Most words have one primitive, behind which there is nothing to join.
+        return carry_one(alloc, form, side, comp, &primitives[0]);
+    }
     let mut carried = Word::from_vec(Vec::new(alloc));
     let mut current = comp.twin(alloc)?;
-    for primitive in word.as_slice() {
+    for primitive in primitives {
         let next = carry_one(alloc, form, side, &current, primitive)?;
         carried = carried.joined(next.word)?;
         current = next.comp;

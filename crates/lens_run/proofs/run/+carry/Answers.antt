@@ -1,5 +1,6 @@
 use Rattle.std.proofs.Common.{◌≡◌, Some, ◌∙◌, sym, arith}
 use Rattle.std.proofs.lemmas.Result.{err_from_is_err_and}
+use Rattle.lens_run.proofs.OnePrimitive.{one_carried}
 use Rattle.edit_module.specs.Views.{primitive_tree, word_tree}
 use Rattle.lens_forms.specs.Forms.{form_tree, rows_tree, arms_tree}
 use Rattle.lens_core.specs.Complements.{comp_tree, comps_tree, then_comp, rec_comp, alt_comp}
@@ -16,14 +17,19 @@ pub carry_word-loop-primitive-preserved : goal.carry_word-loop-primitive-preserv
 carry_word-loop-primitive-preserved t c =
     rw c.in_ok-carried.ensures
     (sym (next_done (form_tree c.args.form.now) c.args.side (comp_tree c.loop-primitive.current) (comp_tree c.in_ok-next.next.comp) (word_tree c.loop-primitive.carried) (word_tree c.in_ok-next.next.word)
-    c.as_slice-primitive-items.result.now c.loop-primitive.primitive-index c.primitive-item.result (omega arith) c.primitive-item.is c.in_ok-next.ensures)
+    c.as_slice-primitives.result.now c.loop-primitive.primitive-index c.primitive-item.result (omega arith) c.primitive-item.is c.in_ok-next.ensures)
     ∙ c.loop-primitive.invariant)
+
+pub carry_word-returns-then-primitives-eq1 : goal.carry_word-returns-then-primitives-eq1
+carry_word-returns-then-primitives-eq1 t c =
+    one_carried c.carry_one.result (form_tree c.args.form.now) c.args.side (comp_tree c.args.comp.now) (word_tree c.args.word.now) c.as_slice-primitives.result.now c.index-primitives-0.result c.if-primitives-eq1.true c.index-primitives-0.is
+    c.as_slice-primitives.ensures c.carry_one.ensures
 
 pub carry_word-returns : goal.carry_word-returns
 carry_word-returns t c =
-    rw (← c.as_slice-primitive-items.ensures)
+    rw (← c.as_slice-primitives.ensures)
     (sym c.loop-primitive.invariant
-    ∙ all_done (form_tree c.args.form.now) c.args.side (comp_tree c.loop-primitive.current) (word_tree c.loop-primitive.carried) c.as_slice-primitive-items.result.now c.loop-primitive.primitive-index (omega arith))
+    ∙ all_done (form_tree c.args.form.now) c.args.side (comp_tree c.loop-primitive.current) (word_tree c.loop-primitive.carried) c.as_slice-primitives.result.now c.loop-primitive.primitive-index (omega arith))
 
 pub carry_then-returns-in_err-far-in-Left : goal.carry_then-returns-in_err-far-in-Left
 carry_then-returns-in_err-far-in-Left t c =

@@ -34,5 +34,5 @@ decreases-carry_held l = 4 * form_parts (form_tree l.inner.now) + 3
 
 abbrev pub invariant-carry_word-loop-primitive : goal.invariant-carry_word-loop-primitive
 invariant-carry_word-loop-primitive l =
-    left_to_do (form_tree l.form) l.side (comp_tree l.current) (word_tree l.carried) l.primitive-items l.primitive-index
-    ≡ translate (form_tree l.form) l.side (comp_tree l.comp) (word_of (map primitive_tree l.primitive-items))
+    left_to_do (form_tree l.form) l.side (comp_tree l.current) (word_tree l.carried) l.primitives l.primitive-index
+    ≡ translate (form_tree l.form) l.side (comp_tree l.comp) (word_of (map primitive_tree l.primitives))
