@@ -1,11 +1,12 @@
 -- The arm of a left tag, as the code looks it up, and what holds of its lens.
-use Rattle.std.proofs.Common.{◌≡◌, ◌⊎◌, inl, inr, ℕ, ◌+◌, ◌<◌, ◌≤◌, Bool, true, false, not, ◌||◌, cond, List, [], ◌∷◌, length, map, drop, drop-cons, get_or, add-one, Option, None, Some, IsTrue, refl, sym, ap, subst, arith}
+use Rattle.std.proofs.Common.{◌≡◌, ◌⊎◌, inl, inr, ℕ, ◌+◌, ◌<◌, ◌≤◌, Bool, true, false, not, ◌||◌, cond, List, length, map, drop, drop-cons, get_or, add-one, Option, None, Some, IsTrue, refl, sym, ap, subst, arith}
 use Rattle.std.specs.Prelude.{bytes_eq}
 use Rattle.std.proofs.lemmas.List.{drop_all}
 use Rattle.texts.specs.Keys.{has_name}
 use Rattle.texts.proofs.Conjunction.{first, second}
 use Rattle.value_json.proofs.Facts.{equal_bytes, same_bytes}
 use Rattle.doc_values.specs.Types.{are_distinct, are_choices}
+use Rattle.doc_values.proofs.DistinctNames.{are_choices-distinct}
 use Rattle.lens_forms.specs.Forms.{FormTree, form_alt, ArmTrees, no_arms, more_arms, form_arms_of, arm_tree, form_tree}
 use Rattle.lens_forms.specs.Typing.{is_typed, are_typed_arms, left_arms}
 use Rattle.lens_forms.specs.Measures.{form_parts, arms_parts}
@@ -106,16 +107,12 @@ pub arm_tree_is : (t : List ℕ) (arms : ArmTrees) (l : FormTree) (c : CompTree)
 arm_tree_is t no_arms l c e = cc
 arm_tree_is t (more_arms a b m arms) l c e = tree_step l m c (arm_with arms t) (tree_in_arm arms t c) (bytes_eq a t) e (λ s. arm_tree_is t arms l c s)
 
-pub distinct_choices : (ns : List (List ℕ)) → are_choices ns ≡ true → are_distinct ns ≡ true
-distinct_choices [] h = cc
-distinct_choices (n ∷ ns) h = h
-
 pub arm_is_there : (arms : ArmTrees) (t : List ℕ) (c : CompTree) → Fits (form_alt arms) (alt_comp t c) → arm_with arms t ≡ None → ⊥
 arm_is_there arms t c h e = there t arms c e h
 
 pub arm_fits : (arms : ArmTrees) (t : List ℕ) (c : CompTree) (l : FormTree) → IsTrue (is_typed (form_alt arms)) → Fits (form_alt arms) (alt_comp t c) → arm_with arms t ≡ Some l → Fits l c
 arm_fits arms t c l d h e =
-    fits t arms c l (distinct_choices (left_arms arms) (first (are_choices (left_arms arms)) _ (second (are_typed_arms arms) _ d))) e h
+    fits t arms c l (are_choices-distinct (left_arms arms) (first (are_choices (left_arms arms)) _ (second (are_typed_arms arms) _ d))) e h
 
 pub arm_typed : (arms : ArmTrees) (t : List ℕ) (l : FormTree) → IsTrue (is_typed (form_alt arms)) → arm_with arms t ≡ Some l → IsTrue (is_typed l)
 arm_typed arms t l d e = typed t arms l (first (are_typed_arms arms) _ d) e

@@ -1,5 +1,5 @@
 -- Reading the paired rows of a record: a complement for each, in written order.
-use Rattle.std.proofs.Common.{◌≡◌, ◌≢◌, ℕ, zero, suc, ◌+◌, ◌<◌, ◌≤◌, ◌&&◌, true, List, [], ◌∷◌, ◌++◌, map, drop, length, get_or, IsTrue, sym, ap, ap₂, subst, ◌∙◌, arith}
+use Rattle.std.proofs.Common.{◌≡◌, ◌≢◌, ℕ, zero, suc, ◌+◌, ◌<◌, ◌≤◌, ◌&&◌, true, List, [], ◌∷◌, ◌++◌, map, drop, length, get_or, IsTrue, sym, ap, ap₂, subst, arith}
 use Rattle.std.proofs.lemmas.List.{drop_all}
 use Rattle.texts.proofs.Conjunction.{first, second}
 use Rattle.serde_json.specs.Data.{Data, Items, no_items, item}
@@ -7,17 +7,17 @@ use Rattle.serde_json.specs.View.{view, items_view}
 use Rattle.serde_json.specs.declared.value.Value.{Value}
 use Rattle.doc_values.specs.Types.{ty_tree, is_well_formed}
 use Rattle.doc_values.specs.declared.ty.Ty.{Ty}
-use Rattle.lens_forms.specs.Forms.{FormTree, form_tree, RowTrees, no_rows, both, row_tree, form_rows_of, with_row}
+use Rattle.lens_forms.specs.Forms.{FormTree, form_tree, RowTrees, no_rows, both, row_tree, form_rows_of}
 use Rattle.lens_forms.specs.Typing.{is_typed, are_typed_rows}
 use Rattle.lens_forms.specs.declared.form.Form.{Form}
 use Rattle.lens_forms.specs.declared.form.FormRow.{FormRow}
 use Rattle.lens_forms.specs.declared.form.FormRow.TheVariants.{Both, OnlyLeft, OnlyRight}
+use Rattle.lens_forms.proofs.TreesOfRows.{rows_from, next_both, next_left, next_right}
 use Rattle.lens_core.specs.Complements.{CompTree, CompTrees, no_comps, more_comps, comps_of}
 use Rattle.complement_file.specs.ComplementJson.{tree_of_complement, row_items}
 use Rattle.complement_file.specs.Reading.{IsComplement, AreRows}
 use Rattle.complement_file.proofs.ReadSoFar.{CompsRead, no_comps_yet, next_comp, all_comps, none_left, then_comps}
 use Rattle.complement_file.proofs.ReadPlaces.{items_next, items_end}
-use Rattle.complement_file.proofs.Rows.{rows_from, rows_next, next_both, row_tree-left, row_tree-right}
 
 -- ---- one more paired row
 
@@ -99,7 +99,7 @@ module _ (rows : List FormRow) (vs : List Value) (i n : ℕ) (cs : List CompTree
 pub left_skipped : (rows : List FormRow) (vs : List Value) (i n : ℕ) (cs : List CompTree) (r : FormRow) (a : List ℕ) (t : Ty) → i < length rows → r ≡ get_or rows i r → r ≡ OnlyLeft a t
     → RowsRead rows vs i n cs → RowsRead rows vs (i + 1) n cs
 left_skipped rows vs i n cs r a t h is row so_far =
-    let e = rows_next rows i r h is ∙ ap (λ q. with_row q (rows_from rows (i + 1))) (ap row_tree row ∙ row_tree-left a t) in
+    let e = next_left rows i r a t h is row in
     record {
       read = subst (λ rs. CompsRead (AreRows (form_rows_of (map row_tree rows)) (items_view vs)) (AreRows rs (items_view (drop n vs))) cs) e so_far.read;
       typed = second (is_well_formed (ty_tree t)) _ (subst (λ rs. are_typed_rows rs ≡ true) e so_far.typed);
@@ -109,7 +109,7 @@ left_skipped rows vs i n cs r a t h is row so_far =
 pub right_skipped : (rows : List FormRow) (vs : List Value) (i n : ℕ) (cs : List CompTree) (r : FormRow) (b : List ℕ) (t : Ty) → i < length rows → r ≡ get_or rows i r → r ≡ OnlyRight b t
     → RowsRead rows vs i n cs → RowsRead rows vs (i + 1) n cs
 right_skipped rows vs i n cs r b t h is row so_far =
-    let e = rows_next rows i r h is ∙ ap (λ q. with_row q (rows_from rows (i + 1))) (ap row_tree row ∙ row_tree-right b t) in
+    let e = next_right rows i r b t h is row in
     record {
       read = subst (λ rs. CompsRead (AreRows (form_rows_of (map row_tree rows)) (items_view vs)) (AreRows rs (items_view (drop n vs))) cs) e so_far.read;
       typed = second (is_well_formed (ty_tree t)) _ (subst (λ rs. are_typed_rows rs ≡ true) e so_far.typed);

@@ -1,5 +1,5 @@
 -- Reading the tags of a partition's complement: the number of a name.
-use Rattle.std.proofs.Common.{◌≡◌, ℕ, zero, suc, ◌+◌, ◌<◌, ◌≤◌, Bool, true, false, cond, bytes_eq, List, [], ◌∷◌, ◌++◌, Option, Some, None, option_map, refl, sym, ap, ap₂, subst, ◌∙◌, arith}
+use Rattle.std.proofs.Common.{◌≡◌, ℕ, zero, suc, ◌+◌, ◌<◌, Bool, true, false, cond, bytes_eq, List, [], ◌∷◌, ◌++◌, Option, Some, None, option_map, refl, sym, ap, ap₂, subst, ◌∙◌, arith}
 use Rattle.std.specs.Prelude.{nat_lt}
 use Rattle.std.proofs.lemmas.Bool.Decides.{nat_tests}
 use Rattle.texts.proofs.Conjunction.{both, first, second}
@@ -9,7 +9,6 @@ use Rattle.tag_seq.specs.Tags.{are_below}
 use Rattle.value_json.proofs.Facts.{equal_bytes, same_bytes}
 use Rattle.doc_values.specs.Types.{TyTree, FieldTrees, no_fields, more_fields}
 use Rattle.doc_values.specs.Typing.{lookup_field, later_field}
-use Rattle.lens_forms.specs.Measures.{fields_parts}
 use Rattle.lens_core.specs.Tags.{tag_count, tag_name}
 use Rattle.complement_file.specs.ComplementJson.{tag_items}
 use Rattle.complement_file.specs.Reading.{IsTag, AreTags}
@@ -102,8 +101,3 @@ no_tag fs d n named none k h =
     let same : Some n ≡ Some (tag_name fs k) = named ∙ ap as_str (sym h.1) in
     let text : n ≡ tag_name fs k = cc in
     tag_absent fs n k none (lower k (tag_count fs) h.0) (sym text)
-
--- there are no more tags than parts
-pub few_tags : (fs : FieldTrees) → tag_count fs ≤ fields_parts fs
-few_tags no_fields = omega arith
-few_tags (more_fields n t fs) = omega (arith, few_tags fs)

@@ -1,18 +1,19 @@
 -- The complements of paired rows, written one after the other.
-use Rattle.std.proofs.Common.{◌≡◌, ℕ, zero, suc, ◌+◌, ◌<◌, ◌≤◌, true, ◌&&◌, List, [], ◌∷◌, ◌++◌, length, length-append, map, drop, drop-cons, get_or, add-one, IsTrue, refl, sym, ap, ap₂, subst, ◌∙◌, arith, rules}
+use Rattle.std.proofs.Common.{◌≡◌, ℕ, zero, suc, ◌+◌, ◌<◌, ◌≤◌, true, ◌&&◌, List, [], ◌∷◌, ◌++◌, length, length-append, map, drop, drop-cons, get_or, add-one, IsTrue, refl, sym, ap, ap₂, subst, ◌∙◌, arith}
 use Rattle.std.proofs.lemmas.List.{drop_all}
 use Rattle.texts.proofs.Conjunction.{first, second}
 use Rattle.serde_json.specs.Data.{Data, Items, no_items, item}
 use Rattle.serde_json.specs.View.{items_of}
 use Rattle.doc_values.specs.Types.{ty_tree, is_well_formed}
 use Rattle.doc_values.specs.declared.ty.Ty.{Ty}
-use Rattle.lens_forms.specs.Forms.{FormTree, form_tree, form_rec, RowTrees, both, row_both, row_left, row_right, row_tree, form_rows_of, with_row}
+use Rattle.lens_forms.specs.Forms.{FormTree, form_tree, form_rec, RowTrees, both, row_tree, form_rows_of}
 use Rattle.lens_forms.specs.Typing.{is_typed, are_typed_rows}
 use Rattle.lens_forms.specs.declared.form.Form.{Form}
-use Rattle.lens_forms.specs.declared.form.FormRow.{FormRow, the_lemmas as row_lemmas}
+use Rattle.lens_forms.specs.declared.form.FormRow.{FormRow}
 use Rattle.lens_forms.specs.declared.form.FormRow.TheVariants.{Both, OnlyLeft, OnlyRight}
 use Rattle.lens_core.specs.Complements.{CompTree, nil, rec_comp, CompTrees, comps_of, Fits, FitRows}
 use Rattle.lens_forms.specs.Measures.{form_parts, rows_parts}
+use Rattle.lens_forms.proofs.TreesOfRows.{row_tree-both, rows_from, next_both, next_left, next_right}
 use Rattle.lens_core.proofs.FormParts.{row_parts, row_smaller}
 use Rattle.complement_file.specs.ComplementJson.{tree_of_complement, row_items}
 
@@ -28,26 +29,6 @@ behind_one (y ∷ xs) x rest = ap (item y) (behind_one xs x rest)
 behind_nothing : (xs : List Data) → behind xs no_items ≡ items_of xs
 behind_nothing [] = refl
 behind_nothing (x ∷ xs) = ap (item x) (behind_nothing xs)
-
-pub row_tree-both : (a b : List ℕ) (l : Form) → row_tree (Both a b l) ≡ row_both a b (form_tree l)
-row_tree-both a b l = search (rules, row_lemmas)
-
-pub row_tree-left : (a : List ℕ) (t : Ty) → row_tree (OnlyLeft a t) ≡ row_left a (ty_tree t)
-row_tree-left a t = search (rules, row_lemmas)
-
-pub row_tree-right : (b : List ℕ) (t : Ty) → row_tree (OnlyRight b t) ≡ row_right b (ty_tree t)
-row_tree-right b t = search (rules, row_lemmas)
-
--- the rows from one on
-abbrev pub rows_from : List FormRow → ℕ → RowTrees
-rows_from rows i = form_rows_of (map row_tree (drop i rows))
-
-pub rows_next : (rows : List FormRow) (i : ℕ) (r : FormRow) → i < length rows → r ≡ get_or rows i r → rows_from rows i ≡ with_row (row_tree r) (rows_from rows (i + 1))
-rows_next rows i r h is = rw (drop-cons rows i r h, add-one) (ap (λ (q : FormRow). with_row (row_tree q) (rows_from rows (suc i))) (sym is))
-
-pub next_both : (rows : List FormRow) (i : ℕ) (r : FormRow) (a b : List ℕ) (l : Form) → i < length rows → r ≡ get_or rows i r → r ≡ Both a b l
-    → rows_from rows i ≡ both a b (form_tree l) (rows_from rows (i + 1))
-next_both rows i r a b l h is row = rows_next rows i r h is ∙ ap (λ q. with_row q (rows_from rows (i + 1))) (ap row_tree row ∙ row_tree-both a b l)
 
 -- What is left: the rows from i on, and the complements from n on, of all the complements cs. The items written before are xs.
 pub record AreLeft (rows : List FormRow) (cs : List CompTree) (i n : ℕ) (xs : List Data) : Type 0 where
@@ -115,7 +96,7 @@ module _ (rows : List FormRow) (cs : List CompTree) (i n : ℕ) (xs : List Data)
 pub left_passed : (rows : List FormRow) (cs : List CompTree) (i n : ℕ) (xs : List Data) (r : FormRow) (a : List ℕ) (t : Ty) → i < length rows → r ≡ get_or rows i r → r ≡ OnlyLeft a t
     → AreLeft rows cs i n xs → AreLeft rows cs (i + 1) n xs
 left_passed rows cs i n xs r a t h is row left =
-    let e = rows_next rows i r h is ∙ ap (λ q. with_row q (rows_from rows (i + 1))) (ap row_tree row ∙ row_tree-left a t) in
+    let e = next_left rows i r a t h is row in
     record {
       written = sym (ap (λ rs. behind xs (row_items rs (comps_of (drop n cs)))) e) ∙ left.written;
       fit = subst (λ rs. FitRows rs (comps_of (drop n cs))) e left.fit;
@@ -126,7 +107,7 @@ left_passed rows cs i n xs r a t h is row left =
 pub right_passed : (rows : List FormRow) (cs : List CompTree) (i n : ℕ) (xs : List Data) (r : FormRow) (b : List ℕ) (t : Ty) → i < length rows → r ≡ get_or rows i r → r ≡ OnlyRight b t
     → AreLeft rows cs i n xs → AreLeft rows cs (i + 1) n xs
 right_passed rows cs i n xs r b t h is row left =
-    let e = rows_next rows i r h is ∙ ap (λ q. with_row q (rows_from rows (i + 1))) (ap row_tree row ∙ row_tree-right b t) in
+    let e = next_right rows i r b t h is row in
     record {
       written = sym (ap (λ rs. behind xs (row_items rs (comps_of (drop n cs)))) e) ∙ left.written;
       fit = subst (λ rs. FitRows rs (comps_of (drop n cs))) e left.fit;

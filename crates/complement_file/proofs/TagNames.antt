@@ -1,5 +1,5 @@
 -- The names of tags by their numbers, in the lists that the code reads.
-use Rattle.std.proofs.Common.{◌≡◌, ℕ, zero, suc, ◌<◌, true, List, [], ◌∷◌, length, map, get_or, refl, sym, ap, arith}
+use Rattle.std.proofs.Common.{◌≡◌, ℕ, zero, suc, ◌<◌, true, List, [], ◌∷◌, length, map, refl, ap, arith}
 use Rattle.std.specs.Prelude.{nat_lt, slice_index}
 use Rattle.std.proofs.lemmas.Bool.Decides.{nat_tests}
 use Rattle.texts.proofs.Conjunction.{first, second}
@@ -9,16 +9,8 @@ use Rattle.tag_seq.specs.Tags.{are_below}
 use Rattle.doc_values.specs.Types.{FieldTrees, type_fields_of, field_tree}
 use Rattle.doc_values.specs.declared.ty.Ty.{Ty}
 use Rattle.lens_core.specs.Tags.{tag_count, tag_name}
+use Rattle.lens_core.proofs.Tags.{tag_count-length}
 use Rattle.complement_file.specs.ComplementJson.{tag_items}
-
-pub name_at : (fs : List (List ℕ × Ty)) (k : ℕ) (f : List ℕ × Ty) → k < length fs → f ≡ get_or fs k f → tag_name (type_fields_of (map field_tree fs)) k ≡ f.0
-name_at [] k f h e = absurd (omega arith)
-name_at (g ∷ fs) zero f h e = ap (λ (x : List ℕ × Ty). x.0) (sym e)
-name_at (g ∷ fs) (suc k) f h e = name_at fs k f (omega arith) e
-
-tags_length : (fs : List (List ℕ × Ty)) → tag_count (type_fields_of (map field_tree fs)) ≡ length fs
-tags_length [] = refl
-tags_length (f ∷ fs) = omega (arith, tags_length fs)
 
 pub lower : (a b : ℕ) → nat_lt a b ≡ true → a < b
 lower a b h = grind (arith, nat_tests)
@@ -30,7 +22,7 @@ below_at bound (k ∷ ks) (suc i) h b = below_at bound ks i (omega arith) (secon
 
 -- the number at a place is that of a tag
 pub number_within : (fs : List (List ℕ × Ty)) (ks : List ℕ) (i : ℕ) → i < length ks → are_below (tag_count (type_fields_of (map field_tree fs))) ks ≡ true → slice_index ks i < length fs
-number_within fs ks i h b = omega (arith, below_at _ ks i h b, tags_length fs)
+number_within fs ks i h b = omega (arith, below_at _ ks i h b, tag_count-length fs)
 
 -- the tree of a tag
 abbrev pub tag_tree : FieldTrees → ℕ → Data

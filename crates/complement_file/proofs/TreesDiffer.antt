@@ -6,16 +6,19 @@ use Rattle.texts.proofs.Conjunction.{first as left, second as right}
 use Rattle.hold_shapes.specs.declared.shape.Shape.TheVariants.{List as ListOf, Keyed as KeyedOf, Tree as TreeOf}
 use Rattle.tag_seq.specs.Tags.{are_below}
 use Rattle.doc_values.specs.Types.{FieldTrees, no_fields, more_fields, names_of, are_distinct, are_choices, are_well_formed, is_well_formed, is_same_ty}
+use Rattle.doc_values.proofs.DistinctNames.{are_choices-distinct}
 use Rattle.value_json.specs.Numbers.{count_items}
 use Rattle.value_json.specs.DocumentJson.{member_names}
-use Rattle.value_json.proofs.Facts.{equal, same_bytes}
+use Rattle.value_json.proofs.Facts.{equal}
+use Rattle.value_json.proofs.TreesDiffer.{counts_apart}
 use Rattle.lens_forms.specs.Forms.{FormTree, form_id, form_bij, form_disc, form_then, form_rec, form_alt, form_each, form_keyed, form_ordered, form_part, form_inv, RowTrees, no_rows, both, only_left, only_right, ArmTrees, no_arms, more_arms, right_type, left_type}
 use Rattle.lens_forms.specs.Typing.{is_typed, are_typed_rows, are_typed_arms, left_names, right_names, left_arms, right_arms}
 use Rattle.lens_core.specs.Tags.{tag_count, tag_name}
 use Rattle.lens_core.specs.Complements.{CompTree, nil, then_comp, rec_comp, alt_comp, hold_comp, tags_comp, CompTrees, no_comps, more_comps, comp_count, IsNil, Fits, FitRows, FitsArm, AllFit}
+use Rattle.lens_core.proofs.Tags.{tag_name-among}
 use Rattle.complement_file.specs.ComplementJson.{tree_of_complement, row_items, tree_in_arm, arm_with, place_items, place_members, tag_items}
 use Rattle.complement_file.specs.Reading.{member_contents}
-use Rattle.complement_file.proofs.Arms.{not_true, or_true, found_step, arm_is_there, arm_fits, arm_tree_is, distinct_choices}
+use Rattle.complement_file.proofs.Arms.{not_true, found_step, arm_is_there, arm_fits, arm_tree_is}
 use Rattle.complement_file.proofs.TagNames.{lower}
 use Rattle.complement_file.proofs.ReadPlaces.{names_again, contents_again}
 
@@ -56,24 +59,10 @@ keyed_apart l apart js ks cs ds a b h k q =
     let items : place_items tree cs ≡ place_items tree ds = sym (contents_again tree js cs m) ∙ ap member_contents q ∙ contents_again tree ks ds n in
     ap₂ (λ x y. hold_comp (KeyedOf x) y) names (places_apart l apart cs ds h k items)
 
-counts_apart : (ms ns : List ℕ) → count_items ms ≡ count_items ns → ms ≡ ns
-counts_apart [] [] q = refl
-counts_apart [] (n ∷ ns) q = cc
-counts_apart (m ∷ ms) [] q = cc
-counts_apart (m ∷ ms) (n ∷ ns) q =
-    let this : m ≡ n = cc in
-    let rest : count_items ms ≡ count_items ns = cc in
-    ap₂ (λ k ks. k ∷ ks) this (counts_apart ms ns rest)
-
 -- ---- tags
 
-name_among : (fs : FieldTrees) (k : ℕ) → k < tag_count fs → has_name (tag_name fs k) (names_of fs) ≡ true
-name_among no_fields k h = absurd (omega arith)
-name_among (more_fields n t fs) zero h = rw (same_bytes n) refl
-name_among (more_fields n t fs) (suc k) h = rw (name_among fs k (omega arith)) (or_true (bytes_eq (tag_name fs k) n))
-
 not_among : (n : List ℕ) (fs : FieldTrees) (k : ℕ) → has_name n (names_of fs) ≡ false → k < tag_count fs → n ≡ tag_name fs k → ⊥
-not_among n fs k none h is = let some : has_name n (names_of fs) ≡ true = subst (λ z. has_name z (names_of fs) ≡ true) (sym is) (name_among fs k h) in cc
+not_among n fs k none h is = let some : has_name n (names_of fs) ≡ true = subst (λ z. has_name z (names_of fs) ≡ true) (sym is) (tag_name-among fs k h) in cc
 
 number_apart : (fs : FieldTrees) (j k : ℕ) → are_distinct (names_of fs) ≡ true → j < tag_count fs → k < tag_count fs → tag_name fs j ≡ tag_name fs k → j ≡ k
 number_apart no_fields j k d h i q = absurd (omega arith)
@@ -160,7 +149,7 @@ mutual
   apart (form_ordered l) w c d h k q = absurd h
   apart (form_part fs) w (tags_comp r) (tags_comp s) h k q =
       let same : tag_items fs r ≡ tag_items fs s = cc in
-      ap tags_comp (tags_apart fs r s (distinct_choices (names_of fs) (left (are_choices (names_of fs)) (are_well_formed fs) w)) h k same)
+      ap tags_comp (tags_apart fs r s (are_choices-distinct (names_of fs) (left (are_choices (names_of fs)) (are_well_formed fs) w)) h k same)
   apart (form_part fs) w (tags_comp r) d h k q = absurd k
   apart (form_part fs) w c d h k q = absurd h
   apart (form_inv l) w c d h k q = apart l w c d h k q

@@ -19,6 +19,8 @@ use Rattle.lens_core.specs.Beginnings.{Beginning, finished, inside, carried_on, 
 use Rattle.lens_core.specs.Complements.{CompTree, hold_comp, CompTrees, comps_of, comp_list, comp_count, missing}
 use Rattle.lens_core.specs.Emitted.{one, mod_word, shape_word}
 use Rattle.lens_core.specs.Translation.{Translated, comp_at, put_comp, gathered_comps, translate_held, held_row, translate_one, translate}
+use Rattle.lens_core.proofs.Results.{inside_if}
+use Rattle.lens_core.proofs.EmptyWords.{mod_word-empty}
 use Rattle.container_lens.specs.HeldSteps.{begin_mod, begin_reshaped, begin_row, begin_held, HasBegun, finish_held}
 
 -- ---- the beginning, the lens inside, and the finish
@@ -85,10 +87,6 @@ abbrev pub is_mod : PrimitiveTree → Bool
 is_mod (modify q u) = true
 is_mod _ = false
 
-counted : (b : Bool) (o : Option Beginning) → IsInside (if b then o else None) → (b ≡ true) × IsInside o
-counted true o h = (refl, h)
-counted false o h = absurd h
-
 not_finished : (t : Option Translated) → IsInside (option_map (λ r. finished r) t) → ⊥
 not_finished None h = h
 not_finished (Some r) h = h
@@ -105,7 +103,7 @@ row_is_mod start s cs (switch t n u) e h = h
 
 -- only Mod begins at a place
 pub begun_is_mod : (s : Shape) (cs : CompTrees) (p : PrimitiveTree) → is_mod p ≡ false → HasBegun s cs p → ⊥
-begun_is_mod s cs p e h = row_is_mod h.0 s cs p e (counted (nat_eq (comp_count cs) (size_of s)) (begin_row h.0 s cs p) h.1).1
+begun_is_mod s cs p e h = row_is_mod h.0 s cs p e (inside_if (nat_eq (comp_count cs) (size_of s)) (begin_row h.0 s cs p) h.1).1
 
 missing_place : (s : Shape) (cs : CompTrees) (q : Place) (u : WordTree) (o : Option ℕ) → o ≡ None → IsInside (option_map (λ i. inside 0 (comp_at cs i) u) o) → ⊥
 missing_place s cs q u None e h = h
@@ -114,12 +112,12 @@ missing_place s cs q u (Some i) e h = cc
 -- the place is there
 pub begun_has_place : (s : Shape) (cs : CompTrees) (q : Place) (u : WordTree) → HasBegun s cs (modify q u) → place_of s q ≡ None → ⊥
 begun_has_place s cs q u h e =
-    missing_place s cs q u (place_of s q) e (counted (nat_eq (comp_count cs) (size_of s)) (begin_mod s cs q u) h.1).1
+    missing_place s cs q u (place_of s q) e (inside_if (nat_eq (comp_count cs) (size_of s)) (begin_mod s cs q u) h.1).1
 
 -- there is one complement for each place
 pub begun_is_counted : (s : Shape) (cs : CompTrees) (p : PrimitiveTree) → HasBegun s cs p → comp_count cs ≡ size_of s
 begun_is_counted s cs p h =
-    let e = (counted (nat_eq (comp_count cs) (size_of s)) (begin_row h.0 s cs p) h.1).0 in
+    let e = (inside_if (nat_eq (comp_count cs) (size_of s)) (begin_row h.0 s cs p) h.1).0 in
     grind (arith, nat_tests)
 
 -- the condition of the finish, from what the beginning answered
@@ -138,10 +136,6 @@ reshaped_begun start s s' cs ds e from w planned gathered edits = rw (planned, g
 pub ruleset plan_rules = (reshaped_begun)
 
 -- ---- an empty inner word is left out
-
-pub mod_word-empty : (q : Place) (w : WordTree) → word_length w ≡ 0 → mod_word q w ≡ w
-mod_word-empty q no_primitives e = refl
-mod_word-empty q (more_primitives p w) e = absurd (omega arith)
 
 pub mod_word-more : (q : Place) (w : WordTree) → (word_length w ≡ 0 → ⊥) → mod_word q w ≡ one (modify q w)
 mod_word-more q no_primitives e = absurd (e refl)

@@ -35,7 +35,7 @@ use Rattle.lens_core.specs.Laws.{IsRelated, Carries, Laws}
 use Rattle.doc_values.proofs.Lists.{docs_of-doc_list}
 use Rattle.edit_module.proofs.ActionKeepsTypes.{has_primitive, has_act, list-held, keyed-held, tree-held}
 use Rattle.edit_module.proofs.PlannedShapes.{place_of-within}
-use Rattle.lens_core.proofs.LawsOfWords.{edits_carry, consistent_is_typed}
+use Rattle.lens_core.proofs.LawsOfWords.{edits_carry, consistent_is_typed, related_fits, starts_on}
 use Rattle.lens_core.proofs.ComplementTrees.{comp_count-length}
 use Rattle.lens_core.proofs.RecordFields.{put_same}
 use Rattle.lens_core.proofs.Results.{acted_at}
@@ -169,21 +169,17 @@ held_triple k l Right x c y h = held_right k l y c x h
 
 -- ---- and put together again
 
-comps_fit : (l : FormTree) (s : Side) (x : DocTree) (c : CompTree) (y : DocTree) → IsRelated l s x c y → Fits l c
-comps_fit l Left x c y h = (consistent_is_typed l x c y h).comp_fits
-comps_fit l Right x c y h = (consistent_is_typed l y c x h).comp_fits
-
 held_related : (k : Kind) (l : FormTree) (s : Side) (sh : Shape) (xs : DocTrees) (cs : CompTrees) (ys : DocTrees)
     → has (container_type k (type_on s l)) (hold sh xs) ≡ true → has (container_type k (type_on (other s) l)) (hold sh ys) ≡ true → is_kind_of k sh (comp_count cs) ≡ true
     → AtEachPlace (IsRelated l s) xs cs ys → IsRelated (form_of k l) s (hold sh xs) (hold_comp sh cs) (hold sh ys)
 held_related k l Left sh xs cs ys h g f r = held_consistent k l (hold sh xs) (hold_comp sh cs) (hold sh ys) (record {
   left_has = subst (λ t. has t (hold sh xs) ≡ true) (sym (type_is k l Left)) h;
-  comp_fits = fit_held k l sh cs f (each-fit (IsRelated l Left) (Fits l) (λ x c y q. comps_fit l Left x c y q) xs cs ys r);
+  comp_fits = fit_held k l sh cs f (each-fit (IsRelated l Left) (Fits l) (λ x c y q. related_fits l Left x c y q) xs cs ys r);
   right_has = subst (λ t. has t (hold sh ys) ≡ true) (sym (type_is k l Right)) g;
 }) (refl, refl, r)
 held_related k l Right sh ys cs xs h g f r = held_consistent k l (hold sh xs) (hold_comp sh cs) (hold sh ys) (record {
   left_has = subst (λ t. has t (hold sh xs) ≡ true) (sym (type_is k l Left)) g;
-  comp_fits = fit_held k l sh cs f (each-fit (IsRelated l Right) (Fits l) (λ x c y q. comps_fit l Right x c y q) ys cs xs r);
+  comp_fits = fit_held k l sh cs f (each-fit (IsRelated l Right) (Fits l) (λ x c y q. related_fits l Right x c y q) ys cs xs r);
   right_has = subst (λ t. has t (hold sh ys) ≡ true) (sym (type_is k l Right)) h;
 }) (refl, refl, each-turned (IsRelated l Right) (IsConsistent l) (λ x c y q. q) ys cs xs r)
 
@@ -305,11 +301,6 @@ well_formed_of : (k : Kind) (t : TyTree) → is_well_formed t ≡ true → is_we
 well_formed_of of_list t h = h
 well_formed_of of_keyed t h = h
 well_formed_of of_tree t h = h
-
--- the initial triple, from either side
-pub starts_on : (l : FormTree) → Laws l → (s : Side) → IsRelated l s (initial (type_on s l)) (missing l) (initial (type_on (other s) l))
-starts_on l laws Left = laws.starts
-starts_on l laws Right = laws.starts
 
 -- a triple of a container, without the documents' names
 record Triple (k : Kind) (l : FormTree) (s : Side) (sh : Shape) (xs : DocTrees) (cs : CompTrees) (ys : DocTrees) : Type 0 where

@@ -1,6 +1,5 @@
 -- The form of a program part that is accepted is typed.
 use Rattle.std.proofs.Common.{◌≡◌, ℕ, true, List, [], ◌∷◌, ◌++◌, Option, None, Some, Result, Ok, Err, IsTrue, refl, subst}
-use Rattle.std.specs.Option.{option_or}
 use Rattle.texts.proofs.Conjunction.{first}
 use Rattle.program_terms.specs.Terms as Term
 use Rattle.lens_syntax.specs.Programs.{ProgramCause, bounded}
@@ -9,19 +8,15 @@ use Rattle.lens_forms.specs.Typing.{is_typed}
 use Rattle.lens_types.specs.Sound.{is_sound}
 use Rattle.lens_types.specs.Checking.{Failure, def_failure, failure_after, first_failure}
 use Rattle.lens_types.specs.Earlier.{Definitions, known_of, all_known, expanded_form, main_form}
-use Rattle.lens_types.proofs.SoundForms.{are_sound, sound_more, lens_sound, def_sound}
+use Rattle.lens_types.proofs.SoundForms.{are_sound, sound_more, lens_sound, def_sound, none_both}
 use Rattle.editlens_main.specs.Program.{form_without_failure, form_of_program, lens_of}
-
-no_failures : (a b : Option Failure) → option_or a b ≡ None → (a ≡ None) × (b ≡ None)
-no_failures None b h = (refl, h)
-no_failures (Some f) b h = cc
 
 -- a main lens with no failure in it and before it keeps the limits and is typed
 sound_after : (ds : Definitions) (rest : List (List ℕ × Term.DefTree)) (main : Term.LensTree) → are_sound ds ≡ true → failure_after ds rest main ≡ None
     → is_sound (expanded_form (all_known ds rest) main) ≡ true
 sound_after ds [] main s h = lens_sound ds s main h
 sound_after ds (d ∷ rest) main s h =
-    let none = no_failures (def_failure ds d.1) (failure_after (ds ++ (d.0, known_of ds d.1) ∷ []) rest main) h in
+    let none = none_both (def_failure ds d.1) (failure_after (ds ++ (d.0, known_of ds d.1) ∷ []) rest main) h in
     sound_after (ds ++ (d.0, known_of ds d.1) ∷ []) rest main (sound_more ds d.0 (known_of ds d.1) s (def_sound ds s d.1 none.0)) none.1
 
 program_typed : (program : Term.ProgramTree) → first_failure program ≡ None → is_typed (main_form program) ≡ true

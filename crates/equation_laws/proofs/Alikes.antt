@@ -5,6 +5,7 @@ use Rattle.std.specs.Prelude.{option_and_then}
 use Rattle.texts.specs.declared.side.Side.{Side}
 use Rattle.edit_module.specs.Words.{PrimitiveTree, WordTree, no_primitives, more_primitives, joined}
 use Rattle.edit_module.specs.Normal.{merge, placed, merged_onto, inside, inside_each}
+use Rattle.edit_module.proofs.Words.{joined_assoc}
 use Rattle.lens_forms.specs.Forms.{FormTree}
 use Rattle.lens_core.specs.Complements.{CompTree}
 use Rattle.lens_core.specs.Emitted.{one, behind, one_by_one}
@@ -60,17 +61,13 @@ pub in_order-same : {C D : Type 0} → (o p : Option (WordTree × C)) (k l : C �
     → in_normal_form (in_order o k) ≡ in_normal_form (in_order p l)
 in_order-same o p k l e h = in_order-given o p k l e (λ r f. h r.1)
 
-pub joined-again : (u v w : WordTree) → joined (joined u v) w ≡ joined u (joined v w)
-joined-again no_primitives v w = refl
-joined-again (more_primitives p u) v w = ap (more_primitives p) (joined-again u v w)
-
 pub joined-none : (w : WordTree) → joined w no_primitives ≡ w
 joined-none no_primitives = refl
 joined-none (more_primitives p w) = ap (more_primitives p) (joined-none w)
 
 behind-behind : {C : Type 0} → (u v : WordTree) (o : Option (WordTree × C)) → option_map (behind u) (option_map (behind v) o) ≡ option_map (behind (joined u v)) o
 behind-behind u v None = refl
-behind-behind u v (Some r) = ap (λ z. Some (z, r.1)) (sym (joined-again u v r.0))
+behind-behind u v (Some r) = ap (λ z. Some (z, r.1)) (sym (joined_assoc u v r.0))
 
 behind-in_order : {C D : Type 0} → (u : WordTree) (o : Option (WordTree × C)) (k : C → Option (WordTree × D)) → option_map (behind u) (in_order o k) ≡ in_order (option_map (behind u) o) k
 behind-in_order u None k = refl

@@ -1,10 +1,11 @@
 -- Every typed form keeps the equations.
-use Rattle.std.proofs.Common.{◌≡◌, true, ◌&&◌, List, [], ◌∷◌, ℕ}
+use Rattle.std.proofs.Common.{◌≡◌, true, ◌&&◌}
 use Rattle.texts.proofs.Conjunction.{first, second}
 use Rattle.doc_values.specs.Types.{are_distinct, are_choices, is_well_formed}
 use Rattle.lens_forms.specs.Forms.{FormTree, form_id, form_bij, form_disc, form_then, form_rec, form_alt, form_each, form_keyed, form_ordered, form_part, form_inv, RowTrees, no_rows, both, only_left, only_right, ArmTrees, no_arms, more_arms, left_type, right_type}
 use Rattle.lens_forms.specs.Typing.{is_typed, are_typed_rows, are_typed_arms, left_arms, right_arms, left_names, right_names}
 use Rattle.doc_values.specs.Types.{is_same_ty}
+use Rattle.doc_values.proofs.DistinctNames.{are_choices-distinct}
 use Rattle.equation_laws.specs.Alike.{KeepsEquations, RowsKeepEquations, ArmsKeepEquations}
 use Rattle.equation_laws.proofs.KeptByLeaves.{identity_keeps, bijection_keeps, disconnection_keeps}
 use Rattle.equation_laws.proofs.KeptByCompositions.{inverse_keeps, composition_keeps}
@@ -12,10 +13,6 @@ use Rattle.equation_laws.proofs.KeptByRecords.{record_keeps}
 use Rattle.equation_laws.proofs.KeptByAlternatives.{alternatives_keep}
 use Rattle.equation_laws.proofs.KeptByContainers.{list_keeps, keyed_keeps, tree_keeps}
 use Rattle.equation_laws.proofs.KeptByPartitions.{partition_keeps}
-
-choices-distinct : (ns : List (List ℕ)) → are_choices ns ≡ true → are_distinct ns ≡ true
-choices-distinct [] e = cc
-choices-distinct (n ∷ ns) e = e
 
 mutual
   pub typed_keeps : (l : FormTree) → is_typed l ≡ true → KeepsEquations l
@@ -29,7 +26,7 @@ mutual
   typed_keeps (form_alt arms) e =
       let tags = second (are_typed_arms arms) (are_choices (left_arms arms) && are_choices (right_arms arms)) e in
       alternatives_keep arms (arms_keep arms (first (are_typed_arms arms) (are_choices (left_arms arms) && are_choices (right_arms arms)) e))
-      (choices-distinct (left_arms arms) (first (are_choices (left_arms arms)) (are_choices (right_arms arms)) tags))
+      (are_choices-distinct (left_arms arms) (first (are_choices (left_arms arms)) (are_choices (right_arms arms)) tags))
   typed_keeps (form_each l) e = list_keeps l (typed_keeps l e)
   typed_keeps (form_keyed l) e = keyed_keeps l (typed_keeps l e)
   typed_keeps (form_ordered l) e = tree_keeps l (typed_keeps l e)

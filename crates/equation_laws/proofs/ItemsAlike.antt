@@ -10,6 +10,7 @@ use Rattle.hold_shapes.specs.declared.edit.ShapeEdit.TheVariants.{Ins, Del}
 use Rattle.doc_values.specs.Types.{TyTree, FieldTrees, no_fields, more_fields}
 use Rattle.doc_values.specs.Typing.{lookup_field, later_field}
 use Rattle.edit_module.specs.Words.{PrimitiveTree, set, add, splice, at, stay, switch, modify, shape, WordTree, no_primitives, more_primitives, joined}
+use Rattle.edit_module.proofs.Words.{joined_assoc}
 use Rattle.tag_seq.specs.Tags.{one_if_same, count, rank, are_below}
 use Rattle.lens_core.specs.Tags.{tag_count, tag_number}
 use Rattle.lens_core.specs.Emitted.{at_word, stay_word, mod_word, shape_word, behind, one_by_one}
@@ -17,7 +18,7 @@ use Rattle.lens_core.specs.Partition.{Parted, mv, place_in, where_holds, stay_it
 use Rattle.equation_laws.proofs.Glue.{normalized, normalized_one, nat_eq-same}
 use Rattle.equation_laws.proofs.Normals.{merge-cases, normalized-again}
 use Rattle.equation_laws.proofs.EmittedAlike.{at_word-normalized, at_word-joined, stay_word-normalized, stay_word-joined, mod_word-normalized, mod_word-joined}
-use Rattle.equation_laws.proofs.Alikes.{in_normal_form, in_order, normalized_joined-same, joined-again, Owed, owed-keeps}
+use Rattle.equation_laws.proofs.Alikes.{in_normal_form, in_order, normalized_joined-same, Owed, owed-keeps}
 
 -- ---- what each primitive of a word keeps, the word keeps
 
@@ -155,9 +156,9 @@ switched-stay off b ins mv s u v =
     (at_word-normalized b (joined ins (joined mv (mod_word (Index s) (joined u v)))) (joined (joined ins (joined mv x)) y)
     (normalized_joined-same ins ins (joined mv (mod_word (Index s) (joined u v))) (joined mv (joined x y)) refl
     (normalized_joined-same mv mv (mod_word (Index s) (joined u v)) (joined x y) refl (mod_word-joined (Index s) u v))
-    ∙ ap normalized (ap (joined ins) (sym (joined-again mv x y)) ∙ sym (joined-again ins (joined mv x) y)))
+    ∙ ap normalized (ap (joined ins) (sym (joined_assoc mv x y)) ∙ sym (joined_assoc ins (joined mv x) y)))
     ∙ at_word-joined b (joined ins (joined mv x)) y)
-    ∙ ap normalized (sym (joined-again off (at_word b (joined ins (joined mv x))) (at_word b y)))
+    ∙ ap normalized (sym (joined_assoc off (at_word b (joined ins (joined mv x))) (at_word b y)))
 
 -- one of two values, where a test holds
 holds-same : (b : Bool) (u w : WordTree) (ts : List ℕ) → normalized u ≡ normalized w → in_normal_form (where_holds b (u, ts)) ≡ in_normal_form (where_holds b (w, ts))

@@ -14,6 +14,7 @@ use Rattle.lens_forms.specs.Forms.{FormTree, form_id, form_bij, form_disc, form_
 use Rattle.lens_core.specs.Complements.{CompTree, nil, hold_comp, CompTrees, no_comps, more_comps, comps_of, comp_list, comp_count, missing}
 use Rattle.lens_core.specs.Emitted.{one, mod_word, behind, one_by_one}
 use Rattle.lens_core.specs.Translation.{Translated, at_nil, set_partner, comp_at, put_comp, held_row, translate_held, translate_one, translate}
+use Rattle.lens_core.proofs.ComplementTrees.{comps_of-comp_list}
 use Rattle.equation_laws.specs.Alike.{KeepsEquations}
 use Rattle.equation_laws.proofs.Glue.{normalized, normalized_one}
 use Rattle.equation_laws.proofs.Normals.{merge-cases, normalized-again}
@@ -22,18 +23,14 @@ use Rattle.equation_laws.proofs.Alikes.{in_normal_form, same-parts, in_order, in
 
 -- ---- complements at places
 
-comps-round : (cs : CompTrees) → comps_of (comp_list cs) ≡ cs
-comps-round no_comps = refl
-comps-round (more_comps c cs) = ap (more_comps c) (comps-round cs)
-
 put-count : (cs : CompTrees) (i : ℕ) (c : CompTree) → comp_count (put_comp cs i c) ≡ comp_count cs
 put-count no_comps i c = refl
-put-count (more_comps x cs) zero c = ap (λ z. comp_count z + 1) (comps-round cs)
+put-count (more_comps x cs) zero c = ap (λ z. comp_count z + 1) (comps_of-comp_list cs)
 put-count (more_comps x cs) (suc i) c = ap (λ n. n + 1) (put-count cs i c)
 
 put-put : (cs : CompTrees) (i : ℕ) (c d : CompTree) → put_comp (put_comp cs i c) i d ≡ put_comp cs i d
 put-put no_comps i c d = refl
-put-put (more_comps x cs) zero c d = ap (more_comps d) (comps-round (comps_of (comp_list cs)))
+put-put (more_comps x cs) zero c d = ap (more_comps d) (comps_of-comp_list (comps_of (comp_list cs)))
 put-put (more_comps x cs) (suc i) c d = ap (more_comps x) (put-put cs i c d)
 
 -- where there is no such place, the complement there counts as the empty one, and none is put

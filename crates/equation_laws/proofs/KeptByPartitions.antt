@@ -1,8 +1,6 @@
 -- Partitions keep the equations, from both sides.
-use Rattle.std.proofs.Common.{◌≡◌, refl, sym, ap, ap₂, subst, Bool, true, false, ◌&&◌, cond, Option, None, Some, option_map, List, [], ◌∷◌, ◌++◌, length, take, drop, replicate, get_or, ℕ, zero, suc, ◌-◌, ◌<◌, nat_eq, nat_lt, arith, ◌∙◌}
+use Rattle.std.proofs.Common.{◌≡◌, refl, sym, ap, ap₂, subst, Bool, true, false, ◌&&◌, cond, Option, None, Some, option_map, List, [], length, replicate, ℕ, zero, suc, ◌-◌, ◌<◌, nat_eq, nat_lt, arith, ◌∙◌}
 use Rattle.std.specs.Prelude.{option_and_then, nat_le}
-use Rattle.std.specs.List.{remove}
-use Rattle.texts.proofs.Conjunction.{both, first, second}
 use Rattle.texts.specs.declared.side.Side.{Side}
 use Rattle.texts.specs.declared.side.Side.TheVariants.{Left, Right}
 use Rattle.hold_shapes.specs.declared.edit.Place.{Place}
@@ -12,7 +10,8 @@ use Rattle.hold_shapes.specs.Plans.{is_count, is_each_new}
 use Rattle.doc_values.specs.Types.{FieldTrees}
 use Rattle.edit_module.specs.Words.{PrimitiveTree, set, add, splice, at, stay, switch, modify, shape, WordTree, joined}
 use Rattle.edit_module.specs.Normal.{merge}
-use Rattle.tag_seq.specs.Tags.{count, are_below, moved}
+use Rattle.tag_seq.specs.Tags.{count, are_below}
+use Rattle.tag_seq.proofs.Bounds.{are_below-append, are_below-replicate, are_below-remove, are_below-moved}
 use Rattle.lens_forms.specs.Forms.{form_part}
 use Rattle.lens_core.specs.Complements.{CompTree, tags_comp}
 use Rattle.lens_core.specs.Tags.{tag_count, tag_number, tag_name}
@@ -23,7 +22,7 @@ use Rattle.equation_laws.specs.Alike.{KeepsEquations}
 use Rattle.equation_laws.proofs.Glue.{normalized, normalized_one}
 use Rattle.equation_laws.proofs.Normals.{merge-cases, normalized-again}
 use Rattle.equation_laws.proofs.Alikes.{in_normal_form, same-parts, in_order, in_order-same, in_order-given, in_parts, Owed, owed-keeps, owed-form}
-use Rattle.equation_laws.proofs.ItemsAlike.{word-kept, is_below, below, tag-below, item-long, item-below, items-keep, occurrences-owed}
+use Rattle.equation_laws.proofs.ItemsAlike.{word-kept, tag-below, item-long, item-below, items-keep, occurrences-owed}
 
 -- ---- from the left
 
@@ -75,45 +74,11 @@ left-below fs ts (Index p) u s k e = go (nat_lt p (length ts)) e
 left-below fs ts (Key n) u s k e = cc
 left-below fs ts (Node n) u s k e = cc
 
--- ---- tags below a bound
-
-below-append : (n : ℕ) (xs ys : List ℕ) → are_below n xs ≡ true → are_below n ys ≡ true → are_below n (xs ++ ys) ≡ true
-below-append n [] ys h k = k
-below-append n (x ∷ xs) ys h k = both (nat_lt x n) (are_below n (xs ++ ys)) (first (nat_lt x n) (are_below n xs) h) (below-append n xs ys (second (nat_lt x n) (are_below n xs) h) k)
-
-below-take : (n k : ℕ) (xs : List ℕ) → are_below n xs ≡ true → are_below n (take k xs) ≡ true
-below-take n zero xs h = refl
-below-take n (suc k) [] h = refl
-below-take n (suc k) (x ∷ xs) h = both (nat_lt x n) (are_below n (take k xs)) (first (nat_lt x n) (are_below n xs) h) (below-take n k xs (second (nat_lt x n) (are_below n xs) h))
-
-below-drop : (n k : ℕ) (xs : List ℕ) → are_below n xs ≡ true → are_below n (drop k xs) ≡ true
-below-drop n zero xs h = h
-below-drop n (suc k) [] h = refl
-below-drop n (suc k) (x ∷ xs) h = below-drop n k xs (second (nat_lt x n) (are_below n xs) h)
-
-below-many : (n t c : ℕ) → t < n → are_below n (replicate c t) ≡ true
-below-many n t zero h = refl
-below-many n t (suc c) h = both (nat_lt t n) (are_below n (replicate c t)) (is_below t n h) (below-many n t c h)
-
-below-here : (n k : ℕ) (xs : List ℕ) → 0 < n → are_below n xs ≡ true → get_or xs k 0 < n
-below-here n k [] z h = z
-below-here n zero (x ∷ xs) z h = below x n (first (nat_lt x n) (are_below n xs) h)
-below-here n (suc k) (x ∷ xs) z h = below-here n k xs z (second (nat_lt x n) (are_below n xs) h)
-
-below-remove : (n i : ℕ) (xs : List ℕ) → are_below n xs ≡ true → are_below n (remove xs i) ≡ true
-below-remove n i xs h = below-append n (take i xs) (drop (suc i) xs) (below-take n i xs h) (below-drop n (suc i) xs h)
-
-below-moved : (n i j : ℕ) (xs : List ℕ) → 0 < n → are_below n xs ≡ true → are_below n (moved i j xs) ≡ true
-below-moved n i j xs z h =
-    let rest = below-remove n i xs h in
-    below-append n (take j (remove xs i)) (get_or xs i 0 ∷ drop j (remove xs i)) (below-take n j (remove xs i) rest)
-    (both (nat_lt (get_or xs i 0) n) (are_below n (drop j (remove xs i))) (is_below (get_or xs i 0) n (below-here n i xs z h)) (below-drop n j (remove xs i) rest))
-
 -- ---- from the right
 
 below-deleted : (n t c : ℕ) (ts : List ℕ) → are_below n ts ≡ true → are_below n (delete_occurrences t ts c).1 ≡ true
 below-deleted n t zero ts h = h
-below-deleted n t (suc c) ts h = below-deleted n t c (delete_last t ts).1 (below-remove n (place_in ts t (count t ts - 1)) ts h)
+below-deleted n t (suc c) ts h = below-deleted n t c (delete_last t ts).1 (are_below-remove n (place_in ts t (count t ts - 1)) ts h)
 
 there : (b : Bool) (x r : Parted) (Kept : List ℕ → Type 0) → Kept x.1 → where_holds b x ≡ Some r → Kept r.1
 there false x r Kept k e = cc
@@ -122,12 +87,12 @@ there true x r Kept k e = let same : x ≡ r = cc in subst (λ z. Kept z.1) same
 occurrence-below : (n : ℕ) (first_tag name : List ℕ) (t : ℕ) → t < n → (ts : List ℕ) (p : PrimitiveTree) (r : Parted) → are_below n ts ≡ true → part_occurrence first_tag name t ts p ≡ Some r → are_below n r.1 ≡ true
 occurrence-below n first_tag name t l ts (modify (Index q) u) r k e = there (nat_lt q (count t ts)) (mod_occurrence name t ts q u) r (λ us. are_below n us ≡ true) k e
 occurrence-below n first_tag name t l ts (shape (Ins c)) r k e =
-    there (is_count c) (insert_occurrences first_tag name t ts c) r (λ us. are_below n us ≡ true) (below-append n ts (replicate c t) k (below-many n t c l)) e
+    there (is_count c) (insert_occurrences first_tag name t ts c) r (λ us. are_below n us ≡ true) (are_below-append n ts (replicate c t) k (are_below-replicate n t c l)) e
 occurrence-below n first_tag name t l ts (shape (Del c)) r k e =
     there (is_count c && nat_le c (count t ts)) (delete_occurrences t ts c) r (λ us. are_below n us ≡ true) (below-deleted n t c ts k) e
 occurrence-below n first_tag name t l ts (shape (MoveItem i j)) r k e =
     there (nat_lt i (count t ts) && nat_lt j (count t ts)) (move_occurrence t ts i j) r (λ us. are_below n us ≡ true)
-    (below-moved n (place_in ts t i) (place_in ts t j) ts (omega (arith, l)) k) e
+    (are_below-moved n (place_in ts t i) (place_in ts t j) ts (omega (arith, l)) k) e
 occurrence-below n first_tag name t l ts (shape (Reorder f)) r k e =
     there (nat_eq (length f) (count t ts) && is_each_new (count t ts) [] f) (reorder_occurrences t ts f) r (λ us. are_below n us ≡ true) k e
 occurrence-below n first_tag name t l ts _ r k e = cc

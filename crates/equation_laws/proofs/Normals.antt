@@ -6,13 +6,10 @@ use Rattle.edit_module.specs.Words.{PrimitiveTree, set, add, splice, at, stay, s
 use Rattle.edit_module.specs.Depths.{primitive_depth, word_depth}
 use Rattle.edit_module.specs.Normal.{is_same_place, merge, placed, merged_onto, merged, inside, inside_each, normal_to, normal}
 use Rattle.edit_module.proofs.NormalDepths.{depth-merged, inside_each-same, depth-some}
+use Rattle.edit_module.proofs.Merging.{merged_is}
 use Rattle.equation_laws.proofs.Glue.{at_on, stay_on, switch_on, mod_on, glue, put_on, normalized, normalized_one, at_at, stay_stay, mod_mod, switch_stay, glue_assoc, put_glue, normalized_joined, same_place-is}
 
 -- ---- two primitives that merge, case by case
-
-cond-some : (b : Bool) (p r : PrimitiveTree) → cond b (Some p) None ≡ Some r → (b ≡ true) × (p ≡ r)
-cond-some true p r e = (refl, cc)
-cond-some false p r e = cc
 
 pub merge-cases : (P : PrimitiveTree → PrimitiveTree → PrimitiveTree → Type 0)
     → ((f : List ℕ) (u v : WordTree) → P (at f u) (at f v) (at f (joined u v)))
@@ -21,16 +18,16 @@ pub merge-cases : (P : PrimitiveTree → PrimitiveTree → PrimitiveTree → Typ
     → ((a b : List ℕ) (u v : WordTree) → P (switch a b u) (stay b v) (switch a b (joined u v)))
     → (p q r : PrimitiveTree) → merge p q ≡ Some r → P p q r
 merge-cases P fields contents places switches (at f u) (at g v) r e =
-    let m = cond-some (bytes_eq f g) (at f (joined u v)) r e in
+    let m = merged_is (bytes_eq f g) (at f (joined u v)) r e in
     subst (λ z. P (at f u) (at g v) z) m.1 (subst (λ n. P (at f u) (at n v) (at f (joined u v))) ((bytes_eq-Decides f g).0 m.0) (fields f u v))
 merge-cases P fields contents places switches (stay f u) (stay g v) r e =
-    let m = cond-some (bytes_eq f g) (stay f (joined u v)) r e in
+    let m = merged_is (bytes_eq f g) (stay f (joined u v)) r e in
     subst (λ z. P (stay f u) (stay g v) z) m.1 (subst (λ n. P (stay f u) (stay n v) (stay f (joined u v))) ((bytes_eq-Decides f g).0 m.0) (contents f u v))
 merge-cases P fields contents places switches (modify f u) (modify g v) r e =
-    let m = cond-some (is_same_place f g) (modify f (joined u v)) r e in
+    let m = merged_is (is_same_place f g) (modify f (joined u v)) r e in
     subst (λ z. P (modify f u) (modify g v) z) m.1 (subst (λ n. P (modify f u) (modify n v) (modify f (joined u v))) (same_place-is f g m.0) (places f u v))
 merge-cases P fields contents places switches (switch a f u) (stay g v) r e =
-    let m = cond-some (bytes_eq f g) (switch a f (joined u v)) r e in
+    let m = merged_is (bytes_eq f g) (switch a f (joined u v)) r e in
     subst (λ z. P (switch a f u) (stay g v) z) m.1 (subst (λ n. P (switch a f u) (stay n v) (switch a f (joined u v))) ((bytes_eq-Decides f g).0 m.0) (switches a f u v))
 merge-cases P fields contents places switches _ _ r e = cc
 

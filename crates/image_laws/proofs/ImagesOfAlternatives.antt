@@ -17,8 +17,8 @@ use Rattle.lens_core.specs.Sides.{near, far, type_on}
 use Rattle.lens_core.specs.Complements.{CompTree, nil, then_comp, rec_comp, alt_comp, hold_comp, tags_comp, Fits, FitsArm}
 use Rattle.lens_core.specs.Consistency.{AreAlternatives, IsInArm}
 use Rattle.lens_core.specs.Laws.{IsRelated}
-use Rattle.lens_core.proofs.LawsOfLeaves.{bytes_are, bytes_same, differs_back}
-use Rattle.lens_core.proofs.NameTests.{not_false, not_that, or_later}
+use Rattle.lens_core.proofs.LawsOfLeaves.{bytes_are, bytes_same, differs_back, across_far}
+use Rattle.lens_core.proofs.NameTests.{not_false, not_that, or_later, fits_among}
 use Rattle.lens_core.proofs.RecordFields.{lookup_type-more}
 use Rattle.lens_branch.proofs.Arms.{arm_names, tags_on, AreApart, ArmIs, arm_left, arm_right, from_left, from_right, left_among, head_apart, tail_apart}
 use Rattle.image_laws.specs.Patterns.{PatternTree, hole, unit_pattern, truth_pattern, int_pattern, text_pattern, pick_pattern, rec_pattern, alt_pattern, hold_pattern, Matches, HasSome}
@@ -38,10 +38,6 @@ tag_type_here s a b l arms = tag_type s a b l arms (near s a b) ∙ ap (λ z. co
 tag_type_later : (s : Side) (a b : List ℕ) (l : FormTree) (arms : ArmTrees) (n : List ℕ) (t : TyTree) → bytes_eq (near s a b) n ≡ false → lookup_type (tags_on s arms) n ≡ Some t
     → lookup_type (tags_on s (more_arms a b l arms)) n ≡ Some t
 tag_type_later s a b l arms n t e h = tag_type s a b l arms n ∙ (ap (λ z. cond z (Some (type_on s l)) (lookup_type (tags_on s arms) n)) e ∙ h)
-
-across : (s : Side) (a b : List ℕ) → near (other s) a b ≡ far s a b
-across Left a b = refl
-across Right a b = refl
 
 -- ---- the arm of the complement's tag
 
@@ -84,9 +80,9 @@ arm_here a b l arms wf law s t c apart test fit = record {
   fit = fit;
   picks = λ p. ap (λ z. cond z (arm_pattern (near s a b) (far s a b) (image l s c) p) (image_arm arms s t c p)) test;
   near_named = name_here s a b l arms;
-  far_named = subst (λ z. has_name z (arm_names (other s) (more_arms a b l arms)) ≡ true) (across s a b) (name_here (other s) a b l arms);
+  far_named = subst (λ z. has_name z (arm_names (other s) (more_arms a b l arms)) ≡ true) (across_far s a b) (name_here (other s) a b l arms);
   near_type = tag_type_here s a b l arms;
-  far_type = subst (λ z. lookup_type (tags_on (other s) (more_arms a b l arms)) z ≡ Some (type_on (other s) l)) (across s a b) (tag_type_here (other s) a b l arms);
+  far_type = subst (λ z. lookup_type (tags_on (other s) (more_arms a b l arms)) z ≡ Some (type_on (other s) l)) (across_far s a b) (tag_type_here (other s) a b l arms);
   inside = inside;
   back = λ v w k. inl (refl, bytes_are t a test, refl, k);
 }
@@ -121,11 +117,6 @@ arm_later a b l arms s t c apart apart' test r = record {
 both_apart : (s : Side) (arms : ArmTrees) → AreApart s arms → AreApart (other s) arms → AreApart Left arms
 both_apart Left arms h k = h
 both_apart Right arms h k = k
-
-fits_among : (arms : ArmTrees) (t : List ℕ) (c : CompTree) → FitsArm arms t c → has_name t (left_arms arms) ≡ true
-fits_among no_arms t c f = absurd f
-fits_among (more_arms d e q rest) t c (inl f) = rw (f.0, bytes_same d) refl
-fits_among (more_arms d e q rest) t c (inr f) = or_later (bytes_eq t d) (has_name t (left_arms rest)) (fits_among rest t c f)
 
 -- the first arm, or one of the others
 choose : (a b : List ℕ) (l : FormTree) (arms : ArmTrees) → ArmImages (more_arms a b l arms) → (s : Side) (t : List ℕ) (c : CompTree) → AreApart s (more_arms a b l arms) → AreApart (other s) (more_arms a b l arms)

@@ -15,6 +15,7 @@ use Rattle.doc_values.specs.Types.{TyTree, are_same_names, is_well_formed}
 use Rattle.doc_values.specs.Typing.{has, has_each, is_list_of, is_keyed_of, is_tree_of}
 use Rattle.doc_values.specs.Initial.{initial}
 use Rattle.doc_values.proofs.InitialTypes.{has_initial}
+use Rattle.doc_values.proofs.SameTypes.{are_same_names-equal}
 use Rattle.lens_forms.specs.Forms.{FormTree, form_each, form_keyed, form_ordered}
 use Rattle.lens_core.specs.Sides.{type_on}
 use Rattle.lens_core.specs.Complements.{CompTree, nil, then_comp, rec_comp, alt_comp, hold_comp, tags_comp, CompTrees, no_comps, more_comps, comp_count, Fits, AllFit}
@@ -117,15 +118,6 @@ names_same : (ms : List (List ℕ)) → are_same_names ms ms ≡ true
 names_same [] = refl
 names_same (m ∷ ms) = both (bytes_eq m m) (are_same_names ms ms) (bytes_same m) (names_same ms)
 
-names_are : (ms ns : List (List ℕ)) → are_same_names ms ns ≡ true → ms ≡ ns
-names_are [] [] e = refl
-names_are [] (n ∷ ns) e = cc
-names_are (m ∷ ms) [] e = cc
-names_are (m ∷ ms) (n ∷ ns) e =
-    let head = bytes_are m n (first (bytes_eq m n) (are_same_names ms ns) e) in
-    let tail = names_are ms ns (second (bytes_eq m n) (are_same_names ms ns) e) in
-    cc
-
 pub shape_same : (r : Shape) → is_same_shape r r ≡ true
 shape_same (ListOf r) = eq-eqb r.count r.count refl
 shape_same (KeyedOf ms) = names_same ms
@@ -133,7 +125,7 @@ shape_same (TreeOf ds) = bytes_same ds
 
 pub shapes_are : (r q : Shape) → is_same_shape r q ≡ true → r ≡ q
 shapes_are (ListOf r) (ListOf q) e = ap (λ n. ListOf (record { count = n })) (eqb-true r.count q.count e)
-shapes_are (KeyedOf ms) (KeyedOf ns) e = ap (λ z. KeyedOf z) (names_are ms ns e)
+shapes_are (KeyedOf ms) (KeyedOf ns) e = ap (λ z. KeyedOf z) (are_same_names-equal ms ns e)
 shapes_are (TreeOf ds) (TreeOf es) e = ap (λ z. TreeOf z) (bytes_are ds es e)
 shapes_are (ListOf r) (KeyedOf ns) e = cc
 shapes_are (ListOf r) (TreeOf es) e = cc

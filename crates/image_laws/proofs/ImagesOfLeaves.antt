@@ -5,19 +5,20 @@ use Rattle.texts.specs.declared.side.Side.{Side}
 use Rattle.texts.specs.declared.side.Side.TheVariants.{Left, Right}
 use Rattle.texts.specs.Sides.{other}
 use Rattle.texts.specs.Keys.{has_name}
-use Rattle.texts.proofs.Conjunction.{first, second}
+use Rattle.texts.proofs.Conjunction.{first}
 use Rattle.doc_values.specs.Documents.{DocTree, unit, truth, int, text, pick, rec, alt, hold}
 use Rattle.doc_values.specs.Types.{TyTree, ty_enum, are_distinct, is_well_formed}
 use Rattle.doc_values.specs.Typing.{has}
 use Rattle.doc_values.specs.Initial.{initial}
 use Rattle.doc_values.proofs.InitialTypes.{has_initial}
+use Rattle.doc_values.proofs.DistinctNames.{are_distinct-rest}
 use Rattle.lens_forms.specs.Forms.{form_id, form_disc, form_bij, lefts, rights, partner_of}
 use Rattle.lens_core.specs.Sides.{near, far, type_on}
 use Rattle.lens_core.specs.Complements.{CompTree, IsNil}
 use Rattle.lens_core.specs.Consistency.{IsPair, ArePartners}
 use Rattle.lens_core.specs.Translation.{partner}
 use Rattle.lens_core.specs.Laws.{IsRelated}
-use Rattle.lens_core.proofs.LawsOfLeaves.{bytes_are, bytes_same, differs_back}
+use Rattle.lens_core.proofs.LawsOfLeaves.{bytes_are, bytes_same, differs_back, members_on, IsPairOn, pair_here, pair_later, members_more, has_partner}
 use Rattle.lens_core.proofs.NameTests.{not_false, not_that, or_later}
 use Rattle.image_laws.specs.Patterns.{PatternTree, hole, unit_pattern, truth_pattern, int_pattern, text_pattern, pick_pattern, rec_pattern, alt_pattern, hold_pattern, Matches}
 use Rattle.image_laws.specs.Image.{partner_pattern}
@@ -53,87 +54,54 @@ disc_images t u wf wg Right c p fit some = record {
 
 -- ---- bijection
 
--- the members of one side
-abbrev members_on : Side → List (List ℕ × List ℕ) → List (List ℕ)
-members_on s [] = []
-members_on s (p ∷ ps) = near s p.0 p.1 ∷ members_on s ps
-
--- a pair, the member of the side first
-abbrev IsPairOn : Side → List (List ℕ × List ℕ) → List ℕ → List ℕ → Type 0
-IsPairOn s [] m n = ⊥
-IsPairOn s (p ∷ ps) m n = ((m ≡ near s p.0 p.1) × (n ≡ far s p.0 p.1)) ⊎ IsPairOn s ps m n
-
-left_members : (ps : List (List ℕ × List ℕ)) → members_on Left ps ≡ lefts ps
-left_members [] = refl
-left_members (p ∷ ps) = ap (λ z. p.0 ∷ z) (left_members ps)
-
-right_members : (ps : List (List ℕ × List ℕ)) → members_on Right ps ≡ rights ps
-right_members [] = refl
-right_members (p ∷ ps) = ap (λ z. p.1 ∷ z) (right_members ps)
-
-pair_left : (ps : List (List ℕ × List ℕ)) (m n : List ℕ) → IsPair ps m n → IsPairOn Left ps m n
-pair_left [] m n h = h
-pair_left (p ∷ ps) m n (inl h) = inl h
-pair_left (p ∷ ps) m n (inr h) = inr (pair_left ps m n h)
-
-pair_right : (ps : List (List ℕ × List ℕ)) (m n : List ℕ) → IsPair ps m n → IsPairOn Right ps n m
-pair_right [] m n h = h
-pair_right (p ∷ ps) m n (inl h) = inl (h.1, h.0)
-pair_right (p ∷ ps) m n (inr h) = inr (pair_right ps m n h)
-
-from_left : (ps : List (List ℕ × List ℕ)) (m n : List ℕ) → IsPairOn Left ps m n → IsPair ps m n
-from_left [] m n h = h
-from_left (p ∷ ps) m n (inl h) = inl h
-from_left (p ∷ ps) m n (inr h) = inr (from_left ps m n h)
-
-from_right : (ps : List (List ℕ × List ℕ)) (m n : List ℕ) → IsPairOn Right ps n m → IsPair ps m n
-from_right [] m n h = h
-from_right (p ∷ ps) m n (inl h) = inl (h.1, h.0)
-from_right (p ∷ ps) m n (inr h) = inr (from_right ps m n h)
+-- the first pair, or a later one
+pair_cases : (s : Side) (p : List ℕ × List ℕ) (ps : List (List ℕ × List ℕ)) (m n : List ℕ) → IsPairOn s (p ∷ ps) m n → ((m ≡ near s p.0 p.1) × (n ≡ far s p.0 p.1)) ⊎ IsPairOn s ps m n
+pair_cases Left p ps m n h = h
+pair_cases Right p ps m n (inl h) = inl (h.1, h.0)
+pair_cases Right p ps m n (inr h) = inr h
 
 turned : (s : Side) (ps : List (List ℕ × List ℕ)) (m n : List ℕ) → IsPairOn s ps m n → IsPairOn (other s) ps n m
-turned s [] m n h = h
-turned Left (p ∷ ps) m n (inl h) = inl (h.1, h.0)
-turned Left (p ∷ ps) m n (inr h) = inr (turned Left ps m n h)
-turned Right (p ∷ ps) m n (inl h) = inl (h.1, h.0)
-turned Right (p ∷ ps) m n (inr h) = inr (turned Right ps m n h)
+turned Left ps m n h = h
+turned Right ps m n h = h
 
 turned_back : (s : Side) (ps : List (List ℕ × List ℕ)) (m n : List ℕ) → IsPairOn (other s) ps n m → IsPairOn s ps m n
-turned_back Left ps m n h = turned Right ps n m h
-turned_back Right ps m n h = turned Left ps n m h
+turned_back Left ps m n h = h
+turned_back Right ps m n h = h
 
 same_or : (m n : List ℕ) (b : Bool) → m ≡ n → (bytes_eq m n || b) ≡ true
 same_or m n b e = rw (e, bytes_same n) refl
 
 pair_member : (s : Side) (ps : List (List ℕ × List ℕ)) (m n : List ℕ) → IsPairOn s ps m n → has_name m (members_on s ps) ≡ true
-pair_member s [] m n h = absurd h
-pair_member s (p ∷ ps) m n (inl h) = same_or m (near s p.0 p.1) (has_name m (members_on s ps)) h.0
-pair_member s (p ∷ ps) m n (inr h) = or_later (bytes_eq m (near s p.0 p.1)) (has_name m (members_on s ps)) (pair_member s ps m n h)
+pair_member Left [] m n h = absurd h
+pair_member Right [] m n h = absurd h
+pair_member Left (p ∷ ps) m n (inl h) = same_or m p.0 (has_name m (lefts ps)) h.0
+pair_member Left (p ∷ ps) m n (inr h) = or_later (bytes_eq m p.0) (has_name m (lefts ps)) (pair_member Left ps m n h)
+pair_member Right (p ∷ ps) m n (inl h) = same_or m p.1 (has_name m (rights ps)) h.1
+pair_member Right (p ∷ ps) m n (inr h) = or_later (bytes_eq m p.1) (has_name m (rights ps)) (pair_member Right ps m n h)
 
 -- the partner of a member of a pair is the other one, where the members are distinct
 pair_partner : (s : Side) (ps : List (List ℕ × List ℕ)) (m n : List ℕ) → are_distinct (members_on s ps) ≡ true → IsPairOn s ps m n → partner s ps m ≡ Some n
-pair_partner s [] m n apart h = absurd h
-pair_partner s (p ∷ ps) m n apart (inl h) = rw (h.0, h.1, bytes_same (near s p.0 p.1)) refl
-pair_partner s (p ∷ ps) m n apart (inr h) =
-    let none = not_false (has_name (near s p.0 p.1) (members_on s ps)) (first (not (has_name (near s p.0 p.1) (members_on s ps))) (are_distinct (members_on s ps)) apart) in
-    let off = differs_back m (near s p.0 p.1) (not_that m (near s p.0 p.1) (members_on s ps) none (pair_member s ps m n h)) in
-    rw off (pair_partner s ps m n (second (not (has_name (near s p.0 p.1) (members_on s ps))) (are_distinct (members_on s ps)) apart) h)
+pair_partner Left [] m n apart h = absurd h
+pair_partner Right [] m n apart h = absurd h
+pair_partner s (p ∷ ps) m n apart h = go (pair_cases s p ps m n h) (λ k. pair_partner s ps m n (are_distinct-rest (near s p.0 p.1) (members_on s ps) first_apart) k)
+  where
+    first_apart : are_distinct (near s p.0 p.1 ∷ members_on s ps) ≡ true
+    first_apart = subst (λ (ms : List (List ℕ)). are_distinct ms ≡ true) (members_more s p ps) apart
+
+    go : ((m ≡ near s p.0 p.1) × (n ≡ far s p.0 p.1)) ⊎ IsPairOn s ps m n → (IsPairOn s ps m n → partner s ps m ≡ Some n) → partner s (p ∷ ps) m ≡ Some n
+    go (inl k) again = rw (k.0, k.1, bytes_same (near s p.0 p.1)) refl
+    go (inr k) again =
+        let none = not_false (has_name (near s p.0 p.1) (members_on s ps)) (first (not (has_name (near s p.0 p.1) (members_on s ps))) (are_distinct (members_on s ps)) first_apart) in
+        let off = differs_back m (near s p.0 p.1) (not_that m (near s p.0 p.1) (members_on s ps) none (pair_member s ps m n k)) in
+        rw off (again k)
 
 partner_pair : (s : Side) (ps : List (List ℕ × List ℕ)) (m n : List ℕ) → partner s ps m ≡ Some n → IsPairOn s ps m n
 partner_pair s [] m n e = cc
 partner_pair s (p ∷ ps) m n e = go (bytes_eq (near s p.0 p.1) m) refl e (λ k. partner_pair s ps m n k)
   where
     go : (b : Bool) → bytes_eq (near s p.0 p.1) m ≡ b → cond b (Some (far s p.0 p.1)) (partner s ps m) ≡ Some n → (partner s ps m ≡ Some n → IsPairOn s ps m n) → IsPairOn s (p ∷ ps) m n
-    go true q e again = inl (sym (bytes_are (near s p.0 p.1) m q), cc)
-    go false q e again = inr (again e)
-
-member_pair : (s : Side) (ps : List (List ℕ × List ℕ)) (m : List ℕ) → has_name m (members_on s ps) ≡ true → (n : List ℕ) × IsPairOn s ps m n
-member_pair s [] m h = cc
-member_pair s (p ∷ ps) m h = go (bytes_eq m (near s p.0 p.1)) refl h (λ k. member_pair s ps m k)
-  where
-    go : (b : Bool) → bytes_eq m (near s p.0 p.1) ≡ b → (b || has_name m (members_on s ps)) ≡ true → (has_name m (members_on s ps) ≡ true → (n : List ℕ) × IsPairOn s ps m n) → (n : List ℕ) × IsPairOn s (p ∷ ps) m n
-    go true q h again = (far s p.0 p.1, inl (bytes_are m (near s p.0 p.1) q, refl))
-    go false q h again = let r = again h in (r.0, inr r.1)
+    go true q e again = let same : far s p.0 p.1 ≡ n = cc in subst (λ z. IsPairOn s (p ∷ ps) m z) same (pair_here s p ps m (sym (bytes_are (near s p.0 p.1) m q)))
+    go false q e again = pair_later s p ps m n (again e)
 
 -- a member of an enum
 enum_member : (ms : List (List ℕ)) (z : List ℕ) (v : DocTree) → has (ty_enum ms z) v ≡ true → (n : List ℕ) × (v ≡ pick n) × (has_name n ms ≡ true)
@@ -147,12 +115,12 @@ enum_member ms z (alt n d) h = cc
 enum_member ms z (hold s ds) h = cc
 
 enum_on : (ps : List (List ℕ × List ℕ)) (i : List ℕ) (s : Side) (v : DocTree) → has (type_on s (form_bij ps i)) v ≡ true → (n : List ℕ) × (v ≡ pick n) × (has_name n (members_on s ps) ≡ true)
-enum_on ps i Left v h = let r = enum_member (lefts ps) i v h in (r.0, r.1, subst (λ (z : List (List ℕ)). has_name r.0 z ≡ true) (sym (left_members ps)) r.2)
-enum_on ps i Right v h = let r = enum_member (rights ps) (partner_of ps i) v h in (r.0, r.1, subst (λ (z : List (List ℕ)). has_name r.0 z ≡ true) (sym (right_members ps)) r.2)
+enum_on ps i Left v h = enum_member (lefts ps) i v h
+enum_on ps i Right v h = enum_member (rights ps) (partner_of ps i) v h
 
 member_has : (ps : List (List ℕ × List ℕ)) (i : List ℕ) (s : Side) (n : List ℕ) → has_name n (members_on s ps) ≡ true → has (type_on s (form_bij ps i)) (pick n) ≡ true
-member_has ps i Left n h = subst (λ (z : List (List ℕ)). has_name n z ≡ true) (left_members ps) h
-member_has ps i Right n h = subst (λ (z : List (List ℕ)). has_name n z ≡ true) (right_members ps) h
+member_has ps i Left n h = h
+member_has ps i Right n h = h
 
 -- the two members of a triple
 record IsMembers (ps : List (List ℕ × List ℕ)) (s : Side) (v w : DocTree) : Type 0 where
@@ -167,14 +135,14 @@ partners ps (pick m) (pick n) h = (m, n, refl, refl, h)
 partners ps v w h = absurd h
 
 members : (ps : List (List ℕ × List ℕ)) (i : List ℕ) (s : Side) (v : DocTree) (c : CompTree) (w : DocTree) → IsRelated (form_bij ps i) s v c w → IsMembers ps s v w
-members ps i Left v c w k = let r = partners ps v w k.1 in record { m = r.0; n = r.1; near_is = r.2; far_is = r.3; pair = pair_left ps r.0 r.1 r.4 }
-members ps i Right v c w k = let r = partners ps w v k.1 in record { m = r.1; n = r.0; near_is = r.3; far_is = r.2; pair = pair_right ps r.0 r.1 r.4 }
+members ps i Left v c w k = let r = partners ps v w k.1 in record { m = r.0; n = r.1; near_is = r.2; far_is = r.3; pair = r.4 }
+members ps i Right v c w k = let r = partners ps w v k.1 in record { m = r.1; n = r.0; near_is = r.3; far_is = r.2; pair = r.4 }
 
 members_related : (ps : List (List ℕ × List ℕ)) (i : List ℕ) (s : Side) (m : List ℕ) (c : CompTree) (n : List ℕ) → IsNil c → IsPairOn s ps m n → IsRelated (form_bij ps i) s (pick m) c (pick n)
 members_related ps i Left m c n fit h =
-    (record { left_has = member_has ps i Left m (pair_member Left ps m n h); comp_fits = fit; right_has = member_has ps i Right n (pair_member Right ps n m (turned Left ps m n h)) }, from_left ps m n h)
+    (record { left_has = member_has ps i Left m (pair_member Left ps m n h); comp_fits = fit; right_has = member_has ps i Right n (pair_member Right ps n m (turned Left ps m n h)) }, h)
 members_related ps i Right n c m fit h =
-    (record { left_has = member_has ps i Left m (pair_member Left ps m n (turned Right ps n m h)); comp_fits = fit; right_has = member_has ps i Right n (pair_member Right ps n m h) }, from_right ps m n h)
+    (record { left_has = member_has ps i Left m (pair_member Left ps m n (turned Right ps n m h)); comp_fits = fit; right_has = member_has ps i Right n (pair_member Right ps n m h) }, h)
 
 far_member : (ps : List (List ℕ × List ℕ)) (i : List ℕ) (s : Side) (m n : List ℕ) → IsPairOn s ps m n → has (type_on (other s) (form_bij ps i)) (pick n) ≡ true
 far_member ps i Left m n h = member_has ps i Right n (pair_member Right ps n m (turned Left ps m n h))
@@ -186,8 +154,9 @@ bij_hole ps i s c wf fit = record {
   into = λ v w m k. tt;
   onto = λ w h m.
       let r = enum_on ps i (other s) w h in
-      let q = member_pair (other s) ps r.0 r.2 in
-      (pick q.0, tt, subst (λ z. IsRelated (form_bij ps i) s (pick q.0) c z) (sym r.1) (members_related ps i s q.0 c r.0 fit (turned_back s ps q.0 r.0 q.1)));
+      let q = has_partner (other s) ps r.0 r.2 in
+      let n = q.partner_name in
+      (pick n, tt, subst (λ z. IsRelated (form_bij ps i) s (pick n) c z) (sym r.1) (members_related ps i s n c r.0 fit (turned_back s ps n r.0 q.are_pair)));
 }
 
 pick_same : (m n : List ℕ) → pick m ≡ pick n → m ≡ n
@@ -229,5 +198,5 @@ bij_side ps i s wf apart c (hold_pattern a b) fit = no_member ps i s c (hold_pat
 
 pub bij_images : (ps : List (List ℕ × List ℕ)) (i : List ℕ) → is_well_formed (type_on Left (form_bij ps i)) ≡ true → is_well_formed (type_on Right (form_bij ps i)) ≡ true
     → are_distinct (lefts ps) ≡ true → are_distinct (rights ps) ≡ true → ImageLaw (form_bij ps i)
-bij_images ps i wf wg a b Left c p fit some = bij_side ps i Left wg (subst (λ (z : List (List ℕ)). are_distinct z ≡ true) (sym (left_members ps)) a) c p fit
-bij_images ps i wf wg a b Right c p fit some = bij_side ps i Right wf (subst (λ (z : List (List ℕ)). are_distinct z ≡ true) (sym (right_members ps)) b) c p fit
+bij_images ps i wf wg a b Left c p fit some = bij_side ps i Left wg a c p fit
+bij_images ps i wf wg a b Right c p fit some = bij_side ps i Right wf b c p fit

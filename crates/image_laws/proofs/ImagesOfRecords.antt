@@ -13,16 +13,16 @@ use Rattle.doc_values.specs.Initial.{initial}
 use Rattle.doc_values.proofs.InitialTypes.{has_initial}
 use Rattle.lens_forms.specs.Forms.{FormTree, form_rec, RowTrees, no_rows, both, only_left, only_right, left_type, right_type, left_fields, right_fields}
 use Rattle.lens_forms.specs.Typing.{left_names, right_names}
-use Rattle.lens_core.specs.Sides.{near, type_on}
+use Rattle.lens_core.specs.Sides.{near, type_on, fields_on, names_on}
 use Rattle.lens_core.specs.Complements.{CompTree, nil, then_comp, rec_comp, alt_comp, hold_comp, tags_comp, CompTrees, no_comps, more_comps, FitRows}
 use Rattle.lens_core.specs.Consistency.{content, AreRecords, AreConsistentRows}
 use Rattle.lens_core.specs.Laws.{IsRelated}
 use Rattle.lens_core.proofs.LawsOfLeaves.{bytes_are, bytes_same, differs_back}
 use Rattle.lens_core.proofs.NameTests.{not_that, or_later}
-use Rattle.lens_core.proofs.RecordFields.{with_content}
-use Rattle.lens_branch.proofs.RecordRows.{names_on, row_type, row_type-is, RowsAre, rows_left, rows_right, rows_keep_near, rows_from_left, rows_from_right, AreApart, head_apart, tail_apart, left_tail_apart, right_tail_apart, head_left, head_right}
+use Rattle.lens_core.proofs.RecordFields.{with_content, type_on-rec}
+use Rattle.lens_branch.proofs.RecordRows.{row_type, row_type-is, RowsAre, rows_left, rows_right, rows_keep_near, rows_from_left, rows_from_right, AreApart, head_apart, tail_apart, left_tail_apart, right_tail_apart, head_left, head_right}
 use Rattle.image_laws.specs.Patterns.{PatternTree, hole, rec_pattern, Matches, MatchEach, HasSome, in_order}
-use Rattle.image_laws.specs.Image.{image, image_rows, patterns_by_name, named, with_named, fields_on}
+use Rattle.image_laws.specs.Image.{image, image_rows, patterns_by_name, named, with_named}
 use Rattle.image_laws.specs.ImageLaws.{IsImage, IsImageOf, ImageLaw}
 use Rattle.image_laws.proofs.SidesOfTriples.{near_has}
 use Rattle.image_laws.proofs.PatternsByName.{Contents, AreLike, AreGood, rising_distinct, match_in_order, like_in_order, like_by_name, match_by_name, good_record, record_of}
@@ -277,14 +277,6 @@ record_related rows Right ds cs es a fit b h = (
   rows_from_right rows (left_fields rows) es cs (right_fields rows) ds (content (right_fields rows) ds) (content (left_fields rows) es) (λ k. refl) (λ k. refl) h,
 )
 
-type_is : (rows : RowTrees) (s : Side) → type_on s (form_rec rows) ≡ ty_rec (fields_on s rows)
-type_is rows Left = refl
-type_is rows Right = refl
-
-row_types : (rows : RowTrees) (s : Side) (n : List ℕ) → lookup_type (fields_on s rows) n ≡ row_type s rows n
-row_types rows Left n = row_type-is Left rows n
-row_types rows Right n = row_type-is Right rows n
-
 -- a record of a type of fields
 record_doc : (fs : FieldTrees) (v : DocTree) → has (ty_rec fs) v ≡ true → (ds : DocTrees) × (v ≡ rec ds) × (has_fields fs ds ≡ true)
 record_doc fs (rec ds) h = (ds, refl, h)
@@ -307,10 +299,10 @@ module _ (rows : RowTrees) (s : Side) (cs : CompTrees) (p : PatternTree) (ds0 : 
       let fs = fields_on s rows in
       let gs = fields_on (other s) rows in
       let at = patterns_by_name fs p in
-      let good = good_by (lookup_type gs) (row_type (other s) rows) (named qs) (content gs es) (λ n. sym (row_types rows (other s) n)) (good_record gs es (named qs) h (like_in_order gs (named qs) es m)) in
+      let good = good_by (lookup_type gs) (row_type (other s) rows) (named qs) (content gs es) (λ n. sym (row_type-is (other s) rows n)) (good_record gs es (named qs) h (like_in_order gs (named qs) es m)) in
       let r = a.onto (content gs es) good in
-      let d = record_of fs at r.0 near_apart (good_by (row_type s rows) (lookup_type fs) at r.0 (row_types rows s) r.1) in
-      let rel = rows_agree s rows cs r.0 (content fs d.docs) (content gs es) (λ n t e. d.agree n t (row_types rows s n ∙ e)) r.2 in
+      let d = record_of fs at r.0 near_apart (good_by (row_type s rows) (lookup_type fs) at r.0 (row_type-is s rows) r.1) in
+      let rel = rows_agree s rows cs r.0 (content fs d.docs) (content gs es) (λ n t e. d.agree n t (row_type-is s rows n ∙ e)) r.2 in
       (d.docs, match_by_name fs p ds0 d.docs near_apart like0 has0 d.have d.like, record_related rows s d.docs cs es d.have fit h rel)
 
   record_given : (o : Option (List (List ℕ × PatternTree))) → AreImages (row_type s rows) (row_type (other s) rows) (λ f g. RowsAre s rows f cs g) (patterns_by_name (fields_on s rows) p) o
@@ -321,8 +313,8 @@ module _ (rows : RowTrees) (s : Side) (cs : CompTrees) (p : PatternTree) (ds0 : 
   record_given (Some qs) a = record {
     some_doc =
         let gs = fields_on (other s) rows in
-        let r = record_of gs (named qs) a.some_docs.0 far_apart (good_by (row_type (other s) rows) (lookup_type gs) (named qs) a.some_docs.0 (row_types rows (other s)) a.some_docs.1) in
-        (rec r.docs, subst (λ t. has t (rec r.docs) ≡ true) (sym (type_is rows (other s))) r.have, (r.docs, refl, match_in_order gs (named qs) r.docs far_apart r.have r.like));
+        let r = record_of gs (named qs) a.some_docs.0 far_apart (good_by (row_type (other s) rows) (lookup_type gs) (named qs) a.some_docs.0 (row_type-is (other s) rows) a.some_docs.1) in
+        (rec r.docs, subst (λ t. has t (rec r.docs) ≡ true) (sym (type_on-rec rows (other s))) r.have, (r.docs, refl, match_in_order gs (named qs) r.docs far_apart r.have r.like));
     into = λ v w m h.
         let g = record_triple rows s v cs w h in
         let gs = fields_on (other s) rows in (
@@ -332,7 +324,7 @@ module _ (rows : RowTrees) (s : Side) (cs : CompTrees) (p : PatternTree) (ds0 : 
               (a.into (content (fields_on s rows) g.ds) (content gs g.es) (like_by_name (fields_on s rows) p g.ds (subst (Matches p) g.near_is m)) g.each),
         );
     onto = λ w h m.
-        let h' = subst (λ t. has t (rec m.0) ≡ true) (type_is rows (other s)) (subst (λ z. has (type_on (other s) (form_rec rows)) z ≡ true) m.1 h) in
+        let h' = subst (λ t. has t (rec m.0) ≡ true) (type_on-rec rows (other s)) (subst (λ z. has (type_on (other s) (form_rec rows)) z ≡ true) m.1 h) in
         let r = record_onto qs a m.0 h' m.2 in
         (rec r.0, r.1, subst (λ z. IsRelated (form_rec rows) s (rec r.0) (rec_comp cs) z) (sym m.1) r.2);
   }
@@ -346,7 +338,7 @@ record_side rows laws s cs p h k near_apart far_apart fit some =
     let d = record_doc fs some.0 some.1 in
     let like = subst (Matches p) d.1 some.2 in
     record_given rows s cs p d.0 near_apart far_apart fit like d.2 (image_rows rows s cs at)
-    (rows_imaged rows laws s cs at h k fit (content fs d.0) (good_by (lookup_type fs) (row_type s rows) at (content fs d.0) (λ n. sym (row_types rows s n)) (good_record fs d.0 at d.2 (like_by_name fs p d.0 like))))
+    (rows_imaged rows laws s cs at h k fit (content fs d.0) (good_by (lookup_type fs) (row_type s rows) at (content fs d.0) (λ n. sym (row_type-is s rows n)) (good_record fs d.0 at d.2 (like_by_name fs p d.0 like))))
 
 sorted_apart : (fs : FieldTrees) → is_well_formed (ty_rec fs) ≡ true → are_distinct (names_of fs) ≡ true
 sorted_apart fs h = rising_distinct (names_of fs) (first (is_rising (names_of fs)) (are_well_formed fs) h)

@@ -1,9 +1,9 @@
 -- Contents and patterns of a record by the names of its fields, and back to lists.
 use Rattle.std.proofs.Common.{◌≡◌, ◌∙◌, ℕ, Bool, true, false, List, [], ◌∷◌, Option, Some, refl, ap, sym, subst}
 use Rattle.std.specs.Prelude.{◌||◌, bytes_eq, cond, not}
-use Rattle.texts.specs.Keys.{is_before, all_after, is_rising, has_name}
+use Rattle.texts.specs.Keys.{is_rising, has_name}
 use Rattle.texts.proofs.Conjunction.{first, second, both}
-use Rattle.texts.proofs.KeyOrder.{before-differs, after-tail, rising-first, rising-rest}
+use Rattle.texts.proofs.KeyOrder.{before-differs, rising-first, rising-rest, after-member}
 use Rattle.doc_values.specs.Documents.{DocTree, rec, DocTrees, no_docs, more_docs}
 use Rattle.doc_values.specs.Types.{TyTree, FieldTrees, no_fields, more_fields, names_of, are_distinct}
 use Rattle.doc_values.specs.Typing.{has, has_fields, lookup_type}
@@ -27,20 +27,12 @@ AreGood types at f = (n : List ℕ) (t : TyTree) → types n ≡ Some t → (v :
 
 -- ---- names of fields that are sorted
 
-after_member : (m n : List ℕ) (ms : List (List ℕ)) → all_after m ms ≡ true → is_rising ms ≡ true → has_name n ms ≡ true → is_before m n ≡ true
-after_member m n [] a r h = cc
-after_member m n (x ∷ ms) a r h = go (bytes_eq n x) refl h (λ k. after_member m n ms (after-tail m x ms a (rising-first x ms r)) (rising-rest x ms r) k)
-  where
-    go : (b : Bool) → bytes_eq n x ≡ b → (b || has_name n ms) ≡ true → (has_name n ms ≡ true → is_before m n ≡ true) → is_before m n ≡ true
-    go true e h again = subst (λ z. is_before m z ≡ true) (sym (bytes_are n x e)) a
-    go false e h again = again h
-
 rising_apart : (m : List ℕ) (ms : List (List ℕ)) → is_rising (m ∷ ms) ≡ true → has_name m ms ≡ false
 rising_apart m ms r = go (has_name m ms) refl
   where
     go : (b : Bool) → has_name m ms ≡ b → b ≡ false
     go false h = refl
-    go true h = let off = before-differs m m (after_member m m ms (rising-first m ms r) (rising-rest m ms r) h) in let same = bytes_same m in cc
+    go true h = let off = before-differs m m (after-member m m ms (rising-first m ms r) (rising-rest m ms r) h) in let same = bytes_same m in cc
 
 pub rising_distinct : (ms : List (List ℕ)) → is_rising ms ≡ true → are_distinct ms ≡ true
 rising_distinct [] r = refl

@@ -10,7 +10,7 @@ use Rattle.lens_forms.specs.Forms.{FormTree}
 use Rattle.lens_forms.specs.Typing.{is_typed}
 use Rattle.lens_forms.proofs.TypingLaws.{left_formed, right_formed}
 use Rattle.lens_core.specs.Sides.{type_on}
-use Rattle.lens_core.specs.Complements.{CompTree, Fits}
+use Rattle.lens_core.specs.Complements.{CompTree}
 use Rattle.lens_core.specs.Laws.{IsRelated}
 use Rattle.lens_core.proofs.LawsOfWords.{consistent_is_typed}
 
@@ -21,10 +21,6 @@ near_has l Right x c y h = (consistent_is_typed l y c x h).right_has
 pub far_has : (l : FormTree) (s : Side) (x : DocTree) (c : CompTree) (y : DocTree) → IsRelated l s x c y → has (type_on (other s) l) y ≡ true
 far_has l Left x c y h = (consistent_is_typed l x c y h).right_has
 far_has l Right x c y h = (consistent_is_typed l y c x h).left_has
-
-pub comp_fits : (l : FormTree) (s : Side) (x : DocTree) (c : CompTree) (y : DocTree) → IsRelated l s x c y → Fits l c
-comp_fits l Left x c y h = (consistent_is_typed l x c y h).comp_fits
-comp_fits l Right x c y h = (consistent_is_typed l y c x h).comp_fits
 
 pub formed_on : (l : FormTree) → is_typed l ≡ true → (s : Side) → is_well_formed (type_on s l) ≡ true
 formed_on l h Left = left_formed l h

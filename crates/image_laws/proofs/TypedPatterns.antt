@@ -1,7 +1,7 @@
 -- Each pattern of a well-formed type has a document of the type: the one with initial values in its holes. And a pattern that has a
 -- document of a type is of the type.
 use Rattle.std.proofs.Common.{◌≡◌, ◌∙◌, ℕ, Bool, true, false, ◌&&◌, List, length, Option, None, Some, refl, ap, sym, subst}
-use Rattle.std.specs.Prelude.{ℤ, bytes_eq, cond}
+use Rattle.std.specs.Prelude.{ℤ}
 use Rattle.texts.specs.Keys.{is_rising}
 use Rattle.texts.proofs.Conjunction.{first, second, both}
 use Rattle.hold_shapes.specs.declared.shape.Shape.{Shape}
@@ -10,20 +10,11 @@ use Rattle.doc_values.specs.Types.{TyTree, ty_unit, ty_bool, ty_int, ty_text, ty
 use Rattle.doc_values.specs.Typing.{has, has_fields, has_each, lookup_type, is_list_of, is_keyed_of, is_tree_of}
 use Rattle.doc_values.specs.Initial.{initial}
 use Rattle.doc_values.proofs.InitialTypes.{has_initial}
-use Rattle.lens_core.proofs.RecordFields.{lookup_type-more}
+use Rattle.doc_values.proofs.FieldPlaces.{lookup_type-well_formed}
 use Rattle.image_laws.specs.Patterns.{PatternTree, hole, unit_pattern, truth_pattern, int_pattern, text_pattern, pick_pattern, rec_pattern, alt_pattern, hold_pattern, PatternTrees, no_patterns, more_patterns, pattern_count, Matches, MatchEach, HasSome, is_of_type, are_of_fields, are_of_type, pattern_of, patterns_of}
 use Rattle.image_laws.proofs.PatternsOfItems.{match_count}
 
 -- ---- typed patterns have documents
-
-found_formed : (fs : FieldTrees) (n : List ℕ) (t : TyTree) → are_well_formed fs ≡ true → lookup_type fs n ≡ Some t → is_well_formed t ≡ true
-found_formed no_fields n t h e = cc
-found_formed (more_fields m u fs) n t h e =
-    go (bytes_eq m n) (sym (lookup_type-more m u fs n) ∙ e) (λ k. found_formed fs n t (second (is_well_formed u) (are_well_formed fs) h) k)
-  where
-    go : (b : Bool) → cond b (Some u) (lookup_type fs n) ≡ Some t → (lookup_type fs n ≡ Some t → is_well_formed t ≡ true) → is_well_formed t ≡ true
-    go true e again = let same : u ≡ t = cc in subst (λ z. is_well_formed z ≡ true) same (first (is_well_formed u) (are_well_formed fs) h)
-    go false e again = again e
 
 record SomeFields (ps : PatternTrees) (fs : FieldTrees) : Type 0 where
   docs : DocTrees
@@ -59,7 +50,7 @@ mutual
   some_document (rec_pattern ps) (ty_rec fs) wf h = let r = some_fields ps fs (second (is_rising (names_of fs)) (are_well_formed fs) wf) h in (rec r.docs, r.have, (r.docs, refl, r.match))
   some_document (alt_pattern n p) (ty_alt fs) wf h =
       let i = alt_inside fs n p h in
-      let r = some_document p i.0 (found_formed fs n i.0 (second (are_choices (names_of fs)) (are_well_formed fs) wf) i.1) i.2 in
+      let r = some_document p i.0 (lookup_type-well_formed fs n i.0 (second (are_choices (names_of fs)) (are_well_formed fs) wf) i.1) i.2 in
       (alt n r.0, has_tag fs n r.0 i.0 i.1 r.1, (r.0, refl, r.2))
   some_document (hold_pattern s ps) (ty_list t) wf h =
       let r = some_each ps t wf (second (is_list_of s (pattern_count ps)) (are_of_type ps t) h) in

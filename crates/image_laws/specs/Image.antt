@@ -8,8 +8,8 @@ use Rattle.texts.specs.Sides.{other}
 use Rattle.hold_shapes.specs.declared.shape.Shape.{Shape}
 use Rattle.hold_shapes.specs.declared.shape.Shape.TheVariants.{List as ListOf, Keyed as KeyedOf, Tree as TreeOf}
 use Rattle.doc_values.specs.Types.{FieldTrees, more_fields, are_same_names}
-use Rattle.lens_forms.specs.Forms.{FormTree, form_id, form_bij, form_disc, form_then, form_rec, form_alt, form_each, form_keyed, form_ordered, form_part, form_inv, RowTrees, no_rows, both, only_left, only_right, ArmTrees, no_arms, more_arms, left_fields, right_fields, sorted, lists_of}
-use Rattle.lens_core.specs.Sides.{near, far}
+use Rattle.lens_forms.specs.Forms.{FormTree, form_id, form_bij, form_disc, form_then, form_rec, form_alt, form_each, form_keyed, form_ordered, form_part, form_inv, RowTrees, no_rows, both, only_left, only_right, ArmTrees, no_arms, more_arms, sorted, lists_of}
+use Rattle.lens_core.specs.Sides.{near, far, fields_on}
 use Rattle.lens_core.specs.Complements.{CompTree, then_comp, rec_comp, alt_comp, hold_comp, tags_comp, CompTrees, no_comps, more_comps, comp_count}
 use Rattle.lens_core.specs.Translation.{partner}
 use Rattle.image_laws.specs.Patterns.{PatternTree, hole, pick_pattern, rec_pattern, alt_pattern, hold_pattern, PatternTrees, no_patterns, more_patterns, in_order}
@@ -50,11 +50,6 @@ named (q ∷ qs) n = if bytes_eq q.0 n then q.1 else named qs n
 -- a named pattern before others
 abbrev pub with_named : List ℕ → PatternTree → List (List ℕ × PatternTree) → List (List ℕ × PatternTree)
 with_named n q qs = (n, q) ∷ qs
-
--- the fields of a side
-abbrev pub fields_on : Side → RowTrees → FieldTrees
-fields_on Left rows = left_fields rows
-fields_on Right rows = right_fields rows
 
 -- ---- alternatives
 

@@ -18,12 +18,11 @@ use Rattle.lens_core.specs.Emitted.{stay_word, switch_word}
 use Rattle.lens_core.specs.Complements.{CompTree, alt_comp, missing}
 use Rattle.lens_core.specs.Translation.{translate, translate_stay, translate_switch, far_tag}
 use Rattle.lens_core.specs.Laws.{IsRelated, Laws}
-use Rattle.lens_core.proofs.LawsOfWords.{edits_carry}
+use Rattle.lens_core.proofs.LawsOfWords.{edits_carry, starts_on}
 use Rattle.lens_core.proofs.Results.{some_same}
 use Rattle.lens_core.proofs.LawsOfLeaves.{bytes_are, bytes_same, differs_back}
 use Rattle.lens_branch.specs.Branches.{ArmLaws}
 use Rattle.lens_core.proofs.NameTests.{not_that, or_later}
-use Rattle.lens_branch.proofs.Triples.{starts_on}
 use Rattle.lens_branch.proofs.Arms.{AreApart, ArmIs, arm_names, far_arm_name, far_head_apart, far_tag_type, far_tail_apart, first_type, head_apart, later_type, left_among, near_among, same_first, tag_type, tags_on, tail_apart}
 
 -- ---- a stay in an arm

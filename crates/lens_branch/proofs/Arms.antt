@@ -18,7 +18,7 @@ use Rattle.lens_core.specs.Laws.{IsRelated}
 use Rattle.lens_core.proofs.LawsOfLeaves.{bytes_same}
 use Rattle.lens_core.proofs.NameTests.{not_false, or_later}
 use Rattle.lens_core.proofs.RecordFields.{lookup_type-more}
-use Rattle.lens_branch.proofs.Triples.{fits_of}
+use Rattle.lens_core.proofs.LawsOfWords.{related_fits}
 
 -- ---- the arms, seen from a side
 
@@ -100,7 +100,7 @@ left_among s (more_arms a b l arms) i v t c j w (inr h) = or_later (bytes_eq t a
 
 pub arm_fits : (s : Side) (arms : ArmTrees) (i : List ℕ) (v : DocTree) (t : List ℕ) (c : CompTree) (j : List ℕ) (w : DocTree) → ArmIs s arms i v t c j w → FitsArm arms t c
 arm_fits s no_arms i v t c j w h = absurd h
-arm_fits s (more_arms a b l arms) i v t c j w (inl h) = inl (h.1, fits_of l s v c w h.3)
+arm_fits s (more_arms a b l arms) i v t c j w (inl h) = inl (h.1, related_fits l s v c w h.3)
 arm_fits s (more_arms a b l arms) i v t c j w (inr h) = inr (arm_fits s arms i v t c j w h)
 
 -- ---- the types at tags

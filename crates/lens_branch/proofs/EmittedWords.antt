@@ -1,5 +1,5 @@
 -- What the code reads of the primitives that it is given, and of the words that it emits.
-use Rattle.std.proofs.Common.{◌≡◌, ℕ, List, refl, arith, rules}
+use Rattle.std.proofs.Common.{◌≡◌, ℕ, List, refl, rules}
 use Rattle.texts.specs.declared.name.Name.{Name}
 use Rattle.edit_module.specs.declared.word.Primitive.{the_lemmas as primitive_lemmas}
 use Rattle.edit_module.specs.declared.word.Primitive.TheVariants.{Stay, Switch}
@@ -8,6 +8,7 @@ use Rattle.edit_module.specs.Views.{primitive_tree, word_tree}
 use Rattle.edit_module.specs.Words.{at, stay, switch, WordTree, no_primitives, more_primitives, word_length}
 use Rattle.edit_module.proofs.Words.{word_tree-out}
 use Rattle.lens_core.specs.Emitted.{one, at_word, stay_word}
+use Rattle.lens_core.proofs.EmptyWords.{at_word-empty, stay_word-empty}
 
 -- ---- primitives of alternatives as trees
 
@@ -19,18 +20,9 @@ primitive_tree-switch m n u = search (rules, primitive_lemmas)
 
 -- ---- what is emitted
 
--- an empty inner word leaves out what is around it
-pub at_word-empty : (f : List ℕ) (w : WordTree) → word_length w ≡ 0 → at_word f w ≡ w
-at_word-empty f no_primitives e = refl
-at_word-empty f (more_primitives p w) e = absurd (omega arith)
-
 pub at_word-more : (f : List ℕ) (w : WordTree) → (word_length w ≡ 0 → ⊥) → at_word f w ≡ one (at f w)
 at_word-more f no_primitives h = absurd (h refl)
 at_word-more f (more_primitives p w) h = refl
-
-pub stay_word-empty : (t : List ℕ) (w : WordTree) → word_length w ≡ 0 → stay_word t w ≡ w
-stay_word-empty t no_primitives e = refl
-stay_word-empty t (more_primitives p w) e = absurd (omega arith)
 
 pub stay_word-more : (t : List ℕ) (w : WordTree) → (word_length w ≡ 0 → ⊥) → stay_word t w ≡ one (stay t w)
 stay_word-more t no_primitives h = absurd (h refl)

@@ -15,7 +15,7 @@ use Rattle.edit_module.specs.Action.{act, act_primitive, put_at, doc_at}
 use Rattle.edit_module.proofs.ActionKeepsTypes.{has_primitive, has_act}
 use Rattle.lens_forms.specs.Forms.{FormTree, form_rec, RowTrees, no_rows, both, only_left, only_right, left_type, left_fields, right_type, right_fields, paired_rows}
 use Rattle.lens_forms.specs.Typing.{left_names, right_names}
-use Rattle.lens_core.specs.Sides.{near, type_on}
+use Rattle.lens_core.specs.Sides.{near, type_on, fields_on, names_on}
 use Rattle.lens_core.specs.Emitted.{at_word}
 use Rattle.lens_core.specs.Complements.{CompTree, rec_comp, CompTrees, comp_count, missing, missing_rows}
 use Rattle.lens_core.specs.Consistency.{IsConsistent, content, AreRecords, AreConsistentRows}
@@ -26,9 +26,9 @@ use Rattle.doc_values.proofs.FieldPlaces.{lookup_type_place}
 use Rattle.lens_core.proofs.LawsOfLeaves.{bytes_same, differs_back}
 use Rattle.lens_branch.specs.Branches.{RowLaws, IsLawfulRecord}
 use Rattle.lens_core.proofs.NameTests.{not_that, or_later}
-use Rattle.lens_core.proofs.RecordFields.{ActsOnField, acts_on_field, content-found, content-initial, content-put, field_acts, with_content}
+use Rattle.lens_core.proofs.RecordFields.{ActsOnField, acts_on_field, content-found, content-initial, content-put, field_acts, with_content, type_on-rec}
 use Rattle.lens_branch.proofs.Triples.{carries_at}
-use Rattle.lens_branch.proofs.RecordRows.{AreApart, RowsAre, fields_on, head_apart, head_left, head_right, left_tail_apart, names_on, near_name, right_tail_apart, row_type, row_type-is, rows_count, rows_fit, rows_from_left, rows_from_right, rows_left, rows_right, tail_apart}
+use Rattle.lens_branch.proofs.RecordRows.{AreApart, RowsAre, head_apart, head_left, head_right, left_tail_apart, near_name, right_tail_apart, row_type, row_type-is, rows_count, rows_fit, rows_from_left, rows_from_right, rows_left, rows_right, tail_apart}
 use Rattle.lens_branch.proofs.RowSteps.{IsAloneStep, IsPairedStep, RowStep, row_step}
 
 -- ---- the step of a record
@@ -105,10 +105,6 @@ record_translates : (rows : RowTrees) (s : Side) (cs cs' : CompTrees) (f : List 
     → translate_one (form_rec rows) s (rec_comp cs) (at f u) ≡ Some (w, rec_comp cs')
 record_translates rows s cs cs' f u w h e = rw h (rw e refl)
 
-rec_type : (rows : RowTrees) (s : Side) → type_on s (form_rec rows) ≡ ty_rec (fields_on s rows)
-rec_type rows Left = refl
-rec_type rows Right = refl
-
 -- what is carried, from the step of the rows
 record Ready (rows : RowTrees) (s : Side) (xs : DocTrees) (cs : CompTrees) (ys : DocTrees) (p : PrimitiveTree) (x' : DocTree) : Type 0 where
   sound : is_well_formed (ty_rec (fields_on (other s) rows)) ≡ true
@@ -134,7 +130,7 @@ paired_carries rows s xs cs ys p x' r q =
       comp = rec_comp q.comps;
       document = rec (put_at ys spot.0.0 q.behind);
       carried = record_translates rows s cs q.comps k.field k.word (at_word q.name q.word) r.count_is q.translated;
-      acts = subst (λ t. act t (at_word q.name q.word) (rec ys) ≡ Ok (rec (put_at ys spot.0.0 q.behind))) (sym (rec_type rows (other s))) far_acts;
+      acts = subst (λ t. act t (at_word q.name q.word) (rec ys) ≡ Ok (rec (put_at ys spot.0.0 q.behind))) (sym (type_on-rec rows (other s))) far_acts;
       consistent = record_related rows s (put_at xs k.place.0 k.content) q.comps (put_at ys spot.0.0 q.behind)
           (with_content k.field k.content (content (fields_on s rows) xs)) (with_content q.name q.behind (content fs ys)) r.new_has far_new
           (content-put (fields_on s rows) xs k.field k.place k.content r.near_has k.found) (content-put fs ys q.name spot.0 q.behind r.far_has spot.1) q.related;
@@ -180,7 +176,7 @@ record_step : (rows : RowTrees) → IsLawfulRecord rows → (s : Side) (p : Prim
 record_step rows h s p x c y x' related e =
     let a = record_triple rows s x c y related in
     let fs = fields_on s rows in
-    let acts : act_primitive (ty_rec fs) p (rec a.xs) ≡ Ok x' = subst (λ z. act_primitive (ty_rec fs) p z ≡ Ok x') a.near_is (subst (λ t. act_primitive t p x ≡ Ok x') (rec_type rows s) e) in
+    let acts : act_primitive (ty_rec fs) p (rec a.xs) ≡ Ok x' = subst (λ z. act_primitive (ty_rec fs) p z ≡ Ok x') a.near_is (subst (λ t. act_primitive t p x ≡ Ok x') (type_on-rec rows s) e) in
     let k = acts_on_field fs a.xs p x' acts in
     let new = subst (λ z. has (ty_rec fs) z ≡ true) k.result (has_primitive (ty_rec fs) p (rec a.xs) x' (sound_on rows h s) a.near_has acts) in
     let ready : Ready rows s a.xs a.cs a.ys p x' = record {
@@ -243,7 +239,7 @@ record_starts rows h =
 
 pub record_laws : (rows : RowTrees) → IsLawfulRecord rows → Laws (form_rec rows)
 record_laws rows h = record {
-  sound = λ s. subst (λ t. is_well_formed t ≡ true) (sym (rec_type rows s)) (sound_on rows h s);
+  sound = λ s. subst (λ t. is_well_formed t ≡ true) (sym (type_on-rec rows s)) (sound_on rows h s);
   starts = record_starts rows h;
   step = record_step rows h;
 }

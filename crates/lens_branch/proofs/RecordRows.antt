@@ -12,23 +12,15 @@ use Rattle.doc_values.specs.Types.{TyTree, FieldTrees, are_distinct}
 use Rattle.doc_values.specs.Typing.{lookup_type}
 use Rattle.lens_forms.specs.Forms.{FormTree, RowTrees, no_rows, both, only_left, only_right, left_type, left_fields, right_type, right_fields, paired_rows}
 use Rattle.lens_forms.specs.Typing.{left_names, right_names}
-use Rattle.lens_core.specs.Sides.{near, far, type_on}
+use Rattle.lens_core.specs.Sides.{near, far, type_on, fields_on, names_on}
 use Rattle.lens_core.specs.Complements.{CompTrees, no_comps, more_comps, comp_count, FitRows}
 use Rattle.lens_core.specs.Consistency.{content, AreConsistentRows}
 use Rattle.lens_core.specs.Laws.{IsRelated}
 use Rattle.lens_core.proofs.NameTests.{not_false, or_left, or_right}
 use Rattle.lens_core.proofs.RecordFields.{lookup_type-insert, with_content}
-use Rattle.lens_branch.proofs.Triples.{fits_of}
+use Rattle.lens_core.proofs.LawsOfWords.{related_fits}
 
 -- ---- the rows, seen from a side
-
-abbrev pub names_on : Side → RowTrees → List (List ℕ)
-names_on Left rows = left_names rows
-names_on Right rows = right_names rows
-
-abbrev pub fields_on : Side → RowTrees → FieldTrees
-fields_on Left rows = left_fields rows
-fields_on Right rows = right_fields rows
 
 -- a row of one side alone
 abbrev is_side : Side → Side → Bool
@@ -115,7 +107,7 @@ pub rows_fit : (s : Side) (rows : RowTrees) (f g : List ℕ → Option DocTree) 
 rows_fit s no_rows f g no_comps h = tt
 rows_fit s no_rows f g (more_comps c cs) h = h
 rows_fit s (both a b l rows) f g no_comps h = h
-rows_fit s (both a b l rows) f g (more_comps c cs) h = (fits_of l s h.0.0 c h.0.1 h.0.4, rows_fit s rows f g cs h.1)
+rows_fit s (both a b l rows) f g (more_comps c cs) h = (related_fits l s h.0.0 c h.0.1 h.0.4, rows_fit s rows f g cs h.1)
 rows_fit s (only_left a t rows) f g cs h = rows_fit s rows f g cs h
 rows_fit s (only_right b t rows) f g cs h = rows_fit s rows f g cs h
 

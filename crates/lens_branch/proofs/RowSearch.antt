@@ -1,20 +1,21 @@
 -- The rows of a record, as the code goes through them one after the other.
-use Rattle.std.proofs.Common.{◌≡◌, ℕ, suc, ◌+◌, ◌-◌, ◌<◌, ◌≤◌, Bool, true, false, List, [], ◌∷◌, length, map, drop, drop-cons, get_or, add-one, Option, None, Some, option_map, refl, sym, ap, subst, ◌∙◌, arith, rules}
-use Rattle.std.specs.Prelude.{nat_eq, if◌then◌else◌}
+use Rattle.std.proofs.Common.{◌≡◌, ℕ, suc, ◌+◌, ◌-◌, ◌<◌, ◌≤◌, Bool, true, false, List, [], ◌∷◌, length, map, drop, drop-cons, get_or, add-one, Option, None, Some, option_map, refl, sym, ap, subst, ◌∙◌, arith}
+use Rattle.std.specs.Prelude.{nat_eq}
 use Rattle.std.proofs.lemmas.List.{drop_all}
 use Rattle.std.proofs.lemmas.Bool.Decides.{nat_tests}
 use Rattle.texts.specs.declared.side.Side.{Side}
 use Rattle.lens_forms.specs.Forms.{FormTree, RowTrees, RowTree, row_both, row_left, row_right, row_list, form_rows_of, row_tree, with_row, paired_rows}
-use Rattle.lens_forms.specs.declared.form.FormRow.{FormRow, the_lemmas as row_lemmas}
-use Rattle.doc_values.specs.Types.{ty_tree}
+use Rattle.lens_forms.specs.declared.form.FormRow.{FormRow}
 use Rattle.doc_values.specs.declared.ty.Ty.{Ty}
 use Rattle.lens_forms.specs.Forms.{form_tree}
 use Rattle.lens_forms.specs.Measures.{form_parts, rows_parts}
 use Rattle.lens_forms.specs.declared.form.Form.{Form}
 use Rattle.lens_forms.specs.declared.form.FormRow.TheVariants.{Both, OnlyLeft, OnlyRight}
+use Rattle.lens_forms.proofs.TreesOfRows.{row_tree-both, row_tree-left, row_tree-right}
 use Rattle.lens_core.proofs.FormParts.{row_parts, row_smaller}
+use Rattle.lens_core.proofs.Results.{inside_if}
 use Rattle.edit_module.specs.Words.{PrimitiveTree, set, add, splice, at, stay, switch, modify, shape, WordTree}
-use Rattle.lens_core.specs.Beginnings.{Beginning, IsInside}
+use Rattle.lens_core.specs.Beginnings.{IsInside}
 use Rattle.lens_core.specs.Complements.{CompTrees, comp_count}
 use Rattle.lens_branch.specs.RecordSteps.{has_near, pairs_of, RowAt, row_behind, row_of, begin_row, begin_in, begin_record, row_lens}
 
@@ -23,17 +24,6 @@ row_list-form_rows_of [] = refl
 row_list-form_rows_of (row_both a b l ∷ rs) = ap (λ x. row_both a b l ∷ x) (row_list-form_rows_of rs)
 row_list-form_rows_of (row_left a t ∷ rs) = ap (λ x. row_left a t ∷ x) (row_list-form_rows_of rs)
 row_list-form_rows_of (row_right b t ∷ rs) = ap (λ x. row_right b t ∷ x) (row_list-form_rows_of rs)
-
--- ---- one row as a tree
-
-row_tree-both : (a b : List ℕ) (l : Form) → row_tree (Both a b l) ≡ row_both a b (form_tree l)
-row_tree-both a b l = search (rules, row_lemmas)
-
-row_tree-left : (a : List ℕ) (t : Ty) → row_tree (OnlyLeft a t) ≡ row_left a (ty_tree t)
-row_tree-left a t = search (rules, row_lemmas)
-
-row_tree-right : (a : List ℕ) (t : Ty) → row_tree (OnlyRight a t) ≡ row_right a (ty_tree t)
-row_tree-right a t = search (rules, row_lemmas)
 
 -- ---- the search
 
@@ -136,10 +126,6 @@ pub ruleset place_rules = (lens_is_here, lens_behind, lens_past_left, lens_past_
 
 -- ---- after a beginning in a row, the row of the field is there and is paired
 
-counted : (b : Bool) (o : Option Beginning) → IsInside (if b then o else None) → (b ≡ true) × IsInside o
-counted true o h = (refl, h)
-counted false o h = absurd h
-
 row_inside : (cs : CompTrees) (u : WordTree) (o : Option RowAt) → IsInside (option_map (begin_in cs u) o) → o ≡ None → ⊥
 row_inside cs u None h e = h
 row_inside cs u (Some q) h e = cc
@@ -151,17 +137,17 @@ paired_inside cs u k (row_right b t) h = absurd h
 
 pub begun_counted : (rows : RowTrees) (side : Side) (cs : CompTrees) (f : List ℕ) (u : WordTree) → IsInside (begin_record rows side cs (at f u)) → comp_count cs ≡ paired_rows rows
 begun_counted rows side cs f u h =
-    let e = (counted (nat_eq (comp_count cs) (paired_rows rows)) (option_map (begin_in cs u) (row_of (row_list rows) side f)) h).0 in
+    let e = (inside_if (nat_eq (comp_count cs) (paired_rows rows)) (option_map (begin_in cs u) (row_of (row_list rows) side f)) h).0 in
     grind (arith, nat_tests)
 
 pub begun_has_row : (rows : RowTrees) (side : Side) (cs : CompTrees) (f : List ℕ) (u : WordTree) → IsInside (begin_record rows side cs (at f u)) → row_of (row_list rows) side f ≡ None → ⊥
 begun_has_row rows side cs f u h e =
-    row_inside cs u (row_of (row_list rows) side f) (counted (nat_eq (comp_count cs) (paired_rows rows)) (option_map (begin_in cs u) (row_of (row_list rows) side f)) h).1 e
+    row_inside cs u (row_of (row_list rows) side f) (inside_if (nat_eq (comp_count cs) (paired_rows rows)) (option_map (begin_in cs u) (row_of (row_list rows) side f)) h).1 e
 
 pub begun_is_paired : (rows : RowTrees) (side : Side) (cs : CompTrees) (f : List ℕ) (u : WordTree) (q : RowAt) → IsInside (begin_record rows side cs (at f u)) → row_of (row_list rows) side f ≡ Some q
     → pairs_of q.row ≡ 1
 begun_is_paired rows side cs f u q h e =
-    let there = (counted (nat_eq (comp_count cs) (paired_rows rows)) (option_map (begin_in cs u) (row_of (row_list rows) side f)) h).1 in
+    let there = (inside_if (nat_eq (comp_count cs) (paired_rows rows)) (option_map (begin_in cs u) (row_of (row_list rows) side f)) h).1 in
     paired_inside cs u q.pairs q.row (subst (λ (o : Option RowAt). IsInside (option_map (begin_in cs u) o)) e there)
 
 abbrev pub is_at : PrimitiveTree → Bool

@@ -11,7 +11,7 @@ use Rattle.edit_module.specs.Words.{WordTree, no_primitives}
 use Rattle.edit_module.specs.Action.{act}
 use Rattle.lens_forms.specs.Forms.{FormTree, RowTrees, no_rows, both, only_left, only_right}
 use Rattle.lens_forms.specs.Typing.{left_names, right_names}
-use Rattle.lens_core.specs.Sides.{near, far, type_on}
+use Rattle.lens_core.specs.Sides.{near, far, type_on, names_on}
 use Rattle.lens_core.specs.Emitted.{at_word}
 use Rattle.lens_core.specs.Complements.{CompTree, CompTrees, no_comps, more_comps}
 use Rattle.lens_core.specs.Translation.{translate, translate_at}
@@ -22,7 +22,7 @@ use Rattle.lens_core.proofs.LawsOfLeaves.{bytes_are, bytes_same, differs_back}
 use Rattle.lens_branch.specs.Branches.{RowLaws}
 use Rattle.lens_core.proofs.NameTests.{not_that, or_later}
 use Rattle.lens_core.proofs.RecordFields.{with_content}
-use Rattle.lens_branch.proofs.RecordRows.{AreApart, RowsAre, far_head_apart, far_left_tail, far_name, far_right_tail, far_tail, head_apart, head_left, head_right, keep_there, left_tail_apart, names_on, right_tail_apart, row_type, rows_keep_far, rows_keep_near, tail_apart}
+use Rattle.lens_branch.proofs.RecordRows.{AreApart, RowsAre, far_head_apart, far_left_tail, far_name, far_right_tail, far_tail, head_apart, head_left, head_right, keep_there, left_tail_apart, right_tail_apart, row_type, rows_keep_far, rows_keep_near, tail_apart}
 
 -- ---- a word in one field
 

@@ -8,27 +8,26 @@ use Rattle.texts.specs.declared.side.Side.TheVariants.{Left, Right}
 use Rattle.texts.specs.Sides.{other}
 use Rattle.texts.specs.Keys.{has_name}
 use Rattle.texts.proofs.Conjunction.{first as first_and, second as second_and}
-use Rattle.doc_values.specs.Types.{FieldTrees, no_fields, more_fields, names_of, are_distinct, ty_tree}
+use Rattle.doc_values.specs.Types.{FieldTrees, no_fields, more_fields, names_of, are_distinct}
 use Rattle.doc_values.specs.declared.ty.Ty.{Ty}
 use Rattle.lens_forms.specs.Forms.{FormTree, form_tree, form_rec, RowTrees, no_rows, both, only_left, only_right, RowTree, row_both, row_left, row_right, row_tree, with_row, form_rows_of}
 use Rattle.lens_forms.specs.declared.form.Form.{Form}
 use Rattle.lens_forms.specs.declared.form.FormRow.{FormRow, the_lemmas as row_lemmas}
 use Rattle.lens_forms.specs.declared.form.FormRow.TheVariants.{Both, OnlyLeft, OnlyRight}
 use Rattle.lens_forms.proofs.SortedFields.{not_not}
+use Rattle.lens_forms.proofs.TreesOfRows.{row_tree-both, rows_from, next_both, next_left, next_right}
 use Rattle.lens_core.specs.Complements.{nil, rec_comp, CompTrees, no_comps, more_comps, comps_of, comp_list, comp_count}
-use Rattle.lens_core.specs.Sides.{near, far}
+use Rattle.lens_core.specs.Sides.{near, far, fields_on, names_on}
 use Rattle.lens_core.proofs.ComplementTrees.{comps_of-comp_list, comp_count-length}
 use Rattle.lens_core.proofs.LawsOfLeaves.{bytes_same}
-use Rattle.lens_core.proofs.MissingRows.{row_tree-both}
 use Rattle.lens_core.proofs.NameTests.{or_later}
-use Rattle.image_laws.specs.Image.{image, image_rows, with_named, named, fields_on, patterns_by_name}
+use Rattle.image_laws.specs.Image.{image, image_rows, with_named, named, patterns_by_name}
 use Rattle.image_laws.specs.Patterns.{PatternTree, hole, rec_pattern, patterns_from, pattern_list, in_order}
 use Rattle.image_laws.proofs.PatternLists.{patterns_from-pattern_list}
 use Rattle.lens_check.specs.ImageParts.{place_among, if_far}
 use Rattle.lens_check.specs.ReadyComplements.{IsReady, AreReadyRows}
 use Rattle.lens_check.proofs.SortedNames.{insert_name, sort_names, put_names, put_sorted, insert-place, insert-place-name}
-use Rattle.lens_check.proofs.FieldPlaces.{names_on, fields_on-names}
-use Rattle.lens_check.proofs.FitLoops.{row_tree-left, row_tree-right, rows_next}
+use Rattle.lens_check.proofs.FieldPlaces.{fields_on-names}
 
 -- ---- named patterns put at their places
 
@@ -134,28 +133,13 @@ record_is rows s cs p apart = record_of rows s cs p (image_rows rows s cs (patte
 
 -- ---- the rows one after the other
 
--- the rows from one on, and the complements from one on
-abbrev pub rows_from : List FormRow → ℕ → RowTrees
-rows_from rows i = form_rows_of (map row_tree (drop i rows))
-
+-- the complements from one on
 abbrev pub comps_from : CompTrees → ℕ → CompTrees
 comps_from cs k = comps_of (drop k (comp_list cs))
 
 -- the patterns of the record, where those of the rows before are at their places
 abbrev pub still_placed : List FormRow → Side → CompTrees → (List ℕ → PatternTree) → ℕ → ℕ → List (List ℕ) → List PatternTree → Option (List PatternTree)
 still_placed rows s cs at i k ns ps = option_map (λ qs. placed qs ns ps) (image_rows (rows_from rows i) s (comps_from cs k) at)
-
-pub both_next : (rows : List FormRow) (i : ℕ) (r : FormRow) (a b : List ℕ) (l : Form) → i < length rows → r ≡ get_or rows i r → r ≡ Both a b l
-    → rows_from rows i ≡ both a b (form_tree l) (rows_from rows (i + 1))
-both_next rows i r a b l h is row = rows_next rows i r h is ∙ ap (λ z. with_row z (rows_from rows (i + 1))) (ap row_tree row ∙ row_tree-both a b l)
-
-left_next : (rows : List FormRow) (i : ℕ) (r : FormRow) (a : List ℕ) (t : Ty) → i < length rows → r ≡ get_or rows i r → r ≡ OnlyLeft a t
-    → rows_from rows i ≡ only_left a (ty_tree t) (rows_from rows (i + 1))
-left_next rows i r a t h is row = rows_next rows i r h is ∙ ap (λ z. with_row z (rows_from rows (i + 1))) (ap row_tree row ∙ row_tree-left a t)
-
-right_next : (rows : List FormRow) (i : ℕ) (r : FormRow) (b : List ℕ) (t : Ty) → i < length rows → r ≡ get_or rows i r → r ≡ OnlyRight b t
-    → rows_from rows i ≡ only_right b (ty_tree t) (rows_from rows (i + 1))
-right_next rows i r b t h is row = rows_next rows i r h is ∙ ap (λ z. with_row z (rows_from rows (i + 1))) (ap row_tree row ∙ row_tree-right b t)
 
 pub comps_next : (cs : CompTrees) (k : ℕ) → k < comp_count cs → comps_from cs k ≡ more_comps (get_or (comp_list cs) k nil) (comps_from cs (k + 1))
 comps_next cs k h = rw (drop-cons (comp_list cs) k nil (omega (arith, comp_count-length cs)), add-one) refl
@@ -175,36 +159,36 @@ pub placed_both : (rows : List FormRow) (s : Side) (cs : CompTrees) (at : List �
     → still_placed rows s cs at i k ns ps
     ≡ still_placed rows s cs at (i + 1) (k + 1) (insert ns (place_among (far s a b) ns) (far s a b)) (insert ps (place_among (far s a b) ns) q)
 placed_both rows s cs at i k ns ps r a b l q h is row small e =
-    rw (both_next rows i r a b l h is row, comps_next cs k small, e) (put_first (far s a b) q (image_rows (rows_from rows (i + 1)) s (comps_from cs (k + 1)) at) ns ps)
+    rw (next_both rows i r a b l h is row, comps_next cs k small, e) (put_first (far s a b) q (image_rows (rows_from rows (i + 1)) s (comps_from cs (k + 1)) at) ns ps)
 
 -- it has none, or there is no complement for it
 pub placed_none : (rows : List FormRow) (s : Side) (cs : CompTrees) (at : List ℕ → PatternTree) (i k : ℕ) (ns : List (List ℕ)) (ps : List PatternTree)
     (r : FormRow) (a b : List ℕ) (l : Form)
     → i < length rows → r ≡ get_or rows i r → r ≡ Both a b l → k < comp_count cs → image (form_tree l) s (get_or (comp_list cs) k nil) (at (near s a b)) ≡ None
     → still_placed rows s cs at i k ns ps ≡ None
-placed_none rows s cs at i k ns ps r a b l h is row small e = rw (both_next rows i r a b l h is row, comps_next cs k small, e) refl
+placed_none rows s cs at i k ns ps r a b l h is row small e = rw (next_both rows i r a b l h is row, comps_next cs k small, e) refl
 
 pub placed_short : (rows : List FormRow) (s : Side) (cs : CompTrees) (at : List ℕ → PatternTree) (i k : ℕ) (ns : List (List ℕ)) (ps : List PatternTree)
     (r : FormRow) (a b : List ℕ) (l : Form)
     → i < length rows → r ≡ get_or rows i r → r ≡ Both a b l → comp_count cs ≤ k → still_placed rows s cs at i k ns ps ≡ None
-placed_short rows s cs at i k ns ps r a b l h is row large = rw (both_next rows i r a b l h is row, comps_past cs k large) refl
+placed_short rows s cs at i k ns ps r a b l h is row large = rw (next_both rows i r a b l h is row, comps_past cs k large) refl
 
 -- a field of one side alone
 pub placed_left : (rows : List FormRow) (s : Side) (cs : CompTrees) (at : List ℕ → PatternTree) (i k : ℕ) (ns : List (List ℕ)) (ps : List PatternTree)
     (r : FormRow) (a : List ℕ) (t : Ty) → i < length rows → r ≡ get_or rows i r → r ≡ OnlyLeft a t
     → still_placed rows s cs at i k ns ps
     ≡ still_placed rows s cs at (i + 1) k (if_far Left s (insert ns (place_among a ns) a) ns) (if_far Left s (insert ps (place_among a ns) hole) ps)
-placed_left rows Left cs at i k ns ps r a t h is row = rw (left_next rows i r a t h is row) refl
+placed_left rows Left cs at i k ns ps r a t h is row = rw (next_left rows i r a t h is row) refl
 placed_left rows Right cs at i k ns ps r a t h is row =
-    rw (left_next rows i r a t h is row) (put_first a hole (image_rows (rows_from rows (i + 1)) Right (comps_from cs k) at) ns ps)
+    rw (next_left rows i r a t h is row) (put_first a hole (image_rows (rows_from rows (i + 1)) Right (comps_from cs k) at) ns ps)
 
 pub placed_right : (rows : List FormRow) (s : Side) (cs : CompTrees) (at : List ℕ → PatternTree) (i k : ℕ) (ns : List (List ℕ)) (ps : List PatternTree)
     (r : FormRow) (b : List ℕ) (t : Ty) → i < length rows → r ≡ get_or rows i r → r ≡ OnlyRight b t
     → still_placed rows s cs at i k ns ps
     ≡ still_placed rows s cs at (i + 1) k (if_far Right s (insert ns (place_among b ns) b) ns) (if_far Right s (insert ps (place_among b ns) hole) ps)
 placed_right rows Left cs at i k ns ps r b t h is row =
-    rw (right_next rows i r b t h is row) (put_first b hole (image_rows (rows_from rows (i + 1)) Left (comps_from cs k) at) ns ps)
-placed_right rows Right cs at i k ns ps r b t h is row = rw (right_next rows i r b t h is row) refl
+    rw (next_right rows i r b t h is row) (put_first b hole (image_rows (rows_from rows (i + 1)) Left (comps_from cs k) at) ns ps)
+placed_right rows Right cs at i k ns ps r b t h is row = rw (next_right rows i r b t h is row) refl
 
 -- after the last row
 pub placed_end : (rows : List FormRow) (s : Side) (cs : CompTrees) (at : List ℕ → PatternTree) (i k : ℕ) (ns : List (List ℕ)) (ps : List PatternTree)
@@ -222,16 +206,16 @@ pub ready_both : (rows : List FormRow) (cs : CompTrees) (i k : ℕ) (r : FormRow
     → k < comp_count cs → AreReadyRows (rows_from rows i) (comps_from cs k)
     → IsReady (form_tree l) (get_or (comp_list cs) k nil) × AreReadyRows (rows_from rows (i + 1)) (comps_from cs (k + 1))
 ready_both rows cs i k r a b l h is row small ready =
-    let here : AreReadyRows (both a b (form_tree l) (rows_from rows (i + 1))) (comps_from cs k) = subst (λ z. AreReadyRows z (comps_from cs k)) (both_next rows i r a b l h is row) ready in
+    let here : AreReadyRows (both a b (form_tree l) (rows_from rows (i + 1))) (comps_from cs k) = subst (λ z. AreReadyRows z (comps_from cs k)) (next_both rows i r a b l h is row) ready in
     subst (λ z. AreReadyRows (both a b (form_tree l) (rows_from rows (i + 1))) z) (comps_next cs k small) here
 
 pub ready_left : (rows : List FormRow) (cs : CompTrees) (i : ℕ) (r : FormRow) (a : List ℕ) (t : Ty) → i < length rows → r ≡ get_or rows i r → r ≡ OnlyLeft a t
     → AreReadyRows (rows_from rows i) cs → AreReadyRows (rows_from rows (i + 1)) cs
-ready_left rows cs i r a t h is row ready = subst (λ z. AreReadyRows z cs) (left_next rows i r a t h is row) ready
+ready_left rows cs i r a t h is row ready = subst (λ z. AreReadyRows z cs) (next_left rows i r a t h is row) ready
 
 pub ready_right : (rows : List FormRow) (cs : CompTrees) (i : ℕ) (r : FormRow) (b : List ℕ) (t : Ty) → i < length rows → r ≡ get_or rows i r → r ≡ OnlyRight b t
     → AreReadyRows (rows_from rows i) cs → AreReadyRows (rows_from rows (i + 1)) cs
-ready_right rows cs i r b t h is row ready = subst (λ z. AreReadyRows z cs) (right_next rows i r b t h is row) ready
+ready_right rows cs i r b t h is row ready = subst (λ z. AreReadyRows z cs) (next_right rows i r b t h is row) ready
 
 -- ---- the near field of a paired row is one of its side
 

@@ -1,19 +1,20 @@
 -- The place of a field among the fields of a side, and the pattern there.
 use Rattle.std.proofs.Common.{◌≡◌, ◌∙◌, ℕ, suc, ◌+◌, ◌<◌, ◌≤◌, Bool, true, false, List, [], ◌∷◌, length, map, drop, drop-cons, get_or, add-one, refl, ap, sym, subst, arith, rules}
-use Rattle.std.specs.Prelude.{◌||◌, bytes_eq, not, if◌then◌else◌}
+use Rattle.std.specs.Prelude.{◌||◌, bytes_eq, if◌then◌else◌}
 use Rattle.std.proofs.lemmas.List.{drop_all, get_or_past}
 use Rattle.texts.specs.declared.side.Side.{Side}
 use Rattle.texts.specs.declared.side.Side.TheVariants.{Left, Right}
 use Rattle.texts.specs.Keys.{is_before, is_rising, has_name, rank}
 use Rattle.texts.proofs.KeyOrder.{rising-rest}
-use Rattle.texts.proofs.Conjunction.{second as second_and}
 use Rattle.doc_values.specs.Types.{TyTree, FieldTrees, no_fields, more_fields, names_of, are_distinct}
+use Rattle.doc_values.proofs.DistinctNames.{are_distinct-rest}
 use Rattle.lens_forms.specs.Forms.{RowTrees, no_rows, both, only_left, only_right, RowTree, row_both, row_left, row_right, row_tree, with_row, form_rows_of, left_type, right_type, left_fields, right_fields, insert_field}
 use Rattle.lens_forms.specs.Typing.{left_names, right_names}
 use Rattle.lens_forms.specs.declared.form.FormRow.{FormRow}
 use Rattle.lens_forms.proofs.SortedFields.{inserted, inserted_names}
 use Rattle.lens_core.proofs.LawsOfLeaves.{bytes_are, differs_back}
-use Rattle.image_laws.specs.Image.{fields_on, pattern_at, patterns_by_name}
+use Rattle.lens_core.specs.Sides.{fields_on, names_on}
+use Rattle.image_laws.specs.Image.{pattern_at, patterns_by_name}
 use Rattle.image_laws.specs.Patterns.{PatternTree, hole, unit_pattern, truth_pattern, int_pattern, text_pattern, pick_pattern, rec_pattern, alt_pattern, hold_pattern, PatternTrees, no_patterns, more_patterns, pattern_list, pattern_count, pattern_tree, patterns_tree}
 use Rattle.image_laws.specs.declared.pattern.Pattern.{Pattern, the_lemmas as pattern_lemmas}
 use Rattle.image_laws.specs.declared.pattern.Pattern.TheVariants.{Rec}
@@ -23,10 +24,6 @@ use Rattle.lens_check.specs.ImageParts.{place_among, field_pattern, has_field_be
 use Rattle.lens_check.proofs.SortedNames.{insert_name, sort_names, one_before, rank-insert, rank-first, before_member}
 
 -- ---- the names of a side
-
-abbrev pub names_on : Side → RowTrees → List (List ℕ)
-names_on Left rows = left_names rows
-names_on Right rows = right_names rows
 
 pub insert_field-names : (n : List ℕ) (t : TyTree) (fs : FieldTrees) → names_of (insert_field n t fs) ≡ insert_name n (names_of fs)
 insert_field-names n t no_fields = refl
@@ -59,23 +56,20 @@ fields_on-has Right (both a b l rows) k = inserted_names b (right_type l) (right
 fields_on-has Right (only_left a t rows) k = fields_on-has Right rows k
 fields_on-has Right (only_right b t rows) k = inserted_names b t (right_fields rows) (right_names rows) (fields_on-has Right rows) k
 
-rest_distinct : (n : List ℕ) (names : List (List ℕ)) → are_distinct (n ∷ names) ≡ true → are_distinct names ≡ true
-rest_distinct n names h = second_and (not (has_name n names)) (are_distinct names) h
-
 -- and rise, where the names are distinct
 pub fields_on-rising : (s : Side) (rows : RowTrees) → are_distinct (names_on s rows) ≡ true → is_rising (names_of (fields_on s rows)) ≡ true
 fields_on-rising Left no_rows h = refl
 fields_on-rising Left (both a b l rows) h =
-    inserted a (left_type l) (left_fields rows) (left_names rows) (fields_on-has Left rows) h (fields_on-rising Left rows (rest_distinct a (left_names rows) h))
+    inserted a (left_type l) (left_fields rows) (left_names rows) (fields_on-has Left rows) h (fields_on-rising Left rows (are_distinct-rest a (left_names rows) h))
 fields_on-rising Left (only_left a t rows) h =
-    inserted a t (left_fields rows) (left_names rows) (fields_on-has Left rows) h (fields_on-rising Left rows (rest_distinct a (left_names rows) h))
+    inserted a t (left_fields rows) (left_names rows) (fields_on-has Left rows) h (fields_on-rising Left rows (are_distinct-rest a (left_names rows) h))
 fields_on-rising Left (only_right b t rows) h = fields_on-rising Left rows h
 fields_on-rising Right no_rows h = refl
 fields_on-rising Right (both a b l rows) h =
-    inserted b (right_type l) (right_fields rows) (right_names rows) (fields_on-has Right rows) h (fields_on-rising Right rows (rest_distinct b (right_names rows) h))
+    inserted b (right_type l) (right_fields rows) (right_names rows) (fields_on-has Right rows) h (fields_on-rising Right rows (are_distinct-rest b (right_names rows) h))
 fields_on-rising Right (only_left a t rows) h = fields_on-rising Right rows h
 fields_on-rising Right (only_right b t rows) h =
-    inserted b t (right_fields rows) (right_names rows) (fields_on-has Right rows) h (fields_on-rising Right rows (rest_distinct b (right_names rows) h))
+    inserted b t (right_fields rows) (right_names rows) (fields_on-has Right rows) h (fields_on-rising Right rows (are_distinct-rest b (right_names rows) h))
 
 -- ---- counting the fields that are before a name
 

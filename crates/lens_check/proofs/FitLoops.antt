@@ -1,17 +1,16 @@
 -- Complements, rows and arms from a place on: what a loop over them has still to test.
-use Rattle.std.proofs.Common.{◌≡◌, ℕ, zero, suc, ◌+◌, ◌<◌, ◌≤◌, Bool, true, false, ◌&&◌, ◌||◌, List, [], ◌∷◌, length, map, drop, drop-cons, get_or, add-one, refl, sym, ap, ◌∙◌, arith, rules}
+use Rattle.std.proofs.Common.{◌≡◌, ℕ, zero, suc, ◌+◌, ◌<◌, ◌≤◌, Bool, true, false, ◌&&◌, ◌||◌, List, [], ◌∷◌, length, map, drop, drop-cons, get_or, add-one, refl, sym, ap, ◌∙◌, arith}
 use Rattle.std.specs.Prelude.{bytes_eq}
 use Rattle.std.proofs.lemmas.List.{drop_all}
-use Rattle.doc_values.specs.Types.{ty_tree}
 use Rattle.doc_values.specs.declared.ty.Ty.{Ty}
-use Rattle.lens_forms.specs.Forms.{form_tree, no_rows, row_left, row_right, row_tree, form_rows_of, with_row, arm_tree, form_arms_of}
+use Rattle.lens_forms.specs.Forms.{form_tree, no_rows, row_tree, form_rows_of, arm_tree, form_arms_of}
 use Rattle.lens_forms.specs.Measures.{form_parts, arms_parts}
 use Rattle.lens_forms.specs.declared.form.Form.{Form}
-use Rattle.lens_forms.specs.declared.form.FormRow.{FormRow, the_lemmas as row_lemmas}
+use Rattle.lens_forms.specs.declared.form.FormRow.{FormRow}
 use Rattle.lens_forms.specs.declared.form.FormRow.TheVariants.{Both, OnlyLeft, OnlyRight}
+use Rattle.lens_forms.proofs.TreesOfRows.{row_tree-both, row_tree-left, row_tree-right, rows_next}
 use Rattle.lens_core.specs.Complements.{CompTree, CompTrees, more_comps, comps_of, comp_list, comp_count}
 use Rattle.lens_core.proofs.ComplementTrees.{comps_of-comp_list, comp_count-length}
-use Rattle.lens_core.proofs.MissingRows.{row_tree-both}
 use Rattle.lens_check.specs.FitTest.{all_pass, fits, rows_fit, arm_fits}
 
 -- one that fails makes the whole test fail
@@ -46,23 +45,12 @@ pass_done test cs i h = rw (drop_all i (comp_list cs) (omega (arith, comp_count-
 
 -- ---- the rows of a record
 
-pub row_tree-left : (a : List ℕ) (t : Ty) → row_tree (OnlyLeft a t) ≡ row_left a (ty_tree t)
-row_tree-left a t = search (rules, row_lemmas)
-
-pub row_tree-right : (b : List ℕ) (t : Ty) → row_tree (OnlyRight b t) ≡ row_right b (ty_tree t)
-row_tree-right b t = search (rules, row_lemmas)
-
 -- whether the complements from the place j on fit the rows from the place i on
 abbrev pub rows_from : List FormRow → CompTrees → ℕ → ℕ → Bool
 rows_from rows cs i j = rows_fit (form_rows_of (map row_tree (drop i rows))) (comps_of (drop j (comp_list cs)))
 
 pub rows_all : (rows : List FormRow) (cs : CompTrees) → rows_from rows cs 0 0 ≡ rows_fit (form_rows_of (map row_tree rows)) cs
 rows_all rows cs = ap (rows_fit (form_rows_of (map row_tree rows))) (comps_of-comp_list cs)
-
-pub rows_next : (rows : List FormRow) (i : ℕ) (r : FormRow) → i < length rows → r ≡ get_or rows i r
-    → form_rows_of (map row_tree (drop i rows)) ≡ with_row (row_tree r) (form_rows_of (map row_tree (drop (i + 1) rows)))
-rows_next rows i r h is =
-    rw (drop-cons rows i r h, add-one) (ap (λ (q : FormRow). with_row (row_tree q) (form_rows_of (map row_tree (drop (suc i) rows)))) (sym is))
 
 -- a paired row has a complement that fits
 pub paired_next : (rows : List FormRow) (cs : CompTrees) (i j : ℕ) (r : FormRow) (a b : List ℕ) (l : Form) (c d : CompTree)

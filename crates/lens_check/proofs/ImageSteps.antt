@@ -16,13 +16,11 @@ use Rattle.lens_forms.specs.declared.form.Form.{Form, the_lemmas as form_lemmas}
 use Rattle.lens_forms.specs.declared.form.Form.TheVariants.{Each, Keyed, Tree}
 use Rattle.lens_forms.specs.declared.form.FormRow.{FormRow}
 use Rattle.lens_forms.specs.declared.form.FormRow.TheVariants.{Both, OnlyLeft, OnlyRight}
-use Rattle.lens_core.specs.Complements.{CompTree, nil, then_comp, rec_comp, alt_comp, hold_comp, CompTrees, comp_list, comp_count, comp_tree, comps_tree}
-use Rattle.lens_core.specs.declared.comp.Comp.{Comp, the_lemmas as comp_lemmas}
-use Rattle.lens_core.specs.declared.comp.Comp.TheVariants.{Then, Rec, Alt, Hold}
-use Rattle.lens_core.specs.declared.comp.Comps.{Comps}
-use Rattle.lens_core.specs.Sides.{near, far}
-use Rattle.lens_core.proofs.ComplementTrees.{comps_of-comp_list, comp_count-length}
-use Rattle.image_laws.specs.Image.{image, image_arm, arm_pattern, image_held, image_rows, fields_on, patterns_by_name}
+use Rattle.lens_forms.proofs.TreesOfRows.{rows_from}
+use Rattle.lens_core.specs.Complements.{CompTree, nil, then_comp, rec_comp, alt_comp, hold_comp, CompTrees, comp_list, comp_count}
+use Rattle.lens_core.specs.Sides.{near, far, fields_on, names_on}
+use Rattle.lens_core.proofs.ComplementTrees.{comps_of-comp_list, comp_count-length, comp_tree-then, comp_tree-rec, comp_tree-alt, comp_tree-hold}
+use Rattle.image_laws.specs.Image.{image, image_arm, arm_pattern, image_held, image_rows, patterns_by_name}
 use Rattle.image_laws.specs.PartImage.{content_pattern}
 use Rattle.image_laws.specs.Patterns.{PatternTree, hole, unit_pattern, truth_pattern, int_pattern, text_pattern, pick_pattern, rec_pattern, alt_pattern, hold_pattern, patterns_from, pattern_tree, patterns_tree}
 use Rattle.image_laws.specs.declared.pattern.Pattern.{Pattern, the_lemmas as pattern_lemmas}
@@ -30,23 +28,9 @@ use Rattle.image_laws.specs.declared.pattern.Pattern.TheVariants.{Hole, Rec as R
 use Rattle.image_laws.specs.declared.pattern.Patterns.{Patterns}
 use Rattle.lens_check.specs.ImageParts.{first_arm, has_shape, place_pattern, place_among, if_far}
 use Rattle.lens_check.specs.ReadyComplements.{IsReady, AreReadyPlaces, AreReadyRows, IsReadyArm, Chosen}
-use Rattle.lens_check.proofs.FarFields.{some_is, near_among, placed, still_placed, rows_from, comps_from, placed_end, placed_start, record_is, both_next, ready_both, ready_left, ready_right, placed_both, placed_none, placed_short, placed_left, placed_right}
-use Rattle.lens_check.proofs.FieldPlaces.{names_on, fields_on-has, fields_on-rising, place_within}
+use Rattle.lens_check.proofs.FarFields.{some_is, near_among, placed, still_placed, comps_from, placed_end, placed_start, record_is, ready_both, ready_left, ready_right, placed_both, placed_none, placed_short, placed_left, placed_right}
+use Rattle.lens_check.proofs.FieldPlaces.{fields_on-has, fields_on-rising, place_within}
 use Rattle.lens_check.proofs.HeldPatterns.{held_pattern, image_list, places_of, places-length, still_imaged, imaged_next, imaged_none, imaged_start, imaged_end, held_is, held_none, has_place, place_is, ready_at}
-
--- ---- complements as trees
-
-pub then_tree : (e : Comp) (c d : Box Comp Global) → e ≡ Then c d → comp_tree e ≡ then_comp (comp_tree c.value) (comp_tree d.value)
-then_tree e c d is = ap comp_tree is ∙ search (rules, comp_lemmas)
-
-pub record_tree : (e : Comp) (cs : Comps) → e ≡ Rec cs → comp_tree e ≡ rec_comp (comps_tree cs)
-record_tree e cs is = ap comp_tree is ∙ search (rules, comp_lemmas)
-
-pub tagged_tree : (e : Comp) (t : List ℕ) (c : Box Comp Global) → e ≡ Alt t c → comp_tree e ≡ alt_comp t (comp_tree c.value)
-tagged_tree e t c is = ap comp_tree is ∙ search (rules, comp_lemmas)
-
-pub held_tree : (e : Comp) (s : Shape) (cs : Comps) → e ≡ Hold s cs → comp_tree e ≡ hold_comp s (comps_tree cs)
-held_tree e s cs is = ap comp_tree is ∙ search (rules, comp_lemmas)
 
 -- ---- forms that map another over a container, and patterns as trees
 
@@ -340,14 +324,14 @@ held_made inner e s cs p i made r ps is h end same list inv =
 
 -- ---- what each function of the code uses
 
-pub ruleset then_rules = (then_tree, ready_first, ready_second, then_left, then_right, none_left, none_right)
+pub ruleset then_rules = (comp_tree-then, ready_first, ready_second, then_left, then_right, none_left, none_right)
 
-pub ruleset record_rules = (record_tree, ready_start, record_none, placed_none, placed_short)
+pub ruleset record_rules = (comp_tree-rec, ready_start, record_none, placed_none, placed_short)
 
 pub ruleset field_rules = (hole_tree)
 
-pub ruleset alternative_rules = (tagged_tree, alt_found, ready_found)
+pub ruleset alternative_rules = (comp_tree-alt, alt_found, ready_found)
 
 pub ruleset arm_rules = (content_none, inside_none, inside_some)
 
-pub ruleset held_rules = (held_tree, held_unlike, has_place, imaged_start)
+pub ruleset held_rules = (comp_tree-hold, held_unlike, has_place, imaged_start)

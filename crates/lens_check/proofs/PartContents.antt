@@ -10,7 +10,8 @@ use Rattle.doc_values.specs.declared.ty.Ty.{Ty}
 use Rattle.doc_values.specs.Typing.{lookup_field, is_list_of}
 use Rattle.tag_seq.specs.Tags.{count}
 use Rattle.lens_core.specs.Tags.{tag_count, tag_number, tag_name}
-use Rattle.partition_lens.proofs.TagNames.{name_at, number_below}
+use Rattle.lens_core.proofs.Tags.{tag_name-at}
+use Rattle.partition_lens.proofs.TagNames.{number_below}
 use Rattle.image_laws.specs.declared.pattern.Pattern.{Pattern}
 use Rattle.image_laws.specs.Patterns.{PatternTree, hole, unit_pattern, truth_pattern, int_pattern, text_pattern, pick_pattern, rec_pattern, alt_pattern, hold_pattern, PatternTrees, no_patterns, more_patterns, pattern_count, pattern_list, patterns_from, pattern_tree, in_order}
 use Rattle.image_laws.specs.PartImage.{content_pattern, content_patterns, patterns_at, list_pattern, list_at, holes, patterns_in_list, parted_image}
@@ -141,7 +142,7 @@ left_kept fs ls ls' ts ps i t d q whole h k e c g inv =
 pub content_read : (fields : List (List ℕ × Ty)) (fs : FieldTrees) (t : ℕ) (f : List ℕ × Ty) (p p' : PatternTree) (o : Option PatternTree) → type_fields_of (map field_tree fields) ≡ fs
     → t < length fields → f ≡ get_or fields t f → p ≡ p' → o ≡ content_pattern (get_or fields t f).0 p → o ≡ content_pattern (tag_name fs t) p'
 content_read fields fs t f p p' o e h is same made =
-    let name : (get_or fields t f).0 ≡ tag_name fs t = ap (λ (x : List ℕ × Ty). x.0) (sym is) ∙ (sym (name_at fields t f h is) ∙ ap (λ z. tag_name z t) e) in
+    let name : (get_or fields t f).0 ≡ tag_name fs t = ap (λ (x : List ℕ × Ty). x.0) (sym is) ∙ (sym (tag_name-at fields t f h is) ∙ ap (λ z. tag_name z t) e) in
     made ∙ (ap (content_pattern (get_or fields t f).0) same ∙ ap (λ z. content_pattern z p') name)
 
 none_map : {A B : Type 0} (f : A → B) (o : Option A) → None ≡ option_map f o → o ≡ None

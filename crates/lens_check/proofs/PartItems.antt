@@ -10,7 +10,7 @@ use Rattle.doc_values.specs.declared.ty.Ty.{Ty}
 use Rattle.tag_seq.specs.Tags.{count, rank}
 use Rattle.lens_forms.specs.Forms.{sorted, lists_of}
 use Rattle.lens_core.specs.Tags.{tag_count, tag_name}
-use Rattle.partition_lens.proofs.TagNames.{name_at}
+use Rattle.lens_core.proofs.Tags.{tag_name-at}
 use Rattle.image_laws.specs.declared.pattern.Pattern.{Pattern}
 use Rattle.image_laws.specs.declared.pattern.Patterns.{Patterns}
 use Rattle.image_laws.specs.Patterns.{PatternTree, hole, alt_pattern, PatternTrees, no_patterns, more_patterns, patterns_from, pattern_list, pattern_tree, patterns_tree}
@@ -122,7 +122,7 @@ pub item_made : (fs : List (List ℕ × Ty)) (ts : List ℕ) (qs : List Patterns
 item_made fs ts qs i t k f q n p e r hf hq isf isq named content =
     let tree = type_fields_of (map field_tree fs) in
     let lists = map patterns_tree qs in
-    let name : n ≡ tag_name tree (slice_index ts i) = named ∙ (ap (λ (x : List ℕ × Ty). x.0) (sym isf) ∙ (sym (name_at fs t f hf isf) ∙ ap (tag_name tree) e)) in
+    let name : n ≡ tag_name tree (slice_index ts i) = named ∙ (ap (λ (x : List ℕ × Ty). x.0) (sym isf) ∙ (sym (tag_name-at fs t f hf isf) ∙ ap (tag_name tree) e)) in
     let list : patterns_tree q ≡ get_or lists (slice_index ts i) no_patterns =
     ap patterns_tree isq ∙ (sym (get_or-map patterns_tree qs t q no_patterns hq) ∙ ap (λ z. get_or lists z no_patterns) e) in
     let place : k ≡ rank (slice_index ts i) i ts = r ∙ ap (λ z. rank z i ts) e in

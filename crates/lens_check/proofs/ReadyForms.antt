@@ -1,31 +1,23 @@
 -- A typed form with a complement that fits is ready.
-use Rattle.std.proofs.Common.{◌≡◌, inl, inr, ℕ, Bool, true, false, ◌&&◌, List, [], ◌∷◌, refl, sym, subst}
+use Rattle.std.proofs.Common.{◌≡◌, inl, inr, ℕ, Bool, true, false, ◌&&◌, List, refl, sym, subst}
 use Rattle.std.specs.Prelude.{bytes_eq, not}
 use Rattle.texts.specs.Keys.{has_name}
 use Rattle.texts.proofs.Conjunction.{first as first_and, second as second_and}
 use Rattle.doc_values.specs.Types.{are_distinct, are_choices, is_well_formed, is_same_ty}
+use Rattle.doc_values.proofs.DistinctNames.{are_choices-distinct}
 use Rattle.lens_forms.specs.Forms.{FormTree, form_id, form_bij, form_disc, form_then, form_rec, form_alt, form_each, form_keyed, form_ordered, form_part, form_inv, RowTrees, no_rows, both, only_left, only_right, ArmTrees, no_arms, more_arms, left_type, right_type}
 use Rattle.lens_forms.specs.Typing.{is_typed, are_typed_rows, are_typed_arms, left_names, right_names, left_arms, right_arms}
 use Rattle.lens_forms.proofs.SortedFields.{not_not}
 use Rattle.lens_core.specs.Complements.{CompTree, nil, then_comp, rec_comp, alt_comp, hold_comp, tags_comp, CompTrees, no_comps, more_comps, AllFit, Fits, FitRows, FitsArm}
 use Rattle.lens_core.proofs.LawsOfLeaves.{bytes_are, bytes_same}
-use Rattle.lens_core.proofs.NameTests.{or_later}
+use Rattle.lens_core.proofs.NameTests.{fits_among}
 use Rattle.lens_check.specs.ReadyComplements.{IsReady, AreReadyRows, IsReadyArm, Chosen}
 
 all_ready : (fits ready : CompTree → Type 0) → ((c : CompTree) → fits c → ready c) → (cs : CompTrees) → AllFit fits cs → AllFit ready cs
 all_ready fits ready each no_comps f = tt
 all_ready fits ready each (more_comps c cs) f = (each c f.0, all_ready fits ready each cs f.1)
 
-choices_apart : (ns : List (List ℕ)) → are_choices ns ≡ true → are_distinct ns ≡ true
-choices_apart [] h = refl
-choices_apart (n ∷ ns) h = h
-
 -- ---- the first arm of a tag is the one that the complement fits
-
-fits_among : (arms : ArmTrees) (t : List ℕ) (c : CompTree) → FitsArm arms t c → has_name t (left_arms arms) ≡ true
-fits_among no_arms t c f = absurd f
-fits_among (more_arms a b l arms) t c (inl f) = rw (f.0, bytes_same a) refl
-fits_among (more_arms a b l arms) t c (inr f) = or_later (bytes_eq t a) (has_name t (left_arms arms)) (fits_among arms t c f)
 
 first_fits : (a b : List ℕ) (l : FormTree) (arms : ArmTrees) (t : List ℕ) (c : CompTree) → are_distinct (left_arms (more_arms a b l arms)) ≡ true
     → bytes_eq t a ≡ true → FitsArm (more_arms a b l arms) t c → Fits l c
@@ -71,7 +63,7 @@ mutual
   fits_ready (form_rec rows) (tags_comp ts) h f = tt
   fits_ready (form_alt arms) (alt_comp t c) h f =
       arm_ready arms t c (first_and (are_typed_arms arms) (are_choices (left_arms arms) && are_choices (right_arms arms)) h)
-      (choices_apart (left_arms arms) (first_and (are_choices (left_arms arms)) (are_choices (right_arms arms)) (second_and (are_typed_arms arms) (are_choices (left_arms arms) && are_choices (right_arms arms)) h)))
+      (are_choices-distinct (left_arms arms) (first_and (are_choices (left_arms arms)) (are_choices (right_arms arms)) (second_and (are_typed_arms arms) (are_choices (left_arms arms) && are_choices (right_arms arms)) h)))
       f
   fits_ready (form_alt arms) nil h f = tt
   fits_ready (form_alt arms) (then_comp c d) h f = tt

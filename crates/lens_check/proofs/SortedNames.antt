@@ -1,9 +1,9 @@
 -- Names and contents put at their places among sorted names, in whatever order they come.
 use Rattle.std.proofs.Common.{◌≡◌, ◌∙◌, ℕ, zero, suc, ◌+◌, Bool, true, false, List, [], ◌∷◌, map, refl, ap, sym, subst, arith}
 use Rattle.std.specs.List.{insert}
-use Rattle.std.specs.Prelude.{◌||◌, bytes_eq, if◌then◌else◌}
+use Rattle.std.specs.Prelude.{bytes_eq, if◌then◌else◌}
 use Rattle.texts.specs.Keys.{is_before, all_after, is_rising, has_name, rank}
-use Rattle.texts.proofs.KeyOrder.{before-trans, before-total, before-differs, after-tail, rising-first, rising-rest}
+use Rattle.texts.proofs.KeyOrder.{before-trans, before-total, before-differs, after-tail, rising-first, rising-rest, after-member}
 use Rattle.lens_core.proofs.LawsOfLeaves.{bytes_are, bytes_same}
 use Rattle.lens_check.specs.ImageParts.{place_among}
 
@@ -149,14 +149,6 @@ rank-first n ms r = go (is_before n n) refl (rank-after n ms (rising-first n ms 
     go true e h = let off = before-differs n n e in let same = bytes_same n in cc
     go false e h = h
 
-after_member : (m n : List ℕ) (ms : List (List ℕ)) → all_after m ms ≡ true → is_rising ms ≡ true → has_name n ms ≡ true → is_before m n ≡ true
-after_member m n [] a r h = cc
-after_member m n (x ∷ ms) a r h = go (bytes_eq n x) refl h (λ k. after_member m n ms (after-tail m x ms a (rising-first x ms r)) (rising-rest x ms r) k)
-  where
-    go : (b : Bool) → bytes_eq n x ≡ b → (b || has_name n ms) ≡ true → (has_name n ms ≡ true → is_before m n ≡ true) → is_before m n ≡ true
-    go true e h again = subst (λ z. is_before m z ≡ true) (sym (bytes_are n x e)) a
-    go false e h again = again h
-
 -- the first of rising names is before each other one
 pub before_member : (m n : List ℕ) (ms : List (List ℕ)) → is_rising (m ∷ ms) ≡ true → has_name n ms ≡ true → is_before m n ≡ true
-before_member m n ms r h = after_member m n ms (rising-first m ms r) (rising-rest m ms r) h
+before_member m n ms r h = after-member m n ms (rising-first m ms r) (rising-rest m ms r) h

@@ -5,7 +5,8 @@ ghost use Rattle.std.specs.List.{insert};
 ghost use Rattle.texts.specs.Keys.{has_name, is_rising, rank};
 ghost use Rattle.doc_values.specs.Types.{names_of};
 ghost use Rattle.lens_forms.specs.Forms.{row_tree, rows_tree};
-ghost use Rattle.image_laws.specs.Image.{fields_on, patterns_by_name};
+ghost use Rattle.lens_core.specs.Sides.{fields_on};
+ghost use Rattle.image_laws.specs.Image.{patterns_by_name};
 ghost use Rattle.image_laws.specs.Patterns.{pattern_tree, hole};
 ghost use Rattle.lens_check.specs.ImageParts.{field_pattern, has_field_before, if_far, place_among, names_in, patterns_in};
 

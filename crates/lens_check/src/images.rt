@@ -6,8 +6,8 @@ ghost use Rattle.doc_values.specs.Types.{names_of};
 ghost use Rattle.lens_forms.specs.Forms.{form_tree, rows_tree, arms_tree, form_then, form_rec, form_alt};
 ghost use Rattle.lens_forms.specs.Typing.{is_typed};
 ghost use Rattle.lens_core.specs.Complements.{comp_tree, Fits};
-ghost use Rattle.lens_core.specs.Sides.{near, far};
-ghost use Rattle.image_laws.specs.Image.{image, image_held, arm_pattern, fields_on, patterns_by_name};
+ghost use Rattle.lens_core.specs.Sides.{near, far, fields_on};
+ghost use Rattle.image_laws.specs.Image.{image, image_held, arm_pattern, patterns_by_name};
 ghost use Rattle.image_laws.specs.Patterns.{pattern_tree};
 ghost use Rattle.lens_check.specs.ReadyComplements.{IsReady, AreReadyPlaces};
 

@@ -1,15 +1,31 @@
--- Lists of complements as trees.
-use Rattle.std.proofs.Common.{◌≡◌, ℕ, ◌+◌, List, [], ◌∷◌, length, map, get_or, add-one, refl, ap, ◌∙◌, rules}
+-- Complements and lists of complements as trees.
+use Rattle.std.proofs.Common.{◌≡◌, ℕ, ◌+◌, List, [], ◌∷◌, length, map, get_or, add-one, refl, ap, ◌∙◌, rules, Box, Global}
 use Rattle.std.specs.Prelude.{slice_get}
 use Rattle.std.specs.declared.option.Option.TheVariants.{Some}
 use Rattle.std.proofs.lemmas.List.{get_or-map, map-set}
 use Rattle.std.proofs.lemmas.Option.{get_or_from_slice_get, slice_get_within}
-use Rattle.lens_core.specs.Complements.{CompTree, CompTrees, no_comps, more_comps, comps_of, comp_list, comp_count, comp_tree, comps_tree}
-use Rattle.lens_core.specs.declared.comp.Comp.{Comp}
+use Rattle.hold_shapes.specs.declared.shape.Shape.{Shape}
+use Rattle.lens_core.specs.Complements.{CompTree, then_comp, rec_comp, alt_comp, hold_comp, CompTrees, no_comps, more_comps, comps_of, comp_list, comp_count, comp_tree, comps_tree}
+use Rattle.lens_core.specs.declared.comp.Comp.{Comp, the_lemmas as comp_lemmas}
+use Rattle.lens_core.specs.declared.comp.Comp.TheVariants.{Then, Rec, Alt, Hold}
 use Rattle.lens_core.specs.declared.comp.Comps.{Comps, out-Comps, the_lemmas as comps_lemmas}
 
 pub comps_tree-out : (cs : Comps) → comps_tree cs ≡ comps_of (map comp_tree (out-Comps cs).items)
 comps_tree-out cs = search (rules, comps_lemmas)
+
+-- ---- one complement as a tree
+
+pub comp_tree-then : (e : Comp) (c d : Box Comp Global) → e ≡ Then c d → comp_tree e ≡ then_comp (comp_tree c.value) (comp_tree d.value)
+comp_tree-then e c d is = ap comp_tree is ∙ search (rules, comp_lemmas)
+
+pub comp_tree-rec : (e : Comp) (cs : Comps) → e ≡ Rec cs → comp_tree e ≡ rec_comp (comps_tree cs)
+comp_tree-rec e cs is = ap comp_tree is ∙ search (rules, comp_lemmas)
+
+pub comp_tree-alt : (e : Comp) (t : List ℕ) (c : Box Comp Global) → e ≡ Alt t c → comp_tree e ≡ alt_comp t (comp_tree c.value)
+comp_tree-alt e t c is = ap comp_tree is ∙ search (rules, comp_lemmas)
+
+pub comp_tree-hold : (e : Comp) (s : Shape) (cs : Comps) → e ≡ Hold s cs → comp_tree e ≡ hold_comp s (comps_tree cs)
+comp_tree-hold e s cs is = ap comp_tree is ∙ search (rules, comp_lemmas)
 
 -- ---- trees and lists, there and back
 

@@ -1,11 +1,8 @@
 -- Words joined in turn, and what was translated behind them.
 use Rattle.std.proofs.Common.{◌≡◌, Option, None, Some, option_map, refl, ap, sym}
 use Rattle.edit_module.specs.Words.{WordTree, no_primitives, more_primitives, joined}
+use Rattle.edit_module.proofs.Words.{joined_assoc}
 use Rattle.lens_core.specs.Emitted.{behind}
-
-pub joined_again : (u v w : WordTree) → joined (joined u v) w ≡ joined u (joined v w)
-joined_again no_primitives v w = refl
-joined_again (more_primitives p u) v w = ap (more_primitives p) (joined_again u v w)
 
 pub joined_nothing : (u : WordTree) → joined u no_primitives ≡ u
 joined_nothing no_primitives = refl
@@ -18,4 +15,4 @@ module _ {A : Type 0} where
 
   pub behind_behind : (u v : WordTree) (o : Option (WordTree × A)) → option_map (behind u) (option_map (behind v) o) ≡ option_map (behind (joined u v)) o
   behind_behind u v None = refl
-  behind_behind u v (Some r) = ap (λ z. Some (z, r.1)) (sym (joined_again u v r.0))
+  behind_behind u v (Some r) = ap (λ z. Some (z, r.1)) (sym (joined_assoc u v r.0))

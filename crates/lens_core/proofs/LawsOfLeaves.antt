@@ -149,36 +149,36 @@ sets_member ms i (modify p w) x x' e = cc
 sets_member ms i (shape a) x x' e = cc
 
 -- the members of one side
-abbrev members_on : Side → List (List ℕ × List ℕ) → List (List ℕ)
+abbrev pub members_on : Side → List (List ℕ × List ℕ) → List (List ℕ)
 members_on Left ps = lefts ps
 members_on Right ps = rights ps
 
 -- a pair, the member of the edited side first
-abbrev IsPairOn : Side → List (List ℕ × List ℕ) → List ℕ → List ℕ → Type 0
+abbrev pub IsPairOn : Side → List (List ℕ × List ℕ) → List ℕ → List ℕ → Type 0
 IsPairOn Left ps m n = IsPair ps m n
 IsPairOn Right ps m n = IsPair ps n m
 
-pair_here : (s : Side) (p : List ℕ × List ℕ) (ps : List (List ℕ × List ℕ)) (m : List ℕ) → m ≡ near s p.0 p.1 → IsPairOn s (p ∷ ps) m (far s p.0 p.1)
+pub pair_here : (s : Side) (p : List ℕ × List ℕ) (ps : List (List ℕ × List ℕ)) (m : List ℕ) → m ≡ near s p.0 p.1 → IsPairOn s (p ∷ ps) m (far s p.0 p.1)
 pair_here Left p ps m e = inl (e, refl)
 pair_here Right p ps m e = inl (refl, e)
 
-pair_later : (s : Side) (p : List ℕ × List ℕ) (ps : List (List ℕ × List ℕ)) (m n : List ℕ) → IsPairOn s ps m n → IsPairOn s (p ∷ ps) m n
+pub pair_later : (s : Side) (p : List ℕ × List ℕ) (ps : List (List ℕ × List ℕ)) (m n : List ℕ) → IsPairOn s ps m n → IsPairOn s (p ∷ ps) m n
 pair_later Left p ps m n h = inr h
 pair_later Right p ps m n h = inr h
 
-members_more : (s : Side) (p : List ℕ × List ℕ) (ps : List (List ℕ × List ℕ)) → members_on s (p ∷ ps) ≡ near s p.0 p.1 ∷ members_on s ps
+pub members_more : (s : Side) (p : List ℕ × List ℕ) (ps : List (List ℕ × List ℕ)) → members_on s (p ∷ ps) ≡ near s p.0 p.1 ∷ members_on s ps
 members_more Left p ps = refl
 members_more Right p ps = refl
 
-across_far : (s : Side) (a b : List ℕ) → near (other s) a b ≡ far s a b
+pub across_far : (s : Side) (a b : List ℕ) → near (other s) a b ≡ far s a b
 across_far Left a b = refl
 across_far Right a b = refl
 
-record HasPartner (s : Side) (ps : List (List ℕ × List ℕ)) (m : List ℕ) : Type 0 where
-  partner_name : List ℕ
-  is_partner : partner s ps m ≡ Some partner_name
-  are_pair : IsPairOn s ps m partner_name
-  among : has_name partner_name (members_on (other s) ps) ≡ true
+pub record HasPartner (s : Side) (ps : List (List ℕ × List ℕ)) (m : List ℕ) : Type 0 where
+  pub partner_name : List ℕ
+  pub is_partner : partner s ps m ≡ Some partner_name
+  pub are_pair : IsPairOn s ps m partner_name
+  pub among : has_name partner_name (members_on (other s) ps) ≡ true
 
 or_true : (b : Bool) → (b || true) ≡ true
 or_true true = refl
@@ -189,7 +189,7 @@ member_later Left p ps n h = rw h (or_true (bytes_eq n p.0))
 member_later Right p ps n h = rw h (or_true (bytes_eq n p.1))
 
 -- every member of a side has a partner among those of the other side
-has_partner : (s : Side) (ps : List (List ℕ × List ℕ)) (m : List ℕ) → has_name m (members_on s ps) ≡ true → HasPartner s ps m
+pub has_partner : (s : Side) (ps : List (List ℕ × List ℕ)) (m : List ℕ) → has_name m (members_on s ps) ≡ true → HasPartner s ps m
 has_partner Left [] m h = cc
 has_partner Right [] m h = cc
 has_partner s (p ∷ ps) m h = go (bytes_eq (near s p.0 p.1) m) refl (λ k. has_partner s ps m k)

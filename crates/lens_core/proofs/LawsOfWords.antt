@@ -2,14 +2,16 @@
 use Rattle.std.proofs.Common.{◌≡◌, Option, None, Some, option_map, refl, ap, sym, ◌∙◌, subst}
 use Rattle.std.specs.Prelude.{option_and_then}
 use Rattle.texts.specs.declared.side.Side.{Side}
+use Rattle.texts.specs.declared.side.Side.TheVariants.{Left, Right}
 use Rattle.doc_values.specs.Documents.{DocTree}
+use Rattle.doc_values.specs.Initial.{initial}
 use Rattle.edit_module.specs.Words.{PrimitiveTree, WordTree, no_primitives, more_primitives, joined}
 use Rattle.edit_module.specs.Action.{act, act_primitive}
 use Rattle.lens_forms.specs.Forms.{FormTree, form_id, form_bij, form_disc, form_then, form_rec, form_alt, form_each, form_keyed, form_ordered, form_part, form_inv}
 use Rattle.texts.specs.Sides.{other}
 use Rattle.lens_core.specs.Sides.{type_on}
 use Rattle.lens_core.specs.Emitted.{behind}
-use Rattle.lens_core.specs.Complements.{CompTree}
+use Rattle.lens_core.specs.Complements.{CompTree, Fits, missing}
 use Rattle.lens_core.specs.Translation.{Translated, translate_one, translate}
 use Rattle.lens_core.specs.Laws.{IsRelated, Carries, Laws, StartsConsistent, EditsCarry, EmptyStays, WordsCompose, ConsistentIsTyped}
 use Rattle.lens_core.proofs.JoinedWords.{behind_behind}
@@ -87,3 +89,12 @@ consistent_is_typed (form_part fs) x c y k = k.0
 consistent_is_typed (form_inv l) x c y k =
     let t = consistent_is_typed l y c x k in
     record { left_has = t.right_has; comp_fits = t.comp_fits; right_has = t.left_has }
+
+pub related_fits : (l : FormTree) (s : Side) (x : DocTree) (c : CompTree) (y : DocTree) → IsRelated l s x c y → Fits l c
+related_fits l Left x c y h = (consistent_is_typed l x c y h).comp_fits
+related_fits l Right x c y h = (consistent_is_typed l y c x h).comp_fits
+
+-- the initial triple, from either side
+pub starts_on : (l : FormTree) → Laws l → (s : Side) → IsRelated l s (initial (type_on s l)) (missing l) (initial (type_on (other s) l))
+starts_on l laws Left = laws.starts
+starts_on l laws Right = laws.starts

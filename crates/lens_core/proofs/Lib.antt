@@ -1,5 +1,6 @@
 mod Examples
 pub mod ComplementTrees
+pub mod EmptyWords
 pub mod FormParts
 pub mod JoinedWords
 pub mod LawsOfCompositions
@@ -11,3 +12,4 @@ pub mod MissingRows
 pub mod NameTests
 pub mod RecordFields
 pub mod Results
+pub mod Tags

@@ -1,38 +1,22 @@
 -- The missing complements of rows, one row after the other, and that of the first arm.
-use Rattle.std.proofs.Common.{◌≡◌, ℕ, suc, ◌+◌, ◌<◌, ◌≤◌, List, [], ◌∷◌, ◌++◌, length, map, drop, drop-cons, get_or, add-one, append-nil, append_assoc, refl, sym, ap, ◌∙◌, arith, rules}
+use Rattle.std.proofs.Common.{◌≡◌, ℕ, ◌+◌, ◌<◌, ◌≤◌, List, [], ◌∷◌, ◌++◌, length, map, drop, get_or, append-nil, append_assoc, refl, sym, ap, ◌∙◌, arith}
 use Rattle.std.proofs.lemmas.List.{drop_all, map-append}
-use Rattle.doc_values.specs.Types.{ty_tree}
 use Rattle.doc_values.specs.declared.ty.Ty.{Ty}
-use Rattle.lens_forms.specs.Forms.{form_tree, row_both, row_left, row_right, row_tree, form_rows_of, with_row, arm_tree, form_arms_of}
+use Rattle.lens_forms.specs.Forms.{form_tree, row_tree, form_rows_of, arm_tree, form_arms_of}
 use Rattle.lens_forms.specs.declared.form.Form.{Form}
-use Rattle.lens_forms.specs.declared.form.FormRow.{FormRow, the_lemmas as row_lemmas}
+use Rattle.lens_forms.specs.declared.form.FormRow.{FormRow}
 use Rattle.lens_forms.specs.declared.form.FormRow.TheVariants.{Both, OnlyLeft, OnlyRight}
+use Rattle.lens_forms.proofs.TreesOfRows.{row_tree-both, row_tree-left, row_tree-right, rows_next}
 use Rattle.lens_core.specs.Complements.{CompTree, nil, alt_comp, comps_of, comp_list, comp_tree, missing, missing_rows, missing_arm}
 use Rattle.lens_core.specs.declared.comp.Comp.{Comp}
 use Rattle.lens_core.proofs.ComplementTrees.{comps_of-comp_list}
 use Rattle.lens_core.proofs.FormParts.{arm_smaller}
-
--- ---- one row as a tree
-
-pub row_tree-both : (a b : List ℕ) (l : Form) → row_tree (Both a b l) ≡ row_both a b (form_tree l)
-row_tree-both a b l = search (rules, row_lemmas)
-
-row_tree-left : (a : List ℕ) (t : Ty) → row_tree (OnlyLeft a t) ≡ row_left a (ty_tree t)
-row_tree-left a t = search (rules, row_lemmas)
-
-row_tree-right : (b : List ℕ) (t : Ty) → row_tree (OnlyRight b t) ≡ row_right b (ty_tree t)
-row_tree-right b t = search (rules, row_lemmas)
 
 -- ---- the rows one after the other
 
 -- the missing complements of the rows from one on
 abbrev pub missing_from : List FormRow → ℕ → List CompTree
 missing_from rows i = comp_list (missing_rows (form_rows_of (map row_tree (drop i rows))))
-
-rows_next : (rows : List FormRow) (i : ℕ) (r : FormRow) → i < length rows → r ≡ get_or rows i r
-    → form_rows_of (map row_tree (drop i rows)) ≡ with_row (row_tree r) (form_rows_of (map row_tree (drop (i + 1) rows)))
-rows_next rows i r h is =
-    rw (drop-cons rows i r h, add-one) (ap (λ (q : FormRow). with_row (row_tree q) (form_rows_of (map row_tree (drop (suc i) rows)))) (sym is))
 
 -- a paired row has the missing one of its lens
 pub paired_next : (rows : List FormRow) (i : ℕ) (r : FormRow) (a b : List ℕ) (l : Form) → i < length rows → r ≡ get_or rows i r → r ≡ Both a b l

@@ -1,8 +1,11 @@
 -- Lemmas on names that differ, and on names among others.
-use Rattle.std.proofs.Common.{◌≡◌, ◌||◌, ℕ, Bool, true, false, List, refl, subst}
+use Rattle.std.proofs.Common.{◌≡◌, ◌||◌, ℕ, Bool, true, false, List, refl, subst, inl, inr}
 use Rattle.std.specs.Prelude.{bytes_eq, not}
 use Rattle.texts.specs.Keys.{has_name}
-use Rattle.lens_core.proofs.LawsOfLeaves.{bytes_are}
+use Rattle.lens_forms.specs.Forms.{ArmTrees, no_arms, more_arms}
+use Rattle.lens_forms.specs.Typing.{left_arms}
+use Rattle.lens_core.proofs.LawsOfLeaves.{bytes_are, bytes_same}
+use Rattle.lens_core.specs.Complements.{CompTree, FitsArm}
 
 pub or_left : (a b : Bool) → (a || b) ≡ false → a ≡ false
 or_left true b h = h
@@ -27,3 +30,9 @@ not_that n k ks h e = go (bytes_eq n k) refl
     go : (b : Bool) → bytes_eq n k ≡ b → b ≡ false
     go false q = refl
     go true q = let z = subst (λ m. has_name m ks ≡ true) (bytes_are n k q) e in cc
+
+-- the tag of a complement that fits some arm is among the left tags
+pub fits_among : (arms : ArmTrees) (t : List ℕ) (c : CompTree) → FitsArm arms t c → has_name t (left_arms arms) ≡ true
+fits_among no_arms t c f = absurd f
+fits_among (more_arms a b l arms) t c (inl f) = rw (f.0, bytes_same a) refl
+fits_among (more_arms a b l arms) t c (inr f) = or_later (bytes_eq t a) (has_name t (left_arms arms)) (fits_among arms t c f)

@@ -1,6 +1,8 @@
 -- The fields of a record: their types where one is put in its place, their contents, and an edit of one.
 use Rattle.std.proofs.Common.{◌∙◌, ◌≡◌, ℕ, zero, suc, Bool, true, false, List, Option, None, Some, option_map, Result, Ok, Err, refl, ap, sym, subst, one-add}
 use Rattle.std.specs.Prelude.{if◌then◌else◌, bytes_eq, cond}
+use Rattle.texts.specs.declared.side.Side.{Side}
+use Rattle.texts.specs.declared.side.Side.TheVariants.{Left, Right}
 use Rattle.texts.specs.Keys.{is_before}
 use Rattle.texts.proofs.Conjunction.{second}
 use Rattle.texts.proofs.KeyOrder.{before-differs}
@@ -12,7 +14,8 @@ use Rattle.doc_values.proofs.Lists.{docs_of-doc_list}
 use Rattle.edit_module.specs.declared.fault.Cause.TheVariants.{Place}
 use Rattle.edit_module.specs.Words.{PrimitiveTree, set as set_to, add, splice, at, stay, switch, modify, shape, WordTree, no_primitives, more_primitives}
 use Rattle.edit_module.specs.Action.{Why, act, act_primitive, map_ok, put_result_at, put_at, doc_at, if_present, inner}
-use Rattle.lens_forms.specs.Forms.{insert_field}
+use Rattle.lens_forms.specs.Forms.{RowTrees, form_rec, insert_field}
+use Rattle.lens_core.specs.Sides.{type_on, fields_on}
 use Rattle.lens_core.specs.Emitted.{at_word}
 use Rattle.lens_core.specs.Consistency.{content}
 use Rattle.lens_core.proofs.LawsOfLeaves.{bytes_are, bytes_same, differs_back}
@@ -161,3 +164,8 @@ field_acts fs ys m no_primitives s v e h =
     let back : ys ≡ put_at ys s.0 v = subst (λ z. ys ≡ put_at ys s.0 z) same (sym (put_same ys s.0)) in
     rw (← back) refl
 field_acts fs ys m (more_primitives p w) s v e h = rw e (rw h refl)
+
+-- the type of a side of a record
+pub type_on-rec : (rows : RowTrees) (s : Side) → type_on s (form_rec rows) ≡ ty_rec (fields_on s rows)
+type_on-rec rows Left = refl
+type_on-rec rows Right = refl

@@ -1,5 +1,6 @@
 -- What an answer that is there says of what it was made of.
-use Rattle.std.proofs.Common.{◌≡◌, ℕ, Option, None, Some, Result, Ok, Err, refl, ap, ◌∙◌}
+use Rattle.std.proofs.Common.{◌≡◌, ℕ, Option, None, Some, Result, Ok, Err, refl, ap, ◌∙◌, Bool, true, false}
+use Rattle.std.specs.Prelude.{if◌then◌else◌}
 use Rattle.hold_shapes.specs.declared.shape.Shape.{Shape}
 use Rattle.hold_shapes.specs.declared.edit.Place.{Place as PlaceOf}
 use Rattle.hold_shapes.specs.Shapes.{place_of}
@@ -9,6 +10,7 @@ use Rattle.edit_module.specs.Words.{WordTree, no_primitives, more_primitives, jo
 use Rattle.edit_module.specs.declared.fault.Cause.TheVariants.{Place}
 use Rattle.edit_module.specs.Action.{Why, act, act_primitive, later, inner, map_ok, if_present, act_at_place, put_result_at, put_at, doc_at}
 pub use Rattle.edit_module.proofs.ActionKeepsTypes.{after_ok}
+use Rattle.lens_core.specs.Beginnings.{Beginning, IsInside}
 
 -- acting one after another gives a value
 pub acts_joined : (t : TyTree) (u w : WordTree) (x y z : DocTree) → act t u x ≡ Ok y → act t w y ≡ Ok z → act t (joined u w) x ≡ Ok z
@@ -34,3 +36,8 @@ acted_at t w s ds q x' e = at_found (place_of s q) refl e
         → (i : ℕ) × (v : DocTree) × (place_of s q ≡ Some i) × (act t w (doc_at ds i) ≡ Ok v) × (x' ≡ hold s (put_at ds i v))
     at_found None f h = cc
     at_found (Some i) f h = put_ok i f (act t w (doc_at ds i)) refl h
+
+-- a lens inside is needed where a test holds: it holds, and one is needed
+pub inside_if : (b : Bool) (o : Option Beginning) → IsInside (if b then o else None) → (b ≡ true) × IsInside o
+inside_if true o h = (refl, h)
+inside_if false o h = absurd h

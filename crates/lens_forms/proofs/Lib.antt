@@ -2,4 +2,5 @@ mod Examples
 pub mod ListLengths
 pub mod Partners
 pub mod SortedFields
+pub mod TreesOfRows
 pub mod TypingLaws

@@ -1,9 +1,9 @@
 -- The test of typing, typing, and the types of what is typed.
 use Rattle.std.proofs.Common.{◌≡◌, ℕ, true, ◌&&◌, List, [], ◌∷◌, refl, ap, ap₂, sym, ◌∙◌, subst}
-use Rattle.std.specs.Prelude.{not}
 use Rattle.texts.specs.Keys.{is_rising, has_name}
 use Rattle.doc_values.specs.Types.{TyTree, ty_rec, ty_alt, ty_list, ty_keyed, ty_ordered, FieldTrees, no_fields, more_fields, names_of, are_distinct, are_choices, is_well_formed, are_well_formed, is_same_ty}
 use Rattle.doc_values.proofs.SameTypes.{is_same_ty-equal, is_same_ty-refl}
+use Rattle.doc_values.proofs.DistinctNames.{are_distinct-rest}
 use Rattle.texts.proofs.Conjunction.{both as both_true, first as first_and, second as second_and}
 use Rattle.lens_forms.specs.Forms.{FormTree, form_id, form_bij, form_disc, form_then, form_rec, form_alt, form_each, form_keyed, form_ordered, form_part, form_inv, RowTrees, no_rows, both, only_left, only_right, ArmTrees, no_arms, more_arms, lefts, rights, insert_field, sorted, lists_of, left_type, right_type, left_fields, right_fields, left_tags, right_tags}
 use Rattle.lens_forms.specs.Typing.{IsTyped, AreTypedRows, AreTypedArms, is_typed, are_typed_rows, are_typed_arms, left_names, right_names, left_arms, right_arms}
@@ -166,24 +166,21 @@ right_fields-names (both a b l rows) k = inserted_names b (right_type l) (right_
 right_fields-names (only_left a t rows) k = right_fields-names rows k
 right_fields-names (only_right b t rows) k = inserted_names b t (right_fields rows) (right_names rows) (right_fields-names rows) k
 
-rest_distinct : (n : List ℕ) (names : List (List ℕ)) → are_distinct (n ∷ names) ≡ true → are_distinct names ≡ true
-rest_distinct n names h = second_and (not (has_name n names)) (are_distinct names) h
-
 left_fields-rising : (rows : RowTrees) → are_distinct (left_names rows) ≡ true → is_rising (names_of (left_fields rows)) ≡ true
 left_fields-rising no_rows h = refl
 left_fields-rising (both a b l rows) h =
-    inserted a (left_type l) (left_fields rows) (left_names rows) (left_fields-names rows) h (left_fields-rising rows (rest_distinct a (left_names rows) h))
+    inserted a (left_type l) (left_fields rows) (left_names rows) (left_fields-names rows) h (left_fields-rising rows (are_distinct-rest a (left_names rows) h))
 left_fields-rising (only_left a t rows) h =
-    inserted a t (left_fields rows) (left_names rows) (left_fields-names rows) h (left_fields-rising rows (rest_distinct a (left_names rows) h))
+    inserted a t (left_fields rows) (left_names rows) (left_fields-names rows) h (left_fields-rising rows (are_distinct-rest a (left_names rows) h))
 left_fields-rising (only_right b t rows) h = left_fields-rising rows h
 
 right_fields-rising : (rows : RowTrees) → are_distinct (right_names rows) ≡ true → is_rising (names_of (right_fields rows)) ≡ true
 right_fields-rising no_rows h = refl
 right_fields-rising (both a b l rows) h =
-    inserted b (right_type l) (right_fields rows) (right_names rows) (right_fields-names rows) h (right_fields-rising rows (rest_distinct b (right_names rows) h))
+    inserted b (right_type l) (right_fields rows) (right_names rows) (right_fields-names rows) h (right_fields-rising rows (are_distinct-rest b (right_names rows) h))
 right_fields-rising (only_left a t rows) h = right_fields-rising rows h
 right_fields-rising (only_right b t rows) h =
-    inserted b t (right_fields rows) (right_names rows) (right_fields-names rows) h (right_fields-rising rows (rest_distinct b (right_names rows) h))
+    inserted b t (right_fields rows) (right_names rows) (right_fields-names rows) h (right_fields-rising rows (are_distinct-rest b (right_names rows) h))
 
 left_tags-names : (arms : ArmTrees) → names_of (left_tags arms) ≡ left_arms arms
 left_tags-names no_arms = refl

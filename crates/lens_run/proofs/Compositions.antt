@@ -1,12 +1,10 @@
 -- A composition translates a primitive by the lens of the edited side, and the word that comes of it by the other lens.
-use Rattle.std.proofs.Common.{◌≡◌, Some, Box, Global, refl, ap, ◌∙◌, rules}
+use Rattle.std.proofs.Common.{◌≡◌, Some, refl}
 use Rattle.texts.specs.declared.side.Side.{Side}
 use Rattle.texts.specs.declared.side.Side.TheVariants.{Left, Right}
 use Rattle.edit_module.specs.Words.{PrimitiveTree}
 use Rattle.lens_forms.specs.Forms.{FormTree, form_then}
-use Rattle.lens_core.specs.Complements.{CompTree, then_comp, comp_tree}
-use Rattle.lens_core.specs.declared.comp.Comp.{Comp, the_lemmas as comp_lemmas}
-use Rattle.lens_core.specs.declared.comp.Comp.TheVariants.{Then}
+use Rattle.lens_core.specs.Complements.{CompTree, then_comp}
 use Rattle.lens_core.specs.Translation.{Translated, translate_one, translate, IsCarryFault}
 use Rattle.lens_core.specs.declared.carry.CarryFault.{CarryFault}
 use Rattle.lens_core.specs.declared.carry.CarryFault.TheVariants.{Unfit, NoMemory}
@@ -38,9 +36,5 @@ pub right_far_fault : (l k : FormTree) (side : Side) (p : PrimitiveTree) (e c d 
 right_far_fault l k Left p e c d near Unfit right is f g = cc
 right_far_fault l k Right p e c d near Unfit right is f g = rw (is, f, g) refl
 right_far_fault l k side p e c d near NoMemory right is f g = tt
-
--- the complement of a composition as a tree
-pub pair_tree : (e : Comp) (c d : Box Comp Global) → e ≡ Then c d → comp_tree e ≡ then_comp (comp_tree c.value) (comp_tree d.value)
-pair_tree e c d is = ap comp_tree is ∙ search (rules, comp_lemmas)
 
 pub ruleset then_rules = (ready_first, ready_second)

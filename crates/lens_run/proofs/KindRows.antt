@@ -1,22 +1,15 @@
 -- A container's form at a complement: at one of its own kind it is translated by its rows, at any other not at all.
-use Rattle.std.proofs.Common.{◌≡◌, true, false, None, refl, ap, ◌∙◌, rules}
+use Rattle.std.proofs.Common.{◌≡◌, true, false, None, refl}
 use Rattle.hold_shapes.specs.declared.shape.Shape.{Shape}
 use Rattle.hold_shapes.specs.declared.shape.Shape.TheVariants.{List as ListOf, Keyed as KeyedOf, Tree as TreeOf}
 use Rattle.texts.specs.declared.side.Side.{Side}
 use Rattle.edit_module.specs.Words.{PrimitiveTree}
 use Rattle.lens_forms.specs.Forms.{FormTree}
-use Rattle.lens_core.specs.Complements.{CompTree, CompTrees, nil, then_comp, rec_comp, alt_comp, hold_comp, tags_comp, comp_tree, comps_tree, missing}
-use Rattle.lens_core.specs.declared.comp.Comp.{Comp, the_lemmas as comp_lemmas}
-use Rattle.lens_core.specs.declared.comp.Comp.TheVariants.{Hold}
-use Rattle.lens_core.specs.declared.comp.Comps.{Comps}
+use Rattle.lens_core.specs.Complements.{CompTree, CompTrees, nil, then_comp, rec_comp, alt_comp, hold_comp, tags_comp, missing}
 use Rattle.lens_core.specs.Translation.{translate, translate_one, translate_held}
 use Rattle.lens_run.specs.Kinds.{mapped, is_of_kind}
 use Rattle.lens_run.specs.declared.kinds.Kind.{Kind}
 use Rattle.lens_run.specs.declared.kinds.Kind.TheVariants.{List, Keyed, Tree}
-
--- the complement of a container as a tree
-pub held_tree : (e : Comp) (s : Shape) (cs : Comps) → e ≡ Hold s cs → comp_tree e ≡ hold_comp s (comps_tree cs)
-held_tree e s cs is = ap comp_tree is ∙ search (rules, comp_lemmas)
 
 -- a complement of this kind
 pub held_row : (kind : Kind) (s : Shape) (cs : CompTrees) (c : CompTree) (l : FormTree) (side : Side) (p : PrimitiveTree) → is_of_kind kind s ≡ true → c ≡ hold_comp s cs

@@ -3,30 +3,22 @@ use Rattle.std.proofs.Common.{◌≡◌, ℕ, ◌≤◌, Bool, true, false, List
 use Rattle.std.specs.Prelude.{if◌then◌else◌}
 use Rattle.tag_seq.specs.Tags.{are_below}
 use Rattle.texts.specs.declared.side.Side.{Side}
-use Rattle.doc_values.specs.Types.{FieldTrees, no_fields, more_fields, field_list}
+use Rattle.doc_values.specs.Types.{FieldTrees, field_list}
 use Rattle.edit_module.specs.Words.{PrimitiveTree}
 use Rattle.lens_forms.specs.Forms.{form_part}
-use Rattle.lens_forms.specs.Measures.{fields_parts}
 use Rattle.lens_core.specs.Complements.{CompTree, tags_comp, comp_tree}
 use Rattle.lens_core.specs.declared.comp.Comp.{Comp, the_lemmas as comp_lemmas}
 use Rattle.lens_core.specs.declared.comp.Comp.TheVariants.{Tags}
 use Rattle.lens_core.specs.Tags.{tag_count}
 use Rattle.lens_core.specs.Translation.{Translated, translate_one, part_one, tagged}
+use Rattle.lens_core.proofs.Tags.{field_list-tag_count, tag_count-parts}
 use Rattle.lens_run.specs.Ready.{IsReady}
 
-tags_are_parts : (fs : FieldTrees) → tag_count fs ≤ fields_parts fs
-tags_are_parts no_fields = omega arith
-tags_are_parts (more_fields n t fs) = let rest = tags_are_parts fs in omega (arith, rest)
-
 pub few_tags : (fs : FieldTrees) → IsReady (form_part fs) → tag_count fs ≤ 4096
-few_tags fs h = let small = h.1 in omega (arith, small, tags_are_parts fs)
-
-pub tags_counted : (fs : FieldTrees) → length (field_list fs) ≡ tag_count fs
-tags_counted no_fields = refl
-tags_counted (more_fields n t fs) = let rest = tags_counted fs in omega (arith, rest)
+few_tags fs h = let small = h.1 in omega (arith, small, tag_count-parts fs)
 
 pub few_fields : (fs : FieldTrees) → IsReady (form_part fs) → length (field_list fs) ≤ 4096
-few_fields fs h = omega (arith, few_tags fs h, tags_counted fs)
+few_fields fs h = omega (arith, few_tags fs h, field_list-tag_count fs)
 
 -- the complement of a partition as a tree
 pub tags_tree : (e : Comp) (ts : List ℕ) → e ≡ Tags ts → comp_tree e ≡ tags_comp ts
@@ -43,11 +35,11 @@ none_if false row e = refl
 -- numbers of tags
 pub part_row : (fs : FieldTrees) (c : CompTree) (ts : List ℕ) (side : Side) (p : PrimitiveTree) → c ≡ tags_comp ts → are_below (length (field_list fs)) ts ≡ true
     → translate_one (form_part fs) side c p ≡ option_map tagged (part_one side fs ts p)
-part_row fs c ts side p is below = rw is (row_if (are_below (tag_count fs) ts) _ (subst (λ (n : ℕ). are_below n ts ≡ true) (tags_counted fs) below))
+part_row fs c ts side p is below = rw is (row_if (are_below (tag_count fs) ts) _ (subst (λ (n : ℕ). are_below n ts ≡ true) (field_list-tag_count fs) below))
 
 -- a number that is too large
 pub part_none : (fs : FieldTrees) (c : CompTree) (ts : List ℕ) (side : Side) (p : PrimitiveTree) → c ≡ tags_comp ts → are_below (length (field_list fs)) ts ≡ false
     → translate_one (form_part fs) side c p ≡ None
-part_none fs c ts side p is above = rw is (none_if (are_below (tag_count fs) ts) _ (subst (λ (n : ℕ). are_below n ts ≡ false) (tags_counted fs) above))
+part_none fs c ts side p is above = rw is (none_if (are_below (tag_count fs) ts) _ (subst (λ (n : ℕ). are_below n ts ≡ false) (field_list-tag_count fs) above))
 
 pub ruleset part_rules = (few_fields)

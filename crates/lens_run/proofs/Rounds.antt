@@ -1,5 +1,5 @@
 -- A translation that goes round that of the lens inside: what its steps give, the whole gives.
-use Rattle.std.proofs.Common.{◌≡◌, ℕ, List, Option, Some, option_map, Box, Global, sym, ap, ◌∙◌, rules}
+use Rattle.std.proofs.Common.{◌≡◌, ℕ, List, Option, Some, option_map, sym, ap, ◌∙◌}
 use Rattle.std.specs.Prelude.{option_and_then}
 use Rattle.texts.specs.declared.side.Side.{Side}
 use Rattle.edit_module.specs.Words.{PrimitiveTree, WordTree}
@@ -7,14 +7,12 @@ use Rattle.edit_module.specs.Views.{word_tree}
 use Rattle.edit_module.specs.declared.word.Word.{Word}
 use Rattle.lens_forms.specs.Forms.{RowTrees, form_rec, ArmTrees, form_alt}
 use Rattle.lens_core.specs.Beginnings.{Beginning, finished, inside, begun_tree, carried_on, IsBeginFault, IsInside}
-use Rattle.lens_core.specs.Complements.{CompTree, CompTrees, rec_comp, alt_comp, comp_tree, comps_tree}
+use Rattle.lens_core.specs.Complements.{CompTree, CompTrees, rec_comp, alt_comp, comp_tree}
 use Rattle.lens_core.specs.Translation.{Translated, translate_one, carried_tree, IsCarryFault}
 use Rattle.lens_core.specs.declared.carry.Begun.{Begun}
 use Rattle.lens_core.specs.declared.carry.Begun.TheVariants.{Done, Inner}
 use Rattle.lens_core.specs.declared.carry.Carried.{Carried}
-use Rattle.lens_core.specs.declared.comp.Comp.{Comp, the_lemmas as comp_lemmas}
-use Rattle.lens_core.specs.declared.comp.Comp.TheVariants.{Rec, Alt}
-use Rattle.lens_core.specs.declared.comp.Comps.{Comps}
+use Rattle.lens_core.specs.declared.comp.Comp.{Comp}
 use Rattle.lens_core.specs.declared.carry.CarryFault.{CarryFault}
 use Rattle.lens_core.specs.declared.carry.CarryFault.TheVariants.{Unfit, NoMemory}
 use Rattle.lens_branch.specs.AlternativeSteps.{begin_alternatives, finish_alternatives, arm_translation, HasBegun}
@@ -77,9 +75,6 @@ pub record_not_inside : (rows : RowTrees) (side : Side) (c : CompTree) (cs : Com
     → begin_record rows side cs p ≡ Some (inside i d w) → IsCarryFault (row_translation rows side i d w) fault → IsCarryFault (translate_one (form_rec rows) side c p) fault
 record_not_inside rows side c cs p i d w fault is e f = rw is (round_not_inside _ _ _ _ i d w fault (record_round rows side cs p) e f)
 
-pub record_tree : (e : Comp) (cs : Comps) → e ≡ Rec cs → comp_tree e ≡ rec_comp (comps_tree cs)
-record_tree e cs is = ap comp_tree is ∙ search (rules, comp_lemmas)
-
 -- ---- alternatives
 
 round_of : (arms : ArmTrees) (side : Side) (t : List ℕ) (c : CompTree) (p : PrimitiveTree) → IsReady (form_alt arms)
@@ -108,6 +103,3 @@ alternative_not_inside arms side e t c p i d w fault h is b f = rw is (round_not
 pub has_begun : (arms : ArmTrees) (side : Side) (t : List ℕ) (c : CompTree) (p : PrimitiveTree) (i : ℕ) (d : CompTree) (w : WordTree)
     → begin_alternatives arms side t c p ≡ Some (inside i d w) → HasBegun arms side p
 has_begun arms side t c p i d w e = (t, c, needs_inside _ i d w e)
-
-pub alternative_tree : (e : Comp) (t : List ℕ) (c : Box Comp Global) → e ≡ Alt t c → comp_tree e ≡ alt_comp t (comp_tree c.value)
-alternative_tree e t c is = ap comp_tree is ∙ search (rules, comp_lemmas)

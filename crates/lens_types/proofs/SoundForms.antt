@@ -18,7 +18,7 @@ use Rattle.lens_forms.proofs.SortedFields.{sorted-rising, sorted-well_formed}
 
 -- ---- no failure
 
-none_both : (a b : Option Failure) → option_or a b ≡ None → (a ≡ None) × (b ≡ None)
+pub none_both : (a b : Option Failure) → option_or a b ≡ None → (a ≡ None) × (b ≡ None)
 none_both None b h = (refl, h)
 none_both (Some f) b h = cc
 

@@ -1,13 +1,14 @@
 -- An At for each tag, taken one tag at a time.
-use Rattle.std.proofs.Common.{◌≡◌, ℕ, suc, ◌+◌, ◌<◌, ◌≤◌, List, [], ◌∷◌, length, map, drop, drop-cons, get_or, add-one, refl, ap, sym, ◌∙◌}
+use Rattle.std.proofs.Common.{◌≡◌, ℕ, suc, ◌+◌, ◌<◌, ◌≤◌, List, length, map, drop, drop-cons, get_or, add-one, ap, sym, ◌∙◌}
 use Rattle.std.proofs.lemmas.List.{drop_all}
 use Rattle.doc_values.specs.Types.{FieldTrees, type_fields_of, field_tree}
 use Rattle.doc_values.specs.declared.ty.Ty.{Ty}
 use Rattle.edit_module.specs.Words.{WordTree, no_primitives, joined}
+use Rattle.edit_module.proofs.Words.{joined_assoc}
 use Rattle.lens_core.specs.Emitted.{at_word}
-use Rattle.lens_core.specs.Tags.{tag_count}
 use Rattle.lens_core.specs.Partition.{at_each_tag}
-use Rattle.lens_core.proofs.JoinedWords.{joined_nothing, joined_again}
+use Rattle.lens_core.proofs.JoinedWords.{joined_nothing}
+use Rattle.lens_core.proofs.Tags.{tag_count-length}
 
 -- what is left of the tags, from the number i on, behind the word u
 abbrev pub left_tags : WordTree → List (List ℕ × Ty) → ℕ → (ℕ → WordTree) → WordTree
@@ -21,7 +22,7 @@ each_start u fs word tree e f = ap (λ z. joined z (at_each_tag (type_fields_of 
 each_next : (fs : List (List ℕ × Ty)) (i : ℕ) (f : List ℕ × Ty) (u : WordTree) (word : ℕ → WordTree) → i < length fs → f ≡ get_or fs i f
     → left_tags u fs i word ≡ left_tags (joined u (at_word f.0 (word i))) fs (i + 1) word
 each_next fs i f u word h is =
-    rw (drop-cons fs i f h, sym is, add-one) (sym (joined_again u (at_word f.0 (word i)) (at_each_tag (type_fields_of (map field_tree (drop (suc i) fs))) (suc i) word)))
+    rw (drop-cons fs i f h, sym is, add-one) (sym (joined_assoc u (at_word f.0 (word i)) (at_each_tag (type_fields_of (map field_tree (drop (suc i) fs))) (suc i) word)))
 
 -- after a tag
 pub each_kept : (fs : List (List ℕ × Ty)) (i : ℕ) (f : List ℕ × Ty) (u part u' : WordTree) (word : ℕ → WordTree) (whole : WordTree) → i < length fs → f ≡ get_or fs i f
@@ -34,10 +35,5 @@ pub each_end : (fs : List (List ℕ × Ty)) (i : ℕ) (u : WordTree) (word : ℕ
 each_end fs i u word whole h k =
     let done : left_tags u fs i word ≡ u = rw (drop_all i fs h) (joined_nothing u) in
     sym done ∙ k
-
--- there are as many tags as fields
-pub tag_count-length : (fs : List (List ℕ × Ty)) → tag_count (type_fields_of (map field_tree fs)) ≡ length fs
-tag_count-length [] = refl
-tag_count-length (f ∷ fs) = ap (λ n. n + 1) (tag_count-length fs) ∙ add-one (length fs)
 
 pub ruleset each_rules = (each_start, each_kept, each_end, tag_count-length)

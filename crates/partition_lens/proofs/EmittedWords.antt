@@ -7,36 +7,25 @@ use Rattle.edit_module.specs.Words.{at, stay, modify, WordTree, no_primitives, m
 use Rattle.edit_module.proofs.Words.{word_tree-out}
 use Rattle.lens_core.specs.Emitted.{one, at_word, stay_word, mod_word}
 use Rattle.lens_core.specs.Partition.{is_identity}
+use Rattle.lens_core.proofs.EmptyWords.{at_word-empty, stay_word-empty, mod_word-empty}
 
 pub ruleset word_rules = (word_tree-out)
 
 -- ---- words that are left out
 
-pub at_nothing : (f : List ℕ) (w : WordTree) → word_length w ≡ 0 → at_word f w ≡ w
-at_nothing f no_primitives h = refl
-at_nothing f (more_primitives p w) h = absurd (omega arith)
-
 pub at_something : (f : List ℕ) (w : WordTree) → 0 < word_length w → at_word f w ≡ one (at f w)
 at_something f no_primitives h = absurd (omega arith)
 at_something f (more_primitives p w) h = refl
-
-pub stay_nothing : (t : List ℕ) (w : WordTree) → word_length w ≡ 0 → stay_word t w ≡ w
-stay_nothing t no_primitives h = refl
-stay_nothing t (more_primitives p w) h = absurd (omega arith)
 
 pub stay_something : (t : List ℕ) (w : WordTree) → 0 < word_length w → stay_word t w ≡ one (stay t w)
 stay_something t no_primitives h = absurd (omega arith)
 stay_something t (more_primitives p w) h = refl
 
-pub mod_nothing : (q : Place) (w : WordTree) → word_length w ≡ 0 → mod_word q w ≡ w
-mod_nothing q no_primitives h = refl
-mod_nothing q (more_primitives p w) h = absurd (omega arith)
-
 pub mod_something : (q : Place) (w : WordTree) → 0 < word_length w → mod_word q w ≡ one (modify q w)
 mod_something q no_primitives h = absurd (omega arith)
 mod_something q (more_primitives p w) h = refl
 
-pub ruleset left_out_rules = (at_nothing, at_something, stay_nothing, stay_something, mod_nothing, mod_something)
+pub ruleset left_out_rules = (at_word-empty, at_something, stay_word-empty, stay_something, mod_word-empty, mod_something)
 
 -- ---- orders that change nothing
 

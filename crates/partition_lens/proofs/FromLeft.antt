@@ -1,7 +1,6 @@
 -- Partition from the left: each primitive of the list is translated to a word that turns the lists on the right.
 use Rattle.std.proofs.Common.{◌≡◌, ℕ, zero, suc, ◌+◌, ◌-◌, ◌<◌, ◌≤◌, Bool, true, false, ◌&&◌, List, [], ◌∷◌, ◌++◌, length, map, take, drop, get_or, replicate, Option, Some, Ok, refl, ap, sym, ◌∙◌, subst, arith, length-append}
 use Rattle.std.specs.Prelude.{nat_eq, nat_lt, nat_le, cond, slice_index}
-use Rattle.std.specs.List.{insert, remove}
 use Rattle.std.proofs.lemmas.Bool.{eq-eqb, eqb-true}
 use Rattle.std.proofs.lemmas.List.{append-nil, map-append, length-map, length-drop, take-append-drop, drop-map}
 use Rattle.hold_shapes.specs.declared.edit.Place.TheVariants.{Index, Key, Node}
@@ -17,7 +16,7 @@ use Rattle.edit_module.specs.Action.{act, act_primitive}
 use Rattle.lens_core.specs.Emitted.{at_word, shape_word}
 use Rattle.lens_core.specs.Tags.{tag_count, tag_name}
 use Rattle.tag_seq.specs.Tags.{are_below, count, rank, moved}
-use Rattle.tag_seq.proofs.Totals.{below-append as below_both}
+use Rattle.tag_seq.proofs.Bounds.{are_below-append, are_below-take, are_below-replicate, are_below-get_or, are_below-moved}
 use Rattle.lens_core.specs.Consistency.{list_doc}
 use Rattle.lens_core.specs.Partition.{Parted, mv, del, reorder, at_each_tag, ranks_of, part_left}
 use Rattle.partition_lens.proofs.ItemLists.{Item, tag_of, tags_of, contents_at, contents-append, length-contents, contents-here, contents-off, rank-part, tag-part, here_is, without_here, put_here, split_at, cut_at, parts_same, same_number}
@@ -37,42 +36,14 @@ pub record LeftStep (fs : FieldTrees) (ps : List Item) (o : Option Parted) (x : 
 
 -- ---- tags below a bound
 
-pub below-append : (n : ℕ) (xs ys : List ℕ) → are_below n xs ≡ true → are_below n ys ≡ true → are_below n (xs ++ ys) ≡ true
-below-append n xs ys h k = below_both n xs ys ∙ both (are_below n xs) (are_below n ys) h k
-
-below-take : (n k : ℕ) (xs : List ℕ) → are_below n xs ≡ true → are_below n (take k xs) ≡ true
-below-take n zero xs h = refl
-below-take n (suc k) [] h = refl
-below-take n (suc k) (x ∷ xs) h = both (nat_lt x n) (are_below n (take k xs)) (first (nat_lt x n) (are_below n xs) h) (below-take n k xs (second (nat_lt x n) (are_below n xs) h))
-
-below-drop : (n k : ℕ) (xs : List ℕ) → are_below n xs ≡ true → are_below n (drop k xs) ≡ true
-below-drop n zero xs h = h
-below-drop n (suc k) [] h = refl
-below-drop n (suc k) (x ∷ xs) h = below-drop n k xs (second (nat_lt x n) (are_below n xs) h)
-
-pub below-many : (n t c : ℕ) → t < n → are_below n (replicate c t) ≡ true
-below-many n t zero h = refl
-below-many n t (suc c) h = both (nat_lt t n) (are_below n (replicate c t)) (is_below t n h) (below-many n t c h)
-
-below_at : (n k : ℕ) (xs : List ℕ) → 0 < n → are_below n xs ≡ true → get_or xs k 0 < n
-below_at n k [] z h = z
-below_at n zero (x ∷ xs) z h = below x n (first (nat_lt x n) (are_below n xs) h)
-below_at n (suc k) (x ∷ xs) z h = below_at n k xs z (second (nat_lt x n) (are_below n xs) h)
-
 below_order : (n : ℕ) (xs f : List ℕ) → 0 < n → are_below n xs ≡ true → are_below n (map (λ k. get_or xs k 0) f) ≡ true
 below_order n xs [] z h = refl
-below_order n xs (k ∷ f) z h = both (nat_lt (get_or xs k 0) n) (are_below n (map (λ k. get_or xs k 0) f)) (is_below (get_or xs k 0) n (below_at n k xs z h)) (below_order n xs f z h)
-
-below_moved : (n i j : ℕ) (xs : List ℕ) → 0 < n → are_below n xs ≡ true → are_below n (insert (remove xs i) j (get_or xs i 0)) ≡ true
-below_moved n i j xs z h =
-    let rest = below-append n (take i xs) (drop (suc i) xs) (below-take n i xs h) (below-drop n (suc i) xs h) in
-    below-append n (take j (remove xs i)) (get_or xs i 0 ∷ drop j (remove xs i)) (below-take n j (remove xs i) rest)
-    (both (nat_lt (get_or xs i 0) n) (are_below n (drop j (remove xs i))) (is_below (get_or xs i 0) n (below_at n i xs z h)) (below-drop n j (remove xs i) rest))
+below_order n xs (k ∷ f) z h = both (nat_lt (get_or xs k 0) n) (are_below n (map (λ k. get_or xs k 0) f)) (is_below (get_or xs k 0) n (are_below-get_or n k xs z h)) (below_order n xs f z h)
 
 edited_low : (n : ℕ) (e : ShapeEdit) (xs : List ℕ) → 0 < n → are_below n xs ≡ true → are_below n (edited 0 e xs) ≡ true
-edited_low n (Ins c) xs z h = below-append n xs (replicate c 0) h (below-many n 0 c z)
-edited_low n (Del c) xs z h = below-take n (length xs - c) xs h
-edited_low n (MoveItem i j) xs z h = below_moved n i j xs z h
+edited_low n (Ins c) xs z h = are_below-append n xs (replicate c 0) h (are_below-replicate n 0 c z)
+edited_low n (Del c) xs z h = are_below-take n (length xs - c) xs h
+edited_low n (MoveItem i j) xs z h = are_below-moved n i j xs z h
 edited_low n (Reorder f) xs z h = below_order n xs f z h
 edited_low n (PutKey k) xs z h = h
 edited_low n (DropKey k) xs z h = h

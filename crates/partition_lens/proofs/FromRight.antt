@@ -16,6 +16,7 @@ use Rattle.edit_module.specs.Action.{act}
 use Rattle.lens_core.specs.Emitted.{stay_word, mod_word, switch_word, shape_word}
 use Rattle.lens_core.specs.Tags.{tag_count, tag_name}
 use Rattle.tag_seq.specs.Tags.{are_below, count, place, moved}
+use Rattle.tag_seq.proofs.Bounds.{are_below-append, are_below-replicate}
 use Rattle.lens_core.specs.Consistency.{list_doc}
 use Rattle.lens_core.specs.Partition.{Parted, mv, place_in, mod_occurrence, switch_places, insert_occurrences, delete_last, delete_occurrences, move_occurrence}
 use Rattle.lens_core.proofs.Results.{acts_joined}
@@ -25,7 +26,7 @@ use Rattle.partition_lens.proofs.ListEdits.{edited, edited-through, remove-throu
 use Rattle.partition_lens.proofs.RightLists.{tag_type, IsPartition, type_by_name, item_doc, item_docs}
 use Rattle.partition_lens.proofs.Counts.{place_found}
 use Rattle.partition_lens.proofs.TagOrders.{place_by_rank}
-use Rattle.partition_lens.proofs.FromLeft.{below-append, below-many, below_here, below_there, below_without, first_item, first_is, contents_many, contents_none, moved_is}
+use Rattle.partition_lens.proofs.FromLeft.{below_here, below_there, below_without, first_item, first_is, contents_many, contents_none, moved_is}
 
 -- the step: the new items, whose list at the tag t is vs and whose other lists are the old ones, and the word that turns the list of
 -- alternatives
@@ -143,7 +144,7 @@ ins_step fs p some t ps c low b h =
       others = λ l e. contents-append l ps (replicate c (t, v)) ∙ (ap (λ z. contents_at l ps ++ z) (contents_none l t c v e) ∙ append-nil (contents_at l ps));
       turns = acts_joined (ty_list (ty_alt fs)) (shape_word (Ins c)) tail (list_doc (item_docs fs ps)) (list_doc (item_docs fs ps ++ replicate c (item_doc fs (first_item fs))))
           (list_doc (item_docs fs items)) one (two ∙ ap (λ z. Ok (list_doc z)) docs);
-      low = subst (λ z. are_below (tag_count fs) z ≡ true) tags (below-append (tag_count fs) ts (replicate c t) b (below-many (tag_count fs) t c low));
+      low = subst (λ z. are_below (tag_count fs) z ≡ true) tags (are_below-append (tag_count fs) ts (replicate c t) b (are_below-replicate (tag_count fs) t c low));
     }
   where
     switched : (d : Bool) → nat_eq t 0 ≡ d → Turns (ty_alt fs) (cond d no_primitives (switch_places (tag_name fs 0) (tag_name fs t) (length (tags_of ps)) c))
@@ -328,7 +329,7 @@ tail_low : (n x : ℕ) (xs ys : List ℕ) → are_below n (x ∷ xs) ≡ true �
 tail_low n x xs ys h f = both (nat_lt x n) (are_below n ys) (first (nat_lt x n) (are_below n xs) h) (f (second (nat_lt x n) (are_below n xs) h))
 
 put_in : (n : ℕ) (cs ds : List Item) (x : Item) → x.0 < n → are_below n (tags_of (cs ++ ds)) ≡ true → are_below n (tags_of (cs ++ x ∷ ds)) ≡ true
-put_in n [] ds x h k = below-append n (x.0 ∷ []) (tags_of ds) (below-many n x.0 1 h) k
+put_in n [] ds x h k = are_below-append n (x.0 ∷ []) (tags_of ds) (are_below-replicate n x.0 1 h) k
 put_in n (c ∷ cs) ds x h k = tail_low n c.0 (tags_of (cs ++ ds)) (tags_of (cs ++ x ∷ ds)) k (λ r. put_in n cs ds x h r)
 
 move_parts : (fs : FieldTrees) (us : List Item) (t : ℕ) (v : DocTree) (ws : List Item) (i j : ℕ) (d : DocTree) → are_below (tag_count fs) (tags_of (us ++ (t, v) ∷ ws)) ≡ true

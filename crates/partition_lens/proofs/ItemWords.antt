@@ -13,6 +13,7 @@ use Rattle.doc_values.specs.Typing.{lookup_field, lookup_type}
 use Rattle.doc_values.specs.Initial.{initial}
 use Rattle.edit_module.specs.Words.{PrimitiveTree, set as set_to, add, splice, at, stay, switch, modify, shape, WordTree, no_primitives, more_primitives, joined}
 use Rattle.edit_module.specs.Action.{Why, act, act_primitive, map_ok, if_present, inner}
+use Rattle.edit_module.proofs.ActionKeepsTypes.{present_ok}
 use Rattle.lens_core.specs.Emitted.{at_word, mod_word, shape_word, one_by_one}
 use Rattle.lens_core.specs.Tags.{tag_count, tag_number, tag_name}
 use Rattle.lens_core.specs.Consistency.{list_doc}
@@ -38,10 +39,6 @@ pub record ItemStep (fs : FieldTrees) (us : List Item) (old : Item) (ws : List I
 if_tag : (b : Bool) (r : Result DocTree Cause) (d : DocTree) → cond b r (Err Tag) ≡ Ok d → (b ≡ true) × (r ≡ Ok d)
 if_tag true r d e = (refl, e)
 if_tag false r d e = cc
-
-present_ok : {A : Type 0} (o : Option A) (c : Cause) (f : A → Result DocTree Cause) (u : DocTree) → if_present o c f ≡ Ok u → (x : A) × (o ≡ Some x) × (f x ≡ Ok u)
-present_ok None c f u e = cc
-present_ok (Some x) c f u e = (x, refl, e)
 
 alt_ok : (a : List ℕ) (r : Result DocTree Why) (d : DocTree) → map_ok (alt a) (inner r) ≡ Ok d → (v : DocTree) × (r ≡ Ok v) × (d ≡ alt a v)
 alt_ok a (Ok v) d e = (v, refl, cc)

@@ -1,5 +1,5 @@
 -- The laws of a partition, from both sides.
-use Rattle.std.proofs.Common.{◌≡◌, ℕ, ◌<◌, true, List, [], ◌∷◌, length, map, Some, option_map, Ok, refl, ap, sym, ◌∙◌, subst, arith}
+use Rattle.std.proofs.Common.{◌≡◌, ℕ, ◌<◌, true, List, [], length, map, Some, option_map, Ok, refl, ap, sym, ◌∙◌, subst, arith}
 use Rattle.std.proofs.lemmas.Bool.{eqb-true}
 use Rattle.hold_shapes.specs.declared.shape.Shape.{Shape}
 use Rattle.hold_shapes.specs.declared.shape.Shape.TheVariants.{List as ListOf, Keyed as KeyedOf, Tree as TreeOf}
@@ -25,6 +25,7 @@ use Rattle.lens_core.specs.Translation.{translate_one, part_one}
 use Rattle.lens_core.specs.Laws.{IsRelated, Carries, Laws}
 use Rattle.doc_values.proofs.InitialTypes.{has_initial}
 use Rattle.doc_values.proofs.Lists.{doc_list-docs_of, docs_of-doc_list}
+use Rattle.doc_values.proofs.DistinctNames.{are_choices-distinct}
 use Rattle.edit_module.proofs.ActionKeepsTypes.{has_primitive, has_act}
 use Rattle.lens_core.proofs.RecordFields.{content-initial}
 use Rattle.partition_lens.proofs.ItemLists.{Item, tags_of}
@@ -164,11 +165,7 @@ partition_laws fs apart left_sound right_sound =
       step = partition_step fs p (some_tag fs left_sound);
     }
 
-choices_differ : (ns : List (List ℕ)) → are_choices ns ≡ true → are_distinct ns ≡ true
-choices_differ [] h = refl
-choices_differ (n ∷ ns) h = h
-
 pub typed_partition_laws : (fs : FieldTrees) → is_typed (form_part fs) ≡ true → Laws (form_part fs)
 typed_partition_laws fs h =
-    let apart = choices_differ (names_of fs) (first (are_choices (names_of fs)) (are_well_formed fs) h) in
+    let apart = are_choices-distinct (names_of fs) (first (are_choices (names_of fs)) (are_well_formed fs) h) in
     partition_laws fs apart (left_formed (form_part fs) h) (right_formed (form_part fs) h)

@@ -20,8 +20,9 @@ use Rattle.lens_core.proofs.Results.{acts_joined}
 use Rattle.edit_module.proofs.ActionKeepsTypes.{has_act}
 use Rattle.lens_core.proofs.LawsOfLeaves.{bytes_are, bytes_same, differs_back}
 use Rattle.doc_values.proofs.FieldPlaces.{lookup_type_place}
-use Rattle.lens_core.proofs.NameTests.{not_that, or_later}
+use Rattle.lens_core.proofs.NameTests.{not_that}
 use Rattle.lens_core.proofs.RecordFields.{lookup_type-more, lookup_type-insert, content-found, content-put, field_acts}
+use Rattle.lens_core.proofs.Tags.{tag_name-among}
 use Rattle.partition_lens.proofs.ItemLists.{Item, tags_of, contents_at, same_number}
 use Rattle.partition_lens.proofs.ListEdits.{Turns, below}
 
@@ -43,11 +44,6 @@ pub record IsPartition (fs : FieldTrees) : Type 0 where
   pub left_sound : is_well_formed (ty_alt fs) ≡ true
   pub right_sound : is_well_formed (ty_rec (right_lists fs)) ≡ true
 
-name_among : (fs : FieldTrees) (k : ℕ) → k < tag_count fs → has_name (tag_name fs k) (names_of fs) ≡ true
-name_among no_fields k h = absurd (omega arith)
-name_among (more_fields n t fs) zero h = rw (bytes_same n) refl
-name_among (more_fields n t fs) (suc k) h = or_later (bytes_eq (tag_name fs k) n) (has_name (tag_name fs k) (names_of fs)) (name_among fs k (omega arith))
-
 was_not : (b : Bool) → not b ≡ true → b ≡ false
 was_not true e = cc
 was_not false e = refl
@@ -58,7 +54,7 @@ found_by_name (more_fields n t fs) zero a h = rw (bytes_same n) refl
 found_by_name (more_fields n t fs) (suc k) a h =
     let off = was_not (has_name n (names_of fs)) (first (not (has_name n (names_of fs))) (are_distinct (names_of fs)) a) in
     let rest = second (not (has_name n (names_of fs))) (are_distinct (names_of fs)) a in
-    let other : bytes_eq n (tag_name fs k) ≡ false = differs_back (tag_name fs k) n (not_that (tag_name fs k) n (names_of fs) off (name_among fs k (omega arith))) in
+    let other : bytes_eq n (tag_name fs k) ≡ false = differs_back (tag_name fs k) n (not_that (tag_name fs k) n (names_of fs) off (tag_name-among fs k (omega arith))) in
     rw (other, found_by_name fs k rest (omega arith)) (ap (λ z. Some (z, tag_type fs k)) (one-add k))
 
 -- the tag that a name finds

@@ -7,17 +7,18 @@ use Rattle.std.proofs.lemmas.List.Edits.{length-remove}
 use Rattle.std.proofs.lemmas.List.FromFn.{map-range_with_len_more}
 use Rattle.hold_shapes.specs.declared.edit.Place.TheVariants.{Index}
 use Rattle.edit_module.specs.Words.{WordTree, no_primitives, joined}
+use Rattle.edit_module.proofs.Words.{joined_assoc}
 use Rattle.lens_core.specs.Emitted.{behind, mod_word, switch_word}
 use Rattle.lens_core.specs.Partition.{Parted, switch_places, delete_last, delete_occurrences, place_from}
 use Rattle.tag_seq.specs.Tags.{moved}
 use Rattle.tag_seq.proofs.Sides.{take_all_left}
-use Rattle.lens_core.proofs.JoinedWords.{joined_nothing, joined_again}
+use Rattle.lens_core.proofs.JoinedWords.{joined_nothing}
 use Rattle.partition_lens.proofs.Counts.{length_moved}
 
 -- ---- switches
 
 switch_one : (a n : List ℕ) (x c d : ℕ) (u : WordTree) → c ≡ suc d → joined u (switch_places a n x c) ≡ joined (joined u (mod_word (Index x) (switch_word a n no_primitives))) (switch_places a n (x + 1) d)
-switch_one a n x c d u e = rw e (sym (joined_again u (mod_word (Index x) (switch_word a n no_primitives)) (switch_places a n (x + 1) d)))
+switch_one a n x c d u e = rw e (sym (joined_assoc u (mod_word (Index x) (switch_word a n no_primitives)) (switch_places a n (x + 1) d)))
 
 switch_next : (a n : List ℕ) (x c i : ℕ) (u : WordTree) → i < c
     → joined u (switch_places a n (x + i) (c - i)) ≡ joined (joined u (mod_word (Index (x + i)) (switch_word a n no_primitives))) (switch_places a n (x + (i + 1)) (c - (i + 1)))
@@ -58,7 +59,7 @@ delete_one : (t : ℕ) (ts : List ℕ) (c d : ℕ) (u : WordTree) → c ≡ suc 
     → behind u (delete_occurrences t ts c) ≡ behind (joined u (delete_last t ts).0) (delete_occurrences t (delete_last t ts).1 d)
 delete_one t ts c d u e =
     let others = delete_occurrences t (delete_last t ts).1 d in
-    rw e (ap (λ z. parted z others.1) (sym (joined_again u (delete_last t ts).0 others.0)))
+    rw e (ap (λ z. parted z others.1) (sym (joined_assoc u (delete_last t ts).0 others.0)))
 
 delete_next : (t : ℕ) (ts : List ℕ) (c i : ℕ) (u : WordTree) → i < c
     → behind u (delete_occurrences t ts (c - i)) ≡ behind (joined u (delete_last t ts).0) (delete_occurrences t (delete_last t ts).1 (c - (i + 1)))

@@ -1,11 +1,12 @@
 -- Tags by their numbers and names, in the lists that the code reads.
-use Rattle.std.proofs.Common.{◌≡◌, ℕ, zero, suc, ◌<◌, ◌≤◌, List, [], ◌∷◌, length, map, get_or, Some, None, inl, inr, refl, ap, sym, arith}
+use Rattle.std.proofs.Common.{◌≡◌, ℕ, zero, suc, ◌<◌, ◌≤◌, List, [], ◌∷◌, length, map, Some, None, inl, inr, refl, ap, arith}
 use Rattle.std.specs.Prelude.{bytes_eq}
 use Rattle.doc_values.specs.Types.{TyTree, FieldTrees, no_fields, more_fields, type_fields_of, field_tree}
 use Rattle.doc_values.specs.Typing.{lookup_field}
 use Rattle.doc_values.specs.declared.ty.Ty.{Ty}
 use Rattle.doc_values.proofs.FieldPlaces.{lookup_field_cases}
 use Rattle.lens_core.specs.Tags.{tag_count, tag_number, tag_name}
+use Rattle.lens_core.proofs.Tags.{tag_name-at}
 
 -- the number of a tag is below how many there are
 pub number_below : (fs : FieldTrees) (n : List ℕ) (s : ℕ × TyTree) → lookup_field fs n ≡ Some s → s.0 < tag_count fs
@@ -27,15 +28,10 @@ number_none fs n e = rw e refl
 
 pub ruleset number_rules = (number_below, number_found, number_none)
 
--- the tag at a place of the list, and past its end
-pub name_at : (fs : List (List ℕ × Ty)) (k : ℕ) (f : List ℕ × Ty) → k < length fs → f ≡ get_or fs k f → tag_name (type_fields_of (map field_tree fs)) k ≡ f.0
-name_at [] k f h e = absurd (omega arith)
-name_at (g ∷ fs) zero f h e = ap (λ (x : List ℕ × Ty). x.0) (sym e)
-name_at (g ∷ fs) (suc k) f h e = name_at fs k f (omega arith) e
-
+-- past the end of the list no tag has a name
 pub name_past : (fs : List (List ℕ × Ty)) (k : ℕ) → length fs ≤ k → tag_name (type_fields_of (map field_tree fs)) k ≡ []
 name_past [] k h = refl
 name_past (g ∷ fs) zero h = absurd (omega arith)
 name_past (g ∷ fs) (suc k) h = name_past fs k (omega arith)
 
-pub ruleset name_rules = (name_at, name_past)
+pub ruleset name_rules = (tag_name-at, name_past)

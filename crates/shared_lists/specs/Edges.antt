@@ -1,4 +1,4 @@
--- Where the items of a list stop to pass a test.
+-- Where the items of a list stop passing a test.
 use Rattle.std.specs.Prelude.{◌≡◌, ℕ, suc, zero, Bool, true, false, List, [], ◌∷◌}
 
 -- the item before a place passes the test, where there is one

@@ -1,4 +1,4 @@
-//! The place where the items of a list stop to pass a test.
+//! The place where the items of a list stop passing a test.
 
 ghost use Rattle.std.specs.Prelude.{◌≡◌, ◌≤◌, Bool, length};
 ghost use Rattle.shared_lists.specs.Edges.{PassesBefore, FailsAt};

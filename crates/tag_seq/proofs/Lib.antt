@@ -1,4 +1,5 @@
 mod Examples
+pub mod Bounds
 pub mod Heights
 pub mod Making
 pub mod Numbers

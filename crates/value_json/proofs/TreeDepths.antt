@@ -1,5 +1,6 @@
 -- The tree of a document has no float, and nests less than twice as deep as its type is high.
-use Rattle.std.proofs.Common.{◌≡◌, ℕ, ◌*◌, ◌<◌, ◌≤◌, Bool, false, ◌||◌, ℤ, pos, negsuc, List, [], ◌∷◌, Option, Some, None, refl, ap, arith}
+use Rattle.std.proofs.Common.{◌≡◌, ℕ, ◌*◌, ◌<◌, ◌≤◌, false, ℤ, pos, negsuc, List, [], ◌∷◌, Option, Some, None, refl, ap, arith}
+use Rattle.std.proofs.lemmas.Bool.{or_from}
 use Rattle.hold_shapes.specs.declared.shape.Shape.TheVariants.{List as ListOf, Keyed as KeyedOf, Tree as TreeOf}
 use Rattle.serde_json.specs.Data.{Data, null, depth, items_depth, members_depth}
 use Rattle.serde_json.specs.Written.{has_float, items_have_float, members_have_float}
@@ -24,9 +25,6 @@ content_whole : (o : Option TyTree) (d : DocTree) → ((t : TyTree) → has_floa
 content_whole None d whole = refl
 content_whole (Some t) d whole = whole t
 
-neither : (a b : Bool) → a ≡ false → b ≡ false → (a || b) ≡ false
-neither a b h k = rw (h, k) refl
-
 mutual
   pub whole : (t : TyTree) (d : DocTree) → has_float (tree_of_document t d) ≡ false
   whole ty_unit unit = refl
@@ -35,23 +33,23 @@ mutual
   whole (ty_text i) (text s) = refl
   whole (ty_enum ms i) (pick n) = refl
   whole (ty_rec fs) (rec ds) = fields_whole fs ds
-  whole (ty_alt fs) (alt n d) = neither _ false (content_whole (lookup_type fs n) d (λ t. whole t d)) refl
+  whole (ty_alt fs) (alt n d) = or_from _ false (content_whole (lookup_type fs n) d (λ t. whole t d)) refl
   whole (ty_list t) (hold (ListOf s) ds) = items_whole t ds
   whole (ty_keyed t) (hold (KeyedOf ks) ds) = members_whole t ks ds
-  whole (ty_ordered t) (hold (TreeOf depths) ds) = neither _ _ (counts_whole depths) (neither _ false (items_whole t ds) refl)
+  whole (ty_ordered t) (hold (TreeOf depths) ds) = or_from _ _ (counts_whole depths) (or_from _ false (items_whole t ds) refl)
   whole t d = refl
 
   fields_whole : (fs : FieldTrees) (ds : DocTrees) → members_have_float (field_members fs ds) ≡ false
-  fields_whole (more_fields n t fs) (more_docs d ds) = neither _ _ (whole t d) (fields_whole fs ds)
+  fields_whole (more_fields n t fs) (more_docs d ds) = or_from _ _ (whole t d) (fields_whole fs ds)
   fields_whole fs ds = refl
 
   members_whole : (t : TyTree) (ks : List (List ℕ)) (ds : DocTrees) → members_have_float (key_members t ks ds) ≡ false
-  members_whole t (k ∷ ks) (more_docs d ds) = neither _ _ (whole t d) (members_whole t ks ds)
+  members_whole t (k ∷ ks) (more_docs d ds) = or_from _ _ (whole t d) (members_whole t ks ds)
   members_whole t ks ds = refl
 
   items_whole : (t : TyTree) (ds : DocTrees) → items_have_float (content_items t ds) ≡ false
   items_whole t no_docs = refl
-  items_whole t (more_docs d ds) = neither _ _ (whole t d) (items_whole t ds)
+  items_whole t (more_docs d ds) = or_from _ _ (whole t d) (items_whole t ds)
 
 -- ---- depth
 

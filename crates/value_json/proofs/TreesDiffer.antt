@@ -21,7 +21,7 @@ int_apart (pos m) (negsuc n) q = cc
 int_apart (negsuc m) (pos n) q = cc
 int_apart (negsuc m) (negsuc n) q = cc
 
-counts_apart : (ms ns : List ℕ) → count_items ms ≡ count_items ns → ms ≡ ns
+pub counts_apart : (ms ns : List ℕ) → count_items ms ≡ count_items ns → ms ≡ ns
 counts_apart [] [] q = refl
 counts_apart [] (n ∷ ns) q = cc
 counts_apart (m ∷ ms) [] q = cc

@@ -1,7 +1,8 @@
 use Rattle.std.proofs.Common.{sym, arith}
 use Rattle.serde_json.specs.View.{view}
 use Rattle.doc_values.specs.Types.{fields_tree}
-use Rattle.complement_file.proofs.ReadTags.{is_tag, no_text, no_tag, tag_found, few_tags}
+use Rattle.lens_core.proofs.Tags.{tag_count-parts}
+use Rattle.complement_file.proofs.ReadTags.{is_tag, no_text, no_tag, tag_found}
 use Rattle.complement_file.proofs.numbers.tag_number.Goals as goal
 
 pub returns-in_err-name : goal.returns-in_err-name
@@ -15,7 +16,7 @@ pub overflow_cast-result : goal.overflow_cast-result
 overflow_cast-result c =
     let tags = fields_tree c.args.tags.now in
     let low = (tag_found tags _ _ (sym c.in_ok-place.ensures)).0 in
-    let few = few_tags tags in
+    let few = tag_count-parts tags in
     let small = c.requires.small in
     omega (arith, low, few, small)
 

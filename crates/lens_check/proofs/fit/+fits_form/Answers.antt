@@ -3,9 +3,9 @@ use Rattle.std.specs.Prelude.{nat_le}
 use Rattle.std.proofs.lemmas.Bool.{leb-true, leb-false}
 use Rattle.lens_forms.specs.Forms.{form_tree, row_tree}
 use Rattle.lens_forms.specs.Measures.{rows_parts, arms_parts}
+use Rattle.lens_forms.proofs.TreesOfRows.{row_tree-both}
 use Rattle.lens_core.specs.Complements.{nil, comp_tree, comps_tree, comp_count}
 use Rattle.lens_core.proofs.FormParts.{row_parts, row_smaller}
-use Rattle.lens_core.proofs.MissingRows.{row_tree-both}
 use Rattle.lens_check.specs.FitTest.{fits, rows_fit}
 use Rattle.lens_check.proofs.FitLoops.{and_fails, and_passes, pass_all, pass_next, pass_done, rows_all, paired_next, paired_none, left_next, right_next, rows_done, arm_smaller}
 use Rattle.lens_check.proofs.fit.+fits_form.Goals as goal

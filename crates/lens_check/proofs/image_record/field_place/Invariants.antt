@@ -2,7 +2,7 @@ use Rattle.std.proofs.Common.{◌≡◌, ◌+◌, ◌≤◌, map}
 use Rattle.texts.specs.Keys.{rank}
 use Rattle.doc_values.specs.Types.{names_of}
 use Rattle.lens_forms.specs.Forms.{form_rows_of, row_tree}
-use Rattle.image_laws.specs.Image.{fields_on}
+use Rattle.lens_core.specs.Sides.{fields_on}
 use Rattle.lens_check.proofs.FieldPlaces.{count_from}
 use Rattle.lens_check.proofs.image_record.field_place.Given as goal
 

@@ -1,16 +1,18 @@
 use Rattle.std.proofs.Common.{◌≡◌, ◌<◌, ◌≤◌, None, Some, IfOk, option_map, ap, sym, subst, ◌∙◌, arith}
 use Rattle.lens_forms.specs.Forms.{form_tree, row_tree, rows_tree, arms_tree, form_each, form_keyed, form_ordered}
 use Rattle.lens_forms.specs.Measures.{form_parts, rows_parts}
+use Rattle.lens_forms.proofs.TreesOfRows.{row_tree-both}
 use Rattle.lens_core.specs.Complements.{comp_tree, comps_tree, comp_count}
+use Rattle.lens_core.specs.Sides.{fields_on}
 use Rattle.lens_core.proofs.FormParts.{row_parts, row_smaller}
-use Rattle.lens_core.proofs.MissingRows.{row_tree-both}
-use Rattle.image_laws.specs.Image.{image, fields_on, patterns_by_name}
+use Rattle.lens_core.proofs.ComplementTrees.{comp_tree-rec, comp_tree-alt, comp_tree-hold}
+use Rattle.image_laws.specs.Image.{image, patterns_by_name}
 use Rattle.image_laws.specs.Patterns.{pattern_tree, rec_pattern}
 use Rattle.lens_check.specs.ImageParts.{names_in, patterns_in}
 use Rattle.lens_check.specs.ReadyComplements.{IsReady}
 use Rattle.lens_check.proofs.FarFields.{ready_both}
 use Rattle.lens_check.proofs.HeldPatterns.{shape_seen, ready_at}
-use Rattle.lens_check.proofs.ImageSteps.{gave, each_tree, keyed_tree, ordered_tree, tagged_tree, alt_missing, held_tree, ready_held, held_next, held_stopped, held_made, record_pattern, record_tree, record_done, near_rising, field_among, row_both, row_left, row_right}
+use Rattle.lens_check.proofs.ImageSteps.{gave, each_tree, keyed_tree, ordered_tree, alt_missing, ready_held, held_next, held_stopped, held_made, record_pattern, record_done, near_rising, field_among, row_both, row_left, row_right}
 use Rattle.lens_check.proofs.images.+image.Goals as goal
 use Rattle.lens_check.proofs.images.+image.Goals.{image_record-in-Both+else-pairs-len+in_ok-image-in-Both+in-Some+in_ok-put-in-Both, image_record-in-OnlyLeft+in_ok-put_alone-in-OnlyLeft, image_record-in-OnlyRight+in_ok-put_alone-in-OnlyRight}
 
@@ -54,14 +56,14 @@ image_of-returns-in-Tree t c =
 pub image_alternatives-returns-in-None : goal.image_alternatives-returns-in-None
 image_alternatives-returns-in-None t c =
     alt_missing (arms_tree c.args.arms.now) c.args.side (comp_tree c.args.comp.now) c.in-Alt.tag (comp_tree c.in-Alt.part.value) (pattern_tree c.args.pattern.now)
-    (tagged_tree _ _ _ c.in-Alt.is) (sym c.in-None.ensures.found)
+    (comp_tree-alt _ _ _ c.in-Alt.is) (sym c.in-None.ensures.found)
 
 -- ---- the places of a container
 
 pub image_held-image_of-requires : goal.image_held-image_of-requires
 image_held-image_of-requires t c =
     let cs = comps_tree c.in-Hold.comps in
-    let all = ready_held (IsReady (form_tree c.args.inner.now)) (comp_tree c.args.comp.now) c.in-Hold.shape cs (held_tree _ _ _ c.in-Hold.is) c.requires in
+    let all = ready_held (IsReady (form_tree c.args.inner.now)) (comp_tree c.args.comp.now) c.in-Hold.shape cs (comp_tree-hold _ _ _ c.in-Hold.is) c.requires in
     let within : c.loop-place.place < comp_count cs = omega arith in
     (omega arith, subst (IsReady (form_tree c.args.inner.now)) (sym c.get.ensures) (ready_at (IsReady (form_tree c.args.inner.now)) cs c.loop-place.place within all))
 
@@ -73,7 +75,7 @@ image_held-returns-in-None t c =
     let shaped = shape_seen c.in-Hold.shape (comp_count cs) c.len.result (pattern_tree c.args.pattern.now) c.has_shape.result c.has_shape.ensures c.len.ensures c.if-not-has_shape.false in
     let none = gave c.in_ok-image.field-0 None (inner (comp_tree c.get.result.now) (pattern_tree c.place_pattern-near.result.now)) c.in_ok-image.ensures c.in-None.is in
     held_stopped inner (comp_tree c.args.comp.now) c.in-Hold.shape cs (pattern_tree c.args.pattern.now) c.loop-place.place c.loop-place.images.items _ _
-    (held_tree _ _ _ c.in-Hold.is) shaped within c.get.ensures c.place_pattern-near.ensures none c.loop-place.invariant
+    (comp_tree-hold _ _ _ c.in-Hold.is) shaped within c.get.ensures c.place_pattern-near.ensures none c.loop-place.invariant
 
 pub image_held-loop-place-preserved : goal.image_held-loop-place-preserved
 image_held-loop-place-preserved t c =
@@ -93,7 +95,7 @@ image_held-returns t c =
     let end : comp_count cs ≤ c.loop-place.place = omega arith in
     let shaped = shape_seen c.in-Hold.shape (comp_count cs) c.len.result (pattern_tree c.args.pattern.now) c.has_shape.result c.has_shape.ensures c.len.ensures c.if-not-has_shape.false in
     held_made inner (comp_tree c.args.comp.now) c.in-Hold.shape cs (pattern_tree c.args.pattern.now) c.loop-place.place c.loop-place.images.items c.in_ok-shape.shape c.in_ok-images.images
-    (held_tree _ _ _ c.in-Hold.is) shaped end c.in_ok-shape.ensures c.in_ok-images.ensures c.loop-place.invariant
+    (comp_tree-hold _ _ _ c.in-Hold.is) shaped end c.in_ok-shape.ensures c.in_ok-images.ensures c.loop-place.invariant
 
 -- ---- the rows of a record
 
@@ -115,7 +117,7 @@ image_record-image_of_field-requires t c =
         subst (IsReady (form_tree c.in-Both.form)) (sym c.get-comp.ensures) ready,
         (
           field_among rows whole c.args.side i r c.in-Both.left c.in-Both.right c.near-name.result.now c.in-Both.form c.as_slice-row-items.ensures c.loop-row-test.true c.row-item.is c.in-Both.is c.near-name.ensures,
-          near_rising c.args.side whole (comp_tree c.args.comp.now) cs (record_tree _ _ c.in-Rec.is) c.requires,
+          near_rising c.args.side whole (comp_tree c.args.comp.now) cs (comp_tree-rec _ _ c.in-Rec.is) c.requires,
         ),
       ),
     )
@@ -155,4 +157,4 @@ image_record-returns t c =
     let rows = c.as_slice-row-items.result.now in
     ap Some (record_pattern c.in_ok-from_vec.field-0 ∙ ap rec_pattern c.in_ok-from_vec.ensures)
     ∙ record_done rows (rows_tree c.args.rows.now) c.args.side (comp_tree c.args.comp.now) (comps_tree c.in-Rec.comps) (pattern_tree c.args.pattern.now) c.loop-row.row-index c.loop-row.pairs
-    (names_in c.loop-row.fields) (patterns_in c.loop-row.fields) c.as_slice-row-items.ensures (record_tree _ _ c.in-Rec.is) c.requires (omega arith) c.loop-row.invariant.0
+    (names_in c.loop-row.fields) (patterns_in c.loop-row.fields) c.as_slice-row-items.ensures (comp_tree-rec _ _ c.in-Rec.is) c.requires (omega arith) c.loop-row.invariant.0

@@ -3,7 +3,8 @@ use Rattle.std.specs.Prelude.{IfOk}
 use Rattle.lens_forms.specs.Forms.{row_tree}
 use Rattle.lens_core.specs.Complements.{CompTrees, comps_tree, missing_rows}
 use Rattle.lens_forms.specs.Measures.{rows_parts}
-use Rattle.lens_core.proofs.MissingRows.{missing_done, paired_next, left_next, right_next, made_next, row_tree-both}
+use Rattle.lens_forms.proofs.TreesOfRows.{row_tree-both}
+use Rattle.lens_core.proofs.MissingRows.{missing_done, paired_next, left_next, right_next, made_next}
 use Rattle.lens_core.proofs.FormParts.{row_parts, row_smaller}
 use Rattle.lens_core.proofs.missing_comp.+missing.Goals as goal
 use Rattle.lens_core.proofs.missing_comp.+missing.Goals.{missing_rows-in-Both+in_ok-missing-in-Both+in_ok-push-in-Both, missing_rows-in-OnlyLeft, missing_rows-in-OnlyRight}

@@ -3,8 +3,8 @@ use Rattle.std.specs.Prelude.{vec_items}
 use Rattle.doc_values.specs.Types.{fields_tree}
 use Rattle.edit_module.specs.Views.{word_tree}
 use Rattle.lens_core.specs.Tags.{tag_count}
+use Rattle.lens_core.proofs.Tags.{tag_count-length}
 use Rattle.partition_lens.specs.TagRanks.{ranks_by_tag}
-use Rattle.partition_lens.proofs.EachTag.{tag_count-length}
 use Rattle.partition_lens.proofs.TagRanks.{ranked_row, lists_long}
 use Rattle.partition_lens.proofs.orders.reorder_items.Goals as goal
 

@@ -4,7 +4,8 @@ use Rattle.edit_module.specs.Views.{word_tree}
 use Rattle.lens_core.specs.Emitted.{at_word}
 use Rattle.lens_core.specs.Tags.{tag_count}
 use Rattle.lens_core.specs.Partition.{reorder}
-use Rattle.partition_lens.proofs.EachTag.{each_kept, each_end, tag_count-length}
+use Rattle.lens_core.proofs.Tags.{tag_count-length}
+use Rattle.partition_lens.proofs.EachTag.{each_kept, each_end}
 use Rattle.partition_lens.proofs.TagRanks.{list_read}
 use Rattle.partition_lens.proofs.orders.reorders.Goals as goal
 
