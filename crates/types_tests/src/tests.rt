@@ -1,6 +1,6 @@
 //! Programs that are accepted, programs that are refused, and copies.
 use doc_values::Ty;
-use lens_types::{Form, FormArms, FormRow, FormRows, TypeFault, check};
+use lens_types::{Form, FormArms, FormRow, FormRows, TypeFault, Typed, check};
 use program_terms::{Definitions, Lens, Pairs, Program, Row, Rows, TyExpr};
 use std::alloc::{AllocError, Global};
 use texts::{Name, Names, Str, Twin};
@@ -21,36 +21,60 @@ fn record(alloc: Global, alone: &str) -> Result<Program, AllocError> {
     Ok(Program::from_parts(Definitions::new(alloc), Lens::Rec(rows)))
 }
 
+// A copy of what the checker makes of a program that it accepts.
+fn accepted_copy(alloc: Global, program: &Program) -> Option<Typed> {
+    match check(alloc, program) {
+        Ok(typed) => typed.twin(alloc).ok(),
+        Err(_) => None,
+    }
+}
+
+// A copy of the fault of a program that the checker refuses.
+fn refused_copy(alloc: Global, program: &Program) -> Option<TypeFault> {
+    match check(alloc, program) {
+        Ok(_) => None,
+        Err(fault) => fault.twin(alloc).ok(),
+    }
+}
+
+// How many fields a record has.
+fn field_count(ty: &Ty) -> Option<usize> {
+    match ty {
+        Ty::Rec(fields) => Some(fields.len()),
+        _ => None,
+    }
+}
+
+// How many fields the two types of a record's form have.
+fn field_counts(typed: &Typed) -> Option<(usize, usize)> {
+    match typed.form() {
+        Form::Rec(_) => Some((field_count(typed.left())?, field_count(typed.right())?)),
+        _ => None,
+    }
+}
+
 #[test]
 fn accepted(rt: HostRuntime) {
     let alloc = rt.alloc();
     let program = record(alloc, "c").expect(&rt, "memory");
-    let Ok(typed) = check(alloc, &program) else {
-        panic!(&rt; "refused");
-    };
-    let copy = typed.twin(alloc).expect(&rt, "memory");
-    let Ty::Rec(fields) = copy.left() else {
-        panic!(&rt; "no record");
-    };
-    assert_eq!(rt; fields.len(), 2);
-    assert!(rt; matches!(copy.form(), Form::Rec(_)));
-    let Ty::Rec(fields) = copy.right() else {
-        panic!(&rt; "no record");
-    };
-    assert_eq!(rt; fields.len(), 1);
+    let typed = accepted_copy(alloc, &program).expect(&rt, "accepted");
+    assert_eq!(rt; field_counts(&typed), Some((2, 1)));
+}
+
+// The name of a field that is there twice.
+fn repeated_field(fault: TypeFault) -> Option<Name> {
+    match fault {
+        TypeFault::RepeatedField { name } => Some(name),
+        _ => None,
+    }
 }
 
 #[test]
 fn refused(rt: HostRuntime) {
     let alloc = rt.alloc();
     let program = record(alloc, "a").expect(&rt, "memory");
-    let Err(fault) = check(alloc, &program) else {
-        panic!(&rt; "accepted");
-    };
-    let copy = fault.twin(alloc).expect(&rt, "memory");
-    let TypeFault::RepeatedField { name } = copy else {
-        panic!(&rt; "another fault");
-    };
+    let fault = refused_copy(alloc, &program).expect(&rt, "refused");
+    let name = repeated_field(fault).expect(&rt, "a repeated field");
     assert_eq!(rt; name.as_str(), "a");
 }
 
@@ -63,22 +87,25 @@ fn bijection(alloc: Global, value: &str) -> Result<Program, AllocError> {
     Ok(Program::from_parts(Definitions::new(alloc), lens))
 }
 
+// The initial value of an enum.
+fn initial(ty: &Ty) -> Option<&str> {
+    match ty {
+        Ty::Enum(_, value) => Some(value.as_str()),
+        _ => None,
+    }
+}
+
+// Whether the two types are enums with these initial values.
+fn starts_at(typed: &Typed, left: &str, right: &str) -> bool {
+    initial(typed.left()) == Some(left) && initial(typed.right()) == Some(right)
+}
+
 #[test]
 fn initial_values(rt: HostRuntime) {
     let alloc = rt.alloc();
     let program = bijection(alloc, "c").expect(&rt, "memory");
-    let Ok(typed) = check(alloc, &program) else {
-        panic!(&rt; "refused");
-    };
-    let copy = typed.twin(alloc).expect(&rt, "memory");
-    let Ty::Enum(_, left) = copy.left() else {
-        panic!(&rt; "no enum");
-    };
-    assert_eq!(rt; left.as_str(), "c");
-    let Ty::Enum(_, right) = copy.right() else {
-        panic!(&rt; "no enum");
-    };
-    assert_eq!(rt; right.as_str(), "d");
+    let typed = accepted_copy(alloc, &program).expect(&rt, "accepted");
+    assert!(rt; starts_at(&typed, "c", "d"));
 }
 
 // id enum["a"] = "b"
@@ -89,28 +116,28 @@ fn stranger(alloc: Global) -> Result<Program, AllocError> {
 }
 
 // The name of a value that is not a member.
-fn no_member(alloc: Global, program: &Program) -> Option<Name> {
-    let Err(fault) = check(alloc, program) else {
-        return None;
-    };
-    let Ok(TypeFault::NotAMember { name }) = fault.twin(alloc) else {
-        return None;
-    };
-    Some(name)
+fn no_member(fault: TypeFault) -> Option<Name> {
+    match fault {
+        TypeFault::NotAMember { name } => Some(name),
+        _ => None,
+    }
 }
 
 #[test]
 fn not_members(rt: HostRuntime) {
     let alloc = rt.alloc();
     let program = stranger(alloc).expect(&rt, "memory");
-    let Some(value) = no_member(alloc, &program) else {
-        panic!(&rt; "another answer");
-    };
+    let fault = refused_copy(alloc, &program).expect(&rt, "refused");
+    let value = no_member(fault).expect(&rt, "not a member");
     assert_eq!(rt; value.as_str(), "b");
+}
+
+#[test]
+fn not_left_members(rt: HostRuntime) {
+    let alloc = rt.alloc();
     let program = bijection(alloc, "d").expect(&rt, "memory");
-    let Some(value) = no_member(alloc, &program) else {
-        panic!(&rt; "another answer");
-    };
+    let fault = refused_copy(alloc, &program).expect(&rt, "refused");
+    let value = no_member(fault).expect(&rt, "not a member");
     assert_eq!(rt; value.as_str(), "d");
 }
 
