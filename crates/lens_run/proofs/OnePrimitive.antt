@@ -1,5 +1,5 @@
 -- A word of one primitive: its translation is that of the primitive.
-use Rattle.std.proofs.Common.{◌≡◌, ℕ, Option, None, Some, option_map, List, [], ◌∷◌, length, map, get_or, Result, refl, sym, ap, subst, ◌∙◌, arith}
+use Rattle.std.proofs.Common.{◌≡◌, Option, None, Some, option_map, List, [], ◌∷◌, length, map, get_or, Result, refl, sym, ap, subst, ◌∙◌, arith}
 use Rattle.std.specs.Prelude.{option_and_then, MatchResult}
 use Rattle.texts.specs.declared.side.Side.{Side}
 use Rattle.edit_module.specs.Words.{WordTree, no_primitives, word_of}

@@ -11,5 +11,5 @@ returns c = record {
   text = c.into_inner.ensures.items
       ∙ ap (λ b. b ++ print c.put_word.new.out.tokens) (c.put_word.ensures.before ∙ c.new-out.ensures.before)
       ∙ ap (λ ts. c.args.bytes.items ++ print ts) (c.in_ok-put_word.ensures.tokens ∙ ap (λ ts. ts ++ tokens_of (tree_of_word (word_tree c.args.word.now))) c.new-out.ensures.tokens)
-      ∙ ap (λ b. c.args.bytes.items ++ b) (print-outline (tree_of_word (word_tree c.args.word.now)))
+      ∙ ap (λ b. c.args.bytes.items ++ b) (print-outline (tree_of_word (word_tree c.args.word.now)));
 }
