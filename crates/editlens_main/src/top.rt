@@ -91,8 +91,8 @@ pub fn editlens<S: Source, K: Sink>(
         → (result ≡ Status.Done) ⊎ (result ≡ Status.NoMemory) }
 {
     match read_words(alloc, words) {
-        Ok(Order::Run) => run_script(alloc, Command::Run, source, sink),
-        Ok(Order::Check) => run_script(alloc, Command::Check, source, sink),
+        Ok(Order::Run) => run(alloc, Command::Run, source, sink),
+        Ok(Order::Check) => run(alloc, Command::Check, source, sink),
         Ok(Order::Gen { count, seed }) => run_generated(alloc, count, seed, sink),
         Err(WordsFault::Usage) => give_usage(sink),
         Err(WordsFault::NoMemory) => Status::NoMemory,
@@ -111,6 +111,19 @@ fn give_usage<K: Sink>(sink: &mut K) -> Status
 }
 
 // Reads the input in pieces, and writes what there is to write for each before it asks for the next.
+fn run<S: Source, K: Sink>(alloc: Global, command: Command, source: &mut S, sink: &mut K) -> Status
+    ensures stops_are_clean { Stops command (S.left source.old) (S.left source.new) (K.held sink.old) (K.held sink.new) result }
+    ensures reports { IsFinished result → Reports command (S.left source.old) (S.left source.new) (K.held sink.old) (K.held sink.new) result }
+    ensures source_fault { result ≡ Status.SourceFault → Increased (S.faults source.old) (S.faults source.new) }
+    ensures sink_fault { result ≡ Status.SinkFault → SinkFailed K.faults K.empty_takes K.room K.held sink.old sink.new }
+    ensures complete { IfSome (S.left source.old) (λ bytes. length bytes ≤ 2 ^ 30
+        → (Increased (S.faults source.old) (S.faults source.new) → ⊥)
+        → (SinkFailed K.faults K.empty_takes K.room K.held sink.old sink.new → ⊥)
+        → IsComplete command bytes result) }
+{
+    run_script(alloc, command, source, sink)
+}
+
 fn run_script<S: Source, K: Sink>(
     alloc: Global,
     command: Command,
