@@ -9,7 +9,7 @@ ghost use Rattle.doc_values.specs.Typing.{has};
 use crate::ty::Ty;
 use crate::{same, typing};
 use hold_shapes::{Name, Origins, Shape, Str, Twin, gather};
-use shared_lists::{Iter, SharedList};
+use shared_lists::{Hint, Iter, SharedList};
 use std::alloc::{AllocError, Global};
 
 /// One document.
@@ -155,6 +155,8 @@ impl Docs {
         Ok(Docs { items })
     }
 }
+
+impl Hint for Doc {}
 
 impl Twin for Doc {
     ghost use Rattle.doc_values.specs.Documents.{DocTree, doc_tree};

@@ -6,7 +6,7 @@ ghost use Rattle.hold_shapes.specs.Runs.{run_origins};
 
 use crate::origins::{Origin, Origins};
 use crate::run::Run;
-use shared_lists::SharedList;
+use shared_lists::{Hint, SharedList};
 use std::alloc::{AllocError, Global};
 use texts::Twin;
 
@@ -21,7 +21,7 @@ pub fn gather<T: Twin>(
     fresh: &T,
 ) -> Result<SharedList<T>, AllocError>
 where
-    T: Drop,
+    T: Drop + Hint,
     requires { All (IsBelow (length items.now)) from.now }
     ensures { IfOk result (λ list. map T.meaning list
         ≡ map (content_at (map T.meaning items.now) (T.meaning fresh.now)) from.now) }
@@ -44,7 +44,7 @@ fn piece<T: Twin>(
     fresh: &T,
 ) -> Result<SharedList<T>, AllocError>
 where
-    T: Drop,
+    T: Drop + Hint,
     requires { All (IsBelow (length items.now)) run.now }
     ensures { IfOk result (λ list. map T.meaning list
         ≡ map (content_at (map T.meaning items.now) (T.meaning fresh.now)) run.now) }
@@ -57,7 +57,7 @@ where
 
 // The items of a run of old places, which both lists share.
 #[tactic(auto, using(crate::proofs::Pieces::kept_rules))]
-fn kept<T: Drop>(
+fn kept<T: Drop + Hint>(
     alloc: Global,
     first: u64,
     count: u64,

@@ -2,7 +2,8 @@
 ghost use Rattle.std.specs.Prelude.{◌≡◌, ◌↔◌, ◌<◌, ◌≤◌, length, slice_index_or, IfSome, IsTrue, true};
 ghost use Rattle.texts.specs.Keys.{is_before, is_rising, key_place, rank};
 
-use shared_lists::{SharedList, Test};
+use shared_lists::{Hint, SharedList, Test};
+use std::cmp::Ordering;
 use texts::Name;
 
 // The name at a place.
@@ -32,7 +33,7 @@ pub(crate) fn is_rising(names: &SharedList<Name>) -> bool
 
 /// The place of a name among names in byte order, from 0, or None if it is not among them.
 ///
-/// Does not allocate. It compares some log n names, where n is how many there are.
+/// Does not allocate. It looks at the first bytes of some log n names, where n is how many there are, and compares a few.
 #[tactic(auto, using(texts::proofs::KeyOrder::search_rules))]
 pub(crate) fn place(names: &SharedList<Name>, name: &Name) -> Option<u64>
     requires { is_rising names.now ≡ true }
@@ -54,6 +55,7 @@ pub(crate) fn place(names: &SharedList<Name>, name: &Name) -> Option<u64>
 #[derive(Clone, Copy)]
 struct BeforeName<'a> {
     name: &'a Name,
+    hint: u64,
 }
 
 impl<'a> Test<Name> for BeforeName<'a> {
@@ -62,17 +64,26 @@ impl<'a> Test<Name> for BeforeName<'a> {
     fn passes(&self, item: &Name) -> bool {
         item.is_before(self.name)
     }
+
+    fn passes_hint(&self, hint: u64) -> Option<bool> {
+        match hint.cmp(&self.hint) {
+            Ordering::Less => Some(true),
+            Ordering::Equal => None,
+            Ordering::Greater => Some(false),
+        }
+    }
 }
 
 /// How many of these names in byte order are before a name: the place that a new one takes.
 ///
-/// Does not allocate. It compares some log n names, where n is how many there are.
+/// Does not allocate. It looks at the first bytes of some log n names, where n is how many there are, and compares a few.
 pub(crate) fn rank(names: &SharedList<Name>, name: &Name) -> usize
     requires { is_rising names.now ≡ true }
     ensures value { result ≡ rank name.now names.now }
     ensures within { result ≤ length names.now }
 {
-    names.edge(&BeforeName { name })
+    let hint = name.hint();
+    names.edge(&BeforeName { name, hint })
 }
 
 /// Whether both lists have the same names in the same order. Does not allocate.

@@ -37,5 +37,5 @@ pub use crate::path::Path;
 pub use crate::places::Places;
 pub use crate::plan::{Plan, PlanFault};
 pub use crate::shape::{KeyedShape, ListShape, Shape, TreeShape};
-pub use shared_lists::SharedList;
+pub use shared_lists::{Hint, SharedList};
 pub use texts::{Name, Names, Str, Twin, twin_all};

@@ -3,11 +3,11 @@ ghost use Rattle.std.specs.Prelude.{◌≡◌, ◌≤◌, ◌<◌, ◌+◌, ◌-
 ghost use Rattle.std.specs.List.{insert, remove};
 ghost use Rattle.hold_shapes.specs.Plans.{remove_part, insert_part, move_part};
 
-use shared_lists::SharedList;
+use shared_lists::{Hint, SharedList};
 use std::alloc::{AllocError, Global};
 
 /// A list with one more item at a place.
-pub(crate) fn with_item<T: Drop>(
+pub(crate) fn with_item<T: Drop + Hint>(
     alloc: Global,
     items: &SharedList<T>,
     at: usize,
@@ -28,7 +28,7 @@ pub(crate) fn with_item<T: Drop>(
 
 /// A list without the item at a place.
 #[tactic(auto, using(crate::proofs::SharedItems::part_rules))]
-pub(crate) fn without_item<T: Drop>(
+pub(crate) fn without_item<T: Drop + Hint>(
     alloc: Global,
     items: &SharedList<T>,
     at: usize,
@@ -44,7 +44,7 @@ pub(crate) fn without_item<T: Drop>(
 
 /// A list without the part between two places.
 #[tactic(auto, using(crate::proofs::SharedItems::part_rules))]
-pub(crate) fn remove_part<T: Drop>(
+pub(crate) fn remove_part<T: Drop + Hint>(
     alloc: Global,
     items: &SharedList<T>,
     from: usize,
@@ -61,7 +61,7 @@ pub(crate) fn remove_part<T: Drop>(
 
 /// A list with a part inserted at a place.
 #[tactic(auto, using(crate::proofs::SharedItems::part_rules))]
-pub(crate) fn insert_part<T: Drop>(
+pub(crate) fn insert_part<T: Drop + Hint>(
     alloc: Global,
     at: usize,
     part: &SharedList<T>,
@@ -80,7 +80,7 @@ pub(crate) fn insert_part<T: Drop>(
 
 /// A list with the part between two places moved to a place of the rest.
 #[tactic(auto, using(crate::proofs::SharedItems::part_rules))]
-pub(crate) fn move_part<T: Drop>(
+pub(crate) fn move_part<T: Drop + Hint>(
     alloc: Global,
     items: &SharedList<T>,
     from: usize,

@@ -4,7 +4,7 @@ ghost use Rattle.std.specs.Prelude.{◌≡◌, ◌↔◌, ◌<◌, IsTrue, IfOk,
 ghost use Rattle.image_laws.specs.Patterns.{pattern_tree, patterns_tree, patterns_from, pattern_list, pattern_count, hole, no_patterns};
 
 use hold_shapes::Shape;
-use shared_lists::{Iter, SharedList};
+use shared_lists::{Hint, Iter, SharedList};
 use std::alloc::{AllocError, Global};
 use texts::{Name, Str, Twin};
 
@@ -94,6 +94,8 @@ impl Patterns {
         self.items.iter()
     }
 }
+
+impl Hint for Pattern {}
 
 impl Twin for Pattern {
     ghost use Rattle.image_laws.specs.Patterns.{PatternTree, pattern_tree};

@@ -5,7 +5,7 @@ ghost use Rattle.hold_shapes.specs.Gather.{content_at, IsBelow};
 ghost use Rattle.lens_core.specs.Complements.{comp_tree, comps_tree, comps_of, comp_list, comp_count, nil, then_comp, no_comps};
 
 use hold_shapes::{Origins, Shape, gather};
-use shared_lists::{Iter, SharedList};
+use shared_lists::{Hint, Iter, SharedList};
 use std::alloc::{AllocError, Global};
 use tag_seq::TagSeq;
 use texts::{Name, Twin};
@@ -123,6 +123,8 @@ pub fn then_join(alloc: Global, first: Comp, second: Comp) -> Result<Comp, Alloc
     let second = Box::new(alloc, second)?;
     Ok(Comp::Then(first, second))
 }
+
+impl Hint for Comp {}
 
 impl Twin for Comp {
     ghost use Rattle.lens_core.specs.Complements.{CompTree, comp_tree};

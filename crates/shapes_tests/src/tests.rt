@@ -12,7 +12,7 @@ use hold_shapes::{
     TreeShape, gather,
 };
 use shape_laws::plans_are_lawful;
-use shared_lists::SharedList;
+use shared_lists::{Hint, SharedList};
 use std::alloc::{AllocError, Global};
 use std::test::Fail;
 use texts::{Name, Names, Str, Twin, twin_all};
@@ -111,7 +111,7 @@ fn is_copied(alloc: Global, shape: &Shape) -> Result<bool, AllocError> {
 }
 
 // The contents after an edit of the shape: the caller knows any shape through its trait alone.
-fn contents_after<H: Held + Drop, T: Twin + Drop>(
+fn contents_after<H: Held + Drop, T: Twin + Drop + Hint>(
     alloc: Global,
     held: &H,
     edit: &ShapeEdit,

@@ -32,6 +32,12 @@ module _ {T : Type 0} (owners : List (Rc T Global)) where
 pub ruleset chunk_rules = (chunk_of_left, chunk_of_right, chunk_to_end, length-items_of, length-append)
 
 module _ {T : Type 0} where
+  pub items_of-push : (owners : List (Rc T Global)) (o : Rc T Global) → items_of (owners ++ (o ∷ [])) ≡ items_of owners ++ (o.value ∷ [])
+  items_of-push owners o = map-append (λ r. r.value) owners (o ∷ [])
+
+pub ruleset owned_rules = (items_of-push)
+
+module _ {T : Type 0} where
   pub all_items-append : (front back : List (Rc (List T) Global)) → all_items (front ++ back) ≡ all_items front ++ all_items back
   all_items-append [] back = refl
   all_items-append (t ∷ front) back = simp append_assoc (ap (λ l. t.value ++ l) (all_items-append front back))

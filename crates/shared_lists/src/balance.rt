@@ -4,6 +4,7 @@
 
 ghost use Rattle.std.specs.Prelude.{◌≡◌, ◌<◌, ◌+◌, ◌^◌, ◌++◌, length, IfOk};
 
+use crate::hint::Hint;
 use crate::tree::{Node, Tree, pair};
 use std::alloc::{AllocError, Global};
 use std::rc::Rc;
@@ -12,7 +13,7 @@ use std::rc::Rc;
 ///
 /// The recursion goes down as far as the heights differ.
 #[cycle(join)]
-pub(crate) fn join<T: Drop>(
+pub(crate) fn join<T: Drop + Hint>(
     alloc: Global,
     left: &Rc<Tree<T>>,
     right: &Rc<Tree<T>>,
@@ -23,14 +24,14 @@ pub(crate) fn join<T: Drop>(
     if is_higher(left, right) {
         match &left.node {
             Node::Chunk(_) => pair(alloc, left.clone()?, right.clone()?),
-            Node::Join(outer, inner, _, _, _) => {
+            Node::Join(outer, inner, _, _, _, _) => {
                 rebalance(alloc, outer.clone()?, join(alloc, inner, right)?)
             }
         }
     } else if is_higher(right, left) {
         match &right.node {
             Node::Chunk(_) => pair(alloc, left.clone()?, right.clone()?),
-            Node::Join(inner, outer, _, _, _) => {
+            Node::Join(inner, outer, _, _, _, _) => {
                 rebalance(alloc, join(alloc, left, inner)?, outer.clone()?)
             }
         }
@@ -45,7 +46,7 @@ fn is_higher<T>(first: &Rc<Tree<T>>, second: &Rc<Tree<T>>) -> bool {
 }
 
 // Two trees whose heights differ by at most two, with a rotation where they differ by two.
-fn rebalance<T: Drop>(
+fn rebalance<T: Drop + Hint>(
     alloc: Global,
     left: Rc<Tree<T>>,
     right: Rc<Tree<T>>,
@@ -63,7 +64,7 @@ fn rebalance<T: Drop>(
 }
 
 // Two trees of which the left one is too high.
-fn rotate_right<T: Drop>(
+fn rotate_right<T: Drop + Hint>(
     alloc: Global,
     left: Rc<Tree<T>>,
     right: Rc<Tree<T>>,
@@ -73,7 +74,7 @@ fn rotate_right<T: Drop>(
 {
     match &left.node {
         Node::Chunk(_) => {}
-        Node::Join(outer, inner, _, _, _) => {
+        Node::Join(outer, inner, _, _, _, _) => {
             if outer.height() < inner.height() {
                 return split_between(alloc, outer.clone()?, inner, right);
             }
@@ -84,7 +85,7 @@ fn rotate_right<T: Drop>(
 }
 
 // Two trees of which the right one is too high.
-fn rotate_left<T: Drop>(
+fn rotate_left<T: Drop + Hint>(
     alloc: Global,
     left: Rc<Tree<T>>,
     right: Rc<Tree<T>>,
@@ -94,7 +95,7 @@ fn rotate_left<T: Drop>(
 {
     match &right.node {
         Node::Chunk(_) => {}
-        Node::Join(inner, outer, _, _, _) => {
+        Node::Join(inner, outer, _, _, _, _) => {
             if outer.height() < inner.height() {
                 return split_between(alloc, left, inner, outer.clone()?);
             }
@@ -105,7 +106,7 @@ fn rotate_left<T: Drop>(
 }
 
 // Three trees, one after the other. The two sides of the middle one go to its neighbours.
-fn split_between<T: Drop>(
+fn split_between<T: Drop + Hint>(
     alloc: Global,
     left: Rc<Tree<T>>,
     middle: &Rc<Tree<T>>,
@@ -116,7 +117,7 @@ fn split_between<T: Drop>(
 {
     match &middle.node {
         Node::Chunk(_) => pair(alloc, left, pair(alloc, middle.clone()?, right)?),
-        Node::Join(first, second, _, _, _) => pair(
+        Node::Join(first, second, _, _, _, _) => pair(
             alloc,
             pair(alloc, left, first.clone()?)?,
             pair(alloc, second.clone()?, right)?,

@@ -1,9 +1,10 @@
 //! The place where the items of a list stop passing a test.
 
-ghost use Rattle.std.specs.Prelude.{◌≡◌, ◌≤◌, Bool, length};
+ghost use Rattle.std.specs.Prelude.{◌≡◌, ◌≤◌, Bool, IsTrue, length};
 ghost use Rattle.shared_lists.specs.Edges.{PassesBefore, FailsAt};
 ghost use Rattle.shared_lists.specs.Items.{items_of};
 
+use crate::hint::Hint;
 use crate::list::SharedList;
 use crate::tree::{Node, Tree};
 use std::rc::Rc;
@@ -15,14 +16,19 @@ pub trait Test<T> {
     /// Whether an item passes the test.
     fn passes(&self, item: &T) -> bool
         ensures { result ≡ test self.now item.now };
+
+    /// Whether an item with this hint should pass the test, or None if the hint does not tell.
+    ///
+    /// A search asks it first. No contract rests on what it returns.
+    fn passes_hint(&self, hint: u64) -> Option<bool>;
 }
 
-impl<T> SharedList<T> {
+impl<T: Hint> SharedList<T> {
     /// A place before which the item passes a test, and at which the item fails it. Before the first place and behind the last one
     /// there is no item.
     ///
-    /// It is the number of the items that pass, where they all come before the others. Does not allocate. Tests some log n items,
-    /// where n is how many there are.
+    /// It is the number of the items that pass, where they all come before the others. Does not allocate. Looks at some log n hints,
+    /// where n is how many items there are, and at a few items if their hints are in order and differ.
     pub fn edge<C: Test<T>>(&self, test: &C) -> usize
         ensures within { result ≤ length self.now }
         ensures passes { PassesBefore (C.test test.now) self.now result }
@@ -30,13 +36,21 @@ impl<T> SharedList<T> {
     {
         match &self.root {
             None => 0,
-            Some(root) => root.tree().edge(test),
+            Some(root) => {
+                let tree = root.tree();
+                let place = tree.guessed(test);
+                if tree.passes_before(place, test) && tree.fails_at(place, test) {
+                    place
+                } else {
+                    tree.edge(test)
+                }
+            }
         }
     }
 }
 
 impl<T> Tree<T> {
-    // The same place in a tree.
+    // The same place in a tree, found by the items alone.
     #[tactic(auto, using(crate::proofs::Edges::tree_rules))]
     fn edge<C: Test<T>>(&self, test: &C) -> usize
         ensures within { result ≤ length self.now }
@@ -45,7 +59,7 @@ impl<T> Tree<T> {
     {
         match &self.node {
             Node::Chunk(items) => edge_of(items.as_slice(), test),
-            Node::Join(left, right, middle, len, _) => {
+            Node::Join(left, right, middle, len, _, _) => {
                 let _len = *len;
                 if test.passes(right.first()) {
                     *middle + right.edge(test)
@@ -53,6 +67,58 @@ impl<T> Tree<T> {
                     left.edge(test)
                 }
             }
+        }
+    }
+
+    // Whether the item before a place passes the test.
+    #[tactic(auto, using(crate::proofs::Edges::place_rules))]
+    fn passes_before<C: Test<T>>(&self, place: usize, test: &C) -> bool
+        requires { place ≤ length self.now }
+        ensures { IsTrue result → PassesBefore (C.test test.now) self.now place }
+    {
+        if place == 0 {
+            return true;
+        }
+        test.passes(self.get(place - 1))
+    }
+
+    // Whether the item at a place fails the test.
+    #[tactic(auto, using(crate::proofs::Edges::place_rules))]
+    fn fails_at<C: Test<T>>(&self, place: usize, test: &C) -> bool
+        requires { place ≤ length self.now }
+        ensures { IsTrue result → FailsAt (C.test test.now) self.now place }
+    {
+        if place == self.len() {
+            return true;
+        }
+        !test.passes(self.get(place))
+    }
+}
+
+impl<T: Hint> Tree<T> {
+    // The place that the hints lead to.
+    #[tactic(auto, using(crate::proofs::Edges::tree_rules))]
+    fn guessed<C: Test<T>>(&self, test: &C) -> usize
+        ensures { result ≤ length self.now }
+    {
+        match &self.node {
+            Node::Chunk(items) => edge_of(items.as_slice(), test),
+            Node::Join(left, right, middle, len, _, _) => {
+                let _len = *len;
+                if right.is_before_edge(test) {
+                    *middle + right.guessed(test)
+                } else {
+                    left.guessed(test)
+                }
+            }
+        }
+    }
+
+    // Whether the first item should pass the test, by its hint where that tells.
+    fn is_before_edge<C: Test<T>>(&self, test: &C) -> bool {
+        match test.passes_hint(self.hint()) {
+            Some(passes) => passes,
+            None => test.passes(self.first()),
         }
     }
 }

@@ -7,6 +7,7 @@
 
 mod balance;
 mod edge;
+mod hint;
 pub mod iter;
 pub mod list;
 mod root;
@@ -14,5 +15,6 @@ mod splices;
 mod tree;
 
 pub use crate::edge::Test;
+pub use crate::hint::Hint;
 pub use crate::iter::Iter;
 pub use crate::list::SharedList;

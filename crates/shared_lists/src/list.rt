@@ -4,6 +4,7 @@ ghost use Rattle.std.specs.Prelude.{◌≡◌, ◌↔◌, ◌≤◌, ◌<◌, �
 ghost use Rattle.std.specs.declared.option.Option.TheVariants.{Some};
 ghost use Rattle.shared_lists.specs.Items.{items_of};
 
+use crate::hint::Hint;
 use crate::root::Root;
 use crate::splices;
 use crate::tree::Tree;
@@ -87,7 +88,7 @@ impl<T> SharedList<T> {
     }
 }
 
-impl<T: Drop> SharedList<T> {
+impl<T: Drop + Hint> SharedList<T> {
     ghost use Rattle.shared_lists.specs.Items.{optional_items};
 
     /// A list of these items, in this order. If there is no memory, the items are dropped.

@@ -5,6 +5,7 @@ ghost use Rattle.std.specs.declared.option.Option.TheVariants.{Some, None};
 ghost use Rattle.shared_lists.specs.Items.{items_of, optional_items, all_items};
 
 use crate::balance::join;
+use crate::hint::Hint;
 use crate::tree::{CHUNK, Node, Tree, chunk, pair, share, share_all};
 use std::alloc::{AllocError, Global};
 use std::rc::Rc;
@@ -13,19 +14,42 @@ use std::rc::Rc;
 const FILL: usize = 12;
 
 /// A tree of the items of a `Vec`, which are moved into its chunks.
-#[tactic(auto, using(crate::proofs::ChunkedLists::push_rules))]
-pub(crate) fn from_vec<T: Drop>(
+pub(crate) fn from_vec<T: Drop + Hint>(
     alloc: Global,
     items: Vec<T>,
 ) -> Result<Option<Rc<Tree<T>>>, AllocError>
     ensures { IfOk result (λ t. optional_items t ≡ items.items) }
 {
-    let count = items.len();
-    let fill = if count <= CHUNK { count } else { FILL };
-    let mut trees = Vec::with_capacity(alloc, count / FILL + 1)?;
-    let mut owners = Vec::with_capacity(alloc, fill)?;
+    if items.len() <= CHUNK {
+        return chunk_optional(alloc, owned(alloc, items)?);
+    }
+    from_many(alloc, items)
+}
+
+// An owner of each item of a `Vec`.
+#[tactic(auto, using(crate::proofs::ChunkedLists::owned_rules))]
+fn owned<T: Drop>(alloc: Global, items: Vec<T>) -> Result<Vec<Rc<T>>, AllocError>
+    ensures { IfOk result (λ v. items_of v.items ≡ items.items) }
+{
+    let mut owners = Vec::with_capacity(alloc, items.len())?;
     for item in items {
-        owners = with_room(alloc, &mut trees, owners, fill)?;
+        owners.push(Rc::new(alloc, item)?)?;
+    }
+    Ok(owners)
+}
+
+// A tree of the items of a `Vec` that are more than a chunk has.
+#[tactic(auto, using(crate::proofs::ChunkedLists::push_rules))]
+fn from_many<T: Drop + Hint>(
+    alloc: Global,
+    items: Vec<T>,
+) -> Result<Option<Rc<Tree<T>>>, AllocError>
+    ensures { IfOk result (λ t. optional_items t ≡ items.items) }
+{
+    let mut trees = Vec::with_capacity(alloc, items.len() / FILL + 1)?;
+    let mut owners = Vec::with_capacity(alloc, FILL)?;
+    for item in items {
+        owners = with_room(alloc, &mut trees, owners)?;
         owners.push(Rc::new(alloc, item)?)?;
     }
     push_chunk(alloc, &mut trees, owners)?;
@@ -38,16 +62,15 @@ fn with_room<T: Drop>(
     alloc: Global,
     trees: &mut Vec<Rc<Tree<T>>>,
     items: Vec<Rc<T>>,
-    fill: usize,
 ) -> Result<Vec<Rc<T>>, AllocError>
     ensures { IfOk result (λ v. all_items trees.new.items ++ items_of v.items
         ≡ all_items trees.old.items ++ items_of items.items) }
 {
-    if items.len() < fill {
+    if items.len() < FILL {
         return Ok(items);
     }
     push_chunk(alloc, trees, items)?;
-    Ok(Vec::with_capacity(alloc, fill)?)
+    Ok(Vec::with_capacity(alloc, FILL)?)
 }
 
 // Puts a tree of some items at the end of others, if there is an item.
@@ -68,7 +91,7 @@ fn push_chunk<T: Drop>(
 }
 
 // One tree of the items of trees, of which there may be none.
-fn build_optional<T: Drop>(
+fn build_optional<T: Drop + Hint>(
     alloc: Global,
     trees: &[Rc<Tree<T>>],
 ) -> Result<Option<Rc<Tree<T>>>, AllocError>
@@ -84,7 +107,7 @@ fn build_optional<T: Drop>(
 // One tree of the items of trees, of which there is at least one.
 #[cycle(build)]
 #[tactic(auto, using(crate::proofs::ChunkedLists::build_rules))]
-fn build<T: Drop>(alloc: Global, trees: &[Rc<Tree<T>>]) -> Result<Rc<Tree<T>>, AllocError>
+fn build<T: Drop + Hint>(alloc: Global, trees: &[Rc<Tree<T>>]) -> Result<Rc<Tree<T>>, AllocError>
     requires some { 0 < length trees.now }
     requires fits { length (all_items trees.now) < 2 ^ 64 }
     ensures { IfOk result (λ t. t.value ≡ all_items trees.now) }
@@ -128,7 +151,7 @@ fn chunk_optional<T: Drop>(
 /// Makes new nodes on the path to the place alone, of the same heights.
 #[cycle(set)]
 #[tactic(auto, using(crate::proofs::ChunkedLists::set_rules))]
-pub(crate) fn set<T: Drop>(
+pub(crate) fn set<T: Drop + Hint>(
     alloc: Global,
     tree: &Rc<Tree<T>>,
     place: usize,
@@ -139,14 +162,15 @@ pub(crate) fn set<T: Drop>(
 {
     match &tree.node {
         Node::Chunk(items) => set_in_chunk(alloc, items.as_slice(), place, item),
-        Node::Join(left, right, middle, len, height) => {
+        Node::Join(left, right, middle, len, height, hint) => {
             if place < *middle {
                 let left = set(alloc, left, place, item)?;
-                let node = Node::Join(left, right.clone()?, *middle, *len, *height);
+                let hint = left.hint();
+                let node = Node::Join(left, right.clone()?, *middle, *len, *height, hint);
                 return Ok(Rc::new(alloc, Tree { node })?);
             }
             let right = set(alloc, right, place - *middle, item)?;
-            let node = Node::Join(left.clone()?, right, *middle, *len, *height);
+            let node = Node::Join(left.clone()?, right, *middle, *len, *height, *hint);
             Ok(Rc::new(alloc, Tree { node })?)
         }
     }
@@ -182,7 +206,7 @@ fn owners_of<T: Drop>(alloc: Global, items: &[Rc<T>]) -> Result<Vec<Rc<T>>, Allo
 /// None is a tree of no items.
 #[cycle(splice)]
 #[tactic(auto, using(crate::proofs::SplicedLists::splice_rules))]
-pub(crate) fn splice<T: Drop>(
+pub(crate) fn splice<T: Drop + Hint>(
     alloc: Global,
     tree: &Rc<Tree<T>>,
     from: usize,
@@ -202,7 +226,7 @@ pub(crate) fn splice<T: Drop>(
     }
     match &tree.node {
         Node::Chunk(items) => splice_chunk(alloc, items.as_slice(), from, to, more),
-        Node::Join(left, right, middle, _, _) => {
+        Node::Join(left, right, middle, _, _, _) => {
             let middle = *middle;
             if to <= middle {
                 let front = splice(alloc, left, from, to, more)?;
@@ -232,7 +256,7 @@ pub(crate) fn owner_of<T: Drop>(
 }
 
 /// Two trees one after the other, either of which may have no items.
-pub(crate) fn join_optional<T: Drop>(
+pub(crate) fn join_optional<T: Drop + Hint>(
     alloc: Global,
     left: Option<Rc<Tree<T>>>,
     right: Option<Rc<Tree<T>>>,
@@ -249,7 +273,7 @@ pub(crate) fn join_optional<T: Drop>(
 
 // A splice of the items of one chunk. What still fits into a chunk stays one.
 #[tactic(auto, using(crate::proofs::SplicedLists::items_rules))]
-fn splice_chunk<T: Drop>(
+fn splice_chunk<T: Drop + Hint>(
     alloc: Global,
     items: &[Rc<T>],
     from: usize,

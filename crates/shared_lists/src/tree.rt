@@ -4,6 +4,7 @@ ghost use Rattle.std.specs.Prelude.{◌≡◌, ◌<◌, ◌≤◌, ◌+◌, ◌^
 ghost use Rattle.std.specs.declared.option.Option.TheVariants.{Some};
 ghost use Rattle.shared_lists.specs.Items.{items_of};
 
+use crate::hint::Hint;
 use std::alloc::{AllocError, Global};
 use std::marker::Model;
 use std::rc::Rc;
@@ -16,8 +17,9 @@ pub(crate) const CHUNK: usize = 16;
 pub(crate) enum Node<T> {
     /// Some items, at least one.
     Chunk(Vec<Rc<T>>),
-    /// Two trees one after the other, the number of items of the first, that of both, and the height of this tree.
-    Join(Rc<Tree<T>>, Rc<Tree<T>>, usize, usize, u8),
+    /// Two trees one after the other, the number of items of the first, that of both, the height of this tree, and the hint
+    /// of its first item.
+    Join(Rc<Tree<T>>, Rc<Tree<T>>, usize, usize, u8, u64),
 }
 
 /// At least one item, in order.
@@ -56,7 +58,7 @@ impl<T> Tree<T> {
     {
         match &self.node {
             Node::Chunk(items) => items.len(),
-            Node::Join(_, _, _, len, _) => *len,
+            Node::Join(_, _, _, len, _, _) => *len,
         }
     }
 
@@ -64,7 +66,7 @@ impl<T> Tree<T> {
     pub(crate) fn height(&self) -> u8 {
         match &self.node {
             Node::Chunk(_) => 0,
-            Node::Join(_, _, _, _, height) => *height,
+            Node::Join(_, _, _, _, height, _) => *height,
         }
     }
 
@@ -75,7 +77,7 @@ impl<T> Tree<T> {
     {
         match &self.node {
             Node::Chunk(items) => &items[place],
-            Node::Join(left, right, middle, _, _) => {
+            Node::Join(left, right, middle, _, _, _) => {
                 if place < *middle {
                     left.get(place)
                 } else {
@@ -91,7 +93,7 @@ impl<T> Tree<T> {
     {
         match &self.node {
             Node::Chunk(items) => &items[0],
-            Node::Join(left, _, _, _, _) => left.first(),
+            Node::Join(left, _, _, _, _, _) => left.first(),
         }
     }
 
@@ -108,13 +110,23 @@ impl<T> Tree<T> {
                 let (_, rest) = items.as_slice().split_at(place);
                 rest
             }
-            Node::Join(left, right, middle, _, _) => {
+            Node::Join(left, right, middle, _, _, _) => {
                 if place < *middle {
                     left.chunk_from(place)
                 } else {
                     right.chunk_from(place - *middle)
                 }
             }
+        }
+    }
+}
+
+impl<T: Hint> Tree<T> {
+    /// The hint of the first item. Only the cost rests on it.
+    pub(crate) fn hint(&self) -> u64 {
+        match &self.node {
+            Node::Chunk(items) => items[0].hint(),
+            Node::Join(_, _, _, _, _, hint) => *hint,
         }
     }
 }
@@ -148,7 +160,7 @@ pub(crate) fn share_all<T: Drop>(
 {
     match &tree.node {
         Node::Chunk(items) => share(into, items.as_slice()),
-        Node::Join(left, right, _, _, _) => {
+        Node::Join(left, right, _, _, _, _) => {
             share_all(into, left)?;
             share_all(into, right)
         }
@@ -156,7 +168,7 @@ pub(crate) fn share_all<T: Drop>(
 }
 
 /// Two trees one after the other, with no look at their heights. Few items make one chunk.
-pub(crate) fn pair<T: Drop>(
+pub(crate) fn pair<T: Drop + Hint>(
     alloc: Global,
     left: Rc<Tree<T>>,
     right: Rc<Tree<T>>,
@@ -173,6 +185,7 @@ pub(crate) fn pair<T: Drop>(
         return chunk(alloc, items);
     }
     let height = left.height().max(right.height()).saturating_add(1);
-    let node = Node::Join(left, right, middle, len, height);
+    let hint = left.hint();
+    let node = Node::Join(left, right, middle, len, height, hint);
     Ok(Rc::new(alloc, Tree { node })?)
 }

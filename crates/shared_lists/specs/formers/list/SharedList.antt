@@ -102,26 +102,26 @@ chunks = vec.the_former (owner this) Global
 
 module _ (X : Type 0) where
   abbrev Sides : Type 0
-  Sides = chunks.Of X ⊎ (Rc (List X) Global × (Rc (List X) Global × (ℕ × (ℕ × ℕ))))
+  Sides = chunks.Of X ⊎ (Rc (List X) Global × (Rc (List X) Global × (ℕ × (ℕ × (ℕ × ℕ)))))
 
   abbrev sides : Node X → Sides
   sides (Chunk items) = inl items
-  sides (Join left right middle len height) = inr (left, (right, (middle, (len, height))))
+  sides (Join left right middle len height hint) = inr (left, (right, (middle, (len, (height, hint)))))
 
   abbrev node_of : Sides → Node X
   node_of (inl items) = Chunk items
-  node_of (inr v) = Join v.0 v.1.0 v.1.1.0 v.1.1.1.0 v.1.1.1.1
+  node_of (inr v) = Join v.0 v.1.0 v.1.1.0 v.1.1.1.0 v.1.1.1.1.0 v.1.1.1.1.1
 
   node_of-sides : (n : Node X) → node_of (sides n) ≡ n
   node_of-sides (Chunk items) = refl
-  node_of-sides (Join left right middle len height) = refl
+  node_of-sides (Join left right middle len height hint) = refl
 
   sides-node_of : (v : Sides) → sides (node_of v) ≡ v
   sides-node_of (inl items) = refl
   sides-node_of (inr v) = refl
 
 abbrev nodes : Former {0}
-nodes = via (or chunks (pair (owner (list this)) (pair (owner (list this)) (const (ℕ × (ℕ × ℕ)))))) Node sides node_of node_of-sides sides-node_of
+nodes = via (or chunks (pair (owner (list this)) (pair (owner (list this)) (const (ℕ × (ℕ × (ℕ × ℕ))))))) Node sides node_of node_of-sides sides-node_of
 
 abbrev insides : Former {0}
 insides = via nodes TI.Inside (λ X a. a.node) (λ X n. record { node = n }) (λ X a. refl) (λ X n. refl)
@@ -142,7 +142,7 @@ module _ (X : Type 0) where
 
   view_keeps : (n : Node X) → held (list this) X (TV.view X (record { node = n })) ≡ held insides X (record { node = n })
   view_keeps (Chunk items) = held-items_of items.items none_left tt
-  view_keeps (Join left right middle len height) = held-append left.value right.value none_left tt
+  view_keeps (Join left right middle len height hint) = held-append left.value right.value none_left tt
 
 module _ {X Y : Type 0} (h : X → Y) where
   map-append : (l r : List X) → map h l ++ map h r ≡ map h (l ++ r)
@@ -155,7 +155,7 @@ module _ {X Y : Type 0} (h : X → Y) where
 
   view_natural : (n : Node X) → TV.view Y (insides.map X Y h (record { node = n })) ≡ map h (TV.view X (record { node = n }))
   view_natural (Chunk items) = items_of-over items.items
-  view_natural (Join left right middle len height) = map-append left.value right.value
+  view_natural (Join left right middle len height hint) = map-append left.value right.value
 
 -- the invariant of a node is a fact, and does not turn on what the items are
 abbrev Sound : {X : Type 0} → Node X → Type 0
@@ -163,7 +163,7 @@ Sound {X} n = TV.invariant X (record { node = n })
 
 Sound-prop : {X : Type 0} (n : Node X) → IsProp (Sound n)
 Sound-prop (Chunk items) = λ p q. le_prop p q
-Sound-prop (Join left right middle len height) = ×_prop (λ p q. ℕ_set _ _ p q) (×_prop (λ p q. ℕ_set _ _ p q) (×_prop (λ p q. le_prop p q) (λ p q. le_prop p q)))
+Sound-prop (Join left right middle len height hint) = ×_prop (λ p q. ℕ_set _ _ p q) (×_prop (λ p q. ℕ_set _ _ p q) (×_prop (λ p q. le_prop p q) (λ p q. le_prop p q)))
 
 module _ {X Y : Type 0} (h : X → Y) where
   length-sides : (l r : List X) → length (map h l ++ map h r) ≡ length (l ++ r)
@@ -171,11 +171,11 @@ module _ {X Y : Type 0} (h : X → Y) where
 
   Sound-to : (n : Node X) → Sound n → Sound (nodes.map X Y h n)
   Sound-to (Chunk items) s = omega (arith, s, length-map items.items (over_owner h))
-  Sound-to (Join left right middle len height) s = (s.0 ∙ sym (length-map left.value h), (s.1.0 ∙ sym (length-sides left.value right.value), (omega (arith, s.1.1.0, length-map left.value h), omega (arith, s.1.1.1, length-map right.value h))))
+  Sound-to (Join left right middle len height hint) s = (s.0 ∙ sym (length-map left.value h), (s.1.0 ∙ sym (length-sides left.value right.value), (omega (arith, s.1.1.0, length-map left.value h), omega (arith, s.1.1.1, length-map right.value h))))
 
   Sound-from : (n : Node X) → Sound (nodes.map X Y h n) → Sound n
   Sound-from (Chunk items) s = omega (arith, s, length-map items.items (over_owner h))
-  Sound-from (Join left right middle len height) s = (s.0 ∙ length-map left.value h, (s.1.0 ∙ length-sides left.value right.value, (omega (arith, s.1.1.0, length-map left.value h), omega (arith, s.1.1.1, length-map right.value h))))
+  Sound-from (Join left right middle len height hint) s = (s.0 ∙ length-map left.value h, (s.1.0 ∙ length-sides left.value right.value, (omega (arith, s.1.1.0, length-map left.value h), omega (arith, s.1.1.1, length-map right.value h))))
 
 -- ---- the tree, whose rows are made in stages
 
@@ -183,7 +183,7 @@ module _ (R S : RattleType) (h : R.Denot → S.Denot) (a : Alike R S h) where
   -- a node over two rows of trees that are alike
   module _ (A B : RattleType) (g : A.Denot → B.Denot) (b : Alike A B g) where
     abbrev maps : Mapss (K.type-Node R A A).parts (K.type-Node S B B).parts
-    maps = ((vec.mapped (over_owner h), tt), ((over_owner g, (over_owner g, ((λ n. n), ((λ n. n), ((λ n. n), tt))))), tt))
+    maps = ((vec.mapped (over_owner h), tt), ((over_owner g, (over_owner g, ((λ n. n), ((λ n. n), ((λ n. n), ((λ n. n), tt)))))), tt))
 
     abbrev mapped : (K.type-Node R A A).D → (K.type-Node S B B).D
     mapped = eachs (K.type-Node R A A).parts (K.type-Node S B B).parts maps
@@ -191,7 +191,7 @@ module _ (R S : RattleType) (h : R.Denot → S.Denot) (a : Alike R S h) where
     variants : Alike (K.layer-Node R A A) (K.layer-Node S B B) mapped
     variants = enum_places (K.type-Node R A A) (K.type-Node S B B) maps mapped (λ d. refl) refl (
       (laid _ _ _ (vec.the_places heap.the_row ghosts (owners_of R) (owners_of S) (over_owner h) (owner_places R S h a)), tt),
-      ((laid _ _ _ (owner_places A B g b), (laid _ _ _ (owner_places A B g b), ((refl, (λ n. refl, λ n. refl)), ((refl, (λ n. refl, λ n. refl)), ((refl, (λ n. refl, λ n. refl)), tt))))), tt),
+      ((laid _ _ _ (owner_places A B g b), (laid _ _ _ (owner_places A B g b), ((refl, (λ n. refl, λ n. refl)), ((refl, (λ n. refl, λ n. refl)), ((refl, (λ n. refl, λ n. refl)), ((refl, (λ n. refl, λ n. refl)), tt)))))), tt),
     )
 
   -- what the trees own at one stage
@@ -207,11 +207,11 @@ module _ (R S : RattleType) (h : R.Denot → S.Denot) (a : Alike R S h) where
 
     node_own : (n : Node R.Denot) → (K.at-Node S q).own_val (nodes.map R.Denot S.Denot h n) ≡ (K.at-Node R p).own_val n
     node_own (Chunk items) = variants_at.own_same (inl (items, tt))
-    node_own (Join left right middle len height) = variants_at.own_same (inr (inl (left, (right, (middle, (len, (height, tt)))))))
+    node_own (Join left right middle len height hint) = variants_at.own_same (inr (inl (left, (right, (middle, (len, (height, (hint, tt))))))))
 
     node_shr : (n : Node R.Denot) → (K.at-Node S q).shr_at (nodes.map R.Denot S.Denot h n) ≡ (K.at-Node R p).shr_at n
     node_shr (Chunk items) = variants_at.shr_same (inl (items, tt))
-    node_shr (Join left right middle len height) = variants_at.shr_same (inr (inl (left, (right, (middle, (len, (height, tt)))))))
+    node_shr (Join left right middle len height hint) = variants_at.shr_same (inr (inl (left, (right, (middle, (len, (height, (hint, tt))))))))
 
     node_places : Alike (K.at-Node R p) (K.at-Node S q) (nodes.map R.Denot S.Denot h)
     node_places = record { mir_same = variants_at.mir_same; own_same = node_own; shr_same = node_shr }
