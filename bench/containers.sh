@@ -3,22 +3,23 @@
 # bash bench/containers.sh [ENTRIES], ENTRIES being 10,000 where none is given. It is run by hand, and takes a few minutes.
 #
 # The records have a field that both sides know, and one of each side alone. A line has an edit and the microseconds of processor time
-# of one entry, among 1,000 and among 100,000 records: the time of a run, less that of a run of the same script without these entries.
-# Then it has the ratio of the two, with the word `over` after one that is above 3. Three entries in four are of the left side. An
-# entry that adds a record leaves it to the later ones.
+# of one entry, among 1,000 and among 100,000 records: what a run takes from the answer to the last entry that makes the records to the
+# answer to the last of so many entries, the shortest of five. Then it has the ratio of the two, with the word `over` after one that is
+# above 3. Three entries in four are of the left side. An entry that adds a record leaves it to the later ones.
 set -eu
 
 here=$(cd "$(dirname "${BASH_SOURCE[0]}")/.." && pwd)
 [ -x "$here/crates/editlens/out/editlens" ] || { echo "run ./build first" >&2; exit 1; }
 
 exec python3 - "$here/crates/editlens/out/editlens" "${1:-10000}" <<'PYTHON'
-import os, random, subprocess, sys, tempfile
+import os, random, subprocess, sys, threading
 
 # As ./editlens runs the program.
 os.environ.setdefault('GLIBC_TUNABLES', 'glibc.malloc.hugetlb=1')
 program, count = sys.argv[1], int(sys.argv[2])
 SIZES = [1000, 100000]
 MOST = 3
+RUNS = 5
 RECORD = '{name ~ label: id text, left age: int, right note: text}'
 FIELDS = {'left': ('name', 'age'), 'right': ('label', 'note')}
 
@@ -57,16 +58,12 @@ def filled(kind, size, side):
 def entries_of(side, primitives):
     """Entries of a thousand primitives each, which keep below the longest line."""
     primitives = list(primitives)
-    for k in range(0, len(primitives), 1000):
-        yield entry(side, primitives[k:k + 1000])
+    return [entry(side, primitives[k:k + 1000]) for k in range(0, len(primitives), 1000)]
 
 
 def made(kind, size):
-    """The script up to a container of so many records."""
-    yield 'main %s %s\n---\n' % ('each' if kind == 'list' else 'keyed', RECORD)
-    yield from entries_of('left', added(kind, size))
-    yield from entries_of('left', filled(kind, size, 'left'))
-    yield from entries_of('right', filled(kind, size, 'right'))
+    """The entries that make a container of so many records."""
+    return entries_of('left', added(kind, size)) + entries_of('left', filled(kind, size, 'left')) + entries_of('right', filled(kind, size, 'right'))
 
 
 def edits(kind, size, edit):
@@ -83,32 +80,40 @@ def edits(kind, size, edit):
             yield entry(side, ['{"put":"%08d new %d"}' % (random.randrange(size), k)])
 
 
+def answered(child, lines):
+    """Gives a run some entries, and waits until each is answered as accepted. Returns the seconds of processor time of the run so far."""
+    def give():
+        child.stdin.write(''.join(lines).encode())
+        child.stdin.flush()
+
+    giver = threading.Thread(target=give)
+    giver.start()
+    for _ in lines:
+        assert child.stdout.readline().startswith(b'ok '), lines[0]
+    giver.join()
+    with open('/proc/%d/schedstat' % child.pid) as times:
+        return int(times.read().split()[0]) / 1e9
+
+
 def seconds(kind, size, edit):
-    """The shortest processor time of three runs, with these entries or without any."""
-    with tempfile.TemporaryFile('w+') as source, tempfile.TemporaryFile() as sink:
-        source.writelines(made(kind, size))
-        if edit:
-            source.writelines(edits(kind, size, edit))
-        source.flush()
-        best = None
-        for _ in range(3):
-            os.lseek(source.fileno(), 0, os.SEEK_SET)
-            sink.seek(0)
-            sink.truncate()
-            child = subprocess.Popen([program, 'run'], stdin=source, stdout=sink)
-            _, status, usage = os.wait4(child.pid, 0)
-            child.returncode = os.waitstatus_to_exitcode(status)
-            assert child.returncode == 0, (kind, size, edit, child.returncode)
-            taken = usage.ru_utime + usage.ru_stime
-            best = taken if best is None else min(best, taken)
-        return best
+    """The shortest processor time of the entries that are timed."""
+    before, timed = made(kind, size), list(edits(kind, size, edit))
+    best = None
+    for _ in range(RUNS):
+        child = subprocess.Popen([program, 'run'], stdin=subprocess.PIPE, stdout=subprocess.PIPE)
+        child.stdin.write(('main %s %s\n---\n' % ('each' if kind == 'list' else 'keyed', RECORD)).encode())
+        start = answered(child, before)
+        taken = answered(child, timed) - start
+        child.communicate()
+        assert child.returncode == 0, (kind, size, edit, child.returncode)
+        best = taken if best is None else min(best, taken)
+    return best
 
 
 print('%-12s %10s %10s %8s' % ('entry (µs)', '1,000', '100,000', 'ratio'))
 for kind, adds in [('list', 'ins'), ('keyed', 'put')]:
-    without = [seconds(kind, size, None) for size in SIZES]
     for edit in ['mod', adds]:
-        costs = [(seconds(kind, size, edit) - base) / count for size, base in zip(SIZES, without)]
+        costs = [seconds(kind, size, edit) / count for size in SIZES]
         ratio = costs[1] / costs[0]
         print('%-12s %10.3f %10.3f %8.2f %s' % (kind + '-' + edit, costs[0] * 1e6, costs[1] * 1e6, ratio, 'over' if ratio > MOST else ''), flush=True)
 PYTHON
