@@ -8,8 +8,10 @@ set -eu
 here=$(cd "$(dirname "${BASH_SOURCE[0]}")/.." && pwd)
 [ -x "$here/crates/editlens/out/editlens" ] || { echo "run ./build first" >&2; exit 1; }
 
-exec python3 - "$here/crates/editlens/out/editlens" "${1:-1000}" "${2:-10000}" <<'PYTHON'
-import json, os, subprocess, sys, tempfile, time
+PYTHONPATH=$here/bench exec python3 - "$here/crates/editlens/out/editlens" "${1:-1000}" "${2:-10000}" <<'PYTHON'
+import json, sys
+
+from entries import seconds
 
 program, most, entries = sys.argv[1], int(sys.argv[2]), int(sys.argv[3])
 
@@ -29,34 +31,16 @@ def alternatives(arms):
     return lens, words
 
 
-def measure(lens, words):
-    """Seconds of processor time of a run: the shortest of three."""
-    best = None
-    with tempfile.TemporaryFile('w+') as source:
-        source.write(lens + '\n---\n')
-        for side, word in words:
-            source.write(json.dumps({'side': side, 'edit': word}, separators=(',', ':')) + '\n')
-        source.flush()
-        for _ in range(3):
-            os.lseek(source.fileno(), 0, os.SEEK_SET)
-            child = subprocess.Popen([program, 'run'], stdin=source, stdout=subprocess.DEVNULL)
-            _, status, usage = os.wait4(child.pid, 0)
-            child.returncode = os.waitstatus_to_exitcode(status)
-            assert child.returncode == 0, child.returncode
-            taken = usage.ru_utime + usage.ru_stime
-            best = taken if best is None else min(best, taken)
-    return best
-
-
-def entry(lens, words):
-    """Seconds of one entry: those of all, less those of none."""
-    return (measure(lens, words) - measure(lens, [])) / len(words)
+def cost(lens, words):
+    """Seconds of processor time of one entry. The first one is not counted, since the program part is checked before its answer."""
+    lines = [json.dumps({'side': side, 'edit': word}, separators=(',', ':')) + '\n' for side, word in words]
+    return seconds(program, lens, lines[:1], lines[1:]) / len(lines[1:])
 
 
 for name, make, size in [('rows', record, most), ('arms', alternatives, most // 10)]:
     costs = []
     for count in (size // 10, size):
-        costs.append(entry(*make(count)))
+        costs.append(cost(*make(count)))
         print('%d %s: %.1f microseconds an entry' % (count, name, costs[-1] * 1e6))
     print('%s: %.1f times longer at ten times as many' % (name, costs[1] / costs[0]))
 PYTHON

@@ -11,15 +11,14 @@ set -eu
 here=$(cd "$(dirname "${BASH_SOURCE[0]}")/.." && pwd)
 [ -x "$here/crates/editlens/out/editlens" ] || { echo "run ./build first" >&2; exit 1; }
 
-exec python3 - "$here/crates/editlens/out/editlens" "${1:-10000}" <<'PYTHON'
-import os, random, subprocess, sys, threading
+PYTHONPATH=$here/bench exec python3 - "$here/crates/editlens/out/editlens" "${1:-10000}" <<'PYTHON'
+import random, sys
 
-# As ./editlens runs the program.
-os.environ.setdefault('GLIBC_TUNABLES', 'glibc.malloc.hugetlb=1')
+from entries import seconds
+
 program, count = sys.argv[1], int(sys.argv[2])
 SIZES = [1000, 100000]
 MOST = 3
-RUNS = 5
 RECORD = '{name ~ label: id text, left age: int, right note: text}'
 FIELDS = {'left': ('name', 'age'), 'right': ('label', 'note')}
 
@@ -80,40 +79,11 @@ def edits(kind, size, edit):
             yield entry(side, ['{"put":"%08d new %d"}' % (random.randrange(size), k)])
 
 
-def answered(child, lines):
-    """Gives a run some entries, and waits until each is answered as accepted. Returns the seconds of processor time of the run so far."""
-    def give():
-        child.stdin.write(''.join(lines).encode())
-        child.stdin.flush()
-
-    giver = threading.Thread(target=give)
-    giver.start()
-    for _ in lines:
-        assert child.stdout.readline().startswith(b'ok '), lines[0]
-    giver.join()
-    with open('/proc/%d/schedstat' % child.pid) as times:
-        return int(times.read().split()[0]) / 1e9
-
-
-def seconds(kind, size, edit):
-    """The shortest processor time of the entries that are timed."""
-    before, timed = made(kind, size), list(edits(kind, size, edit))
-    best = None
-    for _ in range(RUNS):
-        child = subprocess.Popen([program, 'run'], stdin=subprocess.PIPE, stdout=subprocess.PIPE)
-        child.stdin.write(('main %s %s\n---\n' % ('each' if kind == 'list' else 'keyed', RECORD)).encode())
-        start = answered(child, before)
-        taken = answered(child, timed) - start
-        child.communicate()
-        assert child.returncode == 0, (kind, size, edit, child.returncode)
-        best = taken if best is None else min(best, taken)
-    return best
-
-
 print('%-12s %10s %10s %8s' % ('entry (µs)', '1,000', '100,000', 'ratio'))
 for kind, adds in [('list', 'ins'), ('keyed', 'put')]:
+    lens = 'main %s %s' % ('each' if kind == 'list' else 'keyed', RECORD)
     for edit in ['mod', adds]:
-        costs = [seconds(kind, size, edit) / count for size in SIZES]
+        costs = [seconds(program, lens, made(kind, size), list(edits(kind, size, edit))) / count for size in SIZES]
         ratio = costs[1] / costs[0]
         print('%-12s %10.3f %10.3f %8.2f %s' % (kind + '-' + edit, costs[0] * 1e6, costs[1] * 1e6, ratio, 'over' if ratio > MOST else ''), flush=True)
 PYTHON

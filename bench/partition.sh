@@ -5,15 +5,17 @@
 # A line has an edit, the microseconds of one entry at 1,000 and at 100,000 items, end to end through `editlens run`, and how many times
 # longer an entry takes at 100,000 items (wanted: at most 3). Two edits are of the mixed list: `mod` adds to the content of an item, and
 # `switch` gives an item the other tag. Two are of the list of one tag: `right mod` adds to the content of an item, and `right move` moves
-# an item. The time of an entry is the processor time of a run with the entries, less that of a run that only makes the list, divided by
-# their number; each run is made five times, and the least counts.
+# an item. The time of an entry is the processor time of a run from the answer to the last entry that makes the list to the answer to the
+# last of the entries, divided by their number; each run is made five times, and the least counts.
 set -eu
 
 here=$(cd "$(dirname "${BASH_SOURCE[0]}")/.." && pwd)
 [ -x "$here/crates/editlens/out/editlens" ] || { echo "run ./build first" >&2; exit 1; }
 
-exec python3 - "$here/crates/editlens/out/editlens" "${1:-10000}" <<'PYTHON'
-import json, os, random, subprocess, sys, tempfile
+PYTHONPATH=$here/bench exec python3 - "$here/crates/editlens/out/editlens" "${1:-10000}" <<'PYTHON'
+import json, random, sys
+
+from entries import seconds
 
 PROGRAM, COUNT = sys.argv[1], int(sys.argv[2])
 SIZES = [1000, 100000]
@@ -51,40 +53,12 @@ def edits(kind, tags):
             yield entry('right', [{'at': [tag, [{'move': [place // 2, random.randrange(len(tags) // 2)]}]]}])
 
 
-def script(entries):
-    source = tempfile.TemporaryFile('w+')
-    source.write('main part <a: int, b: int>\n---\n')
-    source.writelines(entries)
-    source.flush()
-    return source
-
-
-def seconds(scripts):
-    """The processor time of each script: the least of five runs, in which the scripts take turns."""
-    sources = [script(entries) for entries in scripts]
-    best = [None] * len(scripts)
-    with tempfile.TemporaryFile() as sink:
-        for _ in range(5):
-            for k, source in enumerate(sources):
-                os.lseek(source.fileno(), 0, os.SEEK_SET)
-                os.lseek(sink.fileno(), 0, os.SEEK_SET)
-                sink.truncate()
-                child = subprocess.Popen([PROGRAM, 'run'], stdin=source, stdout=sink)
-                _, status, usage = os.wait4(child.pid, 0)
-                child.returncode = os.waitstatus_to_exitcode(status)
-                assert child.returncode == 0, child.returncode
-                taken = usage.ru_utime + usage.ru_stime
-                best[k] = taken if best[k] is None else min(best[k], taken)
-    return best
-
-
 random.seed(1)
 print('%-12s %10s %10s %8s' % (('entry (µs)',) + tuple('{:,}'.format(size) for size in SIZES) + ('ratio',)))
 prepared = [mixed_list(size) for size in SIZES]
 for kind in ['mod', 'switch', 'right mod', 'right move']:
     times = []
     for made, tags in prepared:
-        before, behind = seconds([made, made + list(edits(kind, list(tags)))])
-        times.append((behind - before) / COUNT)
+        times.append(seconds(PROGRAM, 'main part <a: int, b: int>', made, list(edits(kind, list(tags)))) / COUNT)
     print('%-12s %10.2f %10.2f %8.2f' % (kind, times[0] * 1e6, times[1] * 1e6, times[1] / times[0]), flush=True)
 PYTHON
