@@ -17,7 +17,11 @@ use texts::Name;
 /// Runs `check` on the program of a text: the two types, or the fault of the text or of the typing.
 pub fn run_check(alloc: Global, case: &Case<'_>) -> Result<Value> {
     let bytes = bytes(alloc, case)?;
-    match read_program(alloc, bytes.as_slice()) {
+    read_and_checked(alloc, bytes.as_slice())
+}
+
+fn read_and_checked(alloc: Global, text: &[u8]) -> Result<Value> {
+    match read_program(alloc, text) {
         Ok(program) => types_or_fault(alloc, &program),
         Err(fault) => program_fault(alloc, &fault),
     }

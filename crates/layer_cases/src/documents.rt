@@ -13,15 +13,18 @@ use hold_shapes::Origins;
 use lens_syntax::write_type;
 use serde_json::Value;
 use std::alloc::Global;
-use texts::Twin;
 use value_json::{DocFault, read_counts, read_doc, write_counts};
 
 /// Runs `read_doc`: the tree of the document that was read, or the fault.
 pub fn run_read_doc(alloc: Global, case: &Case<'_>) -> Result<Value> {
     let ty = ty_of(alloc, case.argument("type")?)?;
     let tree = tree(alloc, case)?;
-    match read_doc(alloc, &ty, &tree) {
-        Ok(doc) => ok_doc(alloc, &ty, &doc),
+    doc_or_fault(alloc, &ty, &tree)
+}
+
+fn doc_or_fault(alloc: Global, ty: &Ty, tree: &Value) -> Result<Value> {
+    match read_doc(alloc, ty, tree) {
+        Ok(doc) => ok_doc(alloc, ty, &doc),
         Err(DocFault::NotOfType) => fault(alloc, "not-of-type"),
         Err(DocFault::NoMemory) => bail!("out of memory"),
     }
@@ -30,10 +33,14 @@ pub fn run_read_doc(alloc: Global, case: &Case<'_>) -> Result<Value> {
 /// Runs `init`: the initial value. It is refused if the type is ill formed.
 pub fn run_init(alloc: Global, case: &Case<'_>) -> Result<Value> {
     let ty = ty_of(alloc, case.argument("type")?)?;
+    initial(alloc, &ty)
+}
+
+fn initial(alloc: Global, ty: &Ty) -> Result<Value> {
     if !ty.is_well_formed() {
         bail!("the type is ill formed");
     }
-    ok_doc(alloc, &ty, &init(alloc, &ty)?)
+    ok_doc(alloc, ty, &init(alloc, ty)?)
 }
 
 /// Runs `is_same` of types.
@@ -46,9 +53,13 @@ pub fn run_is_same(alloc: Global, case: &Case<'_>) -> Result<Value> {
 /// Runs `is_same_doc`: `is_same` of two documents of a type.
 pub fn run_is_same_doc(alloc: Global, case: &Case<'_>) -> Result<Value> {
     let ty = ty_of(alloc, case.argument("type")?)?;
-    let left = doc_of(alloc, &ty, case.argument("left")?)?;
-    let right = doc_of(alloc, &ty, case.argument("right")?)?;
-    ok_bool(alloc, left.is_same(&right))
+    ok_bool(alloc, are_same_docs(alloc, &ty, case)?)
+}
+
+fn are_same_docs(alloc: Global, ty: &Ty, case: &Case<'_>) -> Result<bool> {
+    let left = doc_of(alloc, ty, case.argument("left")?)?;
+    let right = doc_of(alloc, ty, case.argument("right")?)?;
+    Ok(left.is_same(&right))
 }
 
 /// Runs `is_well_formed`.
@@ -68,10 +79,14 @@ pub fn run_is_within(alloc: Global, case: &Case<'_>) -> Result<Value> {
 
 /// Runs `has_type`, of a document that is read as one of another type, or of a container of a shape and contents.
 pub fn run_has_type(alloc: Global, case: &Case<'_>) -> Result<Value> {
-    let ty = ty_of(alloc, case.argument("type")?)?;
     let of = ty_of(alloc, case.argument("of")?)?;
     let doc = subject(alloc, &of, case)?;
-    ok_bool(alloc, doc.has_type(&ty))
+    ok_bool(alloc, is_of_type(alloc, &doc, case)?)
+}
+
+fn is_of_type(alloc: Global, doc: &Doc, case: &Case<'_>) -> Result<bool> {
+    let ty = ty_of(alloc, case.argument("type")?)?;
+    Ok(doc.has_type(&ty))
 }
 
 // The container of `shape` and of `items` of the type, if the case has a shape, or else the document `doc` of the type.
@@ -109,30 +124,55 @@ pub fn ty_text(alloc: Global, ty: &Ty) -> Result<Value> {
 pub fn run_set(alloc: Global, case: &Case<'_>) -> Result<Value> {
     let of = ty_of(alloc, case.argument("of")?)?;
     let mut docs = docs_of(alloc, &of, case.argument("items")?)?;
-    let doc = doc_of(alloc, &of, case.argument("doc")?)?;
+    ok(alloc, old_and_items(alloc, &of, &mut docs, case)?)
+}
+
+fn old_and_items(alloc: Global, of: &Ty, docs: &mut Docs, case: &Case<'_>) -> Result<Value> {
+    let old = old_at(alloc, of, docs, case.count("place")?)?;
+    replace(alloc, of, docs, case)?;
+    let items = doc_items(alloc, of, docs)?;
+    pair(alloc, ("old", old), ("items", items))
+}
+
+fn old_at(alloc: Global, of: &Ty, docs: &Docs, place: u64) -> Result<Value> {
+    if place >= docs.len() as u64 {
+        bail!("no place");
+    }
+    doc_tree(alloc, of, docs.get(place as usize))
+}
+
+// Makes the call.
+fn replace(alloc: Global, of: &Ty, docs: &mut Docs, case: &Case<'_>) -> Result<()> {
+    let doc = doc_of(alloc, of, case.argument("doc")?)?;
     let place = case.count("place")?;
     if place >= docs.len() as u64 {
         bail!("no place");
     }
-    let old = docs.get(place as usize).twin(alloc)?;
-    docs.set(alloc, place as usize, doc)?;
-    old_and_items(alloc, &of, &old, &docs)
-}
-
-fn old_and_items(alloc: Global, of: &Ty, old: &Doc, docs: &Docs) -> Result<Value> {
-    let old = doc_tree(alloc, of, old)?;
-    let items = doc_items(alloc, of, docs)?;
-    ok(alloc, pair(alloc, ("old", old), ("items", items))?)
+    Ok(docs.set(alloc, place as usize, doc)?)
 }
 
 /// Runs `gathered`: the documents at the new places.
 pub fn run_gathered(alloc: Global, case: &Case<'_>) -> Result<Value> {
     let of = ty_of(alloc, case.argument("of")?)?;
-    let docs = docs_of(alloc, &of, case.argument("items")?)?;
-    let from = origins_of(alloc, case.argument("from")?)?;
-    let fresh = doc_of(alloc, &of, case.argument("fresh")?)?;
-    let gathered = gathered(alloc, &docs, &from, &fresh)?;
+    let gathered = docs_gathered(alloc, &of, case)?;
     ok(alloc, doc_items(alloc, &of, &gathered)?)
+}
+
+fn docs_gathered(alloc: Global, of: &Ty, case: &Case<'_>) -> Result<Docs> {
+    let docs = docs_of(alloc, of, case.argument("items")?)?;
+    let from = origins_of(alloc, case.argument("from")?)?;
+    gathered_with(alloc, of, &docs, &from, case)
+}
+
+fn gathered_with(
+    alloc: Global,
+    of: &Ty,
+    docs: &Docs,
+    from: &Origins,
+    case: &Case<'_>,
+) -> Result<Docs> {
+    let fresh = doc_of(alloc, of, case.argument("fresh")?)?;
+    gathered(alloc, docs, from, &fresh)
 }
 
 // The documents at the new places. It is refused if an origin is not a place.

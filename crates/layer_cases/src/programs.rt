@@ -18,16 +18,17 @@ use texts::Str;
 /// Runs `read_program`: the canonical text of the program that was read, or the fault.
 pub fn run_read_program(alloc: Global, case: &Case<'_>) -> Result<Value> {
     let bytes = bytes(alloc, case)?;
-    match read_program(alloc, bytes.as_slice()) {
-        Ok(program) => canonical(alloc, &program),
-        Err(fault) => program_fault(alloc, &fault),
-    }
+    canonical_or_fault(alloc, read_program(alloc, bytes.as_slice()))
 }
 
 /// Runs `read_unbounded`: the same without a bound on the length of the text.
 pub fn run_read_unbounded(alloc: Global, case: &Case<'_>) -> Result<Value> {
     let bytes = bytes(alloc, case)?;
-    match read_unbounded(alloc, bytes.as_slice()) {
+    canonical_or_fault(alloc, read_unbounded(alloc, bytes.as_slice()))
+}
+
+fn canonical_or_fault(alloc: Global, read: Result<Program, ProgramFault>) -> Result<Value> {
+    match read {
         Ok(program) => canonical(alloc, &program),
         Err(fault) => program_fault(alloc, &fault),
     }

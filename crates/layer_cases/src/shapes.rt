@@ -20,18 +20,22 @@ use texts::Str;
 
 /// Runs `plan`: the new shape with the origins of its places, or the cause.
 pub fn run_plan(alloc: Global, case: &Case<'_>) -> Result<Value> {
-    let shape = shape_of(alloc, case.argument("shape")?)?;
     let primitive = primitive_of(alloc, case.argument("edit")?)?;
     match &primitive {
-        Primitive::Shape(edit) => plan_or_fault(alloc, &shape, edit),
+        Primitive::Shape(edit) => plan_of(alloc, edit, case),
         _ => bail!("not an edit of a shape"),
     }
 }
 
+fn plan_of(alloc: Global, edit: &ShapeEdit, case: &Case<'_>) -> Result<Value> {
+    let shape = shape_of(alloc, case.argument("shape")?)?;
+    plan_or_fault(alloc, &shape, edit)
+}
+
 fn plan_or_fault(alloc: Global, shape: &Shape, edit: &ShapeEdit) -> Result<Value> {
-    match shape.plan(alloc, edit) {
-        Ok(plan) => plan_tree(alloc, &plan),
-        Err(refusal) => plan_fault(alloc, &refusal),
+    match &shape.plan(alloc, edit) {
+        Ok(plan) => plan_tree(alloc, plan),
+        Err(refusal) => plan_fault(alloc, refusal),
     }
 }
 

@@ -5,6 +5,7 @@ use crate::arguments::{as_items, name, names};
 use crate::programs::typed;
 use anyhow::{Context, Result, bail};
 use doc_values::{Doc, Docs, Fields, Ty};
+use lens_types::Typed;
 use serde_json::Value;
 use std::alloc::Global;
 use texts::{Name, Names, Twin};
@@ -27,7 +28,10 @@ pub fn fields_of(alloc: Global, tree: &Value) -> Result<Fields> {
 // The type of this text: the left type of its identity.
 fn written_ty(alloc: Global, text: &str) -> Result<Ty> {
     let program = format!(in alloc; "main id {text}")?;
-    let typed = typed(alloc, program.as_str())?;
+    left_ty(alloc, &typed(alloc, program.as_str())?)
+}
+
+fn left_ty(alloc: Global, typed: &Typed) -> Result<Ty> {
     Ok(typed.left().twin(alloc)?)
 }
 

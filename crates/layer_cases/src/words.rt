@@ -18,8 +18,12 @@ use std::alloc::Global;
 pub fn run_act(alloc: Global, case: &Case<'_>) -> Result<Value> {
     let ty = ty_of(alloc, case.argument("type")?)?;
     let doc = doc_of(alloc, &ty, case.argument("doc")?)?;
+    act_on(alloc, &ty, &doc, case)
+}
+
+fn act_on(alloc: Global, ty: &Ty, doc: &Doc, case: &Case<'_>) -> Result<Value> {
     let word = word_of(alloc, case.argument("edit")?)?;
-    after(alloc, &ty, &word, &doc)
+    after(alloc, ty, &word, doc)
 }
 
 fn after(alloc: Global, ty: &Ty, word: &Word, doc: &Doc) -> Result<Value> {
