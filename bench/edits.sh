@@ -20,6 +20,8 @@ program=${program:-out/edits_bench}
 exec python3 - "$program" <<'PYTHON'
 import os, random, subprocess, sys, time, timeit
 
+# As ./editlens runs its program.
+os.environ.setdefault('GLIBC_TUNABLES', 'glibc.malloc.hugetlb=1')
 PROGRAM = sys.argv[1]
 SIZES = [1000, 10000, 100000, 1000000]
 FRESH = "{'born': 0, 'city': '', 'name': '', 'phone': ''}"
