@@ -1,9 +1,12 @@
 //! Reading lenses.
-ghost use Rattle.std.specs.Prelude.{◌≡◌, map};
-ghost use Rattle.program_grammar.specs.Reading.{list_at, closed_at, perhaps_at, type_at, pair_at, bij_at, arm_at, row_at, then_at, disc_at, part_at, word_lens, mark_lens, lens_step, lens_at};
+ghost use Rattle.std.specs.Prelude.{◌≡◌, ◌∷◌, ◌++◌, [], Ok, map};
+ghost use Rattle.program_grammar.specs.Mentions.{mention};
+ghost use Rattle.program_grammar.specs.declared.mention.Sort;
+ghost use Rattle.program_grammar.specs.Reading.{list_at, closed_at, perhaps_at, type_at, pair_at, bij_at, arm_at, row_at, left_row_at, right_row_at, both_row_at, then_at, disc_at, part_at, word_lens, mark_lens, lens_step, lens_at};
 ghost use Rattle.program_reader.specs.Gives.{Gives};
+ghost use Rattle.program_terms.specs.Terms.{named_lens};
 ghost use Rattle.program_terms.specs.Views.{lens_tree, row_tree, arm_tree};
-ghost use Rattle.program_tokens.specs.declared.mark.Mark.TheVariants.{CloseBracket, CloseBrace};
+ghost use Rattle.program_tokens.specs.declared.mark.Mark.TheVariants.{CloseBracket, CloseBrace, Greater};
 
 use crate::fault::ReadFault;
 use crate::initial::read_initial_left;
@@ -83,6 +86,20 @@ fn read_pair(reader: &mut Reader) -> Result<(Name, Name), ReadFault>
     Ok((left, right))
 }
 
+/// A lens that has this name, which is at this offset.
+fn read_named_lens(
+    alloc: Global,
+    reader: &mut Reader,
+    name: Name,
+    at: u64,
+) -> Result<Lens, ReadFault>
+    ensures { Gives lens_tree result reader.new
+        (Ok (named_lens name, (reader.old.0 ++ mention Sort.Lens name at ∷ [], reader.old.1))) }
+{
+    reader.mention(alloc, Sort::Lens, &name, at)?;
+    Ok(Lens::Named(name))
+}
+
 // ---- lenses
 
 /// A lens with at most `room` types and lenses nested, itself among them.
@@ -107,10 +124,7 @@ fn read_begun_lens(alloc: Global, reader: &mut Reader, room: u32) -> Result<Lens
     let at = first.at;
     match first.token {
         Token::Keyword(word) => read_word_lens(alloc, reader, room, word, at),
-        Token::Name(name) => {
-            reader.mention(alloc, Sort::Lens, &name, at)?;
-            Ok(Lens::Named(name))
-        }
+        Token::Name(name) => read_named_lens(alloc, reader, name, at),
         Token::Mark(mark) => read_mark_lens(alloc, reader, room, mark, at),
         _ => Err(ReadFault::At(at)),
     }
@@ -137,30 +151,27 @@ fn read_word_lens(
         Keyword::Bij => read_bij(alloc, reader),
         Keyword::Disc => read_disc(alloc, reader, room),
         Keyword::Then => read_then(alloc, reader, room),
-        Keyword::Each => {
-            let inner = read_lens(alloc, reader, room)?;
-            Ok(Lens::Each(Box::new(alloc, inner)?))
-        }
-        Keyword::Keyed => {
-            let inner = read_lens(alloc, reader, room)?;
-            Ok(Lens::Keyed(Box::new(alloc, inner)?))
-        }
-        Keyword::Tree => {
-            let inner = read_lens(alloc, reader, room)?;
-            Ok(Lens::Tree(Box::new(alloc, inner)?))
-        }
+        Keyword::Each => Ok(Lens::Each(read_inner_lens(alloc, reader, room)?)),
+        Keyword::Keyed => Ok(Lens::Keyed(read_inner_lens(alloc, reader, room)?)),
+        Keyword::Tree => Ok(Lens::Tree(read_inner_lens(alloc, reader, room)?)),
         Keyword::Part => read_part(alloc, reader, room),
-        Keyword::Inv => {
-            let inner = read_lens(alloc, reader, room)?;
-            Ok(Lens::Inv(Box::new(alloc, inner)?))
-        }
+        Keyword::Inv => Ok(Lens::Inv(read_inner_lens(alloc, reader, room)?)),
         _ => Err(ReadFault::At(at)),
     }
 }
 
+/// A lens that is inside another one.
+#[cycle(lenses)]
+fn read_inner_lens(alloc: Global, reader: &mut Reader, room: u32) -> Result<Box<Lens>, ReadFault>
+    ensures { Gives (λ inner. lens_tree inner.value) result reader.new (lens_at room reader.old) }
+{
+    let inner = read_lens(alloc, reader, room)?;
+    Ok(Box::new(alloc, inner)?)
+}
+
 /// A record or alternatives, behind the opening mark, which is at this offset.
 #[cycle(lenses)]
-#[tactic(auto, unfolding(program_grammar::specs::Reading::mark_lens, program_grammar::specs::Reading::rec_at, program_grammar::specs::Reading::alt_at, program_grammar::specs::Reading::closed_at))]
+#[tactic(auto, unfolding(program_grammar::specs::Reading::mark_lens, program_grammar::specs::Reading::rec_at, program_grammar::specs::Reading::alt_at))]
 fn read_mark_lens(
     alloc: Global,
     reader: &mut Reader,
@@ -177,8 +188,7 @@ fn read_mark_lens(
             Ok(Lens::Rec(Rows::from_vec(rows)))
         }
         Mark::Less => {
-            let arms = read_arms(alloc, reader, room)?;
-            reader.take_mark(Mark::Greater)?;
+            let arms = read_closed_arms(alloc, reader, room)?;
             Ok(Lens::Alt(Arms::from_vec(arms)))
         }
         _ => Err(ReadFault::At(at)),
@@ -192,11 +202,11 @@ fn read_then(alloc: Global, reader: &mut Reader, room: u32) -> Result<Lens, Read
     ensures { Gives lens_tree result reader.new (then_at (lens_at room) reader.old) }
 {
     reader.take_mark(Mark::OpenParen)?;
-    let first = read_lens(alloc, reader, room)?;
+    let first = read_inner_lens(alloc, reader, room)?;
     reader.take_mark(Mark::Comma)?;
-    let second = read_lens(alloc, reader, room)?;
+    let second = read_inner_lens(alloc, reader, room)?;
     reader.take_mark(Mark::CloseParen)?;
-    Ok(Lens::Then(Box::new(alloc, first)?, Box::new(alloc, second)?))
+    Ok(Lens::Then(first, second))
 }
 
 // ---- rows and arms
@@ -235,26 +245,65 @@ fn read_rows(alloc: Global, reader: &mut Reader, room: u32) -> Result<Vec<Row>, 
 
 /// A row: a field on one side alone, behind the word for its side, or a pair of fields.
 #[cycle(lenses)]
-#[tactic(auto, unfolding(program_grammar::specs::Reading::row_at, program_grammar::specs::Reading::left_row_at, program_grammar::specs::Reading::right_row_at, program_grammar::specs::Reading::both_row_at))]
+#[tactic(auto, unfolding(program_grammar::specs::Reading::row_at))]
 fn read_row(alloc: Global, reader: &mut Reader, room: u32) -> Result<Row, ReadFault>
     ensures { Gives row_tree result reader.new (row_at (type_at room) (lens_at room) reader.old) }
 {
     match reader.next_word() {
         Some(Keyword::Left) => {
             reader.skip();
-            let (field, ty) = read_field(alloc, reader, room)?;
-            Ok(Row::OnlyLeft(field, ty))
+            read_left_row(alloc, reader, room)
         }
         Some(Keyword::Right) => {
             reader.skip();
-            let (field, ty) = read_field(alloc, reader, room)?;
-            Ok(Row::OnlyRight(field, ty))
+            read_right_row(alloc, reader, room)
         }
-        _ => {
-            let (left, right, lens) = read_arm(alloc, reader, room)?;
-            Ok(Row::Both(left, right, lens))
-        }
+        _ => read_both_row(alloc, reader, room),
     }
+}
+
+/// A field on the left side alone, behind the word for its side.
+#[tactic(auto, unfolding(program_grammar::specs::Reading::left_row_at))]
+fn read_left_row(alloc: Global, reader: &mut Reader, room: u32) -> Result<Row, ReadFault>
+    ensures { Gives row_tree result reader.new (left_row_at (type_at room) reader.old) }
+{
+    let (field, ty) = read_field(alloc, reader, room)?;
+    Ok(Row::OnlyLeft(field, ty))
+}
+
+/// A field on the right side alone, behind the word for its side.
+#[tactic(auto, unfolding(program_grammar::specs::Reading::right_row_at))]
+fn read_right_row(alloc: Global, reader: &mut Reader, room: u32) -> Result<Row, ReadFault>
+    ensures { Gives row_tree result reader.new (right_row_at (type_at room) reader.old) }
+{
+    let (field, ty) = read_field(alloc, reader, room)?;
+    Ok(Row::OnlyRight(field, ty))
+}
+
+/// A pair of fields, and the lens between them.
+#[cycle(lenses)]
+#[tactic(auto, unfolding(program_grammar::specs::Reading::both_row_at))]
+fn read_both_row(alloc: Global, reader: &mut Reader, room: u32) -> Result<Row, ReadFault>
+    ensures { Gives row_tree result reader.new (both_row_at (lens_at room) reader.old) }
+{
+    let (left, right, lens) = read_arm(alloc, reader, room)?;
+    Ok(Row::Both(left, right, lens))
+}
+
+/// Arms of alternatives, at least one, with the mark behind them.
+#[cycle(lenses)]
+#[tactic(auto, unfolding(program_grammar::specs::Reading::closed_at))]
+fn read_closed_arms(
+    alloc: Global,
+    reader: &mut Reader,
+    room: u32,
+) -> Result<Vec<(Name, Name, Lens)>, ReadFault>
+    ensures { Gives (λ v. map arm_tree v.items) result reader.new
+        (closed_at (arm_at (lens_at room)) Greater reader.old) }
+{
+    let arms = read_arms(alloc, reader, room)?;
+    reader.take_mark(Mark::Greater)?;
+    Ok(arms)
 }
 
 /// Arms of alternatives with commas between them, at least one.

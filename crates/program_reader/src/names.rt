@@ -1,5 +1,5 @@
 //! Checking the names of a program.
-ghost use Rattle.std.specs.Prelude.{◌≡◌, ◌∷◌, ◌++◌, [], OnOk};
+ghost use Rattle.std.specs.Prelude.{◌≡◌, ◌∷◌, ◌++◌, [], map, OnOk};
 ghost use Rattle.program_grammar.specs.Mentions.{without_notes, definition_without_notes};
 ghost use Rattle.program_reader.specs.Causes.{IsResult, if_no_fault};
 ghost use Rattle.program_reader.specs.Known.{is_known_among, first_unknown_among, definition_fault, first_fault_among, or_fault};
@@ -11,6 +11,7 @@ use crate::programs::{ReadDefinition, ReadProgram};
 use program_grammar::{Mention, NameFault, Sort};
 use program_terms::{AddFault, Def, Definitions, Program};
 use std::alloc::Global;
+use std::collections::VecDeque;
 
 /// The program without its notes, or the first fault of its names in written order.
 pub(crate) fn with_known_names(
@@ -21,16 +22,32 @@ pub(crate) fn with_known_names(
         IsResult program_tree result (if_no_fault (first_fault_among [] p.definitions p.mentions) (without_notes p)) }
 {
     let ReadProgram {
-        mut definitions,
+        definitions,
         main,
         mentions,
     } = program;
+    match known_definitions(alloc, definitions, &mentions) {
+        Ok(known) => Ok(Program::from_parts(known, main)),
+        Err(fault) => Err(fault),
+    }
+}
+
+/// The definitions without their notes, or the first fault of their names and of those that the main lens mentions.
+fn known_definitions(
+    alloc: Global,
+    definitions: VecDeque<ReadDefinition>,
+    mentions: &[Mention],
+) -> Result<Definitions, ProgramReadFault>
+    ensures { let ds = map definition_with_notes definitions.items in
+        IsResult definitions_tree result (if_no_fault (first_fault_among [] ds mentions.now) (map definition_without_notes ds)) }
+{
+    let mut left = definitions;
     let mut known = Definitions::new(alloc);
-    'definitions: while let Some(definition) = definitions.pop_front() {
+    'definitions: while let Some(definition) = left.pop_front() {
         add_definition(&mut known, definition)?;
     }
-    all_known(&known, &mentions)?;
-    Ok(Program::from_parts(known, main))
+    all_known(&known, mentions)?;
+    Ok(known)
 }
 
 /// Adds a definition behind the earlier ones, or returns its first fault.

@@ -37,14 +37,22 @@ pub(crate) struct ReadProgram {
 }
 
 /// The program that these are the tokens of.
-#[tactic(auto, unfolding(program_grammar::specs::Reading::program_at))]
 pub(crate) fn read_program(alloc: Global, tokens: Tokens) -> Result<ReadProgram, ReadFault>
     ensures { GivesAll program_with_notes result (program_at tokens) }
 {
     let mut reader = Reader::new(alloc, tokens);
-    let definitions = read_definitions(alloc, &mut reader)?;
+    read_parts(alloc, &mut reader)
+}
+
+/// The program of a text of which no token is taken yet.
+#[tactic(auto, unfolding(program_grammar::specs::Reading::program_at))]
+fn read_parts(alloc: Global, reader: &mut Reader) -> Result<ReadProgram, ReadFault>
+    requires { reader.old.0 ≡ [] }
+    ensures { GivesAll program_with_notes result (program_at reader.old.1) }
+{
+    let definitions = read_definitions(alloc, reader)?;
     reader.take_main()?;
-    let main = read_lens(alloc, &mut reader, NESTED)?;
+    let main = read_lens(alloc, reader, NESTED)?;
     reader.take_end()?;
     let mentions = reader.take_mentions(alloc);
     Ok(ReadProgram {

@@ -1,7 +1,10 @@
 //! Reading types.
-ghost use Rattle.std.specs.Prelude.{◌≡◌, map};
+ghost use Rattle.std.specs.Prelude.{◌≡◌, ◌∷◌, ◌++◌, [], Ok, map};
+ghost use Rattle.program_grammar.specs.Mentions.{mention};
+ghost use Rattle.program_grammar.specs.declared.mention.Sort;
 ghost use Rattle.program_grammar.specs.Reading.{string_at, list_at, closed_at, perhaps_at, typed_at, enum_at, word_type, mark_type, type_step, type_at};
 ghost use Rattle.program_reader.specs.Gives.{Gives};
+ghost use Rattle.program_terms.specs.Terms.{named};
 ghost use Rattle.program_terms.specs.Views.{type_tree, field_tree};
 ghost use Rattle.program_tokens.specs.declared.mark.Mark.TheVariants.{CloseBracket, CloseBrace};
 
@@ -49,6 +52,20 @@ fn read_enum(alloc: Global, reader: &mut Reader) -> Result<TyExpr, ReadFault>
     Ok(TyExpr::Enum(Names::from_vec(names), initial))
 }
 
+/// A type that has this name, which is at this offset.
+fn read_named_type(
+    alloc: Global,
+    reader: &mut Reader,
+    name: Name,
+    at: u64,
+) -> Result<TyExpr, ReadFault>
+    ensures { Gives type_tree result reader.new
+        (Ok (named name, (reader.old.0 ++ mention Sort.Type name at ∷ [], reader.old.1))) }
+{
+    reader.mention(alloc, Sort::Type, &name, at)?;
+    Ok(TyExpr::Named(name))
+}
+
 /// A type with at most `room` types nested, itself among them.
 #[cycle(types)]
 #[tactic(auto, unfolding(program_grammar::specs::Reading::type_at))]
@@ -71,10 +88,7 @@ fn read_begun_type(alloc: Global, reader: &mut Reader, room: u32) -> Result<TyEx
     let at = first.at;
     match first.token {
         Token::Keyword(word) => read_word_type(alloc, reader, room, word, at),
-        Token::Name(name) => {
-            reader.mention(alloc, Sort::Type, &name, at)?;
-            Ok(TyExpr::Named(name))
-        }
+        Token::Name(name) => read_named_type(alloc, reader, name, at),
         Token::Mark(mark) => read_mark_type(alloc, reader, room, mark, at),
         _ => Err(ReadFault::At(at)),
     }
@@ -98,20 +112,20 @@ fn read_word_type(
         Keyword::Int => Ok(TyExpr::Int(read_initial_number(reader)?)),
         Keyword::Text => Ok(TyExpr::Text(read_initial_text(alloc, reader)?)),
         Keyword::Enum => read_enum(alloc, reader),
-        Keyword::List => {
-            let inner = read_type(alloc, reader, room)?;
-            Ok(TyExpr::List(Box::new(alloc, inner)?))
-        }
-        Keyword::Keyed => {
-            let inner = read_type(alloc, reader, room)?;
-            Ok(TyExpr::Keyed(Box::new(alloc, inner)?))
-        }
-        Keyword::Tree => {
-            let inner = read_type(alloc, reader, room)?;
-            Ok(TyExpr::Tree(Box::new(alloc, inner)?))
-        }
+        Keyword::List => Ok(TyExpr::List(read_inner_type(alloc, reader, room)?)),
+        Keyword::Keyed => Ok(TyExpr::Keyed(read_inner_type(alloc, reader, room)?)),
+        Keyword::Tree => Ok(TyExpr::Tree(read_inner_type(alloc, reader, room)?)),
         _ => Err(ReadFault::At(at)),
     }
+}
+
+/// A type that is inside another one.
+#[cycle(types)]
+fn read_inner_type(alloc: Global, reader: &mut Reader, room: u32) -> Result<Box<TyExpr>, ReadFault>
+    ensures { Gives (λ inner. type_tree inner.value) result reader.new (type_at room reader.old) }
+{
+    let inner = read_type(alloc, reader, room)?;
+    Ok(Box::new(alloc, inner)?)
 }
 
 /// A record or alternatives, behind the opening mark, which is at this offset.

@@ -7,6 +7,9 @@ use Rattle.program_reader.proofs.types.+types.Given as goal
 abbrev pub decreases-read_type : goal.decreases-read_type
 decreases-read_type l = 8 * l.room
 
+abbrev pub decreases-read_inner_type : goal.decreases-read_inner_type
+decreases-read_inner_type l = 8 * l.room + 1
+
 abbrev pub decreases-read_field : goal.decreases-read_field
 decreases-read_field l = 8 * l.room + 1
 
