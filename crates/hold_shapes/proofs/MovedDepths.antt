@@ -2,6 +2,7 @@
 use Rattle.std.proofs.Common.{◌≡◌, ℕ, ◌+◌, ◌-◌, ◌<◌, ◌≤◌, Bool, true, false, ◌&&◌, List, [], ◌∷◌, length, take, drop, get_or, Result, Ok, Err, refl, sym, subst, arith}
 use Rattle.std.specs.Prelude.{if◌then◌else◌, nat_le, slice_range}
 use Rattle.std.proofs.lemmas.Bool.Decides.{nat_tests}
+use Rattle.std.proofs.lemmas.List.{drop_more}
 use Rattle.hold_shapes.specs.Trees.{is_valid, descendants, end_of}
 use Rattle.hold_shapes.specs.Plans.{remove_part, insert_part, moved_depths, all_at_most, allowed_depths}
 use Rattle.hold_shapes.specs.Causes.{PlanCause, Deep}
@@ -77,3 +78,21 @@ valid-allowed_depths ds a r v h up lt k e =
     subst P (sym w.1) (valid-hang ds a r h up lt k w.0)
 
 pub ruleset hung_rules = (length-remove_part, valid-allowed_depths, valid-some, front-length)
+
+-- ---- the loop over the depths of a subtree
+
+refused : (a r d : ℕ) (ds : List ℕ) → nat_le (d - a + (r + 1)) 15 ≡ false → all_at_most 15 (moved_depths a r (d ∷ ds)) ≡ false
+refused a r d ds e = rw e refl
+
+passed : (a r d : ℕ) (ds : List ℕ) → nat_le (d - a + (r + 1)) 15 ≡ true → all_at_most 15 (moved_depths a r (d ∷ ds)) ≡ all_at_most 15 (moved_depths a r ds)
+passed a r d ds e = rw e refl
+
+pub depth-refused : (a r : ℕ) (ds : List ℕ) (i : ℕ) → i < length ds → nat_le (get_or ds i 0 - a + (r + 1)) 15 ≡ false
+    → all_at_most 15 (moved_depths a r (drop i ds)) ≡ false
+depth-refused a r ds i h e = rw (drop_more ds i 0 h) (refused a r (get_or ds i 0) (drop (i + 1) ds) e)
+
+pub depth-passed : (a r : ℕ) (ds : List ℕ) (i : ℕ) → i < length ds → nat_le (get_or ds i 0 - a + (r + 1)) 15 ≡ true
+    → all_at_most 15 (moved_depths a r (drop i ds)) ≡ all_at_most 15 (moved_depths a r (drop (i + 1) ds))
+depth-passed a r ds i h e = rw (drop_more ds i 0 h) (passed a r (get_or ds i 0) (drop (i + 1) ds) e)
+
+pub ruleset depth_rules = (depth-refused, depth-passed)

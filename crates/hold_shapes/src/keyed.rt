@@ -1,5 +1,5 @@
 //! Plans of keyed maps.
-ghost use Rattle.std.specs.Prelude.{◌≡◌, ℕ, List, Ok, None, MatchResult, ◌≤◌, length, true};
+ghost use Rattle.std.specs.Prelude.{◌≡◌, ℕ, List, Ok, None, MatchResult, ◌≤◌, ◌<◌, length, true};
 ghost use Rattle.std.specs.List.{insert, remove};
 ghost use Rattle.hold_shapes.specs.declared.shape.Shape.TheVariants.{Keyed as KeyedOf};
 ghost use Rattle.hold_shapes.specs.declared.edit.ShapeEdit.TheVariants.{PutKey, DropKey, RenameKey};
@@ -7,7 +7,7 @@ ghost use Rattle.hold_shapes.specs.declared.origins.Origin.TheVariants.{Old};
 ghost use Rattle.texts.specs.Keys.{key_place, is_rising, rank};
 ghost use Rattle.hold_shapes.specs.declared.plan.PlanFault.TheVariants.{NoMemory};
 ghost use Rattle.hold_shapes.specs.Causes.{IsRefusal};
-ghost use Rattle.hold_shapes.specs.Plans.{plan_keyed, add_key, old_places};
+ghost use Rattle.hold_shapes.specs.Plans.{plan_keyed, add_key, rename_to, old_places};
 
 use crate::keys::{place, rank};
 use crate::origins::Origins;
@@ -85,8 +85,41 @@ pub(crate) fn drop_key(
     })
 }
 
-// The content of one key under another.
+// The keys as they are, each with its content.
+fn unchanged(alloc: Global, keys: &KeyedShape) -> Result<Plan<KeyedShape>, PlanFault>
+    ensures { MatchResult result
+        (λ p. (p.shape ≡ keys.now) × (p.from ≡ old_places (length keys.now)))
+        (λ fault. fault ≡ NoMemory) }
+{
+    let from = old_places(alloc, keys.names().len() as u64)?;
+    Ok(Plan {
+        shape: keys.twin(alloc)?,
+        from,
+    })
+}
+
+// A name that is not a key in place of the key at a place.
 #[tactic(auto, using(texts::proofs::KeyOrder::rising_rules))]
+fn rename_to(
+    alloc: Global,
+    names: &SharedList<Name>,
+    new: &Name,
+    at: u64,
+) -> Result<Plan<KeyedShape>, PlanFault>
+    requires rising { is_rising names.now ≡ true }
+    requires absent { key_place new.now names.now ≡ None }
+    requires within { at < length names.now }
+    ensures { MatchResult result
+        (λ p. rename_to names.now new.now at None ≡ Ok (KeyedOf p.shape, p.from))
+        (λ fault. fault ≡ NoMemory) }
+{
+    let left = without_item(alloc, names, at as usize)?;
+    let to = rank(&left, new);
+    let from = move_one(alloc, names.len() as u64, at, to as u64)?;
+    with_key(alloc, &left, to, new, from)
+}
+
+// The content of one key under another.
 pub(crate) fn rename(
     alloc: Global,
     keys: &KeyedShape,
@@ -102,17 +135,10 @@ pub(crate) fn rename(
         return Err(PlanFault::Place);
     };
     if old.is_same(new) {
-        let from = old_places(alloc, names.len() as u64)?;
-        return Ok(Plan {
-            shape: keys.twin(alloc)?,
-            from,
-        });
+        return unchanged(alloc, keys);
     }
     if place(names, new).is_some() {
         return Err(PlanFault::Present);
     }
-    let left = without_item(alloc, names, at as usize)?;
-    let to = rank(&left, new);
-    let from = move_one(alloc, names.len() as u64, at, to as u64)?;
-    with_key(alloc, &left, to, new, from)
+    rename_to(alloc, names, new, at)
 }

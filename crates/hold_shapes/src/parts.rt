@@ -1,5 +1,5 @@
 //! Changes of shared lists: the new list shares what stays with the old one.
-ghost use Rattle.std.specs.Prelude.{◌≡◌, ◌≤◌, ◌<◌, ◌+◌, ◌-◌, length, IfOk};
+ghost use Rattle.std.specs.Prelude.{◌≡◌, ◌≤◌, ◌<◌, ◌+◌, ◌-◌, ◌^◌, ◌++◌, ◌∷◌, [], length, take, drop, IfOk};
 ghost use Rattle.std.specs.List.{insert, remove};
 ghost use Rattle.hold_shapes.specs.Plans.{remove_part, insert_part, move_part};
 
@@ -19,8 +19,29 @@ pub(crate) fn with_item<T: Drop + Hint>(
     if items.len() == usize::MAX {
         return Err(AllocError);
     }
-    let mut more = Vec::with_capacity(alloc, 1)?;
-    more.push(item)?;
+    with_items(alloc, items, at, one_item(alloc, item)?)
+}
+
+// The item alone.
+fn one_item<T: Drop>(alloc: Global, item: T) -> Result<Vec<T>, AllocError>
+    ensures { IfOk result (λ one. one.items ≡ item ∷ []) }
+{
+    let mut one = Vec::with_capacity(alloc, 1)?;
+    one.push(item)?;
+    Ok(one)
+}
+
+// A list with more items at a place.
+fn with_items<T: Drop + Hint>(
+    alloc: Global,
+    items: &SharedList<T>,
+    at: usize,
+    more: Vec<T>,
+) -> Result<SharedList<T>, AllocError>
+    requires within { at ≤ length items.now }
+    requires fits { length items.now + length more.items < 2 ^ 64 }
+    ensures { IfOk result (λ list. list ≡ take at items.now ++ more.items ++ drop at items.now) }
+{
     let mut grown = items.copy(alloc)?;
     grown.insert_many(alloc, at, more)?;
     Ok(grown)
@@ -73,9 +94,25 @@ pub(crate) fn insert_part<T: Drop + Hint>(
     if part.len() > usize::MAX - items.len() {
         return Err(AllocError);
     }
+    let back = with_back(alloc, part, items, at)?;
     let front = items.part(alloc, 0, at)?;
+    front.concat(alloc, &back)
+}
+
+// A part, and behind it the items of a list from a place on.
+#[tactic(auto, using(crate::proofs::SharedItems::part_rules))]
+fn with_back<T: Drop + Hint>(
+    alloc: Global,
+    part: &SharedList<T>,
+    items: &SharedList<T>,
+    at: usize,
+) -> Result<SharedList<T>, AllocError>
+    requires within { at ≤ length items.now }
+    requires fits { length part.now + length items.now < 2 ^ 64 }
+    ensures { IfOk result (λ list. list ≡ part.now ++ drop at items.now) }
+{
     let back = items.part(alloc, at, items.len() - at)?;
-    front.concat(alloc, &part.concat(alloc, &back)?)
+    part.concat(alloc, &back)
 }
 
 /// A list with the part between two places moved to a place of the rest.

@@ -1,10 +1,10 @@
 //! Plans of trees. A subtree is a block of the depths and of the origins, and moves as one.
-ghost use Rattle.std.specs.Prelude.{◌≡◌, ℕ, List, Ok, IfOk, MatchResult, ◌≤◌, ◌<◌, length, ◌+◌, ◌-◌};
+ghost use Rattle.std.specs.Prelude.{◌≡◌, ℕ, List, Ok, IfOk, MatchResult, MatchOption, ◌≤◌, ◌<◌, length, slice_index, slice_range, ◌+◌, ◌-◌, nat_le, true, false};
 ghost use Rattle.hold_shapes.specs.declared.shape.Shape.TheVariants.{Tree as TreeOf};
 ghost use Rattle.hold_shapes.specs.declared.edit.ShapeEdit.TheVariants.{Graft, Prune, Shift, Hang};
-ghost use Rattle.hold_shapes.specs.Trees.{child};
+ghost use Rattle.hold_shapes.specs.Trees.{child, end_of, is_valid};
 ghost use Rattle.hold_shapes.specs.Causes.{IsRefusal};
-ghost use Rattle.hold_shapes.specs.Plans.{plan_tree, old_places, move_part, place_for_child, allowed_depths};
+ghost use Rattle.hold_shapes.specs.Plans.{plan_tree, old_places, remove_part, move_part, move_subtree, place_for_child, allowed_depths, hang_below};
 
 use crate::origins::Origins;
 use crate::parts::{insert_part, move_part, remove_part, with_item};
@@ -111,6 +111,47 @@ fn place_for_child(depths: &SharedList<u64>, at: usize, number: u64) -> usize
     }
 }
 
+// The place that a child of a node takes among the others, in the rest without its subtree.
+#[tactic(auto, using(crate::proofs::ChildPlaces::slot_rules))]
+fn place_in_rest(
+    alloc: Global,
+    depths: &SharedList<u64>,
+    at: usize,
+    from: usize,
+    number: u64,
+) -> Result<usize, AllocError>
+    requires order { at < from }
+    requires within { from < length depths.now }
+    ensures value { IfOk result (λ place. place ≡ place_for_child (remove_part from (end_of depths.now from) depths.now) at
+        (child (remove_part from (end_of depths.now from) depths.now) at number)) }
+    ensures bound { IfOk result (λ place. place + (end_of depths.now from - from) ≤ length depths.now) }
+{
+    let rest = remove_part(alloc, depths, from, end(depths, from))?;
+    Ok(place_for_child(&rest, at, number))
+}
+
+// The tree after the subtree between two places is moved to a place of the rest.
+fn moved_subtree(
+    alloc: Global,
+    depths: &SharedList<u64>,
+    from: usize,
+    to: usize,
+    at: usize,
+) -> Result<Plan<TreeShape>, AllocError>
+    requires order { from ≤ to }
+    requires within { to ≤ length depths.now }
+    requires place { at + (to - from) ≤ length depths.now }
+    requires valid { is_valid (move_part from to at depths.now) ≡ true }
+    ensures { IfOk result (λ p. move_subtree depths.now from to at ≡ Ok (TreeOf p.shape, p.from)) }
+{
+    let origins = moved_nodes(alloc, depths, from, to, at)?;
+    let moved = move_part(alloc, depths, from, to, at)?;
+    Ok(Plan {
+        shape: TreeShape::of_valid(moved),
+        from: origins,
+    })
+}
+
 // A child of a node becomes its child of another number.
 #[tactic(auto, using(crate::proofs::ChildPlaces::slot_rules))]
 pub(crate) fn shift(
@@ -135,40 +176,92 @@ pub(crate) fn shift(
     let Some(place) = child(depths, at, number) else {
         return Err(PlanFault::Range);
     };
+    let target = place_in_rest(alloc, depths, at, place, to)?;
     let after = end(depths, place);
-    let rest = remove_part(alloc, depths, place, after)?;
-    let target = place_for_child(&rest, at, to);
-    let from = moved_nodes(alloc, depths, place, after, target)?;
-    let shifted = move_part(alloc, depths, place, after, target)?;
-    Ok(Plan {
-        shape: TreeShape::of_valid(shifted),
-        from,
-    })
+    Ok(moved_subtree(alloc, depths, place, after, target)?)
+}
+
+// A depth in a subtree whose root has depth `top`, after it is moved below a node of this depth.
+fn moved_depth(old: u64, top: u64, depth: u64) -> Option<u64>
+    ensures { MatchOption result
+        (nat_le (old - top + (depth + 1)) 15 ≡ false)
+        (λ moved. (moved ≡ old - top + (depth + 1)) × (nat_le moved 15 ≡ true)) }
+{
+    let below = old.saturating_sub(top);
+    if below >= 15 || depth >= 15 - below {
+        return None;
+    }
+    Some(below + (depth + 1))
 }
 
 // The depths of a subtree whose root has depth `top`, after it is moved below a node of this depth.
+#[tactic(auto, using(crate::proofs::MovedDepths::depth_rules))]
 fn moved_depths(
     alloc: Global,
     part: &SharedList<u64>,
     top: u64,
     depth: u64,
-) -> Result<SharedList<u64>, PlanFault>
+) -> Result<Vec<u64>, PlanFault>
     ensures { MatchResult result
-        (λ list. allowed_depths top depth part.now ≡ Ok list)
+        (λ all. allowed_depths top depth part.now ≡ Ok all.items)
         (λ fault. IsRefusal (allowed_depths top depth part.now) fault) }
 {
     let mut all = Vec::new(alloc);
     for i in 0..part.len() {
-        let below = depth_at(part, i).saturating_sub(top);
-        if below >= 15 {
+        let Some(moved) = moved_depth(depth_at(part, i), top, depth) else {
             return Err(PlanFault::Deep);
-        }
-        if depth >= 15 - below {
-            return Err(PlanFault::Deep);
-        }
-        all.push(below + (depth + 1))?;
+        };
+        all.push(moved)?;
     }
-    Ok(SharedList::from_vec(alloc, all)?)
+    Ok(all)
+}
+
+// The depths of the subtree between two places, after it is moved below a node of this depth.
+fn moved_block(
+    alloc: Global,
+    depths: &SharedList<u64>,
+    from: usize,
+    to: usize,
+    depth: u64,
+) -> Result<SharedList<u64>, PlanFault>
+    requires order { from < to }
+    requires within { to ≤ length depths.now }
+    ensures { MatchResult result
+        (λ block. allowed_depths (slice_index depths.now from) depth (slice_range depths.now from to) ≡ Ok block)
+        (λ fault. IsRefusal (allowed_depths (slice_index depths.now from) depth (slice_range depths.now from to)) fault) }
+{
+    let part = depths.part(alloc, from, to - from)?;
+    let moved = moved_depths(alloc, &part, depth_at(depths, from), depth)?;
+    Ok(SharedList::from_vec(alloc, moved)?)
+}
+
+// The subtree between two places becomes the last child of a node of the rest.
+#[tactic(auto, using(crate::proofs::MovedDepths::hung_rules))]
+fn hang_below(
+    alloc: Global,
+    depths: &SharedList<u64>,
+    from: usize,
+    rest: &SharedList<u64>,
+    at: usize,
+) -> Result<Plan<TreeShape>, PlanFault>
+    requires valid { is_valid depths.now ≡ true }
+    requires order { 0 < from }
+    requires within { from < length depths.now }
+    requires rest { rest.now ≡ remove_part from (end_of depths.now from) depths.now }
+    requires node { at < length rest.now }
+    ensures { MatchResult result
+        (λ p. hang_below depths.now from (end_of depths.now from) rest.now at ≡ Ok (TreeOf p.shape, p.from))
+        (λ fault. IsRefusal (hang_below depths.now from (end_of depths.now from) rest.now at) fault) }
+{
+    let after = end(depths, from);
+    let block = moved_block(alloc, depths, from, after, depth_at(rest, at))?;
+    let target = end(rest, at);
+    let grown = insert_part(alloc, target, &block, rest)?;
+    let origins = moved_nodes(alloc, depths, from, after, target)?;
+    Ok(Plan {
+        shape: TreeShape::of_valid(grown),
+        from: origins,
+    })
 }
 
 // A subtree becomes the last child of a node of the tree that remains without it.
@@ -190,18 +283,9 @@ pub(crate) fn hang(
     if top == 0 {
         return Err(PlanFault::Place);
     }
-    let after = end(depths, top);
-    let rest = remove_part(alloc, depths, top, after)?;
+    let rest = remove_part(alloc, depths, top, end(depths, top))?;
     let Some(at) = node(&rest, below.as_slice()) else {
         return Err(PlanFault::Place);
     };
-    let part = depths.part(alloc, top, after - top)?;
-    let block = moved_depths(alloc, &part, depth_at(depths, top), depth_at(&rest, at))?;
-    let target = end(&rest, at);
-    let from = moved_nodes(alloc, depths, top, after, target)?;
-    let grown = insert_part(alloc, target, &block, &rest)?;
-    Ok(Plan {
-        shape: TreeShape::of_valid(grown),
-        from,
-    })
+    hang_below(alloc, depths, top, &rest, at)
 }
