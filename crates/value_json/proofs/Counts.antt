@@ -32,5 +32,3 @@ left_refused vs i v ns within is h = ap (λ xs. option_map (λ ms. ns ++ ms) (co
 
 pub none_left : (vs : List Value) (i : ℕ) (ns : List ℕ) → length vs ≤ i → option_map (λ ms. ns ++ ms) (counts_of (items_view (drop i vs))) ≡ Some ns
 none_left vs i ns past = ap (λ xs. option_map (λ ms. ns ++ ms) (counts_of (items_view xs))) (drop_all i vs past) ∙ ap Some (append-nil ns)
-
-pub ruleset count_rules = (left_one_more, left_refused, none_left)

@@ -95,10 +95,11 @@ arrays_by d = refl
 abbrev type_of : Option (ℕ × TyTree) → Option TyTree
 type_of o = option_map (λ (f : ℕ × TyTree). f.1) o
 
-pub ordered_found : (t : TyTree) (ns ds : Items) (depths nodes : List ℕ) (vs : DocTrees) → counts_of ns ≡ Some depths → item_documents t ds ≡ Some vs → is_valid depths ≡ true → length depths ≡ length (doc_list vs) → nodes ≡ depths
-    → ordered_by t (Some (ns, ds)) ≡ Some (hold (TreeOf nodes) vs)
-ordered_found t ns ds depths nodes vs numbers contents valid many same =
-    rw (numbers, contents, valid, equal_tests (length depths) (length (doc_list vs)) many, same) refl
+pub ordered_found : (t : TyTree) (ns ds : Items) (depths : List ℕ) (vs : DocTrees) → counts_of ns ≡ Some depths → item_documents t ds ≡ Some vs → ordered_by t (Some (ns, ds)) ≡ ordered_document depths vs
+ordered_found t ns ds depths vs numbers contents = rw (numbers, contents) refl
+
+pub ordered_is : (depths nodes : List ℕ) (vs : DocTrees) → is_valid depths ≡ true → length depths ≡ length (doc_list vs) → nodes ≡ depths → ordered_document depths vs ≡ Some (hold (TreeOf nodes) vs)
+ordered_is depths nodes vs valid many same = rw (valid, equal_tests (length depths) (length (doc_list vs)) many, same) refl
 
 pub tag_none : (fs : FieldTrees) (k : List ℕ) (d : Data) → lookup_field fs k ≡ None → tagged_by fs (Some (k, d)) ≡ None
 tag_none fs k d none = let e = ap type_of none in rw e refl
@@ -106,7 +107,7 @@ tag_none fs k d none = let e = ap type_of none in rw e refl
 pub tag_refused : (fs : FieldTrees) (k : List ℕ) (d : Data) (s : ℕ × TyTree) → lookup_field fs k ≡ Some s → document_of s.1 d ≡ None → tagged_by fs (Some (k, d)) ≡ None
 tag_refused fs k d s some none = let e = ap type_of some in rw (e, none) refl
 
-pub tag_found : (fs : FieldTrees) (k tag : List ℕ) (d : Data) (s : ℕ × TyTree) (v : DocTree) → tag ≡ k → lookup_field fs k ≡ Some s → document_of s.1 d ≡ Some v → tagged_by fs (Some (k, d)) ≡ Some (alt tag v)
-tag_found fs k tag d s v same some is = let e = ap type_of some in rw (e, is, same) refl
+pub tag_found : (fs : FieldTrees) (k : List ℕ) (v : DocTree) (d : Data) (s : ℕ × TyTree) → lookup_field fs k ≡ Some s → document_of s.1 d ≡ Some v → tagged_by fs (Some (k, d)) ≡ Some (alt k v)
+tag_found fs k v d s some is = let e = ap type_of some in rw (e, is) refl
 
 pub ruleset read_rules = (unit_of, truth_of, whole_of, text_of, pick_of, rec_of, alt_of, list_of, keyed_of, ordered_of, arrays_by)

@@ -48,7 +48,6 @@ pub fn count_in(number: &Number) -> Option<u64>
 }
 
 /// The u64 numbers that the items of an array are. None if and only if an item is not a u64.
-#[tactic(auto, using(crate::proofs::Counts::count_rules))]
 pub fn read_counts(alloc: Global, items: &[Value]) -> Result<Option<Vec<u64>>, AllocError>
     ensures { IfOk result
         (λ counts. option_map (λ c. c.items) counts ≡ counts_of (items_view items.now)) }

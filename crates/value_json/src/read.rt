@@ -1,9 +1,9 @@
 //! Reading a document of a type from a JSON tree.
 
-ghost use Rattle.std.specs.Prelude.{ℕ, ℤ, List, ◌≡◌, ◌<◌, true, IfOk, IsErrOf, option_map, option_and_then};
+ghost use Rattle.std.specs.Prelude.{ℕ, ℤ, List, ◌≡◌, ◌<◌, true, Some, IfOk, IsErrOf, option_map, option_and_then};
 ghost use Rattle.texts.specs.Keys.{has_name};
 ghost use Rattle.serde_json.specs.View.{view, items_view, members_view};
-ghost use Rattle.doc_values.specs.Documents.{DocTree, doc_tree, docs_tree};
+ghost use Rattle.doc_values.specs.Documents.{DocTree, alt, doc_tree, docs_tree};
 ghost use Rattle.doc_values.specs.Types.{ty_tree, fields_tree, ty_unit, ty_bool, ty_int, ty_text, ty_enum, ty_rec, ty_alt, ty_list, ty_keyed, ty_ordered};
 ghost use Rattle.doc_values.specs.Typing.{has};
 ghost use Rattle.value_json.specs.Numbers.{counts_of};
@@ -44,7 +44,6 @@ pub fn read_doc(alloc: Global, ty: &Ty, tree: &Value) -> Result<Doc, DocFault>
 }
 
 #[cycle(read)]
-#[tactic(auto, using(crate::proofs::DocumentOf::read_rules))]
 fn read(alloc: Global, ty: &Ty, tree: &Value) -> Result<Doc, DocFault>
     ensures { Gives doc_tree result (document_of (ty_tree ty.now) (view tree.now)) }
 {
@@ -62,7 +61,7 @@ fn read(alloc: Global, ty: &Ty, tree: &Value) -> Result<Doc, DocFault>
     }
 }
 
-#[tactic(auto, using(crate::proofs::DocumentOf::read_rules))]
+#[tactic(auto, using(crate::proofs::DocumentOf::unit_of))]
 fn read_unit(tree: &Value) -> Result<Doc, DocFault>
     ensures { Gives doc_tree result (document_of ty_unit (view tree.now)) }
 {
@@ -73,7 +72,7 @@ fn read_unit(tree: &Value) -> Result<Doc, DocFault>
     }
 }
 
-#[tactic(auto, using(crate::proofs::DocumentOf::read_rules))]
+#[tactic(auto, using(crate::proofs::DocumentOf::truth_of))]
 fn read_bool(tree: &Value) -> Result<Doc, DocFault>
     ensures { Gives doc_tree result (document_of ty_bool (view tree.now)) }
 {
@@ -83,7 +82,7 @@ fn read_bool(tree: &Value) -> Result<Doc, DocFault>
     }
 }
 
-#[tactic(auto, using(crate::proofs::DocumentOf::read_rules))]
+#[tactic(auto, using(crate::proofs::DocumentOf::whole_of))]
 fn read_whole(tree: &Value) -> Result<Doc, DocFault>
     ensures { (initial : ℤ) → Gives doc_tree result (document_of (ty_int initial) (view tree.now)) }
 {
@@ -93,7 +92,7 @@ fn read_whole(tree: &Value) -> Result<Doc, DocFault>
     }
 }
 
-#[tactic(auto, using(crate::proofs::DocumentOf::read_rules))]
+#[tactic(auto, using(crate::proofs::DocumentOf::text_of))]
 fn read_text(alloc: Global, tree: &Value) -> Result<Doc, DocFault>
     ensures { (initial : List ℕ) → Gives doc_tree result (document_of (ty_text initial) (view tree.now)) }
 {
@@ -103,7 +102,7 @@ fn read_text(alloc: Global, tree: &Value) -> Result<Doc, DocFault>
     }
 }
 
-#[tactic(auto, using(crate::proofs::DocumentOf::read_rules))]
+#[tactic(auto, using(crate::proofs::DocumentOf::pick_of))]
 fn read_pick(alloc: Global, members: &Names, tree: &Value) -> Result<Doc, DocFault>
     ensures { (initial : List ℕ) → Gives doc_tree result (document_of (ty_enum members.now initial) (view tree.now)) }
 {
@@ -118,7 +117,7 @@ fn read_pick(alloc: Global, members: &Names, tree: &Value) -> Result<Doc, DocFau
 }
 
 #[cycle(read)]
-#[tactic(auto, using(crate::proofs::DocumentOf::read_rules))]
+#[tactic(auto, using(crate::proofs::DocumentOf::rec_of))]
 fn read_record(alloc: Global, fields: &Fields, tree: &Value) -> Result<Doc, DocFault>
     ensures { Gives doc_tree result (document_of (ty_rec (fields_tree fields.now)) (view tree.now)) }
 {
@@ -130,7 +129,6 @@ fn read_record(alloc: Global, fields: &Fields, tree: &Value) -> Result<Doc, DocF
 
 // The contents of a record, from exactly its fields as members.
 #[cycle(read)]
-#[tactic(auto, using(crate::proofs::DocumentOf::read_rules))]
 fn read_fields(
     alloc: Global,
     fields: &Fields,
@@ -157,7 +155,7 @@ fn read_fields(
 }
 
 #[cycle(read)]
-#[tactic(auto, using(crate::proofs::DocumentOf::read_rules))]
+#[tactic(auto, using(crate::proofs::DocumentOf::alt_of))]
 fn read_tagged(alloc: Global, tags: &Fields, tree: &Value) -> Result<Doc, DocFault>
     ensures { Gives doc_tree result (document_of (ty_alt (fields_tree tags.now)) (view tree.now)) }
 {
@@ -168,12 +166,19 @@ fn read_tagged(alloc: Global, tags: &Fields, tree: &Value) -> Result<Doc, DocFau
         return Err(DocFault::NotOfType);
     };
     let content = read(alloc, ty, content)?;
+    tagged(alloc, name, content)
+}
+
+// The alternatives of a tag and its content.
+fn tagged(alloc: Global, name: &str, content: Doc) -> Result<Doc, DocFault>
+    ensures { Gives doc_tree result (Some (alt name.now (doc_tree content))) }
+{
     let tag = Name::from_string(String::from_str(alloc, name)?);
     Ok(Doc::Alt(tag, Box::new(alloc, content)?))
 }
 
 #[cycle(read)]
-#[tactic(auto, using(crate::proofs::DocumentOf::read_rules))]
+#[tactic(auto, using(crate::proofs::DocumentOf::list_of))]
 fn read_list(alloc: Global, inner: &Ty, tree: &Value) -> Result<Doc, DocFault>
     ensures { Gives doc_tree result (document_of (ty_list (ty_tree inner.now)) (view tree.now)) }
 {
@@ -186,7 +191,7 @@ fn read_list(alloc: Global, inner: &Ty, tree: &Value) -> Result<Doc, DocFault>
 }
 
 #[cycle(read)]
-#[tactic(auto, using(crate::proofs::DocumentOf::read_rules))]
+#[tactic(auto, using(crate::proofs::DocumentOf::keyed_of))]
 fn read_keyed(alloc: Global, inner: &Ty, tree: &Value) -> Result<Doc, DocFault>
     ensures { Gives doc_tree result (document_of (ty_keyed (ty_tree inner.now)) (view tree.now)) }
 {
@@ -194,15 +199,22 @@ fn read_keyed(alloc: Global, inner: &Ty, tree: &Value) -> Result<Doc, DocFault>
         return Err(DocFault::NotOfType);
     };
     let docs = read_members(alloc, inner, members)?;
-    let names = names_of(alloc, members)?;
-    match KeyedShape::from_names(names) {
+    keyed(alloc, members, docs)
+}
+
+// A keyed map of the names of an object's members.
+fn keyed(alloc: Global, members: &Map<String, Value>, docs: Docs) -> Result<Doc, DocFault>
+    ensures { Gives doc_tree result
+        (keyed_document (member_names (members_view members.now.entries)) (docs_tree docs)) }
+{
+    match KeyedShape::from_names(names_of(alloc, members)?) {
         Some(keys) => Ok(Doc::Hold(Shape::Keyed(keys), docs)),
         None => Err(DocFault::NotOfType),
     }
 }
 
 #[cycle(read)]
-#[tactic(auto, using(crate::proofs::DocumentOf::read_rules))]
+#[tactic(auto, using(crate::proofs::DocumentOf::ordered_of))]
 fn read_ordered(alloc: Global, inner: &Ty, tree: &Value) -> Result<Doc, DocFault>
     ensures { Gives doc_tree result (document_of (ty_ordered (ty_tree inner.now)) (view tree.now)) }
 {
@@ -213,6 +225,13 @@ fn read_ordered(alloc: Global, inner: &Ty, tree: &Value) -> Result<Doc, DocFault
         return Err(DocFault::NotOfType);
     };
     let docs = read_items(alloc, inner, items)?;
+    ordered(alloc, depths, docs)
+}
+
+// An ordered tree of these depths.
+fn ordered(alloc: Global, depths: Vec<u64>, docs: Docs) -> Result<Doc, DocFault>
+    ensures { Gives doc_tree result (ordered_document depths.items (docs_tree docs)) }
+{
     if depths.len() != docs.len() {
         return Err(DocFault::NotOfType);
     }
@@ -223,7 +242,7 @@ fn read_ordered(alloc: Global, inner: &Ty, tree: &Value) -> Result<Doc, DocFault
 }
 
 // The arrays of an object with exactly the members `depths` and `items`.
-#[tactic(auto, using(crate::proofs::DocumentOf::read_rules))]
+#[tactic(auto, using(crate::proofs::DocumentOf::arrays_by))]
 fn depths_and_items(tree: &Value) -> Option<(&Vec<Value>, &Vec<Value>)>
     ensures { option_map (λ p. (items_view p.0.now.items, items_view p.1.now.items)) result
         ≡ depths_and_items (view tree.now) }
@@ -248,7 +267,6 @@ fn names_of(alloc: Global, members: &Map<String, Value>) -> Result<SharedList<Na
 
 // The contents of an object's members.
 #[cycle(read)]
-#[tactic(auto, using(crate::proofs::DocumentOf::read_rules))]
 fn read_members(alloc: Global, inner: &Ty, members: &Map<String, Value>) -> Result<Docs, DocFault>
     ensures { Gives docs_tree result
         (member_documents (ty_tree inner.now) (members_view members.now.entries)) }
@@ -262,7 +280,6 @@ fn read_members(alloc: Global, inner: &Ty, members: &Map<String, Value>) -> Resu
 
 // The contents that an array's items are.
 #[cycle(read)]
-#[tactic(auto, using(crate::proofs::DocumentOf::read_rules))]
 fn read_items(alloc: Global, inner: &Ty, items: &[Value]) -> Result<Docs, DocFault>
     ensures { Gives docs_tree result (item_documents (ty_tree inner.now) (items_view items.now)) }
 {

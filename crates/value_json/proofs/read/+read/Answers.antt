@@ -1,12 +1,12 @@
-use Rattle.std.proofs.Common.{◌≡◌, true, map, option_map, Some, ap, sym, ◌∙◌, arith, drop, bytes_eq, string_bytes, length}
+use Rattle.std.proofs.Common.{◌≡◌, true, map, option_map, Option, Some, ap, sym, subst, ◌∙◌, arith, drop, bytes_eq, string_bytes}
 use Rattle.std.proofs.lemmas.List.{map-append}
 use Rattle.std.proofs.lemmas.Result.{err_from_is_err_and}
-use Rattle.value_json.proofs.Levels.{doc_tree-Hold, doc_tree-Alt, refused_with}
+use Rattle.value_json.proofs.Levels.{refused_with}
 use Rattle.serde_json.specs.View.{view, items_view, members_view}
-use Rattle.doc_values.specs.Documents.{alt, doc_tree, docs_tree, doc_list}
+use Rattle.doc_values.specs.Documents.{DocTree, doc_tree, docs_tree}
 use Rattle.doc_values.specs.Types.{ty_tree, fields_tree, type_fields_of, field_tree, highest}
-use Rattle.hold_shapes.specs.Trees.{is_valid}
 use Rattle.value_json.specs.Numbers.{counts_of}
+use Rattle.value_json.specs.Reading.{Gives}
 use Rattle.value_json.specs.DocumentJson.{item_documents, member_documents, field_documents}
 use Rattle.value_json.proofs.Facts.{same_texts}
 use Rattle.doc_values.proofs.FieldPlaces.{lookup_field-height}
@@ -63,18 +63,15 @@ read_members-returns t c =
     let last = ap (λ es. option_map (then_docs (map doc_tree l.docs.items)) (member_documents inner (members_view es))) c.in-None.ensures.steps.0 in
     l.invariant ∙ last ∙ entries_done inner (map doc_tree l.docs.items) ∙ ap Some (sym c.in_ok-from_vec.ensures)
 
-pub read_ordered-returns-in-Some-from_depths : goal.read_ordered-returns-in-Some-from_depths
-read_ordered-returns-in-Some-from_depths t c =
+pub read_ordered-returns : goal.read_ordered-returns
+read_ordered-returns t c =
     let inner = ty_tree c.args.inner.now in
     let depths = c.in-Some-2.depths.items in
-    let docs = docs_tree c.in_ok-docs.docs in
     let numbers : counts_of (items_view c.in-Some.depths.now.items) ≡ Some depths =
     ap (λ vs. counts_of (items_view vs)) (sym c.deref.ensures.value) ∙ sym c.in_ok-depths.ensures ∙ ap (option_map (λ v. v.items)) c.in-Some-2.is in
-    let contents : item_documents inner (items_view c.in-Some.items.now.items) ≡ Some docs = ap (λ vs. item_documents inner (items_view vs)) (sym c.deref-2.ensures.value) ∙ c.in_ok-docs.ensures in
-    let many : length depths ≡ length (doc_list docs) = sym c.in-Some-2.depths.ok.0 ∙ sym c.len.ensures ∙ c.if-len.false ∙ c.len-2.ensures in
-    ordered_of inner (view c.args.tree.now) ∙ sym (ap (ordered_by inner) c.in-Some.ensures)
-    ∙ ordered_found inner (items_view c.in-Some.depths.now.items) (items_view c.in-Some.items.now.items) depths c.in-Some-from_depths.nodes docs numbers contents (sym (ap is_valid c.in_ok-from_vec.ensures) ∙ c.in-Some-from_depths.ensures.0) many (c.in-Some-from_depths.ensures.1 ∙ c.in_ok-from_vec.ensures)
-    ∙ ap Some (sym (doc_tree-Hold _ c.in_ok-docs.docs))
+    let contents : item_documents inner (items_view c.in-Some.items.now.items) ≡ Some (docs_tree c.in_ok-docs.docs) = ap (λ vs. item_documents inner (items_view vs)) (sym c.deref-2.ensures.value) ∙ c.in_ok-docs.ensures in
+    let found = ordered_found inner (items_view c.in-Some.depths.now.items) (items_view c.in-Some.items.now.items) depths (docs_tree c.in_ok-docs.docs) numbers contents in
+    subst (λ (r : Option DocTree). Gives doc_tree c.ordered.result r) (sym (ordered_of inner (view c.args.tree.now) ∙ sym (ap (ordered_by inner) c.in-Some.ensures) ∙ found)) c.ordered.ensures
 
 pub read_tagged-returns-in_default-find : goal.read_tagged-returns-in_default-find
 read_tagged-returns-in_default-find t c =
@@ -99,6 +96,5 @@ read_tagged-returns-in_err-content t c =
 pub read_tagged-returns : goal.read_tagged-returns
 read_tagged-returns t c =
     let tags = fields_tree c.args.tags.now in
-    alt_of tags (view c.args.tree.now) ∙ sym (ap (tagged_by tags) c.in-Some.ensures)
-    ∙ tag_found tags _ c.from_string-tag.result _ _ _ (c.from_string-tag.ensures ∙ c.in_ok-from_str.ensures.ok) (sym c.in-Some-find.ensures) c.in_ok-content.ensures
-    ∙ ap Some (sym (doc_tree-Alt _ c.in_ok-new.field-0 ∙ ap (alt c.from_string-tag.result) (ap doc_tree c.in_ok-new.ensures.ok)))
+    let found = tag_found tags _ (doc_tree c.in_ok-content.content) _ _ (sym c.in-Some-find.ensures) c.in_ok-content.ensures in
+    subst (λ (r : Option DocTree). Gives doc_tree c.tagged.result r) (sym (alt_of tags (view c.args.tree.now) ∙ sym (ap (tagged_by tags) c.in-Some.ensures) ∙ found)) c.tagged.ensures
