@@ -14,7 +14,6 @@ use hold_shapes::{
 use shape_laws::plans_are_lawful;
 use shared_lists::{Hint, SharedList};
 use std::alloc::{AllocError, Global};
-use std::test::Fail;
 use texts::{Name, Names, Str, Twin, twin_all};
 
 fn name(alloc: Global, text: &str) -> Result<Name, AllocError> {
@@ -49,43 +48,50 @@ fn written(alloc: Global, from: &Origins) -> Result<String, AllocError> {
     Ok(origins)
 }
 
+// A copy of a value, which is dropped.
+fn copy_of<T: Twin + Drop>(alloc: Global, value: T) -> Result<T, AllocError> {
+    value.twin(alloc)
+}
+
 // The origins of a copy of the plan of an edit.
-fn planned<H: Held + Drop>(
-    alloc: Global,
-    held: &H,
-    edit: &ShapeEdit,
-) -> Result<String, AllocError> {
-    match held.plan(alloc, edit) {
-        Ok(plan) => written(alloc, &plan.twin(alloc)?.from),
+fn planned<H: Held + Drop>(alloc: Global, held: H, edit: ShapeEdit) -> Result<String, AllocError> {
+    let plan = held.plan(alloc, &edit);
+    drop(edit);
+    match plan {
+        Ok(plan) => written(alloc, &copy_of(alloc, plan)?.from),
         Err(_) => Ok(String::new(alloc)),
     }
 }
 
 // One fresh item at the end of a list of two.
 fn list_origins(alloc: Global) -> Result<String, AllocError> {
-    planned(alloc, &ListShape { count: 2 }, &ShapeEdit::Ins(1))
+    planned(alloc, ListShape { count: 2 }, ShapeEdit::Ins(1))
 }
 
 // The key "b" between "a" and "c".
 fn keyed_origins(alloc: Global) -> Result<String, AllocError> {
     match keyed(alloc)? {
-        Some(keys) => {
-            let edit = ShapeEdit::PutKey(name(alloc, "b")?);
-            planned(alloc, &keys.twin(alloc)?, &edit.twin(alloc)?)
-        }
+        Some(keys) => put_origins(alloc, copy_of(alloc, keys)?),
         None => Ok(String::new(alloc)),
     }
+}
+
+fn put_origins(alloc: Global, keys: KeyedShape) -> Result<String, AllocError> {
+    let edit = copy_of(alloc, ShapeEdit::PutKey(name(alloc, "b")?))?;
+    planned(alloc, keys, edit)
 }
 
 // A fresh child of the first of two leaves.
 fn tree_origins(alloc: Global) -> Result<String, AllocError> {
     match tree(alloc)? {
-        Some(nodes) => {
-            let path = Path::from_vec(Vec::from_slice(alloc, &[0])?);
-            planned(alloc, &nodes.twin(alloc)?, &ShapeEdit::Graft(path))
-        }
+        Some(nodes) => graft_origins(alloc, copy_of(alloc, nodes)?),
         None => Ok(String::new(alloc)),
     }
+}
+
+fn graft_origins(alloc: Global, nodes: TreeShape) -> Result<String, AllocError> {
+    let path = Path::from_vec(Vec::from_slice(alloc, &[0])?);
+    planned(alloc, nodes, ShapeEdit::Graft(path))
 }
 
 // Old places and fresh ones, as a vector gives them.
@@ -100,14 +106,32 @@ fn given_origins(alloc: Global) -> Result<String, AllocError> {
 }
 
 // How many places the longest list has after an edit, if there is a plan.
-fn longest_after(alloc: Global, edit: &ShapeEdit) -> Result<u64, PlanFault> {
+fn longest_after(alloc: Global, edit: ShapeEdit) -> Result<u64, PlanFault> {
     let longest = ListShape { count: u64::MAX };
-    Ok(longest.plan(alloc, edit)?.from.len())
+    let plan = longest.plan(alloc, &edit);
+    drop(edit);
+    Ok(plan?.from.len())
+}
+
+// Whether a copy of a root with two leaves is the same shape.
+fn is_tree_copied(alloc: Global) -> Result<Option<bool>, AllocError> {
+    match tree(alloc)? {
+        Some(nodes) => {
+            let shape = Shape::Tree(nodes);
+            let is_copied = is_copied(alloc, &shape);
+            drop(shape);
+            Ok(Some(is_copied?))
+        }
+        None => Ok(None),
+    }
 }
 
 // Whether a copy of a shape of any kind is the same shape.
 fn is_copied(alloc: Global, shape: &Shape) -> Result<bool, AllocError> {
-    Ok(shape.twin(alloc)?.is_same(shape))
+    let copy = shape.twin(alloc)?;
+    let is_same = copy.is_same(shape);
+    drop(copy);
+    Ok(is_same)
 }
 
 // The contents after an edit of the shape: the caller knows any shape through its trait alone.
@@ -131,18 +155,30 @@ fn contents_after<H: Held + Drop, T: Twin + Drop + Hint>(
     Ok(gather(alloc, &plan.from, items, fresh)?)
 }
 
-// The contents of a list of two after its first item moved to the end.
+// The contents "x" and "y" after the first moved to the end, written one after another.
 fn moved_contents(alloc: Global) -> Result<String, PlanFault> {
     let texts = vec![in alloc; text(alloc, "x")?, text(alloc, "y")?]?;
     let items = SharedList::from_vec(alloc, texts)?;
     prove!(items.len() == 2);
-    let list = ListShape { count: 2 };
+    let contents = moved(alloc, &items)?;
+    Ok(together(alloc, &contents)?)
+}
+
+// The contents of a list of two after its first item moved to the end.
+fn moved(alloc: Global, items: &SharedList<Str>) -> Result<SharedList<Str>, PlanFault>
+    requires { length items.now ≡ 2 }
+{
     let fresh = text(alloc, "-")?;
     let edit = ShapeEdit::MoveItem(0, 1);
-    let contents = contents_after(alloc, &list, &edit, &items, &fresh)?;
+    let contents = contents_after(alloc, &ListShape { count: 2 }, &edit, items, &fresh);
+    drop(edit);
+    contents
+}
+
+fn together(alloc: Global, texts: &SharedList<Str>) -> Result<String, AllocError> {
     let mut together = String::new(alloc);
-    for content in &contents {
-        together.push_str(content.as_str())?;
+    for text in texts {
+        together.push_str(text.as_str())?;
     }
     Ok(together)
 }
@@ -157,46 +193,60 @@ fn spliced(alloc: Global) -> Result<Option<Str>, AllocError> {
 fn are_names_copied(alloc: Global) -> Result<bool, AllocError> {
     let names = vec![in alloc; name(alloc, "x")?, name(alloc, "y")?]?;
     let copies = twin_all(alloc, names.as_slice())?;
-    let names = Names::from_vec(names).twin(alloc)?;
+    let names = copy_of(alloc, Names::from_vec(names))?;
     Ok(Names::from_vec(copies).is_same(&names))
 }
 
-#[test]
-fn plans(rt: HostRuntime) -> Result<(), Fail> {
-    let alloc = rt.alloc();
-    assert_eq!(rt; list_origins(alloc)?.as_str(), "01*");
-    assert_eq!(rt; keyed_origins(alloc)?.as_str(), "0*1");
-    assert_eq!(rt; tree_origins(alloc)?.as_str(), "01*2");
-    let nodes = tree(alloc)?.ok_or("no tree")?;
-    assert!(rt; is_copied(alloc, &Shape::Tree(nodes))?);
-    Ok(())
-}
-
-#[test]
-fn origins(rt: HostRuntime) -> Result<(), Fail> {
-    let alloc = rt.alloc();
-    assert_eq!(rt; given_origins(alloc)?.as_str(), "45*0");
-    let shorter = longest_after(alloc, &ShapeEdit::Del(1)).ok();
-    assert_eq!(rt; shorter.ok_or("refused")?, u64::MAX - 1);
-    let longer = longest_after(alloc, &ShapeEdit::Ins(1)).err();
-    assert_eq!(rt; longer.ok_or("planned")?, PlanFault::NoMemory);
-    Ok(())
-}
-
-#[test]
-fn contents(rt: HostRuntime) -> Result<(), Fail> {
-    let moved = moved_contents(rt.alloc()).ok();
-    assert_eq!(rt; moved.ok_or("refused")?.as_str(), "yx");
-    Ok(())
-}
-
-#[test]
-fn copies(rt: HostRuntime) -> Result<(), Fail> {
-    let alloc = rt.alloc();
-    assert_eq!(rt; spliced(alloc)?.ok_or("too long")?.as_str(), "axyz");
-    assert_eq!(rt; Str::empty(alloc).as_str(), "");
-    assert!(rt; are_names_copied(alloc)?);
+// Whether a copy of a place is the same.
+fn is_place_copied(alloc: Global) -> Result<bool, AllocError> {
     let place = Place::Key(name(alloc, "k")?);
-    assert!(rt; place.twin(alloc)?.is_same(&place));
-    Ok(())
+    let is_same = is_same_copy(alloc, &place);
+    drop(place);
+    is_same
+}
+
+fn is_same_copy(alloc: Global, place: &Place) -> Result<bool, AllocError> {
+    let copy = place.twin(alloc)?;
+    let is_same = copy.is_same(place);
+    drop(copy);
+    Ok(is_same)
+}
+
+#[test]
+fn plans(rt: HostRuntime) {
+    let alloc = rt.alloc();
+    let list = list_origins(alloc).expect(&rt, "memory");
+    assert_eq!(rt; list.as_str(), "01*");
+    let keyed = keyed_origins(alloc).expect(&rt, "memory");
+    assert_eq!(rt; keyed.as_str(), "0*1");
+    let tree = tree_origins(alloc).expect(&rt, "memory");
+    assert_eq!(rt; tree.as_str(), "01*2");
+    assert_eq!(rt; is_tree_copied(alloc), Ok(Some(true)));
+}
+
+#[test]
+fn origins(rt: HostRuntime) {
+    let alloc = rt.alloc();
+    let given = given_origins(alloc).expect(&rt, "memory");
+    assert_eq!(rt; given.as_str(), "45*0");
+    let shorter = longest_after(alloc, ShapeEdit::Del(1));
+    assert_eq!(rt; shorter, Ok(u64::MAX - 1));
+    let longer = longest_after(alloc, ShapeEdit::Ins(1));
+    assert_eq!(rt; longer, Err(PlanFault::NoMemory));
+}
+
+#[test]
+fn contents(rt: HostRuntime) {
+    let moved = moved_contents(rt.alloc()).expect(&rt, "a plan");
+    assert_eq!(rt; moved.as_str(), "yx");
+}
+
+#[test]
+fn copies(rt: HostRuntime) {
+    let alloc = rt.alloc();
+    let spliced = spliced(alloc).expect(&rt, "memory");
+    assert_eq!(rt; spliced.expect(&rt, "a range of the text").as_str(), "axyz");
+    assert_eq!(rt; Str::empty(alloc).as_str(), "");
+    assert_eq!(rt; are_names_copied(alloc), Ok(true));
+    assert_eq!(rt; is_place_copied(alloc), Ok(true));
 }
