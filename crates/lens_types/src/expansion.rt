@@ -3,8 +3,9 @@
 //! A lens is seen among the first `scope` definitions of a program. Only the main lens is expanded to its
 //! form; a side is expanded where a composition compares it, and for the main lens.
 
-ghost use Rattle.std.specs.Prelude.{◌≡◌, IfOk, map, take};
-ghost use Rattle.doc_values.specs.Types.{ty_tree, fields_tree as ty_fields, type_fields_of as ty_fields_of, field_tree as ty_field};
+ghost use Rattle.std.specs.Prelude.{◌≡◌, ℕ, List, IfOk, map, take};
+ghost use Rattle.std.specs.declared.result.Result.TheVariants.{Ok};
+ghost use Rattle.doc_values.specs.Types.{ty_tree, ty_enum, ty_rec, type_fields_of as ty_fields_of, field_tree as ty_field};
 ghost use Rattle.program_terms.specs.Views.{type_tree, fields_tree, lens_tree, row_tree as lens_row, rows_tree as lens_rows, arms_tree as lens_arms};
 ghost use Rattle.lens_forms.specs.Forms.{form_tree, form_rec, no_rows, row_tree, rows_tree, arms_tree, sorted};
 ghost use Rattle.lens_types.specs.Earlier.{expanded_type, expanded_fields, expanded_form, expanded_rows, expanded_arms, alternatives_type, alternatives, partition};
@@ -12,11 +13,12 @@ ghost use Rattle.lens_types.specs.Entries.{earlier_tree};
 ghost use Rattle.lens_types.specs.Nodes.{expanded_row};
 
 use crate::earlier::Earlier;
+use crate::made::{add, both, boxed};
 use doc_values::{Fields, Ty};
 use lens_forms::{Form, FormArms, FormRow, FormRows};
 use program_terms::{Arms, Lens, Row, Rows, TyExpr, TyFields};
 use std::alloc::{AllocError, Global};
-use texts::{Name, Twin};
+use texts::{Name, Names, Twin};
 
 // ---- types
 
@@ -34,27 +36,22 @@ pub(crate) fn expanded_type(
         TyExpr::Unit => Ok(Ty::Unit),
         TyExpr::Bool => Ok(Ty::Bool),
         TyExpr::Int(value) => Ok(Ty::Int(*value)),
-        TyExpr::Text(value) => Ok(Ty::Text(value.twin(alloc)?)),
-        TyExpr::Enum(members, value) => Ok(Ty::Enum(members.twin(alloc)?, value.twin(alloc)?)),
+        TyExpr::Text(value) => value.twin(alloc).map(Ty::Text),
+        TyExpr::Enum(members, value) => enum_type(members.twin(alloc), value.twin(alloc)),
         TyExpr::Rec(fields) => {
-            let items = expanded_fields(alloc, earlier, scope, fields)?;
-            Ok(Ty::Rec(Fields::from_vec(sorted(items)?)))
+            expanded_fields(alloc, earlier, scope, fields).and_then(record_type)
         }
         TyExpr::Alt(fields) => {
-            let items = expanded_fields(alloc, earlier, scope, fields)?;
-            Ok(alternatives_type(Fields::from_vec(items)))
+            expanded_fields(alloc, earlier, scope, fields).map(alternatives_type)
         }
         TyExpr::List(inner) => {
-            let inner = expanded_type(alloc, earlier, scope, inner)?;
-            Ok(Ty::List(Box::new(alloc, inner)?))
+            boxed(alloc, expanded_type(alloc, earlier, scope, inner)).map(Ty::List)
         }
         TyExpr::Keyed(inner) => {
-            let inner = expanded_type(alloc, earlier, scope, inner)?;
-            Ok(Ty::Keyed(Box::new(alloc, inner)?))
+            boxed(alloc, expanded_type(alloc, earlier, scope, inner)).map(Ty::Keyed)
         }
         TyExpr::Tree(inner) => {
-            let inner = expanded_type(alloc, earlier, scope, inner)?;
-            Ok(Ty::Tree(Box::new(alloc, inner)?))
+            boxed(alloc, expanded_type(alloc, earlier, scope, inner)).map(Ty::Tree)
         }
         TyExpr::Named(name) => match earlier.type_named(name, scope) {
             Some(known) => expanded_type(alloc, earlier, known.scope, known.ty),
@@ -76,16 +73,35 @@ pub(crate) fn expanded_fields(
 {
     let mut items = Vec::new(alloc);
     for field in fields.as_slice() {
-        let ty = expanded_type(alloc, earlier, scope, &field.1)?;
-        items.push((field.0.twin(alloc)?, ty))?;
+        let ty = expanded_type(alloc, earlier, scope, &field.1);
+        add(&mut items, both(field.0.twin(alloc), ty))?;
     }
     Ok(items)
 }
 
-// Alternatives; those of nothing are the record of nothing.
-pub(crate) fn alternatives_type(tags: Fields) -> Ty
-    ensures { ty_tree result ≡ alternatives_type (ty_fields tags) }
+// An enum with these members and this initial value.
+pub(crate) fn enum_type(
+    members: Result<Names, AllocError>,
+    value: Result<Name, AllocError>,
+) -> Result<Ty, AllocError>
+    ensures { IfOk result (λ t. (ms : List (List ℕ)) × (v : List ℕ) × (members ≡ Ok ms) × (value ≡ Ok v) × (ty_tree t ≡ ty_enum ms v)) }
 {
+    let (members, value) = both(members, value)?;
+    Ok(Ty::Enum(members, value))
+}
+
+// A record with these fields, which are sorted by bytes.
+pub(crate) fn record_type(fields: Vec<(Name, Ty)>) -> Result<Ty, AllocError>
+    ensures { IfOk result (λ t. ty_tree t ≡ ty_rec (sorted (ty_fields_of (map ty_field fields.items)))) }
+{
+    Ok(Ty::Rec(Fields::from_vec(sorted(fields)?)))
+}
+
+// Alternatives; those of nothing are the record of nothing.
+pub(crate) fn alternatives_type(tags: Vec<(Name, Ty)>) -> Ty
+    ensures { ty_tree result ≡ alternatives_type (ty_fields_of (map ty_field tags.items)) }
+{
+    let tags = Fields::from_vec(tags);
     if tags.is_empty() {
         Ty::Rec(tags)
     } else {
@@ -94,7 +110,7 @@ pub(crate) fn alternatives_type(tags: Fields) -> Ty
 }
 
 // The fields sorted by bytes.
-pub(crate) fn sorted(fields: Vec<(Name, Ty)>) -> Result<Vec<(Name, Ty)>, AllocError>
+fn sorted(fields: Vec<(Name, Ty)>) -> Result<Vec<(Name, Ty)>, AllocError>
     ensures { IfOk result (λ fs. ty_fields_of (map ty_field fs.items) ≡ sorted (ty_fields_of (map ty_field fields.items))) }
 {
     let mut sorted = fields;
@@ -115,39 +131,38 @@ pub(crate) fn expanded_lens(
     ensures { IfOk result (λ f. form_tree f ≡ expanded_form (take scope (earlier_tree earlier.now)) (lens_tree lens.now)) }
 {
     match lens {
-        Lens::Id(ty) => Ok(Form::Id(expanded_type(alloc, earlier, scope, ty)?)),
-        Lens::Bij(pairs, value) => Ok(Form::Bij(pairs.twin(alloc)?, value.twin(alloc)?)),
+        Lens::Id(ty) => expanded_type(alloc, earlier, scope, ty).map(Form::Id),
+        Lens::Bij(pairs, value) => {
+            let (pairs, value) = both(pairs.twin(alloc), value.twin(alloc))?;
+            Ok(Form::Bij(pairs, value))
+        }
         Lens::Disc(left, right) => {
-            let left = expanded_type(alloc, earlier, scope, left)?;
-            let right = expanded_type(alloc, earlier, scope, right)?;
+            let left = expanded_type(alloc, earlier, scope, left);
+            let (left, right) = both(left, expanded_type(alloc, earlier, scope, right))?;
             Ok(Form::Disc(left, right))
         }
         Lens::Then(first, second) => {
-            let first = expanded_lens(alloc, earlier, scope, first)?;
-            let second = expanded_lens(alloc, earlier, scope, second)?;
-            Ok(Form::Then(Box::new(alloc, first)?, Box::new(alloc, second)?))
+            let first = boxed(alloc, expanded_lens(alloc, earlier, scope, first));
+            let second = boxed(alloc, expanded_lens(alloc, earlier, scope, second));
+            let (first, second) = both(first, second)?;
+            Ok(Form::Then(first, second))
         }
-        Lens::Rec(rows) => Ok(Form::Rec(expanded_rows(alloc, earlier, scope, rows)?)),
+        Lens::Rec(rows) => expanded_rows(alloc, earlier, scope, rows).map(Form::Rec),
         Lens::Alt(arms) => Ok(alternatives(alloc, expanded_arms(alloc, earlier, scope, arms)?)),
         Lens::Each(inner) => {
-            let inner = expanded_lens(alloc, earlier, scope, inner)?;
-            Ok(Form::Each(Box::new(alloc, inner)?))
+            boxed(alloc, expanded_lens(alloc, earlier, scope, inner)).map(Form::Each)
         }
         Lens::Keyed(inner) => {
-            let inner = expanded_lens(alloc, earlier, scope, inner)?;
-            Ok(Form::Keyed(Box::new(alloc, inner)?))
+            boxed(alloc, expanded_lens(alloc, earlier, scope, inner)).map(Form::Keyed)
         }
         Lens::Tree(inner) => {
-            let inner = expanded_lens(alloc, earlier, scope, inner)?;
-            Ok(Form::Tree(Box::new(alloc, inner)?))
+            boxed(alloc, expanded_lens(alloc, earlier, scope, inner)).map(Form::Tree)
         }
         Lens::Part(fields) => {
-            let tags = expanded_fields(alloc, earlier, scope, fields)?;
-            Ok(partition(alloc, Fields::from_vec(tags)))
+            Ok(partition(alloc, expanded_fields(alloc, earlier, scope, fields)?))
         }
         Lens::Inv(inner) => {
-            let inner = expanded_lens(alloc, earlier, scope, inner)?;
-            Ok(Form::Inv(Box::new(alloc, inner)?))
+            boxed(alloc, expanded_lens(alloc, earlier, scope, inner)).map(Form::Inv)
         }
         Lens::Named(name) => match earlier.lens_named(name, scope) {
             Some(known) => expanded_lens(alloc, earlier, known.scope, known.lens),
@@ -167,7 +182,7 @@ fn expanded_rows(
 {
     let mut items = Vec::new(alloc);
     for row in rows.as_slice() {
-        items.push(expanded_row(alloc, earlier, scope, row)?)?;
+        add(&mut items, expanded_row(alloc, earlier, scope, row))?;
     }
     Ok(FormRows::from_vec(items))
 }
@@ -183,16 +198,20 @@ fn expanded_row(
 {
     match row {
         Row::Both(left, right, lens) => {
-            let form = expanded_lens(alloc, earlier, scope, lens)?;
-            Ok(FormRow::Both(left.twin(alloc)?, right.twin(alloc)?, form))
+            let form = expanded_lens(alloc, earlier, scope, lens);
+            let names = both(left.twin(alloc), right.twin(alloc));
+            let ((left, right), form) = both(names, form)?;
+            Ok(FormRow::Both(left, right, form))
         }
         Row::OnlyLeft(name, ty) => {
-            let ty = expanded_type(alloc, earlier, scope, ty)?;
-            Ok(FormRow::OnlyLeft(name.twin(alloc)?, ty))
+            let ty = expanded_type(alloc, earlier, scope, ty);
+            let (name, ty) = both(name.twin(alloc), ty)?;
+            Ok(FormRow::OnlyLeft(name, ty))
         }
         Row::OnlyRight(name, ty) => {
-            let ty = expanded_type(alloc, earlier, scope, ty)?;
-            Ok(FormRow::OnlyRight(name.twin(alloc)?, ty))
+            let ty = expanded_type(alloc, earlier, scope, ty);
+            let (name, ty) = both(name.twin(alloc), ty)?;
+            Ok(FormRow::OnlyRight(name, ty))
         }
     }
 }
@@ -208,8 +227,10 @@ fn expanded_arms(
 {
     let mut items = Vec::new(alloc);
     for arm in arms.as_slice() {
-        let form = expanded_lens(alloc, earlier, scope, &arm.2)?;
-        items.push((arm.0.twin(alloc)?, arm.1.twin(alloc)?, form))?;
+        let names = both(arm.0.twin(alloc), arm.1.twin(alloc));
+        let form = expanded_lens(alloc, earlier, scope, &arm.2);
+        let ((left, right), form) = both(names, form)?;
+        items.push((left, right, form))?;
     }
     Ok(FormArms::from_vec(items))
 }
@@ -226,9 +247,10 @@ fn alternatives(alloc: Global, arms: FormArms) -> Form
 }
 
 // A partition; that of nothing is the record of nothing.
-fn partition(alloc: Global, tags: Fields) -> Form
-    ensures { form_tree result ≡ partition (ty_fields tags) }
+fn partition(alloc: Global, tags: Vec<(Name, Ty)>) -> Form
+    ensures { form_tree result ≡ partition (ty_fields_of (map ty_field tags.items)) }
 {
+    let tags = Fields::from_vec(tags);
     if tags.is_empty() {
         empty_record(alloc)
     } else {

@@ -1,5 +1,6 @@
 //! Why a program is refused.
 
+use crate::made::both;
 use doc_values::Ty;
 use std::alloc::{AllocError, AllocFailed, Global};
 use texts::{Name, Twin};
@@ -75,10 +76,10 @@ impl Twin for TypeFault {
 
     fn twin(&self, alloc: Global) -> Result<Self, AllocError> {
         match self {
-            TypeFault::MiddleDiffers { left, right } => Ok(TypeFault::MiddleDiffers {
-                left: left.twin(alloc)?,
-                right: right.twin(alloc)?,
-            }),
+            TypeFault::MiddleDiffers { left, right } => {
+                let (left, right) = both(left.twin(alloc), right.twin(alloc))?;
+                Ok(TypeFault::MiddleDiffers { left, right })
+            }
             TypeFault::RepeatedField { name } => Ok(TypeFault::RepeatedField {
                 name: name.twin(alloc)?,
             }),

@@ -1,14 +1,17 @@
 //! The first failure among the nodes of a lens, and the heights of its two types.
 
-ghost use Rattle.std.specs.Prelude.{◌≡◌, ◌+◌, MatchResult, None};
-ghost use Rattle.lens_forms.specs.Forms.{FormTree, form_bij, form_then, form_each, form_inv, form_rec, RowTrees, ArmTrees};
+ghost use Rattle.std.specs.Prelude.{◌≡◌, ◌+◌, MatchResult, None, option_map};
+ghost use Rattle.std.specs.Option.{option_or};
+ghost use Rattle.doc_values.specs.Types.{ty_tree};
+ghost use Rattle.lens_forms.specs.Forms.{FormTree, form_bij, form_then, form_each, form_inv, form_rec, RowTrees, ArmTrees, left_type, right_type};
 ghost use Rattle.program_terms.specs.Terms.{id_of, disc_of, then_of, part_of};
 ghost use Rattle.program_terms.specs.Views.{lens_tree, rows_tree, row_tree, arms_tree, fields_tree, type_tree};
-ghost use Rattle.lens_types.specs.Checking.{lens_failure, rows_failure, arms_failure, middle_failure, sides_failure};
+ghost use Rattle.lens_types.specs.Checking.{lens_failure, rows_failure, arms_failure, middle_failure, sides_failure, repeated_field, repeated_tag};
 ghost use Rattle.lens_types.specs.Earlier.{expanded_form, expanded_rows, expanded_arms, alternatives};
 ghost use Rattle.lens_types.specs.Faults.{IsFaultOf};
 ghost use Rattle.lens_types.specs.Entries.{earlier_tree};
 ghost use Rattle.lens_types.specs.Heights.{capped, HasHeights, HasRowHeights, HasArmHeights};
+ghost use Rattle.lens_types.specs.Repeats.{first_repeat, row_names, arm_names};
 ghost use Rattle.lens_types.specs.Nodes.{IsLowForm, IsRowChecked, bijection_failure};
 
 use crate::earlier::Earlier;
@@ -16,10 +19,12 @@ use crate::fault::TypeFault;
 use crate::heights::{fields_height, type_height};
 use crate::known::SideHeights;
 use crate::limits::{GREATEST_HEIGHT, next_height};
+use crate::made::both;
 use crate::members::check_pairs;
 use crate::names::{arm_names, distinct_fields, distinct_tags, field_names, row_names};
 use crate::sides::side_type;
 use crate::types::{check_fields, check_type};
+use doc_values::Ty;
 use program_terms::{Arms, Lens, Pairs, Row, Rows, TyExpr, TyFields};
 use std::alloc::Global;
 use texts::{Name, Side};
@@ -43,31 +48,17 @@ pub(crate) fn checked_lens(
         Lens::Then(first, second) => checked_composition(alloc, earlier, first, second),
         Lens::Rec(rows) => {
             let highest = checked_rows(alloc, earlier, rows)?;
-            distinct_fields(alloc, &row_names(alloc, rows.as_slice())?)?;
-            low_record(highest)
+            checked_record(alloc, rows, highest)
         }
         Lens::Alt(arms) => {
             let highest = checked_arms(alloc, earlier, arms)?;
-            distinct_tags(alloc, &arm_names(alloc, arms.as_slice())?)?;
-            low_alternatives(highest)
+            checked_alternatives(alloc, arms, highest)
         }
-        Lens::Each(inner) => {
-            let part = checked_lens(alloc, earlier, inner)?;
-            low_container(part)
-        }
-        Lens::Keyed(inner) => {
-            let part = checked_lens(alloc, earlier, inner)?;
-            low_container(part)
-        }
-        Lens::Tree(inner) => {
-            let part = checked_lens(alloc, earlier, inner)?;
-            low_container(part)
-        }
+        Lens::Each(inner) => checked_lens(alloc, earlier, inner).and_then(low_container),
+        Lens::Keyed(inner) => checked_lens(alloc, earlier, inner).and_then(low_container),
+        Lens::Tree(inner) => checked_lens(alloc, earlier, inner).and_then(low_container),
         Lens::Part(fields) => checked_partition(alloc, earlier, fields),
-        Lens::Inv(inner) => {
-            let sides = checked_lens(alloc, earlier, inner)?;
-            low_inverse(sides)
-        }
+        Lens::Inv(inner) => checked_lens(alloc, earlier, inner).and_then(low_inverse),
         Lens::Named(name) => Ok(earlier.side_heights(name)),
     }
 }
@@ -226,8 +217,17 @@ fn same_middle(
         (λ _. middle_failure (expanded_form (earlier_tree earlier.now) (lens_tree first.now)) (expanded_form (earlier_tree earlier.now) (lens_tree second.now)) ≡ None)
         (λ fault. IsFaultOf (middle_failure (expanded_form (earlier_tree earlier.now) (lens_tree first.now)) (expanded_form (earlier_tree earlier.now) (lens_tree second.now))) fault) }
 {
-    let left = side_type(alloc, earlier, earlier.len(), Side::Right, first)?;
-    let right = side_type(alloc, earlier, earlier.len(), Side::Left, second)?;
+    let left = side_type(alloc, earlier, earlier.len(), Side::Right, first);
+    let right = side_type(alloc, earlier, earlier.len(), Side::Left, second);
+    let (left, right) = both(left, right)?;
+    same_types(left, right)
+}
+
+// Refuses a right type of a first lens that is not the left type of a second.
+fn same_types(left: Ty, right: Ty) -> Result<(), TypeFault>
+    ensures { (l : FormTree) (k : FormTree) → ty_tree left ≡ right_type l → ty_tree right ≡ left_type k
+        → MatchResult result (λ _. middle_failure l k ≡ None) (λ fault. IsFaultOf (middle_failure l k) fault) }
+{
     if !left.is_same(&right) {
         return Err(TypeFault::MiddleDiffers { left, right });
     }
@@ -259,6 +259,36 @@ fn low_container(part: SideHeights) -> Result<SideHeights, TypeFault>
     ensures { (form : FormTree) → HasHeights form part → IsLowForm (form_each form) result }
 {
     low_sides(container_heights(part))
+}
+
+// The heights of a record whose highest fields are so high, where its fields are distinct and no side is too high.
+fn checked_record(
+    alloc: Global,
+    rows: &Rows,
+    highest: SideHeights,
+) -> Result<SideHeights, TypeFault>
+    ensures { (forms : RowTrees) → HasRowHeights forms highest → MatchResult result
+        (λ h. (option_or (option_map repeated_field (first_repeat (row_names (rows_tree rows.now)))) (sides_failure (form_rec forms)) ≡ None)
+        × HasHeights (form_rec forms) h)
+        (λ fault. IsFaultOf (option_or (option_map repeated_field (first_repeat (row_names (rows_tree rows.now)))) (sides_failure (form_rec forms))) fault) }
+{
+    distinct_fields(alloc, &row_names(alloc, rows.as_slice())?)?;
+    low_record(highest)
+}
+
+// The heights of alternatives whose highest contents are so high, where their tags are distinct and no side is too high.
+fn checked_alternatives(
+    alloc: Global,
+    arms: &Arms,
+    highest: SideHeights,
+) -> Result<SideHeights, TypeFault>
+    ensures { (forms : ArmTrees) → HasArmHeights forms highest → MatchResult result
+        (λ h. (option_or (option_map repeated_tag (first_repeat (arm_names (arms_tree arms.now)))) (sides_failure (alternatives forms)) ≡ None)
+        × HasHeights (alternatives forms) h)
+        (λ fault. IsFaultOf (option_or (option_map repeated_tag (first_repeat (arm_names (arms_tree arms.now)))) (sides_failure (alternatives forms))) fault) }
+{
+    distinct_tags(alloc, &arm_names(alloc, arms.as_slice())?)?;
+    low_alternatives(highest)
 }
 
 // The heights of a record whose highest fields are so high, where no side is too high.

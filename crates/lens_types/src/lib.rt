@@ -13,6 +13,7 @@ mod heights;
 mod known;
 mod lenses;
 mod limits;
+mod made;
 mod members;
 mod names;
 mod sides;

@@ -9,7 +9,8 @@ ghost use Rattle.lens_types.specs.Entries.{earlier_tree};
 ghost use Rattle.lens_types.specs.SideTypes.{pick, type_on, fields_on, tags_on, field_on, members_on, value_on};
 
 use crate::earlier::Earlier;
-use crate::expansion::{alternatives_type, expanded_fields, expanded_type, sorted};
+use crate::expansion::{alternatives_type, enum_type, expanded_fields, expanded_type, record_type};
+use crate::made::{add, both, boxed};
 use doc_values::{Fields, Ty};
 use program_terms::{Arms, Lens, Pairs, Row, Rows};
 use std::alloc::{AllocError, Global};
@@ -34,29 +35,19 @@ pub(crate) fn side_type(
             Side::Left => side_type(alloc, earlier, scope, side, first),
             Side::Right => side_type(alloc, earlier, scope, side, second),
         },
-        Lens::Rec(rows) => {
-            let fields = side_fields(alloc, earlier, scope, side, rows)?;
-            Ok(Ty::Rec(Fields::from_vec(sorted(fields)?)))
-        }
-        Lens::Alt(arms) => {
-            let tags = side_tags(alloc, earlier, scope, side, arms)?;
-            Ok(alternatives_type(Fields::from_vec(tags)))
-        }
+        Lens::Rec(rows) => side_fields(alloc, earlier, scope, side, rows).and_then(record_type),
+        Lens::Alt(arms) => side_tags(alloc, earlier, scope, side, arms).map(alternatives_type),
         Lens::Each(inner) => {
-            let inner = side_type(alloc, earlier, scope, side, inner)?;
-            Ok(Ty::List(Box::new(alloc, inner)?))
+            boxed(alloc, side_type(alloc, earlier, scope, side, inner)).map(Ty::List)
         }
         Lens::Keyed(inner) => {
-            let inner = side_type(alloc, earlier, scope, side, inner)?;
-            Ok(Ty::Keyed(Box::new(alloc, inner)?))
+            boxed(alloc, side_type(alloc, earlier, scope, side, inner)).map(Ty::Keyed)
         }
         Lens::Tree(inner) => {
-            let inner = side_type(alloc, earlier, scope, side, inner)?;
-            Ok(Ty::Tree(Box::new(alloc, inner)?))
+            boxed(alloc, side_type(alloc, earlier, scope, side, inner)).map(Ty::Tree)
         }
         Lens::Part(fields) => {
-            let tags = expanded_fields(alloc, earlier, scope, fields)?;
-            partition_side(alloc, side, tags)
+            partition_side(alloc, side, expanded_fields(alloc, earlier, scope, fields)?)
         }
         Lens::Inv(inner) => side_type(alloc, earlier, scope, side.other(), inner),
         Lens::Named(name) => match earlier.lens_named(name, scope) {
@@ -100,17 +91,14 @@ fn side_field(
 {
     match (row, side) {
         (Row::Both(left, right, lens), _) => {
-            let name = pick(side, left, right).twin(alloc)?;
-            let ty = side_type(alloc, earlier, scope, side, lens)?;
-            Ok(Some((name, ty)))
+            let name = pick(side, left, right).twin(alloc);
+            both(name, side_type(alloc, earlier, scope, side, lens)).map(Some)
         }
         (Row::OnlyLeft(name, ty), Side::Left) => {
-            let ty = expanded_type(alloc, earlier, scope, ty)?;
-            Ok(Some((name.twin(alloc)?, ty)))
+            both(name.twin(alloc), expanded_type(alloc, earlier, scope, ty)).map(Some)
         }
         (Row::OnlyRight(name, ty), Side::Right) => {
-            let ty = expanded_type(alloc, earlier, scope, ty)?;
-            Ok(Some((name.twin(alloc)?, ty)))
+            both(name.twin(alloc), expanded_type(alloc, earlier, scope, ty)).map(Some)
         }
         _ => Ok(None),
     }
@@ -130,9 +118,9 @@ fn side_tags(
 {
     let mut tags = Vec::new(alloc);
     for arm in arms.as_slice() {
-        let name = pick(side, &arm.0, &arm.1).twin(alloc)?;
-        let ty = side_type(alloc, earlier, scope, side, &arm.2)?;
-        tags.push((name, ty))?;
+        let name = pick(side, &arm.0, &arm.1).twin(alloc);
+        let ty = side_type(alloc, earlier, scope, side, &arm.2);
+        add(&mut tags, both(name, ty))?;
     }
     Ok(tags)
 }
@@ -152,8 +140,10 @@ fn bijection_side(alloc: Global, side: Side, pairs: &Pairs, value: &Name) -> Res
     ensures { IfOk result (λ t. ty_tree t ≡ type_on side (form_bij pairs.now value.now)) }
 {
     let pairs = pairs.as_slice();
-    let members = side_members(alloc, side, pairs)?;
-    Ok(Ty::Enum(members, side_value(alloc, side, pairs, value)?))
+    enum_type(
+        side_members(alloc, side, pairs),
+        side_value(alloc, side, pairs, value),
+    )
 }
 
 // The members of a side of a bijection.
@@ -162,7 +152,7 @@ fn side_members(alloc: Global, side: Side, pairs: &[(Name, Name)]) -> Result<Nam
 {
     let mut members = Vec::new(alloc);
     for pair in pairs {
-        members.push(pick(side, &pair.0, &pair.1).twin(alloc)?)?;
+        add(&mut members, pick(side, &pair.0, &pair.1).twin(alloc))?;
     }
     Ok(Names::from_vec(members))
 }
@@ -210,14 +200,13 @@ fn partition_side(alloc: Global, side: Side, tags: Vec<(Name, Ty)>) -> Result<Ty
 fn list_of_alternatives(alloc: Global, tags: Vec<(Name, Ty)>) -> Result<Ty, AllocError>
     ensures { IfOk result (λ t. ty_tree t ≡ ty_list (ty_alt (ty_fields_of (map ty_field tags.items)))) }
 {
-    Ok(Ty::List(Box::new(alloc, Ty::Alt(Fields::from_vec(tags)))?))
+    boxed(alloc, Ok(Ty::Alt(Fields::from_vec(tags)))).map(Ty::List)
 }
 
 fn record_of_lists(alloc: Global, tags: Vec<(Name, Ty)>) -> Result<Ty, AllocError>
     ensures { IfOk result (λ t. ty_tree t ≡ ty_rec (sorted (lists_of (ty_fields_of (map ty_field tags.items))))) }
 {
-    let lists = lists_of(alloc, tags.as_slice())?;
-    Ok(Ty::Rec(Fields::from_vec(sorted(lists)?)))
+    lists_of(alloc, tags.as_slice()).and_then(record_type)
 }
 
 // The same names, each with a list of its type.
@@ -226,9 +215,17 @@ fn lists_of(alloc: Global, fields: &[(Name, Ty)]) -> Result<Vec<(Name, Ty)>, All
 {
     let mut lists = Vec::new(alloc);
     for field in fields {
-        let name = field.0.twin(alloc)?;
-        let list = Ty::List(Box::new(alloc, field.1.twin(alloc)?)?);
-        lists.push((name, list))?;
+        add(
+            &mut lists,
+            both(field.0.twin(alloc), list_of(alloc, &field.1)),
+        )?;
     }
     Ok(lists)
+}
+
+// A list of this type.
+fn list_of(alloc: Global, ty: &Ty) -> Result<Ty, AllocError>
+    ensures { IfOk result (λ t. ty_tree t ≡ ty_list (ty_tree ty.now)) }
+{
+    boxed(alloc, ty.twin(alloc)).map(Ty::List)
 }

@@ -7,6 +7,7 @@ ghost use Rattle.lens_forms.specs.Measures.{form_parts, form_height, longest_lis
 ghost use Rattle.lens_forms.specs.Typing.{IsTyped, is_typed};
 ghost use Rattle.lens_types.specs.Sound.{is_sound};
 
+use crate::made::both;
 use doc_values::Ty;
 use lens_forms::Form;
 use std::alloc::{AllocError, Global};
@@ -95,10 +96,8 @@ impl Twin for Typed {
     ghost meaning = { form_tree };
 
     fn twin(&self, alloc: Global) -> Result<Self, AllocError> {
-        Ok(Typed {
-            form: self.form.twin(alloc)?,
-            left: self.left.twin(alloc)?,
-            right: self.right.twin(alloc)?,
-        })
+        let sides = both(self.left.twin(alloc), self.right.twin(alloc));
+        let (form, (left, right)) = both(self.form.twin(alloc), sides)?;
+        Ok(Typed { form, left, right })
     }
 }

@@ -11,8 +11,8 @@ expanded_rows-expanded_row-requires t c =
     let same = ap rows_size c.as_slice-row-items.ensures in
     (omega (arith, low, same), tt)
 
-pub expanded_arms-expanded_lens-requires : goal.expanded_arms-expanded_lens-requires
-expanded_arms-expanded_lens-requires t c =
+pub expanded_arms-expanded_lens-form-requires : goal.expanded_arms-expanded_lens-form-requires
+expanded_arms-expanded_lens-form-requires t c =
     let low = arm_smaller c.as_slice-arm-items.result.now c.loop-arm.arm-index c.arm-item.result c.loop-arm-test.true c.arm-item.is in
     let same = ap arms_size c.as_slice-arm-items.ensures in
     (omega (arith, low, same), tt)

@@ -5,8 +5,8 @@ use Rattle.lens_types.proofs.Lists.{fields_done}
 use Rattle.lens_types.proofs.Sizes.{field_smaller}
 use Rattle.lens_types.proofs.expansion.+expanded_type.Goals as goal
 
-pub expanded_fields-expanded_type-requires : goal.expanded_fields-expanded_type-requires
-expanded_fields-expanded_type-requires t c =
+pub expanded_fields-expanded_type-ty-requires : goal.expanded_fields-expanded_type-ty-requires
+expanded_fields-expanded_type-ty-requires t c =
     let low = field_smaller c.as_slice-field-items.result.now c.loop-field.field-index c.field-item.result c.loop-field-test.true c.field-item.is in
     let same = ap fields_size c.as_slice-field-items.ensures in
     (omega (arith, low, same), tt)

@@ -11,8 +11,8 @@ side_fields-side_field-requires t c =
     let same = ap rows_size c.as_slice-row-items.ensures in
     (omega (arith, low, same), tt)
 
-pub side_tags-side_type-requires : goal.side_tags-side_type-requires
-side_tags-side_type-requires t c =
+pub side_tags-side_type-ty-requires : goal.side_tags-side_type-ty-requires
+side_tags-side_type-ty-requires t c =
     let low = arm_smaller c.as_slice-arm-items.result.now c.loop-arm.arm-index c.arm-item.result c.loop-arm-test.true c.arm-item.is in
     let same = ap arms_size c.as_slice-arm-items.ensures in
     (omega (arith, low, same), tt)
