@@ -1,13 +1,14 @@
 //! Checking a program.
 
-ghost use Rattle.std.specs.Prelude.{◌≡◌, IsTrue, MatchResult, None, length};
+ghost use Rattle.std.specs.Prelude.{◌≡◌, IsTrue, IfOk, MatchResult, None, length};
 ghost use Rattle.program_terms.specs.Views.{type_tree, lens_tree, def_tree, program_tree};
 ghost use Rattle.program_terms.specs.Terms.{type_def, lens_def};
 ghost use Rattle.lens_forms.specs.Forms.{form_tree};
 ghost use Rattle.lens_types.specs.Checking.{def_failure, first_failure};
-ghost use Rattle.lens_types.specs.Earlier.{main_form};
+ghost use Rattle.lens_types.specs.Earlier.{expanded_form, main_form};
 ghost use Rattle.lens_types.specs.Entries.{earlier_tree, is_measured_type, is_measured_lens, IsKnownType, IsKnownLens, IsKnown};
 ghost use Rattle.lens_types.specs.Faults.{IsFaultOf};
+ghost use Rattle.lens_types.specs.Sound.{is_sound};
 
 use crate::earlier::Earlier;
 use crate::expansion::expanded_lens;
@@ -16,12 +17,13 @@ use crate::heights::{lens_height, type_height, written_height};
 use crate::known::{Known, KnownLens, KnownType};
 use crate::lenses::checked_lens;
 use crate::limits::GREATEST_HEIGHT;
+use crate::made::both;
 use crate::sides::side_type;
 use crate::size::{counted_lens, counted_type};
 use crate::typed::Typed;
 use crate::types::check_type;
 use program_terms::{Def, Lens, Program, TyExpr};
-use std::alloc::Global;
+use std::alloc::{AllocError, Global};
 use texts::{Side, Twin};
 
 /// The main lens of a program with all names expanded, and its two types.
@@ -45,10 +47,19 @@ pub fn check(alloc: Global, program: &Program) -> Result<Typed, TypeFault>
     }
     let main = program.main();
     defined_lens(alloc, &earlier, main)?;
+    Ok(typed_lens(alloc, &earlier, main)?)
+}
+
+// The form of a lens that has no failure, with its two types.
+fn typed_lens(alloc: Global, earlier: &Earlier<'_>, lens: &Lens) -> Result<Typed, AllocError>
+    requires { IsTrue (is_sound (expanded_form (earlier_tree earlier.now) (lens_tree lens.now))) }
+    ensures { IfOk result (λ t. form_tree t ≡ expanded_form (earlier_tree earlier.now) (lens_tree lens.now)) }
+{
     let scope = earlier.len();
-    let form = expanded_lens(alloc, &earlier, scope, main)?;
-    let left = side_type(alloc, &earlier, scope, Side::Left, main)?;
-    let right = side_type(alloc, &earlier, scope, Side::Right, main)?;
+    let left = side_type(alloc, earlier, scope, Side::Left, lens);
+    let right = side_type(alloc, earlier, scope, Side::Right, lens);
+    let (left, right) = both(left, right)?;
+    let form = expanded_lens(alloc, earlier, scope, lens)?;
     Ok(Typed::new(form, left, right))
 }
 

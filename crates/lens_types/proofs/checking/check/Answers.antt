@@ -1,14 +1,10 @@
-use Rattle.std.proofs.Common.{◌≡◌, ◌≤◌, true, [], length, Some, ap, ap₂, sym, ◌∙◌, subst, rules, arith}
+use Rattle.std.proofs.Common.{◌≤◌, [], length, Some, ap, ap₂, sym, ◌∙◌, rules, arith}
 use Rattle.program_terms.specs.Terms.{lens_def}
 use Rattle.program_terms.specs.Views.{lens_tree, def_tree, program_tree}
-use Rattle.lens_forms.specs.Forms.{FormTree, left_type, right_type}
 use Rattle.lens_types.specs.Checking.{def_failure, first_failure}
 use Rattle.lens_types.specs.Earlier.{all_known, expanded_form}
 use Rattle.lens_types.specs.Entries.{earlier_tree, stands_for}
-use Rattle.lens_types.specs.Sound.{is_sound}
 use Rattle.lens_types.proofs.DefinitionSteps.{fault_at, after_next, next_is_new, main_failure, main_known}
-use Rattle.lens_types.proofs.Entries.{all_of}
-use Rattle.lens_types.proofs.SideTypes.{left_side, right_side}
 use Rattle.lens_types.proofs.SoundForms.{lens_sound}
 use Rattle.lens_types.proofs.checking.check.Goals as goal
 
@@ -31,34 +27,17 @@ loop-at-preserved c =
     after_next earlier (earlier_tree c.add.new.self) program.definitions c.loop-at.at c.in_ok-twin.field-0 (def_tree c.def.result.now) (stands_for earlier c.in_ok-known.known) program.main (first_failure program) (all_known [] program.definitions)
     (c.name.ensures ∙ ap Some (sym c.in_ok-twin.ensures)) c.def.ensures c.in_ok-known.ensures.0 c.in_ok-known.ensures.1.stands c.in_ok-add.ensures c.loop-at.invariant
 
-pub new-requires-clause-sound : goal.new-requires-clause-sound
-new-requires-clause-sound c =
-    let main = lens_tree c.main-main.result.now in
-    let form = c.in_ok-form.ensures ∙ ap (λ ds. expanded_form ds main) (all_of c.loop-at.earlier c.len-scope.result c.len-scope.ensures) in
-    let P : FormTree → Type 0 = λ f. is_sound f ≡ true in
-    subst P (sym form) (lens_sound (earlier_tree c.loop-at.earlier) c.loop-at.invariant.sound main c.in_ok-defined_lens.ensures.0)
-
-pub new-requires-clause-left_is : goal.new-requires-clause-left_is
-new-requires-clause-left_is c =
-    let main = lens_tree c.main-main.result.now in
-    let form = c.in_ok-form.ensures ∙ ap (λ ds. expanded_form ds main) (all_of c.loop-at.earlier c.len-scope.result c.len-scope.ensures) in
-    left_side c.loop-at.earlier c.len-scope.result main _ c.len-scope.ensures c.in_ok-left.ensures ∙ ap left_type (sym form)
-
-pub new-requires-clause-right_is : goal.new-requires-clause-right_is
-new-requires-clause-right_is c =
-    let main = lens_tree c.main-main.result.now in
-    let form = c.in_ok-form.ensures ∙ ap (λ ds. expanded_form ds main) (all_of c.loop-at.earlier c.len-scope.result c.len-scope.ensures) in
-    right_side c.loop-at.earlier c.len-scope.result main _ c.len-scope.ensures c.in_ok-right.ensures ∙ ap right_type (sym form)
+pub typed_lens-requires : goal.typed_lens-requires
+typed_lens-requires c =
+    lens_sound (earlier_tree c.loop-at.earlier) c.loop-at.invariant.sound (lens_tree c.main-main.result.now) c.in_ok-defined_lens.ensures.0
 
 pub returns : goal.returns
 returns c =
     let program = program_tree c.args.program.now in
     let earlier = earlier_tree c.loop-at.earlier in
-    let main = lens_tree c.main-main.result.now in
     let past : length program.definitions ≤ c.loop-at.at = omega (arith, c.count-at-end.ensures.count) in
-    let form = c.in_ok-form.ensures ∙ ap (λ ds. expanded_form ds main) (all_of c.loop-at.earlier c.len-scope.result c.len-scope.ensures) in
     let all = main_known earlier program.definitions c.loop-at.at (all_known [] program.definitions) past c.loop-at.invariant.known in
     let failure = main_failure earlier program.definitions c.loop-at.at program.main (first_failure program) past c.loop-at.invariant.failure in (
       sym failure ∙ ap (λ l. def_failure earlier (lens_def l)) (sym c.main-main.ensures) ∙ c.in_ok-defined_lens.ensures.0,
-      c.new.ensures ∙ form ∙ ap₂ expanded_form all c.main-main.ensures,
+      c.in_ok-typed_lens.ensures ∙ ap₂ expanded_form all c.main-main.ensures,
     )
