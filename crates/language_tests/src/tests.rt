@@ -4,10 +4,10 @@ use lens_syntax::{
 };
 use program_grammar::{Mention, NameFault, Sort};
 use program_reader::{ProgramReadFault, read_tokens};
-use program_terms::{AddFault, Def, Definitions, Lens, TyExpr};
+use program_terms::{AddFault, Def, Definitions, Lens, Program, TyExpr};
 use program_tokens::{Token, Tokens, tokens};
 use std::alloc::{AllocError, Global};
-use texts::{Name, Twin};
+use texts::{Name, Str, Twin};
 
 /// A program with each construct of the language, in canonical text.
 const EACH_CONSTRUCT: &str =
@@ -17,16 +17,27 @@ const EACH_CONSTRUCT: &str =
 const INITIAL_VALUES: &str =
     "main {a ~ b: bij[\"on\"=\"yes\", \"off\"=\"no\"] = \"off\", left c: int = -9223372036854775808, left d: text = \"x\", right e: enum[\"up\", \"down\"] = \"down\"}";
 
+// Values of many variants are let go by `drop`, in one call. At the end of a block they would be dropped variant by variant,
+// which takes long to prove.
+
 fn name(alloc: Global, text: &str) -> Result<Name, AllocError> {
     Ok(Name::from_string(String::from_str(alloc, text)?))
+}
+
+// The text of a copy of a program.
+fn copied_text(alloc: Global, program: &Program) -> Result<Str, AllocError> {
+    let copy = program.twin(alloc)?;
+    let text = write_program(alloc, &copy);
+    drop(copy);
+    text
 }
 
 #[test]
 fn a_program_and_its_copy(rt: HostRuntime) {
     let alloc = rt.alloc();
     let program = read_program(alloc, EACH_CONSTRUCT.as_bytes()).expect(&rt, "a program");
-    let copy = program.twin(alloc).expect(&rt, "memory for a copy");
-    let text = write_program(alloc, &copy).expect(&rt, "memory for the text");
+    let text = copied_text(alloc, &program).expect(&rt, "memory for the copy and its text");
+    drop(program);
     assert_eq!(rt; text.as_str(), EACH_CONSTRUCT);
 }
 
@@ -34,8 +45,8 @@ fn a_program_and_its_copy(rt: HostRuntime) {
 fn initial_values(rt: HostRuntime) {
     let alloc = rt.alloc();
     let program = read_program(alloc, INITIAL_VALUES.as_bytes()).expect(&rt, "a program");
-    let copy = program.twin(alloc).expect(&rt, "memory for a copy");
-    let text = write_program(alloc, &copy).expect(&rt, "memory for the text");
+    let text = copied_text(alloc, &program).expect(&rt, "memory for the copy and its text");
+    drop(program);
     assert_eq!(rt; text.as_str(), INITIAL_VALUES);
 }
 
@@ -45,6 +56,7 @@ fn a_text_of_any_length(rt: HostRuntime) {
     let program = read_unbounded(alloc, EACH_CONSTRUCT.as_bytes()).expect(&rt, "a program");
     assert_eq!(rt; program.count(), 2);
     assert_eq!(rt; program.name(1).as_str(), "l");
+    drop(program);
 }
 
 #[test]
@@ -57,6 +69,7 @@ fn tokens_one_by_one(rt: HostRuntime) {
     left.push(first).expect(&rt, "memory for a token");
     let text = left.pop().expect(&rt, "a string");
     assert!(rt; matches!(text.token, Token::Text(_)));
+    drop(text);
 }
 
 #[test]
@@ -84,7 +97,9 @@ fn definitions_by_name(rt: HostRuntime) {
 fn types_and_names(rt: HostRuntime) {
     let alloc = rt.alloc();
     let inner = Box::new(alloc, doc_values::Ty::Int(5)).expect(&rt, "memory for a type");
-    let text = write_type(alloc, &doc_values::Ty::List(inner)).expect(&rt, "memory for the text");
+    let list = doc_values::Ty::List(inner);
+    let text = write_type(alloc, &list).expect(&rt, "memory for the text");
+    drop(list);
     assert_eq!(rt; text.as_str(), "list int = 5");
     let inv = name(alloc, "inv").expect(&rt, "memory for a name");
     let text = write_name(alloc, &inv).expect(&rt, "memory for the text");
