@@ -2,7 +2,7 @@
 
 ghost use Rattle.std.specs.Prelude.{◌≡◌, ◌↔◌, IsTrue, IfOk, OnOk, OnErr, ◌<◌, All, map, length, slice_set, slice_index_or};
 ghost use Rattle.hold_shapes.specs.Gather.{content_at, IsBelow};
-ghost use Rattle.doc_values.specs.Documents.{doc_tree, docs_tree, docs_of, doc_list, unit, no_docs};
+ghost use Rattle.doc_values.specs.Documents.{doc_tree, docs_tree, docs_of, doc_list, unit, alt, hold, no_docs};
 ghost use Rattle.doc_values.specs.Types.{ty_tree};
 ghost use Rattle.doc_values.specs.Typing.{has};
 
@@ -193,12 +193,25 @@ fn copy(alloc: Global, doc: &Doc) -> Result<Doc, AllocError>
         Doc::Text(text) => Ok(Doc::Text(text.twin(alloc)?)),
         Doc::Pick(name) => Ok(Doc::Pick(name.twin(alloc)?)),
         Doc::Rec(docs) => Ok(Doc::Rec(copy_docs(alloc, docs)?)),
-        Doc::Alt(tag, content) => Ok(Doc::Alt(
-            tag.twin(alloc)?,
-            Box::new(alloc, copy(alloc, content)?)?,
-        )),
-        Doc::Hold(shape, docs) => Ok(Doc::Hold(shape.twin(alloc)?, copy_docs(alloc, docs)?)),
+        Doc::Alt(tag, content) => with_tag(alloc, tag, copy(alloc, content)?),
+        Doc::Hold(shape, docs) => copy_hold(alloc, shape, docs),
     }
+}
+
+// A copy of a tag, with a content.
+pub(crate) fn with_tag(alloc: Global, tag: &Name, content: Doc) -> Result<Doc, AllocError>
+    ensures { IfOk result (λ d. doc_tree d ≡ alt tag.now (doc_tree content)) }
+{
+    let content = Box::new(alloc, content)?;
+    Ok(Doc::Alt(tag.twin(alloc)?, content))
+}
+
+// A copy of a shape with its contents.
+fn copy_hold(alloc: Global, shape: &Shape, docs: &Docs) -> Result<Doc, AllocError>
+    ensures { IfOk result (λ d. doc_tree d ≡ hold shape.now (docs_tree docs.now)) }
+{
+    let contents = copy_docs(alloc, docs)?;
+    Ok(Doc::Hold(shape.twin(alloc)?, contents))
 }
 
 #[tactic(auto, using(crate::proofs::Rules::typing_rules))]

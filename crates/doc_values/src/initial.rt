@@ -7,7 +7,7 @@ ghost use Rattle.doc_values.specs.Types.{ty_tree, fields_tree, is_well_formed};
 ghost use Rattle.doc_values.specs.Typing.{has};
 ghost use Rattle.doc_values.specs.Initial.{initial, initial_fields, initial_tag};
 
-use crate::doc::{Doc, Docs};
+use crate::doc::{Doc, Docs, with_tag};
 use crate::ty::{Fields, Ty};
 use hold_shapes::{KeyedShape, ListShape, Shape, TreeShape, Twin};
 use shared_lists::SharedList;
@@ -65,11 +65,8 @@ fn initial_tag(alloc: Global, fields: &Fields) -> Result<Doc, AllocError>
     if fields.items.is_empty() {
         return Ok(Doc::Unit);
     }
-    let tag = fields.items[0].0.twin(alloc)?;
-    Ok(Doc::Alt(
-        tag,
-        Box::new(alloc, initial_doc(alloc, &fields.items[0].1)?)?,
-    ))
+    let content = initial_doc(alloc, &fields.items[0].1)?;
+    with_tag(alloc, &fields.items[0].0, content)
 }
 
 // A keyed map's shape with no key.
@@ -82,16 +79,29 @@ fn no_keys() -> KeyedShape
     }
 }
 
-// A tree of one node with a content.
+// A tree's shape of one node.
+fn root_alone(alloc: Global) -> Result<TreeShape, AllocError>
+    ensures { IfOk result (λ s. s ≡ 0 ∷ []) }
+{
+    let depths = SharedList::from_vec(alloc, vec![in alloc; 0]?)?;
+    match TreeShape::from_depths(depths) {
+        Some(shape) => Ok(shape),
+        None => unreachable!(),
+    }
+}
+
+// The contents of which this is the only one.
 #[tactic(auto, using(crate::proofs::Rules::initial_rules))]
+fn content_alone(alloc: Global, content: Doc) -> Result<Docs, AllocError>
+    ensures { IfOk result (λ ds. docs_tree ds ≡ more_docs (doc_tree content) no_docs) }
+{
+    Docs::from_vec(alloc, vec![in alloc; content]?)
+}
+
+// A tree of one node with a content.
 fn one_node(alloc: Global, content: Doc) -> Result<Doc, AllocError>
     ensures { IfOk result (λ d. doc_tree d ≡ hold (TreeOf (0 ∷ [])) (more_docs (doc_tree content) no_docs)) }
 {
-    let depths = SharedList::from_vec(alloc, vec![in alloc; 0]?)?;
-    let shape = match TreeShape::from_depths(depths) {
-        Some(shape) => shape,
-        None => unreachable!(),
-    };
-    let items = Docs::from_vec(alloc, vec![in alloc; content]?)?;
-    Ok(Doc::Hold(Shape::Tree(shape), items))
+    let contents = content_alone(alloc, content)?;
+    Ok(Doc::Hold(Shape::Tree(root_alone(alloc)?), contents))
 }
