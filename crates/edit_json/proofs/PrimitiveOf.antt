@@ -60,8 +60,6 @@ pub hang_of : (d : Data) → leaf_of Hang d ≡ hang_by (two_items d)
 hang_of (array (item p (item q no_items))) = refl
 hang_of d = refl
 
-pub ruleset leaf_rules = (splice_of, move_of, rename_of, shift_of, hang_of)
-
 -- ---- primitives with an inner word
 
 abbrev pub at_by : Option (Data × Data) → Option PrimitiveTree
@@ -151,4 +149,16 @@ item_depth [] i v h = absurd (omega arith)
 item_depth (x ∷ vs) zero v h = omega arith
 item_depth (x ∷ vs) (suc i) v h = omega (arith, item_depth vs i v (omega arith))
 
-pub ruleset read_rules = (at_of, stay_of, switch_of, mod_of, primitive_tree-At, primitive_tree-Stay, primitive_tree-Switch, primitive_tree-Mod, primitive_of_member, word_of_array, only_member_depth, two_items_depth, three_items_depth, array_depth)
+-- ---- what each reader needs
+
+pub ruleset array_rules = (word_of_array, array_depth)
+
+pub ruleset primitive_rules = (primitive_of_member, only_member_depth)
+
+pub ruleset at_rules = (at_of, primitive_tree-At, two_items_depth)
+
+pub ruleset stay_rules = (stay_of, primitive_tree-Stay, two_items_depth)
+
+pub ruleset switch_rules = (switch_of, primitive_tree-Switch, three_items_depth)
+
+pub ruleset mod_rules = (mod_of, primitive_tree-Mod, two_items_depth)

@@ -31,7 +31,7 @@ pub(crate) fn read_add(content: &Value) -> Result<Primitive, EditFault>
     Ok(Primitive::Add(read_whole(content)?))
 }
 
-#[tactic(auto, using(crate::proofs::PrimitiveOf::leaf_rules))]
+#[tactic(auto, using(crate::proofs::PrimitiveOf::splice_of))]
 pub(crate) fn read_splice(alloc: Global, content: &Value) -> Result<Primitive, EditFault>
     ensures { Gives primitive_tree result (leaf_of kinds.Splice (view content.now)) }
 {
@@ -56,7 +56,7 @@ pub(crate) fn read_del(content: &Value) -> Result<Primitive, EditFault>
     Ok(Primitive::Shape(ShapeEdit::Del(read_item_count(content)?)))
 }
 
-#[tactic(auto, using(crate::proofs::PrimitiveOf::leaf_rules))]
+#[tactic(auto, using(crate::proofs::PrimitiveOf::move_of))]
 pub(crate) fn read_move(content: &Value) -> Result<Primitive, EditFault>
     ensures { Gives primitive_tree result (leaf_of kinds.Move (view content.now)) }
 {
@@ -87,7 +87,7 @@ pub(crate) fn read_drop(alloc: Global, content: &Value) -> Result<Primitive, Edi
     Ok(Primitive::Shape(ShapeEdit::DropKey(read_name(alloc, content)?)))
 }
 
-#[tactic(auto, using(crate::proofs::PrimitiveOf::leaf_rules))]
+#[tactic(auto, using(crate::proofs::PrimitiveOf::rename_of))]
 pub(crate) fn read_rename(alloc: Global, content: &Value) -> Result<Primitive, EditFault>
     ensures { Gives primitive_tree result (leaf_of kinds.Rename (view content.now)) }
 {
@@ -113,7 +113,7 @@ pub(crate) fn read_prune(alloc: Global, content: &Value) -> Result<Primitive, Ed
     Ok(Primitive::Shape(ShapeEdit::Prune(path)))
 }
 
-#[tactic(auto, using(crate::proofs::PrimitiveOf::leaf_rules))]
+#[tactic(auto, using(crate::proofs::PrimitiveOf::shift_of))]
 pub(crate) fn read_shift(alloc: Global, content: &Value) -> Result<Primitive, EditFault>
     ensures { Gives primitive_tree result (leaf_of kinds.Shift (view content.now)) }
 {
@@ -126,7 +126,7 @@ pub(crate) fn read_shift(alloc: Global, content: &Value) -> Result<Primitive, Ed
     Ok(Primitive::Shape(ShapeEdit::Shift(path, from, to)))
 }
 
-#[tactic(auto, using(crate::proofs::PrimitiveOf::leaf_rules))]
+#[tactic(auto, using(crate::proofs::PrimitiveOf::hang_of))]
 pub(crate) fn read_hang(alloc: Global, content: &Value) -> Result<Primitive, EditFault>
     ensures { Gives primitive_tree result (leaf_of kinds.Hang (view content.now)) }
 {

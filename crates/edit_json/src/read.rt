@@ -44,7 +44,7 @@ pub fn read_word(alloc: Global, tree: &Value) -> Result<Word, EditFault>
 }
 
 #[cycle(read)]
-#[tactic(auto, using(crate::proofs::PrimitiveOf::read_rules))]
+#[tactic(auto, using(crate::proofs::PrimitiveOf::array_rules))]
 fn read(alloc: Global, tree: &Value) -> Result<Word, EditFault>
     ensures { Gives word_tree result (word_of_tree (view tree.now)) }
 {
@@ -56,7 +56,6 @@ fn read(alloc: Global, tree: &Value) -> Result<Word, EditFault>
 
 // The word of an array's items.
 #[cycle(read)]
-#[tactic(auto, using(crate::proofs::PrimitiveOf::read_rules))]
 fn read_items(alloc: Global, items: &[Value]) -> Result<Word, EditFault>
     ensures { Gives word_tree result (word_of_items (items_view items.now)) }
 {
@@ -69,7 +68,7 @@ fn read_items(alloc: Global, items: &[Value]) -> Result<Word, EditFault>
 
 // The primitive of an object with exactly one member.
 #[cycle(read)]
-#[tactic(auto, using(crate::proofs::PrimitiveOf::read_rules))]
+#[tactic(auto, using(crate::proofs::PrimitiveOf::primitive_rules))]
 fn read_primitive(alloc: Global, tree: &Value) -> Result<Primitive, EditFault>
     ensures { Gives primitive_tree result (primitive_of (view tree.now)) }
 {
@@ -113,7 +112,7 @@ fn read_content(alloc: Global, kind: Kind, content: &Value) -> Result<Primitive,
 // ---- primitives with an inner word
 
 #[cycle(read)]
-#[tactic(auto, using(crate::proofs::PrimitiveOf::read_rules))]
+#[tactic(auto, using(crate::proofs::PrimitiveOf::at_rules))]
 fn read_at(alloc: Global, content: &Value) -> Result<Primitive, EditFault>
     ensures { Gives primitive_tree result (content_of kinds.At (view content.now)) }
 {
@@ -126,7 +125,7 @@ fn read_at(alloc: Global, content: &Value) -> Result<Primitive, EditFault>
 }
 
 #[cycle(read)]
-#[tactic(auto, using(crate::proofs::PrimitiveOf::read_rules))]
+#[tactic(auto, using(crate::proofs::PrimitiveOf::stay_rules))]
 fn read_stay(alloc: Global, content: &Value) -> Result<Primitive, EditFault>
     ensures { Gives primitive_tree result (content_of kinds.Stay (view content.now)) }
 {
@@ -139,7 +138,7 @@ fn read_stay(alloc: Global, content: &Value) -> Result<Primitive, EditFault>
 }
 
 #[cycle(read)]
-#[tactic(auto, using(crate::proofs::PrimitiveOf::read_rules))]
+#[tactic(auto, using(crate::proofs::PrimitiveOf::switch_rules))]
 fn read_switch(alloc: Global, content: &Value) -> Result<Primitive, EditFault>
     ensures { Gives primitive_tree result (content_of kinds.Switch (view content.now)) }
 {
@@ -153,7 +152,7 @@ fn read_switch(alloc: Global, content: &Value) -> Result<Primitive, EditFault>
 }
 
 #[cycle(read)]
-#[tactic(auto, using(crate::proofs::PrimitiveOf::read_rules))]
+#[tactic(auto, using(crate::proofs::PrimitiveOf::mod_rules))]
 fn read_mod(alloc: Global, content: &Value) -> Result<Primitive, EditFault>
     ensures { Gives primitive_tree result (content_of kinds.Mod (view content.now)) }
 {

@@ -211,18 +211,16 @@ fn write_numbers(alloc: Global, numbers: &[u64]) -> Result<Value, AllocError>
 fn write_one(alloc: Global, name: &str, content: Value) -> Result<Value, AllocError>
     ensures { IfOk result (λ tree. view tree ≡ one name.now (view content)) }
 {
+    let name = String::from_str(alloc, name)?;
     let mut members = Map::new(alloc);
-    members.insert(String::from_str(alloc, name)?, content)?;
+    members.insert(name, content)?;
     Ok(Value::Object(members))
 }
 
 fn write_two(alloc: Global, first: Value, second: Value) -> Result<Value, AllocError>
     ensures { IfOk result (λ tree. view tree ≡ two (view first) (view second)) }
 {
-    let mut items = Vec::new(alloc);
-    items.push(first)?;
-    items.push(second)?;
-    Ok(Value::Array(items))
+    Ok(Value::Array(vec![in alloc; first, second]?))
 }
 
 fn write_three(
@@ -233,9 +231,5 @@ fn write_three(
 ) -> Result<Value, AllocError>
     ensures { IfOk result (λ tree. view tree ≡ three (view first) (view second) (view third)) }
 {
-    let mut items = Vec::new(alloc);
-    items.push(first)?;
-    items.push(second)?;
-    items.push(third)?;
-    Ok(Value::Array(items))
+    Ok(Value::Array(vec![in alloc; first, second, third]?))
 }
