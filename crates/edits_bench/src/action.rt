@@ -16,9 +16,23 @@ pub fn applied(alloc: Global, book: &Book, words: &[Word], times: u64) -> anyhow
     if !book.ty.is_well_formed() || !book.doc.has_type(&book.ty) {
         bail!("the document has another type");
     }
+    applied_often(alloc, &book.ty, words, &book.doc, times)
+}
+
+// What the last of the words makes of the document, after all of them were applied to it `times` times.
+fn applied_often(
+    alloc: Global,
+    ty: &Ty,
+    words: &[Word],
+    doc: &Doc,
+    times: u64,
+) -> anyhow::Result<Doc>
+    requires well_formed { is_well_formed (ty_tree ty.now) ≡ true }
+    requires typed { has (ty_tree ty.now) (doc_tree doc.now) ≡ true }
+{
     let mut last = Doc::Unit;
     for _ in 0..times {
-        last = applied_once(alloc, &book.ty, words, &book.doc)?;
+        last = applied_once(alloc, ty, words, doc)?;
     }
     Ok(last)
 }
@@ -30,10 +44,17 @@ fn applied_once(alloc: Global, ty: &Ty, words: &[Word], doc: &Doc) -> anyhow::Re
 {
     let mut last = Doc::Unit;
     for word in words {
-        match act(alloc, ty, word, doc) {
-            Ok(after) => last = after,
-            Err(fault) => bail!("the word does not act: {fault:?}"),
-        }
+        last = word_applied(alloc, ty, word, doc)?;
     }
     Ok(last)
+}
+
+fn word_applied(alloc: Global, ty: &Ty, word: &Word, doc: &Doc) -> anyhow::Result<Doc>
+    requires well_formed { is_well_formed (ty_tree ty.now) ≡ true }
+    requires typed { has (ty_tree ty.now) (doc_tree doc.now) ≡ true }
+{
+    match act(alloc, ty, word, doc) {
+        Ok(after) => Ok(after),
+        Err(fault) => bail!("the word does not act: {fault:?}"),
+    }
 }

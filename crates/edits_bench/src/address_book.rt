@@ -26,17 +26,31 @@ pub enum Kind {
 impl Kind {
     /// So many records. The key of each is its number.
     pub fn book(self, alloc: Global, size: u64) -> anyhow::Result<Book> {
+        let doc = self.records(alloc, size)?;
+        let ty = self.ty(alloc)?;
+        Ok(Book { ty, doc })
+    }
+
+    // The type of so many records.
+    fn ty(self, alloc: Global) -> Result<Ty, AllocError> {
         let inner = Box::new(alloc, record_type(alloc)?)?;
-        let records = records(alloc, size)?;
         match self {
-            Kind::List => Ok(Book {
-                ty: Ty::List(inner),
-                doc: Doc::Hold(Shape::List(ListShape { count: size }), records),
-            }),
-            Kind::Keyed => Ok(Book {
-                ty: Ty::Keyed(inner),
-                doc: keyed(alloc, size, records)?,
-            }),
+            Kind::List => Ok(Ty::List(inner)),
+            Kind::Keyed => Ok(Ty::Keyed(inner)),
+        }
+    }
+
+    // The document of so many records.
+    fn records(self, alloc: Global, size: u64) -> anyhow::Result<Doc> {
+        let shape = self.shape(alloc, size)?;
+        Ok(Doc::Hold(shape, records(alloc, size)?))
+    }
+
+    // The shape of so many records.
+    fn shape(self, alloc: Global, size: u64) -> anyhow::Result<Shape> {
+        match self {
+            Kind::List => Ok(Shape::List(ListShape { count: size })),
+            Kind::Keyed => keyed_shape(alloc, size),
         }
     }
 }
@@ -64,12 +78,21 @@ const TEXTS: [&str; 3] = ["city", "name", "phone"];
 
 // The type of a record.
 fn record_type(alloc: Global) -> Result<Ty, AllocError> {
-    let mut fields = Vec::new(alloc);
-    fields.push((name(alloc, "born")?, Ty::Int(0)))?;
+    let mut fields = vec![in alloc; int_field(alloc, "born")?]?;
     for field in TEXTS {
-        fields.push((name(alloc, field)?, Ty::Text(Str::empty(alloc))))?;
+        fields.push(text_field(alloc, field)?)?;
     }
     Ok(Ty::Rec(Fields::from_vec(fields)))
+}
+
+// A field that is an int.
+fn int_field(alloc: Global, field: &str) -> Result<(Name, Ty), AllocError> {
+    Ok((name(alloc, field)?, Ty::Int(0)))
+}
+
+// A field that is a text.
+fn text_field(alloc: Global, field: &str) -> Result<(Name, Ty), AllocError> {
+    Ok((name(alloc, field)?, Ty::Text(Str::empty(alloc))))
 }
 
 // The records of the numbers below a size.
@@ -83,20 +106,24 @@ fn records(alloc: Global, size: u64) -> Result<Docs, AllocError> {
 
 // The record of a number.
 fn record(alloc: Global, number: u64) -> Result<Doc, AllocError> {
-    let mut contents = Vec::new(alloc);
-    contents.push(Doc::Int((number % 100) as i64))?;
+    let mut contents = vec![in alloc; Doc::Int((number % 100) as i64)]?;
     for field in TEXTS {
-        let text = format!(in alloc; "{field} {number}")?;
-        contents.push(Doc::Text(Str::from_string(text)))?;
+        contents.push(text_of(alloc, field, number)?)?;
     }
     Ok(Doc::Rec(Docs::from_vec(alloc, contents)?))
 }
 
-// A keyed map of records.
-fn keyed(alloc: Global, size: u64, records: Docs) -> anyhow::Result<Doc> {
+// A text of the record of a number.
+fn text_of(alloc: Global, field: &str, number: u64) -> Result<Doc, AllocError> {
+    let text = format!(in alloc; "{field} {number}")?;
+    Ok(Doc::Text(Str::from_string(text)))
+}
+
+// The shape of a keyed map of records.
+fn keyed_shape(alloc: Global, size: u64) -> anyhow::Result<Shape> {
     let names = SharedList::from_vec(alloc, keys(alloc, size)?)?;
     match KeyedShape::from_names(names) {
-        Some(keys) => Ok(Doc::Hold(Shape::Keyed(keys), records)),
+        Some(keys) => Ok(Shape::Keyed(keys)),
         None => bail!("there are too many keys"),
     }
 }

@@ -33,42 +33,64 @@ pub fn words_of(alloc: Global, kind: Kind, edit: Edit, size: u64) -> Result<Vec<
     for _ in 0..1000 {
         let from = next_seed(seed);
         seed = next_seed(from);
-        let primitive = primitive_of(alloc, kind, edit, below(from, size), below(seed, size))?;
-        words.push(word_of(alloc, primitive)?)?;
+        words.push(edit_of(alloc, kind, edit, below(from, size), below(seed, size))?)?;
     }
     Ok(words)
 }
 
 /// What a word of `count` inserts makes of the document, applied to it `times` times.
 pub fn inserted(alloc: Global, book: &Book, count: u64, times: u64) -> anyhow::Result<Doc> {
+    let words = vec![in alloc; inserts(alloc, count)?]?;
+    applied(alloc, book, &words, times)
+}
+
+// A word of `count` inserts.
+fn inserts(alloc: Global, count: u64) -> Result<Word, AllocError> {
     let mut inserts = Vec::new(alloc);
     for _ in 0..count {
         inserts.push(Prim::Shape(ShapeEdit::Ins(1)))?;
     }
-    let words = vec![in alloc; Word::from_vec(inserts)]?;
-    applied(alloc, book, &words, times)
+    Ok(Word::from_vec(inserts))
 }
 
-// An edit at a place, and to another one.
-fn primitive_of(
-    alloc: Global,
-    kind: Kind,
-    edit: Edit,
-    from: u64,
-    to: u64,
-) -> Result<Prim, AllocError> {
+// A word of an edit at a place, and to another one.
+fn edit_of(alloc: Global, kind: Kind, edit: Edit, from: u64, to: u64) -> Result<Word, AllocError> {
     match edit {
-        Edit::Mod => Ok(Prim::Mod(place_of(alloc, kind, from)?, name_changed(alloc)?)),
-        Edit::Ins => Ok(Prim::Shape(ShapeEdit::Ins(1))),
-        Edit::Del => Ok(Prim::Shape(ShapeEdit::Del(1))),
-        Edit::Move => Ok(Prim::Shape(ShapeEdit::MoveItem(from, to))),
-        Edit::Put => Ok(Prim::Shape(ShapeEdit::PutKey(new_key(alloc, to)?))),
-        Edit::Drop => Ok(Prim::Shape(ShapeEdit::DropKey(key(alloc, from)?))),
-        Edit::Rename => Ok(Prim::Shape(ShapeEdit::RenameKey(
-            key(alloc, from)?,
-            new_key(alloc, to)?,
-        ))),
+        Edit::Mod => modify(alloc, kind, from),
+        Edit::Ins => reshape(alloc, ShapeEdit::Ins(1)),
+        Edit::Del => reshape(alloc, ShapeEdit::Del(1)),
+        Edit::Move => reshape(alloc, ShapeEdit::MoveItem(from, to)),
+        Edit::Put => put_key(alloc, to),
+        Edit::Drop => drop_key(alloc, from),
+        Edit::Rename => rename_key(alloc, from, to),
     }
+}
+
+// A word that sets the name of the record of a number.
+fn modify(alloc: Global, kind: Kind, number: u64) -> Result<Word, AllocError> {
+    let place = place_of(alloc, kind, number)?;
+    word_of(alloc, Prim::Mod(place, name_changed(alloc)?))
+}
+
+// A word that adds the key behind the one of a number.
+fn put_key(alloc: Global, number: u64) -> Result<Word, AllocError> {
+    reshape(alloc, ShapeEdit::PutKey(new_key(alloc, number)?))
+}
+
+// A word that removes the key of a number.
+fn drop_key(alloc: Global, number: u64) -> Result<Word, AllocError> {
+    reshape(alloc, ShapeEdit::DropKey(key(alloc, number)?))
+}
+
+// A word that renames the key of a number to the one behind another's.
+fn rename_key(alloc: Global, from: u64, to: u64) -> Result<Word, AllocError> {
+    let old = key(alloc, from)?;
+    reshape(alloc, ShapeEdit::RenameKey(old, new_key(alloc, to)?))
+}
+
+// A word of one edit of a shape.
+fn reshape(alloc: Global, edit: ShapeEdit) -> Result<Word, AllocError> {
+    word_of(alloc, Prim::Shape(edit))
 }
 
 // The place of the record of a number.
