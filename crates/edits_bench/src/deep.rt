@@ -13,10 +13,7 @@ use std::alloc::{AllocError, Global};
 /// added there `times` times. The document, its copy and what the edit made of it are dropped.
 pub fn records_below(alloc: Global, book: Book, times: u64) -> anyhow::Result<usize> {
     let count = record_count(&book.doc);
-    let mut book = book;
-    for _ in 0..LISTS {
-        book = below_a_list(alloc, book)?;
-    }
+    let book = below_lists(alloc, book)?;
     edit_copied(alloc, &book, times)?;
     Ok(count)
 }
@@ -55,6 +52,15 @@ fn insert_below(alloc: Global) -> Result<Word, AllocError> {
         word = word_of(alloc, Prim::Mod(Place::Index(0), word))?;
     }
     Ok(word)
+}
+
+// The document below all lists.
+fn below_lists(alloc: Global, book: Book) -> Result<Book, AllocError> {
+    let mut book = book;
+    for _ in 0..LISTS {
+        book = below_a_list(alloc, book)?;
+    }
+    Ok(book)
 }
 
 // A list of 1,000 lists, of which the first is this one and all others are empty.

@@ -5,6 +5,7 @@ use crate::address_book::{Kind, record_count};
 use crate::deep::records_below;
 use crate::edits::{Edit, inserted, words_of};
 use crate::json::{read_back, written};
+use doc_values::Doc;
 use std::alloc::Global;
 
 /// What is done with a document.
@@ -65,7 +66,7 @@ fn records_edited(
 ) -> anyhow::Result<usize> {
     let book = kind.book(alloc, size)?;
     let words = words_of(alloc, kind, edit, size)?;
-    Ok(record_count(&applied(alloc, &book, &words, times)?))
+    records_of(applied(alloc, &book, &words, times))
 }
 
 fn records_written(alloc: Global, kind: Kind, size: u64, times: u64) -> anyhow::Result<usize> {
@@ -76,7 +77,7 @@ fn records_written(alloc: Global, kind: Kind, size: u64, times: u64) -> anyhow::
 
 fn records_read(alloc: Global, kind: Kind, size: u64, times: u64) -> anyhow::Result<usize> {
     let book = kind.book(alloc, size)?;
-    Ok(record_count(&read_back(alloc, book, times)?))
+    records_of(read_back(alloc, book, times))
 }
 
 fn records_below_lists(alloc: Global, size: u64, times: u64) -> anyhow::Result<usize> {
@@ -85,5 +86,10 @@ fn records_below_lists(alloc: Global, size: u64, times: u64) -> anyhow::Result<u
 
 fn records_inserted(alloc: Global, count: u64, times: u64) -> anyhow::Result<usize> {
     let empty = Kind::List.book(alloc, 0)?;
-    Ok(record_count(&inserted(alloc, &empty, count, times)?))
+    records_of(inserted(alloc, &empty, count, times))
+}
+
+// The number of records of what was made.
+fn records_of(made: anyhow::Result<Doc>) -> anyhow::Result<usize> {
+    Ok(record_count(&made?))
 }
