@@ -5,36 +5,52 @@ use program_terms::{Definitions, Lens, Pairs, Program, Row, Rows, TyExpr};
 use std::alloc::{AllocError, Global};
 use texts::{Name, Names, Str, Twin};
 
+// Values of many variants are let go by `drop`, in one call. At the end of a block they would be dropped variant by variant,
+// which takes long to prove.
+
 fn name(alloc: Global, text: &str) -> Result<Name, AllocError> {
     Ok(Name::from_string(String::from_str(alloc, text)?))
 }
 
 // {a ~ b: id int, left c: text}, or with a second row `left a: text`.
 fn record(alloc: Global, alone: &str) -> Result<Program, AllocError> {
-    let paired = Row::Both(
-        name(alloc, "a")?,
-        name(alloc, "b")?,
-        Lens::Id(TyExpr::Int(0)),
-    );
-    let left = Row::OnlyLeft(name(alloc, alone)?, TyExpr::Text(Str::empty(alloc)));
-    let rows = Rows::from_vec(vec![in alloc; paired, left]?);
-    Ok(Program::from_parts(Definitions::new(alloc), Lens::Rec(rows)))
+    let mut rows = Vec::new(alloc);
+    rows.push(paired(alloc)?)?;
+    rows.push(on_left(alloc, alone)?)?;
+    let lens = Lens::Rec(Rows::from_vec(rows));
+    Ok(Program::from_parts(Definitions::new(alloc), lens))
+}
+
+// a ~ b: id int
+fn paired(alloc: Global) -> Result<Row, AllocError> {
+    let left = name(alloc, "a")?;
+    let right = name(alloc, "b")?;
+    Ok(Row::Both(left, right, Lens::Id(TyExpr::Int(0))))
+}
+
+// left c: text, or of another name
+fn on_left(alloc: Global, field: &str) -> Result<Row, AllocError> {
+    let field = name(alloc, field)?;
+    Ok(Row::OnlyLeft(field, TyExpr::Text(Str::empty(alloc))))
+}
+
+// A copy of a value, which is dropped.
+fn copy_of<T: Twin + Drop>(alloc: Global, value: T) -> Result<T, AllocError> {
+    value.twin(alloc)
 }
 
 // A copy of what the checker makes of a program that it accepts.
-fn accepted_copy(alloc: Global, program: &Program) -> Option<Typed> {
-    match check(alloc, program) {
-        Ok(typed) => typed.twin(alloc).ok(),
-        Err(_) => None,
-    }
+fn accepted_copy(alloc: Global, program: Program) -> Option<Typed> {
+    let checked = check(alloc, &program);
+    drop(program);
+    copy_of(alloc, checked.ok()?).ok()
 }
 
 // A copy of the fault of a program that the checker refuses.
-fn refused_copy(alloc: Global, program: &Program) -> Option<TypeFault> {
-    match check(alloc, program) {
-        Ok(_) => None,
-        Err(fault) => fault.twin(alloc).ok(),
-    }
+fn refused_copy(alloc: Global, program: Program) -> Option<TypeFault> {
+    let checked = check(alloc, &program);
+    drop(program);
+    copy_of(alloc, checked.err()?).ok()
 }
 
 // How many fields a record has.
@@ -57,14 +73,15 @@ fn field_counts(typed: &Typed) -> Option<(usize, usize)> {
 fn accepted(rt: HostRuntime) {
     let alloc = rt.alloc();
     let program = record(alloc, "c").expect(&rt, "memory");
-    let typed = accepted_copy(alloc, &program).expect(&rt, "accepted");
+    let typed = accepted_copy(alloc, program).expect(&rt, "accepted");
     assert_eq!(rt; field_counts(&typed), Some((2, 1)));
+    drop(typed);
 }
 
 // The name of a field that is there twice.
-fn repeated_field(fault: TypeFault) -> Option<Name> {
+fn repeated_field(fault: &TypeFault) -> Option<&str> {
     match fault {
-        TypeFault::RepeatedField { name } => Some(name),
+        TypeFault::RepeatedField { name } => Some(name.as_str()),
         _ => None,
     }
 }
@@ -73,9 +90,10 @@ fn repeated_field(fault: TypeFault) -> Option<Name> {
 fn refused(rt: HostRuntime) {
     let alloc = rt.alloc();
     let program = record(alloc, "a").expect(&rt, "memory");
-    let fault = refused_copy(alloc, &program).expect(&rt, "refused");
-    let name = repeated_field(fault).expect(&rt, "a repeated field");
-    assert_eq!(rt; name.as_str(), "a");
+    let fault = refused_copy(alloc, program).expect(&rt, "refused");
+    let name = repeated_field(&fault).expect(&rt, "a repeated field");
+    assert_eq!(rt; name, "a");
+    drop(fault);
 }
 
 // bij["a"="b", "c"="d"] = VALUE
@@ -104,8 +122,9 @@ fn starts_at(typed: &Typed, left: &str, right: &str) -> bool {
 fn initial_values(rt: HostRuntime) {
     let alloc = rt.alloc();
     let program = bijection(alloc, "c").expect(&rt, "memory");
-    let typed = accepted_copy(alloc, &program).expect(&rt, "accepted");
+    let typed = accepted_copy(alloc, program).expect(&rt, "accepted");
     assert!(rt; starts_at(&typed, "c", "d"));
+    drop(typed);
 }
 
 // id enum["a"] = "b"
@@ -116,9 +135,9 @@ fn stranger(alloc: Global) -> Result<Program, AllocError> {
 }
 
 // The name of a value that is not a member.
-fn no_member(fault: TypeFault) -> Option<Name> {
+fn no_member(fault: &TypeFault) -> Option<&str> {
     match fault {
-        TypeFault::NotAMember { name } => Some(name),
+        TypeFault::NotAMember { name } => Some(name.as_str()),
         _ => None,
     }
 }
@@ -127,36 +146,56 @@ fn no_member(fault: TypeFault) -> Option<Name> {
 fn not_members(rt: HostRuntime) {
     let alloc = rt.alloc();
     let program = stranger(alloc).expect(&rt, "memory");
-    let fault = refused_copy(alloc, &program).expect(&rt, "refused");
-    let value = no_member(fault).expect(&rt, "not a member");
-    assert_eq!(rt; value.as_str(), "b");
+    let fault = refused_copy(alloc, program).expect(&rt, "refused");
+    let value = no_member(&fault).expect(&rt, "not a member");
+    assert_eq!(rt; value, "b");
+    drop(fault);
 }
 
 #[test]
 fn not_left_members(rt: HostRuntime) {
     let alloc = rt.alloc();
     let program = bijection(alloc, "d").expect(&rt, "memory");
-    let fault = refused_copy(alloc, &program).expect(&rt, "refused");
-    let value = no_member(fault).expect(&rt, "not a member");
-    assert_eq!(rt; value.as_str(), "d");
+    let fault = refused_copy(alloc, program).expect(&rt, "refused");
+    let value = no_member(&fault).expect(&rt, "not a member");
+    assert_eq!(rt; value, "d");
+    drop(fault);
 }
 
 // A form of each list, copied.
 fn copied(alloc: Global) -> Result<Form, AllocError> {
-    let row = FormRow::Both(name(alloc, "a")?, name(alloc, "b")?, Form::Id(Ty::Int(0)));
-    let rows = FormRows::from_vec(vec![in alloc; row.twin(alloc)?]?);
-    let inner = Form::Rec(rows.twin(alloc)?);
-    let arm = (name(alloc, "p")?, name(alloc, "q")?, inner);
-    Form::Alt(FormArms::from_vec(vec![in alloc; arm]?).twin(alloc)?).twin(alloc)
+    let arms = FormArms::from_vec(vec![in alloc; arm(alloc)?]?);
+    copy_of(alloc, Form::Alt(copy_of(alloc, arms)?))
+}
+
+// p ~ q: {a ~ b: id int}, of copies.
+fn arm(alloc: Global) -> Result<(Name, Name, Form), AllocError> {
+    let left = name(alloc, "p")?;
+    let right = name(alloc, "q")?;
+    let rows = FormRows::from_vec(vec![in alloc; copy_of(alloc, row(alloc)?)?]?);
+    Ok((left, right, Form::Rec(copy_of(alloc, rows)?)))
+}
+
+// a ~ b: id int
+fn row(alloc: Global) -> Result<FormRow, AllocError> {
+    let left = name(alloc, "a")?;
+    let right = name(alloc, "b")?;
+    Ok(FormRow::Both(left, right, Form::Id(Ty::Int(0))))
+}
+
+// The arms of alternatives.
+fn arms_of(form: &Form) -> Option<&FormArms> {
+    match form {
+        Form::Alt(arms) => Some(arms),
+        _ => None,
+    }
 }
 
 #[test]
 fn copies(rt: HostRuntime) {
-    let alloc = rt.alloc();
-    let Form::Alt(arms) = copied(alloc).expect(&rt, "memory") else {
-        panic!(&rt; "another form");
-    };
-    let arms = arms.as_slice();
+    let form = copied(rt.alloc()).expect(&rt, "memory");
+    let arms = arms_of(&form).expect(&rt, "another form").as_slice();
     assert_eq!(rt; arms.len(), 1);
     assert_eq!(rt; arms[0].1.as_str(), "q");
+    drop(form);
 }
