@@ -1,6 +1,6 @@
 -- From the tests and the image to consistency.
-use Rattle.std.proofs.Common.{◌≡◌, Bool, true, false, ◌&&◌, Option, None, Some, sym, ◌∙◌, subst}
-use Rattle.std.specs.Prelude.{◌↔◌, IsTrue}
+use Rattle.std.proofs.Common.{◌≡◌, Bool, true, false, ◌&&◌, Option, None, Some, option_map, sym, ◌∙◌, subst}
+use Rattle.std.specs.Prelude.{◌↔◌, IsTrue, MatchOption}
 use Rattle.texts.proofs.Conjunction.{first, second, both}
 use Rattle.texts.specs.declared.side.Side.{Side}
 use Rattle.texts.specs.declared.side.Side.TheVariants.{Left}
@@ -11,8 +11,9 @@ use Rattle.lens_forms.specs.Typing.{is_typed}
 use Rattle.lens_core.specs.Sides.{type_on}
 use Rattle.lens_core.specs.Complements.{CompTree, Fits}
 use Rattle.lens_core.specs.Consistency.{IsConsistent}
-use Rattle.image_laws.specs.Patterns.{PatternTree, Matches, is_of_type, pattern_of}
+use Rattle.image_laws.specs.Patterns.{PatternTree, Matches, is_of_type, pattern_of, pattern_tree}
 use Rattle.image_laws.specs.Image.{image}
+use Rattle.image_laws.specs.declared.pattern.Pattern.{Pattern}
 use Rattle.image_laws.specs.ImageLaws.{IsExactImage}
 use Rattle.image_laws.proofs.ExactImages.{decides_consistency, images_are_exact}
 use Rattle.image_laws.proofs.TypedPatterns.{match_self, pattern_typed}
@@ -56,9 +57,15 @@ in_image b l x c y q t a e m = (
       m.1 (subst (λ p. Matches p y) (same_some i.2 q (sym i.3 ∙ e)) i.4.1)),
 )
 
+-- both cases, as a call of `image` gives them
+pub judged_by_image : (b : Bool) (l : FormTree) (x : DocTree) (c : CompTree) (y : DocTree) (o : Option Pattern) → is_typed l ≡ true → AreTyped l x c y
+    → option_map pattern_tree o ≡ image l Left c (pattern_of x) → MatchOption o (b ≡ false) (λ p. IsTrue b ↔ Matches (pattern_tree p) y) → IsTrue b ↔ IsConsistent l x c y
+judged_by_image b l x c y None t a e m = rw m (no_image l x c y t (sym e))
+judged_by_image b l x c y (Some p) t a e m = in_image b l x c y (pattern_tree p) t a (sym e) m
+
 -- the image is exact
 pub exact_image : (l : FormTree) (s : Side) (c : CompTree) (p : PatternTree) (o : Option PatternTree) → is_typed l ≡ true → Fits l c → is_of_type p (type_on s l) ≡ true
     → o ≡ image l s c p → IsExactImage l s c p o
 exact_image l s c p o t f h e = subst (λ z. IsExactImage l s c p z) (sym e) (images_are_exact l t s c p f h)
 
-pub ruleset decision_rules = (not_typed, whole_typed, no_image, in_image, exact_image)
+pub ruleset decision_rules = (not_typed, whole_typed, exact_image)

@@ -24,13 +24,13 @@ use Rattle.image_laws.specs.Image.{image, image_arm, arm_pattern, image_held, im
 use Rattle.image_laws.specs.PartImage.{content_pattern}
 use Rattle.image_laws.specs.Patterns.{PatternTree, hole, unit_pattern, truth_pattern, int_pattern, text_pattern, pick_pattern, rec_pattern, alt_pattern, hold_pattern, patterns_from, pattern_tree, patterns_tree}
 use Rattle.image_laws.specs.declared.pattern.Pattern.{Pattern, the_lemmas as pattern_lemmas}
-use Rattle.image_laws.specs.declared.pattern.Pattern.TheVariants.{Hole, Rec as RecPattern, Hold as HoldPattern}
+use Rattle.image_laws.specs.declared.pattern.Pattern.TheVariants.{Hole, Rec as RecPattern}
 use Rattle.image_laws.specs.declared.pattern.Patterns.{Patterns}
 use Rattle.lens_check.specs.ImageParts.{first_arm, has_shape, place_pattern, place_among, if_far}
 use Rattle.lens_check.specs.ReadyComplements.{IsReady, AreReadyPlaces, AreReadyRows, IsReadyArm, Chosen}
 use Rattle.lens_check.proofs.FarFields.{some_is, near_among, placed, still_placed, comps_from, placed_end, placed_start, record_is, ready_both, ready_left, ready_right, placed_both, placed_none, placed_short, placed_left, placed_right}
 use Rattle.lens_check.proofs.FieldPlaces.{fields_on-has, fields_on-rising, place_within}
-use Rattle.lens_check.proofs.HeldPatterns.{held_pattern, image_list, places_of, places-length, still_imaged, imaged_next, imaged_none, imaged_start, imaged_end, held_is, held_none, has_place, place_is, ready_at}
+use Rattle.lens_check.proofs.HeldPatterns.{image_list, places_of, places-length, still_imaged, imaged_next, imaged_none, imaged_start, imaged_end, held_is, held_none, has_place, place_is, ready_at}
 
 -- ---- forms that map another over a container, and patterns as trees
 
@@ -314,13 +314,6 @@ held_stopped inner e s cs p i made c q is h low at near none inv =
     held_failed inner e s cs p i made is h inv
     (imaged_none inner (comp_list cs) (places_of (comp_count cs) p) i made (omega (arith, comp_count-length cs)) (omega (arith, places-length s (comp_count cs) p h))
     (subst (λ z. inner z (get_or (places_of (comp_count cs) p) i hole) ≡ None) at (subst (λ z. inner c z ≡ None) (near ∙ place_is s (comp_count cs) p i h) none)))
-
-pub held_made : (inner : CompTree → PatternTree → Option PatternTree) (e : CompTree) (s : Shape) (cs : CompTrees) (p : PatternTree) (i : ℕ) (made : List Pattern) (r : Shape) (ps : Patterns)
-    → e ≡ hold_comp s cs → has_shape s (comp_count cs) p ≡ true → comp_count cs ≤ i → r ≡ s → patterns_tree ps ≡ patterns_from (map pattern_tree made)
-    → still_imaged inner (comp_list cs) (places_of (comp_count cs) p) i made ≡ image_list inner (comp_list cs) (places_of (comp_count cs) p)
-    → Some (pattern_tree (HoldPattern r ps)) ≡ image_held inner e p
-held_made inner e s cs p i made r ps is h end same list inv =
-    ap Some (held_pattern r ps ∙ ap (λ z. hold_pattern z (patterns_tree ps)) same ∙ ap (hold_pattern s) list) ∙ held_done inner e s cs p i made is h end inv
 
 -- ---- what each function of the code uses
 

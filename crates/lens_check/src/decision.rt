@@ -1,13 +1,13 @@
 //! Deciding consistency, by the image of the left document.
 
-ghost use Rattle.std.specs.Prelude.{◌≡◌, ◌↔◌, IsTrue, IfOk, option_map};
+ghost use Rattle.std.specs.Prelude.{◌≡◌, ◌↔◌, false, IsTrue, IfOk, MatchOption, option_map};
 ghost use Rattle.texts.specs.declared.side.Side.TheVariants.{Left};
 ghost use Rattle.doc_values.specs.Documents.{doc_tree};
 ghost use Rattle.lens_forms.specs.Forms.{form_tree};
 ghost use Rattle.lens_core.specs.Sides.{type_on};
 ghost use Rattle.lens_core.specs.Complements.{comp_tree, Fits};
 ghost use Rattle.lens_core.specs.Consistency.{IsConsistent};
-ghost use Rattle.image_laws.specs.Patterns.{pattern_tree, is_of_type};
+ghost use Rattle.image_laws.specs.Patterns.{pattern_tree, Matches, is_of_type};
 ghost use Rattle.image_laws.specs.Image.{image};
 ghost use Rattle.image_laws.specs.ImageLaws.{IsExactImage};
 ghost use Rattle.lens_check.specs.TypedTriples.{AreTyped};
@@ -71,9 +71,17 @@ fn is_reached(
         ↔ IsConsistent (form_tree typed.now) (doc_tree left.now) (comp_tree comp.now) (doc_tree right.now)) }
 {
     let pattern = pattern_of(alloc, left)?;
-    match image_of_form(alloc, typed.form(), Side::Left, comp, &pattern)? {
-        Some(reached) => Ok(matches(&reached, right)),
-        None => Ok(false),
+    let reached = image_of_form(alloc, typed.form(), Side::Left, comp, &pattern)?;
+    Ok(is_in(reached, right))
+}
+
+// Whether the document is in an image, where there is one.
+fn is_in(image: Option<Pattern>, document: &Doc) -> bool
+    ensures { MatchOption image (result ≡ false) (λ p. IsTrue result ↔ Matches (pattern_tree p) (doc_tree document.now)) }
+{
+    match image {
+        Some(pattern) => matches(&pattern, document),
+        None => false,
     }
 }
 

@@ -7,6 +7,7 @@ ghost use Rattle.image_laws.specs.PartImage.{content_pattern};
 ghost use Rattle.image_laws.specs.Patterns.{pattern_tree, alt_pattern};
 ghost use Rattle.lens_check.specs.ImageParts.{first_arm};
 
+use crate::owned::boxed;
 use image_laws::Pattern;
 use lens_forms::{Form, FormArms};
 use std::alloc::{AllocError, Global};
@@ -47,6 +48,7 @@ pub(crate) fn content_pattern<'a>(pattern: &'a Pattern, tag: &Name) -> Option<&'
 pub(crate) fn tagged(alloc: Global, tag: &Name, content: Pattern) -> Result<Pattern, AllocError>
     ensures { IfOk result (λ p. pattern_tree p ≡ alt_pattern tag.now (pattern_tree content)) }
 {
+    let content = boxed(alloc, content)?;
     let tag = tag.twin(alloc)?;
-    Ok(Pattern::Alt(tag, Box::new(alloc, content)?))
+    Ok(Pattern::Alt(tag, content))
 }

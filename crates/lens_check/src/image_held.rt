@@ -1,11 +1,13 @@
 //! The places of a container's pattern.
 
-ghost use Rattle.std.specs.Prelude.{◌≡◌};
-ghost use Rattle.image_laws.specs.Patterns.{pattern_tree};
+ghost use Rattle.std.specs.Prelude.{◌≡◌, IfOk};
+ghost use Rattle.image_laws.specs.Patterns.{pattern_tree, patterns_tree, hold_pattern};
 ghost use Rattle.lens_check.specs.ImageParts.{has_shape, HasPlace, place_pattern};
 
 use hold_shapes::Shape;
-use image_laws::Pattern;
+use image_laws::{Pattern, Patterns};
+use std::alloc::{AllocError, Global};
+use texts::Twin;
 
 // Whether a container of a shape, with this many places, is in the pattern.
 #[tactic(auto, using(crate::proofs::HeldPatterns::shape_rules))]
@@ -28,4 +30,12 @@ pub(crate) fn place_pattern(pattern: &Pattern, place: usize) -> &Pattern
         Pattern::Hold(_, patterns) => patterns.get(place),
         _ => pattern,
     }
+}
+
+// A container of a shape, with these patterns of its contents. Fails only if memory runs out.
+pub(crate) fn held(alloc: Global, shape: &Shape, contents: Patterns) -> Result<Pattern, AllocError>
+    ensures { IfOk result (λ p. pattern_tree p ≡ hold_pattern shape.now (patterns_tree contents)) }
+{
+    let shape = shape.twin(alloc)?;
+    Ok(Pattern::Hold(shape, contents))
 }

@@ -10,6 +10,7 @@ ghost use Rattle.image_laws.specs.PartImage.{content_pattern, content_patterns};
 ghost use Rattle.lens_check.specs.PartLists.{trees_in, trees_of, with_content, lists_by_tag, list_at_tag, list_of};
 
 use crate::image_part_tags::{field_names, tag_at};
+use crate::owned::push;
 use doc_values::Fields;
 use hold_shapes::{ListShape, Shape};
 use image_laws::{Pattern, Patterns};
@@ -68,7 +69,7 @@ fn empty_lists(alloc: Global, count: usize) -> Result<Vec<Vec<Pattern>>, AllocEr
 {
     let mut lists = Vec::new(alloc);
     for _ in 0..count {
-        lists.push(Vec::new(alloc))?;
+        push(&mut lists, Vec::new(alloc))?;
     }
     Ok(lists)
 }
@@ -82,15 +83,7 @@ fn push_content(
     requires { tag < length lists.old.items }
     ensures { OnOk result (map trees_in lists.new.items ≡ with_content tag (pattern_tree content) (map trees_in lists.old.items)) }
 {
-    push_to(&mut lists[tag], content)?;
-    Ok(())
-}
-
-// The content comes to the end of a list.
-fn push_to(list: &mut Vec<Pattern>, content: Pattern) -> Result<(), AllocError>
-    ensures { OnOk result (list.new.items ≡ list.old.items ++ content ∷ []) }
-{
-    list.push(content)?;
+    push(&mut lists[tag], content)?;
     Ok(())
 }
 
@@ -108,7 +101,7 @@ pub(crate) fn record_of_lists(
     let names = field_names(alloc, tags)?;
     let mut contents = Vec::new(alloc);
     for name in &names {
-        contents.push(list_at_tag(alloc, tags, &shared, name)?)?;
+        push(&mut contents, list_at_tag(alloc, tags, &shared, name)?)?;
     }
     Ok(Pattern::Rec(Patterns::from_vec(alloc, contents)?))
 }
@@ -119,7 +112,7 @@ fn shared_lists(alloc: Global, lists: Vec<Vec<Pattern>>) -> Result<Vec<Patterns>
 {
     let mut shared = Vec::new(alloc);
     for list in lists {
-        shared.push(shared_list(alloc, list)?)?;
+        push(&mut shared, shared_list(alloc, list)?)?;
     }
     Ok(shared)
 }

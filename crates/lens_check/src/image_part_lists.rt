@@ -5,6 +5,7 @@ ghost use Rattle.doc_values.specs.Typing.{is_list_of};
 ghost use Rattle.image_laws.specs.Patterns.{pattern_tree, patterns_tree, patterns_from};
 ghost use Rattle.image_laws.specs.PartImage.{holes, list_pattern, patterns_in_list};
 
+use crate::owned::push;
 use hold_shapes::{ListShape, Shape};
 use image_laws::{Pattern, Patterns};
 use std::alloc::{AllocError, Global};
@@ -17,7 +18,7 @@ pub(crate) fn holes(alloc: Global, count: u64) -> Result<Patterns, AllocError>
 {
     let mut items = Vec::new(alloc);
     for _ in 0..count {
-        items.push(Pattern::Hole)?;
+        push(&mut items, Pattern::Hole)?;
     }
     Patterns::from_vec(alloc, items)
 }

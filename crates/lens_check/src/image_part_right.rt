@@ -12,6 +12,7 @@ ghost use Rattle.lens_check.specs.PartLists.{trees_of, list_of, field_pattern, t
 
 use crate::image_part_lists::{holes, list_of, patterns_in_list};
 use crate::image_part_tags::{counts, field_names, place_of, rank, tag_at};
+use crate::owned::{boxed, push};
 use doc_values::{Fields, Ty};
 use image_laws::{Pattern, Patterns};
 use std::alloc::{AllocError, Global};
@@ -43,7 +44,7 @@ pub(crate) fn tag_lists(
         else {
             return Ok(None);
         };
-        lists.push(list)?;
+        push(&mut lists, list)?;
     }
     Ok(Some(lists))
 }
@@ -84,7 +85,7 @@ pub(crate) fn items(
     let fields = tags.as_slice();
     let mut items = Vec::new(alloc);
     for place in 0..seq.len() {
-        items.push(item_at(alloc, fields, seq, lists, place)?)?;
+        push(&mut items, item_at(alloc, fields, seq, lists, place)?)?;
     }
     list_of(alloc, items)
 }
@@ -107,9 +108,9 @@ fn item_at(
     let tag = tag_at(seq, place);
     let number = tag as usize;
     let occurrence = rank(seq, tag, place) as usize;
-    let content = pattern_at(alloc, &lists[number], occurrence)?;
+    let content = boxed(alloc, pattern_at(alloc, &lists[number], occurrence)?)?;
     let name = fields[number].0.twin(alloc)?;
-    Ok(Pattern::Alt(name, Box::new(alloc, content)?))
+    Ok(Pattern::Alt(name, content))
 }
 
 // A copy of the pattern at a place. A place behind the last one has a hole.

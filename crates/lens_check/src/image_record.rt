@@ -10,6 +10,7 @@ ghost use Rattle.image_laws.specs.Image.{patterns_by_name};
 ghost use Rattle.image_laws.specs.Patterns.{pattern_tree, hole};
 ghost use Rattle.lens_check.specs.ImageParts.{field_pattern, has_field_before, if_far, place_among, names_in, patterns_in};
 
+use crate::owned::put_at;
 use image_laws::Pattern;
 use lens_forms::{FormRow, FormRows};
 use std::alloc::{AllocError, Global};
@@ -47,9 +48,8 @@ impl SortedFields {
         ensures patterns { OnOk result (patterns_in self.new ≡ insert (patterns_in self.old) (place_among name.now (names_in self.old)) (pattern_tree pattern)) }
     {
         let place = place_among(&self.names, name);
-        self.names.insert(place, name.twin(alloc)?)?;
-        self.patterns.insert(place, pattern)?;
-        Ok(())
+        put_at(&mut self.patterns, place, pattern)?;
+        put_at(&mut self.names, place, name.twin(alloc)?)
     }
 
     // Puts a field that a row has on one side alone, with a hole, where that is not the side of the pattern. Fails only

@@ -12,9 +12,10 @@ ghost use Rattle.image_laws.specs.Patterns.{pattern_tree};
 ghost use Rattle.lens_check.specs.ReadyComplements.{IsReady, AreReadyPlaces};
 
 use crate::image_arm::{content_pattern, find_arm, tagged};
-use crate::image_held::{has_shape, place_pattern};
+use crate::image_held::{has_shape, held, place_pattern};
 use crate::image_leaf::{far, near, part_image, partner_pattern};
 use crate::image_record::{SortedFields, near_pattern};
+use crate::owned::push;
 use image_laws::{Pattern, Patterns};
 use lens_core::Comp;
 use lens_forms::{Form, FormArms, FormRow, FormRows};
@@ -240,11 +241,10 @@ fn image_held(
     for place in 0..comps.len() {
         let near = place_pattern(pattern, place);
         match image_of(alloc, inner, side, comps.get(place), near)? {
-            Some(image) => images.push(image)?,
+            Some(image) => push(&mut images, image)?,
             None => return Ok(None),
         }
     }
-    let shape = shape.twin(alloc)?;
     let images = Patterns::from_vec(alloc, images)?;
-    Ok(Some(Pattern::Hold(shape, images)))
+    Ok(Some(held(alloc, shape, images)?))
 }

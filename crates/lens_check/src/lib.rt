@@ -19,6 +19,7 @@ mod image_part_tags;
 mod image_record;
 mod images;
 mod membership;
+mod owned;
 mod whole;
 
 pub use crate::decision::{consistent, image};

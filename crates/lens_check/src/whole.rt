@@ -6,6 +6,9 @@ ghost use Rattle.doc_values.specs.Types.{TyTree};
 ghost use Rattle.doc_values.specs.Typing.{has};
 ghost use Rattle.image_laws.specs.Patterns.{Matches, is_of_type, pattern_tree, patterns_tree, pattern_of, patterns_of};
 
+use crate::image_arm::tagged;
+use crate::image_held::held;
+use crate::owned::push;
 use doc_values::{Doc, Docs};
 use image_laws::{Pattern, Patterns};
 use std::alloc::{AllocError, Global};
@@ -39,11 +42,8 @@ fn whole(alloc: Global, document: &Doc) -> Result<Pattern, AllocError>
         Doc::Text(text) => Ok(Pattern::Text(text.twin(alloc)?)),
         Doc::Pick(name) => Ok(Pattern::Pick(name.twin(alloc)?)),
         Doc::Rec(docs) => Ok(Pattern::Rec(whole_each(alloc, docs)?)),
-        Doc::Alt(tag, content) => Ok(Pattern::Alt(
-            tag.twin(alloc)?,
-            Box::new(alloc, whole(alloc, content)?)?,
-        )),
-        Doc::Hold(shape, docs) => Ok(Pattern::Hold(shape.twin(alloc)?, whole_each(alloc, docs)?)),
+        Doc::Alt(tag, content) => tagged(alloc, tag, whole(alloc, content)?),
+        Doc::Hold(shape, docs) => held(alloc, shape, whole_each(alloc, docs)?),
     }
 }
 
@@ -54,7 +54,7 @@ fn whole_each(alloc: Global, docs: &Docs) -> Result<Patterns, AllocError>
     let count = docs.len();
     let mut items = Vec::with_capacity(alloc, count)?;
     for i in 0..count {
-        items.push(whole(alloc, docs.get(i))?)?;
+        push(&mut items, whole(alloc, docs.get(i))?)?;
     }
     Patterns::from_vec(alloc, items)
 }

@@ -14,9 +14,9 @@ pub loop-name-preserved : goal.loop-name-preserved
 loop-name-preserved c =
     let tree = fields_tree c.args.tags.now in
     fields_kept (list_at_tag tree (map trees_of c.in_ok-shared.shared.items)) c.deref-name-items.result.now c.loop-name.name-index c.name-item.result
-    c.loop-name.contents.items c.push.new.self.items c.in_ok-list_at_tag.field-0 c.loop-name-test.true c.name-item.is
+    c.loop-name.contents.items c.push.new.list.items c.in_ok-list_at_tag.field-0 c.loop-name-test.true c.name-item.is
     (c.in_ok-list_at_tag.ensures ∙ ap (λ z. list_at_tag tree (map trees_of z) c.name-item.result) c.deref.ensures.value)
-    c.in_ok-push.ensures.items c.loop-name.invariant
+    c.in_ok-push.ensures c.loop-name.invariant
 
 pub returns : goal.returns
 returns c =

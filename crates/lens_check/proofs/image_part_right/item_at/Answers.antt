@@ -8,10 +8,10 @@ use Rattle.lens_check.proofs.image_part_right.item_at.Goals as goal
 pub returns : goal.returns
 returns c =
     let low : c.tag_at-tag.result < length c.args.fields.now = omega (arith, c.tag_at-tag.ensures, below_at (length c.args.fields.now) c.args.seq.now c.args.place c.requires.fit c.requires.within) in
-    let made : pattern_tree (Alt c.in_ok-name.name c.in_ok-new.field-0) ≡ alt_pattern c.in_ok-name.name (pattern_tree c.in_ok-new.field-0.value) = search (rules, pattern_lemmas) in
-    let boxed : pattern_tree c.in_ok-new.field-0.value ≡ pattern_tree c.in_ok-content.content = ap pattern_tree c.in_ok-new.ensures.ok in
+    let made : pattern_tree (Alt c.in_ok-name.name c.in_ok-content.content) ≡ alt_pattern c.in_ok-name.name (pattern_tree c.in_ok-content.content.value) = search (rules, pattern_lemmas) in
+    let boxed : pattern_tree c.in_ok-content.content.value ≡ pattern_tree c.in_ok-pattern_at.field-0 = ap pattern_tree c.in_ok-content.ensures in
     made
     ∙ (ap (alt_pattern c.in_ok-name.name) boxed
     ∙ item_made c.args.fields.now c.args.seq.now c.args.lists.now c.args.place c.tag_at-tag.result c.rank-occurrence.result c.index-fields-number.result c.index-lists-number.result
-    c.in_ok-name.name (pattern_tree c.in_ok-content.content)
-    c.tag_at-tag.ensures c.rank-occurrence.ensures low (omega (arith, low, c.requires.long)) c.index-fields-number.is c.index-lists-number.is c.in_ok-name.ensures c.in_ok-content.ensures)
+    c.in_ok-name.name (pattern_tree c.in_ok-pattern_at.field-0)
+    c.tag_at-tag.ensures c.rank-occurrence.ensures low (omega (arith, low, c.requires.long)) c.index-fields-number.is c.index-lists-number.is c.in_ok-name.ensures c.in_ok-pattern_at.ensures)

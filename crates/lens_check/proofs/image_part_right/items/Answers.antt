@@ -17,6 +17,6 @@ item_at-requires-clause-long c = c.requires.long ∙ sym (count_is c.as_slice-fi
 
 pub loop-place-preserved : goal.loop-place-preserved
 loop-place-preserved c =
-    items_kept (item_at (fields_tree c.args.tags.now) c.args.seq.now (map patterns_tree c.args.lists.now)) c.loop-place.place c.loop-place.items.items c.push.new.self.items c.in_ok-item_at.field-0
+    items_kept (item_at (fields_tree c.args.tags.now) c.args.seq.now (map patterns_tree c.args.lists.now)) c.loop-place.place c.loop-place.items.items c.push.new.list.items c.in_ok-item_at.field-0
     (c.in_ok-item_at.ensures ∙ ap (λ z. item_at z c.args.seq.now (map patterns_tree c.args.lists.now) c.loop-place.place) c.as_slice-fields.ensures)
-    c.in_ok-push.ensures.items c.loop-place.invariant
+    c.in_ok-push.ensures c.loop-place.invariant

@@ -7,12 +7,12 @@ use Rattle.lens_core.specs.Sides.{fields_on}
 use Rattle.lens_core.proofs.FormParts.{row_parts, row_smaller}
 use Rattle.lens_core.proofs.ComplementTrees.{comp_tree-rec, comp_tree-alt, comp_tree-hold}
 use Rattle.image_laws.specs.Image.{image, patterns_by_name}
-use Rattle.image_laws.specs.Patterns.{pattern_tree, rec_pattern}
+use Rattle.image_laws.specs.Patterns.{pattern_tree, rec_pattern, hold_pattern}
 use Rattle.lens_check.specs.ImageParts.{names_in, patterns_in}
 use Rattle.lens_check.specs.ReadyComplements.{IsReady}
 use Rattle.lens_check.proofs.FarFields.{ready_both}
 use Rattle.lens_check.proofs.HeldPatterns.{shape_seen, ready_at}
-use Rattle.lens_check.proofs.ImageSteps.{gave, each_tree, keyed_tree, ordered_tree, alt_missing, ready_held, held_next, held_stopped, held_made, record_pattern, record_done, near_rising, field_among, row_both, row_left, row_right}
+use Rattle.lens_check.proofs.ImageSteps.{gave, each_tree, keyed_tree, ordered_tree, alt_missing, ready_held, held_next, held_stopped, held_done, record_pattern, record_done, near_rising, field_among, row_both, row_left, row_right}
 use Rattle.lens_check.proofs.images.+image.Goals as goal
 use Rattle.lens_check.proofs.images.+image.Goals.{image_record-in-Both+else-pairs-len+in_ok-image-in-Both+in-Some+in_ok-put-in-Both, image_record-in-OnlyLeft+in_ok-put_alone-in-OnlyLeft, image_record-in-OnlyRight+in_ok-put_alone-in-OnlyRight}
 
@@ -84,7 +84,7 @@ image_held-loop-place-preserved t c =
     let within : c.loop-place.place < comp_count cs = omega arith in
     let shaped = shape_seen c.in-Hold.shape (comp_count cs) c.len.result (pattern_tree c.args.pattern.now) c.has_shape.result c.has_shape.ensures c.len.ensures c.if-not-has_shape.false in
     let one = gave c.in_ok-image.field-0 (Some c.in-Some.image) (inner (comp_tree c.get.result.now) (pattern_tree c.place_pattern-near.result.now)) c.in_ok-image.ensures c.in-Some.is in
-    rw c.in_ok-push-in-Some.ensures.items
+    rw c.in_ok-push-in-Some.ensures
     (held_next inner c.in-Hold.shape cs (pattern_tree c.args.pattern.now) c.loop-place.place c.loop-place.images.items _ _ c.in-Some.image
     shaped within c.get.ensures c.place_pattern-near.ensures one c.loop-place.invariant)
 
@@ -94,8 +94,9 @@ image_held-returns t c =
     let inner = image (form_tree c.args.inner.now) c.args.side in
     let end : comp_count cs ≤ c.loop-place.place = omega arith in
     let shaped = shape_seen c.in-Hold.shape (comp_count cs) c.len.result (pattern_tree c.args.pattern.now) c.has_shape.result c.has_shape.ensures c.len.ensures c.if-not-has_shape.false in
-    held_made inner (comp_tree c.args.comp.now) c.in-Hold.shape cs (pattern_tree c.args.pattern.now) c.loop-place.place c.loop-place.images.items c.in_ok-shape.shape c.in_ok-images.images
-    (comp_tree-hold _ _ _ c.in-Hold.is) shaped end c.in_ok-shape.ensures c.in_ok-images.ensures c.loop-place.invariant
+    ap Some (c.in_ok-held.ensures ∙ ap (hold_pattern c.in-Hold.shape) c.in_ok-images.ensures)
+    ∙ held_done inner (comp_tree c.args.comp.now) c.in-Hold.shape cs (pattern_tree c.args.pattern.now) c.loop-place.place c.loop-place.images.items
+    (comp_tree-hold _ _ _ c.in-Hold.is) shaped end c.loop-place.invariant
 
 -- ---- the rows of a record
 
