@@ -7,17 +7,26 @@ use value_json::write_text;
 
 /// Returns the object with this member alone.
 pub fn object(alloc: Global, name: &str, value: Value) -> Result<Value> {
-    let mut members = Map::new(alloc);
-    put(&mut members, alloc, name, value)?;
+    let members = with_member(alloc, Map::new(alloc), name, value)?;
     Ok(Value::Object(members))
 }
 
 /// Returns the object with these two members.
 pub fn pair(alloc: Global, first: (&str, Value), second: (&str, Value)) -> Result<Value> {
-    let mut members = Map::new(alloc);
-    put(&mut members, alloc, first.0, first.1)?;
-    put(&mut members, alloc, second.0, second.1)?;
+    let members = with_member(alloc, Map::new(alloc), first.0, first.1)?;
+    let members = with_member(alloc, members, second.0, second.1)?;
     Ok(Value::Object(members))
+}
+
+/// Returns the members with one more.
+pub fn with_member(
+    alloc: Global,
+    mut members: Map<String, Value>,
+    name: &str,
+    value: Value,
+) -> Result<Map<String, Value>> {
+    put(&mut members, alloc, name, value)?;
+    Ok(members)
 }
 
 /// Returns the text as a tree.

@@ -1,6 +1,6 @@
 //! The call that checks a program.
 
-use crate::answers::{fault, pair, text};
+use crate::answers::{fault, pair, text, with_member};
 use crate::bytes::bytes;
 use crate::case::Case;
 use crate::documents::ty_text;
@@ -10,7 +10,7 @@ use doc_values::Ty;
 use lens_syntax::read_program;
 use lens_types::{TypeFault, check};
 use program_terms::Program;
-use serde_json::{Map, Value, put};
+use serde_json::{Map, Value};
 use std::alloc::Global;
 use texts::Name;
 
@@ -22,15 +22,27 @@ pub fn run_check(alloc: Global, case: &Case<'_>) -> Result<Value> {
 
 fn read_and_checked(alloc: Global, text: &[u8]) -> Result<Value> {
     match read_program(alloc, text) {
-        Ok(program) => types_or_fault(alloc, &program),
+        Ok(program) => {
+            let types = types_or_fault(alloc, &program);
+            drop(program);
+            types
+        }
         Err(fault) => program_fault(alloc, &fault),
     }
 }
 
 fn types_or_fault(alloc: Global, program: &Program) -> Result<Value> {
     match check(alloc, program) {
-        Ok(typed) => two_types(alloc, typed.left(), typed.right()),
-        Err(fault) => type_fault(alloc, &fault),
+        Ok(typed) => {
+            let types = two_types(alloc, typed.left(), typed.right());
+            drop(typed);
+            types
+        }
+        Err(refusal) => {
+            let fault = type_fault(alloc, &refusal);
+            drop(refusal);
+            fault
+        }
     }
 }
 
@@ -54,11 +66,20 @@ fn type_fault(alloc: Global, refusal: &TypeFault) -> Result<Value> {
 }
 
 fn middle_differs(alloc: Global, left: &Ty, right: &Ty) -> Result<Value> {
-    let mut members = Map::new(alloc);
-    put(&mut members, alloc, "fault", text(alloc, "middle-differs")?)?;
-    put(&mut members, alloc, "left", ty_text(alloc, left)?)?;
-    put(&mut members, alloc, "right", ty_text(alloc, right)?)?;
+    let reason = text(alloc, "middle-differs")?;
+    let members = with_member(alloc, Map::new(alloc), "fault", reason)?;
+    let members = with_type(alloc, members, "left", left)?;
+    let members = with_type(alloc, members, "right", right)?;
     Ok(Value::Object(members))
+}
+
+fn with_type(
+    alloc: Global,
+    members: Map<String, Value>,
+    name: &str,
+    ty: &Ty,
+) -> Result<Map<String, Value>> {
+    with_member(alloc, members, name, ty_text(alloc, ty)?)
 }
 
 fn named(alloc: Global, reason: &str, name: &Name) -> Result<Value> {

@@ -10,8 +10,17 @@ use std::alloc::Global;
 
 /// Runs `read_entry`: the tree of the entry that was read, or the fault.
 pub fn run_read_entry(alloc: Global, case: &Case<'_>) -> Result<Value> {
-    match read_entry(alloc, &line_of(alloc, case)?) {
-        Ok(entry) => ok(alloc, write_entry(alloc, &entry)?),
+    let line = line_of(alloc, case)?;
+    entry_or_fault(alloc, &line)
+}
+
+fn entry_or_fault(alloc: Global, line: &Line) -> Result<Value> {
+    match read_entry(alloc, line) {
+        Ok(entry) => {
+            let tree = write_entry(alloc, &entry);
+            drop(entry);
+            ok(alloc, tree?)
+        }
         Err(fault) => entry_fault(alloc, &fault),
     }
 }

@@ -6,7 +6,7 @@ use crate::bytes::bytes;
 use crate::case::Case;
 use crate::documents::ty_text;
 use crate::type_trees::ty_of;
-use anyhow::{Result, bail};
+use anyhow::{Context, Result, bail};
 use lens_syntax::{ProgramFault, read_program, read_unbounded, write_name, write_program};
 use lens_types::{Typed, check};
 use program_terms::Program;
@@ -29,7 +29,11 @@ pub fn run_read_unbounded(alloc: Global, case: &Case<'_>) -> Result<Value> {
 
 fn canonical_or_fault(alloc: Global, read: Result<Program, ProgramFault>) -> Result<Value> {
     match read {
-        Ok(program) => canonical(alloc, &program),
+        Ok(program) => {
+            let text = canonical(alloc, &program);
+            drop(program);
+            text
+        }
         Err(fault) => program_fault(alloc, &fault),
     }
 }
@@ -46,7 +50,11 @@ fn canonical(alloc: Global, program: &Program) -> Result<Value> {
 // Whether a text is the canonical text of the program that it is read as.
 fn reads_back(alloc: Global, text: &Str) -> Result<bool> {
     match read_unbounded(alloc, text.as_str().as_bytes()) {
-        Ok(program) => is_written_as(alloc, &program, text),
+        Ok(program) => {
+            let is_same = is_written_as(alloc, &program, text);
+            drop(program);
+            is_same
+        }
         Err(_) => Ok(false),
     }
 }
@@ -75,21 +83,23 @@ fn placed_fault(alloc: Global, reason: &str, at: u64) -> Result<Value> {
 /// Returns the program of a text, checked. It is refused if the text is not a program or is not accepted.
 pub fn typed(alloc: Global, text: &str) -> Result<Typed> {
     match read_unbounded(alloc, text.as_bytes()) {
-        Ok(program) => accepted(alloc, &program),
+        Ok(program) => {
+            let typed = accepted(alloc, &program);
+            drop(program);
+            typed
+        }
         Err(fault) => bail!("not a program: {fault:?}"),
     }
 }
 
 fn accepted(alloc: Global, program: &Program) -> Result<Typed> {
-    match check(alloc, program) {
-        Ok(typed) => Ok(typed),
-        Err(_) => bail!("the program is not accepted"),
-    }
+    let typed = check(alloc, program).ok();
+    typed.context("the program is not accepted")
 }
 
 /// Runs `write_type`.
 pub fn run_write_type(alloc: Global, case: &Case<'_>) -> Result<Value> {
-    let ty = ty_of(alloc, case.argument("type")?)?;
+    let ty = ty_of(alloc, case, "type")?;
     ty_text(alloc, &ty)
 }
 

@@ -1,16 +1,23 @@
 //! Shapes, origins and places as JSON trees.
 
 use crate::answers::{object, text};
-use crate::arguments::{as_count, as_items, counts, name, shared_counts, shared_names};
+use crate::arguments::{as_count, counts, name, shared_counts, shared_names};
+use crate::case::Case;
 use anyhow::{Context, Result, bail};
 use hold_shapes::{Held, KeyedShape, ListShape, Origin, Origins, Path, Place, Shape, TreeShape};
 use serde_json::Value;
 use std::alloc::Global;
 use value_json::{only_member, read_count};
 
-/// Returns the shape that a tree is: an object with one of the members `list`, `keyed` and `tree`. It is refused if it is
-/// not a shape.
-pub fn shape_of(alloc: Global, tree: &Value) -> Result<Shape> {
+/// Returns the shape that a member is, in a box. It is refused if there is no such member, or if it is not a shape.
+pub fn shape_of(alloc: Global, case: &Case<'_>, member: &str) -> Result<Box<Shape>> {
+    let shape = read_shape(alloc, case.argument(member)?)?;
+    Ok(Box::new(alloc, shape)?)
+}
+
+// The shape that a tree is: an object with one of the members `list`, `keyed` and `tree`. It is refused if it is not a
+// shape.
+fn read_shape(alloc: Global, tree: &Value) -> Result<Shape> {
     let (kind, content) = only_member(tree).context("not a shape")?;
     match kind {
         "list" => list_shape(content),
@@ -64,10 +71,12 @@ fn nodes_tree(alloc: Global, nodes: &TreeShape) -> Result<Value> {
     object(alloc, "tree", Value::Array(items))
 }
 
-/// Returns the origins that an array has: numbers, and null for fresh ones. It is refused if an item is neither.
-pub fn origins_of(alloc: Global, tree: &Value) -> Result<Origins> {
+/// Returns the origins that the member `from` has: numbers, and null for fresh ones. It is refused if it is not an array,
+/// or if an item is neither.
+pub fn origins_of(alloc: Global, case: &Case<'_>) -> Result<Origins> {
+    let items = case.items("from")?;
     let mut origins = Vec::new(alloc);
-    for item in as_items(tree)? {
+    for item in items {
         origins.push(origin_of(item)?)?;
     }
     Ok(Origins::from_vec(alloc, origins)?)

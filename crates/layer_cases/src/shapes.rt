@@ -21,21 +21,27 @@ use texts::Str;
 /// Runs `plan`: the new shape with the origins of its places, or the cause.
 pub fn run_plan(alloc: Global, case: &Case<'_>) -> Result<Value> {
     let primitive = primitive_of(alloc, case.argument("edit")?)?;
-    match &primitive {
-        Primitive::Shape(edit) => plan_of(alloc, edit, case),
+    let planned = plan_of(alloc, &primitive, case);
+    drop(primitive);
+    planned
+}
+
+fn plan_of(alloc: Global, primitive: &Primitive, case: &Case<'_>) -> Result<Value> {
+    match primitive {
+        Primitive::Shape(edit) => plan_or_fault(alloc, edit, case),
         _ => bail!("not an edit of a shape"),
     }
 }
 
-fn plan_of(alloc: Global, edit: &ShapeEdit, case: &Case<'_>) -> Result<Value> {
-    let shape = shape_of(alloc, case.argument("shape")?)?;
-    plan_or_fault(alloc, &shape, edit)
-}
-
-fn plan_or_fault(alloc: Global, shape: &Shape, edit: &ShapeEdit) -> Result<Value> {
-    match &shape.plan(alloc, edit) {
-        Ok(plan) => plan_tree(alloc, plan),
-        Err(refusal) => plan_fault(alloc, refusal),
+fn plan_or_fault(alloc: Global, edit: &ShapeEdit, case: &Case<'_>) -> Result<Value> {
+    let shape = shape_of(alloc, case, "shape")?;
+    match shape.plan(alloc, edit) {
+        Ok(plan) => {
+            let tree = plan_tree(alloc, &plan);
+            drop(plan);
+            tree
+        }
+        Err(refusal) => plan_fault(alloc, &refusal),
     }
 }
 
@@ -59,21 +65,21 @@ fn plan_fault(alloc: Global, refusal: &PlanFault) -> Result<Value> {
 
 /// Runs `size`: the number of places.
 pub fn run_size(alloc: Global, case: &Case<'_>) -> Result<Value> {
-    let shape = shape_of(alloc, case.argument("shape")?)?;
+    let shape = shape_of(alloc, case, "shape")?;
     Ok(Value::from(shape.size()))
 }
 
 /// Runs `place`: the number of the place, or null.
 pub fn run_place(alloc: Global, case: &Case<'_>) -> Result<Value> {
-    let shape = shape_of(alloc, case.argument("shape")?)?;
+    let shape = shape_of(alloc, case, "shape")?;
     let at = place_of(alloc, case.argument("at")?)?;
     Ok(Value::from(shape.place(&at)))
 }
 
 /// Runs `is_same_shape`.
 pub fn run_is_same(alloc: Global, case: &Case<'_>) -> Result<Value> {
-    let left = shape_of(alloc, case.argument("left")?)?;
-    let right = shape_of(alloc, case.argument("right")?)?;
+    let left = shape_of(alloc, case, "left")?;
+    let right = shape_of(alloc, case, "right")?;
     Ok(Value::Bool(left.is_same(&right)))
 }
 
@@ -91,14 +97,27 @@ pub fn run_from_depths(alloc: Global, case: &Case<'_>) -> Result<Value> {
 
 /// Runs `gather`: the texts at the new places. It is refused if an origin is not a place.
 pub fn run_gather(alloc: Global, case: &Case<'_>) -> Result<Value> {
-    let from = origins_of(alloc, case.argument("from")?)?;
+    let from = origins_of(alloc, case)?;
+    gathered_items(alloc, &from, case)
+}
+
+fn gathered_items(alloc: Global, from: &Origins, case: &Case<'_>) -> Result<Value> {
     let items = texts_of(alloc, case.items("items")?)?;
+    let gathered = gathered_texts(alloc, from, &items, case)?;
+    text_items(alloc, &gathered)
+}
+
+fn gathered_texts(
+    alloc: Global,
+    from: &Origins,
+    items: &SharedList<Str>,
+    case: &Case<'_>,
+) -> Result<SharedList<Str>> {
     let fresh = arguments::text(alloc, case.argument("fresh")?)?;
-    if !are_below(&from, items.len()) {
+    if !are_below(from, items.len()) {
         bail!("an origin is not a place");
     }
-    let gathered = gather(alloc, &from, &items, &fresh)?;
-    text_items(alloc, &gathered)
+    Ok(gather(alloc, from, items, &fresh)?)
 }
 
 fn texts_of(alloc: Global, trees: &[Value]) -> Result<SharedList<Str>> {
@@ -137,12 +156,15 @@ fn is_below(origin: &Origin, places: usize) -> bool
 /// Runs `splice`: the new text, or null if the range is beyond the text.
 pub fn run_splice(alloc: Global, case: &Case<'_>) -> Result<Value> {
     let old = arguments::text(alloc, case.argument("text")?)?;
-    let with = arguments::text(alloc, case.argument("with")?)?;
-    let spliced = old.splice(alloc, case.count("at")?, case.count("count")?, &with)?;
-    match &spliced {
+    match spliced(alloc, &old, case)? {
         Some(new) => text(alloc, new.as_str()),
         None => Ok(Value::Null),
     }
+}
+
+fn spliced(alloc: Global, old: &Str, case: &Case<'_>) -> Result<Option<Str>> {
+    let with = arguments::text(alloc, case.argument("with")?)?;
+    Ok(old.splice(alloc, case.count("at")?, case.count("count")?, &with)?)
 }
 
 /// Runs `character_count`.

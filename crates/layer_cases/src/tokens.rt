@@ -3,18 +3,24 @@
 use crate::bytes::bytes;
 use crate::case::Case;
 use anyhow::Result;
-use program_tokens::{PlacedToken, Token, tokens};
+use program_tokens::{PlacedToken, Token, Tokens, tokens};
 use serde_json::Value;
 use std::alloc::Global;
 
 /// Runs `tokens`: the tokens in order, each with its offset.
 pub fn run_tokens(alloc: Global, case: &Case<'_>) -> Result<Value> {
     let bytes = bytes(alloc, case)?;
-    let mut left = tokens(alloc, bytes.as_slice())?;
+    let left = tokens(alloc, bytes.as_slice())?;
+    token_trees(alloc, left)
+}
+
+fn token_trees(alloc: Global, mut left: Tokens) -> Result<Value> {
     let mut items = Vec::new(alloc);
     for _ in 0..left.len() {
         let Some(token) = left.pop() else { break };
-        items.push(token_tree(alloc, &token)?)?;
+        let tree = token_tree(alloc, &token);
+        drop(token);
+        items.push(tree?)?;
     }
     Ok(Value::Array(items))
 }

@@ -2,6 +2,7 @@
 
 use crate::answers::ok;
 use crate::arguments::{as_items, name, names};
+use crate::case::Case;
 use crate::programs::typed;
 use anyhow::{Context, Result, bail};
 use doc_values::{Doc, Docs, Fields, Ty};
@@ -14,10 +15,11 @@ use value_json::{only_member, read_doc, write_doc};
 // How many built types may nest: the same number as values of JSON.
 const MOST_LEVELS: u32 = 128;
 
-/// Returns the type that a tree is: its text as in a lens program, or an object that says how it is built. It is refused if
-/// it is neither, or if the text is not of a well-formed type.
-pub fn ty_of(alloc: Global, tree: &Value) -> Result<Ty> {
-    ty_within(alloc, MOST_LEVELS, tree)
+/// Returns the type that a member is, in a box: its text as in a lens program, or an object that says how it is built. It
+/// is refused if there is no such member, if it is neither, or if the text is not of a well-formed type.
+pub fn ty_of(alloc: Global, case: &Case<'_>, member: &str) -> Result<Box<Ty>> {
+    let ty = ty_within(alloc, MOST_LEVELS, case.argument(member)?)?;
+    Ok(Box::new(alloc, ty)?)
 }
 
 /// Returns the fields that an array has, each a pair of a name and a type. It is refused if an item is not such a pair.
@@ -28,11 +30,13 @@ pub fn fields_of(alloc: Global, tree: &Value) -> Result<Fields> {
 // The type of this text: the left type of its identity.
 fn written_ty(alloc: Global, text: &str) -> Result<Ty> {
     let program = format!(in alloc; "main id {text}")?;
-    left_ty(alloc, &typed(alloc, program.as_str())?)
+    left_ty(alloc, typed(alloc, program.as_str())?)
 }
 
-fn left_ty(alloc: Global, typed: &Typed) -> Result<Ty> {
-    Ok(typed.left().twin(alloc)?)
+fn left_ty(alloc: Global, typed: Typed) -> Result<Ty> {
+    let left = typed.left().twin(alloc);
+    drop(typed);
+    Ok(left?)
 }
 
 // The type that a tree is, built on at most `levels` levels.
@@ -94,19 +98,28 @@ fn field_within(alloc: Global, levels: u32, pair: &[Value]) -> Result<(Name, Ty)
     }
 }
 
+/// Returns the document of the type that a member is, in a box. It is refused if there is no such member, or if the type has
+/// no such document.
+pub fn doc_of(alloc: Global, ty: &Ty, case: &Case<'_>, member: &str) -> Result<Box<Doc>> {
+    let doc = read_as(alloc, ty, case.argument(member)?)?;
+    Ok(Box::new(alloc, doc)?)
+}
+
 /// Returns the document of the type that a tree is. It is refused if the type has no such document.
-pub fn doc_of(alloc: Global, ty: &Ty, tree: &Value) -> Result<Doc> {
+pub fn read_as(alloc: Global, ty: &Ty, tree: &Value) -> Result<Doc> {
     match read_doc(alloc, ty, tree) {
         Ok(doc) => Ok(doc),
         Err(fault) => bail!("not a document: {fault:?}"),
     }
 }
 
-/// Returns the documents of one type that an array has. It is refused if an item is not one.
-pub fn docs_of(alloc: Global, ty: &Ty, tree: &Value) -> Result<Docs> {
+/// Returns the documents of one type that the member `items` has. It is refused if it is not an array, or if an item is
+/// not a document of the type.
+pub fn docs_of(alloc: Global, ty: &Ty, case: &Case<'_>) -> Result<Docs> {
+    let items = case.items("items")?;
     let mut docs = Vec::new(alloc);
-    for item in as_items(tree)? {
-        docs.push(doc_of(alloc, ty, item)?)?;
+    for item in items {
+        docs.push(read_as(alloc, ty, item)?)?;
     }
     Ok(Docs::from_vec(alloc, docs)?)
 }

@@ -27,8 +27,15 @@ pub fn primitive_of(alloc: Global, tree: &Value) -> Result<Primitive> {
     if let Some(edit) = any_count(tree) {
         return Ok(Primitive::Shape(edit));
     }
-    let items = vec![in alloc; tree.clone()?]?;
-    match read_word(alloc, &Value::Array(items)) {
+    let word = Value::Array(vec![in alloc; tree.clone()?]?);
+    let primitive = read_primitive(alloc, &word);
+    drop(word);
+    primitive
+}
+
+// The primitive of a word of one.
+fn read_primitive(alloc: Global, word: &Value) -> Result<Primitive> {
+    match read_word(alloc, word) {
         Ok(word) => only_primitive(word),
         Err(fault) => bail!("not an edit: {fault:?}"),
     }

@@ -16,8 +16,8 @@ use std::alloc::Global;
 
 /// Runs `act`: the document after the word, or the number and the cause. It is refused if the type is ill formed.
 pub fn run_act(alloc: Global, case: &Case<'_>) -> Result<Value> {
-    let ty = ty_of(alloc, case.argument("type")?)?;
-    let doc = doc_of(alloc, &ty, case.argument("doc")?)?;
+    let ty = ty_of(alloc, case, "type")?;
+    let doc = doc_of(alloc, &ty, case, "doc")?;
     act_on(alloc, &ty, &doc, case)
 }
 
@@ -31,7 +31,11 @@ fn after(alloc: Global, ty: &Ty, word: &Word, doc: &Doc) -> Result<Value> {
         bail!("the type is ill formed");
     }
     match act(alloc, ty, word, doc) {
-        Ok(after) => ok_doc(alloc, ty, &after),
+        Ok(after) => {
+            let written = ok_doc(alloc, ty, &after);
+            drop(after);
+            written
+        }
         Err(fault) => act_fault(alloc, &fault),
     }
 }
@@ -65,7 +69,13 @@ fn cause_text(cause: Cause) -> &'static str {
 /// Runs `read_word`: the tree of the word that was read, or the fault.
 pub fn run_read_word(alloc: Global, case: &Case<'_>) -> Result<Value> {
     let tree = tree(alloc, case)?;
-    match read_word(alloc, &tree) {
+    let read = word_or_fault(alloc, &tree);
+    drop(tree);
+    read
+}
+
+fn word_or_fault(alloc: Global, tree: &Value) -> Result<Value> {
+    match read_word(alloc, tree) {
         Ok(word) => ok_word(alloc, &word),
         Err(EditFault::NotAnEdit) => fault(alloc, "not-an-edit"),
         Err(EditFault::NoMemory) => bail!("out of memory"),
