@@ -109,5 +109,3 @@ tag_refused fs k d s some none = let e = ap type_of some in rw (e, none) refl
 
 pub tag_found : (fs : FieldTrees) (k : List ℕ) (v : DocTree) (d : Data) (s : ℕ × TyTree) → lookup_field fs k ≡ Some s → document_of s.1 d ≡ Some v → tagged_by fs (Some (k, d)) ≡ Some (alt k v)
 tag_found fs k v d s some is = let e = ap type_of some in rw (e, is) refl
-
-pub ruleset read_rules = (unit_of, truth_of, whole_of, text_of, pick_of, rec_of, alt_of, list_of, keyed_of, ordered_of, arrays_by)
