@@ -1,7 +1,7 @@
 //! The lens of the address book.
 
-use anyhow::bail;
-use lens_syntax::{Program, read_program};
+use anyhow::{anyhow, bail};
+use lens_syntax::{Program, ProgramFault, read_program};
 use lens_types::{Typed, check};
 use std::alloc::Global;
 
@@ -18,10 +18,19 @@ main then(each contact, then(part <person: person, firm: firm>,
 
 /// The lens of the address book, checked.
 pub fn address_book(alloc: Global) -> anyhow::Result<Typed> {
+    let program = program(alloc)?;
+    checked(alloc, &program)
+}
+
+fn program(alloc: Global) -> anyhow::Result<Program> {
     match read_program(alloc, PROGRAM.as_bytes()) {
-        Ok(program) => checked(alloc, &program),
-        Err(fault) => bail!("the program is not read: {fault:?}"),
+        Ok(program) => Ok(program),
+        Err(fault) => Err(not_read(&fault)),
     }
+}
+
+fn not_read(fault: &ProgramFault) -> anyhow::Error {
+    anyhow!("the program is not read: {fault:?}")
 }
 
 fn checked(alloc: Global, program: &Program) -> anyhow::Result<Typed> {

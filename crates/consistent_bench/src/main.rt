@@ -11,38 +11,64 @@ use crate::address_book::Book;
 use anyhow::bail;
 use lens_check::consistent;
 use lens_types::Typed;
-use std::alloc::Global;
+use std::alloc::{AllocError, Global};
 use std::env;
 
 fn main(rt: HostRuntime) -> anyhow::Result<()> {
     let alloc = rt.alloc();
     let words: Vec<String> = env::args(&rt)?.collect(alloc)?;
+    let (people, times) = numbers(&words)?;
+    let (same, changed) = decided_of_both(alloc, people, times)?;
+    println!(rt; "{people} people: consistent {same}, with another name {changed}")?;
+    Ok(())
+}
+
+// The number of people and the number of times.
+fn numbers(words: &[String]) -> anyhow::Result<(u64, u64)> {
     if words.len() != 3 {
         bail!("give a number of people and a number of times");
     }
     let people = words[1].as_str().parse::<u64>()?;
     let times = words[2].as_str().parse::<u64>()?;
-    let lens = lens::address_book(alloc)?;
-    let book = Book::new(alloc, people, "name")?;
-    let other = Book::new(alloc, people, "other name")?;
-    let same = decided(alloc, &lens, &book, &book, times)?;
-    let changed = decided(alloc, &lens, &book, &other, 1)?;
-    println!(rt; "{people} people: consistent {same}, with another name {changed}")?;
-    Ok(())
+    Ok((people, times))
 }
 
-// Whether the left side and the complement of a book are consistent with the right side of another one. It is decided so
-// often; it is false if it was not decided.
+// What is decided of the book whose sides belong together, and of the one with another name on the right. The second is
+// decided once.
+fn decided_of_both(alloc: Global, people: u64, times: u64) -> anyhow::Result<(bool, bool)> {
+    let lens = lens::address_book(alloc)?;
+    Ok(decided_by(alloc, &lens, people, times)?)
+}
+
+// The same, by the lens of the address book.
+fn decided_by(
+    alloc: Global,
+    lens: &Typed,
+    people: u64,
+    times: u64,
+) -> Result<(bool, bool), AllocError> {
+    let same = decided(alloc, lens, people, "name", times)?;
+    let changed = decided(alloc, lens, people, "other name", 1)?;
+    Ok((same, changed))
+}
+
+// Whether the two sides of a book are consistent with its complement. The last name on the right begins with the word.
 fn decided(
     alloc: Global,
     lens: &Typed,
-    book: &Book,
-    other: &Book,
+    people: u64,
+    word: &str,
     times: u64,
-) -> anyhow::Result<bool> {
+) -> Result<bool, AllocError> {
+    let book = Book::new(alloc, people, word)?;
+    last_decided(alloc, lens, &book, times)
+}
+
+// Decides a book this number of times, and returns what was decided last. It is false if nothing was decided.
+fn last_decided(alloc: Global, lens: &Typed, book: &Book, times: u64) -> Result<bool, AllocError> {
     let mut last = false;
     for _ in 0..times {
-        last = consistent(alloc, lens, &book.left, &book.comp, &other.right)?;
+        last = consistent(alloc, lens, &book.left, &book.comp, &book.right)?;
     }
     Ok(last)
 }
