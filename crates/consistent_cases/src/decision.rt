@@ -4,7 +4,7 @@ use crate::case::Case;
 use anyhow::{Result, bail};
 use complement_file::{CompFault, read_comp};
 use doc_values::{Doc, Ty};
-use lens_check::{conforms, consistent, image, matches, pattern_of};
+use lens_check::{Pattern, conforms, consistent, image, matches, pattern_of};
 use lens_core::Comp;
 use lens_syntax::{Program, read_program};
 use lens_types::{Typed, check};
@@ -17,17 +17,49 @@ use value_json::{DocFault, read_doc};
 /// the triple is missing, and if the two sides decide differently.
 pub fn decided(alloc: Global, case: &Case<'_>) -> Result<&'static str> {
     let lens = lens_of(alloc, case.program()?)?;
-    let Some(left) = document(alloc, lens.left(), case, "left")? else {
-        return Ok("not-a-left-document");
-    };
-    let Some(comp) = complement(alloc, &lens, case)? else {
-        return Ok("not-a-complement");
-    };
-    let Some(right) = document(alloc, lens.right(), case, "right")? else {
-        return Ok("not-a-right-document");
-    };
-    let is_consistent = consistent(alloc, &lens, &left, &comp, &right)?;
-    if is_reached_from_right(alloc, &lens, &left, &comp, &right)? != is_consistent {
+    decided_by(alloc, &lens, case)
+}
+
+// What is decided by a lens of the triple of a case.
+fn decided_by(alloc: Global, lens: &Typed, case: &Case<'_>) -> Result<&'static str> {
+    match document(alloc, lens.left(), case, "left")? {
+        Some(left) => decided_from(alloc, lens, &left, case),
+        None => Ok("not-a-left-document"),
+    }
+}
+
+// The same, where the left document was read.
+fn decided_from(alloc: Global, lens: &Typed, left: &Doc, case: &Case<'_>) -> Result<&'static str> {
+    match complement(alloc, lens, case)? {
+        Some(comp) => decided_with(alloc, lens, left, &comp, case),
+        None => Ok("not-a-complement"),
+    }
+}
+
+// The same, where the left document and the complement were read.
+fn decided_with(
+    alloc: Global,
+    lens: &Typed,
+    left: &Doc,
+    comp: &Comp,
+    case: &Case<'_>,
+) -> Result<&'static str> {
+    match document(alloc, lens.right(), case, "right")? {
+        Some(right) => consistency(alloc, lens, left, comp, &right),
+        None => Ok("not-a-right-document"),
+    }
+}
+
+// Whether a triple is consistent, decided from both sides.
+fn consistency(
+    alloc: Global,
+    lens: &Typed,
+    left: &Doc,
+    comp: &Comp,
+    right: &Doc,
+) -> Result<&'static str> {
+    let is_consistent = consistent(alloc, lens, left, comp, right)?;
+    if is_reached_from_right(alloc, lens, left, comp, right)? != is_consistent {
         bail!("the two sides decide differently");
     }
     Ok(if is_consistent {
@@ -53,9 +85,15 @@ fn is_reached_from_right(
         bail!("a document that was read has another type");
     }
     let pattern = pattern_of(alloc, right)?;
-    match image(alloc, lens, Side::Right, comp, &pattern)? {
-        Some(reached) => Ok(matches(&reached, left)),
-        None => Ok(false),
+    let reached = image(alloc, lens, Side::Right, comp, &pattern)?;
+    Ok(is_in(reached, left))
+}
+
+// Whether a document is in an image, if there is one.
+fn is_in(image: Option<Pattern>, document: &Doc) -> bool {
+    match image {
+        Some(pattern) => matches(&pattern, document),
+        None => false,
     }
 }
 

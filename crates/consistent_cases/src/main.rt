@@ -33,20 +33,26 @@ fn main(rt: HostRuntime) -> Result<()> {
 // Decides the cases of a file, and prints how many there are and how many differ. Returns how many differ.
 fn compare_file<R: Files + AllocGlobal + Print>(rt: &R, file: &str) -> Result<u64> {
     let text = fs::read_to_string(rt, file).context("a file of cases is not read")?;
-    let mut cases = 0u64;
-    let mut differ = 0u64;
-    for line in text.as_str().lines() {
-        cases = cases.saturating_add(1);
-        if is_different(rt, file, cases, line)? {
-            differ = differ.saturating_add(1);
-        }
-    }
+    let (cases, differ) = compare_lines(rt, file, text.as_str())?;
     if cases == 0 {
         bail!("{file} has no case");
     }
     let name = file.strip_suffix(".jsonl").unwrap_or(file);
     println!(rt; "{name}: {cases} cases, {differ} differ")?;
     Ok(differ)
+}
+
+// Decides the cases of the lines of a file. Returns how many there are and how many differ.
+fn compare_lines<R: AllocGlobal + Print>(rt: &R, file: &str, text: &str) -> Result<(u64, u64)> {
+    let mut cases = 0u64;
+    let mut differ = 0u64;
+    for line in text.lines() {
+        cases = cases.saturating_add(1);
+        if is_different(rt, file, cases, line)? {
+            differ = differ.saturating_add(1);
+        }
+    }
+    Ok((cases, differ))
 }
 
 // Decides the case of a line, and prints how it differs if it does. The number of the line is for what is printed.
@@ -69,7 +75,11 @@ fn is_different<R: AllocGlobal + Print>(
 // What is wanted of the case of a line and what came, if they differ.
 fn difference(alloc: Global, line: &str) -> Result<Option<String>> {
     let row = Value::from_str(alloc, line)?;
-    let case = Case::from_row(&row)?;
+    difference_of_row(alloc, &row)
+}
+
+fn difference_of_row(alloc: Global, row: &Value) -> Result<Option<String>> {
+    let case = Case::from_row(row)?;
     let wanted = case.wanted()?;
     let came = decided(alloc, &case)?;
     if came == wanted {
