@@ -1,5 +1,5 @@
 -- The parts of the tree of a complement, as the code takes them.
-use Rattle.std.proofs.Common.{◌≡◌, ◌≢◌, ℕ, codes, List, [], ◌∷◌, length, Some, refl, sym, ap, ap₂, ◌∙◌}
+use Rattle.std.proofs.Common.{◌≡◌, ◌≢◌, ℕ, Bool, true, false, not, bytes_eq, codes, List, [], ◌∷◌, length, Some, refl, sym, ap, ap₂, ◌∙◌}
 use Rattle.serde_json.specs.Data.{Data, array, object, Items, no_items, item, no_members, member}
 use Rattle.serde_json.specs.Find.{as_array}
 use Rattle.serde_json.specs.View.{view, items_view}
@@ -48,3 +48,13 @@ nodes_found_in t c k l d e ns ds is members first second depths items =
     ∙ ap₂ (λ x y. object (member x d (member y e no_members))) (sym first) (sym second)
     ∙ members_are c k l d e members)
     ∙ is
+
+-- ---- two texts
+
+not_differing : (b : Bool) → false ≡ not b → b ≡ true
+not_differing true h = refl
+not_differing false h = cc
+
+-- two texts whose `!=` answered no
+pub same_texts : (r : Bool) (x y a b : List ℕ) → r ≡ false → r ≡ not (bytes_eq x y) → x ≡ a → y ≡ b → bytes_eq a b ≡ true
+same_texts r x y a b unequal is first second = rw (← first, ← second) (not_differing (bytes_eq x y) (sym unequal ∙ is))

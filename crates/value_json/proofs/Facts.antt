@@ -1,5 +1,5 @@
 -- Small facts about tests and options.
-use Rattle.std.proofs.Common.{◌≡◌, ℕ, Bool, true, false, List, Option, Some, None, option_map, option_and_then, refl, not, bytes_eq, cond, sym, ◌∙◌, arith}
+use Rattle.std.proofs.Common.{◌≡◌, ℕ, Bool, true, false, List, Option, Some, None, option_map, option_and_then, refl, bytes_eq, cond, arith}
 use Rattle.std.specs.Prelude.{nat_eq}
 use Rattle.std.proofs.lemmas.Bool.Decides.{nat_tests}
 use Rattle.std.proofs.lemmas.Slice.Eq.{bytes_eq-Decides}
@@ -31,11 +31,3 @@ if_some false x y h = cc
 pub if_then : {X : Type 0} (b : Bool) (o : Option X) (y : X) → cond b o None ≡ Some y → (b ≡ true) × (o ≡ Some y)
 if_then true o y h = (refl, h)
 if_then false o y h = cc
-
-not_differing : (b : Bool) → false ≡ not b → b ≡ true
-not_differing true h = refl
-not_differing false h = cc
-
--- two texts whose `!=` answered no
-pub same_texts : (r : Bool) (x y a b : List ℕ) → r ≡ false → r ≡ not (bytes_eq x y) → x ≡ a → y ≡ b → bytes_eq a b ≡ true
-same_texts r x y a b unequal is first second = rw (← first, ← second) (not_differing (bytes_eq x y) (sym unequal ∙ is))

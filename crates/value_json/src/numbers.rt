@@ -52,7 +52,7 @@ pub fn read_counts(alloc: Global, items: &[Value]) -> Result<Option<Vec<u64>>, A
     ensures { IfOk result
         (λ counts. option_map (λ c. c.items) counts ≡ counts_of (items_view items.now)) }
 {
-    let mut counts = Vec::new(alloc);
+    let mut counts = Vec::with_capacity(alloc, items.len())?;
     for item in items {
         let Some(count) = read_count(item) else {
             return Ok(None);

@@ -1,6 +1,6 @@
 //! Reading a document of a type from a JSON tree.
 
-ghost use Rattle.std.specs.Prelude.{ℕ, ℤ, List, ◌≡◌, ◌<◌, true, Some, IfOk, IsErrOf, option_map, option_and_then};
+ghost use Rattle.std.specs.Prelude.{ℕ, ℤ, List, ◌≡◌, ◌<◌, true, bytes_eq, Some, IfOk, IsErrOf, option_map, option_and_then};
 ghost use Rattle.texts.specs.Keys.{has_name};
 ghost use Rattle.serde_json.specs.View.{view, items_view, members_view};
 ghost use Rattle.doc_values.specs.Documents.{DocTree, alt, doc_tree, docs_tree};
@@ -138,12 +138,12 @@ fn read_fields(
         (field_documents (fields_tree fields.now) (members_view members.now.entries)) }
 {
     let mut rest = members.iter();
-    let mut docs = Vec::new(alloc);
+    let mut docs = Vec::with_capacity(alloc, fields.len())?;
     for field in fields.as_slice() {
         let Some((name, content)) = rest.next() else {
             return Err(DocFault::NotOfType);
         };
-        if field.0.as_str() != name.as_str() {
+        if !is_named(&field.0, name.as_str()) {
             return Err(DocFault::NotOfType);
         }
         docs.push(read(alloc, &field.1, content)?)?;
@@ -152,6 +152,16 @@ fn read_fields(
         Some(_) => Err(DocFault::NotOfType),
         None => Ok(Docs::from_vec(alloc, docs)?),
     }
+}
+
+// Whether the name is the text, byte for byte.
+//
+// The bytes are compared one by one, since names are short. The comparison of texts reads eight
+// bytes at a time, and costs more on a short name.
+fn is_named(name: &Name, text: &str) -> bool
+    ensures { result ≡ bytes_eq name.now text.now }
+{
+    name.as_str().bytes().eq(text.bytes())
 }
 
 #[cycle(read)]
@@ -258,7 +268,7 @@ fn depths_and_items(tree: &Value) -> Option<(&Vec<Value>, &Vec<Value>)>
 fn names_of(alloc: Global, members: &Map<String, Value>) -> Result<SharedList<Name>, AllocError>
     ensures { IfOk result (λ names. names ≡ member_names (members_view members.now.entries)) }
 {
-    let mut names = Vec::new(alloc);
+    let mut names = Vec::with_capacity(alloc, members.len())?;
     for (name, _) in members.iter() {
         names.push(Name::from_string(name.clone()?))?;
     }
@@ -271,7 +281,7 @@ fn read_members(alloc: Global, inner: &Ty, members: &Map<String, Value>) -> Resu
     ensures { Gives docs_tree result
         (member_documents (ty_tree inner.now) (members_view members.now.entries)) }
 {
-    let mut docs = Vec::new(alloc);
+    let mut docs = Vec::with_capacity(alloc, members.len())?;
     for (_, content) in members.iter() {
         docs.push(read(alloc, inner, content)?)?;
     }
@@ -283,7 +293,7 @@ fn read_members(alloc: Global, inner: &Ty, members: &Map<String, Value>) -> Resu
 fn read_items(alloc: Global, inner: &Ty, items: &[Value]) -> Result<Docs, DocFault>
     ensures { Gives docs_tree result (item_documents (ty_tree inner.now) (items_view items.now)) }
 {
-    let mut docs = Vec::new(alloc);
+    let mut docs = Vec::with_capacity(alloc, items.len())?;
     for item in items {
         docs.push(read(alloc, inner, item)?)?;
     }

@@ -1,7 +1,7 @@
 use Rattle.std.proofs.Common.{codes, refl}
 use Rattle.serde_json.specs.View.{view}
-use Rattle.value_json.proofs.Facts.{equal_bytes, same_texts}
-use Rattle.complement_file.proofs.TreeParts.{nodes_found_in}
+use Rattle.value_json.proofs.Facts.{equal_bytes}
+use Rattle.complement_file.proofs.TreeParts.{nodes_found_in, same_texts}
 use Rattle.complement_file.proofs.trees.nodes_in.Goals as goal
 
 pub returns : goal.returns

@@ -8,7 +8,6 @@ use Rattle.doc_values.specs.Types.{ty_tree, fields_tree, type_fields_of, field_t
 use Rattle.value_json.specs.Numbers.{counts_of}
 use Rattle.value_json.specs.Reading.{Gives}
 use Rattle.value_json.specs.DocumentJson.{item_documents, member_documents, field_documents}
-use Rattle.value_json.proofs.Facts.{same_texts}
 use Rattle.doc_values.proofs.FieldPlaces.{lookup_field-height}
 use Rattle.value_json.proofs.ReadLoops.{next_item, items_done, next_entry, entries_done, next_field, fields_done, then_docs}
 use Rattle.doc_values.proofs.Heights.{field_height}
@@ -26,7 +25,7 @@ read_fields-loop-field-preserved t c =
     let l = c.loop-field in
     let fields = c.as_slice-field-items.result.now in
     let name = string_bytes c.in-Some.name.now in
-    let same : bytes_eq c.field-item.result.0 name ≡ true = same_texts c.ne.result _ _ _ _ c.if-ne.false c.ne.ensures c.as_str.ensures c.as_str-in-loop-field.ensures.value in
+    let same : bytes_eq c.field-item.result.0 name ≡ true = ap (bytes_eq c.field-item.result.0) (sym c.as_str.ensures.value) ∙ sym c.is_named.ensures ∙ c.if-not-is_named.false in
     let next = ap (λ es. option_map (then_docs (map doc_tree l.docs.items)) (field_documents (type_fields_of (map field_tree (drop l.field-index fields))) (members_view es))) c.in-Some.ensures.steps in
     rw (c.in_ok-push.ensures.items, map-append)
     (l.invariant ∙ next ∙ next_field fields l.field-index c.field-item.result name (view c.in-Some.content.now) (members_view c.next.new.self) (map doc_tree l.docs.items) _ c.loop-field-test.true c.field-item.is same c.in_ok-read.ensures)
