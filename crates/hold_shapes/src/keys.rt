@@ -16,17 +16,17 @@ fn name_at(names: &SharedList<Name>, at: usize) -> &Name
 }
 
 /// Whether each name is before the next one in byte order. Does not allocate.
-#[tactic(auto, using(texts::proofs::KeyOrder::rising_rules))]
 pub(crate) fn is_rising(names: &SharedList<Name>) -> bool
     ensures { result ≡ is_rising names.now }
 {
-    if names.is_empty() {
-        return true;
-    }
-    for i in 0..names.len() - 1 {
-        if !name_at(names, i).is_before(name_at(names, i + 1)) {
-            return false;
+    let mut before: Option<&Name> = None;
+    for name in names {
+        if let Some(earlier) = before {
+            if !earlier.is_before(name) {
+                return false;
+            }
         }
+        before = Some(name);
     }
     true
 }

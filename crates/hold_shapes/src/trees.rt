@@ -17,27 +17,29 @@ pub(crate) fn depth_at(depths: &SharedList<u64>, at: usize) -> u64
 pub(crate) fn is_valid(depths: &SharedList<u64>) -> bool
     ensures { result ≡ is_valid depths.now }
 {
-    if depths.is_empty() {
-        return false;
-    }
-    if depth_at(depths, 0) != 0 {
-        return false;
-    }
-    let mut before = 0u64;
-    for i in 1..depths.len() {
-        let depth = depth_at(depths, i);
-        if depth < 1 {
-            return false;
+    let mut before: Option<u64> = None;
+    for depth in depths {
+        match before {
+            None => {
+                if *depth != 0 {
+                    return false;
+                }
+            }
+            Some(earlier) => {
+                if *depth < 1 {
+                    return false;
+                }
+                if *depth - 1 > earlier {
+                    return false;
+                }
+                if *depth > 15 {
+                    return false;
+                }
+            }
         }
-        if depth - 1 > before {
-            return false;
-        }
-        if depth > 15 {
-            return false;
-        }
-        before = depth;
+        before = Some(*depth);
     }
-    true
+    before.is_some()
 }
 
 // The place after the subtree of a node.
