@@ -156,7 +156,21 @@ impl Docs {
     }
 }
 
-impl Hint for Doc {}
+impl Hint for Doc {
+    /// Whether the document has no contents, and its text is short if it has one.
+    fn is_light(&self) -> bool {
+        match self {
+            Doc::Unit => true,
+            Doc::Bool(_) => true,
+            Doc::Int(_) => true,
+            Doc::Text(text) => text.is_light(),
+            Doc::Pick(name) => name.is_light(),
+            Doc::Rec(_) => false,
+            Doc::Alt(_, _) => false,
+            Doc::Hold(_, _) => false,
+        }
+    }
+}
 
 impl Twin for Doc {
     ghost use Rattle.doc_values.specs.Documents.{DocTree, doc_tree};

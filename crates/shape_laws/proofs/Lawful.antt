@@ -193,5 +193,3 @@ pub lawful : (s : Shape) (e : ShapeEdit) (t : Shape) (from : List Origin) → pl
 lawful s e t from h =
     let P : Planned → Type 0 = λ y. Keeps (IsArranged e (size_of s)) y in
     subst P h (of-shape s e)
-
-pub ruleset lawful_rules = (lawful)

@@ -212,5 +212,3 @@ as_many s e t from h = (fits s e t from h).0
 
 pub same_kind : (s : Shape) (e : ShapeEdit) (t : Shape) (from : List Origin) → plan s e ≡ Ok (t, from) → is_same_kind s t ≡ true
 same_kind s e t from h = (fits s e t from h).1
-
-pub ruleset size_rules = (as_many, same_kind)

@@ -1,4 +1,5 @@
 pub mod AsBox
 pub mod ChunkedLists
 pub mod Edges
+pub mod Meanings
 pub mod SplicedLists

@@ -1,9 +1,9 @@
 //! The place where the items of a list stop passing a test.
 
-ghost use Rattle.std.specs.Prelude.{◌≡◌, ◌≤◌, Bool, IsTrue, length};
+ghost use Rattle.std.specs.Prelude.{◌≡◌, ◌≤◌, Bool, IsTrue, IfSome, length};
 ghost use Rattle.shared_lists.specs.Edges.{PassesBefore, FailsAt};
-ghost use Rattle.shared_lists.specs.Items.{items_of};
 
+use crate::form::Form;
 use crate::hint::Hint;
 use crate::list::SharedList;
 use crate::tree::{Node, Tree};
@@ -34,42 +34,53 @@ impl<T: Hint> SharedList<T> {
         ensures passes { PassesBefore (C.test test.now) self.now result }
         ensures fails { FailsAt (C.test test.now) self.now result }
     {
-        match &self.root {
-            None => 0,
-            Some(root) => {
-                let tree = root.tree();
-                let place = tree.guessed(test);
-                if tree.passes_before(place, test) && tree.fails_at(place, test) {
-                    place
-                } else {
-                    tree.edge(test)
-                }
-            }
+        if let Some(place) = self.guessed(test) {
+            return place;
         }
+        self.edge_by_items(test)
+    }
+
+    // The place that the hints lead to, if it is one. There are no hints where a list has no tree.
+    fn guessed<C: Test<T>>(&self, test: &C) -> Option<usize>
+        ensures within { IfSome result (λ place. place ≤ length self.now) }
+        ensures passes { IfSome result (PassesBefore (C.test test.now) self.now) }
+        ensures fails { IfSome result (FailsAt (C.test test.now) self.now) }
+    {
+        let Form::Many(root) = &self.form else {
+            return None;
+        };
+        let tree = root.tree();
+        let place = tree.guessed(test);
+        if tree.passes_before(place, test) && tree.fails_at(place, test) {
+            return Some(place);
+        }
+        None
     }
 }
 
-impl<T> Tree<T> {
-    // The same place in a tree, found by the items alone.
-    #[tactic(auto, using(crate::proofs::Edges::tree_rules))]
-    fn edge<C: Test<T>>(&self, test: &C) -> usize
+impl<T> SharedList<T> {
+    // The same place, found by the items alone.
+    #[tactic(auto, using(crate::proofs::Edges::search_rules))]
+    fn edge_by_items<C: Test<T>>(&self, test: &C) -> usize
         ensures within { result ≤ length self.now }
         ensures passes { PassesBefore (C.test test.now) self.now result }
         ensures fails { FailsAt (C.test test.now) self.now result }
     {
-        match &self.node {
-            Node::Chunk(items) => edge_of(items.as_slice(), test),
-            Node::Join(left, right, middle, len, _, _) => {
-                let _len = *len;
-                if test.passes(right.first()) {
-                    *middle + right.edge(test)
-                } else {
-                    left.edge(test)
-                }
+        let mut low = 0;
+        let mut high = self.len();
+        while low < high {
+            let middle = low + (high - low) / 2;
+            if test.passes(self.get(middle)) {
+                low = middle + 1;
+            } else {
+                high = middle;
             }
         }
+        low
     }
+}
 
+impl<T> Tree<T> {
     // Whether the item before a place passes the test.
     #[tactic(auto, using(crate::proofs::Edges::place_rules))]
     fn passes_before<C: Test<T>>(&self, place: usize, test: &C) -> bool
@@ -97,12 +108,12 @@ impl<T> Tree<T> {
 
 impl<T: Hint> Tree<T> {
     // The place that the hints lead to.
-    #[tactic(auto, using(crate::proofs::Edges::tree_rules))]
+    #[tactic(auto, using(crate::proofs::ChunkedLists::chunk_rules))]
     fn guessed<C: Test<T>>(&self, test: &C) -> usize
         ensures { result ≤ length self.now }
     {
         match &self.node {
-            Node::Chunk(items) => edge_of(items.as_slice(), test),
+            Node::Chunk(items) => guessed_in(items.as_slice(), test),
             Node::Join(left, right, middle, len, _, _) => {
                 let _len = *len;
                 if right.is_before_edge(test) {
@@ -123,12 +134,9 @@ impl<T: Hint> Tree<T> {
     }
 }
 
-// The same place in a chunk.
-#[tactic(auto, using(crate::proofs::Edges::chunk_rules))]
-fn edge_of<T, C: Test<T>>(items: &[Rc<T>], test: &C) -> usize
-    ensures within { result ≤ length items.now }
-    ensures passes { PassesBefore (C.test test.now) (items_of items.now) result }
-    ensures fails { FailsAt (C.test test.now) (items_of items.now) result }
+// The same place in a chunk, found by the items.
+fn guessed_in<T, C: Test<T>>(items: &[Rc<T>], test: &C) -> usize
+    ensures { result ≤ length items.now }
 {
     let mut low = 0;
     let mut high = items.len();
