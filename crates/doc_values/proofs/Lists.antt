@@ -1,20 +1,19 @@
 -- Lists of trees.
 use Rattle.std.proofs.Common.{◌≡◌, ℕ, zero, suc, ◌<◌, Bool, true, false, ◌&&◌, List, [], ◌∷◌, length, map, get_or, refl, drop, ◌++◌, ◌≤◌, append-nil, sym, ap, ◌∙◌, arith, rules}
 use Rattle.std.proofs.lemmas.List.{drop_all, get_or-map}
-use Rattle.std.proofs.lemmas.Option.{get_or_from_slice_get, slice_get_within}
-use Rattle.std.specs.Prelude.{slice_get, Some}
 use Rattle.doc_values.specs.Documents.{DocTree, DocTrees, no_docs, more_docs, docs_of, doc_list, doc_tree, docs_tree}
+use Rattle.doc_values.specs.Layouts.{items_in}
 use Rattle.doc_values.specs.Types.{TyTree, FieldTrees, no_fields, more_fields, type_fields_of, field_list, fields_tree, field_tree, ty_tree}
 use Rattle.doc_values.specs.Typing.{has_fields}
 use Rattle.doc_values.specs.Initial.{initial_fields}
 use Rattle.doc_values.specs.declared.doc.Doc.{Doc}
-use Rattle.doc_values.specs.declared.doc.Docs.{Docs, out-Docs, the_lemmas as docs_lemmas}
+use Rattle.doc_values.specs.declared.doc.Docs.{Docs, the_lemmas as docs_lemmas}
 use Rattle.doc_values.specs.declared.ty.Ty.{Ty}
 use Rattle.doc_values.specs.declared.ty.Fields.{Fields, out-Fields, the_lemmas as fields_lemmas}
 
 -- ---- the wrappers
 
-pub docs_tree-out : (ds : Docs) → docs_tree ds ≡ docs_of (map doc_tree (out-Docs ds).items)
+pub docs_tree-out : (ds : Docs) → docs_tree ds ≡ docs_of (map doc_tree (items_in ds.layout))
 docs_tree-out ds = search (rules, docs_lemmas)
 
 pub fields_tree-out : (fs : Fields) → fields_tree fs ≡ type_fields_of (map field_tree (out-Fields fs).items.items)
@@ -38,8 +37,8 @@ pub fields_of-field_list : (fs : FieldTrees) → type_fields_of (field_list fs) 
 fields_of-field_list no_fields = refl
 fields_of-field_list (more_fields n t fs) = ap (more_fields n t) (fields_of-field_list fs)
 
-pub doc_list_docs : (ds : Docs) → doc_list (docs_tree ds) ≡ map doc_tree (out-Docs ds).items
-doc_list_docs ds = ap doc_list (docs_tree-out ds) ∙ doc_list-docs_of _
+pub trees_of : (ds : Docs) (xs : List Doc) → docs_of (map doc_tree xs) ≡ docs_tree ds → doc_list (docs_tree ds) ≡ map doc_tree xs
+trees_of ds xs e = ap doc_list (sym e) ∙ doc_list-docs_of (map doc_tree xs)
 
 -- ---- lengths
 
@@ -98,8 +97,8 @@ same_ty_at xs ys i d e h k q = ap (λ (f : List ℕ × TyTree). f.1) (same_at_ma
 
 -- ---- the tree at a place
 
-pub tree_at : (ds : List Doc) (i : ℕ) (d : Doc) (e : DocTree) → slice_get ds i ≡ Some d → get_or (map doc_tree ds) i e ≡ doc_tree d
-tree_at ds i d e h = get_or-map doc_tree ds i d e (slice_get_within ds i d h) ∙ ap doc_tree (get_or_from_slice_get ds i d d h)
+pub place_of_item : (ds : List Doc) (i : ℕ) (d : Doc) (e : DocTree) → i < length ds → d ≡ get_or ds i d → doc_tree d ≡ get_or (map doc_tree ds) i e
+place_of_item ds i d e h is = ap doc_tree is ∙ sym (get_or-map doc_tree ds i d e h)
 
 -- ---- once every field is done, the documents made are those of the fields
 

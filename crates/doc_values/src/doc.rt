@@ -6,11 +6,15 @@ ghost use Rattle.doc_values.specs.Documents.{doc_tree, docs_tree, docs_of, doc_l
 ghost use Rattle.doc_values.specs.Types.{ty_tree};
 ghost use Rattle.doc_values.specs.Typing.{has};
 
+use crate::iter::Iter;
+use crate::layout::Layout;
 use crate::ty::Ty;
-use crate::{same, typing};
+use crate::{light, same, typing};
 use hold_shapes::{Name, Origins, Shape, Str, Twin, gather};
-use shared_lists::{Hint, Iter, SharedList};
+use shared_lists::{Hint, SharedList};
 use std::alloc::{AllocError, Global};
+use std::rc::Rc;
+use texts::twin_all;
 
 /// One document.
 ///
@@ -58,10 +62,14 @@ impl Doc {
 }
 
 /// The contents of a record or of a container, in order. A copy shares them.
+///
+/// At most 16 documents that came in together stand side by side in one block, if all of them are light: null, truth
+/// values, whole numbers, and texts or members of at most 64 bytes. A change of one of them copies the others. All
+/// other documents are in a [`SharedList`], where a change copies none.
 #[derive(Drop)]
 #[cycle(doc)]
 pub struct Docs {
-    pub(crate) items: SharedList<Doc>,
+    pub(crate) layout: Layout<Doc>,
 }
 
 impl Docs {
@@ -70,7 +78,7 @@ impl Docs {
         ensures { docs_tree result ≡ no_docs }
     {
         Docs {
-            items: SharedList::empty(),
+            layout: Layout::List(SharedList::empty()),
         }
     }
 
@@ -80,8 +88,12 @@ impl Docs {
     pub fn from_vec(alloc: Global, items: Vec<Doc>) -> Result<Docs, AllocError>
         ensures { IfOk result (λ ds. docs_tree ds ≡ docs_of (map doc_tree items.items)) }
     {
-        let items = SharedList::from_vec(alloc, items)?;
-        Ok(Docs { items })
+        let layout = if light::fit_a_block(items.as_slice()) {
+            Layout::Block(Rc::new(alloc, items)?)
+        } else {
+            Layout::List(SharedList::from_vec(alloc, items)?)
+        };
+        Ok(Docs { layout })
     }
 
     /// The document at a place. Takes time that grows with the logarithm of the number of documents.
@@ -92,85 +104,82 @@ impl Docs {
         requires { place < length (doc_list (docs_tree self.now)) }
         ensures { doc_tree result.now ≡ slice_index_or (doc_list (docs_tree self.now)) place unit }
     {
-        self.items.get(place)
-    }
-
-    // The document at a place, as an item of a slice is given: the form from which a recursion sees that it is a part.
-    #[tactic(auto, using(crate::proofs::Rules::item_rules))]
-    pub(crate) fn item(&self, place: usize) -> &Doc
-        requires { place < length self.now.items }
-        ensures { result.now ≡ slice_index_or self.now.items place result.now }
-    {
-        self.items.get(place)
+        self.layout.get(place)
     }
 
     /// The documents in order. Does not allocate.
+    #[tactic(auto, using(crate::proofs::Rules::layout_rules))]
     pub fn iter(&self) -> Iter<'_, Doc>
         ensures { docs_of (map doc_tree result) ≡ docs_tree self.now }
     {
-        self.items.iter()
+        self.layout.iter()
     }
 
     /// The number of documents.
-    #[tactic(auto, using(crate::proofs::Rules::typing_rules))]
+    #[tactic(auto, using(crate::proofs::Rules::layout_rules))]
     pub fn len(&self) -> usize
         ensures { result ≡ length (doc_list (docs_tree self.now)) }
     {
-        self.items.len()
+        self.layout.len()
     }
 
     /// Whether there are no documents.
-    #[tactic(auto, using(crate::proofs::Rules::typing_rules))]
     pub fn is_empty(&self) -> bool
         ensures { IsTrue result ↔ (length (doc_list (docs_tree self.now)) ≡ 0) }
     {
-        self.items.is_empty()
+        self.len() == 0
     }
 
     /// Replaces the document at a place. Takes time that grows with the logarithm of the number of documents.
     ///
     /// The place is counted from 0 and is one of the places. Fails only if memory runs out; the documents are then as
     /// they were, and the new one is dropped.
-    #[tactic(auto, using(crate::proofs::Rules::place_rules))]
+    #[tactic(auto, using(crate::proofs::Rules::set_rules))]
     pub fn set(&mut self, alloc: Global, place: usize, doc: Doc) -> Result<(), AllocError>
         requires { place < length (doc_list (docs_tree self.old)) }
         ensures replaced { OnOk result (docs_tree self.new
             ≡ docs_of (slice_set (doc_list (docs_tree self.old)) place (doc_tree doc))) }
         ensures unchanged { OnErr result (docs_tree self.new ≡ docs_tree self.old) }
     {
-        self.items.set(alloc, place, doc)
+        match &mut self.layout {
+            Layout::Block(items) => {
+                let changed = light::with_doc(alloc, items.as_slice(), place, doc)?;
+                *self = Docs::from_vec(alloc, changed)?;
+                Ok(())
+            }
+            Layout::List(items) => items.set(alloc, place, doc),
+        }
     }
 
     /// A copy of the document of each old place that is named, and of the fresh one elsewhere, in the order of the
     /// origins. Fails only if memory runs out.
     ///
     /// Each old place is one of the places.
-    #[tactic(auto, using(crate::proofs::Rules::gather_rules))]
     pub fn gathered(&self, alloc: Global, from: &Origins, fresh: &Doc) -> Result<Docs, AllocError>
         requires { All (IsBelow (length (doc_list (docs_tree self.now)))) from.now }
         ensures { IfOk result (λ ds. docs_tree ds
             ≡ docs_of (map (content_at (doc_list (docs_tree self.now)) (doc_tree fresh.now)) from.now)) }
     {
-        let items = gather(alloc, from, &self.items, fresh)?;
-        Ok(Docs { items })
+        let old = self.list(alloc)?;
+        let new = gather(alloc, from, &old, fresh)?;
+        Ok(Docs {
+            layout: Layout::List(new),
+        })
     }
-}
 
-impl Hint for Doc {
-    /// Whether the document has no contents, and its text is short if it has one.
-    fn is_light(&self) -> bool {
-        match self {
-            Doc::Unit => true,
-            Doc::Bool(_) => true,
-            Doc::Int(_) => true,
-            Doc::Text(text) => text.is_light(),
-            Doc::Pick(name) => name.is_light(),
-            Doc::Rec(_) => false,
-            Doc::Alt(_, _) => false,
-            Doc::Hold(_, _) => false,
+    // A list of the documents, which shares all but those of a block.
+    #[tactic(auto, using(crate::proofs::Rules::layout_rules))]
+    fn list(&self, alloc: Global) -> Result<SharedList<Doc>, AllocError>
+        ensures { IfOk result (λ items. docs_of (map doc_tree items) ≡ docs_tree self.now) }
+    {
+        match &self.layout {
+            Layout::Block(items) => SharedList::from_vec(alloc, twin_all(alloc, items.as_slice())?),
+            Layout::List(items) => items.copy(alloc),
         }
     }
 }
+
+impl Hint for Doc {}
 
 impl Twin for Doc {
     ghost use Rattle.doc_values.specs.Documents.{DocTree, doc_tree};
@@ -228,10 +237,10 @@ fn copy_hold(alloc: Global, shape: &Shape, docs: &Docs) -> Result<Doc, AllocErro
     Ok(Doc::Hold(shape.twin(alloc)?, contents))
 }
 
-#[tactic(auto, using(crate::proofs::Rules::typing_rules))]
+#[tactic(auto, using(crate::proofs::Rules::layout_rules))]
 fn copy_docs(alloc: Global, docs: &Docs) -> Result<Docs, AllocError>
     ensures { IfOk result (λ ds. docs_tree ds ≡ docs_tree docs.now) }
 {
-    let items = docs.items.copy(alloc)?;
-    Ok(Docs { items })
+    let layout = docs.layout.copy(alloc)?;
+    Ok(Docs { layout })
 }

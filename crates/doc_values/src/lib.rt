@@ -7,7 +7,10 @@
 mod condition;
 pub mod doc;
 pub mod initial;
+pub mod iter;
+mod layout;
 mod levels;
+mod light;
 pub mod names;
 mod same;
 pub mod ty;
@@ -15,5 +18,6 @@ mod typing;
 
 pub use crate::doc::{Doc, Docs};
 pub use crate::initial::init;
+pub use crate::iter::Iter;
 pub use crate::names::has_text;
 pub use crate::ty::{Fields, Ty};

@@ -69,11 +69,11 @@ pub(crate) fn same_doc(left: &Doc, right: &Doc) -> bool
 fn same_docs(left: &Docs, right: &Docs) -> bool
     ensures { IsTrue result ↔ (docs_tree left.now ≡ docs_tree right.now) }
 {
-    if left.items.len() != right.items.len() {
+    if left.layout.len() != right.layout.len() {
         return false;
     }
-    for i in 0..left.items.len() {
-        if !same_doc(left.item(i), right.item(i)) {
+    for i in 0..left.layout.len() {
+        if !same_doc(left.layout.get(i), right.layout.get(i)) {
             return false;
         }
     }

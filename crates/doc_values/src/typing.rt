@@ -43,11 +43,11 @@ pub(crate) fn fits(ty: &Ty, doc: &Doc) -> bool
 fn fit_fields(fields: &Fields, docs: &Docs) -> bool
     ensures { result ≡ has_fields (fields_tree fields.now) (docs_tree docs.now) }
 {
-    if fields.items.len() != docs.items.len() {
+    if fields.items.len() != docs.layout.len() {
         return false;
     }
-    for i in 0..docs.items.len() {
-        if !fits(&fields.items[i].1, docs.item(i)) {
+    for i in 0..docs.layout.len() {
+        if !fits(&fields.items[i].1, docs.layout.get(i)) {
             return false;
         }
     }
@@ -59,8 +59,8 @@ fn fit_fields(fields: &Fields, docs: &Docs) -> bool
 fn fit_each(ty: &Ty, docs: &Docs) -> bool
     ensures { result ≡ has_each (ty_tree ty.now) (docs_tree docs.now) }
 {
-    for i in 0..docs.items.len() {
-        if !fits(ty, docs.item(i)) {
+    for i in 0..docs.layout.len() {
+        if !fits(ty, docs.layout.get(i)) {
             return false;
         }
     }

@@ -66,16 +66,12 @@ run-below rs i r n p b = front_of (IsBelow n) r (all_origins (drop (i + 1) rs)) 
 pub rest-below : (rs : List (List Origin)) (i : ℕ) (r : List Origin) (n : ℕ) → (i < length rs) × (r ≡ get_or rs i r) → All (IsBelow n) (all_origins (drop i rs)) → All (IsBelow n) (all_origins (drop (i + 1) rs))
 rest-below rs i r n p b = back_of (IsBelow n) r (all_origins (drop (i + 1) rs)) (subst (All (IsBelow n)) (runs_at rs i r p.0 p.1) b)
 
-pub joined-length : {X M : Type 0} (f : X → M) (new all next : List X) → map f new ≡ map f all ++ map f next → length new ≡ length all + length next
-joined-length f new all next e = sym (length-map new f) ∙ ap length (e ∙ sym (map-append f all next)) ∙ length-map (all ++ next) f ∙ length-append all next
-
-pub gathered-more : {X M : Type 0} (f : X → M) (g : Origin → M) (new all next : List X) (rs : List (List Origin)) (i : ℕ) (r : List Origin) → (i < length rs) × (r ≡ get_or rs i r)
-    → map f new ≡ map f all ++ map f next
+pub gathered-more : {X M : Type 0} (f : X → M) (g : Origin → M) (all next : List X) (rs : List (List Origin)) (i : ℕ) (r : List Origin) → (i < length rs) × (r ≡ get_or rs i r)
     → map f next ≡ map g r
     → map f all ++ map g (all_origins (drop i rs)) ≡ map g (all_origins rs)
-    → map f new ++ map g (all_origins (drop (i + 1) rs)) ≡ map g (all_origins rs)
-gathered-more f g new all next rs i r p n q h =
-    rw (n, q)
+    → map f (all ++ next) ++ map g (all_origins (drop (i + 1) rs)) ≡ map g (all_origins rs)
+gathered-more f g all next rs i r p q h =
+    rw (map-append f all next, q)
     (append_assoc (map f all) (map g r) (map g (all_origins (drop (i + 1) rs)))
     ∙ ap (λ ts. map f all ++ ts) (sym (map-append g r (all_origins (drop (i + 1) rs))) ∙ sym (ap (map g) (runs_at rs i r p.0 p.1)))
     ∙ h)

@@ -1,6 +1,5 @@
 pub mod Causes
 pub mod Gather
-pub mod Plain
 pub mod Plans
 pub mod Runs
 pub mod Shapes

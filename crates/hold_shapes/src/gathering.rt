@@ -57,14 +57,14 @@ where
 
 // The items of a run of old places, which both lists share.
 #[tactic(auto, using(crate::proofs::Pieces::kept_rules))]
-fn kept<T: Drop + Hint + Twin>(
+fn kept<T: Drop + Hint>(
     alloc: Global,
     first: u64,
     count: u64,
     items: &SharedList<T>,
 ) -> Result<SharedList<T>, AllocError>
     requires { All (IsBelow (length items.now)) (run_origins (Old first) count) }
-    ensures { IfOk result (λ list. map T.meaning list ≡ take count (drop first (map T.meaning items.now))) }
+    ensures { IfOk result (λ list. list ≡ take count (drop first items.now)) }
 {
     if count == 0 {
         return Ok(SharedList::empty());

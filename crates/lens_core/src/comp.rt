@@ -124,15 +124,7 @@ pub fn then_join(alloc: Global, first: Comp, second: Comp) -> Result<Comp, Alloc
     Ok(Comp::Then(first, second))
 }
 
-impl Hint for Comp {
-    /// Whether nothing is kept.
-    fn is_light(&self) -> bool {
-        match self {
-            Comp::Nil => true,
-            _ => false,
-        }
-    }
-}
+impl Hint for Comp {}
 
 impl Twin for Comp {
     ghost use Rattle.lens_core.specs.Complements.{CompTree, comp_tree};

@@ -32,13 +32,8 @@ fn main(rt: HostRuntime) -> anyhow::Result<()> {
     Ok(())
 }
 
-// Whether a short list, a list of the numbers below a size, and lists made of them are kept where memory runs out.
+// Whether a list of the numbers below a size, and lists made of it, are kept where memory runs out.
 fn are_kept_below(alloc: Global, size: u32) -> Result<bool, AllocError> {
-    Ok(is_kept_below(alloc, 12)? && is_kept_below(alloc, size)?)
-}
-
-// Whether the list of the numbers below a size, and lists made of it, are kept where memory runs out.
-fn is_kept_below(alloc: Global, size: u32) -> Result<bool, AllocError> {
     let list = SharedList::from_vec(alloc, numbers(alloc, size)?)?;
     refusals::are_lists_kept(alloc, &list)
 }

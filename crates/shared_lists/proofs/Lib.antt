@@ -1,5 +1,4 @@
 pub mod AsBox
 pub mod ChunkedLists
 pub mod Edges
-pub mod Meanings
 pub mod SplicedLists

@@ -57,10 +57,4 @@ pub ruleset items_rules = (items_of-take, items_of-drop, items_of-parts)
 
 pub ruleset edit_rules = (drop_of_length-le, append-nil)
 
--- what an iterator has left, before and after an item that is in no chunk
-pub next_in_few : {T : Type 0} (owners : List (Rc T Global)) (xs : List T) (place : ℕ) (x : T) → length owners ≡ 0 → slice_get xs place ≡ Some x
-    → items_of owners ++ drop place xs ≡ x ∷ (items_of owners ++ drop (place + 1) xs)
-next_in_few [] xs place x none e = drop-at xs place x e
-next_in_few (o ∷ owners) xs place x none e = absurd (omega arith)
-
-pub ruleset iter_rules = (drop_of_length-le, next_in_few)
+pub ruleset iter_rules = (drop_of_length-le)

@@ -1,6 +1,6 @@
 pub mod Edges
-pub mod Forms
 pub mod Items
+pub mod ListItems
 pub mod Nodes
 pub mod RootMemory
 pub mod formers

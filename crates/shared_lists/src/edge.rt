@@ -3,7 +3,6 @@
 ghost use Rattle.std.specs.Prelude.{◌≡◌, ◌≤◌, Bool, IsTrue, IfSome, length};
 ghost use Rattle.shared_lists.specs.Edges.{PassesBefore, FailsAt};
 
-use crate::form::Form;
 use crate::hint::Hint;
 use crate::list::SharedList;
 use crate::tree::{Node, Tree};
@@ -40,13 +39,13 @@ impl<T: Hint> SharedList<T> {
         self.edge_by_items(test)
     }
 
-    // The place that the hints lead to, if it is one. There are no hints where a list has no tree.
+    // The place that the hints lead to, if it is one. An empty list has no hints.
     fn guessed<C: Test<T>>(&self, test: &C) -> Option<usize>
         ensures within { IfSome result (λ place. place ≤ length self.now) }
         ensures passes { IfSome result (PassesBefore (C.test test.now) self.now) }
         ensures fails { IfSome result (FailsAt (C.test test.now) self.now) }
     {
-        let Form::Many(root) = &self.form else {
+        let Some(root) = &self.root else {
             return None;
         };
         let tree = root.tree();

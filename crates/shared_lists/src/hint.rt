@@ -1,4 +1,4 @@
-//! What a list asks of its items: hints, which save a search most of the items that it would read, and whether an item is light.
+//! Hints, which save a search most of the items that it would read.
 
 use texts::{Name, Str};
 
@@ -11,22 +11,6 @@ pub trait Hint {
     fn hint(&self) -> u64 {
         0
     }
-
-    /// Whether the item takes little memory, so that copying it costs as little as sharing it. A short list has such items side by
-    /// side. Only time and memory rest on it.
-    fn is_light(&self) -> bool {
-        false
-    }
-}
-
-/// Whether all items are light.
-pub(crate) fn are_light<T: Hint>(items: &[T]) -> bool {
-    for item in items {
-        if !item.is_light() {
-            return false;
-        }
-    }
-    true
 }
 
 impl Hint for Name {
@@ -39,15 +23,6 @@ impl Hint for Name {
         }
         hint
     }
-
-    fn is_light(&self) -> bool {
-        is_short(self.as_str())
-    }
-}
-
-// Whether a text is so short that a copy costs little.
-fn is_short(text: &str) -> bool {
-    text.len() <= 64
 }
 
 // The byte at a place, or 0 behind the last one.
@@ -58,14 +33,6 @@ fn byte_at(bytes: &[u8], place: usize) -> u64 {
     }
 }
 
-impl Hint for Str {
-    fn is_light(&self) -> bool {
-        is_short(self.as_str())
-    }
-}
+impl Hint for Str {}
 
-impl Hint for u64 {
-    fn is_light(&self) -> bool {
-        true
-    }
-}
+impl Hint for u64 {}

@@ -61,18 +61,10 @@ impl<'a, T> Iterator for Iter<'a, T> {
             return None;
         }
         let chunk = self.list.chunk_from(self.place);
-        match chunk.split_first() {
-            Some((item, rest)) => {
-                self.place += chunk.len();
-                self.chunk = rest;
-                Some(item.as_ref())
-            }
-            None => {
-                let item = self.list.get(self.place);
-                self.place += 1;
-                Some(item)
-            }
-        }
+        let (item, rest) = chunk.split_first()?;
+        self.place += chunk.len();
+        self.chunk = rest;
+        Some(item.as_ref())
     }
 }
 

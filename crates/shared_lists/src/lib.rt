@@ -2,13 +2,11 @@
 //!
 //! A [`SharedList`] is a balanced tree of chunks. A copy of a list counts one more owner of the tree, and
 //! an edit makes new nodes on the path to the edited place alone, so its cost grows with the logarithm
-//! of the list's length. A short list of light items has no tree: its items stand side by side, and an
-//! edit copies them.
+//! of the list's length.
 #![tactic(auto)]
 
 mod balance;
 mod edge;
-mod form;
 mod hint;
 pub mod iter;
 pub mod list;

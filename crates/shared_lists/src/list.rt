@@ -1,32 +1,28 @@
 //! Lists whose copies share their items.
 
-ghost use Rattle.std.specs.Prelude.{◌≡◌, ◌↔◌, ◌≤◌, ◌<◌, ◌+◌, ◌-◌, ◌^◌, ◌++◌, [], length, map, take, drop, slice_get, slice_set, IsTrue, IfOk, OnOk, OnErr};
+ghost use Rattle.std.specs.Prelude.{◌≡◌, ◌↔◌, ◌≤◌, ◌<◌, ◌+◌, ◌-◌, ◌^◌, ◌++◌, [], length, take, drop, slice_get, slice_set, IsTrue, IfOk, OnOk, OnErr};
 ghost use Rattle.std.specs.declared.option.Option.TheVariants.{Some};
 ghost use Rattle.shared_lists.specs.Items.{items_of};
 
-use crate::form::Form;
-use crate::hint::{Hint, are_light};
+use crate::hint::Hint;
 use crate::root::Root;
 use crate::splices;
-use crate::tree::{CHUNK, Tree};
+use crate::tree::Tree;
 use std::alloc::{AllocError, Global};
 use std::marker::Model;
 use std::rc::Rc;
-use texts::{Twin, twin_all};
 
 /// A list of items, whose copies share them.
 ///
-/// Contracts see it as the list of its items. An edit may copy some of them, so its clause says what the items of the
-/// new list mean ([`Twin`]). An edit that runs out of memory leaves the list as it was.
+/// Contracts see it as the list of its items. An edit that runs out of memory leaves the list as it was.
 ///
-/// At most 16 light items ([`Hint::is_light`]) that came in together stand side by side, and an edit copies those that
-/// stay. In every other list each item has an owner, which copies share: the items are in chunks of at most 16, and the
-/// chunks are the leaves of a balanced tree. Dropping the last list that owns a tree recurses as deep as the tree is
-/// high: at most about 1.44 times the binary logarithm of the number of chunks, so fewer than 40 levels for a hundred
-/// million items. No contract says so, since nothing but the cost rests on the heights.
+/// The items are in chunks of at most 16, and the chunks are the leaves of a balanced tree. Dropping the last
+/// list that owns a tree recurses as deep as the tree is high: at most about 1.44 times the binary logarithm
+/// of the number of chunks, so fewer than 40 levels for a hundred million items. No contract says so, since
+/// nothing but the cost rests on the heights.
 #[derive(Drop)]
 pub struct SharedList<T> {
-    pub(crate) form: Form<T>,
+    pub(crate) root: Option<Root<T>>,
 }
 
 impl<T> Model for SharedList<T> {
@@ -37,9 +33,9 @@ impl<T> Model for SharedList<T> {
 
     ghost coded = { coded_list T.code };
 
-    ghost use Rattle.shared_lists.specs.Forms.{form_items};
+    ghost use Rattle.shared_lists.specs.ListItems.{list_items};
 
-    ghost view = { λ a. form_items a.form };
+    ghost view = { λ a. list_items a.root };
 }
 
 impl<T> SharedList<T> {
@@ -47,17 +43,16 @@ impl<T> SharedList<T> {
     pub fn empty() -> SharedList<T>
         ensures { result ≡ [] }
     {
-        SharedList { form: Form::Empty }
+        SharedList { root: None }
     }
 
     /// How many items there are. Takes constant time.
     pub fn len(&self) -> usize
         ensures { result ≡ length self.now }
     {
-        match &self.form {
-            Form::Empty => 0,
-            Form::Few(items) => items.len(),
-            Form::Many(root) => root.tree().len(),
+        match &self.root {
+            None => 0,
+            Some(root) => root.tree().len(),
         }
     }
 
@@ -73,23 +68,22 @@ impl<T> SharedList<T> {
         requires { place < length self.now }
         ensures { slice_get self.now place ≡ Some result.now }
     {
-        match &self.form {
-            Form::Empty => unreachable!(),
-            Form::Few(items) => &items[place],
-            Form::Many(root) => root.tree().get(place),
+        match &self.root {
+            None => unreachable!(),
+            Some(root) => root.tree().get(place),
         }
     }
 
-    /// The owners of the items from a place on that are in the chunk of that place. A list without a tree has none.
+    /// The owners of the items from a place on that are in the chunk of that place.
     pub(crate) fn chunk_from(&self, place: usize) -> &[Rc<T>]
         requires { place < length self.now }
+        ensures some { 0 < length result.now }
         ensures within { place + length result.now ≤ length self.now }
         ensures items { items_of result.now ++ drop (place + length result.now) self.now ≡ drop place self.now }
     {
-        match &self.form {
-            Form::Empty => &[],
-            Form::Few(_) => &[],
-            Form::Many(root) => root.tree().chunk_from(place),
+        match &self.root {
+            None => unreachable!(),
+            Some(root) => root.tree().chunk_from(place),
         }
     }
 }
@@ -98,66 +92,34 @@ impl<T: Drop + Hint> SharedList<T> {
     ghost use Rattle.shared_lists.specs.Items.{optional_items};
 
     /// A list of these items, in this order. If there is no memory, the items are dropped.
-    ///
-    /// At most 16 items that are all light stay where they are, in the `Vec`.
     pub fn from_vec(alloc: Global, items: Vec<T>) -> Result<SharedList<T>, AllocError>
         ensures { IfOk result (λ list. list ≡ items.items) }
     {
-        if 0 < items.len() && items.len() <= CHUNK && are_light(items.as_slice()) {
-            return SharedList::few(alloc, items);
-        }
-        SharedList::from_tree(alloc, splices::from_vec(alloc, items)?)
+        let tree = splices::from_vec(alloc, items)?;
+        SharedList::from_tree(alloc, tree)
     }
 
     /// A list of the same items, which both lists share. Takes constant time.
     pub fn copy(&self, alloc: Global) -> Result<SharedList<T>, AllocError>
         ensures { IfOk result (λ list. list ≡ self.now) }
     {
-        let form = match &self.form {
-            Form::Empty => Form::Empty,
-            Form::Few(items) => Form::Few(items.clone()?),
-            Form::Many(root) => Form::Many(Root::new(alloc, root.tree().clone()?)?),
-        };
-        Ok(SharedList { form })
+        SharedList::from_tree(alloc, self.tree()?)
     }
-
-    // The list of the items of a `Vec`, which stay in it.
-    fn few(alloc: Global, items: Vec<T>) -> Result<SharedList<T>, AllocError>
-        ensures { IfOk result (λ list. list ≡ items.items) }
-    {
-        let form = Form::Few(Rc::new(alloc, items)?);
-        Ok(SharedList { form })
-    }
-
-    // The list of a tree.
-    fn from_tree(alloc: Global, tree: Option<Rc<Tree<T>>>) -> Result<SharedList<T>, AllocError>
-        ensures { IfOk result (λ list. list ≡ optional_items tree) }
-    {
-        let form = match tree {
-            None => Form::Empty,
-            Some(tree) => Form::Many(Root::new(alloc, tree)?),
-        };
-        Ok(SharedList { form })
-    }
-}
-
-impl<T: Drop + Hint + Twin> SharedList<T> {
-    ghost use Rattle.shared_lists.specs.Items.{optional_items};
 
     /// Replaces the item at a place.
     ///
     /// The place is one of the list's. If there is no memory, the list is as it was and the item is dropped.
     pub fn set(&mut self, alloc: Global, place: usize, item: T) -> Result<(), AllocError>
         requires { place < length self.old }
-        ensures replaced { OnOk result (map T.meaning self.new ≡ slice_set (map T.meaning self.old) place (T.meaning item)) }
+        ensures replaced { OnOk result (self.new ≡ slice_set self.old place item) }
         ensures unchanged { OnErr result (self.new ≡ self.old) }
     {
-        let changed = match &self.form {
-            Form::Empty => unreachable!(),
-            Form::Few(items) => SharedList::from_vec(alloc, with_item(alloc, items, place, item)?)?,
-            Form::Many(root) => SharedList::with_owner(alloc, root.tree(), place, item)?,
+        let owner = Rc::new(alloc, item)?;
+        let tree = match &self.root {
+            None => unreachable!(),
+            Some(root) => splices::set(alloc, root.tree(), place, owner)?,
         };
-        *self = changed;
+        *self = SharedList::from_tree(alloc, Some(tree))?;
         Ok(())
     }
 
@@ -172,8 +134,7 @@ impl<T: Drop + Hint + Twin> SharedList<T> {
     ) -> Result<(), AllocError>
         requires within { place ≤ length self.old }
         requires fits { length self.old + length items.items < 2 ^ 64 }
-        ensures inserted { OnOk result (map T.meaning self.new
-            ≡ take place (map T.meaning self.old) ++ map T.meaning items.items ++ drop place (map T.meaning self.old)) }
+        ensures inserted { OnOk result (self.new ≡ take place self.old ++ items.items ++ drop place self.old) }
         ensures unchanged { OnErr result (self.new ≡ self.old) }
     {
         let more = splices::from_vec(alloc, items)?;
@@ -185,25 +146,24 @@ impl<T: Drop + Hint + Twin> SharedList<T> {
     /// If there is no memory, the list is as it was.
     pub fn delete(&mut self, alloc: Global, place: usize, count: usize) -> Result<(), AllocError>
         requires within { place + count ≤ length self.old }
-        ensures deleted { OnOk result (map T.meaning self.new
-            ≡ take place (map T.meaning self.old) ++ drop (place + count) (map T.meaning self.old)) }
+        ensures deleted { OnOk result (self.new ≡ take place self.old ++ drop (place + count) self.old) }
         ensures unchanged { OnErr result (self.new ≡ self.old) }
     {
         let _len = self.len();
         self.splice(alloc, place, place + count, &None)
     }
 
-    /// A list of the items of two lists, one after the other. All three lists share the items that have owners.
+    /// A list of the items of two lists, one after the other. All three lists share the items.
     pub fn concat(&self, alloc: Global, other: &SharedList<T>) -> Result<SharedList<T>, AllocError>
         requires { length self.now + length other.now < 2 ^ 64 }
-        ensures { IfOk result (λ list. map T.meaning list ≡ map T.meaning self.now ++ map T.meaning other.now) }
+        ensures { IfOk result (λ list. list ≡ self.now ++ other.now) }
     {
-        let tree = splices::join_optional(alloc, self.tree(alloc)?, other.tree(alloc)?)?;
+        let tree = splices::join_optional(alloc, self.tree()?, other.tree()?)?;
         SharedList::from_tree(alloc, tree)
     }
 
-    /// A list of some of the items, from a place on. Both lists share those that have owners.
-    #[tactic(auto, using(crate::proofs::Meanings::part_rules))]
+    /// A list of some of the items, from a place on. Both lists share the items.
+    #[tactic(auto, using(crate::proofs::SplicedLists::edit_rules))]
     pub fn part(
         &self,
         alloc: Global,
@@ -211,7 +171,7 @@ impl<T: Drop + Hint + Twin> SharedList<T> {
         count: usize,
     ) -> Result<SharedList<T>, AllocError>
         requires { place + count ≤ length self.now }
-        ensures { IfOk result (λ list. map T.meaning list ≡ take count (drop place (map T.meaning self.now))) }
+        ensures { IfOk result (λ list. list ≡ take count (drop place self.now)) }
     {
         let behind = self.len() - place - count;
         let mut list = self.copy(alloc)?;
@@ -220,37 +180,29 @@ impl<T: Drop + Hint + Twin> SharedList<T> {
         Ok(list)
     }
 
-    // An owner of a tree of the items: of the list's own tree, or of one with copies of a few items.
-    #[tactic(auto, using(crate::proofs::Meanings::tree_rules))]
-    fn tree(&self, alloc: Global) -> Result<Option<Rc<Tree<T>>>, AllocError>
-        ensures items { IfOk result (λ tree. map T.meaning (optional_items tree) ≡ map T.meaning self.now) }
-        ensures size { IfOk result (λ tree. length (optional_items tree) ≡ length self.now) }
+    // The list of a tree.
+    fn from_tree(alloc: Global, tree: Option<Rc<Tree<T>>>) -> Result<SharedList<T>, AllocError>
+        ensures { IfOk result (λ list. list ≡ optional_items tree) }
     {
-        match &self.form {
-            Form::Empty => Ok(None),
-            Form::Few(items) => splices::from_vec(alloc, twin_all(alloc, items.as_slice())?),
-            Form::Many(root) => Ok(Some(root.tree().clone()?)),
+        match tree {
+            None => Ok(SharedList { root: None }),
+            Some(tree) => Ok(SharedList {
+                root: Some(Root::new(alloc, tree)?),
+            }),
         }
     }
 
-    // The list of a tree with the item at a place replaced.
-    #[tactic(auto, using(crate::proofs::Meanings::set_rules))]
-    fn with_owner(
-        alloc: Global,
-        tree: &Rc<Tree<T>>,
-        place: usize,
-        item: T,
-    ) -> Result<SharedList<T>, AllocError>
-        requires { place < length tree.now.value }
-        ensures { IfOk result (λ list. map T.meaning list ≡ slice_set (map T.meaning tree.now.value) place (T.meaning item)) }
+    // One more owner of the list's tree.
+    fn tree(&self) -> Result<Option<Rc<Tree<T>>>, AllocError>
+        ensures { IfOk result (λ tree. optional_items tree ≡ self.now) }
     {
-        let owner = Rc::new(alloc, item)?;
-        let changed = splices::set(alloc, tree, place, owner)?;
-        SharedList::from_tree(alloc, Some(changed))
+        match &self.root {
+            None => Ok(None),
+            Some(root) => Ok(Some(root.tree().clone()?)),
+        }
     }
 
     // Replaces the items from `from` to before `to` by those of a tree.
-    #[tactic(auto, using(crate::proofs::Meanings::splice_rules))]
     fn splice(
         &mut self,
         alloc: Global,
@@ -261,31 +213,15 @@ impl<T: Drop + Hint + Twin> SharedList<T> {
         requires order { from ≤ to }
         requires within { to ≤ length self.old }
         requires fits { length self.old - (to - from) + length (optional_items more.now) < 2 ^ 64 }
-        ensures replaced { OnOk result (map T.meaning self.new
-            ≡ take from (map T.meaning self.old) ++ map T.meaning (optional_items more.now) ++ drop to (map T.meaning self.old)) }
+        ensures replaced { OnOk result (self.new
+            ≡ take from self.old ++ optional_items more.now ++ drop to self.old) }
         ensures unchanged { OnErr result (self.new ≡ self.old) }
     {
-        let tree = match self.tree(alloc)? {
+        let tree = match &self.root {
             None => splices::owner_of(more)?,
-            Some(tree) => splices::splice(alloc, &tree, from, to, more)?,
+            Some(root) => splices::splice(alloc, root.tree(), from, to, more)?,
         };
         *self = SharedList::from_tree(alloc, tree)?;
         Ok(())
     }
-}
-
-// Copies of some items, with the one at a place replaced.
-#[tactic(auto, using(crate::proofs::Meanings::set_rules))]
-fn with_item<T: Drop + Twin>(
-    alloc: Global,
-    items: &Vec<T>,
-    place: usize,
-    item: T,
-) -> Result<Vec<T>, AllocError>
-    requires { place < length items.now.items }
-    ensures { IfOk result (λ v. map T.meaning v.items ≡ slice_set (map T.meaning items.now.items) place (T.meaning item)) }
-{
-    let mut copies = twin_all(alloc, items.as_slice())?;
-    copies[place] = item;
-    Ok(copies)
 }

@@ -1,5 +1,4 @@
 use Rattle.std.proofs.Common.{◌≡◌, ◌∙◌, All, length, map, take, drop, replicate, ap, sym, subst}
-use Rattle.std.proofs.lemmas.List.{drop-map, take-map}
 use Rattle.hold_shapes.specs.Gather.{IsBelow, content_at}
 use Rattle.hold_shapes.specs.Runs.{run_origins}
 use Rattle.hold_shapes.proofs.Pieces.{kept-piece, fresh-piece, on-ok}
@@ -16,9 +15,9 @@ returns-in-Old g c =
     let fresh = f c.args.fresh.now in
     let below = subst (λ o. All (IsBelow (length c.args.items.now)) (run_origins o c.run.inside.count)) c.in-Old.is
     (subst (All (IsBelow (length c.args.items.now))) (sym c.run.view_is) c.requires) in
-    let gathered : take c.run.inside.count (drop c.in-Old.first (map f c.args.items.now)) ≡ map (content_at (map f c.args.items.now) fresh) c.args.run.now
-    = rw (← c.run.view_is, c.in-Old.is, drop-map f c.in-Old.first c.args.items.now, take-map f c.run.inside.count (drop c.in-Old.first c.args.items.now)) (kept-piece f fresh c.args.items.now c.in-Old.first c.run.inside.count below) in
-    on-ok c.kept.result (λ list e. e ∙ gathered) c.kept.ensures
+    let gathered : map f (take c.run.inside.count (drop c.in-Old.first c.args.items.now)) ≡ map (content_at (map f c.args.items.now) fresh) c.args.run.now
+    = rw (← c.run.view_is, c.in-Old.is) (kept-piece f fresh c.args.items.now c.in-Old.first c.run.inside.count below) in
+    on-ok c.kept.result (λ list e. ap (map f) e ∙ gathered) c.kept.ensures
 
 pub returns-in_ok-copies-in-Fresh : goal.returns-in_ok-copies-in-Fresh
 returns-in_ok-copies-in-Fresh g c =

@@ -1,7 +1,7 @@
 -- `SharedList` as a type that may hold the type that holds it: how it stores its items.
 --
 -- Read by the checker, and not by clauses. From the bottom up: the owner of a value, a node of the tree, the
--- tree, the root behind its pointer, a few items side by side, the list. Each section says how the value splits into a shape and the items
+-- tree, the root behind its pointer, the list. Each section says how the value splits into a shape and the items
 -- in it, and that rows of two item types that are alike make rows that are alike.
 use mathlib.Core.Path.{◌≡◌, refl, sym, ap, ◌∙◌}
 use mathlib.Core.HLevel.{×_prop}
@@ -34,23 +34,21 @@ use denote.Struct.Owning.{shape, to}
 use denote.Struct.Struct.{Struct}
 use Rattle.std.specs.contracts.alloc.Global as heap
 use Rattle.std.specs.contracts.impls.GlobalAllocator.TheImpl.{ghosts}
+use Rattle.std.specs.contracts.option.Option as option
 use Rattle.std.specs.contracts.rc.Rc as rc
-use Rattle.std.specs.contracts.vec.Vec as vecs
 use Rattle.std.specs.declared.alloc.Global.{Global}
+use Rattle.std.specs.declared.option.Option.{Option}
+use Rattle.std.specs.declared.option.Option.TheVariants.{None, Some}
 use Rattle.std.specs.declared.rc.Rc.{Rc}
-use Rattle.std.specs.declared.vec.Vec.{Vec}
 use Rattle.std.specs.formers.vec.Vec as vec
 use Rattle.std_alloc.specs.Vec.Recursive.{lies_placed, lent_at_placed}
 use Rattle.shared_lists.specs.Items.{items_of}
 use Rattle.shared_lists.specs.RootMemory.{owner_row}
-use Rattle.shared_lists.specs.contracts.form.Form as of_form
 use Rattle.shared_lists.specs.contracts.list.SharedList as C
 use Rattle.shared_lists.specs.contracts.list.SharedList.TheInside as I
 use Rattle.shared_lists.specs.contracts.root.Root as root
 use Rattle.shared_lists.specs.contracts.tree.Tree as tree
 use Rattle.shared_lists.specs.contracts.tree.Tree.TheKnot as K
-use Rattle.shared_lists.specs.declared.form.Form.{Form}
-use Rattle.shared_lists.specs.declared.form.Form.TheVariants.{Empty, Few, Many}
 use Rattle.shared_lists.specs.declared.list.SharedList.TheInside.{Inside}
 use Rattle.shared_lists.specs.declared.list.SharedList.TheView.{view, invariant}
 use Rattle.shared_lists.specs.declared.root.Root.{Root}
@@ -278,78 +276,55 @@ module _ (R S : RattleType) (h : R.Denot → S.Denot) (a : Alike R S h) where
     shr_same = λ r i b o. beside ((Struct (shape (root.the_type R))).shr_at (to (root.the_type R) r) b o) (lent_at_placed (owner_row R) (owner_row S) (over_owner (map h)) tree_owners_alike r.pointer r.owner i);
   }
 
--- ---- a few items, side by side
-
-abbrev blocks : Former {0}
-blocks = owner (vec.the_former this Global)
-
-abbrev vec_row : RattleType → RattleType
-vec_row R = vecs.the_row R heap.the_row ghosts
-
-module _ (R S : RattleType) (h : R.Denot → S.Denot) where
-  block_places : Alike R S h → Alike (owners_of (vec_row R)) (owners_of (vec_row S)) (blocks.map R.Denot S.Denot h)
-  block_places a = owner_places (vec_row R) (vec_row S) (vec.mapped h) (vec.the_places heap.the_row ghosts R S h a)
-
 -- ---- the list
 
 module _ (X : Type 0) where
-  abbrev Forms : Type 0
-  Forms = Unit {0} ⊎ (Rc (Vec X Global) Global ⊎ Root X)
+  abbrev root_or_none : Option (Root X) → Unit {0} ⊎ Root X
+  root_or_none None = inl tt
+  root_or_none (Some r) = inr r
 
-  abbrev form : Form X → Forms
-  form Empty = inl tt
-  form (Few items) = inr (inl items)
-  form (Many root) = inr (inr root)
+  abbrev optional_root : Unit {0} ⊎ Root X → Option (Root X)
+  optional_root (inl u) = None
+  optional_root (inr r) = Some r
 
-  abbrev form_of : Forms → Form X
-  form_of (inl u) = Empty
-  form_of (inr (inl items)) = Few items
-  form_of (inr (inr root)) = Many root
+  optional_root-root_or_none : (o : Option (Root X)) → optional_root (root_or_none o) ≡ o
+  optional_root-root_or_none None = refl
+  optional_root-root_or_none (Some r) = refl
 
-  form_of-form : (f : Form X) → form_of (form f) ≡ f
-  form_of-form Empty = refl
-  form_of-form (Few items) = refl
-  form_of-form (Many root) = refl
+  root_or_none-optional_root : (v : Unit {0} ⊎ Root X) → root_or_none (optional_root v) ≡ v
+  root_or_none-optional_root (inl u) = refl
+  root_or_none-optional_root (inr r) = refl
 
-  form-form_of : (v : Forms) → form (form_of v) ≡ v
-  form-form_of (inl u) = refl
-  form-form_of (inr (inl items)) = refl
-  form-form_of (inr (inr root)) = refl
-
-abbrev forms : Former {0}
-forms = via (or (const (Unit {0})) (or blocks roots)) Form form form_of form_of-form form-form_of
+abbrev optional_roots : Former {0}
+optional_roots = via (or (const (Unit {0})) roots) (λ X. Option (Root X)) root_or_none optional_root optional_root-root_or_none root_or_none-optional_root
 
 abbrev fields : Former {0}
-fields = via forms Inside (λ X a. a.form) (λ X f. record { form = f }) (λ X a. refl) (λ X f. refl)
+fields = via optional_roots Inside (λ X a. a.root) (λ X o. record { root = o }) (λ X a. refl) (λ X o. refl)
 
-list_keeps : (X : Type 0) (f : Form X) → held (list this) X (view X (record { form = f })) ≡ held fields X (record { form = f })
-list_keeps X Empty = refl
-list_keeps X (Few items) = refl
-list_keeps X (Many root) = refl
+list_keeps : (X : Type 0) (o : Option (Root X)) → held (list this) X (view X (record { root = o })) ≡ held fields X (record { root = o })
+list_keeps X None = refl
+list_keeps X (Some r) = refl
 
-list_natural : (X Y : Type 0) (h : X → Y) (f : Form X) → view Y (fields.map X Y h (record { form = f })) ≡ map h (view X (record { form = f }))
-list_natural X Y h Empty = refl
-list_natural X Y h (Few items) = refl
-list_natural X Y h (Many root) = refl
+list_natural : (X Y : Type 0) (h : X → Y) (o : Option (Root X)) → view Y (fields.map X Y h (record { root = o })) ≡ map h (view X (record { root = o }))
+list_natural X Y h None = refl
+list_natural X Y h (Some r) = refl
 
 module _ (R S : RattleType) (h : R.Denot → S.Denot) where
-  abbrev form_maps : Mapss (of_form.enum R).parts (of_form.enum S).parts
-  form_maps = (tt, ((blocks.map R.Denot S.Denot h, tt), ((roots.map R.Denot S.Denot h, tt), tt)))
+  variant : (o : Option (Root R.Denot))
+      → (option.enum (root.the_row S)).as_values (optional_roots.map R.Denot S.Denot h o)
+      ≡ eachs (option.enum (root.the_row R)).parts (option.enum (root.the_row S)).parts (tt, ((roots.map R.Denot S.Denot h, tt), tt)) ((option.enum (root.the_row R)).as_values o)
+  variant None = refl
+  variant (Some r) = refl
 
-  variant : (f : Form R.Denot) → (of_form.enum S).as_values (forms.map R.Denot S.Denot h f) ≡ eachs (of_form.enum R).parts (of_form.enum S).parts form_maps ((of_form.enum R).as_values f)
-  variant Empty = refl
-  variant (Few items) = refl
-  variant (Many root) = refl
-
-  form_places : Alike R S h → Alike (of_form.the_row R) (of_form.the_row S) (forms.map R.Denot S.Denot h)
-  form_places a = enum_places (of_form.enum R) (of_form.enum S) form_maps (forms.map R.Denot S.Denot h) variant refl
-      (tt, ((laid _ _ _ (block_places R S h a), tt), ((laid _ _ _ (root_places R S h a), tt), tt)))
+  optional_root_places : Alike R S h → Alike (option.the_row (root.the_row R)) (option.the_row (root.the_row S)) (optional_roots.map R.Denot S.Denot h)
+  optional_root_places a = enum_places (option.enum (root.the_row R)) (option.enum (root.the_row S)) (tt, ((roots.map R.Denot S.Denot h, tt), tt)) (optional_roots.map R.Denot S.Denot h) variant refl
+      (tt, ((laid _ _ _ (root_places R S h a), tt), tt))
 
   pub the_places : Alike R S h → Alike (C.the_row R) (C.the_row S) ((the_former this).map R.Denot S.Denot h)
-  the_places a = view_places fields (list this) view (λ X Y k u. list_natural X Y k u.form) (λ X u. list_keeps X u.form) R.Denot S.Denot h (C.the_row R).coded (C.the_row S).coded
+  the_places a = view_places fields (list this) view (λ X Y k u. list_natural X Y k u.root) (λ X u. list_keeps X u.root) R.Denot S.Denot h (C.the_row R).coded (C.the_row S).coded
       (invariant R.Denot) (invariant S.Denot) (λ u p q. refl) (λ u p q. refl) (λ u e. tt) (λ u e. tt)
       (over (I.the_row R)) (over (I.the_row S))
-      (struct_places (I.the_type R) (I.the_type S) (forms.map R.Denot S.Denot h, tt) _ (λ d. refl) refl (laid _ _ _ (form_places a), tt))
+      (struct_places (I.the_type R) (I.the_type S) (optional_roots.map R.Denot S.Denot h, tt) _ (λ d. refl) refl (laid _ _ _ (optional_root_places a), tt))
 
   pub the_codes_placed : Recodes R S h → Recodes (C.the_row R) (C.the_row S) ((the_former this).map R.Denot S.Denot h)
   the_codes_placed e d = sym (code_map R.coded.code S.coded.code h (λ x. sym (e x)) d)
