@@ -17,8 +17,10 @@ fn main(rt: HostRuntime) -> anyhow::Result<()> {
         bail!("give what is to be done, a number of items and a number of times");
     }
     if words[1].as_str() == "refusals" {
-        let kept = are_kept_below(alloc, words[2].as_str().parse::<u32>()?).unwrap_or(true);
-        println!(rt; "kept: {kept}")?;
+        match are_kept_below(alloc, words[2].as_str().parse::<u32>()?) {
+            Ok(kept) => println!(rt; "kept: {kept}")?,
+            Err(_) => println!(rt; "no memory for the lists that are compared")?,
+        }
         return Ok(());
     }
     let Some(task) = Task::named(words[1].as_str()) else {
@@ -35,7 +37,9 @@ fn main(rt: HostRuntime) -> anyhow::Result<()> {
 // Whether a list of the numbers below a size, and lists made of it, are kept where memory runs out.
 fn are_kept_below(alloc: Global, size: u32) -> Result<bool, AllocError> {
     let list = SharedList::from_vec(alloc, numbers(alloc, size)?)?;
-    refusals::are_lists_kept(alloc, &list)
+    let same = SharedList::from_vec(alloc, numbers(alloc, size)?)?;
+    let copied = refusals::is_kept_by_copy(alloc, &list, &same);
+    Ok(copied && refusals::are_lists_kept(alloc, &list)? && refusals::is_same(&list, &same))
 }
 
 // What is done to a list, again and again.

@@ -1,11 +1,20 @@
 //! Each call of a list made once, so that any allocation in it can be made to fail.
 //!
-//! Run by hand, with each allocation failing one after another: the line that is printed stays the same.
+//! Run by hand, with each allocation failing one after another: the line that is printed stays the same, or says that
+//! there was no memory for the lists that are compared.
 
 use shared_lists::SharedList;
 use std::alloc::{AllocError, Global};
 
-/// Whether each call that runs out of memory leaves the lists as they were.
+/// Whether a list has the same items as another one after it was copied, or was not because memory ran out.
+pub fn is_kept_by_copy(alloc: Global, list: &SharedList<u64>, same: &SharedList<u64>) -> bool {
+    match list.copy(alloc) {
+        Ok(copy) => is_same(&copy, same) && is_same(list, same),
+        Err(_) => is_same(list, same),
+    }
+}
+
+/// Whether each edit that runs out of memory leaves the lists as they were.
 pub fn are_lists_kept(alloc: Global, list: &SharedList<u64>) -> Result<bool, AllocError> {
     if list.len() < 10 || list.len() > 1_000_000 {
         return Ok(false);
@@ -73,7 +82,7 @@ fn is_kept_by_part(alloc: Global, list: &SharedList<u64>) -> Result<bool, AllocE
     }
 }
 
-// Whether two lists have the same numbers.
-fn is_same(left: &SharedList<u64>, right: &SharedList<u64>) -> bool {
+/// Whether two lists have the same numbers.
+pub fn is_same(left: &SharedList<u64>, right: &SharedList<u64>) -> bool {
     left.len() == right.len() && left.iter().zip(right.iter()).all(|(a, b)| *a == *b)
 }
