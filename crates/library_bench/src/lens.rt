@@ -1,4 +1,4 @@
-//! The lens of the address book.
+//! The lens of the contacts.
 
 use anyhow::{anyhow, bail};
 use lens_syntax::{Program, ProgramFault, read_program};
@@ -16,8 +16,8 @@ main then(each contact, then(part <person: person, firm: firm>,
    firm ~ firms: each id firm}))
 ";
 
-/// The lens of the address book, checked.
-pub fn address_book(alloc: Global) -> anyhow::Result<Typed> {
+/// The lens of the contacts, checked.
+pub fn contacts_lens(alloc: Global) -> anyhow::Result<Typed> {
     let program = program(alloc)?;
     checked(alloc, &program)
 }

@@ -1,6 +1,7 @@
 #!/usr/bin/env bash
-# Times edits of large documents, reading and writing: bash bench/edits.sh [PROGRAM], PROGRAM being crates/edits_bench as built from
-# another commit. It is run by hand, and takes about ten minutes.
+# Times what no command shows alone: edits of large documents, reading and writing, and decisions of consistency. bash
+# bench/library.sh [PROGRAM], PROGRAM being crates/library_bench as built from another commit. It is run by hand, and takes about
+# ten minutes.
 #
 # A line has an edit and the microseconds of processor time of one at 1,000 to 1,000,000 records, at places spread over the document,
 # with the old document kept. Then it has how many times longer the edit takes at 100,000 and at 1,000,000 records than at 1,000, with
@@ -9,12 +10,14 @@
 #
 # Above the edits are a word of 100,000 inserts on an empty list (wanted: less than a second), the milliseconds and the most memory of
 # writing and reading 100,000 records, and a document of a million records and 32 levels that is copied, edited and dropped.
-# The program is built first if it is not there: `rt run` in crates/edits_bench.
+# The last lines have a number of people, the milliseconds of processor time of one decision whether two sides with as many people are
+# consistent, and how many times longer it takes than with a tenth of the people, with the word `over` after a ratio above 15.
+# The program is built first if it is not there: `rt run` in crates/library_bench.
 set -euo pipefail
 
 program=${1:+$(realpath "$1")}
-cd "$(dirname "$0")/../crates/edits_bench"
-program=${program:-out/edits_bench}
+cd "$(dirname "$0")/../crates/library_bench"
+program=${program:-out/library_bench}
 [ -x "$program" ] || rt run -- every 20 2 >/dev/null
 
 exec python3 - "$program" <<'PYTHON'
@@ -91,4 +94,12 @@ for task, (near, far, statement) in EDITS.items():
     # one time of the program makes a thousand edits
     row(task, [once(task, size, 100) / 1000 for size in SIZES], (near, far))
     row('  in Python', [in_python(statement, size) for size in SIZES])
+
+before = None
+for people in [1000, 10000, 100000]:
+    seconds = once('consistent', people, 200000 // people)
+    ratio = seconds / before if before else None
+    shown = '' if ratio is None else '%8.1f %s' % (ratio, 'over' if ratio > 15 else '')
+    print(('consistent: %7d people %10.3f ms %s' % (people, seconds * 1000, shown)).rstrip(), flush=True)
+    before = seconds
 PYTHON

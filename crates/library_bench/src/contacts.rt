@@ -1,4 +1,4 @@
-//! Address books: two documents, and a complement that fits them.
+//! Contacts: two documents of people and firms, and a complement that fits them.
 
 use doc_values::{Doc, Docs};
 use hold_shapes::{ListShape, Shape};
@@ -7,9 +7,9 @@ use std::alloc::{AllocError, Global};
 use tag_seq::TagSeq;
 use texts::{Name, Str};
 
-/// An address book: both documents, with the complement. Behind each ten people the left document has a firm.
+/// Contacts: both documents, with the complement. Behind each ten people the left document has a firm.
 #[derive(Drop)]
-pub struct Book {
+pub struct Contacts {
     /// The list of people and firms.
     pub left: Doc,
     /// The arm of each item, the tag of each item, and what the records of the right side keep.
@@ -18,13 +18,13 @@ pub struct Book {
     pub right: Doc,
 }
 
-impl Book {
-    /// A book of `people` people. The names on the right are those on the left if this word is `name`.
-    pub fn new(alloc: Global, people: u64, word: &str) -> Result<Book, AllocError> {
+impl Contacts {
+    /// Contacts with `people` people. The names on the right are those on the left if this word is `name`.
+    pub fn new(alloc: Global, people: u64, word: &str) -> Result<Contacts, AllocError> {
         let left = list(alloc, items(alloc, people)?)?;
         let comp = complement(alloc, people)?;
         let right = right_side(alloc, people, word)?;
-        Ok(Book { left, comp, right })
+        Ok(Contacts { left, comp, right })
     }
 }
 

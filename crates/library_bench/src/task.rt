@@ -2,6 +2,7 @@
 
 use crate::action::applied;
 use crate::address_book::{Kind, record_count};
+use crate::decision::decide;
 use crate::deep::records_below;
 use crate::edits::{Edit, inserted, words_of};
 use crate::json::{read_back, written};
@@ -21,6 +22,8 @@ pub enum Task {
     Deep,
     /// A word of as many inserts as it would have records is applied to the empty list.
     Inserts,
+    /// It is decided whether the two sides of contacts with as many people are consistent.
+    Consistent,
 }
 
 impl Task {
@@ -41,6 +44,7 @@ impl Task {
             "keyed-rename" => Some(Task::Edit(Kind::Keyed, Edit::Rename)),
             "keyed-write" => Some(Task::Write(Kind::Keyed)),
             "keyed-read" => Some(Task::Read(Kind::Keyed)),
+            "consistent" => Some(Task::Consistent),
             _ => None,
         }
     }
@@ -53,6 +57,7 @@ impl Task {
             Task::Read(kind) => records_read(alloc, kind, size, times),
             Task::Deep => records_below_lists(alloc, size, times),
             Task::Inserts => records_inserted(alloc, size, times),
+            Task::Consistent => records_decided(alloc, size, times),
         }
     }
 }
@@ -92,4 +97,9 @@ fn records_inserted(alloc: Global, count: u64, times: u64) -> anyhow::Result<usi
 // The number of records of what was made.
 fn records_of(made: anyhow::Result<Doc>) -> anyhow::Result<usize> {
     Ok(record_count(&made?))
+}
+
+fn records_decided(alloc: Global, size: u64, times: u64) -> anyhow::Result<usize> {
+    decide(alloc, size, times)?;
+    Ok(size as usize)
 }

@@ -1,4 +1,4 @@
-//! Edits, reads and writes large documents, so that bench/edits.sh can time it.
+//! Edits, reads and writes large documents, and decides consistency, so that bench/library.sh can time it.
 //!
 //! Words: a task, the number of records of the document, and how often the task is done. The task `every` does
 //! each of the others, one after another. A line has a task and the number of records that it leaves.
@@ -6,9 +6,12 @@
 
 mod action;
 mod address_book;
+mod contacts;
+mod decision;
 mod deep;
 mod edits;
 mod json;
+mod lens;
 mod task;
 
 use crate::task::Task;
@@ -34,7 +37,7 @@ fn main(rt: HostRuntime) -> anyhow::Result<()> {
 }
 
 // The names of the tasks.
-const NAMES: [&str; 14] = [
+const NAMES: [&str; 15] = [
     "list-mod",
     "list-ins",
     "list-del",
@@ -49,6 +52,7 @@ const NAMES: [&str; 14] = [
     "keyed-rename",
     "keyed-write",
     "keyed-read",
+    "consistent",
 ];
 
 // The line of the task of a name, after it was done.
