@@ -1,0 +1,37 @@
+"""What the scripts of tools/ have in common."""
+
+import argparse
+import sys
+
+from .answers import ProgramRefused, RunEnded
+from .explain import explain_program
+from .json_text import NotJson
+from .program import NoProgram
+
+
+def words(about, *arguments):
+    """The words of a command line: each argument is its name and its help."""
+    parser = argparse.ArgumentParser(description=about, formatter_class=argparse.RawDescriptionHelpFormatter)
+    for name, told in arguments:
+        parser.add_argument(name, help=told, **({"choices": ["left", "right"]} if name == "side" else {}))
+    return parser.parse_args()
+
+
+def read_text(path):
+    """The text of a file, or of the standard input if the path is `-`."""
+    if path == "-":
+        return sys.stdin.read()
+    with open(path, encoding="utf-8") as file:
+        return file.read()
+
+
+def run(main, program_text):
+    """Runs a script's work, and ends with its status. A refused program is explained, and ends with 3 as the program does."""
+    try:
+        sys.exit(main())
+    except ProgramRefused as why:
+        print(*explain_program(program_text, why.reason), sep="\n", file=sys.stderr)
+        sys.exit(3)
+    except (NoProgram, RunEnded, NotJson, OSError) as why:
+        print(why, file=sys.stderr)
+        sys.exit(2)

@@ -1,0 +1,62 @@
+"""The scripts, as they are called."""
+
+import json
+import os
+import subprocess
+import tempfile
+
+from editlens.program import TOP
+
+TOOLS = os.path.join(TOP, "tools")
+PROGRAM = "main keyed {title ~ card: id text, left hours: int, right color: text}\n"
+
+
+def called(folder, tool, *words, given=""):
+    ran = subprocess.run([os.path.join(TOOLS, tool), *words], cwd=folder, input=given, capture_output=True, text=True, check=False)
+    return ran.returncode, ran.stdout, ran.stderr
+
+
+def files(folder, **texts):
+    for name, text in texts.items():
+        with open(os.path.join(folder, name), "w", encoding="utf-8") as file:
+            file.write(text if isinstance(text, str) else json.dumps(text))
+
+
+def test_help():
+    for tool in ("fits", "load", "explain", "patch-to-edit", "edit-to-patch", "check"):
+        status, out, _ = called(TOP, tool, "--help")
+        assert status == 0 and out.startswith("usage: "), tool
+
+
+def test_fits():
+    with tempfile.TemporaryDirectory() as folder:
+        files(folder, lens=PROGRAM, good={"door": {"hours": 3, "title": "Paint"}}, bad={"door": {"hours": "3"}})
+        assert called(folder, "fits", "lens", "left", "good") == (0, "it fits\n", "")
+        status, out, _ = called(folder, "fits", "lens", "left", "bad")
+        assert status == 1 and out.splitlines() == [
+            '/door/hours: wanted a whole number within 64 bits, without fraction or exponent, found "3"',
+            "/door/title: wanted a field of type text, found nothing",
+        ], out
+
+
+def test_load_and_explain():
+    with tempfile.TemporaryDirectory() as folder:
+        files(folder, lens=PROGRAM, left={"door": {"hours": 3, "title": "Paint"}}, right={"door": {"card": "Paint", "color": "red"}})
+        status, script, err = called(folder, "load", "lens", "left", "right")
+        assert (status, err) == (0, ""), err
+        assert called(folder, "explain", "-", given=script) == (0, "nothing is refused\n", "")
+        files(folder, right={"door": {"card": "Draw", "color": "red"}})
+        status, again, err = called(folder, "load", "lens", "left", "right")
+        assert status == 1 and again == script and '/door/card: by the left document "Paint", here "Draw"' in err
+        status, out, err = called(folder, "explain", "-", given="main id\n")
+        assert status == 3 and "found: the end of the program" in err
+
+
+def test_patch_and_back():
+    with tempfile.TemporaryDirectory() as folder:
+        files(folder, lens=PROGRAM, left={"door": {"hours": 3, "title": "Paint"}}, patch=[{"op": "move", "from": "/door", "path": "/gate"}])
+        status, line, _ = called(folder, "patch-to-edit", "lens", "left", "left", "patch")
+        assert status == 0 and json.loads(line) == {"side": "left", "edit": [{"rename": ["door", "gate"]}]}
+        files(folder, edit=json.loads(line)["edit"])
+        status, patch, _ = called(folder, "edit-to-patch", "lens", "left", "left", "edit")
+        assert status == 0 and json.loads(patch) == [{"op": "move", "from": "/door", "path": "/gate"}]
