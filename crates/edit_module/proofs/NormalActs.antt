@@ -115,3 +115,5 @@ normal_to-acts (suc n) w t x wf k =
 pub equal-act : (t : TyTree) (u w : WordTree) (x : DocTree) → is_well_formed t ≡ true → has t x ≡ true → normal u ≡ normal w → inner (act t u x) ≡ inner (act t w x)
 equal-act t u w x wf k e =
     sym (normal_to-acts (word_depth u) u t x wf k) ∙ ap (λ z. value t z x) e ∙ normal_to-acts (word_depth w) w t x wf k
+
+pub ruleset equal_rules = (equal-act)

@@ -13,7 +13,8 @@ ghost use Rattle.doc_values.specs.Initial.{initial};
 ghost use Rattle.edit_module.specs.Views.{primitive_tree, word_tree};
 ghost use Rattle.edit_module.specs.Action.{act, act_primitive, inner, act_at_place, put_result_at, doc_at};
 ghost use Rattle.edit_module.specs.Containers.{IsHeld, container_ty};
-ghost use Rattle.edit_module.specs.Words.{stay, switch};
+ghost use Rattle.edit_module.specs.Words.{WordTree, stay, switch};
+ghost use Rattle.edit_module.specs.Normal.{normal};
 ghost use Rattle.edit_module.specs.Refusals.{IsRefusal, IsStepRefusal};
 
 use crate::container::Container;
@@ -32,8 +33,8 @@ use std::mem;
 /// The type is well formed and the document has it. [`ActFault::NoApply`] comes if and only if a primitive fails; it
 /// has the number, from 0, of the first one that does, and its cause. Where a word inside a primitive fails, the
 /// primitive fails with the cause inside. docs/EDITS.md has each primitive with its causes. The document stays as it
-/// is in any case.
-#[tactic(auto, using(crate::proofs::ActionKeepsTypes::act_rules))]
+/// is in any case. Words with the same normal form have the same value here, or fail with the same cause.
+#[tactic(auto, using(crate::proofs::ActionKeepsTypes::act_rules, crate::proofs::NormalActs::equal_rules))]
 pub fn act(alloc: Global, ty: &Ty, word: &Word, doc: &Doc) -> Result<Doc, ActFault>
     requires well_formed { is_well_formed (ty_tree ty.now) ≡ true }
     requires typed { has (ty_tree ty.now) (doc_tree doc.now) ≡ true }
@@ -41,6 +42,12 @@ pub fn act(alloc: Global, ty: &Ty, word: &Word, doc: &Doc) -> Result<Doc, ActFau
         (λ d. act (ty_tree ty.now) (word_tree word.now) (doc_tree doc.now) ≡ Ok (doc_tree d))
         (λ fault. IsRefusal (act (ty_tree ty.now) (word_tree word.now) (doc_tree doc.now)) fault) }
     ensures typed { IfOk result (λ d. has (ty_tree ty.now) (doc_tree d) ≡ true) }
+
+    // Words that differ only by where their primitives are joined have the same outcome; only the
+    // number of the primitive that fails may differ, which `inner` leaves out.
+    ensures equal_words { (other : WordTree) → normal (word_tree word.now) ≡ normal other
+        → inner (act (ty_tree ty.now) (word_tree word.now) (doc_tree doc.now))
+        ≡ inner (act (ty_tree ty.now) other (doc_tree doc.now)) }
 {
     match doc.twin(alloc) {
         Ok(copy) => run(alloc, word, ty, copy),

@@ -1,8 +1,9 @@
-//! Edits of documents: words of primitives, and their action.
+//! Edits of documents: words of primitives, their action, and changes of one entry or a group of entries.
 #![tactic(auto)]
 
 pub mod action;
 pub mod atom;
+pub mod change;
 mod container;
 pub mod entry;
 pub mod fault;
@@ -13,6 +14,7 @@ pub mod word;
 
 pub use crate::action::act;
 pub use crate::atom::Atom;
+pub use crate::change::{Change, Entries};
 pub use crate::entry::Entry;
 pub use crate::fault::{ActFault, Cause};
 pub use crate::laws::{

@@ -1,2 +1,4 @@
+mod Examples
+pub mod Groups
 pub mod RunInStep
 pub mod StepsCarry

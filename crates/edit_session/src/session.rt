@@ -6,17 +6,21 @@ ghost use Rattle.doc_values.specs.Initial.{initial};
 ghost use Rattle.doc_values.specs.Typing.{has};
 ghost use Rattle.edit_module.specs.Action.{act};
 ghost use Rattle.edit_module.specs.Refusals.{IsRefusal};
-ghost use Rattle.edit_module.specs.Views.{word_tree, entry_tree};
+ghost use Rattle.edit_module.specs.Changes.{entries_of};
+ghost use Rattle.edit_module.specs.Views.{word_tree, word_trees, entry_tree, change_tree};
 ghost use Rattle.lens_core.specs.Complements.{comp_tree};
 ghost use Rattle.lens_core.specs.Sides.{near};
+ghost use Rattle.edit_session.specs.declared.fault.GroupFault.TheVariants as of_groups;
 ghost use Rattle.edit_session.specs.declared.fault.StepFault.TheVariants.{NoMemory};
-ghost use Rattle.edit_session.specs.Step.{IsInStep, first, document_on, step};
-ghost use Rattle.edit_session.specs.Views.{triple_tree, IsStepFault};
+ghost use Rattle.edit_session.specs.Step.{IsInStep, ApplyInTurn, first, document_on, step, step_all};
+ghost use Rattle.edit_session.specs.Views.{triple_tree, IsStepFault, IsGroupFault};
 
-use crate::fault::StepFault;
+use crate::fault::{GroupFault, StepFault};
+use crate::group::next_all;
 use crate::triple::Triple;
 use doc_values::{Doc, init};
-use edit_module::{ActFault, Entry, Word, act};
+use edit_module::change::Words;
+use edit_module::{ActFault, Change, Entry, Word, act};
 use lens_core::{Carried, CarryFault, Comp, EditLens};
 use std::alloc::{AllocError, Global};
 use std::marker::Model;
@@ -114,6 +118,37 @@ impl<L: EditLens> Session<L> {
         Ok(word)
     }
 
+    /// Applies a change: its entries one after another, all of them or none. Returns the carried words, one for each entry and in
+    /// their order.
+    ///
+    /// Each entry starts from the three that the entry before it left, and is applied and carried as by [`Session::step`]. A
+    /// group of no entries leaves the three as they are, and its list of words is empty.
+    ///
+    /// - `NoApply`: if and only if the word of an entry does not apply to the document of its side when its turn comes; it
+    ///   has the number of the first such entry in the group, from 0, the number of the first primitive of its word that
+    ///   fails, and the cause. For a single entry the number of the entry is 0.
+    /// - `NoMemory`: only if memory ran out.
+    ///
+    /// After an error the session is as it was: left document, complement and right document are those from before the
+    /// change, also where entries of the group come before the one that is refused. A group whose entries apply in turn is
+    /// refused only if memory runs out. A copy of the three, which shares their contents, is kept until the end.
+    pub fn step_all(&mut self, change: &Change) -> Result<Words, GroupFault>
+        ensures steps { MatchResult result
+            (λ words. step_all (L.left_type self.old.lens) (L.right_type self.old.lens) (L.carried self.old.lens) (triple_tree self.old.triple) (change_tree change.now)
+            ≡ Some (Ok (triple_tree self.new.triple, word_trees words)))
+            (IsGroupFault (step_all (L.left_type self.old.lens) (L.right_type self.old.lens) (L.carried self.old.lens) (triple_tree self.old.triple) (change_tree change.now))) }
+        ensures applies { IfErr result (λ fault.
+            ApplyInTurn (L.left_type self.old.lens) (L.right_type self.old.lens) (L.carried self.old.lens) (triple_tree self.old.triple) (entries_of (change_tree change.now))
+            → fault ≡ of_groups.NoMemory) }
+        ensures consistent { IsInStep (L.holds self.new.lens) (triple_tree self.new.triple) }
+        ensures lens { self.new.lens ≡ self.old.lens }
+        ensures unchanged { OnErr result (self.new ≡ self.old) }
+    {
+        let (triple, words) = next_all(self.alloc, &self.lens, &self.triple, change.entries())?;
+        self.triple = triple;
+        Ok(words)
+    }
+
     /// The lens.
     pub fn lens(&self) -> &L
         ensures { result.now ≡ self.now.lens }
@@ -181,7 +216,7 @@ fn act_on<L: EditLens>(
 
 // The triple after an entry, and the carried word. The triple is consistent, so nothing that comes after the action on the
 // document of the entry's side is refused.
-fn next<L: EditLens>(
+pub(crate) fn next<L: EditLens>(
     alloc: Global,
     lens: &L,
     triple: &Triple,

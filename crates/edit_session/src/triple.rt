@@ -8,7 +8,8 @@ ghost use Rattle.edit_session.specs.Views.{triple_tree};
 
 use doc_values::Doc;
 use lens_core::Comp;
-use texts::Side;
+use std::alloc::{AllocError, Global};
+use texts::{Side, Twin};
 
 /// A left document, a complement and a right document.
 #[derive(Drop)]
@@ -48,5 +49,21 @@ impl Triple {
             Side::Left => &self.left,
             Side::Right => &self.right,
         }
+    }
+}
+
+impl Twin for Triple {
+    ghost use Rattle.edit_session.specs.Step.{TripleTree};
+    ghost use Rattle.edit_session.specs.Views.{triple_tree};
+
+    ghost Meaning = { TripleTree };
+
+    ghost meaning = { triple_tree };
+
+    fn twin(&self, alloc: Global) -> Result<Self, AllocError> {
+        let left = self.left.twin(alloc)?;
+        let comp = self.comp.twin(alloc)?;
+        let right = self.right.twin(alloc)?;
+        Ok(Triple { left, comp, right })
     }
 }
