@@ -60,3 +60,9 @@ def test_patch_and_back():
         files(folder, edit=json.loads(line)["edit"])
         status, patch, _ = called(folder, "edit-to-patch", "lens", "left", "left", "edit")
         assert status == 0 and json.loads(patch) == [{"op": "move", "from": "/door", "path": "/gate"}]
+
+
+def test_the_picture_is_drawn_anew():
+    drawn = subprocess.run([os.path.join(TOP, "docs", "draw"), "--print"], capture_output=True, text=True, check=True)
+    with open(os.path.join(TOP, "docs", "lens.svg"), encoding="utf-8") as file:
+        assert file.read() == drawn.stdout, "run docs/draw"
