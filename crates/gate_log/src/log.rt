@@ -191,6 +191,8 @@ impl Log {
         requires sound { self.old.sound ≡ true }
         requires behind { IsBehind (D.content disk.old) (D.images disk.old) self.old }
 
+        ensures behind { OnOk result (IsBehind (D.content disk.new) (D.images disk.new) self.new) }
+
         // These hold of the payloads that the log has, which are known if the disk's content is.
         ensures ends { (held : List (List ℕ)) → Stands (D.content disk.old) (D.images disk.old) self.old held
             → AppendEnds (Stands (D.content disk.new) (D.images disk.new) self.new) (D.images disk.new)
