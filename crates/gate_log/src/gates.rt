@@ -58,7 +58,8 @@ pub fn gate_at<D: Disk>(disk: &mut D, at: u64, end: u64) -> Result<Gate, Failed>
     ensures gate { IfOk result (λ gate.
         IfSome (D.content disk.old) (λ bytes. gate ≡ gate_at (drop at bytes))) }
     ensures inside { IfOk result (λ gate. EndsBefore end at gate) }
-    ensures reads { OnlyReads D.content D.images D.moment D.images_since D.faults D.room disk.old disk.new }
+    ensures reads { OnlyReads D.content D.images D.moment D.images_since D.faults D.room
+        disk.old disk.new }
     ensures cause { OnErr result (Increased (D.faults disk.old) (D.faults disk.new)) }
     ensures sure { OnErr result (IsNone (D.room disk.old)) }
 {
@@ -82,8 +83,10 @@ pub fn payload_at<D: Disk>(
     requires end { IfSome (D.content disk.old) (λ bytes. end ≡ length bytes) }
     ensures payload { IfOk result (λ found.
         IfSome (D.content disk.old) (λ bytes. IsPayloadAt (drop at bytes) found)) }
-    ensures inside { IfOk result (λ found. IfSome found (λ payload. at + 9 + length payload < end)) }
-    ensures reads { OnlyReads D.content D.images D.moment D.images_since D.faults D.room disk.old disk.new }
+    ensures inside { IfOk result (λ found.
+        IfSome found (λ payload. at + 9 + length payload < end)) }
+    ensures reads { OnlyReads D.content D.images D.moment D.images_since D.faults D.room
+        disk.old disk.new }
     ensures cause { IsErrOf result LogFault.DiskFault
         → Increased (D.faults disk.old) (D.faults disk.new) }
     ensures sure { IsErrOf result LogFault.DiskFault → IsNone (D.room disk.old) }
@@ -104,7 +107,8 @@ pub fn write_and_sync<D: Disk>(disk: &mut D, at: u64, bytes: &[u8]) -> Result<()
         (Steps (Holds at bytes.now) (D.content disk.old) (D.content disk.new)) }
     ensures torn { OnErr result
         (Steps (IsTornOrHolds at bytes.now) (D.content disk.old) (D.content disk.new)) }
-    ensures durable { OnOk result (IfSome (D.content disk.new) (λ bytes. Only bytes (D.images disk.new))) }
+    ensures durable { OnOk result
+        (IfSome (D.content disk.new) (λ bytes. Only bytes (D.images disk.new))) }
     ensures images { Follows (Torn at (length bytes.now)) (D.images disk.old) (D.images disk.new) }
     ensures any_moment { LeavesOnly D.moment D.images_since disk.old disk.new
         (IsTornOf (D.images disk.old) at (length bytes.now)) }

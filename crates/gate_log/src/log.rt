@@ -119,7 +119,8 @@ pub fn open_log<D: Disk>(disk: &mut D) -> Result<Log, LogFault>
 fn opened<D: Disk>(disk: &mut D) -> Result<Log, LogFault>
     ensures opens { IfSome (D.content disk.old) (λ bytes. Opens bytes result) }
     ensures sound { IfOk result (λ log. log.sound ≡ true) }
-    ensures reads { OnlyReads D.content D.images D.moment D.images_since D.faults D.room disk.old disk.new }
+    ensures reads { OnlyReads D.content D.images D.moment D.images_since D.faults D.room
+        disk.old disk.new }
     ensures possible { IfErr result IsOpenFault }
     ensures cause { IsErrOf result LogFault.DiskFault
         → Increased (D.faults disk.old) (D.faults disk.new) }
@@ -146,7 +147,8 @@ fn walk_gates<D: Disk>(disk: &mut D, buffer: &mut [u8], end: u64) -> Result<Log,
     requires marked { IfSome (D.content disk.old) (IsMarked end) }
     ensures opens { IfSome (D.content disk.old) (λ bytes. Opens bytes result) }
     ensures sound { IfOk result (λ log. log.sound ≡ true) }
-    ensures reads { OnlyReads D.content D.images D.moment D.images_since D.faults D.room disk.old disk.new }
+    ensures reads { OnlyReads D.content D.images D.moment D.images_since D.faults D.room
+        disk.old disk.new }
     ensures possible { IfErr result IsOpenFault }
     ensures cause { IsErrOf result LogFault.DiskFault
         → Increased (D.faults disk.old) (D.faults disk.new) }
@@ -191,14 +193,20 @@ impl Log {
         requires sound { self.old.sound ≡ true }
         requires behind { IsBehind (D.content disk.old) (D.images disk.old) self.old }
 
+        ensures behind { OnOk result (IsBehind (D.content disk.new) (D.images disk.new) self.new) }
+
         // These hold of the payloads that the log has, which are known if the disk's content is.
-        ensures ends { (held : List (List ℕ)) → Stands (D.content disk.old) (D.images disk.old) self.old held
-            → AppendEnds (Stands (D.content disk.new) (D.images disk.new) self.new) (D.images disk.new)
-            held payload.now result }
-        ensures read { (held : List (List ℕ)) → Stands (D.content disk.old) (D.images disk.old) self.old held
+        ensures ends { (held : List (List ℕ))
+            → Stands (D.content disk.old) (D.images disk.old) self.old held
+            → AppendEnds (Stands (D.content disk.new) (D.images disk.new) self.new)
+            (D.images disk.new) held payload.now result }
+        ensures read { (held : List (List ℕ))
+            → Stands (D.content disk.old) (D.images disk.old) self.old held
             → IfSome (D.content disk.new) (HoldsOneMore held payload.now) }
-        ensures moments { (held : List (List ℕ)) → Stands (D.content disk.old) (D.images disk.old) self.old held
-            → LeavesOnly D.moment D.images_since disk.old disk.new (AppendLeaves held payload.now result) }
+        ensures moments { (held : List (List ℕ))
+            → Stands (D.content disk.old) (D.images disk.old) self.old held
+            → LeavesOnly D.moment D.images_since disk.old disk.new
+            (AppendLeaves held payload.now result) }
 
         ensures log { self.new ≡ after_append self.old (length payload.now) result }
         ensures faults { D.faults disk.old ≤ D.faults disk.new }
@@ -277,15 +285,18 @@ impl Log {
         ensures all { IfOk result (λ all. IfSome (D.content disk.old) (HoldsPayloads all)) }
         ensures count { IfOk result (λ all. length all ≡ self.now.count) }
         ensures behind { IsBehind (D.content disk.new) (D.images disk.new) self.now }
-        ensures reads { OnlyReads D.content D.images D.moment D.images_since D.faults D.room disk.old disk.new }
+        ensures reads { OnlyReads D.content D.images D.moment D.images_since D.faults D.room
+            disk.old disk.new }
 
         // These hold of the payloads that the log has, which are known if the disk's content is.
         ensures payloads { IfOk result (λ all. (held : List (List ℕ))
             → Stands (D.content disk.old) (D.images disk.old) self.now held
             → IfSome (D.content disk.old) (λ _. all ≡ held)) }
-        ensures stands { (held : List (List ℕ)) → Stands (D.content disk.old) (D.images disk.old) self.now held
+        ensures stands { (held : List (List ℕ))
+            → Stands (D.content disk.old) (D.images disk.old) self.now held
             → Stands (D.content disk.new) (D.images disk.new) self.now held }
-        ensures moments { (held : List (List ℕ)) → Stands (D.content disk.old) (D.images disk.old) self.now held
+        ensures moments { (held : List (List ℕ))
+            → Stands (D.content disk.old) (D.images disk.old) self.now held
             → LeavesOnly D.moment D.images_since disk.old disk.new (HoldsPayloads held) }
         ensures content { D.content disk.new ≡ D.content disk.old }
 
@@ -307,7 +318,8 @@ impl Log {
         ensures all { IfOk result (λ all. IfSome (D.content disk.old) (HoldsPayloads all)) }
         ensures count { IfOk result (λ all. length all ≡ self.now.count) }
         ensures behind { IsBehind (D.content disk.new) (D.images disk.new) self.now }
-        ensures reads { OnlyReads D.content D.images D.moment D.images_since D.faults D.room disk.old disk.new }
+        ensures reads { OnlyReads D.content D.images D.moment D.images_since D.faults D.room
+            disk.old disk.new }
         ensures possible { IfErr result IsPayloadsFault }
         ensures never_bad { IfSome (D.content disk.old) (λ _. NoBadRecord result) }
         ensures cause { IsErrOf result LogFault.DiskFault

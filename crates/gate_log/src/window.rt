@@ -26,7 +26,8 @@ impl Window {
 
     // Whether it has so many bytes from a place on.
     fn has(&self, at: u64, count: u64) -> bool
-        ensures { IsTrue result → (self.now.start ≤ at) × (at + count ≤ self.now.start + self.now.len) }
+        ensures { IsTrue result
+            → (self.now.start ≤ at) × (at + count ≤ self.now.start + self.now.len) }
     {
         at >= self.start
             && {
@@ -69,7 +70,8 @@ fn show<D: Disk>(
     ensures room { length buffer.new ≡ length buffer.old }
     ensures within { OnOk result (window.new.len ≤ length buffer.new) }
     ensures shows { OnOk result (IfSome (D.content disk.old) (Shows window.new buffer.new)) }
-    ensures reads { OnlyReads D.content D.images D.moment D.images_since D.faults D.room disk.old disk.new }
+    ensures reads { OnlyReads D.content D.images D.moment D.images_since D.faults D.room
+        disk.old disk.new }
     ensures cause { OnErr result (Increased (D.faults disk.old) (D.faults disk.new)) }
     ensures sure { OnErr result (IsNone (D.room disk.old)) }
 {
@@ -103,7 +105,8 @@ pub fn gate_in<D: Disk>(
     ensures room { length buffer.new ≡ length buffer.old }
     ensures within { OnOk result (window.new.len ≤ length buffer.new) }
     ensures shows { OnOk result (IfSome (D.content disk.old) (Shows window.new buffer.new)) }
-    ensures reads { OnlyReads D.content D.images D.moment D.images_since D.faults D.room disk.old disk.new }
+    ensures reads { OnlyReads D.content D.images D.moment D.images_since D.faults D.room
+        disk.old disk.new }
     ensures cause { OnErr result (Increased (D.faults disk.old) (D.faults disk.new)) }
     ensures sure { OnErr result (IsNone (D.room disk.old)) }
 {

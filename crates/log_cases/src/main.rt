@@ -1,0 +1,30 @@
+//! Reads questions about logs from the standard input, one a line with the answer that is wanted, and compares each with
+//! what the log answers. It prints the number of cases and how many differ, and for each of these the line and what came.
+//! bench/log_cases.py writes the lines, and says what they mean.
+#![tactic(auto)]
+
+mod cases;
+mod crashes;
+mod far;
+mod logs;
+
+use crate::cases::differences;
+use anyhow::bail;
+
+fn main(rt: HostRuntime) -> anyhow::Result<()> {
+    let alloc = rt.alloc();
+    let mut lines = Vec::new(alloc);
+    for line in rt.lines(alloc) {
+        lines.push(line?)?;
+    }
+    let report = differences(alloc, &lines)?;
+    for difference in &report.differences {
+        println!(rt; "{difference}")?;
+    }
+    let (cases, differ) = (report.cases, report.differences.len());
+    println!(rt; "logs: {cases} cases, {differ} differ")?;
+    if differ > 0 {
+        bail!("a log is not as it is wanted");
+    }
+    Ok(())
+}
