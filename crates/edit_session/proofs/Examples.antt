@@ -1,5 +1,5 @@
 -- The definitions on small cases: a lens of two numbers that carries each word as it is, with no complement.
-use Rattle.std.proofs.Common.{◌≡◌, pos, true, false, [], ◌∷◌, Option, Some, None, Ok, Err, refl}
+use Rattle.std.proofs.Common.{◌≡◌, pos, true, false, [], ◌∷◌, Option, Some, Ok, Err, refl}
 use Rattle.texts.specs.declared.side.Side.{Side}
 use Rattle.texts.specs.declared.side.Side.TheVariants.{Left, Right}
 use Rattle.doc_values.specs.Documents.{DocTree, int}
@@ -7,11 +7,11 @@ use Rattle.doc_values.specs.Types.{TyTree, ty_int}
 use Rattle.edit_module.specs.declared.atom.Atom.TheVariants.{Number, Truth}
 use Rattle.edit_module.specs.declared.fault.Cause.TheVariants.{Kind}
 use Rattle.edit_module.specs.Words.{set, add, WordTree, no_primitives, more_primitives}
-use Rattle.edit_module.specs.Changes.{one, group, entries_of, carried_to}
+use Rattle.edit_module.specs.Changes.{one, group}
 use Rattle.lens_core.specs.Complements.{CompTree, nil}
 use Rattle.lens_core.specs.Translation.{Translated}
-use Rattle.edit_session.specs.Step.{TripleTree, step, step_each, step_all, inner_triples}
-use Rattle.edit_session.specs.Run.{AnswerTree, carried, no_apply, group_carried, group_no_apply, no_entry, take_item, run, any_refused}
+use Rattle.edit_session.specs.Step.{TripleTree, step_all, inner_triples}
+use Rattle.edit_session.specs.Run.{carried, no_apply, group_carried, group_no_apply, no_entry, take_item, run, any_refused}
 
 abbrev number : TyTree
 number = ty_int (pos 0)

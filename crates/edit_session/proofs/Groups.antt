@@ -1,5 +1,5 @@
 -- The entries of a group as a loop goes over them, and a change as the list of its entries.
-use Rattle.std.proofs.Common.{◌≡◌, ℕ, suc, ◌+◌, ◌≤◌, ◌<◌, add-one, List, [], ◌∷◌, ◌++◌, append_assoc, length, length-append, map, drop, drop-cons, get_or, Option, Some, None, Result, Ok, Err, refl, sym, ap, ◌∙◌, arith}
+use Rattle.std.proofs.Common.{◌≡◌, ℕ, suc, ◌+◌, ◌≤◌, ◌<◌, add-one, List, [], ◌∷◌, ◌++◌, append_assoc, length, length-append, drop, drop-cons, get_or, Option, Some, None, Ok, Err, refl, sym, ap, ◌∙◌, arith}
 use Rattle.std.specs.Prelude.{option_map, option_and_then}
 use Rattle.std.proofs.lemmas.List.{drop_all, append-nil}
 use Rattle.texts.specs.declared.side.Side.{Side}
@@ -11,7 +11,7 @@ use Rattle.edit_module.specs.Changes.{ChangeTree, one, group, entries_of}
 use Rattle.edit_module.specs.Action.{Why}
 use Rattle.lens_core.specs.Complements.{CompTree}
 use Rattle.lens_core.specs.Translation.{Translated}
-use Rattle.edit_session.specs.Step.{TripleTree, Stepped, AllStepped, WhyPart, with_first, after_first, alone, step, step_each, step_all}
+use Rattle.edit_session.specs.Step.{TripleTree, Stepped, AllStepped, with_first, after_first, alone, step, step_each, step_all}
 
 -- what the entries that are left make, behind the words that are carried already; they are numbered from those words on
 abbrev pub behind : List WordTree → AllStepped → AllStepped

@@ -24,9 +24,11 @@ pub(crate) fn next_all<L: EditLens>(
 ) -> Result<(Triple, Words), GroupFault>
     requires consistent { IsInStep (L.holds lens.now) (triple_tree triple.now) }
     ensures steps { MatchResult result
-        (λ r. step_each (L.left_type lens.now) (L.right_type lens.now) (L.carried lens.now) (triple_tree triple.now) (entry_trees entries.now)
+        (λ r. step_each (L.left_type lens.now) (L.right_type lens.now) (L.carried lens.now)
+        (triple_tree triple.now) (entry_trees entries.now)
         ≡ Some (Ok (triple_tree r.0, word_trees r.1)))
-        (IsGroupFault (step_each (L.left_type lens.now) (L.right_type lens.now) (L.carried lens.now) (triple_tree triple.now) (entry_trees entries.now))) }
+        (IsGroupFault (step_each (L.left_type lens.now) (L.right_type lens.now)
+        (L.carried lens.now) (triple_tree triple.now) (entry_trees entries.now))) }
     ensures consistent { IfOk result (λ r. IsInStep (L.holds lens.now) (triple_tree r.0)) }
 {
     let mut current = triple.twin(alloc)?;
@@ -49,9 +51,11 @@ fn next_part<L: EditLens>(
 ) -> Result<(Triple, Word), GroupFault>
     requires consistent { IsInStep (L.holds lens.now) (triple_tree triple.now) }
     ensures steps { MatchResult result
-        (λ r. step (L.left_type lens.now) (L.right_type lens.now) (L.carried lens.now) (triple_tree triple.now) (entry_tree entry.now)
+        (λ r. step (L.left_type lens.now) (L.right_type lens.now) (L.carried lens.now)
+        (triple_tree triple.now) (entry_tree entry.now)
         ≡ Some (Ok (triple_tree r.0, word_tree r.1)))
-        (IsPartFault part (step (L.left_type lens.now) (L.right_type lens.now) (L.carried lens.now) (triple_tree triple.now) (entry_tree entry.now))) }
+        (IsPartFault part (step (L.left_type lens.now) (L.right_type lens.now)
+        (L.carried lens.now) (triple_tree triple.now) (entry_tree entry.now))) }
     ensures consistent { IfOk result (λ r. IsInStep (L.holds lens.now) (triple_tree r.0)) }
 {
     match next(alloc, lens, triple, entry) {

@@ -13,5 +13,6 @@ pub fn runs_stay_in_step<L: EditLens, F>(_lens: &L)
 /// The three after each entry of a group are consistent, from a consistent triple on and up to the first entry that is
 /// refused. So a group keeps its documents in step inside, too, and not at its end alone.
 pub fn groups_stay_in_step<L: EditLens>(_lens: &L)
-    ensures { GroupsStayInStep (L.holds _lens.now) (L.left_type _lens.now) (L.right_type _lens.now) (L.carried _lens.now) }
+    ensures { GroupsStayInStep (L.holds _lens.now) (L.left_type _lens.now)
+        (L.right_type _lens.now) (L.carried _lens.now) }
 {}

@@ -134,11 +134,15 @@ impl<L: EditLens> Session<L> {
     /// refused only if memory runs out. A copy of the three, which shares their contents, is kept until the end.
     pub fn step_all(&mut self, change: &Change) -> Result<Words, GroupFault>
         ensures steps { MatchResult result
-            (λ words. step_all (L.left_type self.old.lens) (L.right_type self.old.lens) (L.carried self.old.lens) (triple_tree self.old.triple) (change_tree change.now)
+            (λ words. step_all (L.left_type self.old.lens) (L.right_type self.old.lens)
+            (L.carried self.old.lens) (triple_tree self.old.triple) (change_tree change.now)
             ≡ Some (Ok (triple_tree self.new.triple, word_trees words)))
-            (IsGroupFault (step_all (L.left_type self.old.lens) (L.right_type self.old.lens) (L.carried self.old.lens) (triple_tree self.old.triple) (change_tree change.now))) }
+            (IsGroupFault (step_all (L.left_type self.old.lens) (L.right_type self.old.lens)
+            (L.carried self.old.lens) (triple_tree self.old.triple) (change_tree change.now))) }
         ensures applies { IfErr result (λ fault.
-            ApplyInTurn (L.left_type self.old.lens) (L.right_type self.old.lens) (L.carried self.old.lens) (triple_tree self.old.triple) (entries_of (change_tree change.now))
+            ApplyInTurn (L.left_type self.old.lens) (L.right_type self.old.lens)
+            (L.carried self.old.lens) (triple_tree self.old.triple)
+            (entries_of (change_tree change.now))
             → fault ≡ of_groups.NoMemory) }
         ensures consistent { IsInStep (L.holds self.new.lens) (triple_tree self.new.triple) }
         ensures lens { self.new.lens ≡ self.old.lens }
