@@ -2,10 +2,11 @@
 ghost use Rattle.std.specs.Prelude.{◌≡◌, ◌<◌, All};
 
 use lens_io::{
-    Bytes, GiveFault, MemSink, MemSource, RealSink, RealSource, Sink, SureSink, SureSource,
-    TakeFault, give_all, take_all,
+    Bytes, Disk, Failed, GiveFault, MemDisk, MemSink, MemSource, RealDisk, RealSink, RealSource,
+    Sink, SureDisk, SureSink, SureSource, TakeFault, give_all, take_all,
 };
 use std::alloc::{AllocError, Global};
+use std::fs;
 use std::io::{self, ErrorKind, Read, Write};
 use std::test::Fail;
 
@@ -120,5 +121,69 @@ fn a_writer_is_a_sink(rt: HostRuntime) -> Result<(), Fail> {
     let mut broken = RealSink::new(Broken { calls: 0 });
     assert_eq!(rt; give_all(&mut broken, b"abc"), Err(GiveFault::SinkFault));
     assert_eq!(rt; broken.give(b"d"), Ok(1));
+    Ok(())
+}
+
+// A write, a sync and a write that fails. Of the last one a crash leaves all its bytes, or others in their place.
+#[test]
+fn a_disk_in_memory_fails_and_crashes(rt: HostRuntime) -> Result<(), Fail> {
+    let alloc = rt.alloc();
+    let start = Bytes::from_vec(b"abc".as_slice().to_vec(alloc)?);
+    let mut disk = MemDisk::new(alloc, start, vec![in alloc; 2]?)?;
+    assert_eq!(rt; disk.write_at(4, b"ef"), Ok(()));
+    assert_eq!(rt; disk.sync(), Ok(()));
+    assert_eq!(rt; disk.write_at(1, b"BC"), Err(Failed));
+    assert_eq!(rt; disk.bytes(), b"abc\0ef".as_slice());
+    for (kept, fill, image) in [
+        (0, b'-', b"a--\0ef".as_slice()),
+        (1, b'-', b"aBC\0ef".as_slice()),
+    ] {
+        assert_eq!(rt; disk.after_crash(alloc, kept, fill)?.as_slice(), image);
+    }
+    assert_eq!(rt; disk.len(), Ok(6));
+    assert_eq!(rt; disk.memory_faults(), 0);
+    Ok(())
+}
+
+#[test]
+fn a_sure_disk_fails_past_its_room(rt: HostRuntime) -> Result<(), Fail> {
+    let alloc = rt.alloc();
+    let start = Bytes::from_vec(b"abc".as_slice().to_vec(alloc)?);
+    let mut disk = SureDisk::new(alloc, start, 5)?;
+    assert_eq!(rt; disk.write_at(3, b"def"), Err(Failed));
+    assert_eq!(rt; disk.write_at(3, b"de"), Ok(()));
+    assert_eq!(rt; disk.sync(), Ok(()));
+    assert_eq!(rt; disk.bytes(), b"abcde".as_slice());
+    if disk.len()? == 5 {
+        let mut last = [0; 2];
+        disk.read_at(3, &mut last)?;
+        assert_eq!(rt; last, *b"de");
+    }
+    Ok(())
+}
+
+// A file that is missing has length 0 and is made by the first write. Another disk over it then reads what was written.
+#[test]
+fn a_file_is_a_disk(rt: HostRuntime) -> Result<(), Fail> {
+    const FOLDER: &str = "devices_tests_folder";
+    const FILE: &str = "devices_tests_folder/file";
+    let _ = fs::remove_file(&rt, FILE);
+    let _ = fs::create_dir(&rt, FOLDER);
+    let mut disk = RealDisk::new(&rt, FILE);
+    let mut read = [0; 3];
+    assert_eq!(rt; disk.len(), Ok(0));
+    assert_eq!(rt; disk.sync(), Ok(()));
+    assert_eq!(rt; disk.read_at(0, &mut read), Err(Failed));
+    assert_eq!(rt; disk.write_at(2, b"cd"), Ok(()));
+    assert_eq!(rt; disk.sync(), Ok(()));
+    let mut again = RealDisk::new(&rt, FILE);
+    assert_eq!(rt; again.len(), Ok(4));
+    assert_eq!(rt; again.read_at(1, &mut read), Ok(()));
+    assert_eq!(rt; read, *b"\0cd");
+    assert_eq!(rt; again.read_at(2, &mut read), Err(Failed));
+    assert_eq!(rt; RealDisk::new(&rt, FOLDER).len(), Err(Failed));
+    fs::remove_file(&rt, FILE)?;
+    fs::remove_dir(&rt, FOLDER)?;
+    assert_eq!(rt; RealDisk::new(&rt, FILE).write_at(0, b"a"), Err(Failed));
     Ok(())
 }
