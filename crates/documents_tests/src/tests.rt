@@ -222,10 +222,11 @@ fn words(rt: HostRuntime) -> Result<(), Fail> {
     Ok(())
 }
 
-// The text of the change of a line.
+// The text of a copy of the change of a line.
 fn change_text(alloc: Global, line: &Line) -> Result<String, Fail> {
     let change = read_entry(alloc, line)?;
-    let tree = write_change(alloc, &change)?;
+    let copy = change.twin(alloc)?;
+    let tree = write_change(alloc, &copy)?;
     let text = write_compact(alloc, &tree);
     drop(tree);
     Ok(text?)
@@ -237,6 +238,21 @@ fn lines(rt: HostRuntime) -> Result<(), Fail> {
     let line = Line::from_slice(alloc, b"{\"side\":\"left\",\"edit\":[{\"add\":1}]}")?;
     let text = change_text(alloc, &line.twin(alloc)?)?;
     assert_eq!(rt; text.as_str(), "{\"edit\":[{\"add\":1}],\"side\":\"left\"}");
+    Ok(())
+}
+
+#[test]
+fn groups(rt: HostRuntime) -> Result<(), Fail> {
+    let alloc = rt.alloc();
+    let line = Line::from_slice(
+        alloc,
+        b"{\"group\":[{\"side\":\"right\",\"edit\":[]},{\"side\":\"left\",\"edit\":[{\"add\":1}]}]}",
+    )?;
+    let text = change_text(alloc, &line)?;
+    assert_eq!(rt;
+        text.as_str(),
+        "{\"group\":[{\"edit\":[],\"side\":\"right\"},{\"edit\":[{\"add\":1}],\"side\":\"left\"}]}"
+    );
     Ok(())
 }
 
