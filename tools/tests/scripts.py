@@ -3,6 +3,7 @@
 import json
 import os
 import subprocess
+import sys
 import tempfile
 
 from editlens.program import TOP
@@ -60,6 +61,23 @@ def test_patch_and_back():
         files(folder, edit=json.loads(line)["edit"])
         status, patch, _ = called(folder, "edit-to-patch", "lens", "left", "left", "edit")
         assert status == 0 and json.loads(patch) == [{"op": "move", "from": "/door", "path": "/gate"}]
+
+
+def test_the_example_in_python():
+    """The Python of the page of the tools, in a folder with the lens of that page."""
+    with open(os.path.join(TOOLS, "README.md"), encoding="utf-8") as file:
+        page = file.read()
+    lens = page.split("$ cat > book.lens <<'END'\n")[1].split("END\n")[0]
+    code = page.split("```python\n")[1].split("```")[0]
+    with tempfile.TemporaryDirectory() as folder:
+        files(folder, **{"book.lens": lens, "example.py": code})
+        how = {**os.environ, "PYTHONPATH": TOOLS, "PYTHONDONTWRITEBYTECODE": "1"}
+        ran = subprocess.run([sys.executable, "example.py"], cwd=folder, env=how, capture_output=True, text=True, check=False)
+    assert ran.returncode == 0 and ran.stdout.splitlines() == [
+        "[{'at': ['people', [{'ins': 1}]]}]",
+        "range 0",
+        "{'firms': [], 'people': [{'name': '', 'note': ''}]}",
+    ], ran
 
 
 def test_the_picture_is_drawn_anew():
