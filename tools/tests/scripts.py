@@ -53,6 +53,23 @@ def test_load_and_explain():
         assert status == 3 and "found: the end of the program" in err
 
 
+def test_files_that_cannot_be_used():
+    with tempfile.TemporaryDirectory() as folder:
+        files(folder, lens=PROGRAM, broken="{bad", good={})
+        for words in (("nowhere", "left", "good"), ("lens", "left", "broken"), ("lens", "left", "nowhere")):
+            status, out, err = called(folder, "fits", *words)
+            assert (status, out) == (2, "") and err.count("\n") == 1, (words, err)
+
+
+def test_line_ends_of_another_system():
+    """Offsets count each byte, so CR and LF stay as they are."""
+    with tempfile.TemporaryDirectory() as folder:
+        with open(os.path.join(folder, "script"), "wb") as file:
+            file.write(b"type t = int;\r\nmain {a ~ b: id u}\r\n---\r\n")
+        status, _, err = called(folder, "explain", "script")
+        assert status == 3 and "line 2, column 17:" in err.splitlines(), err
+
+
 def test_patch_and_back():
     with tempfile.TemporaryDirectory() as folder:
         files(folder, lens=PROGRAM, left={"door": {"hours": 3, "title": "Paint"}}, patch=[{"op": "move", "from": "/door", "path": "/gate"}])
