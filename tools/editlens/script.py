@@ -18,11 +18,15 @@ def words(about, *arguments):
 
 
 def read_text(path):
-    """The text of a file, or of the standard input if the path is `-`."""
-    if path == "-":
-        return sys.stdin.read()
-    with open(path, encoding="utf-8") as file:
-        return file.read()
+    """The text of a file, with its line ends as they are, or of the standard input if the path is `-`. Ends with 2 if there is none."""
+    try:
+        if path == "-":
+            return sys.stdin.buffer.read().decode()
+        with open(path, encoding="utf-8", newline="") as file:
+            return file.read()
+    except (OSError, UnicodeDecodeError) as why:
+        print(f"{path}: {why}", file=sys.stderr)
+        sys.exit(2)
 
 
 def run(main, program_text):

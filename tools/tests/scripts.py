@@ -3,6 +3,7 @@
 import json
 import os
 import subprocess
+import sys
 import tempfile
 
 from editlens.program import TOP
@@ -52,6 +53,23 @@ def test_load_and_explain():
         assert status == 3 and "found: the end of the program" in err
 
 
+def test_files_that_cannot_be_used():
+    with tempfile.TemporaryDirectory() as folder:
+        files(folder, lens=PROGRAM, broken="{bad", good={})
+        for words in (("nowhere", "left", "good"), ("lens", "left", "broken"), ("lens", "left", "nowhere")):
+            status, out, err = called(folder, "fits", *words)
+            assert (status, out) == (2, "") and err.count("\n") == 1, (words, err)
+
+
+def test_line_ends_of_another_system():
+    """Offsets count each byte, so CR and LF stay as they are."""
+    with tempfile.TemporaryDirectory() as folder:
+        with open(os.path.join(folder, "script"), "wb") as file:
+            file.write(b"type t = int;\r\nmain {a ~ b: id u}\r\n---\r\n")
+        status, _, err = called(folder, "explain", "script")
+        assert status == 3 and "line 2, column 17:" in err.splitlines(), err
+
+
 def test_patch_and_back():
     with tempfile.TemporaryDirectory() as folder:
         files(folder, lens=PROGRAM, left={"door": {"hours": 3, "title": "Paint"}}, patch=[{"op": "move", "from": "/door", "path": "/gate"}])
@@ -60,6 +78,23 @@ def test_patch_and_back():
         files(folder, edit=json.loads(line)["edit"])
         status, patch, _ = called(folder, "edit-to-patch", "lens", "left", "left", "edit")
         assert status == 0 and json.loads(patch) == [{"op": "move", "from": "/door", "path": "/gate"}]
+
+
+def test_the_example_in_python():
+    """The Python of the page of the tools, in a folder with the lens of that page."""
+    with open(os.path.join(TOOLS, "README.md"), encoding="utf-8") as file:
+        page = file.read()
+    lens = page.split("$ cat > book.lens <<'END'\n")[1].split("END\n")[0]
+    code = page.split("```python\n")[1].split("```")[0]
+    with tempfile.TemporaryDirectory() as folder:
+        files(folder, **{"book.lens": lens, "example.py": code})
+        how = {**os.environ, "PYTHONPATH": TOOLS, "PYTHONDONTWRITEBYTECODE": "1"}
+        ran = subprocess.run([sys.executable, "example.py"], cwd=folder, env=how, capture_output=True, text=True, check=False)
+    assert ran.returncode == 0 and ran.stdout.splitlines() == [
+        "[{'at': ['people', [{'ins': 1}]]}]",
+        "range 0",
+        "{'firms': [], 'people': [{'name': '', 'note': ''}]}",
+    ], ran
 
 
 def test_the_picture_is_drawn_anew():
