@@ -63,6 +63,11 @@ begin_alternatives arms side t c (switch m n u) =
     option_and_then (λ _. option_map (begin_anew u) (arm_of arms side n)) (current_arm arms side t m)
 begin_alternatives arms side t c _ = None
 
+-- the beginning needs the missing complements of the arms: for Switch alone
+abbrev pub NeedsStarts : PrimitiveTree → Type 0
+NeedsStarts (switch m n u) = Unit {0}
+NeedsStarts _ = ⊥
+
 -- Stay of the far tag of the arm
 abbrev pub finish_stay : Side → Translated → Option ArmAt → Translated
 finish_stay side r None = r

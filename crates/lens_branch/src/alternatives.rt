@@ -10,7 +10,7 @@ ghost use Rattle.lens_core.specs.Sides.{near};
 ghost use Rattle.lens_core.specs.Translation.{carried_tree};
 ghost use Rattle.lens_core.specs.declared.carry.CarryFault.TheVariants.{NoMemory};
 ghost use Rattle.lens_core.specs.Beginnings.{begun_tree, inside, IsBeginFault};
-ghost use Rattle.lens_branch.specs.AlternativeSteps.{HasBegun, far_tag_of, arm_seen, arm_of, arm_lens, arm_starts, current_arm, begin_alternatives, finish_alternatives};
+ghost use Rattle.lens_branch.specs.AlternativeSteps.{NeedsStarts, HasBegun, far_tag_of, arm_seen, arm_of, arm_lens, arm_starts, current_arm, begin_alternatives, finish_alternatives};
 
 use edit_module::Word;
 use edit_module::word::Primitive;
@@ -27,7 +27,7 @@ struct FoundArm<'a> {
 }
 
 /// Begins the translation of one primitive of a side through alternatives, with the complement of a left tag and the
-/// complement of its arm. `starts` has the missing complement of each arm.
+/// complement of its arm. `starts` has the missing complement of each arm; only Switch needs it.
 ///
 /// Stay of the near tag of that arm needs its lens with its complement; Switch from that tag needs the lens of the arm
 /// of the new tag with its missing complement. The result says the number of the arm, the complement, and the word to
@@ -48,7 +48,7 @@ pub fn alt_begin(
     prim: &Primitive,
     starts: &Comps,
 ) -> Result<Begun, CarryFault>
-    requires { comps_tree starts.now ≡ arm_starts (arms_tree arms.now) }
+    requires { NeedsStarts (primitive_tree prim.now) → comps_tree starts.now ≡ arm_starts (arms_tree arms.now) }
     ensures { MatchResult result
         (λ b. begin_alternatives (arms_tree arms.now) side tag.now (comp_tree comp.now) (primitive_tree prim.now) ≡ Some (begun_tree b))
         (IsBeginFault (begin_alternatives (arms_tree arms.now) side tag.now (comp_tree comp.now) (primitive_tree prim.now))) }

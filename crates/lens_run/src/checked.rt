@@ -8,7 +8,7 @@ ghost use Rattle.lens_forms.specs.Forms.{form_tree};
 ghost use Rattle.lens_core.specs.Complements.{comp_tree};
 ghost use Rattle.lens_core.specs.Translation.{translate, carried_tree, IsCarryFault};
 ghost use Rattle.equation_laws.specs.Alike.{AreAlike};
-ghost use Rattle.lens_run.specs.Ready.{IsReady};
+ghost use Rattle.form_steps.specs.Ready.{IsReady};
 
 use crate::run::carry_word;
 use doc_values::Ty;
@@ -50,7 +50,7 @@ impl EditLens for Checked {
     ghost use Rattle.lens_core.specs.Complements.{missing};
     ghost use Rattle.lens_core.specs.Consistency.{IsConsistent};
     ghost use Rattle.lens_core.specs.Translation.{translate};
-    ghost use Rattle.lens_run.specs.LawsOfForms.{formed_types, form_starts, form_documents, form_edits, form_empty, form_joined};
+    ghost use Rattle.form_steps.specs.LawsOfForms.{formed_types, form_starts, form_documents, form_edits, form_empty, form_joined};
 
     ghost left_type = { λ l. left_type (form_tree l.typed) };
 

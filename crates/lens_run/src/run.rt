@@ -1,27 +1,23 @@
 //! Translating a word through every form: one recursion over the form.
 
-ghost use Rattle.std.specs.Prelude.{◌≡◌, IsTrue, IfOk, Some, MatchResult};
+ghost use Rattle.std.specs.Prelude.{◌≡◌, Some, MatchResult};
 ghost use Rattle.edit_module.specs.Views.{primitive_tree, word_tree};
 ghost use Rattle.lens_forms.specs.Forms.{form_tree, rows_tree, arms_tree, form_then, form_rec, form_alt};
 ghost use Rattle.lens_core.specs.Complements.{comp_tree};
-ghost use Rattle.lens_core.specs.Leaves.{is_leaf};
 ghost use Rattle.lens_core.specs.Translation.{translate, translate_one, carried_tree, IsCarryFault};
 ghost use Rattle.lens_branch.specs.AlternativeSteps.{arm_translation};
 ghost use Rattle.lens_branch.specs.RecordSteps.{row_translation};
-ghost use Rattle.lens_run.specs.Kinds.{mapped};
-ghost use Rattle.lens_run.specs.Pairs.{pair_on};
-ghost use Rattle.lens_run.specs.Ready.{IsReady};
+ghost use Rattle.form_steps.specs.Kinds.{mapped};
+ghost use Rattle.form_steps.specs.Ready.{IsReady};
 
-use crate::kinds::{Kind, held_as};
-use crate::partition::carry_part;
-use crate::starts::arm_starts;
 use container_lens::{hold_begin, hold_finish};
 use edit_module::Word;
 use edit_module::word::Primitive;
+use form_steps::{Kind, arm_starts, carry_leaf, carry_part, held_as, onward};
 use lens_branch::{alt_begin, alt_finish, arm_form, rec_begin, rec_finish, row_form};
-use lens_core::{Begun, Carried, CarryFault, Comp, leaf_step, missing, then_join};
+use lens_core::{Begun, Carried, CarryFault, Comp, missing};
 use lens_forms::{Form, FormArms, FormRows};
-use std::alloc::{AllocError, Global};
+use std::alloc::Global;
 use texts::{Side, Twin};
 
 /// Translates a word of a side through a form, with a complement: its primitives one after another, each with the
@@ -91,28 +87,9 @@ fn carry_one(
     }
 }
 
-// Through a lens that keeps nothing.
-fn carry_leaf(
-    alloc: Global,
-    form: &Form,
-    side: Side,
-    comp: &Comp,
-    prim: &Primitive,
-) -> Result<Carried, CarryFault>
-    requires { IsTrue (is_leaf (form_tree form.now)) }
-    ensures { MatchResult result
-        (λ r. translate_one (form_tree form.now) side (comp_tree comp.now) (primitive_tree prim.now) ≡ Some (carried_tree r))
-        (IsCarryFault (translate_one (form_tree form.now) side (comp_tree comp.now) (primitive_tree prim.now))) }
-{
-    match comp {
-        Comp::Nil => leaf_step(alloc, form, side, prim),
-        _ => Err(CarryFault::Unfit),
-    }
-}
-
 // Through a composition: through the lens of the edited side, and then through the other one.
 #[cycle(carry)]
-#[tactic(auto, using(crate::proofs::Compositions::then_rules))]
+#[tactic(auto, using(form_steps::proofs::Compositions::then_rules))]
 fn carry_then(
     alloc: Global,
     first: &Form,
@@ -143,23 +120,9 @@ fn carry_then(
     }
 }
 
-// The word that went through both lenses of a composition, and their complements: near is of the lens of the edited side.
-fn onward(alloc: Global, side: Side, near: Carried, far: Carried) -> Result<Carried, AllocError>
-    ensures { IfOk result (λ r. carried_tree r ≡ (word_tree far.word, pair_on side (comp_tree near.comp) (comp_tree far.comp))) }
-{
-    let comp = match side {
-        Side::Left => then_join(alloc, near.comp, far.comp)?,
-        Side::Right => then_join(alloc, far.comp, near.comp)?,
-    };
-    Ok(Carried {
-        word: far.word,
-        comp,
-    })
-}
-
 // Through a record.
 #[cycle(carry)]
-#[tactic(auto, using(crate::proofs::Rounds::needs_inside))]
+#[tactic(auto, using(form_steps::proofs::Rounds::needs_inside))]
 fn carry_record(
     alloc: Global,
     rows: &FormRows,
@@ -186,7 +149,7 @@ fn carry_record(
 
 // Through the lens of the row of a number.
 #[cycle(carry)]
-#[tactic(auto, using(crate::proofs::ReadyForms::ready_row))]
+#[tactic(auto, using(form_steps::proofs::ReadyForms::ready_row))]
 fn carry_row(
     alloc: Global,
     rows: &FormRows,
@@ -208,7 +171,7 @@ fn carry_row(
 
 // Through alternatives.
 #[cycle(carry)]
-#[tactic(auto, using(crate::proofs::Rounds::has_begun))]
+#[tactic(auto, using(form_steps::proofs::Rounds::has_begun))]
 fn carry_alternatives(
     alloc: Global,
     arms: &FormArms,
@@ -236,7 +199,7 @@ fn carry_alternatives(
 
 // Through the lens of the arm of a number.
 #[cycle(carry)]
-#[tactic(auto, using(crate::proofs::ReadyForms::ready_arm))]
+#[tactic(auto, using(form_steps::proofs::ReadyForms::ready_arm))]
 fn carry_arm(
     alloc: Global,
     arms: &FormArms,

@@ -7,6 +7,7 @@ pub mod ItemLists
 pub mod ItemWords
 pub mod LawsOfPartitions
 pub mod ListEdits
+pub mod NumbersOfTags
 pub mod OrderTests
 pub mod Reorderings
 pub mod RightLists

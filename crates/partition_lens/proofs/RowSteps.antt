@@ -7,7 +7,6 @@ use Rattle.edit_module.specs.Views.{primitive_tree}
 use Rattle.lens_core.specs.Emitted.{behind, one_by_one}
 use Rattle.lens_core.specs.Partition.{Parted}
 use Rattle.lens_core.proofs.JoinedWords.{joined_nothing, behind_nothing, behind_behind}
-use Rattle.lens_core.specs.Translation.{tagged, IsCarryFault}
 use Rattle.lens_core.specs.declared.carry.CarryFault.{CarryFault}
 use Rattle.lens_core.specs.declared.carry.CarryFault.TheVariants.{Unfit, NoMemory}
 use Rattle.partition_lens.specs.Rows.{IsRowFault}
@@ -53,8 +52,3 @@ steps_end rule ps i u ts whole h k =
     sym k ∙ done
 
 pub ruleset step_rules = (steps_start, step_kept, step_fault, steps_end)
-
--- why a row gives nothing is why its complement is missing
-pub fault_carried : (o : Option Parted) (fault : CarryFault) → IsRowFault o fault → IsCarryFault (option_map tagged o) fault
-fault_carried o Unfit e = ap (option_map tagged) e
-fault_carried o NoMemory e = tt

@@ -1,17 +1,21 @@
 //! From the left: one primitive of the mixed list.
 
-ghost use Rattle.std.specs.Prelude.{◌≡◌, ◌≤◌, Some, option_map, MatchResult};
+ghost use Rattle.std.specs.Prelude.{◌≡◌, ◌≤◌, Some, MatchResult};
 ghost use Rattle.doc_values.specs.Types.{fields_tree};
 ghost use Rattle.edit_module.specs.Words.{modify};
 ghost use Rattle.edit_module.specs.Views.{word_tree, primitive_tree};
+ghost use Rattle.texts.specs.declared.side.Side.TheVariants.{Left};
+ghost use Rattle.lens_forms.specs.Forms.{form_part};
+ghost use Rattle.lens_core.specs.Complements.{tags_comp};
 ghost use Rattle.lens_core.specs.Tags.{tag_count};
 ghost use Rattle.lens_core.specs.Partition.{part_left};
-ghost use Rattle.lens_core.specs.Translation.{tagged, carried_tree, IsCarryFault};
+ghost use Rattle.lens_core.specs.Translation.{translate_one, carried_tree, IsCarryFault};
 ghost use Rattle.partition_lens.specs.Rows.{row_of, IsRowFault};
 
 use crate::items::on_item;
 use crate::list_edits::edit_items;
 use crate::row::Row;
+use crate::tags::are_numbers;
 use doc_values::Fields;
 use edit_module::Word;
 use edit_module::word::Primitive;
@@ -25,13 +29,13 @@ use tag_seq::TagSeq;
 /// There are at most 4,096 tags. The result is the word of the record of lists, and the tags after it as the
 /// complement.
 ///
-/// - `Unfit`: if and only if the translation has no value. The primitive is not one of such a list, it names a tag that
-///   is not the item's or that does not exist, a place that does not exist, or a count or an order that is not one of
-///   the list.
+/// - `Unfit`: if and only if the translation has no value. A number of the complement is that of no tag, or the
+///   primitive is not one of such a list, it names a tag that is not the item's or that does not exist, a place that
+///   does not exist, or a count or an order that is not one of the list.
 /// - `NoMemory`: only if memory ran out, or if the list would have 2^64 items.
 ///
 /// The arguments stay as they are. docs/TRANSLATION.md has the rows.
-#[tactic(auto, using(crate::proofs::RowSteps::fault_carried))]
+#[tactic(auto, using(crate::proofs::NumbersOfTags::left_rules))]
 pub fn part_left(
     alloc: Global,
     tags: &Fields,
@@ -40,9 +44,14 @@ pub fn part_left(
 ) -> Result<Carried, CarryFault>
     requires { tag_count (fields_tree tags.now) ≤ 4096 }
     ensures { MatchResult result
-        (λ r. option_map tagged (part_left (fields_tree tags.now) seq.now (primitive_tree primitive.now)) ≡ Some (carried_tree r))
-        (IsCarryFault (option_map tagged (part_left (fields_tree tags.now) seq.now (primitive_tree primitive.now)))) }
+        (λ r. translate_one (form_part (fields_tree tags.now)) Left (tags_comp seq.now) (primitive_tree primitive.now)
+        ≡ Some (carried_tree r))
+        (IsCarryFault (translate_one (form_part (fields_tree tags.now)) Left (tags_comp seq.now)
+        (primitive_tree primitive.now))) }
 {
+    if !are_numbers(tags, seq) {
+        return Err(CarryFault::Unfit);
+    }
     match row_left(alloc, tags, seq, primitive) {
         Ok(row) => Ok(row.into_carried()),
         Err(fault) => Err(fault),

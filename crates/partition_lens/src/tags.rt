@@ -3,10 +3,21 @@
 ghost use Rattle.std.specs.Prelude.{◌≡◌, ◌≤◌, IfOk};
 ghost use Rattle.doc_values.specs.Types.{fields_tree};
 ghost use Rattle.lens_core.specs.Tags.{tag_count, tag_number, tag_name};
+ghost use Rattle.tag_seq.specs.Tags.{are_below};
 
 use doc_values::Fields;
 use std::alloc::{AllocError, Global};
+use tag_seq::TagSeq;
 use texts::{Name, Twin};
+
+/// Whether every number is that of a tag.
+#[tactic(auto, using(crate::proofs::NumbersOfTags::count_rules))]
+pub(crate) fn are_numbers(tags: &Fields, seq: &TagSeq) -> bool
+    requires { tag_count (fields_tree tags.now) ≤ 4096 }
+    ensures { result ≡ are_below (tag_count (fields_tree tags.now)) seq.now }
+{
+    seq.is_below(tags.len() as u32)
+}
 
 /// The number of a tag. None if and only if no tag has the name.
 #[tactic(auto, using(crate::proofs::TagNames::number_rules))]

@@ -7,8 +7,8 @@ use Rattle.lens_forms.specs.Measures.{form_parts, rows_parts, arms_parts}
 use Rattle.lens_forms.specs.Typing.{is_typed, are_typed_rows, are_typed_arms, left_names, right_names, left_arms, right_arms}
 use Rattle.lens_branch.specs.AlternativeSteps.{arm_lens}
 use Rattle.lens_branch.specs.RecordSteps.{row_lens}
-use Rattle.lens_run.specs.Ready.{IsReady}
-use Rattle.lens_run.specs.LawsOfForms.{choices_distinct}
+use Rattle.form_steps.specs.Ready.{IsReady}
+use Rattle.form_steps.specs.LawsOfForms.{choices_distinct}
 
 -- ---- composition
 

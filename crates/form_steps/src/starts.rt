@@ -9,8 +9,8 @@ use lens_core::{Comps, missing};
 use lens_forms::FormArms;
 use std::alloc::{AllocError, Global};
 
-// The missing complement of each arm, in written order. Fails only if memory runs out.
-pub(crate) fn arm_starts(alloc: Global, arms: &FormArms) -> Result<Comps, AllocError>
+/// The missing complement of each arm, in written order. Fails only if memory runs out.
+pub fn arm_starts(alloc: Global, arms: &FormArms) -> Result<Comps, AllocError>
     ensures { IfOk result (λ cs. comps_tree cs ≡ arm_starts (arms_tree arms.now)) }
 {
     let mut items = Vec::new(alloc);

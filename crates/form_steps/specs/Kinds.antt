@@ -3,8 +3,8 @@ use Rattle.std.specs.Prelude.{Bool, true, false}
 use Rattle.hold_shapes.specs.declared.shape.Shape.{Shape}
 use Rattle.hold_shapes.specs.declared.shape.Shape.TheVariants.{List as ListOf, Keyed as KeyedOf, Tree as TreeOf}
 use Rattle.lens_forms.specs.Forms.{FormTree, form_each, form_keyed, form_ordered}
-use Rattle.lens_run.specs.declared.kinds.Kind.{Kind}
-use Rattle.lens_run.specs.declared.kinds.Kind.TheVariants.{List, Keyed, Tree}
+use Rattle.form_steps.specs.declared.kinds.Kind.{Kind}
+use Rattle.form_steps.specs.declared.kinds.Kind.TheVariants.{List, Keyed, Tree}
 
 -- the lens mapped over this kind of container
 abbrev pub mapped : Kind → FormTree → FormTree

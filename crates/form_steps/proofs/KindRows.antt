@@ -7,9 +7,9 @@ use Rattle.edit_module.specs.Words.{PrimitiveTree}
 use Rattle.lens_forms.specs.Forms.{FormTree}
 use Rattle.lens_core.specs.Complements.{CompTree, CompTrees, nil, then_comp, rec_comp, alt_comp, hold_comp, tags_comp, missing}
 use Rattle.lens_core.specs.Translation.{translate, translate_one, translate_held}
-use Rattle.lens_run.specs.Kinds.{mapped, is_of_kind}
-use Rattle.lens_run.specs.declared.kinds.Kind.{Kind}
-use Rattle.lens_run.specs.declared.kinds.Kind.TheVariants.{List, Keyed, Tree}
+use Rattle.form_steps.specs.Kinds.{mapped, is_of_kind}
+use Rattle.form_steps.specs.declared.kinds.Kind.{Kind}
+use Rattle.form_steps.specs.declared.kinds.Kind.TheVariants.{List, Keyed, Tree}
 
 -- a complement of this kind
 pub held_row : (kind : Kind) (s : Shape) (cs : CompTrees) (c : CompTree) (l : FormTree) (side : Side) (p : PrimitiveTree) → is_of_kind kind s ≡ true → c ≡ hold_comp s cs

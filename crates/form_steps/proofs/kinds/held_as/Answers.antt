@@ -1,9 +1,9 @@
 use Rattle.std.proofs.Common.{◌≡◌, true, rules}
 use Rattle.lens_core.specs.Complements.{comp_tree, comps_tree, hold_comp}
 use Rattle.lens_core.proofs.ComplementTrees.{comp_tree-hold}
-use Rattle.lens_run.specs.Kinds.{is_of_kind}
-use Rattle.lens_run.proofs.KindRows.{held_row}
-use Rattle.lens_run.proofs.kinds.held_as.Goals as goal
+use Rattle.form_steps.specs.Kinds.{is_of_kind}
+use Rattle.form_steps.proofs.KindRows.{held_row}
+use Rattle.form_steps.proofs.kinds.held_as.Goals as goal
 
 pub returns-then-is_of_kind : goal.returns-then-is_of_kind
 returns-then-is_of_kind c =

@@ -8,8 +8,8 @@ use Rattle.lens_core.specs.Complements.{CompTree, then_comp}
 use Rattle.lens_core.specs.Translation.{Translated, translate_one, translate, IsCarryFault}
 use Rattle.lens_core.specs.declared.carry.CarryFault.{CarryFault}
 use Rattle.lens_core.specs.declared.carry.CarryFault.TheVariants.{Unfit, NoMemory}
-use Rattle.lens_run.specs.Pairs.{pair_on}
-use Rattle.lens_run.proofs.ReadyForms.{ready_first, ready_second}
+use Rattle.form_steps.specs.Pairs.{pair_on}
+use Rattle.form_steps.proofs.ReadyForms.{ready_first, ready_second}
 
 -- from the left, and from the right
 pub through_left : (l k : FormTree) (side : Side) (p : PrimitiveTree) (e c d : CompTree) (near far r : Translated) → side ≡ Left → e ≡ then_comp c d

@@ -2,8 +2,8 @@ use Rattle.std.proofs.Common.{ap, ◌∙◌, map, arith}
 use Rattle.std.proofs.lemmas.Result.{IfOk-weaker}
 use Rattle.lens_core.specs.Complements.{comp_tree}
 use Rattle.lens_branch.specs.AlternativeSteps.{arm_starts}
-use Rattle.lens_run.proofs.ArmStarts.{starts_done}
-use Rattle.lens_run.proofs.starts.arm_starts.Goals as goal
+use Rattle.form_steps.proofs.ArmStarts.{starts_done}
+use Rattle.form_steps.proofs.starts.arm_starts.Goals as goal
 
 pub returns : goal.returns
 returns c =

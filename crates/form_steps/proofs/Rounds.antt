@@ -19,8 +19,8 @@ use Rattle.lens_branch.specs.AlternativeSteps.{begin_alternatives, finish_altern
 use Rattle.lens_branch.specs.RecordSteps.{begin_record, finish_record, row_translation}
 use Rattle.lens_branch.proofs.AlternativeRounds.{alternatives_go_round}
 use Rattle.lens_branch.proofs.RecordRounds.{record_round}
-use Rattle.lens_run.specs.Ready.{IsReady}
-use Rattle.lens_run.proofs.ReadyForms.{left_apart, right_apart}
+use Rattle.form_steps.specs.Ready.{IsReady}
+use Rattle.form_steps.proofs.ReadyForms.{left_apart, right_apart}
 
 -- the whole is its beginning, the translation inside, and its finish
 abbrev pub GoesRound : (ℕ → CompTree → WordTree → Option Translated) → (Translated → Translated) → Option Translated → Option Beginning → Type 0

@@ -6,23 +6,27 @@ ghost use Rattle.edit_module.specs.Words.{PrimitiveTree};
 ghost use Rattle.lens_forms.specs.Forms.{FormTree};
 ghost use Rattle.lens_core.specs.Complements.{comp_tree, comps_tree, missing};
 ghost use Rattle.lens_core.specs.Translation.{translate, translate_one, translate_held};
-ghost use Rattle.lens_run.specs.Kinds.{mapped, is_of_kind};
+ghost use Rattle.form_steps.specs.Kinds.{mapped, is_of_kind};
 
 use hold_shapes::Shape;
 use lens_core::{Comp, Comps};
 
-// A kind of container.
+/// A kind of container.
 #[derive(Clone, Copy, PartialEq, Eq)]
-pub(crate) enum Kind {
+pub enum Kind {
+    /// A list.
     List,
+    /// A keyed map.
     Keyed,
+    /// An ordered tree.
     Tree,
 }
 
-// The shape and the complements of a container's complement. None for a complement that is not of a container of this
-// kind: then nothing is translated.
+/// The shape and the complements of a container's complement.
+///
+/// `None` for a complement that is not of a container of this kind: then nothing is translated.
 #[tactic(auto, using(crate::proofs::KindRows::kind_rules))]
-pub(crate) fn held_as(kind: Kind, comp: &Comp) -> Option<(&Shape, &Comps)>
+pub fn held_as(kind: Kind, comp: &Comp) -> Option<(&Shape, &Comps)>
     ensures { MatchOption result
         ((l : FormTree) (side : Side) (p : PrimitiveTree) → translate_one (mapped kind l) side (comp_tree comp.now) p ≡ None)
         (λ r. (l : FormTree) (side : Side) (p : PrimitiveTree) → translate_one (mapped kind l) side (comp_tree comp.now) p
