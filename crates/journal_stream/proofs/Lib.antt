@@ -1,0 +1,3 @@
+pub mod AnsweredLines
+pub mod Journals
+pub mod Prefixes

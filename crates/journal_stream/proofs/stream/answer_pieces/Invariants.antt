@@ -1,0 +1,26 @@
+use Rattle.std.proofs.Common.{◌≡◌, ◌+◌, ◌-◌, ◌^◌, ◌≤◌, length}
+use Rattle.edit_session.specs.Views.{triple_tree}
+use Rattle.journal_stream.specs.Answered.{ComesOn}
+use Rattle.journal_stream.proofs.stream.answer_pieces.Given as goal
+
+-- the run has come on over the bytes that were taken
+abbrev pub invariant-pieces : goal.invariant-pieces
+invariant-pieces g l =
+    let lens = g.L.EditLens in
+    let start = l.fn.session in
+    let source = g.S.Source in
+    let sink = g.K.Sink in
+    record {
+      comes : ComesOn (lens.left_type start.lens) (lens.right_type start.lens) (lens.carried start.lens) (triple_tree start.triple) l.fn.input l.input
+          (source.left l.fn.source) (source.left l.source) (sink.held l.fn.sink) (sink.held l.sink) (triple_tree l.session.triple) l.progress;
+      number : l.progress.number ≤ l.input.taken;
+      at_most : l.input.taken ≤ 2 ^ 30 + 1;
+      lens : l.session.lens ≡ start.lens;
+      source_faults : source.faults l.fn.source ≤ source.faults l.source;
+      sink_faults : sink.faults l.fn.sink ≤ sink.faults l.sink;
+      empty_takes : sink.empty_takes l.fn.sink ≤ sink.empty_takes l.sink;
+      piece : length l.piece ≡ length l.fn.piece;
+    }
+
+abbrev pub decreases-pieces : goal.decreases-pieces
+decreases-pieces g l = 2 ^ 30 + 1 - l.input.taken
