@@ -1,5 +1,5 @@
 -- What is known of a session whose lens is that of a form.
-use Rattle.std.proofs.Common.{◌≡◌, Option, subst}
+use Rattle.std.proofs.Common.{Option, subst}
 use Rattle.texts.specs.declared.side.Side.{Side}
 use Rattle.doc_values.specs.Documents.{DocTree}
 use Rattle.doc_values.specs.Types.{TyTree}

@@ -1,6 +1,6 @@
 -- What is known of an outcome that is known to be a value, or an error.
-use Rattle.std.proofs.Common.{◌≡◌, true, false, Result, Ok, Err, sym, subst}
-use Rattle.std.specs.Prelude.{IfOk, OnOk, OnErr, IsErrAnd, MatchResult, is_err}
+use Rattle.std.proofs.Common.{◌≡◌, true, false, Result, Ok, Err}
+use Rattle.std.specs.Prelude.{OnOk, OnErr, is_err}
 
 pub on_ok : {A E : Type 0} (r : Result A E) (P Q : Type 0) → (P → Q) → OnOk r P → OnOk r Q
 on_ok (Ok a) P Q f h = f h

@@ -1,6 +1,6 @@
 -- Lines that are answered one after another, and the answers that are written on the way.
 use Rattle.std.proofs.Common.{◌≡◌, ℕ, List, [], ◌∷◌, ◌++◌, Bool, Option, Result, Ok, Err, refl, sym, ap, subst, ◌∙◌, append_assoc, append-nil}
-use Rattle.std.specs.Prelude.{OnOk, OnErr, IfErr, MatchResult}
+use Rattle.std.specs.Prelude.{OnOk, IfErr, MatchResult}
 use Rattle.std.specs.Io.KnownBytes.{Appends}
 use Rattle.std.proofs.KnownBytes.{Appends-nil, Appends-trans}
 use Rattle.lens_io.specs.Content.{AppendsFront}

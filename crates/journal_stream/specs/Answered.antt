@@ -13,7 +13,7 @@ use Rattle.lens_core.specs.Complements.{CompTree}
 use Rattle.lens_core.specs.Translation.{Translated}
 use Rattle.edit_session.specs.Step.{TripleTree}
 use Rattle.journal_answers.specs.Runs.{items_of}
-use Rattle.journal_answers.specs.Running.{Come, come, written, written_after}
+use Rattle.journal_answers.specs.Running.{come, written, written_after}
 use Rattle.journal_answers.specs.declared.journal.Progress.{Progress}
 use Rattle.journal_input.specs.Taking.{TakenInput}
 use Rattle.journal_stream.specs.declared.stopped.Stopped.{Stopped}

@@ -1,5 +1,5 @@
 -- The end of a run whose input is at its end.
-use Rattle.std.specs.Prelude.{◌≡◌, List, ◌++◌, option_to_list}
+use Rattle.std.specs.Prelude.{◌≡◌, ◌++◌, option_to_list}
 use Rattle.edit_journal.specs.Pieces.{last_line}
 use Rattle.edit_journal.specs.declared.line.Line.{Line}
 use Rattle.edit_session.specs.Step.{TripleTree}

@@ -1,4 +1,4 @@
-use Rattle.std.proofs.Common.{◌≡◌, ◌+◌, ◌≤◌, Ok, Err, true, false, length, refl, sym, ap, subst, ◌∙◌, arith}
+use Rattle.std.proofs.Common.{Ok, Err, length, refl, subst, ◌∙◌, arith}
 use Rattle.edit_session.specs.Views.{triple_tree}
 use Rattle.journal_input.proofs.Outcomes.{as_error}
 use Rattle.journal_stream.specs.Answered.{AnswersPiece, AnswersPieces}
