@@ -21,7 +21,9 @@ use Rattle.journal_input.specs.declared.limits.TheConstants.{MOST_BYTES, PIECE_B
 use Rattle.journal_answers.specs.Answers.{text_from}
 use Rattle.journal_answers.specs.Runs.{JournalItem, JournalAnswer, first_of, run_of, items_of}
 use Rattle.journal_stream.specs.Stopping.{stop_of}
-use Rattle.journal_stream.proofs.Prefixes.{front_behind}
+use Rattle.journal_stream.specs.Answered.{WritesStopped}
+use Rattle.journal_stream.specs.declared.stopped.Stopped.TheVariants as stop
+use Rattle.journal_stream.proofs.Prefixes.{stopped_behind}
 use Rattle.editlens_main.specs.Report.{type_lines, ending, report_with, report, refusal_line}
 use Rattle.editlens_main.specs.Ends.{IsFinished, StaysInStep, Reports, answers_with, answers_to, LinesStayInStep, AnswersAll, AnswersSome, AnswersFirst, GoesOn, RefusesPart, WouldWrite, IsCleanStop, Stops, IsComplete}
 use Rattle.editlens_main.specs.Ending.{Ended, Gives}
@@ -268,6 +270,11 @@ module _ (command : Command) (left left' held held' : Option (List ℕ)) (bytes 
         subst (Ended command left left' held held') (sym refused)
         (ended_refused command left left' held held' bytes consumes (omega (arith, few)) refusal (record { whole = inr end; refused = none }) (subst (Appends held held') line given))
 
+-- a prefix of a text has at least what was written before
+front_after : (held held' : Option (List ℕ)) (given text : List ℕ) → (count : ℕ) × (length given ≤ count) × WritesStopped 0 [] text count held held' stop.SinkFault
+    → (front : AppendsFront held held' text) × (length given ≤ front.0)
+front_after held held' given text (count, few, writes) = ((count, writes.0, writes.1), few)
+
 -- The report that was made is given, behind answers that were written before.
 pub ended_report : (command : Command) (left left' held mid held' : Option (List ℕ)) (bytes : List ℕ) (r : Result Report AllocError) (status : Status) → Consumes left left' bytes → IsAtEnd left' → length bytes ≤ MOST_BYTES
     → (given : List ℕ) → AnswersAll command bytes given → Appends held mid given → IfOk r (λ q. report command bytes ≡ Some (given ++ q.text.items, q.status)) → Gives r mid held' status
@@ -277,8 +284,8 @@ ended_report command left left' held mid held' bytes (Ok q) status consumes end 
     (ended_whole command left left' held held' bytes consumes end few (given ++ q.text.items) q.status h (Appends-trans held mid held' given q.text.items appends all))
 ended_report command left left' held mid held' bytes (Ok q) status consumes end few given are appends h (inr (same, front)) =
     subst (Ended command left left' held held') (sym same)
-    (ended_sink command left left' held held' bytes consumes (omega (arith, few)) (given ++ q.text.items) (inr (inr (end, (q.status, h)))) (front_behind held mid held' given q.text.items appends front)
-    (first_of_all command bytes given (length given + front.0) are (omega arith)))
+    (let s = front_after held held' given (given ++ q.text.items) (stopped_behind stop.SinkFault 0 [] held mid held' given q.text.items appends front) in
+    ended_sink command left left' held held' bytes consumes (omega (arith, few)) (given ++ q.text.items) (inr (inr (end, (q.status, h)))) s.0 (first_of_all command bytes given s.0.0 are s.1))
 ended_report command left left' held mid held' bytes (Err e) status consumes end few given are appends h (same, all) =
     subst (Ended command left left' held held') (sym same)
     (ended_memory command left left' held held' bytes consumes (omega (arith, few)) given ([], are) (first_of_all command bytes given (length given) are (omega arith))

@@ -1,5 +1,5 @@
 -- The ends of a call behind the separator, where the program part is accepted.
-use Rattle.std.proofs.Common.{◌≡◌, inl, ℕ, ◌+◌, ◌^◌, ◌≤◌, List, [], ◌++◌, length, Bool, Option, Some, None, option_map, Result, Ok, Err, map, refl, sym, ap, ap₂, subst, ◌∙◌, append-nil, append_assoc, length-append, arith}
+use Rattle.std.proofs.Common.{◌≡◌, inl, inr, ℕ, ◌+◌, ◌^◌, ◌≤◌, List, [], ◌++◌, length, Bool, Option, Some, None, option_map, Result, Ok, Err, map, refl, sym, ap, ap₂, subst, ◌∙◌, append-nil, append_assoc, length-append, arith}
 use Rattle.std.specs.Prelude.{IfOk, option_to_list}
 use Rattle.std.specs.declared.alloc.AllocError.{AllocError}
 use Rattle.std.specs.Io.KnownBytes.{Consumes}
@@ -29,11 +29,10 @@ use Rattle.journal_answers.specs.Running.{come, written, written_after}
 use Rattle.journal_answers.specs.Runs.{JournalItem, JournalAnswer, first_of, run_of, items_of}
 use Rattle.journal_answers.specs.declared.journal.Progress.{Progress}
 use Rattle.journal_answers.proofs.RunReports.{done, at_end, of_run, run_text, answers_are}
-use Rattle.journal_stream.specs.Answered.{AreAnswered, AnswersBefore, AnswersFirst as StreamFirst, StopsRun, EndsRun}
+use Rattle.journal_stream.specs.Answered.{AreAnswered, ComesTo, AnswersBefore, AnswersFirst as StreamFirst, StopsRun, EndsRun}
 use Rattle.journal_stream.specs.Stopping.{stop_of}
 use Rattle.journal_stream.specs.declared.stopped.Stopped.{Stopped}
 use Rattle.journal_stream.specs.declared.stopped.Stopped.TheVariants as stop
-use Rattle.journal_stream.proofs.AnsweredLines.{are_answered}
 use Rattle.editlens_main.specs.Ending.{Ended, Gives, EndsReport}
 use Rattle.editlens_main.specs.Ends.{answers_with, AnswersBut, AnswersAll, AnswersFirst, GoesOn}
 use Rattle.editlens_main.specs.Report.{ending, type_lines, run_report, report_with, report}
@@ -86,12 +85,24 @@ ended_at_part command left left' held held' program input refused r status e is 
       by_report (Err x) y = tt
 
 -- the report of a run, from its text
+abbrev ended_steps : FormTree → List (TripleTree × JournalAnswer) → List ℕ × Status
+ended_steps form steps = (text_from form (first_of form) steps, ending (any_refused steps))
+
 ended_run : (form : FormTree) (o : Option (List (TripleTree × JournalAnswer))) (text : List ℕ) (refused : Bool) → option_map (of_run form (first_of form)) o ≡ Some (text, refused)
-    → option_map (λ steps. (text_from form (first_of form) steps, ending (any_refused steps))) o ≡ Some (text, ending refused)
+    → option_map (ended_steps form) o ≡ Some (text, ending refused)
 ended_run form None text refused e = cc
 ended_run form (Some steps) text refused e =
     let same : (text_from form (first_of form) steps, any_refused steps) ≡ (text, refused) = cc in
     ap (λ (r : List ℕ × Bool). Some (r.0, ending r.1)) same
+
+-- the answers to the lines over which a run has come
+are_answered : (form : FormTree) (lines : List Line) (given : List ℕ) (t : TripleTree) (p : Progress) → ComesTo (left_type form) (right_type form) (translate form) (first_of form) lines given t p
+    → AreAnswered (left_type form) (right_type form) (translate form) (first_of form) lines (given ++ p.text.items)
+are_answered form lines given t p comes = record {
+  refused = p.refused;
+  triple = t;
+  is = ap (λ l. written (left_type form) (right_type form) (translate form) (first_of form) (items_of l)) (sym (append-nil lines)) ∙ comes [] ∙ at_end (left_type form) (right_type form) (translate form) t (come given p);
+}
 
 module _ (left mid : Option (List ℕ)) (input : TakenInput) (front rest part : List ℕ) (t : IsTaken left mid input front rest) (head : IsHead front part) (form : FormTree) (lens : lens_of part ≡ Ok form) where
   -- all bytes, where these were taken behind the separator
@@ -203,7 +214,7 @@ module _ (left mid : Option (List ℕ)) (input : TakenInput) (front rest part : 
       (answers more (fed input.lines more).ended [] e.given (sym (append-nil (fed input.lines more).ended)) all) e.appends (by_report r h) gives where
         all : AreAnswered (left_type form) (right_type form) (translate form) (first_of form) (fed input.lines more).ended e.given
         all = subst (AreAnswered (left_type form) (right_type form) (translate form) (first_of form) (fed input.lines more).ended) (ap (λ x. e.given ++ x) e.nothing_left ∙ append-nil e.given)
-            (are_answered (left_type form) (right_type form) (translate form) (first_of form) (fed input.lines more).ended e.given u p e.comes)
+            (are_answered form (fed input.lines more).ended e.given u p e.comes)
 
         by_report : (r : Result Report AllocError) → IfOk r (EndsReport form u p next.lines.begun) → IfOk r (λ q. report Run (whole more) ≡ Some (e.given ++ q.text.items, q.status))
         by_report (Ok q) x = report_whole next left' held mid_held more u p e q x

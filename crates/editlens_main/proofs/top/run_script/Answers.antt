@@ -3,12 +3,15 @@ use Rattle.editlens_main.specs.Ending.{Ended}
 use Rattle.editlens_main.specs.Status.{status_of}
 use Rattle.script_parts.proofs.Heads.{part_within}
 use Rattle.editlens_main.proofs.RunEnds.{ended_head}
-use Rattle.editlens_main.proofs.ScriptEnds.{ended_alone, ended_at_part}
+use Rattle.editlens_main.proofs.ScriptEnds.{ended_never, ended_alone, ended_at_part}
 use Rattle.editlens_main.proofs.top.run_script.Goals as goal
 
-pub run_lens-requires-clause-within : goal.run_lens-requires-clause-within
-run_lens-requires-clause-within g c =
+pub run_lens-status-requires-clause-within : goal.run_lens-status-requires-clause-within
+run_lens-status-requires-clause-within g c =
     part_within (g.S.Source.left c.args.source.now) (g.S.Source.left c.read_head.new.source) c.in-Ok-Separated.program c.in-Ok-Separated.input (rw c.in-Ok-Separated.field-0-is at c.in-Ok-Separated.ensures.head)
+
+pub returns-in_default-clause-ended : goal.returns-in_default-clause-ended
+returns-in_default-clause-ended g c = ended_never c.args.command (g.S.Source.left c.args.source.now) (g.K.Sink.held c.args.sink.now)
 
 pub returns-in-Ok-Whole-clause-ended : goal.returns-in-Ok-Whole-clause-ended
 returns-in-Ok-Whole-clause-ended g c =
