@@ -6,7 +6,7 @@ use Rattle.lens_forms.specs.Forms.{FormTree, left_type, right_type}
 use Rattle.lens_forms.specs.Typing.{is_typed}
 use Rattle.lens_core.specs.Consistency.{IsConsistent}
 use Rattle.lens_core.specs.Translation.{translate}
-use Rattle.lens_run.specs.LawsOfForms.{form_starts, form_edits}
+use Rattle.form_steps.specs.LawsOfForms.{form_starts, form_edits}
 use Rattle.edit_session.proofs.RunInStep.{runs_stay_in_step}
 use Rattle.accepted_programs.specs.Program.{lens_of}
 use Rattle.accepted_programs.proofs.AcceptedForms.{accepted_typed}
