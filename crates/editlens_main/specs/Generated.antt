@@ -7,7 +7,7 @@ use Rattle.lens_io.specs.Content.{AppendsFront}
 use Rattle.generated_run.specs.Journal.{summary_of}
 use Rattle.generated_run.specs.declared.summary.Summary.{Summary}
 use Rattle.editlens_main.specs.declared.status.Status.{Status}
-use Rattle.editlens_main.specs.declared.status.Status.TheVariants.{Done, SomeRefused, Usage, ProgramRefused, SourceFault, SinkFault, InputTooLong, NoMemory}
+use Rattle.editlens_main.specs.declared.status.Status.TheVariants.{Done, SinkFault, NoMemory}
 
 -- `accepted A` and `refused R`
 abbrev pub count_lines : Summary → List ℕ
@@ -31,10 +31,6 @@ pub record Summarizes (count seed : ℕ) (made : Summary) : Type 0 where
 -- Done: the summary. SinkFault: a prefix of it, and not all. NoMemory: nothing. There is no other status.
 abbrev pub WritesSummary : ℕ → ℕ → Option (List ℕ) → Option (List ℕ) → Status → Type 0
 WritesSummary count seed held held' Done = (made : Summary) × Summarizes count seed made × Appends held held' (summary_lines made)
-WritesSummary count seed held held' SomeRefused = ⊥
-WritesSummary count seed held held' Usage = ⊥
-WritesSummary count seed held held' ProgramRefused = ⊥
-WritesSummary count seed held held' SourceFault = ⊥
 WritesSummary count seed held held' SinkFault = (made : Summary) × Summarizes count seed made × AppendsFront held held' (summary_lines made)
-WritesSummary count seed held held' InputTooLong = ⊥
 WritesSummary count seed held held' NoMemory = Appends held held' []
+WritesSummary count seed held held' status = ⊥

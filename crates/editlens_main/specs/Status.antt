@@ -1,5 +1,7 @@
--- The exit code of each status.
+-- The exit code of each status, and the status of a call that was stopped.
 use Rattle.std.specs.Prelude.{ℕ}
+use Rattle.journal_stream.specs.declared.stopped.Stopped.{Stopped}
+use Rattle.journal_stream.specs.declared.stopped.Stopped.TheVariants as stop
 use Rattle.editlens_main.specs.declared.status.Status.{Status}
 use Rattle.editlens_main.specs.declared.status.Status.TheVariants.{Done, SomeRefused, Usage, ProgramRefused, SourceFault, SinkFault, InputTooLong, NoMemory}
 
@@ -12,3 +14,9 @@ code_of SourceFault = 5
 code_of SinkFault = 6
 code_of InputTooLong = 8
 code_of NoMemory = 9
+
+abbrev pub status_of : Stopped → Status
+status_of stop.SourceFault = SourceFault
+status_of stop.TooLong = InputTooLong
+status_of stop.SinkFault = SinkFault
+status_of stop.NoMemory = NoMemory

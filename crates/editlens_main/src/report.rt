@@ -1,31 +1,33 @@
 //! What is written at the end of an input, and the status.
-ghost use Rattle.std.specs.Prelude.{◌≡◌, ◌+◌, ◌^◌, ◌<◌, ◌++◌, [], List, ℕ, IfOk, OnOk, Some, Result, Ok, option_to_list};
-ghost use Rattle.edit_journal.specs.Pieces.{last_line};
+ghost use Rattle.std.specs.Prelude.{◌≡◌, ◌+◌, ◌^◌, ◌<◌, [], List, ℕ, IfOk, Some, Result, Ok};
 ghost use Rattle.edit_session.specs.Views.{triple_tree};
-ghost use Rattle.lens_forms.specs.Forms.{FormTree, form_tree};
-ghost use Rattle.editlens_main.specs.Ending.{IsEnd, HasEnd};
-ghost use Rattle.editlens_main.specs.Parts.{HoldsPart};
-ghost use Rattle.editlens_main.specs.Program.{Refusal, lens_of};
-ghost use Rattle.editlens_main.specs.Refused.{IsKnown, IsRefusal};
-ghost use Rattle.editlens_main.specs.Report.{ending, report_with, run_report, state_lines, type_lines};
-ghost use Rattle.editlens_main.specs.Running.{GoesOver};
-ghost use Rattle.editlens_main.specs.Runs.{JournalItem};
-ghost use Rattle.editlens_main.specs.Skipped.{EndsReport};
+ghost use Rattle.lens_forms.specs.Forms.{FormTree, form_tree, left_type, right_type};
+ghost use Rattle.lens_core.specs.Complements.{missing};
+ghost use Rattle.lens_core.specs.Consistency.{IsConsistent};
+ghost use Rattle.lens_core.specs.Translation.{translate};
+ghost use Rattle.accepted_programs.specs.Program.{Refusal, lens_of};
+ghost use Rattle.accepted_programs.specs.Refused.{IsKnown, IsRefusal};
+ghost use Rattle.script_parts.specs.Parts.{HoldsPart};
+ghost use Rattle.journal_answers.specs.Answers.{state_lines};
+ghost use Rattle.journal_answers.specs.LensOf.{IsLensOf};
+ghost use Rattle.journal_answers.specs.Runs.{JournalItem, first_of};
+ghost use Rattle.editlens_main.specs.Ending.{IsEnd, HasEnd, EndsReport};
+ghost use Rattle.editlens_main.specs.Report.{ending, report_with, run_report, type_lines};
 
 use crate::Status;
-use crate::answers::state_lines;
 use crate::commands::Command;
-use crate::input::Input;
-use crate::journal::{Progress, handle_line};
-use crate::program::Refused;
-use crate::script::ProgramText;
+use accepted_programs::Refused;
 use answer_text::{syntax_line, type_line, typing_line};
 use edit_session::Session;
+use journal_answers::{Progress, state_lines};
+use journal_input::Input;
+use journal_stream::last_answers;
 use lens_core::EditLens;
 use lens_run::Checked;
 use lens_types::Typed;
+use script_parts::ProgramText;
 use std::alloc::{AllocError, Global};
-use texts::{Bytes, Side};
+use texts::{Bytes, Side, Twin};
 
 /// What is written at the end of an input, and the status.
 #[derive(Drop)]
@@ -44,14 +46,18 @@ pub fn report_alone(
     ensures end { HasEnd result }
 {
     match program.lens(alloc) {
-        Ok(lens) => report_of_lens(alloc, command, lens),
+        Ok(lens) => {
+            let report = report_of_lens(alloc, command, &lens);
+            drop(lens);
+            report
+        }
         Err(refused) => refusal(alloc, refused),
     }
 }
 
 // The report of an empty journal.
-fn report_of_lens(alloc: Global, command: Command, lens: Typed) -> Result<Report, AllocError>
-    ensures report { IfOk result (λ r. report_with command (Ok (form_tree lens)) [] ≡ Some (r.text.items, r.status)) }
+fn report_of_lens(alloc: Global, command: Command, lens: &Typed) -> Result<Report, AllocError>
+    ensures report { IfOk result (λ r. report_with command (Ok (form_tree lens.now)) [] ≡ Some (r.text.items, r.status)) }
     ensures end { HasEnd result }
 {
     match command {
@@ -60,27 +66,49 @@ fn report_of_lens(alloc: Global, command: Command, lens: Typed) -> Result<Report
     }
 }
 
-fn run_empty(alloc: Global, lens: Typed) -> Result<Report, AllocError>
-    ensures report { IfOk result (λ r. run_report (form_tree lens) [] ≡ Some (r.text.items, r.status)) }
+fn run_empty(alloc: Global, lens: &Typed) -> Result<Report, AllocError>
+    ensures report { IfOk result (λ r. run_report (form_tree lens.now) [] ≡ Some (r.text.items, r.status)) }
     ensures end { HasEnd result }
 {
-    let session = Session::start(alloc, Checked::new(lens))?;
-    let report = report_of_state(alloc, &session, Progress::new(alloc));
+    let session = first_session(alloc, lens)?;
+    let report = report_of_state(alloc, lens, &session);
     drop(session);
     report
 }
 
-/// The two types of a lens, which is then given up. The only error is running out of memory.
-pub fn types_of(alloc: Global, lens: Typed) -> Result<Report, AllocError>
-    ensures text { IfOk result (λ r. (r.text.items ≡ type_lines (form_tree lens)) × (r.status ≡ Status.Done)) }
-    ensures end { HasEnd result }
+/// A session of a form at its first triple. The only error is running out of memory.
+pub fn first_session(alloc: Global, typed: &Typed) -> Result<Session<Checked>, AllocError>
+    ensures of_form { IfOk result (λ s. IsLensOf (left_type (form_tree s.lens.typed)) (right_type (form_tree s.lens.typed))
+        (missing (form_tree s.lens.typed)) (IsConsistent (form_tree s.lens.typed)) (translate (form_tree s.lens.typed))
+        (form_tree typed.now)) }
+    ensures first { IfOk result (λ s. triple_tree s.triple ≡ first_of (form_tree typed.now)) }
 {
-    let report = type_report(alloc, &lens);
-    drop(lens);
-    report
+    let lens = Checked::new(typed.twin(alloc)?);
+    Session::start(alloc, lens)
 }
 
-fn type_report(alloc: Global, lens: &Typed) -> Result<Report, AllocError>
+// The state lines of a session alone.
+fn report_of_state<L: EditLens>(
+    alloc: Global,
+    typed: &Typed,
+    session: &Session<L>,
+) -> Result<Report, AllocError>
+    requires of_form { IsLensOf (L.left_type session.now.lens) (L.right_type session.now.lens)
+        (L.start session.now.lens) (L.holds session.now.lens) (L.carried session.now.lens)
+        (form_tree typed.now) }
+    ensures text { IfOk result (λ r. r.text.items ≡ state_lines (form_tree typed.now) (triple_tree session.now.triple)) }
+    ensures status { IfOk result (λ r. r.status ≡ Status.Done) }
+    ensures end { HasEnd result }
+{
+    let text = state_lines(alloc, typed, session)?;
+    Ok(Report {
+        text,
+        status: Status::Done,
+    })
+}
+
+/// The two types of a lens. The only error is running out of memory.
+pub fn types_of(alloc: Global, lens: &Typed) -> Result<Report, AllocError>
     ensures text { IfOk result (λ r. (r.text.items ≡ type_lines (form_tree lens.now)) × (r.status ≡ Status.Done)) }
     ensures end { HasEnd result }
 {
@@ -134,58 +162,27 @@ fn refused_with(line: Bytes) -> Report
 
 /// The end of the report of a run whose input is at its end: the answers that are not written yet, with that to the last
 /// line, which no LF ends, and the state lines. The only error is running out of memory.
-pub fn last_report(
+pub fn last_report<L: EditLens>(
     alloc: Global,
-    session: &mut Session<Checked>,
+    typed: &Typed,
+    session: &mut Session<L>,
     progress: Progress,
     input: Input,
 ) -> Result<Report, AllocError>
+    requires of_form { IsLensOf (L.left_type session.old.lens) (L.right_type session.old.lens)
+        (L.start session.old.lens) (L.holds session.old.lens) (L.carried session.old.lens)
+        (form_tree typed.now) }
     requires none { input.lines.ended ≡ [] }
     requires fits { progress.number + 1 < 2 ^ 64 }
-    ensures report { IfOk result (λ r. EndsReport (form_tree session.old.lens.typed) (triple_tree session.old.triple) progress input.lines.begun r) }
+    ensures report { IfOk result (EndsReport (form_tree typed.now) (triple_tree session.old.triple) progress input.lines.begun) }
     ensures end { HasEnd result }
 {
-    let mut progress = progress;
-    take_last(alloc, session, &mut progress, input)?;
-    report_of_state(alloc, session, progress)
-}
-
-// Handles the last line, which no LF ends, if there is one.
-fn take_last<L: EditLens>(
-    alloc: Global,
-    session: &mut Session<L>,
-    progress: &mut Progress,
-    input: Input,
-) -> Result<(), AllocError>
-    requires none { input.lines.ended ≡ [] }
-    requires fits { progress.old.number + 1 < 2 ^ 64 }
-    ensures goes { OnOk result (GoesOver (L.left_type session.old.lens) (L.right_type session.old.lens) (L.carried session.old.lens) (triple_tree session.old.triple) progress.old
-        (option_to_list (last_line input.lines.begun)) (triple_tree session.new.triple) progress.new) }
-    ensures lens { session.new.lens ≡ session.old.lens }
-{
-    match input.last() {
-        Some(line) => handle_line(alloc, session, progress, &line),
-        None => Ok(()),
-    }
-}
-
-// The answers that are not written yet, and the state lines of a session.
-#[tactic(auto, using(crate::proofs::RunInStep::in_step_fits))]
-fn report_of_state(
-    alloc: Global,
-    session: &Session<Checked>,
-    progress: Progress,
-) -> Result<Report, AllocError>
-    ensures text { IfOk result (λ r. r.text.items
-        ≡ progress.text.items ++ state_lines (form_tree session.now.lens.typed) (triple_tree session.now.triple)) }
-    ensures status { IfOk result (λ r. r.status ≡ ending progress.refused) }
-    ensures end { HasEnd result }
-{
-    let state = state_lines(alloc, session.lens().typed(), session)?;
-    let mut text = progress.text;
-    text.extend_from_slice(&state)?;
-    let status = ending(progress.refused);
-    Ok(Report { text, status })
+    let ended = last_answers(alloc, typed, session, progress, input)?;
+    let status = ending(ended.refused);
+    Ok(Report {
+        text: ended.text,
+        status,
+    })
 }
 
 // The status of a run that came to its end.

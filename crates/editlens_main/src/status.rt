@@ -1,6 +1,8 @@
 // How a run ends.
 ghost use Rattle.std.specs.Prelude.{◌≡◌};
-ghost use Rattle.editlens_main.specs.Status.{code_of};
+ghost use Rattle.editlens_main.specs.Status.{code_of, status_of};
+
+use journal_stream::Stopped;
 
 /// How a call of the program ended. The number of each is its exit code.
 #[derive(Clone, Copy, Debug, PartialEq, Eq)]
@@ -29,5 +31,17 @@ impl Status {
         ensures { result ≡ code_of self }
     {
         self as u8
+    }
+
+    /// The status of a call that this stopped.
+    pub fn of_stop(stopped: Stopped) -> Status
+        ensures { result ≡ status_of stopped }
+    {
+        match stopped {
+            Stopped::SourceFault => Status::SourceFault,
+            Stopped::TooLong => Status::InputTooLong,
+            Stopped::SinkFault => Status::SinkFault,
+            Stopped::NoMemory => Status::NoMemory,
+        }
     }
 }

@@ -1,34 +1,36 @@
 //! The top call.
-ghost use Rattle.std.specs.Prelude.{◌≡◌, ◌⊎◌, ◌+◌, ◌^◌, ◌<◌, ◌≤◌, List, ℕ, IfOk, IfSome, Some, None, Ok, IsErrOf, length};
+ghost use Rattle.std.specs.Prelude.{◌≡◌, ◌⊎◌, ◌<◌, ◌≤◌, List, ℕ, IfOk, IfSome, Some, None, Ok, length};
 ghost use Rattle.std.specs.declared.option.Option.{Option};
 ghost use Rattle.command_words.specs.declared.orders.Order.TheVariants.{Gen};
 ghost use Rattle.edit_session.specs.Views.{triple_tree};
 ghost use Rattle.lens_forms.specs.Forms.{FormTree, form_tree};
 ghost use Rattle.lens_io.specs.Causes.{Increased};
+ghost use Rattle.accepted_programs.specs.Program.{lens_of};
+ghost use Rattle.journal_input.specs.Taking.{IsWithin};
+ghost use Rattle.journal_input.specs.declared.limits.TheConstants.{MOST_BYTES, PIECE_BYTES};
+ghost use Rattle.script_parts.specs.Parts.{IsTaken, IsHead};
+ghost use Rattle.journal_answers.specs.LensOf.{IsLensOf};
+ghost use Rattle.journal_answers.specs.Runs.{first_of};
+ghost use Rattle.journal_stream.specs.Stopping.{SinkFailed};
 ghost use Rattle.editlens_main.specs.Commands.{command_of, order_named};
 ghost use Rattle.editlens_main.specs.Ending.{Ended, Gives, HasEnd};
-ghost use Rattle.editlens_main.specs.Ends.{IsFinished, Reports, Stops, SinkFailed, GivesUsage, IsComplete};
+ghost use Rattle.editlens_main.specs.Ends.{IsFinished, Reports, Stops, GivesUsage, IsComplete};
 ghost use Rattle.editlens_main.specs.Generated.{WritesSummary};
-ghost use Rattle.editlens_main.specs.Parts.{IsTaken, IsHead};
-ghost use Rattle.editlens_main.specs.Program.{lens_of};
 ghost use Rattle.editlens_main.specs.Report.{type_lines};
-ghost use Rattle.editlens_main.specs.Runs.{first_of};
-ghost use Rattle.editlens_main.specs.Skipped.{SkipsRest};
-ghost use Rattle.editlens_main.specs.Taking.{IsWithin};
 ghost use Rattle.editlens_main.specs.declared.commands.Command.TheVariants.{Run, Check};
 
 use crate::Status;
 use crate::commands::{Command, USAGE};
 use crate::generated::run_generated;
-use crate::input::{Input, piece_buffer};
-use crate::journal::{answer_pieces, stopped_by};
-use crate::report::{Report, last_report, refusal, report_alone, types_of};
-use crate::script::{Head, read_head};
+use crate::report::{Report, first_session, last_report, refusal, report_alone, types_of};
 use command_words::{Order, WordsFault, read_words};
 use edit_session::Session;
-use lens_io::{Sink, Source, TakeFault, give_all};
-use lens_run::Checked;
+use journal_input::{Input, piece_buffer, skip_rest};
+use journal_stream::{Stopped, answer_pieces};
+use lens_core::EditLens;
+use lens_io::{Sink, Source, give_all};
 use lens_types::Typed;
+use script_parts::{Head, read_head};
 use std::alloc::{AllocError, Global};
 
 /// Does what the program's words say, with its input and its output.
@@ -43,6 +45,8 @@ use std::alloc::{AllocError, Global};
 /// - `check_types`: after `Done` the two types of the lens of the program part were written.
 /// - `stops_are_clean`: what was taken from the source, at most 2^30 + 1 bytes, and written to the sink for every other
 ///   status. After `SourceFault` and `InputTooLong` these are the answers to exactly the lines of the journal that have ended.
+///   After `SinkFault` and `NoMemory` at most one piece is unanswered: the answers to all lines that had ended before the last
+///   64 KiB were taken are written first. What was answered is in step.
 ///   `ProgramRefused` comes only if the program part is refused, with the piece that ends the separator or at the end of the
 ///   source. `InputTooLong` comes if and only if more than 2^30 bytes were taken, and neither a refusal of the program part
 ///   nor the sink nor memory stopped the call first.
@@ -82,7 +86,7 @@ pub fn editlens<S: Source, K: Sink>(
     ensures source_fault { result ≡ Status.SourceFault → Increased (S.faults source.old) (S.faults source.new) }
     ensures sink_fault { result ≡ Status.SinkFault → SinkFailed K.faults K.empty_takes K.room K.held sink.old sink.new }
 
-    ensures complete { (command : Command) → command_of words.now ≡ Some command → IfSome (S.left source.old) (λ bytes. length bytes ≤ 2 ^ 30
+    ensures complete { (command : Command) → command_of words.now ≡ Some command → IfSome (S.left source.old) (λ bytes. length bytes ≤ MOST_BYTES
         → (Increased (S.faults source.old) (S.faults source.new) → ⊥)
         → (SinkFailed K.faults K.empty_takes K.room K.held sink.old sink.new → ⊥)
         → IsComplete command bytes result) }
@@ -116,7 +120,7 @@ fn run<S: Source, K: Sink>(alloc: Global, command: Command, source: &mut S, sink
     ensures reports { IsFinished result → Reports command (S.left source.old) (S.left source.new) (K.held sink.old) (K.held sink.new) result }
     ensures source_fault { result ≡ Status.SourceFault → Increased (S.faults source.old) (S.faults source.new) }
     ensures sink_fault { result ≡ Status.SinkFault → SinkFailed K.faults K.empty_takes K.room K.held sink.old sink.new }
-    ensures complete { IfSome (S.left source.old) (λ bytes. length bytes ≤ 2 ^ 30
+    ensures complete { IfSome (S.left source.old) (λ bytes. length bytes ≤ MOST_BYTES
         → (Increased (S.faults source.old) (S.faults source.new) → ⊥)
         → (SinkFailed K.faults K.empty_takes K.room K.held sink.old sink.new → ⊥)
         → IsComplete command bytes result) }
@@ -140,10 +144,14 @@ fn run_script<S: Source, K: Sink>(
     match read_head(alloc, source, &mut piece) {
         Ok(Head::Whole(program)) => give_report(report_alone(alloc, command, &program), sink),
         Ok(Head::Separated(program, input)) => match program.lens(alloc) {
-            Ok(lens) => run_lens(alloc, command, lens, input, source, &mut piece, sink),
+            Ok(lens) => {
+                let status = run_lens(alloc, command, &lens, input, source, &mut piece, sink);
+                drop(lens);
+                status
+            }
             Err(refused) => give_report(refusal(alloc, refused), sink),
         },
-        Err(fault) => stopped_by(fault),
+        Err(fault) => Status::of_stop(Stopped::at_piece(fault)),
     }
 }
 
@@ -151,16 +159,17 @@ fn run_script<S: Source, K: Sink>(
 fn run_lens<S: Source, K: Sink>(
     alloc: Global,
     command: Command,
-    lens: Typed,
+    lens: &Typed,
     input: Input,
     source: &mut S,
     piece: &mut [u8],
     sink: &mut K,
 ) -> Status
     requires some { 0 < length piece.old }
+    requires few { length piece.old ≤ PIECE_BYTES }
     requires within { IsWithin input }
     ensures ended { (left : Option (List ℕ)) (front rest part : List ℕ) → IsTaken left (S.left source.old) input front rest → IsHead front part
-        → lens_of part ≡ Ok (form_tree lens) → Ended command left (S.left source.new) (K.held sink.old) (K.held sink.new) result }
+        → lens_of part ≡ Ok (form_tree lens.now) → Ended command left (S.left source.new) (K.held sink.old) (K.held sink.new) result }
     ensures source_fault { result ≡ Status.SourceFault → Increased (S.faults source.old) (S.faults source.new) }
     ensures sink_fault { result ≡ Status.SinkFault → SinkFailed K.faults K.empty_takes K.room K.held sink.old sink.new }
 {
@@ -188,68 +197,62 @@ fn show_types<S: Source, K: Sink>(
 {
     match skip_rest(input, source, piece) {
         Ok(()) => give_report(types, sink),
-        Err(fault) => stopped_by(fault),
+        Err(fault) => Status::of_stop(Stopped::at_piece(fault)),
     }
 }
 
 // Runs a journal as it comes.
 fn run_journal<S: Source, K: Sink>(
     alloc: Global,
-    lens: Typed,
+    lens: &Typed,
     input: Input,
     source: &mut S,
     piece: &mut [u8],
     sink: &mut K,
 ) -> Status
     requires some { 0 < length piece.old }
+    requires few { length piece.old ≤ PIECE_BYTES }
     requires within { IsWithin input }
     ensures ended { (left : Option (List ℕ)) (front rest part : List ℕ) → IsTaken left (S.left source.old) input front rest → IsHead front part
-        → lens_of part ≡ Ok (form_tree lens) → Ended Run left (S.left source.new) (K.held sink.old) (K.held sink.new) result }
+        → lens_of part ≡ Ok (form_tree lens.now) → Ended Run left (S.left source.new) (K.held sink.old) (K.held sink.new) result }
     ensures source_fault { result ≡ Status.SourceFault → Increased (S.faults source.old) (S.faults source.new) }
     ensures sink_fault { result ≡ Status.SinkFault → SinkFailed K.faults K.empty_takes K.room K.held sink.old sink.new }
 {
-    let Ok(mut session) = Session::start(alloc, Checked::new(lens)) else {
+    let Ok(mut session) = first_session(alloc, lens) else {
         return Status::NoMemory;
     };
-    let status = answer_journal(alloc, &mut session, input, source, piece, sink);
+    let status = answer_journal(alloc, lens, &mut session, input, source, piece, sink);
     drop(session);
     status
 }
 
 // Answers a journal as it comes, and ends with the state of the session.
-fn answer_journal<S: Source, K: Sink>(
+fn answer_journal<S: Source, K: Sink, L: EditLens>(
     alloc: Global,
-    session: &mut Session<Checked>,
+    typed: &Typed,
+    session: &mut Session<L>,
     input: Input,
     source: &mut S,
     piece: &mut [u8],
     sink: &mut K,
 ) -> Status
+    requires of_form { IsLensOf (L.left_type session.old.lens) (L.right_type session.old.lens)
+        (L.start session.old.lens) (L.holds session.old.lens) (L.carried session.old.lens)
+        (form_tree typed.now) }
     requires some { 0 < length piece.old }
+    requires few { length piece.old ≤ PIECE_BYTES }
     requires within { IsWithin input }
     ensures ended { (left : Option (List ℕ)) (front rest part : List ℕ) → IsTaken left (S.left source.old) input front rest → IsHead front part
-        → lens_of part ≡ Ok (form_tree session.old.lens.typed) → triple_tree session.old.triple ≡ first_of (form_tree session.old.lens.typed)
+        → lens_of part ≡ Ok (form_tree typed.now) → triple_tree session.old.triple ≡ first_of (form_tree typed.now)
         → Ended Run left (S.left source.new) (K.held sink.old) (K.held sink.new) result }
     ensures source_fault { result ≡ Status.SourceFault → Increased (S.faults source.old) (S.faults source.new) }
     ensures sink_fault { result ≡ Status.SinkFault → SinkFailed K.faults K.empty_takes K.room K.held sink.old sink.new }
 {
     let mut input = input;
     match answer_pieces(alloc, session, &mut input, source, piece, sink) {
-        Ok(progress) => give_report(last_report(alloc, session, progress, input), sink),
-        Err(status) => status,
+        Ok(progress) => give_report(last_report(alloc, typed, session, progress, input), sink),
+        Err(stopped) => Status::of_stop(stopped),
     }
-}
-
-// Reads an input to its end. Its bytes are not looked at.
-fn skip_rest<S: Source>(input: Input, source: &mut S, piece: &mut [u8]) -> Result<(), TakeFault>
-    requires some { 0 < length piece.old }
-    ensures skips { SkipsRest input.taken (S.left source.old) (S.left source.new) result }
-    ensures faults { S.faults source.old ≤ S.faults source.new }
-    ensures cause { IsErrOf result TakeFault.SourceFault → Increased (S.faults source.old) (S.faults source.new) }
-{
-    let mut input = input;
-    'pieces: while input.skip_piece(source, piece)? {}
-    Ok(())
 }
 
 // Writes a report, and ends with its status. Out of memory there is none.

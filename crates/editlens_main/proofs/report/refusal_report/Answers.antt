@@ -1,7 +1,8 @@
 use Rattle.std.proofs.Common.{subst, ◌∙◌}
-use Rattle.editlens_main.specs.Refused.{IsKnown, IsRefusal}
-use Rattle.editlens_main.specs.Program.{syntax, typing}
-use Rattle.editlens_main.proofs.RunReports.{refused_report, if_cause}
+use Rattle.accepted_programs.specs.Refused.{IsKnown, IsRefusal}
+use Rattle.accepted_programs.specs.Program.{syntax, typing}
+use Rattle.accepted_programs.proofs.Refusals.{if_cause}
+use Rattle.editlens_main.proofs.RefusalReports.{refused_report}
 use Rattle.editlens_main.proofs.report.refusal_report.Goals as goal
 
 pub syntax_line-requires : goal.syntax_line-requires

@@ -11,4 +11,4 @@ returns-in-Run-clause-ended g c = λ left front rest part t head lens.
 pub returns-in-Check-clause-ended : goal.returns-in-Check-clause-ended
 returns-in-Check-clause-ended g c = λ left front rest part t head lens.
     subst (λ k. Ended k left (g.S.Source.left c.show_types.new.source) (g.K.Sink.held c.args.sink.now) (g.K.Sink.held c.show_types.new.sink) c.show_types.result) (sym c.in-Check.is)
-    (c.show_types.ensures.ended left front rest part (form_tree c.args.lens) t head lens c.types_of.ensures.text)
+    (c.show_types.ensures.ended left front rest part (form_tree c.args.lens.now) t head lens c.types_of.ensures.text)

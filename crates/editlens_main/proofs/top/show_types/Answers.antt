@@ -1,5 +1,6 @@
-use Rattle.std.proofs.Common.{sym, subst}
+use Rattle.std.proofs.Common.{sym, subst, ap, ◌∙◌}
 use Rattle.editlens_main.specs.Ending.{Ended}
+use Rattle.editlens_main.specs.Status.{status_of}
 use Rattle.editlens_main.specs.declared.commands.Command.TheVariants.{Check}
 use Rattle.editlens_main.proofs.ScriptEnds.{types_stop, types_end}
 use Rattle.editlens_main.proofs.top.show_types.Goals as goal
@@ -13,5 +14,5 @@ pub returns-in-Err-clause-ended : goal.returns-in-Err-clause-ended
 returns-in-Err-clause-ended g c = λ left front rest part form t head lens h.
     let now = g.S.Source.left c.skip_rest.new.source in
     let held = g.K.Sink.held c.args.sink.now in
-    subst (Ended Check left now held held) (sym c.stopped_by.ensures)
+    subst (Ended Check left now held held) (sym (c.of_stop.ensures ∙ ap status_of c.at_piece.ensures))
     (types_stop left (g.S.Source.left c.args.source.now) c.args.input front rest part t head form lens now held c.in-Err.fault c.in-Err.ensures.skips)

@@ -1,0 +1,15 @@
+//! Laws of runs. Each function here does nothing: its clause is the law.
+ghost use Rattle.std.specs.Prelude.{◌≡◌, ℕ, List, Ok};
+ghost use Rattle.lens_forms.specs.Forms.{FormTree};
+ghost use Rattle.accepted_programs.specs.Program.{lens_of};
+ghost use Rattle.journal_answers.specs.Runs.{JournalItem};
+ghost use Rattle.editlens_main.specs.Ends.{RunStaysInStep};
+
+/// Every run of an accepted program stays in step: for any items of a journal the run goes on to its end, and every triple
+/// of it, the first one and those after refused items included, is in the lens's consistency relation.
+///
+/// It does not matter whether or how a call over these items ended.
+#[tactic(auto, using(crate::proofs::RunInStep::accepted_in_step))]
+pub fn every_run_stays_in_step()
+    ensures { (text : List ℕ) (form : FormTree) (items : List JournalItem) → lens_of text ≡ Ok form → RunStaysInStep form items }
+{}

@@ -1,0 +1,6 @@
+pub mod AddedLines
+mod Examples
+pub mod Fronts
+pub mod Heads
+pub mod ProgramTexts
+pub mod TakenLines

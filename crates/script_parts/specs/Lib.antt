@@ -1,0 +1,4 @@
+pub mod Coming
+pub mod Lines
+pub mod PartSteps
+pub mod Parts
