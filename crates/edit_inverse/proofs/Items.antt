@@ -214,17 +214,6 @@ gather-order n a (suc m) f fresh xs w h =
     let rest = gather-order n (a + 1) m f fresh xs w (omega arith) in
     rw (one, rest) refl
 
--- in an order each place below its length is among the numbers
-pub all-among : (f : List ℕ) → is_each_new (length f) [] f ≡ true → (k : ℕ) → k < length f → (place_among f k < length f) × (get_or f (place_among f k) 0 ≡ k)
-all-among f h k lt =
-    let n = length f in
-    let size : nat_eq n n ≡ true = grind (arith, nat_tests) in
-    let none : List ℕ = [] in
-    let w = reorder-makes n f 0 none size h in
-    let all = (kept (list_of n) (Reorder f) (list_of n) (map Old f) w.1).0 in
-    let c = all k lt in
-    found-among f k (omega arith)
-
 pub reorder-back : {X : Type 0} (n : ℕ) (f : List ℕ) (s : Shape) (from : List Origin) (fresh : X) (xs : List X) → n ≡ length xs → plan (list_of n) (Reorder f) ≡ Ok (s, from)
     → Makes s (Reorder (inverse_order f)) fresh (map (content_at xs fresh) from) (list_of n) xs
 reorder-back n f s from fresh xs e k =
