@@ -1,0 +1,24 @@
+pub mod Building
+pub mod Acts
+pub mod Answered
+pub mod Blocks
+pub mod Constructs
+pub mod ContainerKinds
+pub mod Fills
+pub mod Grafts
+pub mod Hangs
+pub mod Inverses
+pub mod Items
+pub mod KeptTexts
+pub mod KeyEdits
+pub mod Moves
+pub mod Reshaped
+pub mod Returns
+pub mod Spliced
+pub mod Texts
+pub mod Ways
+pub mod SamePrefix
+pub mod Children
+pub mod OtherChildren
+pub mod Gathered
+mod Examples
