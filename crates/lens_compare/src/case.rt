@@ -1,0 +1,67 @@
+//! A case: a lens program, and the entries of a journal.
+
+use anyhow::{Context, Result, bail};
+use edit_journal::{EntryFault, read_entry_tree};
+use edit_module::Entry;
+use lens_syntax::{Program, read_program};
+use lens_types::{Typed, check};
+use serde_json::Value;
+use std::alloc::Global;
+
+/// A line of a file of cases.
+#[derive(Clone, Copy)]
+pub struct Case<'a> {
+    row: &'a Value,
+}
+
+impl<'a> Case<'a> {
+    /// Returns the case of a row. It is refused if the row is not an object.
+    pub fn from_row(row: &'a Value) -> Result<Case<'a>> {
+        if !row.is_object() {
+            bail!("the row is not an object");
+        }
+        Ok(Case { row })
+    }
+
+    /// Returns the lens of the program. It is refused if the case has none, and if it is not accepted.
+    pub fn lens(&self, alloc: Global) -> Result<Typed> {
+        let program = self
+            .part("program")?
+            .as_str()
+            .context("the program is not a text")?;
+        match read_program(alloc, program.as_bytes()) {
+            Ok(program) => checked(alloc, &program),
+            Err(fault) => bail!("the program is not read: {fault:?}"),
+        }
+    }
+
+    /// Returns the trees of the entries. It is refused if the case has none.
+    pub fn entries(&self) -> Result<&'a Vec<Value>> {
+        self.part("entries")?
+            .as_array()
+            .context("the entries are not an array")
+    }
+
+    fn part(&self, name: &str) -> Result<&'a Value> {
+        match self.row.get(name) {
+            Some(value) => Ok(value),
+            None => bail!("no member {name}"),
+        }
+    }
+}
+
+fn checked(alloc: Global, program: &Program) -> Result<Typed> {
+    match check(alloc, program) {
+        Ok(lens) => Ok(lens),
+        Err(_) => bail!("the program is not a lens"),
+    }
+}
+
+/// The entry that a tree is, or `None` if it is not one. It is refused if memory runs out.
+pub fn entry_of(alloc: Global, tree: &Value) -> Result<Option<Entry>> {
+    match read_entry_tree(alloc, tree) {
+        Ok(entry) => Ok(Some(entry)),
+        Err(EntryFault::NoMemory) => bail!("out of memory"),
+        Err(_) => Ok(None),
+    }
+}
