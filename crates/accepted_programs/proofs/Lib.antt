@@ -1,0 +1,2 @@
+pub mod AcceptedForms
+pub mod Refusals
