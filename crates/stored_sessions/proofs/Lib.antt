@@ -1,0 +1,4 @@
+pub mod ConsistencyDecided
+pub mod Appending
+pub mod WrittenStands
+pub mod AcceptedDepths
