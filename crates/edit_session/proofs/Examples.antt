@@ -36,7 +36,7 @@ one_entry : step_all number number as_it_is (both (int (pos 3))) (one (Left, mor
 one_entry = refl
 
 -- a refused entry alone has the number 0 in its change
-one_refused : step_all number number as_it_is (both (int (pos 3))) (one (Left, bad)) ≡ Some (Err (0, 1, Kind))
+one_refused : step_all number number as_it_is (both (int (pos 3))) (one (Left, bad)) ≡ Some (Err (0, (1, Kind)))
 one_refused = refl
 
 -- the second entry starts from what the first one left: 5, and then 6
@@ -44,7 +44,7 @@ both_accepted : step_all number number as_it_is (both (int (pos 0))) (group ((Le
 both_accepted = refl
 
 -- the second entry is refused, and so is the group, with the number 1
-second_refused : step_all number number as_it_is (both (int (pos 0))) (group ((Left, five) ∷ (Right, bad) ∷ (Left, bad) ∷ [])) ≡ Some (Err (1, 1, Kind))
+second_refused : step_all number number as_it_is (both (int (pos 0))) (group ((Left, five) ∷ (Right, bad) ∷ (Left, bad) ∷ [])) ≡ Some (Err (1, (1, Kind)))
 second_refused = refl
 
 no_entries : step_all number number as_it_is (both (int (pos 7))) (group []) ≡ Some (Ok (both (int (pos 7)), []))

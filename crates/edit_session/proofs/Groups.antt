@@ -1,5 +1,5 @@
 -- The entries of a group as a loop goes over them, and a change as the list of its entries.
-use Rattle.std.proofs.Common.{◌≡◌, ℕ, ◌+◌, ◌≤◌, ◌<◌, add-one, List, [], ◌∷◌, ◌++◌, append_assoc, length, length-append, map, drop, drop-cons, get_or, Option, Some, None, Result, Ok, Err, refl, sym, ap, ◌∙◌, arith}
+use Rattle.std.proofs.Common.{◌≡◌, ℕ, suc, ◌+◌, ◌≤◌, ◌<◌, add-one, List, [], ◌∷◌, ◌++◌, append_assoc, length, length-append, map, drop, drop-cons, get_or, Option, Some, None, Result, Ok, Err, refl, sym, ap, ◌∙◌, arith}
 use Rattle.std.specs.Prelude.{option_map, option_and_then}
 use Rattle.std.proofs.lemmas.List.{drop_all, append-nil}
 use Rattle.texts.specs.declared.side.Side.{Side}
@@ -61,14 +61,14 @@ module _ (left right : TyTree) (carried : Side → CompTree → WordTree → Opt
       → remaining ws t (entry_trees (drop i es)) ≡ remaining (ws ++ w ∷ []) u (entry_trees (drop (i + 1) es))
   next_accepted es i e ws t u w h is accepted =
       let steps : step left right carried t (entry_tree (get_or es i e)) ≡ Some (Ok (u, w)) = ap (λ x. step left right carried t (entry_tree x)) (sym is) ∙ accepted in
-      rw (drop-cons es i e, add-one i) (remaining-next ws t u w (entry_tree (get_or es i e)) (entry_trees (drop (i + 1) es)) steps)
+      rw (drop-cons es i e, add-one i) (remaining-next ws t u w (entry_tree (get_or es i e)) (entry_trees (drop (suc i) es)) steps)
 
   pub next_refused : (es : List Entry) (i : ℕ) (e : Entry) (ws : List WordTree) (t : TripleTree) (why : Why) → i < length es → e ≡ get_or es i e
       → step left right carried t (entry_tree e) ≡ Some (Err why)
       → remaining ws t (entry_trees (drop i es)) ≡ Some (Err (length ws, why))
   next_refused es i e ws t why h is refused =
       let steps : step left right carried t (entry_tree (get_or es i e)) ≡ Some (Err why) = ap (λ x. step left right carried t (entry_tree x)) (sym is) ∙ refused in
-      rw (drop-cons es i e) (remaining-refused ws t why (entry_tree (get_or es i e)) (entry_trees (drop (i + 1) es)) steps)
+      rw (drop-cons es i e) (remaining-refused ws t why (entry_tree (get_or es i e)) (entry_trees (drop (suc i) es)) steps)
 
   -- no entries are left
   pub none_remain : (es : List Entry) (i : ℕ) (ws : List WordTree) (t : TripleTree) → length es ≤ i → remaining ws t (entry_trees (drop i es)) ≡ Some (Ok (t, ws))

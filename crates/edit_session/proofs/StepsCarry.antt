@@ -1,7 +1,7 @@
 -- A step from a triple that is in step: the translation has a value, the carried word acts on the document of the other side, and
 -- the new triple is in step.
-use Rattle.std.proofs.Common.{◌≡◌, Option, Some, None, Result, Ok, Err, IsTrue, refl, ap, sym, subst}
-use Rattle.std.specs.Prelude.{option_and_then}
+use Rattle.std.proofs.Common.{◌≡◌, List, [], ◌∷◌, Option, Some, None, Result, Ok, Err, IsTrue, refl, ap, sym, subst}
+use Rattle.std.specs.Prelude.{option_map, option_and_then}
 use Rattle.texts.specs.declared.side.Side.{Side}
 use Rattle.texts.specs.declared.side.Side.TheVariants.{Left, Right}
 use Rattle.texts.specs.Sides.{other}
@@ -16,8 +16,10 @@ use Rattle.lens_core.specs.Translation.{Translated}
 use Rattle.lens_core.specs.Laws.{SeenFrom, IsCarried, TypesAreWellFormed, TogetherAreTyped, WordsCarry}
 use Rattle.edit_session.specs.declared.fault.StepFault.{StepFault}
 use Rattle.edit_session.specs.declared.fault.StepFault.TheVariants.{NoApply, NoMemory}
-use Rattle.edit_session.specs.Step.{TripleTree, IsInStep, document_on, triple_from, after_carrying, after_action, step}
-use Rattle.edit_session.specs.Views.{IsStepFault}
+use Rattle.edit_session.specs.declared.fault.GroupFault.{GroupFault}
+use Rattle.edit_session.specs.declared.fault.GroupFault.TheVariants as of_groups
+use Rattle.edit_session.specs.Step.{TripleTree, IsInStep, ApplyInTurn, Stepped, AllStepped, WhyPart, with_first, after_first, document_on, triple_from, after_carrying, after_action, step, step_each}
+use Rattle.edit_session.specs.Views.{IsStepFault, IsGroupFault}
 
 -- what is equal to two values has one, and a value is no refusal
 only : {X : Type 0} {o : Option X} {x y : X} → o ≡ Some x → o ≡ Some y → x ≡ y
@@ -95,3 +97,31 @@ only_no_memory left right carried t e (NoApply at cause) refused x is = absurd (
     (λ r. act (near (other e.0) left right) r.0 (document_on (other e.0) t)) (carried e.0 t.comp e.1) (at, cause)
     (subst (λ a. after_action left right carried t e.0 e.1 a ≡ Some (Err (at, cause))) is refused))
 only_no_memory left right carried t e NoMemory refused x is = refl
+
+-- where each entry of a group applies in its turn, the group is not refused with numbers and a cause
+with_first_refused : (w : WordTree) (o : Option AllStepped) (why : WhyPart) → option_map (with_first w) o ≡ Some (Err why) → (first : WhyPart) × (o ≡ Some (Err first))
+with_first_refused w None why e = cc
+with_first_refused w (Some (Ok s)) why e = cc
+with_first_refused w (Some (Err first)) why e = (first, refl)
+
+first_refused : (o : Option Stepped) (others : TripleTree → Option AllStepped) (why : WhyPart)
+    → ((first : Why) → o ≡ Some (Err first) → ⊥) → ((s : TripleTree × WordTree) → o ≡ Some (Ok s) → (first : WhyPart) → others s.0 ≡ Some (Err first) → ⊥)
+    → option_and_then (after_first others) o ≡ Some (Err why) → ⊥
+first_refused None others why never go_on e = cc
+first_refused (Some (Ok s)) others why never go_on e = let first = with_first_refused s.1 (others s.0) why e in go_on s refl first.0 first.1
+first_refused (Some (Err cause)) others why never go_on e = never cause refl
+
+in_turn_is_no_refusal : (left right : TyTree) (carried : Side → CompTree → WordTree → Option Translated) (es : List (Side × WordTree)) (t : TripleTree) (why : WhyPart)
+    → ApplyInTurn left right carried t es → step_each left right carried t es ≡ Some (Err why) → ⊥
+in_turn_is_no_refusal left right carried [] t why h e = cc
+in_turn_is_no_refusal left right carried (e ∷ es) t why h refused =
+    first_refused (step left right carried t e) (λ next. step_each left right carried next es) why
+    (λ cause is. carried_is_no_refusal e.0 h.0 (λ r. act (near (other e.0) left right) r.0 (document_on (other e.0) t)) (carried e.0 t.comp e.1) cause
+    (subst (λ a. after_action left right carried t e.0 e.1 a ≡ Some (Err cause)) h.1 is))
+    (λ s is first others. in_turn_is_no_refusal left right carried es s.0 first (h.2 s is) others)
+    refused
+
+pub each_no_memory : (left right : TyTree) (carried : Side → CompTree → WordTree → Option Translated) (t : TripleTree) (es : List (Side × WordTree)) (fault : GroupFault)
+    → IsGroupFault (step_each left right carried t es) fault → ApplyInTurn left right carried t es → fault ≡ of_groups.NoMemory
+each_no_memory left right carried t es (of_groups.NoApply part at cause) refused h = absurd (in_turn_is_no_refusal left right carried es t (part, (at, cause)) h refused)
+each_no_memory left right carried t es of_groups.NoMemory refused h = refl

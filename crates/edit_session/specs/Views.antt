@@ -20,7 +20,7 @@ IsStepFault stepped NoMemory = Unit {0}
 
 -- a change is refused with the two numbers and the cause that the definition has; running out of memory says nothing
 abbrev pub IsGroupFault : Option AllStepped → GroupFault → Type 0
-IsGroupFault stepped (of_groups.NoApply part at cause) = stepped ≡ Some (Err (part, at, cause))
+IsGroupFault stepped (of_groups.NoApply part at cause) = stepped ≡ Some (Err (part, (at, cause)))
 IsGroupFault stepped of_groups.NoMemory = Unit {0}
 
 -- the entry with this number in a group is refused as the definition refuses it

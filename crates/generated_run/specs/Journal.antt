@@ -5,6 +5,7 @@ use Rattle.texts.specs.declared.side.Side.{Side}
 use Rattle.texts.specs.declared.side.Side.TheVariants.{Left, Right}
 use Rattle.hold_shapes.specs.declared.edit.Place.TheVariants.{Index}
 use Rattle.hold_shapes.specs.declared.edit.ShapeEdit.TheVariants.{Ins, MoveItem as MoveEdit}
+use Rattle.edit_module.specs.Changes.{one}
 use Rattle.edit_module.specs.Words.{PrimitiveTree, add, at, modify, shape, WordTree, no_primitives, more_primitives}
 use Rattle.doc_values.specs.Documents.{DocTree, int, rec, hold, no_docs, more_docs, doc_list}
 use Rattle.lens_forms.specs.Forms.{left_type, right_type}
@@ -129,9 +130,9 @@ summarized t steps = record {
   sum = sum_of (nums_in (last t steps).right);
 }
 
--- an entry as an item of a journal, which has no line that is not an entry
+-- an entry as an item of a journal, which has no groups and no line that is not a change
 abbrev pub entry_item : Side × WordTree → Item ⊥
-entry_item e = Ok e
+entry_item e = Ok (one e)
 
 -- the run of the lens of the fixed program over a journal
 abbrev pub first_triple : TripleTree
