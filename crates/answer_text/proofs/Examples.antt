@@ -8,12 +8,12 @@ use Rattle.doc_values.specs.Types.{ty_int, ty_text, ty_enum, ty_rec, ty_alt, no_
 use Rattle.edit_module.specs.Words.{set, at, no_primitives, more_primitives}
 use Rattle.edit_module.specs.declared.atom.Atom.TheVariants.{Number}
 use Rattle.texts.specs.declared.side.Side.TheVariants.{Left, Right}
-use Rattle.edit_module.specs.declared.fault.Cause.TheVariants.{Place}
-use Rattle.edit_journal.specs.declared.fault.EntryFault.TheVariants.{NotAnEdit}
+use Rattle.edit_module.specs.declared.fault.Cause.TheVariants.{Place, Kind}
+use Rattle.edit_journal.specs.EntryJson.{not_an_edit}
 use Rattle.lens_syntax.specs.Programs.{too_long, not_a_program, repeated_name}
 use Rattle.lens_types.specs.Checking.{middle_differs, repeated_field, repeated_member, not_a_member, too_deep}
 use Rattle.program_writing.specs.Canonical.{put_initial_number}
-use Rattle.answer_text.specs.Lines.{ok_line, no_apply_line, fault_line, syntax_line, typing_line, type_line, tree_line}
+use Rattle.answer_text.specs.Lines.{ok_line, no_apply_line, group_line, group_refused_line, fault_line, syntax_line, typing_line, type_line, tree_line}
 
 empty_word : ok_line 1 Right no_primitives ≡ codes "ok 1 right []\n"
 unfolding digits serde_json_on_literals
@@ -28,7 +28,21 @@ number_before_place : no_apply_line 3 0 Place ≡ codes "refused 3 no-apply 0 pl
 unfolding digits
 number_before_place = refl
 
-no_edit : fault_line 4 NotAnEdit ≡ codes "refused 4 not-an-edit\n"
+-- each word of a group with the side to which it was carried
+two_words : group_line 1 ((Right, more_primitives (set (Number (pos 5))) no_primitives) ∷ (Left, no_primitives) ∷ []) ≡ codes "ok 1 group [{\"edit\":[{\"set\":5}],\"side\":\"right\"},{\"edit\":[],\"side\":\"left\"}]\n"
+unfolding digits serde_json_on_literals
+two_words = refl
+
+empty_group : group_line 1 [] ≡ codes "ok 1 group []\n"
+unfolding digits serde_json_on_literals
+empty_group = refl
+
+-- the number of the group, that of the entry in it, and that of the primitive
+numbers_in_order : group_refused_line 1 2 0 Kind ≡ codes "refused 1 group 2 no-apply 0 kind\n"
+unfolding digits
+numbers_in_order = refl
+
+no_edit : fault_line 4 not_an_edit ≡ codes "refused 4 not-an-edit\n"
 unfolding digits
 no_edit = refl
 

@@ -1,5 +1,6 @@
 -- The lines that the program writes, each with the line feed at its end.
--- From the end: `tree_line` and `type_line`, the refusals of a program, `fault_line`, `no_apply_line` and `ok_line`.
+-- From the end: `tree_line` and `type_line`, the refusals of a program, `fault_line`, `group_refused_line` and `group_line`,
+-- `no_apply_line` and `ok_line`.
 use Rattle.std.specs.Prelude.{ℕ, List, ◌++◌, codes, decimal}
 use Rattle.serde_json.specs.Data.{Data}
 use Rattle.serde_json.specs.Written.{compact_text}
@@ -8,8 +9,7 @@ use Rattle.texts.specs.declared.side.Side.{Side}
 use Rattle.edit_module.specs.declared.fault.Cause.{Cause}
 use Rattle.edit_module.specs.Words.{WordTree}
 use Rattle.edit_json.specs.WordJson.{tree_of_word}
-use Rattle.edit_journal.specs.EntryJson.{side_text}
-use Rattle.edit_journal.specs.declared.fault.EntryFault.{EntryFault}
+use Rattle.edit_journal.specs.EntryJson.{LineFault, side_text, tree_of_entries}
 use Rattle.lens_syntax.specs.Programs.{ProgramCause}
 use Rattle.lens_types.specs.Checking.{Failure}
 use Rattle.program_writing.specs.Canonical.{canonical_type}
@@ -23,8 +23,18 @@ ok_line number side word = codes "ok " ++ decimal number ++ codes " " ++ side_te
 abbrev pub no_apply_line : ℕ → ℕ → Cause → List ℕ
 no_apply_line number at cause = codes "refused " ++ decimal number ++ codes " no-apply " ++ decimal at ++ codes " " ++ cause_text cause ++ codes "\n"
 
--- `refused N FAULT`: the line is not an entry
-abbrev pub fault_line : ℕ → EntryFault → List ℕ
+-- `ok N group LIST`: a group was accepted, and its entries were translated to these words, each of the side that is beside it
+abbrev pub group_line : ℕ → List (Side × WordTree) → List ℕ
+group_line number words = codes "ok " ++ decimal number ++ codes " group " ++ compact_text (tree_of_entries words) ++ codes "\n"
+
+-- `refused N group PART no-apply AT CAUSE`: the entry with the number PART, from 0, is the first of the group that does not apply, and
+-- the primitive with the number AT, from 0, is the first of that entry that does not
+abbrev pub group_refused_line : ℕ → ℕ → ℕ → Cause → List ℕ
+group_refused_line number part at cause =
+    codes "refused " ++ decimal number ++ codes " group " ++ decimal part ++ codes " no-apply " ++ decimal at ++ codes " " ++ cause_text cause ++ codes "\n"
+
+-- `refused N FAULT`: the line is not a change
+abbrev pub fault_line : ℕ → LineFault → List ℕ
 fault_line number fault = codes "refused " ++ decimal number ++ codes " " ++ fault_text fault ++ codes "\n"
 
 -- `program refused: REASON`

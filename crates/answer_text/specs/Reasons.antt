@@ -1,10 +1,9 @@
 -- The words for causes and reasons in the lines that the program writes.
 -- From the end: `typing_reason`, `syntax_reason`, `fault_text`, `cause_text`.
-use Rattle.std.specs.Prelude.{ℕ, List, [], ◌++◌, codes, decimal}
+use Rattle.std.specs.Prelude.{ℕ, List, ◌++◌, codes, decimal}
 use Rattle.edit_module.specs.declared.fault.Cause.{Cause}
 use Rattle.edit_module.specs.declared.fault.Cause.TheVariants.{Kind, Place, Tag, Range, Overflow, Value, Present, Length, Deep}
-use Rattle.edit_journal.specs.declared.fault.EntryFault.{EntryFault}
-use Rattle.edit_journal.specs.declared.fault.EntryFault.TheVariants as of_entries
+use Rattle.edit_journal.specs.EntryJson.{LineFault, line_too_long, not_json, not_an_entry, not_an_edit}
 use Rattle.lens_syntax.specs.Programs.{ProgramCause, too_long, not_a_program, unknown_name, repeated_name}
 use Rattle.lens_types.specs.Checking.{Failure, middle_differs, repeated_field, repeated_tag, repeated_member, not_a_member, too_large, too_deep}
 use Rattle.program_writing.specs.Canonical.{canonical_name, canonical_type}
@@ -21,13 +20,12 @@ cause_text Present = codes "present"
 cause_text Length = codes "length"
 cause_text Deep = codes "deep"
 
--- why a line of a journal is not an entry; running out of memory says nothing of the line
-abbrev pub fault_text : EntryFault → List ℕ
-fault_text of_entries.LineTooLong = codes "line-too-long"
-fault_text of_entries.NotJson = codes "not-json"
-fault_text of_entries.NotAnEntry = codes "not-an-entry"
-fault_text of_entries.NotAnEdit = codes "not-an-edit"
-fault_text of_entries.NoMemory = []
+-- why a line of a journal is not a change
+abbrev pub fault_text : LineFault → List ℕ
+fault_text line_too_long = codes "line-too-long"
+fault_text not_json = codes "not-json"
+fault_text not_an_entry = codes "not-an-entry"
+fault_text not_an_edit = codes "not-an-edit"
 
 -- why a text is not a program, with the offset of the unexpected token or of the name
 abbrev pub syntax_reason : ProgramCause → List ℕ

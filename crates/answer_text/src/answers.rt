@@ -1,16 +1,22 @@
-//! The answers to entries.
-ghost use Rattle.std.specs.Prelude.{◌≡◌, ◌≢◌, true, IfOk};
-ghost use Rattle.edit_module.specs.Views.{word_tree};
+//! The answers to changes.
+ghost use Rattle.std.specs.Prelude.{◌≡◌, ◌≢◌, true, Some, IfOk, length};
+ghost use Rattle.std.specs.List.{list_all};
+ghost use Rattle.edit_module.specs.Changes.{carried_to};
+ghost use Rattle.edit_module.specs.Views.{word_tree, word_trees, entry_trees};
 ghost use Rattle.edit_json.specs.WordJson.{counts_fit};
-ghost use Rattle.answer_text.specs.Lines.{ok_line, no_apply_line, fault_line};
+ghost use Rattle.edit_journal.specs.EntryJson.{LineFault};
+ghost use Rattle.edit_journal.specs.Reading.{cause_of};
+ghost use Rattle.answer_text.specs.Lines.{ok_line, no_apply_line, group_line, group_refused_line, fault_line};
 
 use crate::words::{bytes_of, cause_text, fault_text};
-use edit_journal::{EntryFault, side_text};
+use edit_journal::{EntryFault, side_text, write_carried};
 use edit_json::append_word;
-use edit_module::{Cause, Word};
+use edit_module::change::Words;
+use edit_module::{Cause, Entries, Word};
 use itoa::Buffer;
 use std::alloc::{AllocError, Global};
 use texts::{Bytes, Side};
+use value_json::write_compact;
 
 // The bytes of most answers, for which room is made at once.
 const USUAL: usize = 128;
@@ -49,13 +55,58 @@ pub fn no_apply_line(alloc: Global, number: u64, at: u64, cause: Cause) -> Resul
     Ok(bytes_of(line))
 }
 
-/// `refused N FAULT` and a line feed: the line with this number is not an entry.
+/// `ok N group LIST` and a line feed: the group with this number was accepted. LIST is a compact JSON
+/// array, with an object for each entry: `edit` is the word that the entry was translated to, and
+/// `side` the side of this word, the other one than the entry's.
+///
+/// There are as many words as entries. Each insertion and each deletion in the words is of 1 to
+/// 65,536 items, which `edit_json::has_tree` tests. The only error is running out of memory.
+pub fn group_line(
+    alloc: Global,
+    number: u64,
+    group: &Entries,
+    words: &Words,
+) -> Result<Bytes, AllocError>
+    requires one_for_each { length words.now ≡ length group.now }
+    requires counts_fit { list_all counts_fit (word_trees words.now) ≡ true }
+    ensures line { IfOk result (λ line. line
+        ≡ group_line number (carried_to (entry_trees group.now) (word_trees words.now))) }
+{
+    let tree = write_carried(alloc, group, words)?;
+    let list = write_compact(alloc, &tree)?;
+    let line = format!(in alloc; "ok {number} group {list}\n")?;
+    Ok(bytes_of(line))
+}
+
+/// `refused N group PART no-apply AT CAUSE` and a line feed: in the group with this number the entry
+/// with the number `part`, from 0, is the first that does not apply, and in that entry the primitive
+/// with the number `at`, from 0, for this cause. So no entry of the group was accepted.
+///
+/// The causes are those of `no_apply_line`. The only error is running out of memory.
+pub fn group_refused_line(
+    alloc: Global,
+    number: u64,
+    part: u64,
+    at: u64,
+    cause: Cause,
+) -> Result<Bytes, AllocError>
+    ensures line { IfOk result (λ line. line ≡ group_refused_line number part at cause) }
+{
+    let cause = cause_text(cause);
+    let line = format!(in alloc; "refused {number} group {part} no-apply {at} {cause}\n")?;
+    Ok(bytes_of(line))
+}
+
+/// `refused N FAULT` and a line feed: the line with this number is not a change.
 ///
 /// The faults are `line-too-long`, `not-json`, `not-an-entry` and `not-an-edit`. The fault is not
 /// that memory ran out, which says nothing of the line. The only error is running out of memory.
 pub fn fault_line(alloc: Global, number: u64, fault: &EntryFault) -> Result<Bytes, AllocError>
     requires of_the_line { fault.now ≢ EntryFault.NoMemory }
-    ensures line { IfOk result (λ line. line ≡ fault_line number fault.now) }
+
+    // The line is that of the cause that the fault says.
+    ensures line { IfOk result (λ line. (cause : LineFault)
+        → cause_of fault.now ≡ Some cause → line ≡ fault_line number cause) }
 {
     let fault = fault_text(*fault);
     let line = format!(in alloc; "refused {number} {fault}\n")?;

@@ -1,5 +1,7 @@
 //! The words for causes and faults, and the bytes of a text.
-ghost use Rattle.std.specs.Prelude.{◌≡◌, ◌≢◌, string_bytes};
+ghost use Rattle.std.specs.Prelude.{◌≡◌, ◌≢◌, Some, string_bytes};
+ghost use Rattle.edit_journal.specs.EntryJson.{LineFault};
+ghost use Rattle.edit_journal.specs.Reading.{cause_of};
 ghost use Rattle.answer_text.specs.Reasons.{cause_text, fault_text};
 
 use edit_journal::EntryFault;
@@ -24,7 +26,7 @@ pub(crate) fn cause_text(cause: Cause) -> &'static str
 
 pub(crate) fn fault_text(fault: EntryFault) -> &'static str
     requires { fault ≢ EntryFault.NoMemory }
-    ensures { result.now ≡ fault_text fault }
+    ensures { (cause : LineFault) → cause_of fault ≡ Some cause → result.now ≡ fault_text cause }
 {
     match fault {
         EntryFault::LineTooLong => "line-too-long",

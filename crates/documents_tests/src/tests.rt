@@ -1,7 +1,7 @@
 //! Each call that allocates, once.
 
 use doc_values::{Doc, Docs, Fields, Ty, init};
-use edit_journal::{Line, read_entry, write_entry};
+use edit_journal::{Line, read_entry, write_change};
 use edit_json::{has_tree, read_word, write_word_text};
 use edit_module::{Word, act};
 use serde_json::Value;
@@ -222,10 +222,10 @@ fn words(rt: HostRuntime) -> Result<(), Fail> {
     Ok(())
 }
 
-// The text of the entry of a line.
-fn entry_text(alloc: Global, line: &Line) -> Result<String, Fail> {
-    let entry = read_entry(alloc, line)?;
-    let tree = write_entry(alloc, &entry)?;
+// The text of the change of a line.
+fn change_text(alloc: Global, line: &Line) -> Result<String, Fail> {
+    let change = read_entry(alloc, line)?;
+    let tree = write_change(alloc, &change)?;
     let text = write_compact(alloc, &tree);
     drop(tree);
     Ok(text?)
@@ -235,7 +235,7 @@ fn entry_text(alloc: Global, line: &Line) -> Result<String, Fail> {
 fn lines(rt: HostRuntime) -> Result<(), Fail> {
     let alloc = rt.alloc();
     let line = Line::from_slice(alloc, b"{\"side\":\"left\",\"edit\":[{\"add\":1}]}")?;
-    let text = entry_text(alloc, &line.twin(alloc)?)?;
+    let text = change_text(alloc, &line.twin(alloc)?)?;
     assert_eq!(rt; text.as_str(), "{\"edit\":[{\"add\":1}],\"side\":\"left\"}");
     Ok(())
 }

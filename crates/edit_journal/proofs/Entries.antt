@@ -1,4 +1,4 @@
--- The entry that a tree is, and the tree of an entry.
+-- The entry that a tree is, and the tree of an entry; `Groups` has the same of changes.
 use Rattle.std.proofs.Common.{◌≡◌, ℕ, ◌+◌, ◌*◌, ◌≤◌, Bool, true, false, ◌&&◌, List, cond, codes, bytes_eq, Option, Some, None, option_map, Ok, refl, sym, ap, ap₂, ◌∙◌, arith}
 use Rattle.serde_json.specs.Data.{Data, string, object, no_members, member, depth}
 use Rattle.serde_json.specs.Written.{has_float}

@@ -6,13 +6,13 @@ use Rattle.serde_json.specs.Data.{null, string, array, object, no_items, item, n
 use Rattle.serde_json.proofs.OnLiterals.{serde_json_on_literals}
 use Rattle.value_json.specs.Numbers.{count_tree, int_tree}
 use Rattle.edit_module.specs.Words.{add, no_primitives, more_primitives}
+use Rattle.edit_module.specs.Changes.{one, group}
 use Rattle.texts.specs.declared.side.Side.TheVariants.{Left, Right}
 use Rattle.edit_json.specs.WordJson.{primitive_of}
 use Rattle.edit_journal.specs.Lines.{line_of, is_blank}
 use Rattle.edit_journal.specs.Pieces.{nothing_fed, continued, fed, take_first, last_line, lines_of}
-use Rattle.edit_journal.specs.EntryJson.{tree_of_entry, parts_of, entry_of_tree, tree_of_text, entry_of_line}
+use Rattle.edit_journal.specs.EntryJson.{line_too_long, not_json, not_an_entry, not_an_edit, tree_of_entry, parts_of, entry_of_tree, tree_of_text, change_of_tree, change_of_line}
 use Rattle.edit_journal.specs.declared.line.Line.TheVariants.{Text, TooLong}
-use Rattle.edit_journal.specs.declared.fault.EntryFault.TheVariants.{LineTooLong, NotJson, NotAnEntry, NotAnEdit}
 
 -- ---- lines
 
@@ -72,28 +72,57 @@ extra_member = refl
 number_for_a_side : parts_of (object (member (codes "edit") (array no_items) (member (codes "side") (count_tree 1) no_members))) ≡ None
 number_for_a_side = refl
 
--- ---- lines as entries, and the four refusals
+-- ---- lines as changes, and the four refusals
 
-entry : entry_of_line (line_of (codes "{\"side\":\"left\",\"edit\":[{\"add\":7}]}")) ≡ Ok (Left, more_primitives (add (pos 7)) no_primitives)
+entry : change_of_line (line_of (codes "{\"side\":\"left\",\"edit\":[{\"add\":7}]}")) ≡ Ok (one (Left, more_primitives (add (pos 7)) no_primitives))
 unfolding primitive_of is_utf8 chars encode serde_json_on_literals
 entry = refl
 
-too_long : entry_of_line TooLong ≡ Err LineTooLong
+two_entries : change_of_line (line_of (codes "{\"group\":[{\"side\":\"right\",\"edit\":[]},{\"side\":\"left\",\"edit\":[{\"add\":7}]}]}"))
+    ≡ Ok (group ((Right, no_primitives) ∷ (Left, more_primitives (add (pos 7)) no_primitives) ∷ []))
+unfolding primitive_of is_utf8 chars encode serde_json_on_literals
+two_entries = refl
+
+no_entries : change_of_line (line_of (codes "{\"group\":[]}")) ≡ Ok (group [])
+unfolding is_utf8 chars encode serde_json_on_literals
+no_entries = refl
+
+too_long : change_of_line TooLong ≡ Err line_too_long
 too_long = refl
 
-not_json : entry_of_line (line_of (codes "{")) ≡ Err NotJson
+not_json_text : change_of_line (line_of (codes "{")) ≡ Err not_json
 unfolding is_utf8 chars encode serde_json_on_literals
-not_json = refl
+not_json_text = refl
 
 -- a byte that is no text
 not_utf8 : tree_of_text (34 ∷ 255 ∷ 34 ∷ []) ≡ None
 unfolding is_utf8 chars encode
 not_utf8 = refl
 
-not_an_entry : entry_of_line (line_of (codes "{\"side\":\"up\",\"edit\":0}")) ≡ Err NotAnEntry
+other_side : change_of_line (line_of (codes "{\"side\":\"up\",\"edit\":0}")) ≡ Err not_an_entry
 unfolding is_utf8 chars encode serde_json_on_literals
-not_an_entry = refl
+other_side = refl
 
-not_an_edit : entry_of_line (line_of (codes "{\"side\":\"left\",\"edit\":[{\"ins\":0}]}")) ≡ Err NotAnEdit
+-- a group is no entry of a group, and has one member alone
+group_in_a_group : change_of_line (line_of (codes "{\"group\":[{\"group\":[]}]}")) ≡ Err not_an_entry
+unfolding is_utf8 chars encode serde_json_on_literals
+group_in_a_group = refl
+
+group_with_more : change_of_tree (object (member (codes "group") (array no_items) (member (codes "note") null no_members))) ≡ Err not_an_entry
+group_with_more = refl
+
+no_array : change_of_tree (object (member (codes "group") null no_members)) ≡ Err not_an_entry
+no_array = refl
+
+-- the form of each entry is tested before any edit
+form_first : change_of_line (line_of (codes "{\"group\":[{\"side\":\"left\",\"edit\":0},null]}")) ≡ Err not_an_entry
+unfolding is_utf8 chars encode serde_json_on_literals
+form_first = refl
+
+second_edit : change_of_line (line_of (codes "{\"group\":[{\"side\":\"left\",\"edit\":[]},{\"side\":\"left\",\"edit\":0}]}")) ≡ Err not_an_edit
 unfolding primitive_of is_utf8 chars encode serde_json_on_literals
-not_an_edit = refl
+second_edit = refl
+
+other_count : change_of_line (line_of (codes "{\"side\":\"left\",\"edit\":[{\"ins\":0}]}")) ≡ Err not_an_edit
+unfolding primitive_of is_utf8 chars encode serde_json_on_literals
+other_count = refl

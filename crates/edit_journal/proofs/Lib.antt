@@ -4,5 +4,8 @@ pub mod FirstEnds
 pub mod LinesHeld
 pub mod Texts
 pub mod Entries
+pub mod GroupItems
+pub mod Groups
+pub mod Written
 pub mod Reading
 pub mod TreesDiffer

@@ -3,16 +3,16 @@
 use std::alloc::{AllocError, AllocFailed, Global};
 use texts::Twin;
 
-/// Why a line was not read as an entry. A line is tested in the order of these variants.
+/// Why a line was not read as a change. A line is tested in the order of these variants.
 #[derive(Clone, Copy, Debug, PartialEq, Eq, Drop)]
 pub enum EntryFault {
     /// The line is too long.
     LineTooLong,
     /// The text of the line is not JSON.
     NotJson,
-    /// The tree of the line is not the form of an entry.
+    /// The tree of the line has not the form of an entry or of a group of entries.
     NotAnEntry,
-    /// The tree has the form of an entry, but its edit is not a word.
+    /// The tree has such a form, but an edit in it is not a word.
     NotAnEdit,
     /// Memory ran out, which says nothing of the line.
     NoMemory,

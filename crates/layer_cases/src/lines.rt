@@ -4,21 +4,21 @@ use crate::answers::{fault, ok, ok_bool};
 use crate::bytes::bytes;
 use crate::case::Case;
 use anyhow::{Result, bail};
-use edit_journal::{EntryFault, Line, is_blank, read_entry, write_entry};
+use edit_journal::{EntryFault, Line, is_blank, read_entry, write_change};
 use serde_json::Value;
 use std::alloc::Global;
 
-/// Runs `read_entry`: the tree of the entry that was read, or the fault.
+/// Runs `read_entry`: the tree of the change that was read, or the fault.
 pub fn run_read_entry(alloc: Global, case: &Case<'_>) -> Result<Value> {
     let line = line_of(alloc, case)?;
-    entry_or_fault(alloc, &line)
+    change_or_fault(alloc, &line)
 }
 
-fn entry_or_fault(alloc: Global, line: &Line) -> Result<Value> {
+fn change_or_fault(alloc: Global, line: &Line) -> Result<Value> {
     match read_entry(alloc, line) {
-        Ok(entry) => {
-            let tree = write_entry(alloc, &entry);
-            drop(entry);
+        Ok(change) => {
+            let tree = write_change(alloc, &change);
+            drop(change);
             ok(alloc, tree?)
         }
         Err(fault) => entry_fault(alloc, &fault),
