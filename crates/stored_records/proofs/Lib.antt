@@ -3,3 +3,4 @@ pub mod ComplementDepths
 pub mod AppliedWords
 pub mod RecordsAreRead
 pub mod Payloads
+pub mod Openings

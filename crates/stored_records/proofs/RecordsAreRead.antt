@@ -1,6 +1,6 @@
 -- The records that this program writes are read back from their trees.
 use Rattle.std.proofs.Common.{◌≡◌, ℕ, List, true, codes, Option, Some, None, option_map, option_and_then, Result, Ok, Err, refl, ap}
-use Rattle.std.specs.Prelude.{option_or}
+use Rattle.std.specs.Option.{option_or}
 use Rattle.serde_json.specs.Data.{Data}
 use Rattle.doc_values.specs.Documents.{DocTree}
 use Rattle.value_json.specs.DocumentJson.{tree_of_document}

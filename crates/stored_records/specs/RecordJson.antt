@@ -1,6 +1,7 @@
 -- Records as JSON: the tree of each record that this program writes, and what a tree is as a record.
 -- From the end: `opening_of` and `record_of` read; `tree_of_program`, `tree_of_version`, `tree_of_change_record` and `tree_of_snapshot` write.
-use Rattle.std.specs.Prelude.{ℕ, ◌&&◌, Bool, false, List, Option, Some, None, option_map, option_and_then, option_or, Result, Ok, Err, if◌then◌else◌, codes, bytes_eq, nat_eq}
+use Rattle.std.specs.Prelude.{ℕ, ◌&&◌, Bool, false, List, Option, Some, None, option_map, option_and_then, Result, Ok, Err, if◌then◌else◌, codes, bytes_eq, nat_eq}
+use Rattle.std.specs.Option.{option_or}
 use Rattle.serde_json.specs.Data.{Data, string, object, no_members, member}
 use Rattle.serde_json.specs.Find.{as_str}
 use Rattle.doc_values.specs.Documents.{DocTree}

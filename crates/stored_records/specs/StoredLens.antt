@@ -21,11 +21,11 @@ abbrev pub with_form : List ℕ × ℕ → Option (FormTree × ℕ)
 with_form o = option_map (λ l. (l, o.1)) (form_of_text o.0)
 
 -- the text and the version of a payload, and its lens and the version
-abbrev pub opening_in : List ℕ → Option (List ℕ × ℕ)
-opening_in payload = option_and_then opening_of (tree_of_text payload)
+abbrev pub opening_of_payload : List ℕ → Option (List ℕ × ℕ)
+opening_of_payload payload = option_and_then opening_of (tree_of_text payload)
 
 abbrev pub opened : List ℕ → Option (FormTree × ℕ)
-opened payload = option_and_then with_form (opening_in payload)
+opened payload = option_and_then with_form (opening_of_payload payload)
 
 -- the lens of the first record
 abbrev pub stored_form : List (List ℕ) → Option FormTree

@@ -7,7 +7,7 @@ ghost use Rattle.program_terms.specs.Views.{program_tree};
 ghost use Rattle.serde_json.specs.View.{view};
 ghost use Rattle.stored_records.specs.Outcomes.{IsBadFirst};
 ghost use Rattle.stored_records.specs.RecordJson.{opening_of};
-ghost use Rattle.stored_records.specs.StoredLens.{accepted, form_of_text, opened, opening_in, stored_form};
+ghost use Rattle.stored_records.specs.StoredLens.{accepted, form_of_text, opened, opening_of_payload, stored_form};
 
 use crate::fault::ReopenFault;
 use crate::parts::opening_in;
@@ -38,6 +38,7 @@ pub fn stored_lens(alloc: Global, payloads: &Payloads) -> Result<Typed, ReopenFa
     lens_of_payload(alloc, records[0].as_slice())
 }
 
+#[tactic(auto, using(crate::proofs::Openings::opening_rules))]
 fn lens_of_payload(alloc: Global, payload: &[u8]) -> Result<Typed, ReopenFault>
     ensures { MatchResult result
         (λ lens. option_map (λ o. o.0) (opened payload.now) ≡ Some (form_tree lens))
@@ -60,6 +61,7 @@ fn lens_of_tree(alloc: Global, tree: &Value) -> Result<Typed, ReopenFault>
     }
 }
 
+#[tactic(auto, using(crate::proofs::Openings::opening_rules))]
 fn lens_of_text(alloc: Global, text: &[u8]) -> Result<Typed, ReopenFault>
     ensures { MatchResult result
         (λ lens. form_of_text text.now ≡ Some (form_tree lens)) (IsBadFirst (form_of_text text.now)) }
@@ -71,6 +73,7 @@ fn lens_of_text(alloc: Global, text: &[u8]) -> Result<Typed, ReopenFault>
     }
 }
 
+#[tactic(auto, using(crate::proofs::Openings::opening_rules))]
 fn lens_of_program(alloc: Global, program: &Program) -> Result<Typed, ReopenFault>
     ensures { MatchResult result
         (λ lens. accepted (form_of_program (Ok (program_tree program.now))) ≡ Some (form_tree lens))
@@ -87,7 +90,7 @@ fn lens_of_program(alloc: Global, program: &Program) -> Result<Typed, ReopenFaul
 ///
 /// None if and only if the payload is not one of a first record. Fails only if memory runs out.
 pub fn stored_version(alloc: Global, payload: &Bytes) -> Result<Option<u64>, AllocError>
-    ensures { IfOk result (λ version. version ≡ option_map (λ o. o.1) (opening_in payload.now)) }
+    ensures { IfOk result (λ version. version ≡ option_map (λ o. o.1) (opening_of_payload payload.now)) }
 {
     match read_tree(alloc, payload.as_slice())? {
         Some(tree) => Ok(version_of_tree(&tree)),

@@ -101,7 +101,10 @@ fn three_parts(tree: &Value) -> Option<(&Value, &Value, &Value)>
     if rest.next().is_some() {
         return None;
     }
-    if first_name != "complement" || second_name != "left" || third_name != "right" {
+    if first_name.as_str() != "complement"
+        || second_name.as_str() != "left"
+        || third_name.as_str() != "right"
+    {
         return None;
     }
     Some((comp, left, right))

@@ -1,3 +1,5 @@
+pub mod LastTriple
+pub mod Snapshots
 pub mod ConsistencyDecided
 pub mod Appending
 pub mod WrittenStands

@@ -1,13 +1,15 @@
 -- The records that this program writes behind the first, and what each makes of what stood before it.
 -- In order: `WrittenRecord`, `StandsAfter`, and for lists of records `AreWritten`, `SnapshotsKeep` and `changes_written`.
-use Rattle.std.specs.Prelude.{◌≡◌, ℕ, ◌+◌, List, [], ◌∷◌, ◌++◌, Option, Some, None, Ok, true, option_to_list}
+use Rattle.std.specs.Prelude.{◌≡◌, ℕ, ◌+◌, List, [], ◌∷◌, ◌++◌, Option, Some, None, Ok, true, map, option_to_list}
 use Rattle.serde_json.specs.Data.{Data}
 use Rattle.value_json.specs.DocumentJson.{holds_i64s}
 use Rattle.edit_module.specs.Words.{WordTree}
 use Rattle.edit_module.specs.Changes.{ChangeTree, one, group}
 use Rattle.edit_journal.specs.EntryJson.{change_counts_fit, change_numbers_fit, tree_of_text}
 use Rattle.lens_core.specs.Consistency.{IsConsistent}
-use Rattle.lens_forms.specs.Forms.{FormTree}
+use Rattle.lens_forms.specs.Forms.{FormTree, left_type, right_type}
+use Rattle.lens_core.specs.Translation.{translate}
+use Rattle.edit_session.specs.Run.{AnswerTree, run, last}
 use Rattle.edit_session.specs.Step.{TripleTree}
 use Rattle.stored_records.specs.RecordJson.{tree_of_version, tree_of_change_record, tree_of_snapshot}
 use Rattle.stored_sessions.specs.Stands.{Standing, step_of}
@@ -65,3 +67,8 @@ change_written _ = None
 abbrev pub changes_written : List (List ℕ × WrittenRecord) → List ChangeTree
 changes_written [] = []
 changes_written (w ∷ ws) = option_to_list (change_written w.1) ++ changes_written ws
+
+-- the run of a lens over these changes goes from the one triple to the other; F is the type of what may be wrong with a line
+abbrev pub RunsTo : (F : Type 0) → FormTree → TripleTree → List ChangeTree → TripleTree → Type 0
+RunsTo F l t changes end = (steps : List (TripleTree × AnswerTree F))
+    × (run {F = F} (left_type l) (right_type l) (translate l) t (map (λ c. Ok c) changes) ≡ Some steps) × (last t steps ≡ end)

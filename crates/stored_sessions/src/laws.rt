@@ -23,7 +23,7 @@ ghost use Rattle.accepted_programs.specs.Program.{form_of_program};
 ghost use Rattle.stored_records.specs.RecordJson.{record_in, tree_of_program, tree_of_change_record};
 ghost use Rattle.stored_sessions.specs.ConsistencyTest.{is_consistent};
 ghost use Rattle.stored_sessions.specs.Stands.{Standing, at_start, after_record, stands, step_of};
-ghost use Rattle.stored_sessions.specs.Written.{WrittenRecord, ReadsAs, StandsAfter, AreWritten};
+ghost use Rattle.stored_sessions.specs.Written.{WrittenRecord, ReadsAs, StandsAfter, AreWritten, SnapshotsKeep, changes_written, RunsTo};
 
 /// The test of consistency is true if and only if the three are consistent.
 pub fn test_is_consistency()
@@ -49,9 +49,9 @@ pub fn program_stands()
 
 /// What this program writes behind that stands, too: the version, a change that is accepted, and a consistent snapshot.
 pub fn written_records_stand()
-    ensures one { (payloads : List (List ℕ)) (payload : List ℕ) (record : WrittenRecord) (before after : Standing)
+    ensures one { (payloads : List (List ℕ)) (payload : List ℕ) (written : WrittenRecord) (before after : Standing)
         → is_typed before.form ≡ true → stands payloads ≡ Ok before
-        → ReadsAs before.form (payload, record) → StandsAfter before record after
+        → ReadsAs before.form (payload, written) → StandsAfter before written after
         → stands (payloads ++ payload ∷ []) ≡ Ok after }
     ensures all { (payloads : List (List ℕ)) (written : List (List ℕ × WrittenRecord)) (before after : Standing)
         → is_typed before.form ≡ true → stands payloads ≡ Ok before
@@ -65,4 +65,15 @@ pub fn accepted_changes_are_shallow()
         → height (left_type form) ≤ greatest_height → height (right_type form) ≤ greatest_height
         → step_of form triple change ≡ Some (Ok (after, words))
         → depth (tree_of_change_record change) ≤ max_depth }
+{}
+
+/// What this program writes stands for its run: where each snapshot is of the triple that stands when it is written, the records
+/// end at the last triple of the run over their changes, and count them. `F` is the type of what may be wrong with a line.
+pub fn written_records_are_a_run<F>()
+    ensures triple { (written : List (List ℕ × WrittenRecord)) (before after : Standing)
+        → AreWritten before written after → SnapshotsKeep before written
+        → RunsTo F before.form before.triple (changes_written written) after.triple }
+    ensures count { (written : List (List ℕ × WrittenRecord)) (before after : Standing)
+        → AreWritten before written after
+        → after.count ≡ before.count + length (changes_written written) }
 {}

@@ -7,6 +7,7 @@ ghost use Rattle.lens_core.specs.Consistency.{IsConsistent};
 ghost use Rattle.lens_forms.specs.Forms.{FormTree, form_tree};
 ghost use Rattle.edit_session.specs.Step.{IsInStep};
 ghost use Rattle.edit_session.specs.Views.{triple_tree};
+ghost use Rattle.stored_records.specs.declared.fault.ReopenFault;
 ghost use Rattle.stored_records.specs.RecordJson.{record_of, record_in, version_record, change_record, snapshot_record};
 ghost use Rattle.stored_records.specs.StoredLens.{stored_form};
 ghost use Rattle.stored_sessions.specs.Outcomes.{IsLensOf, IsReopenFault};
@@ -131,8 +132,15 @@ fn take_tree<L: EditLens>(
         Some((comp, left, right)) => {
             take_snapshot(alloc, typed, number, comp, left, right, opened)
         }
-        None => Err(ReopenFault::BadRecord { number }),
+        None => Err(no_record(number)),
     }
+}
+
+// The fault of a tree that is not one of a record.
+fn no_record(number: u64) -> ReopenFault
+    ensures { result ≡ ReopenFault.BadRecord number }
+{
+    ReopenFault::BadRecord { number }
 }
 
 // Steps by a change, which counts one. A group is refused at version 1.
