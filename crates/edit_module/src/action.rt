@@ -81,9 +81,12 @@ fn run(alloc: Global, word: &Word, ty: &Ty, doc: Doc) -> Result<Doc, ActFault>
     Ok(current)
 }
 
-// The value of a document after one primitive.
+/// What one primitive makes of a document, as [`act`] has it for a word. The document is consumed.
+///
+/// The type is well formed and the document has it. [`StepFault::Fails`] comes if and only if the primitive fails, and
+/// has its cause.
 #[cycle(run)]
-fn step(alloc: Global, primitive: &Primitive, ty: &Ty, doc: Doc) -> Result<Doc, StepFault>
+pub fn step(alloc: Global, primitive: &Primitive, ty: &Ty, doc: Doc) -> Result<Doc, StepFault>
     requires well_formed { is_well_formed (ty_tree ty.now) ≡ true }
     requires typed { has (ty_tree ty.now) (doc_tree doc) ≡ true }
     ensures { MatchResult result
@@ -133,8 +136,8 @@ fn on_record(
     }
 }
 
-// The place and the type of a field of a typed record.
-fn field_of<'a>(fields: &'a Fields, name: &Name, docs: &Docs) -> Option<(usize, &'a Ty)>
+/// The place and the type of a field of a record that has the type. Returns None if and only if there is no such field.
+pub fn field_of<'a>(fields: &'a Fields, name: &Name, docs: &Docs) -> Option<(usize, &'a Ty)>
     requires well_formed { is_well_formed (ty_rec (fields_tree fields.now)) ≡ true }
     requires typed { has_fields (fields_tree fields.now) (docs_tree docs.now) ≡ true }
     ensures place { option_map (λ p. (p.0, ty_tree p.1.now)) result ≡ lookup_field (fields_tree fields.now) name.now }
@@ -226,8 +229,8 @@ fn switch(
     }
 }
 
-// The place and the type of a tag.
-fn tag_of<'a>(tags: &'a Fields, tag: &Name) -> Option<(usize, &'a Ty)>
+/// The number and the type of a tag of alternatives. Returns None if and only if there is no such tag.
+pub fn tag_of<'a>(tags: &'a Fields, tag: &Name) -> Option<(usize, &'a Ty)>
     requires { is_well_formed (ty_alt (fields_tree tags.now)) ≡ true }
     ensures tag { option_map (λ p. ty_tree p.1.now) result ≡ lookup_type (fields_tree tags.now) tag.now }
     ensures well_formed { MatchOption result (Unit {0}) (λ p. is_well_formed (ty_tree p.1.now) ≡ true) }
@@ -307,8 +310,9 @@ fn modify(
     }
 }
 
-// The number of a place of a container.
-fn item_of(place: &Place, ty: &Ty, shape: &Shape, docs: &Docs) -> Option<usize>
+/// The number of a place of a container, whose contents have a type. Returns None if and only if the container does not
+/// have the place.
+pub fn item_of(place: &Place, ty: &Ty, shape: &Shape, docs: &Docs) -> Option<usize>
     requires { IsHeld (ty_tree ty.now) shape.now (docs_tree docs.now) }
     ensures place { result ≡ place_of shape.now place.now }
     ensures typed { MatchOption result (Unit {0}) (λ i. (i < length (doc_list (docs_tree docs.now)))

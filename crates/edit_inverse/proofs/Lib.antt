@@ -1,0 +1,26 @@
+pub mod Building
+pub mod Acts
+pub mod Answered
+pub mod Blocks
+pub mod Constructs
+pub mod ContainerKinds
+pub mod Fills
+pub mod Grafts
+pub mod Hangs
+pub mod Inverses
+pub mod Items
+pub mod KeptTexts
+pub mod KeyEdits
+pub mod Moves
+pub mod Reshaped
+pub mod Returns
+pub mod Spliced
+pub mod Texts
+pub mod Ways
+pub mod Cuts
+pub mod Orders
+pub mod Planned
+pub mod Regrown
+pub mod Rows
+pub mod Walks
+mod Examples
