@@ -21,6 +21,7 @@ slice-inserted t part xs e h z = let P : ℕ → Type 0 = λ n. slice_range (ins
     take-whole : {X : Type 0} (part zs : List X) → take (length part) (part ++ zs) ≡ part
     take-whole [] zs = refl
     take-whole (x ∷ part) zs = ap (λ (l : List _). x ∷ l) (take-whole part zs)
+
     slice-at : {X : Type 0} (t : ℕ) (part xs : List X) → t ≤ length xs → slice_range (insert_part t part xs) t (t + length part) ≡ part
     slice-at zero part xs h = let n : 0 + length part - 0 ≡ length part = omega arith in rw n (take-whole part xs)
     slice-at (suc t) part [] h = absurd (omega arith)

@@ -251,9 +251,10 @@ mutual
   fields-built no_docs no_fields wf h = tt
   fields-built no_docs (more_fields n t fs) wf h = cc
   fields-built (more_docs d ds) no_fields wf h = cc
-  fields-built (more_docs d ds) (more_fields n t fs) wf h =
-      (construct-acts d t (first (is_well_formed t) (are_well_formed fs) wf) (first (has t d) (has_fields fs ds) h),
-        fields-built ds fs (second (is_well_formed t) (are_well_formed fs) wf) (second (has t d) (has_fields fs ds) h))
+  fields-built (more_docs d ds) (more_fields n t fs) wf h = (
+    construct-acts d t (first (is_well_formed t) (are_well_formed fs) wf) (first (has t d) (has_fields fs ds) h),
+    fields-built ds fs (second (is_well_formed t) (are_well_formed fs) wf) (second (has t d) (has_fields fs ds) h),
+  )
 
   pub each-built : (ds : DocTrees) (t : TyTree) → is_well_formed t ≡ true → has_each t ds ≡ true → Built t (construct_each t ds) (doc_list ds)
   each-built no_docs t wf h = tt

@@ -96,12 +96,13 @@ map-fresh xs fresh (suc c) = ap (λ (l : List _). fresh ∷ l) (map-fresh xs fre
 
 pub ins-makes : {X : Type 0} (n c : ℕ) (fresh : X) (xs : List X) → is_count c ≡ true → n ≡ length xs → Makes (list_of n) (Ins c) fresh xs (list_of (n + c)) (xs ++ replicate c fresh)
 ins-makes n c fresh xs h e =
-    let from = old_places n ++ replicate c Fresh in
-    (from,
+    let from = old_places n ++ replicate c Fresh in (
+      from,
       ap (λ (b : Bool). if b then Ok (list_of (n + c), from) else Err Range) h,
       map-append (content_at xs fresh) (old_places n) (replicate c Fresh)
-      ∙ (ap (λ (l : List _). l ++ map (content_at xs fresh) (replicate c Fresh)) (content-old_places _ fresh xs n e)
-      ∙ ap (λ (l : List _). xs ++ l) (map-fresh xs fresh c)))
+          ∙ (ap (λ (l : List _). l ++ map (content_at xs fresh) (replicate c Fresh)) (content-old_places _ fresh xs n e)
+          ∙ ap (λ (l : List _). xs ++ l) (map-fresh xs fresh c)),
+    )
 
 replicate-more : {X : Type 0} (m c : ℕ) (x : X) → replicate m x ++ replicate c x ≡ replicate (m + c) x
 replicate-more zero c x = let e : 0 + c ≡ c = omega arith in rw e refl

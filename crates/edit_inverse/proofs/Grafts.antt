@@ -34,10 +34,11 @@ graft-makes ds q p fresh xs is room size =
     let d = get_or ds p 0 in
     let new = insert ds (end_of ds p) (d + 1) in
     let from = insert (old_places (length ds)) (end_of ds p) Fresh in
-    let low : nat_lt d 15 ≡ true = grind (arith, nat_tests) in
-    (from,
+    let low : nat_lt d 15 ≡ true = grind (arith, nat_tests) in (
+      from,
       ap (λ (o : Option ℕ). at_place o (graft ds)) is ∙ ap (λ (b : Bool). if b then Ok (TreeOf new, from) else Err Deep) low,
-      sym (content-insert _ fresh xs (length ds) (end_of ds p) Fresh (sym size)))
+      sym (content-insert _ fresh xs (length ds) (end_of ds p) Fresh (sym size)),
+    )
 
 -- what was grafted, from its plan
 pub graft-is : (ds q : List ℕ) (s : Shape) (from : List Origin) → plan (TreeOf ds) (Graft q) ≡ Ok (s, from)

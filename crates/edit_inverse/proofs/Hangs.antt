@@ -239,8 +239,14 @@ hang-back ds p q s from fresh xs v z size e =
     let inside : pp < length ds = node-in ds (parent_path p) pp z u.1 in
     let o = child-out ds pp (last_number p) a inside u.2 in
     let back-named : node rest (parent_path p) ≡ Some pp = left-still ds (parent_path p) pp a end z u.1 o.up (let x = o.within in omega arith) in
-    let P : Shape → List _ → Type 0 = λ sh ys. TakesBack sh fresh ys e1 e2 (TreeOf ds) xs in
-    (a, r, pp, w.at, w.below, back-named,
+    let P : Shape → List _ → Type 0 = λ sh ys. TakesBack sh fresh ys e1 e2 (TreeOf ds) xs in (
+      a,
+      r,
+      pp,
+      w.at,
+      w.below,
+      back-named,
       subst (λ (l : List Origin). P s (map (content_at xs fresh) l)) w.moved
-      (subst (λ (ys : List _). P s ys) (content-move_part _ fresh xs (length ds) a end t (sym size))
-      (subst (λ (sh : Shape). P sh (move_part a end t xs)) w.made got)))
+          (subst (λ (ys : List _). P s ys) (content-move_part _ fresh xs (length ds) a end t (sym size))
+          (subst (λ (sh : Shape). P sh (move_part a end t xs)) w.made got)),
+    )

@@ -68,9 +68,11 @@ both-less i j n h k = both (nat_lt i n) (nat_lt j n) (grind (arith, nat_tests)) 
 
 move-makes : {X : Type 0} (n i j : ℕ) (fresh : X) (xs : List X) → i < n → j < n → n ≡ length xs → Makes (list_of n) (MoveItem i j) fresh xs (list_of n) (insert (remove xs i) j (get_or xs i fresh))
 move-makes n i j fresh xs h k e =
-    let from = insert (remove (old_places n) i) j (Old i) in
-    (from, ap (λ (b : Bool). if b then Ok (list_of n, from) else Err Place) (both-less i j n h k),
-      map-insert Origin _ (content_at xs fresh) (remove (old_places n) i) j (Old i) ∙ ap (λ (l : List _). insert l j (get_or xs i fresh)) (sym (content-remove _ fresh xs n i e)))
+    let from = insert (remove (old_places n) i) j (Old i) in (
+      from,
+      ap (λ (b : Bool). if b then Ok (list_of n, from) else Err Place) (both-less i j n h k),
+      map-insert Origin _ (content_at xs fresh) (remove (old_places n) i) j (Old i) ∙ ap (λ (l : List _). insert l j (get_or xs i fresh)) (sym (content-remove _ fresh xs n i e)),
+    )
 
 pub move-back-item : {X : Type 0} (n i j : ℕ) (s : Shape) (from : List Origin) (fresh : X) (xs : List X) → n ≡ length xs → plan (list_of n) (MoveItem i j) ≡ Ok (s, from)
     → Makes s (MoveItem j i) fresh (map (content_at xs fresh) from) (list_of n) xs
@@ -106,9 +108,11 @@ gather-front d front (x ∷ xs) k (suc m) e h =
     rw (here, rest) refl
 
 del-makes : {X : Type 0} (n c : ℕ) (fresh : X) (xs : List X) → is_count c ≡ true → c ≤ n → n ≡ length xs → Makes (list_of n) (Del c) fresh xs (list_of (n - c)) (take (n - c) xs)
-del-makes n c fresh xs h k e =
-    (old_places (n - c), ap (λ (b : Bool). if b then Ok (list_of (n - c), old_places (n - c)) else Err Range) (both (is_count c) (nat_le c n) h (grind (arith, nat_tests))),
-      gather-front fresh [] xs 0 (n - c) refl (omega arith))
+del-makes n c fresh xs h k e = (
+  old_places (n - c),
+  ap (λ (b : Bool). if b then Ok (list_of (n - c), old_places (n - c)) else Err Range) (both (is_count c) (nat_le c n) h (grind (arith, nat_tests))),
+  gather-front fresh [] xs 0 (n - c) refl (omega arith),
+)
 
 pub ins-back : {X : Type 0} (n c : ℕ) (s : Shape) (from : List Origin) (fresh : X) (xs : List X) → n ≡ length xs → plan (list_of n) (Ins c) ≡ Ok (s, from)
     → Makes s (Del c) fresh (map (content_at xs fresh) from) (list_of n) xs
@@ -189,11 +193,12 @@ new-numbers n f before a (suc m) w h fresh =
     other false k a i j f before e lt x y z = z
 
 reorder-makes : {X : Type 0} (n : ℕ) (f : List ℕ) (fresh : X) (xs : List X) → nat_eq (length f) n ≡ true → is_each_new n [] f ≡ true → Makes (list_of n) (Reorder f) fresh xs (list_of n) (map (content_at xs fresh) (map Old f))
-reorder-makes n f fresh xs h k =
-    (map Old f,
-      ap (λ (b : Bool). if b then (if is_each_new n [] f then Ok (list_of n, map Old f) else Err Range) else Err Length) h
+reorder-makes n f fresh xs h k = (
+  map Old f,
+  ap (λ (b : Bool). if b then (if is_each_new n [] f then Ok (list_of n, map Old f) else Err Range) else Err Length) h
       ∙ ap (λ (b : Bool). if b then Ok (list_of n, map Old f) else Err Range) k,
-      refl)
+  refl,
+)
 
 gather-order : {X : Type 0} (n a m : ℕ) (f : List ℕ) (fresh : X) (xs : List X) → ((k : ℕ) → k < n → (place_among f k < length f) × (get_or f (place_among f k) 0 ≡ k)) → a + m ≤ n
     → map (content_at (map (content_at xs fresh) (map Old f)) fresh) (map Old (map (place_among f) (range_with_len a m))) ≡ map (content_at xs fresh) (map Old (range_with_len a m))

@@ -132,6 +132,7 @@ still-none at k m (x ∷ xs) zero h e =
     step : (b : Bool) (at at' : ℕ) (o o' : Option ℕ) → (if b then Some at else o) ≡ None → (o ≡ None → o' ≡ None) → (if b then Some at' else o') ≡ None
     step true at at' o o' h f = cc
     step false at at' o o' h f = f h
+
     later : (at at' : ℕ) (k : List ℕ) (ks : List (List ℕ)) → key_from at k ks ≡ None → key_from at' k ks ≡ None
     later at at' k [] h = refl
     later at at' k (y ∷ ys) h = step (bytes_eq k y) at at' (key_from (at + 1) k ys) (key_from (at' + 1) k ys) h (λ e. later (at + 1) (at' + 1) k ys e)
@@ -189,9 +190,12 @@ drop-back-key ks k s from fresh xs r e h =
     let rest = remove ks p in
     let got : P (KeyedOf rest) (remove xs p) (insert rest p k) (insert (remove xs p) p fresh) =
     subst (λ (i : ℕ). P (KeyedOf rest) (remove xs p) (insert rest i k) (insert (remove xs p) i fresh)) home.0 back in
-    let full : P (KeyedOf rest) (remove xs p) ks (insert (remove xs p) p fresh) = subst (λ (l : List (List ℕ)). P (KeyedOf rest) (remove xs p) l (insert (remove xs p) p fresh)) home.1 got in
-    (p, w.1, (let x : p < length ks = named.0 in omega arith),
-      subst (λ (a : Shape). P a (map (content_at xs fresh) from) ks (insert (remove xs p) p fresh)) m.0 (subst (λ (zs : List _). P (KeyedOf rest) zs ks (insert (remove xs p) p fresh)) m.1 full))
+    let full : P (KeyedOf rest) (remove xs p) ks (insert (remove xs p) p fresh) = subst (λ (l : List (List ℕ)). P (KeyedOf rest) (remove xs p) l (insert (remove xs p) p fresh)) home.1 got in (
+      p,
+      w.1,
+      (let x : p < length ks = named.0 in omega arith),
+      subst (λ (a : Shape). P a (map (content_at xs fresh) from) ks (insert (remove xs p) p fresh)) m.0 (subst (λ (zs : List _). P (KeyedOf rest) zs ks (insert (remove xs p) p fresh)) m.1 full),
+    )
 
 -- ---- rename
 
@@ -199,19 +203,21 @@ rename-makes : {X : Type 0} (ks : List (List ℕ)) (k m : List ℕ) (p : ℕ) (f
     → Makes (KeyedOf ks) (RenameKey k m) fresh xs (KeyedOf (insert (remove ks p) (rank m (remove ks p)) m)) (insert (remove xs p) (rank m (remove ks p)) (get_or xs p fresh))
 rename-makes ks k m p fresh xs h n o e =
     let i = rank m (remove ks p) in
-    let from = insert (remove (old_places (length ks)) p) i (Old p) in
-    (from,
+    let from = insert (remove (old_places (length ks)) p) i (Old p) in (
+      from,
       ap (λ (r : Option ℕ). rename_key ks k m r) h
-      ∙ (ap (λ (b : Bool). if b then Ok (KeyedOf ks, old_places (length ks)) else rename_to ks m p (key_place m ks)) n
-      ∙ ap (λ (r : Option ℕ). rename_to ks m p r) o),
-      map-insert Origin _ (content_at xs fresh) (remove (old_places (length ks)) p) i (Old p) ∙ ap (λ (l : List _). insert l i (get_or xs p fresh)) (sym (content-remove _ fresh xs (length ks) p e)))
+          ∙ (ap (λ (b : Bool). if b then Ok (KeyedOf ks, old_places (length ks)) else rename_to ks m p (key_place m ks)) n
+          ∙ ap (λ (r : Option ℕ). rename_to ks m p r) o),
+      map-insert Origin _ (content_at xs fresh) (remove (old_places (length ks)) p) i (Old p) ∙ ap (λ (l : List _). insert l i (get_or xs p fresh)) (sym (content-remove _ fresh xs (length ks) p e)),
+    )
 
 same-makes : {X : Type 0} (ks : List (List ℕ)) (k m : List ℕ) (p : ℕ) (fresh : X) (xs : List X) → key_place k ks ≡ Some p → bytes_eq k m ≡ true → length ks ≡ length xs
     → Makes (KeyedOf ks) (RenameKey k m) fresh xs (KeyedOf ks) xs
-same-makes ks k m p fresh xs h n e =
-    (old_places (length ks),
-      ap (λ (r : Option ℕ). rename_key ks k m r) h ∙ ap (λ (b : Bool). if b then Ok (KeyedOf ks, old_places (length ks)) else rename_to ks m p (key_place m ks)) n,
-      content-old_places _ fresh xs (length ks) e)
+same-makes ks k m p fresh xs h n e = (
+  old_places (length ks),
+  ap (λ (r : Option ℕ). rename_key ks k m r) h ∙ ap (λ (b : Bool). if b then Ok (KeyedOf ks, old_places (length ks)) else rename_to ks m p (key_place m ks)) n,
+  content-old_places _ fresh xs (length ks) e,
+)
 
 rename-ok : (ks : List (List ℕ)) (k m : List ℕ) (o : Option ℕ) (r : Shape × List Origin) → rename_key ks k m o ≡ Ok r
     → (p : ℕ) × (o ≡ Some p) × ((if bytes_eq k m then Ok (KeyedOf ks, old_places (length ks)) else rename_to ks m p (key_place m ks)) ≡ Ok r)

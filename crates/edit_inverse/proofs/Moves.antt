@@ -191,11 +191,12 @@ shift-home ds q p i j c t fresh xs z is here size put =
     let homes : move_part t f c ys ≡ xs = move-back xs c end t f (past ds c) (let s = o.ends in omega arith) xroom (let s = o.size in omega arith) in
     let xlong = length-between xs c end (past ds c) (let s = o.ends in omega arith) in
     let same : length new ≡ length ys = length-inserted t part rest (slice_range xs c end) (remove_part c end xs) (let s = o.size in omega arith) (omega arith) in
-    let P : Planned → Type 0 = λ pl. at_place (node new q) (shift new j i) ≡ pl in
-    (move_part t f c (old_places (length new)),
+    let P : Planned → Type 0 = λ pl. at_place (node new q) (shift new j i) ≡ pl in (
+      move_part t f c (old_places (length new)),
       ap (λ (r : Option ℕ). at_place r (shift new j i)) at
-      ∙ (moves
-      ∙ (ap (λ (n : ℕ). move_subtree new t (end_of new t) n) goes
-      ∙ (ap (λ (n : ℕ). move_subtree new t n c) ends
-      ∙ ap (λ (l : List ℕ). Ok (TreeOf l, move_part t f c (old_places (length new)))) back))),
-      sym (content-move_part _ fresh ys (length new) t f c same) ∙ homes)
+          ∙ (moves
+          ∙ (ap (λ (n : ℕ). move_subtree new t (end_of new t) n) goes
+          ∙ (ap (λ (n : ℕ). move_subtree new t n c) ends
+          ∙ ap (λ (l : List ℕ). Ok (TreeOf l, move_part t f c (old_places (length new)))) back))),
+      sym (content-move_part _ fresh ys (length new) t f c same) ∙ homes,
+    )

@@ -59,13 +59,14 @@ pub prune-makes : {A : Type 0} (ds q : List ℕ) (p n c : ℕ) (fresh : A) (xs :
     → Makes (TreeOf ds) (Prune q) fresh xs (TreeOf (remove_part c (end_of ds c) ds)) (remove_part c (end_of ds c) xs)
 prune-makes ds q p n c fresh xs is many last size =
     let some : nat_eq (children ds p) 0 ≡ false = grind (arith, nat_tests) in
-    let e : children ds p - 1 ≡ n = omega arith in
-    (remove_part c (end_of ds c) (old_places (length ds)),
+    let e : children ds p - 1 ≡ n = omega arith in (
+      remove_part c (end_of ds c) (old_places (length ds)),
       ap (λ (o : Option ℕ). at_place o (prune ds)) is
-      ∙ (ap (λ (b : Bool). if b then Err Range else prune_child ds (child ds p (children ds p - 1))) some
-      ∙ (ap (λ (m : ℕ). prune_child ds (child ds p m)) e
-      ∙ ap (λ (o : Option ℕ). prune_child ds o) last)),
-      sym (content-remove_part _ fresh xs (length ds) c (end_of ds c) (sym size)))
+          ∙ (ap (λ (b : Bool). if b then Err Range else prune_child ds (child ds p (children ds p - 1))) some
+          ∙ (ap (λ (m : ℕ). prune_child ds (child ds p m)) e
+          ∙ ap (λ (o : Option ℕ). prune_child ds o) last)),
+      sym (content-remove_part _ fresh xs (length ds) c (end_of ds c) (sym size)),
+    )
 
 -- the node that was grafted is pruned
 pub graft-back : {A : Type 0} (ds q : List ℕ) (p : ℕ) (fresh x : A) (xs : List A) → 0 < length ds → node ds q ≡ Some p → length xs ≡ length ds
@@ -101,6 +102,7 @@ shift-back ds q i j s from fresh xs z size e =
     second : (a b : Bool) → (a && b) ≡ true → b ≡ true
     second true b h = h
     second false b h = cc
+
     moved : (p : ℕ) → node ds q ≡ Some p → (o : Option ℕ) → child ds p i ≡ o → nat_lt j (children ds p) ≡ true → shift_child ds p j o ≡ Ok (s, from)
         → Makes s (Shift q j i) fresh (map (content_at xs fresh) from) (TreeOf ds) xs
     moved p is None here below k = cc

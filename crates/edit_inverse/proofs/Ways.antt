@@ -140,9 +140,13 @@ way-more ds p (i ∷ path) (suc m) d w le e =
     let k = way-end ds p (i ∷ path) w in
     let inside : p < length ds = k.0 in
     let a = child-at 0 ds p i w.0 inside w.1 in
-    let deep : get_or ds w.0 0 ≡ get_or ds p 0 + 1 = a.2 in
-    (w.0, child-append ds (d ∷ []) p i w.0 inside w.1, children-append ds d p inside (omega arith) ∙ w.2, end-more ds d p inside k.1 (omega arith),
-      way-more ds w.0 path m d w.4 (omega arith) (omega arith))
+    let deep : get_or ds w.0 0 ≡ get_or ds p 0 + 1 = a.2 in (
+      w.0,
+      child-append ds (d ∷ []) p i w.0 inside w.1,
+      children-append ds d p inside (omega arith) ∙ w.2,
+      end-more ds d p inside k.1 (omega arith),
+      way-more ds w.0 path m d w.4 (omega arith) (omega arith),
+    )
 
 -- the node m levels below p on the way: the subtree of this node ends with the tree
 abbrev pub OnWay : List ℕ → List ℕ → ℕ → List ℕ → ℕ → Type 0

@@ -15,9 +15,7 @@ ghost use Rattle.edit_module.specs.Views.{primitive_tree, word_tree};
 ghost use Rattle.edit_inverse.specs.Construct.{construct, construct_fields, construct_each, only, set_unless, unless_empty, reshape, at_each, to_tag, modify_each, put_each, graft_each, grow, insertions};
 ghost use Rattle.edit_inverse.specs.Paths.{parent_path, next_path, paths};
 
-use crate::words::{
-    inserted, next_path, push_at, push_key, push_modify, push_node, switch_word,
-};
+use crate::words::{inserted, next_path, push_at, push_key, push_modify, push_node, switch_word};
 use doc_values::{Doc, Docs, Fields, Ty};
 use edit_module::Atom;
 use edit_module::word::{Primitive, Word};

@@ -298,10 +298,7 @@ fn rec_with(alloc: Global, docs: &Docs, place: usize, next: Doc) -> Result<Doc, 
 }
 
 // A value with its inverse, if there was memory for both.
-fn both(
-    value: Result<Doc, AllocError>,
-    back: Result<Word, AllocError>,
-) -> Result<Made, AllocError>
+fn both(value: Result<Doc, AllocError>, back: Result<Word, AllocError>) -> Result<Made, AllocError>
     ensures { IfOk result (λ m. (value ≡ Ok m.value) × (back ≡ Ok m.back)) }
 {
     let value = value?;
@@ -362,13 +359,7 @@ fn tagged(alloc: Global, tag: &Name, content: Doc) -> Result<Doc, AllocError>
 
 // Acts on the content at a place.
 #[cycle(walk)]
-fn at_item(
-    alloc: Global,
-    ty: &Ty,
-    place: &Place,
-    word: &Word,
-    doc: &Doc,
-) -> Result<Made, StepFault>
+fn at_item(alloc: Global, ty: &Ty, place: &Place, word: &Word, doc: &Doc) -> Result<Made, StepFault>
     requires well_formed { is_well_formed (ty_tree ty.now) ≡ true }
     requires typed { has (ty_tree ty.now) (doc_tree doc.now) ≡ true }
     ensures value { MatchResult result

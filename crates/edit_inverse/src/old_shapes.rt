@@ -22,8 +22,7 @@ use crate::construction::{construct, with_items};
 use crate::words::{next_path, one_edit, push_modify, push_node, push_shape};
 use doc_values::{Doc, Docs, Ty};
 use edit_module::word::Word;
-use hold_shapes::trees;
-use hold_shapes::{Held, Name, Path, Place, Places, Shape, ShapeEdit, SharedList, Twin};
+use hold_shapes::{Held, Name, Path, Place, Places, Shape, ShapeEdit, SharedList, Twin, trees};
 use std::alloc::{AllocError, Global};
 
 // The inverse of an edit of a container's shape that acts.
