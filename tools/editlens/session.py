@@ -81,10 +81,7 @@ class Session:
         return self._accepted(write_json({"side": side, "edit": edit}))
 
     def group(self, *entries):
-        """Sends entries, each a side and an edit, that are accepted together or not at all.
-
-        A program without groups refuses such a line as `not-an-entry`.
-        """
+        """Sends entries, each a side and an edit, that are accepted together or not at all."""
         return self._accepted(write_json({"group": [{"side": side, "edit": edit} for side, edit in entries]}))
 
     def _accepted(self, text):

@@ -88,16 +88,23 @@ def test_a_run_that_ends_is_told():
 
 
 def test_answers_of_groups_are_read():
-    """The forms of groups: a program without them refuses such a line."""
     answer = read_answer('ok 1 group [{"edit":[{"at":["b",[{"set":5}]]}],"side":"right"},{"edit":[],"side":"left"}]')
     assert answer.words == (("right", [{"at": ["b", [{"set": 5}]]}]), ("left", []))
     assert read_answer("refused 1 group 1 no-apply 0 kind") == Refused(1, "kind", at=0, part=1)
+
+
+def test_a_group_is_accepted_together_or_not_at_all():
     with Session(TASKS) as session:
+        answer = session.group(("left", [{"put": "door"}]), ("right", [{"put": "roof"}]))
+        assert answer.words == (("right", [{"put": "door"}]), ("left", [{"put": "roof"}]))
+        assert set(session.documents["left"]) == {"door", "roof"}
+        before = session.documents
         try:
-            session.group(("left", [{"put": "door"}]), ("right", [{"put": "roof"}]))
-            assert set(session.documents["left"]) == {"door", "roof"}
+            session.group(("left", [{"put": "gate"}]), ("right", [{"drop": "wall"}]))
         except Refused as why:
-            assert why.cause == "not-an-entry" and session.documents["left"] == {}
+            assert (why.cause, why.at, why.part) == ("place", 0, 1) and session.documents == before
+        else:
+            raise AssertionError("the second entry does not apply")
 
 
 def run_lines(program, lines):
