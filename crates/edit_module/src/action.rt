@@ -15,10 +15,10 @@ ghost use Rattle.edit_module.specs.Action.{act, act_primitive, inner, act_at_pla
 ghost use Rattle.edit_module.specs.Containers.{IsHeld, container_ty};
 ghost use Rattle.edit_module.specs.Words.{WordTree, stay, switch};
 ghost use Rattle.edit_module.specs.Normal.{normal};
-ghost use Rattle.edit_module.specs.Refusals.{IsRefusal, IsStepRefusal};
+ghost use Rattle.edit_module.specs.Refusals.{IsRefusal, IsPrimitiveRefusal};
 
 use crate::container::Container;
-use crate::fault::{ActFault, Cause, StepFault};
+use crate::fault::{ActFault, Cause, PrimitiveFault};
 use crate::leaves::{on_bool, on_enum, on_int, on_text};
 use crate::reshape::reshape;
 use crate::word::{Primitive, Word};
@@ -69,29 +69,32 @@ fn run(alloc: Global, word: &Word, ty: &Ty, doc: Doc) -> Result<Doc, ActFault>
     for i in 0..word.primitives.len() {
         match step(alloc, &word.primitives[i], ty, current) {
             Ok(next) => current = next,
-            Err(StepFault::Fails(cause)) => {
+            Err(PrimitiveFault::Fails(cause)) => {
                 return Err(ActFault::NoApply {
                     at: i as u64,
                     cause,
                 });
             }
-            Err(StepFault::OutOfMemory) => return Err(ActFault::NoMemory),
+            Err(PrimitiveFault::OutOfMemory) => return Err(ActFault::NoMemory),
         }
     }
     Ok(current)
 }
 
-// The value of a document after one primitive.
+/// What one primitive makes of a document, as [`act`] has it for a word. The document is consumed.
+///
+/// The type is well formed and the document has it. [`PrimitiveFault::Fails`] comes if and only if the primitive fails, and
+/// has its cause.
 #[cycle(run)]
-fn step(alloc: Global, primitive: &Primitive, ty: &Ty, doc: Doc) -> Result<Doc, StepFault>
+pub fn step(alloc: Global, primitive: &Primitive, ty: &Ty, doc: Doc) -> Result<Doc, PrimitiveFault>
     requires well_formed { is_well_formed (ty_tree ty.now) ≡ true }
     requires typed { has (ty_tree ty.now) (doc_tree doc) ≡ true }
     ensures { MatchResult result
         (λ d. act_primitive (ty_tree ty.now) (primitive_tree primitive.now) (doc_tree doc) ≡ Ok (doc_tree d))
-        (λ fault. IsStepRefusal (act_primitive (ty_tree ty.now) (primitive_tree primitive.now) (doc_tree doc)) fault) }
+        (λ fault. IsPrimitiveRefusal (act_primitive (ty_tree ty.now) (primitive_tree primitive.now) (doc_tree doc)) fault) }
 {
     match ty {
-        Ty::Unit => Err(StepFault::Fails(Cause::Kind)),
+        Ty::Unit => Err(PrimitiveFault::Fails(Cause::Kind)),
         Ty::Bool => on_bool(primitive, doc),
         Ty::Int(_) => on_int(primitive, doc),
         Ty::Text(_) => on_text(alloc, primitive, doc),
@@ -111,30 +114,30 @@ fn on_record(
     primitive: &Primitive,
     fields: &Fields,
     doc: Doc,
-) -> Result<Doc, StepFault>
+) -> Result<Doc, PrimitiveFault>
     requires well_formed { is_well_formed (ty_rec (fields_tree fields.now)) ≡ true }
     requires typed { has (ty_rec (fields_tree fields.now)) (doc_tree doc) ≡ true }
     ensures { MatchResult result
         (λ d. act_primitive (ty_rec (fields_tree fields.now)) (primitive_tree primitive.now) (doc_tree doc) ≡ Ok (doc_tree d))
-        (λ fault. IsStepRefusal (act_primitive (ty_rec (fields_tree fields.now)) (primitive_tree primitive.now) (doc_tree doc)) fault) }
+        (λ fault. IsPrimitiveRefusal (act_primitive (ty_rec (fields_tree fields.now)) (primitive_tree primitive.now) (doc_tree doc)) fault) }
 {
     let Primitive::At(name, word) = primitive else {
-        return Err(StepFault::Fails(Cause::Kind));
+        return Err(PrimitiveFault::Fails(Cause::Kind));
     };
     let Doc::Rec(docs) = doc else {
-        return Err(StepFault::Fails(Cause::Kind));
+        return Err(PrimitiveFault::Fails(Cause::Kind));
     };
     match field_of(fields, name, &docs) {
         Some((place, ty)) => match at_place(alloc, word, ty, docs, place) {
             Ok(docs) => Ok(Doc::Rec(docs)),
             Err(fault) => Err(fault),
         },
-        None => Err(StepFault::Fails(Cause::Place)),
+        None => Err(PrimitiveFault::Fails(Cause::Place)),
     }
 }
 
-// The place and the type of a field of a typed record.
-fn field_of<'a>(fields: &'a Fields, name: &Name, docs: &Docs) -> Option<(usize, &'a Ty)>
+/// The place and the type of a field of a record that has the type. Returns None if and only if there is no such field.
+pub fn field_of<'a>(fields: &'a Fields, name: &Name, docs: &Docs) -> Option<(usize, &'a Ty)>
     requires well_formed { is_well_formed (ty_rec (fields_tree fields.now)) ≡ true }
     requires typed { has_fields (fields_tree fields.now) (docs_tree docs.now) ≡ true }
     ensures place { option_map (λ p. (p.0, ty_tree p.1.now)) result ≡ lookup_field (fields_tree fields.now) name.now }
@@ -152,38 +155,44 @@ fn on_alternatives(
     primitive: &Primitive,
     tags: &Fields,
     doc: Doc,
-) -> Result<Doc, StepFault>
+) -> Result<Doc, PrimitiveFault>
     requires well_formed { is_well_formed (ty_alt (fields_tree tags.now)) ≡ true }
     requires typed { has (ty_alt (fields_tree tags.now)) (doc_tree doc) ≡ true }
     ensures { MatchResult result
         (λ d. act_primitive (ty_alt (fields_tree tags.now)) (primitive_tree primitive.now) (doc_tree doc) ≡ Ok (doc_tree d))
-        (λ fault. IsStepRefusal (act_primitive (ty_alt (fields_tree tags.now)) (primitive_tree primitive.now) (doc_tree doc)) fault) }
+        (λ fault. IsPrimitiveRefusal (act_primitive (ty_alt (fields_tree tags.now)) (primitive_tree primitive.now) (doc_tree doc)) fault) }
 {
     match primitive {
         Primitive::Stay(tag, word) => stay(alloc, tag, word, tags, doc),
         Primitive::Switch(from, to, word) => switch(alloc, from, to, word, tags, doc),
-        _ => Err(StepFault::Fails(Cause::Kind)),
+        _ => Err(PrimitiveFault::Fails(Cause::Kind)),
     }
 }
 
 // Acts on the content of the tag that is there.
 #[cycle(run)]
 #[tactic(auto, using(crate::proofs::ActionKeepsTypes::alternatives_rules))]
-fn stay(alloc: Global, tag: &Name, word: &Word, tags: &Fields, doc: Doc) -> Result<Doc, StepFault>
+fn stay(
+    alloc: Global,
+    tag: &Name,
+    word: &Word,
+    tags: &Fields,
+    doc: Doc,
+) -> Result<Doc, PrimitiveFault>
     requires well_formed { is_well_formed (ty_alt (fields_tree tags.now)) ≡ true }
     requires typed { has (ty_alt (fields_tree tags.now)) (doc_tree doc) ≡ true }
     ensures { MatchResult result
         (λ d. act_primitive (ty_alt (fields_tree tags.now)) (stay tag.now (word_tree word.now)) (doc_tree doc) ≡ Ok (doc_tree d))
-        (λ fault. IsStepRefusal (act_primitive (ty_alt (fields_tree tags.now)) (stay tag.now (word_tree word.now)) (doc_tree doc)) fault) }
+        (λ fault. IsPrimitiveRefusal (act_primitive (ty_alt (fields_tree tags.now)) (stay tag.now (word_tree word.now)) (doc_tree doc)) fault) }
 {
     let Doc::Alt(held, content) = doc else {
-        return Err(StepFault::Fails(Cause::Kind));
+        return Err(PrimitiveFault::Fails(Cause::Kind));
     };
     if !tag.is_same(&held) {
-        return Err(StepFault::Fails(Cause::Tag));
+        return Err(PrimitiveFault::Fails(Cause::Tag));
     }
     let Some((_, ty)) = tag_of(tags, &held) else {
-        return Err(StepFault::Fails(Cause::Tag));
+        return Err(PrimitiveFault::Fails(Cause::Tag));
     };
     let mut content = content;
     let old = take_out(&mut content);
@@ -203,20 +212,20 @@ fn switch(
     word: &Word,
     tags: &Fields,
     doc: Doc,
-) -> Result<Doc, StepFault>
+) -> Result<Doc, PrimitiveFault>
     requires well_formed { is_well_formed (ty_alt (fields_tree tags.now)) ≡ true }
     ensures { MatchResult result
         (λ d. act_primitive (ty_alt (fields_tree tags.now)) (switch from.now to.now (word_tree word.now)) (doc_tree doc) ≡ Ok (doc_tree d))
-        (λ fault. IsStepRefusal (act_primitive (ty_alt (fields_tree tags.now)) (switch from.now to.now (word_tree word.now)) (doc_tree doc)) fault) }
+        (λ fault. IsPrimitiveRefusal (act_primitive (ty_alt (fields_tree tags.now)) (switch from.now to.now (word_tree word.now)) (doc_tree doc)) fault) }
 {
     let Doc::Alt(held, content) = doc else {
-        return Err(StepFault::Fails(Cause::Kind));
+        return Err(PrimitiveFault::Fails(Cause::Kind));
     };
     if !from.is_same(&held) {
-        return Err(StepFault::Fails(Cause::Tag));
+        return Err(PrimitiveFault::Fails(Cause::Tag));
     }
     let Some((_, ty)) = tag_of(tags, to) else {
-        return Err(StepFault::Fails(Cause::Tag));
+        return Err(PrimitiveFault::Fails(Cause::Tag));
     };
     let tag = to.twin(alloc)?;
     let fresh = init(alloc, ty)?;
@@ -226,8 +235,8 @@ fn switch(
     }
 }
 
-// The place and the type of a tag.
-fn tag_of<'a>(tags: &'a Fields, tag: &Name) -> Option<(usize, &'a Ty)>
+/// The number and the type of a tag of alternatives. Returns None if and only if there is no such tag.
+pub fn tag_of<'a>(tags: &'a Fields, tag: &Name) -> Option<(usize, &'a Ty)>
     requires { is_well_formed (ty_alt (fields_tree tags.now)) ≡ true }
     ensures tag { option_map (λ p. ty_tree p.1.now) result ≡ lookup_type (fields_tree tags.now) tag.now }
     ensures well_formed { MatchOption result (Unit {0}) (λ p. is_well_formed (ty_tree p.1.now) ≡ true) }
@@ -260,12 +269,12 @@ fn on_container(
     kind: Container,
     ty: &Ty,
     doc: Doc,
-) -> Result<Doc, StepFault>
+) -> Result<Doc, PrimitiveFault>
     requires well_formed { is_well_formed (ty_tree ty.now) ≡ true }
     requires typed { has (container_ty kind (ty_tree ty.now)) (doc_tree doc) ≡ true }
     ensures { MatchResult result
         (λ d. act_primitive (container_ty kind (ty_tree ty.now)) (primitive_tree primitive.now) (doc_tree doc) ≡ Ok (doc_tree d))
-        (λ fault. IsStepRefusal (act_primitive (container_ty kind (ty_tree ty.now)) (primitive_tree primitive.now) (doc_tree doc)) fault) }
+        (λ fault. IsPrimitiveRefusal (act_primitive (container_ty kind (ty_tree ty.now)) (primitive_tree primitive.now) (doc_tree doc)) fault) }
 {
     let Doc::Hold(shape, docs) = doc else {
         unreachable!()
@@ -273,12 +282,12 @@ fn on_container(
     match primitive {
         Primitive::Mod(place, word) => {
             if !kind.has_places_like(place) {
-                return Err(StepFault::Fails(Cause::Kind));
+                return Err(PrimitiveFault::Fails(Cause::Kind));
             }
             modify(alloc, place, word, ty, shape, docs)
         }
         Primitive::Shape(edit) => reshape(alloc, edit, ty, shape, docs),
-        _ => Err(StepFault::Fails(Cause::Kind)),
+        _ => Err(PrimitiveFault::Fails(Cause::Kind)),
     }
 }
 
@@ -291,24 +300,25 @@ fn modify(
     ty: &Ty,
     shape: Shape,
     docs: Docs,
-) -> Result<Doc, StepFault>
+) -> Result<Doc, PrimitiveFault>
     requires well_formed { is_well_formed (ty_tree ty.now) ≡ true }
     requires held { IsHeld (ty_tree ty.now) shape (docs_tree docs) }
     ensures { MatchResult result
         (λ d. act_at_place (λ v. act (ty_tree ty.now) (word_tree word.now) v) shape (docs_tree docs) place.now ≡ Ok (doc_tree d))
-        (λ fault. IsStepRefusal (act_at_place (λ v. act (ty_tree ty.now) (word_tree word.now) v) shape (docs_tree docs) place.now) fault) }
+        (λ fault. IsPrimitiveRefusal (act_at_place (λ v. act (ty_tree ty.now) (word_tree word.now) v) shape (docs_tree docs) place.now) fault) }
 {
     match item_of(place, ty, &shape, &docs) {
         Some(at) => match at_place(alloc, word, ty, docs, at) {
             Ok(docs) => Ok(Doc::Hold(shape, docs)),
             Err(fault) => Err(fault),
         },
-        None => Err(StepFault::Fails(Cause::Place)),
+        None => Err(PrimitiveFault::Fails(Cause::Place)),
     }
 }
 
-// The number of a place of a container.
-fn item_of(place: &Place, ty: &Ty, shape: &Shape, docs: &Docs) -> Option<usize>
+/// The number of a place of a container, whose contents have a type. Returns None if and only if the container does not
+/// have the place.
+pub fn item_of(place: &Place, ty: &Ty, shape: &Shape, docs: &Docs) -> Option<usize>
     requires { IsHeld (ty_tree ty.now) shape.now (docs_tree docs.now) }
     ensures place { result ≡ place_of shape.now place.now }
     ensures typed { MatchOption result (Unit {0}) (λ i. (i < length (doc_list (docs_tree docs.now)))
@@ -328,13 +338,13 @@ fn at_place(
     ty: &Ty,
     docs: Docs,
     place: usize,
-) -> Result<Docs, StepFault>
+) -> Result<Docs, PrimitiveFault>
     requires within { place < length (doc_list (docs_tree docs)) }
     requires well_formed { is_well_formed (ty_tree ty.now) ≡ true }
     requires typed { has (ty_tree ty.now) (doc_at (docs_tree docs) place) ≡ true }
     ensures { MatchResult result
         (λ ds. put_result_at (docs_tree docs) place (act (ty_tree ty.now) (word_tree word.now) (doc_at (docs_tree docs) place)) ≡ Ok (docs_tree ds))
-        (λ fault. IsStepRefusal (put_result_at (docs_tree docs) place (act (ty_tree ty.now) (word_tree word.now) (doc_at (docs_tree docs) place))) fault) }
+        (λ fault. IsPrimitiveRefusal (put_result_at (docs_tree docs) place (act (ty_tree ty.now) (word_tree word.now) (doc_at (docs_tree docs) place))) fault) }
 {
     let mut docs = docs;
     let old = docs.get(place).twin(alloc)?;
@@ -349,16 +359,16 @@ fn at_place(
 
 // The value of a document after an inner word, whose failure has its cause alone.
 #[cycle(run)]
-fn inside(alloc: Global, word: &Word, ty: &Ty, doc: Doc) -> Result<Doc, StepFault>
+fn inside(alloc: Global, word: &Word, ty: &Ty, doc: Doc) -> Result<Doc, PrimitiveFault>
     requires well_formed { is_well_formed (ty_tree ty.now) ≡ true }
     requires typed { has (ty_tree ty.now) (doc_tree doc) ≡ true }
     ensures { MatchResult result
         (λ d. inner (act (ty_tree ty.now) (word_tree word.now) (doc_tree doc)) ≡ Ok (doc_tree d))
-        (λ fault. IsStepRefusal (inner (act (ty_tree ty.now) (word_tree word.now) (doc_tree doc))) fault) }
+        (λ fault. IsPrimitiveRefusal (inner (act (ty_tree ty.now) (word_tree word.now) (doc_tree doc))) fault) }
 {
     match run(alloc, word, ty, doc) {
         Ok(next) => Ok(next),
-        Err(ActFault::NoApply { cause, .. }) => Err(StepFault::Fails(cause)),
-        Err(ActFault::NoMemory) => Err(StepFault::OutOfMemory),
+        Err(ActFault::NoApply { cause, .. }) => Err(PrimitiveFault::Fails(cause)),
+        Err(ActFault::NoMemory) => Err(PrimitiveFault::OutOfMemory),
     }
 }

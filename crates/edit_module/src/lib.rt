@@ -16,7 +16,7 @@ pub use crate::action::act;
 pub use crate::atom::Atom;
 pub use crate::change::{Change, Entries};
 pub use crate::entry::Entry;
-pub use crate::fault::{ActFault, Cause};
+pub use crate::fault::{ActFault, Cause, PrimitiveFault};
 pub use crate::laws::{
     action_keeps_types, equal_words_act_alike, joined_acts_in_turn, normal_is_merged,
 };

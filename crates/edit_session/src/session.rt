@@ -153,6 +153,18 @@ impl<L: EditLens> Session<L> {
         Ok(words)
     }
 
+    /// Puts a left document, a complement and a right document, which the lens relates to each other, in the place of the
+    /// session's own.
+    ///
+    /// The lens stays. It does not allocate.
+    pub fn replace(&mut self, triple: Triple)
+        requires consistent { IsInStep (L.holds self.old.lens) (triple_tree triple) }
+        ensures lens { self.new.lens ≡ self.old.lens }
+        ensures triple { self.new.triple ≡ triple }
+    {
+        self.triple = triple;
+    }
+
     /// The lens.
     pub fn lens(&self) -> &L
         ensures { result.now ≡ self.now.lens }

@@ -4,7 +4,7 @@ use Rattle.lens_forms.specs.Forms.{FormTree, left_type, right_type}
 use Rattle.lens_core.specs.Complements.{missing}
 use Rattle.lens_core.specs.Consistency.{IsConsistent}
 use Rattle.lens_core.specs.Translation.{translate}
-use Rattle.journal_answers.specs.LensOf.{IsLensOf}
+use Rattle.lens_core.specs.LensOf.{IsLensOf}
 
 pub is_lens_of : (f form : FormTree) → f ≡ form → IsLensOf (left_type f) (right_type f) (missing f) (IsConsistent f) (translate f) form
 is_lens_of f form same =

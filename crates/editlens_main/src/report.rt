@@ -9,7 +9,7 @@ ghost use Rattle.accepted_programs.specs.Program.{Refusal, lens_of};
 ghost use Rattle.accepted_programs.specs.Refused.{IsKnown, IsRefusal};
 ghost use Rattle.script_parts.specs.Parts.{HoldsPart};
 ghost use Rattle.journal_answers.specs.Answers.{state_lines};
-ghost use Rattle.journal_answers.specs.LensOf.{IsLensOf};
+ghost use Rattle.lens_core.specs.LensOf.{IsLensOf};
 ghost use Rattle.journal_answers.specs.Runs.{JournalItem, first_of};
 ghost use Rattle.editlens_main.specs.Ending.{IsEnd, HasEnd, EndsReport};
 ghost use Rattle.editlens_main.specs.Report.{ending, report_with, run_report, type_lines};

@@ -9,7 +9,7 @@ ghost use Rattle.accepted_programs.specs.Program.{lens_of};
 ghost use Rattle.journal_input.specs.Taking.{IsWithin};
 ghost use Rattle.journal_input.specs.declared.limits.TheConstants.{MOST_BYTES, PIECE_BYTES};
 ghost use Rattle.script_parts.specs.Parts.{IsTaken, IsHead};
-ghost use Rattle.journal_answers.specs.LensOf.{IsLensOf};
+ghost use Rattle.lens_core.specs.LensOf.{IsLensOf};
 ghost use Rattle.journal_answers.specs.Runs.{first_of};
 ghost use Rattle.journal_stream.specs.Stopping.{SinkFailed};
 ghost use Rattle.editlens_main.specs.Commands.{command_of, order_named};

@@ -25,7 +25,7 @@ mod plan_origins;
 mod run;
 mod shape;
 mod tree_plans;
-mod trees;
+pub mod trees;
 
 pub use crate::edit::{Place, ShapeEdit};
 pub use crate::gathering::gather;

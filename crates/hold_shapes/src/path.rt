@@ -35,6 +35,13 @@ impl Path {
         self.items.as_slice()
     }
 
+    /// The child numbers as a vector, in order. Does not allocate.
+    pub fn into_vec(self) -> Vec<u64>
+        ensures { result.items ≡ self }
+    {
+        self.items
+    }
+
     /// Whether both have the same child numbers in the same order.
     pub fn is_same(&self, other: &Path) -> bool
         ensures { IsTrue result ↔ (self.now ≡ other.now) }

@@ -34,6 +34,13 @@ impl Places {
         self.items.as_slice()
     }
 
+    /// The places as a vector, in order. Does not allocate.
+    pub fn into_vec(self) -> Vec<u64>
+        ensures { result.items ≡ self }
+    {
+        self.items
+    }
+
     /// Whether both have the same places in the same order.
     pub fn is_same(&self, other: &Places) -> bool
         ensures { IsTrue result ↔ (self.now ≡ other.now) }

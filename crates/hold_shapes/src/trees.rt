@@ -42,8 +42,8 @@ pub(crate) fn is_valid(depths: &SharedList<u64>) -> bool
     before.is_some()
 }
 
-// The place after the subtree of a node.
-pub(crate) fn end(depths: &SharedList<u64>, at: usize) -> usize
+/// The place after the subtree of a node, which is one of the places.
+pub fn end(depths: &SharedList<u64>, at: usize) -> usize
     requires { at < length depths.now }
     ensures value { result ≡ end_of depths.now at }
     ensures above { at < result }
@@ -59,8 +59,8 @@ pub(crate) fn end(depths: &SharedList<u64>, at: usize) -> usize
     size
 }
 
-// How many children a node has.
-pub(crate) fn children(depths: &SharedList<u64>, at: usize) -> usize
+/// How many children a node has, which is one of the places.
+pub fn children(depths: &SharedList<u64>, at: usize) -> usize
     requires { at < length depths.now }
     ensures { result ≡ children depths.now at }
 {
@@ -79,8 +79,9 @@ pub(crate) fn children(depths: &SharedList<u64>, at: usize) -> usize
     count
 }
 
-// The place of a child of a node.
-pub(crate) fn child(depths: &SharedList<u64>, at: usize, number: u64) -> Option<usize>
+/// The place of a child of a node, which is one of the places. Children are numbered from 0. Returns None if and only if
+/// the node has no child of this number.
+pub fn child(depths: &SharedList<u64>, at: usize, number: u64) -> Option<usize>
     requires { at < length depths.now }
     ensures value { result ≡ child depths.now at number }
     ensures above { IfSome result (λ p. at < p) }
@@ -104,9 +105,9 @@ pub(crate) fn child(depths: &SharedList<u64>, at: usize, number: u64) -> Option<
     None
 }
 
-// The node that a path names.
+/// The place of the node that a path names. The tree has a root. Returns None if and only if there is no such node.
 #[tactic(auto, using(crate::proofs::Nodes::node_rules))]
-pub(crate) fn node(depths: &SharedList<u64>, path: &[u64]) -> Option<usize>
+pub fn node(depths: &SharedList<u64>, path: &[u64]) -> Option<usize>
     requires { 0 < length depths.now }
     ensures value { result ≡ node depths.now path.now }
     ensures within { IfSome result (λ p. p < length depths.now) }

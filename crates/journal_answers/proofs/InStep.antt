@@ -9,7 +9,7 @@ use Rattle.lens_core.specs.Complements.{CompTree, Fits}
 use Rattle.lens_core.specs.Translation.{Translated, translate}
 use Rattle.lens_core.proofs.LawsOfWords.{consistent_is_typed}
 use Rattle.edit_session.specs.Step.{TripleTree, IsInStep}
-use Rattle.journal_answers.specs.LensOf.{IsLensOf}
+use Rattle.lens_core.specs.LensOf.{IsLensOf}
 use Rattle.journal_answers.specs.Runs.{IsInStepFor}
 
 -- the complement of a triple that is in step fits the form

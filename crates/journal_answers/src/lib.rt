@@ -3,7 +3,7 @@
 //! [`handle_line`] is the main call: it steps a session by one line, and adds the answer line to the [`Progress`] of the
 //! run. [`last_text`] ends a run with the state lines. No device is named here: reading and writing are above.
 //!
-//! Everything is generic over the lens. Where a definition needs the lens's form, the record `IsLensOf` (specs/LensOf.antt)
+//! Everything is generic over the lens. Where a definition needs the lens's form, the record `IsLensOf` of `lens_core`
 //! ties the two. specs/Runs.antt defines the run of a form, from any triple on, and specs/Answers.antt what is written for
 //! it. specs/Running.antt and specs/AnswerLines.antt are for the helpers.
 #![tactic(auto)]

@@ -10,7 +10,7 @@ ghost use Rattle.complement_file.specs.ComplementJson.{tree_of_complement};
 ghost use Rattle.edit_session.specs.Views.{triple_tree};
 ghost use Rattle.answer_text.specs.Lines.{tree_line};
 ghost use Rattle.journal_answers.specs.Answers.{state_lines};
-ghost use Rattle.journal_answers.specs.LensOf.{IsLensOf};
+ghost use Rattle.lens_core.specs.LensOf.{IsLensOf};
 
 use answer_text::tree_line;
 use complement_file::write_comp;

@@ -3,7 +3,7 @@ ghost use Rattle.std.specs.Prelude.{◌≡◌, ◌+◌, ◌^◌, ◌<◌, [], If
 ghost use Rattle.edit_journal.specs.Pieces.{last_line};
 ghost use Rattle.edit_session.specs.Views.{triple_tree};
 ghost use Rattle.lens_forms.specs.Forms.{form_tree};
-ghost use Rattle.journal_answers.specs.LensOf.{IsLensOf};
+ghost use Rattle.lens_core.specs.LensOf.{IsLensOf};
 ghost use Rattle.journal_answers.specs.Running.{GoesOver};
 ghost use Rattle.journal_stream.specs.Ending.{EndsText};
 

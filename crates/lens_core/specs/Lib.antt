@@ -4,6 +4,7 @@ pub mod Consistency
 pub mod Emitted
 pub mod Laws
 pub mod Leaves
+pub mod LensOf
 pub mod Partition
 pub mod Sides
 pub mod Tags

@@ -54,6 +54,28 @@ impl Twin for Carried {
     }
 }
 
+impl Twin for Begun {
+    ghost use Rattle.lens_core.specs.Beginnings.{Beginning, begun_tree};
+
+    ghost Meaning = { Beginning };
+
+    ghost meaning = { begun_tree };
+
+    fn twin(&self, alloc: Global) -> Result<Self, AllocError> {
+        match self {
+            Begun::Done(carried) => Ok(Begun::Done(carried.twin(alloc)?)),
+            Begun::Inner { part, comp, word } => {
+                let comp = comp.twin(alloc)?;
+                Ok(Begun::Inner {
+                    part: *part,
+                    comp,
+                    word: word.twin(alloc)?,
+                })
+            }
+        }
+    }
+}
+
 impl Twin for CarryFault {
     ghost use Rattle.lens_core.specs.declared.carry.CarryFault.{CarryFault};
 

@@ -111,7 +111,7 @@ skip-step true d e es h ih =
     rw (deeper-test d e (omega arith), no_child-test d e more) ih
 skip-step false d e es h ih = refl
 
-children-skip : (d : ℕ) (es : List ℕ) → children_of d (drop (descendants (d + 1) es) es) ≡ children_of d es
+pub children-skip : (d : ℕ) (es : List ℕ) → children_of d (drop (descendants (d + 1) es) es) ≡ children_of d es
 children-skip d [] = refl
 children-skip d (e ∷ es) = skip-step (nat_lt (d + 1) e) d e es refl (children-skip d es)
 

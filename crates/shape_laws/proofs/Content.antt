@@ -23,7 +23,7 @@ use Rattle.shape_laws.proofs.Lawful.{key-within, past}
 
 -- ---- gathering commutes with what a plan does to lists
 
-map-insert : (X Y : Type 0) (f : X → Y) (xs : List X) (i : ℕ) (x : X) → map f (insert xs i x) ≡ insert (map f xs) i (f x)
+pub map-insert : (X Y : Type 0) (f : X → Y) (xs : List X) (i : ℕ) (x : X) → map f (insert xs i x) ≡ insert (map f xs) i (f x)
 map-insert X Y f [] zero x = refl
 map-insert X Y f [] (suc i) x = refl
 map-insert X Y f (y ∷ ys) zero x = refl
@@ -75,25 +75,25 @@ content-old_places X d xs n e =
     let P : ℕ → Type 0 = λ m. map (content_at xs d) (old_places m) ≡ xs in
     subst P (sym e) (in-order X d [] xs 0 refl)
 
-content-insert : (X : Type 0) (d : X) (xs : List X) (n i : ℕ) (o : Origin) → n ≡ length xs → insert xs i (content_at xs d o) ≡ map (content_at xs d) (insert (old_places n) i o)
+pub content-insert : (X : Type 0) (d : X) (xs : List X) (n i : ℕ) (o : Origin) → n ≡ length xs → insert xs i (content_at xs d o) ≡ map (content_at xs d) (insert (old_places n) i o)
 content-insert X d xs n i o e =
     let p = map-insert Origin X (content_at xs d) (old_places n) i o in
     let q = content-old_places X d xs n e in
     sym (p ∙ ap (λ (l : List X). insert l i (content_at xs d o)) q)
 
-content-remove : (X : Type 0) (d : X) (xs : List X) (n i : ℕ) → n ≡ length xs → remove xs i ≡ map (content_at xs d) (remove (old_places n) i)
+pub content-remove : (X : Type 0) (d : X) (xs : List X) (n i : ℕ) → n ≡ length xs → remove xs i ≡ map (content_at xs d) (remove (old_places n) i)
 content-remove X d xs n i e =
     let p = map-remove Origin X (content_at xs d) (old_places n) i in
     let q = content-old_places X d xs n e in
     sym (p ∙ ap (λ (l : List X). remove l i) q)
 
-content-remove_part : (X : Type 0) (d : X) (xs : List X) (n a b : ℕ) → n ≡ length xs → remove_part a b xs ≡ map (content_at xs d) (remove_part a b (old_places n))
+pub content-remove_part : (X : Type 0) (d : X) (xs : List X) (n a b : ℕ) → n ≡ length xs → remove_part a b xs ≡ map (content_at xs d) (remove_part a b (old_places n))
 content-remove_part X d xs n a b e =
     let p = map-remove_part Origin X (content_at xs d) a b (old_places n) in
     let q = content-old_places X d xs n e in
     sym (p ∙ ap (λ (l : List X). remove_part a b l) q)
 
-content-move_part : (X : Type 0) (d : X) (xs : List X) (n a b t : ℕ) → n ≡ length xs → move_part a b t xs ≡ map (content_at xs d) (move_part a b t (old_places n))
+pub content-move_part : (X : Type 0) (d : X) (xs : List X) (n a b t : ℕ) → n ≡ length xs → move_part a b t xs ≡ map (content_at xs d) (move_part a b t (old_places n))
 content-move_part X d xs n a b t e =
     let p = map-move_part Origin X (content_at xs d) a b t (old_places n) in
     let q = content-old_places X d xs n e in

@@ -3,7 +3,7 @@ use Rattle.std.specs.Prelude.{IfOk}
 use Rattle.lens_io.specs.Content.{IsFull}
 use Rattle.lens_forms.specs.Forms.{form_tree}
 use Rattle.edit_session.specs.Views.{triple_tree}
-use Rattle.journal_answers.specs.LensOf.{IsLensOf}
+use Rattle.lens_core.specs.LensOf.{IsLensOf}
 use Rattle.journal_answers.specs.Runs.{first_of}
 use Rattle.journal_answers.proofs.InStep.{of_form}
 use Rattle.journal_stream.specs.Answered.{AnswersPieces}

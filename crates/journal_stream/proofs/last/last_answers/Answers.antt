@@ -3,7 +3,7 @@ use Rattle.std.specs.Prelude.{option_to_list}
 use Rattle.edit_journal.specs.Pieces.{last_line}
 use Rattle.edit_session.specs.Views.{triple_tree}
 use Rattle.lens_forms.specs.Forms.{form_tree}
-use Rattle.journal_answers.specs.LensOf.{IsLensOf}
+use Rattle.lens_core.specs.LensOf.{IsLensOf}
 use Rattle.journal_answers.specs.Running.{GoesOver}
 use Rattle.journal_answers.proofs.InStep.{of_form}
 use Rattle.journal_stream.proofs.last.last_answers.Goals as goal
