@@ -1,4 +1,4 @@
-//! What a command writes before the end of its input is the beginning of the report of that input, whatever follows.
+//! What a command writes before the end of its input is the beginning of the report of that input, whatever bytes follow.
 //!
 //! A call may stop in the middle: the source or the sink fails, memory runs out, or the input is too long. The contract of the
 //! call says that the answers to the first lines of the journal were written. The laws here compare them with the report of
@@ -44,11 +44,11 @@ pub fn a_refusal_stays()
         → (more : List ℕ) → report command (bytes ++ more) ≡ Some (refusal_line refusal, ProgramRefused) }
 {}
 
-/// What a call that stopped has written is the beginning of the report of its whole input: of every input that begins with the
-/// bytes that were taken, or of these bytes if the source is at its end.
+/// What a call has written when it stops is the beginning of the report of its whole input.
 ///
-/// It is so for each status that stops a call, and whatever part of its text a sink that failed has taken. If it is not known
-/// what the source has left, the law is of these bytes alone.
+/// The whole input is any that begins with the bytes that were taken; if the source is at its end, it is these bytes. The law is
+/// of each status that stops a call, and of whatever part of its text a sink that failed has taken. If it is not known what the
+/// source has left, the law is of the bytes that were taken alone.
 pub fn a_stop_writes_a_beginning()
     ensures { (command : Command) (left left' : Option (List ℕ)) (held held' bytes : List ℕ) (stop : Status)
         → IsCleanStop command left left' (Some held) (Some held') bytes stop → (IsFinished stop → ⊥)
