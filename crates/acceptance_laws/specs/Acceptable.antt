@@ -1,5 +1,5 @@
 -- Which texts are accepted, in the words of the grammar, of typing and of the limits. Nothing here speaks of failures or of their
--- order. Read it from the end: `IsAcceptedAs`, then `IsAcceptable`, `IsAcceptableLens` and `IsAcceptableType`.
+-- order. Read it from the end: `IsAcceptedAs`, `IsAcceptable`, then `IsAcceptableLens` and `IsAcceptableType`.
 use Rattle.std.specs.Prelude.{◌≡◌, ◌≤◌, IsTrue, ℕ, List, [], length}
 use Rattle.std.specs.List.{All}
 use Rattle.doc_values.specs.Types.{TyTree, height, highest, is_well_formed}
@@ -53,7 +53,7 @@ pub record IsAcceptableType (t : TyTree) : Type 0 where
   pub low : IsLow t
   pub well_formed : IsTrue (is_well_formed t)
 
--- A lens is acceptable: its form has at most 4,096 parts, the heights of the form and of all types in it are at most 32, and the
+-- A lens is acceptable. Its form has at most 4,096 parts, and the heights of the form and of all types in it are at most 32. The
 -- form is typed, from its left type to its right type.
 pub record IsAcceptableLens (f : FormTree) : Type 0 where
   pub small : form_parts f ≤ most_parts
@@ -74,7 +74,7 @@ pub record IsAcceptable (program : ProgramTree) : Type 0 where
   pub definitions : All (λ definition. IsAcceptableMeaning definition.1) (all_known [] program.definitions)
   pub main : IsAcceptableLens (main_form program)
 
--- The text is accepted as this form: it has at most 65,536 bytes, the grammar has it as a program, its names have no fault, the
+-- The text is accepted as this form. It has at most 65,536 bytes, the grammar has it as a program, and its names have no fault. The
 -- program is acceptable, and the form is that of its main lens, all names expanded.
 pub record IsAcceptedAs (text : List ℕ) (form : FormTree) : Type 0 where
   pub program : ProgramTree

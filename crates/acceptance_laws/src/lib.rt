@@ -1,7 +1,8 @@
 //! Acceptance is typing, both ways.
 //!
-//! The checker stops at the first failure, in a fixed order. [`acceptance_is_typing`] says which texts it accepts, without
-//! failures and their order: `IsAcceptedAs` in specs/Acceptable.antt. Each function here does nothing: its clauses are the law.
+//! The checker stops at the first failure, in a fixed order. [`acceptance_is_typing`] says which texts it accepts, and speaks of
+//! no failure and no order. The definition is `IsAcceptedAs` in specs/Acceptable.antt; docs/TYPING.md has the rules in words.
+//! Each function here does nothing: its clauses are the law.
 #![tactic(auto)]
 
 ghost use Rattle.std.specs.Prelude.{◌≡◌, ℕ, List, Ok, Err, None};
@@ -20,9 +21,10 @@ pub fn no_failure_is_typing()
     ensures all_acceptable { (program : ProgramTree) → IsAcceptable program → first_failure program ≡ None }
 {}
 
-/// A text is accepted if and only if the grammar has it as a program of at most 65,536 bytes, whose names have no fault, and each
-/// definition in it, used or not, and its main lens are within the limits and typed. Its form is that of the main lens, all
-/// names expanded.
+/// A text is accepted if and only if it is a program that keeps the limits and is typed, definition by definition.
+///
+/// It has at most 65,536 bytes, the grammar has it as a program, and its names have no fault. Each definition in it, used or
+/// not, and its main lens are within the limits and typed. Its form is that of the main lens, all names expanded.
 ///
 /// - `only_typed`: a text that is accepted is so.
 /// - `all_typed`: a text that is so is accepted, with this form.

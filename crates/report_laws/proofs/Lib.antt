@@ -1,0 +1,4 @@
+pub mod GoingOn
+pub mod ReportsGoOn
+pub mod RunsGoOn
+pub mod StopsGoOn

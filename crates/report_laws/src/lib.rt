@@ -1,0 +1,57 @@
+//! What a command writes before the end of its input is the beginning of the report of that input, whatever bytes follow.
+//!
+//! A call may stop in the middle: the source or the sink fails, memory runs out, or the input is too long. The contract of the
+//! call says that the answers to the first lines of the journal were written. The laws here compare them with the report of
+//! every input that begins with the bytes that were taken. Each function does nothing: its clauses are the laws.
+#![tactic(auto)]
+
+ghost use Rattle.std.specs.Prelude.{◌≡◌, ◌++◌, ℕ, List, [], Some, Err, true};
+ghost use Rattle.std.specs.declared.option.Option.{Option};
+ghost use Rattle.std.specs.Io.KnownBytes.{IsAtEnd};
+ghost use Rattle.accepted_programs.specs.Program.{Refusal, lens_of};
+ghost use Rattle.script_parts.specs.Coming.{has_separator, journal_lines};
+ghost use Rattle.script_parts.specs.Lines.{program_part, journal};
+ghost use Rattle.editlens_main.specs.Ends.{AnswersSome, IsCleanStop, IsFinished};
+ghost use Rattle.editlens_main.specs.Report.{report, refusal_line};
+ghost use Rattle.editlens_main.specs.declared.commands.Command.{Command};
+ghost use Rattle.editlens_main.specs.declared.status.Status.{Status};
+ghost use Rattle.editlens_main.specs.declared.status.Status.TheVariants.{ProgramRefused};
+ghost use Rattle.report_laws.specs.Beginnings.{BeginsWith, WritesBeginning};
+
+/// What is known of a script stays so, whatever bytes follow.
+///
+/// - `part`: once the separator has come, the program part stays as it is.
+/// - `lines`: the lines of the journal that an LF has ended are the first lines of the journal.
+pub fn a_script_goes_on()
+    ensures part { (bytes more : List ℕ) → has_separator bytes ≡ true → program_part (bytes ++ more) ≡ program_part bytes }
+    ensures lines { (bytes more : List ℕ) → BeginsWith (journal (bytes ++ more)) (journal_lines bytes) }
+{}
+
+/// The answers to the first lines of the journal that have ended are the beginning of the report of every input that begins
+/// with these bytes.
+///
+/// It is so for each command, whether the separator has come or not and whether the program part is accepted or refused.
+pub fn answers_come_first()
+    ensures { (command : Command) (bytes text : List ℕ) → AnswersSome command bytes text
+        → (more whole : List ℕ) (status : Status) → report command (bytes ++ more) ≡ Some (whole, status)
+        → BeginsWith whole text }
+{}
+
+/// Once the separator has come, the report of a program part that is refused is the line of the refusal, whatever bytes follow.
+pub fn a_refusal_stays()
+    ensures { (command : Command) (bytes : List ℕ) (refusal : Refusal) → has_separator bytes ≡ true
+        → lens_of (program_part bytes) ≡ Err refusal
+        → (more : List ℕ) → report command (bytes ++ more) ≡ Some (refusal_line refusal, ProgramRefused) }
+{}
+
+/// What a call has written when it stops is the beginning of the report of its whole input.
+///
+/// The whole input is any that begins with the bytes that were taken; if the source is at its end, it is these bytes. The law is
+/// of each status that stops a call, and of whatever part of its text a sink that failed has taken. If it is not known what the
+/// source has left, the law is of the bytes that were taken alone.
+pub fn a_stop_writes_a_beginning()
+    ensures { (command : Command) (left left' : Option (List ℕ)) (held held' bytes : List ℕ) (stop : Status)
+        → IsCleanStop command left left' (Some held) (Some held') bytes stop → (IsFinished stop → ⊥)
+        → (more whole : List ℕ) (status : Status) → (IsAtEnd left' → more ≡ [])
+        → report command (bytes ++ more) ≡ Some (whole, status) → WritesBeginning held held' whole }
+{}
