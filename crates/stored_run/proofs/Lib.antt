@@ -1,0 +1,15 @@
+pub mod Outcomes
+pub mod Moments
+pub mod Effects
+pub mod RunParts
+pub mod AnsweredLines
+pub mod OkLineCounts
+pub mod CrashSafety
+pub mod Ends
+pub mod Standing
+pub mod StoredPayloads
+pub mod Decimals
+pub mod RefusalEnds
+pub mod ApplyCalls
+pub mod PackCalls
+pub mod Causes

@@ -1,0 +1,82 @@
+use Rattle.std.proofs.Common.{◌≡◌, inl, ℕ, List, Some, Err, ap, sym, subst, ◌∙◌}
+use Rattle.gate_log.specs.LogOnDisk.{LogState, HoldsPayloads, Stands}
+use Rattle.stored_run.specs.PackCall.{PacksCall, IsSafePack}
+use Rattle.gate_log.specs.declared.fault.LogFault.{LogFault}
+use Rattle.stored_run.proofs.Causes.{increased_since}
+use Rattle.stored_run.proofs.ApplyCalls.{at_some}
+use Rattle.stored_run.proofs.PackCalls.{safe_kept, safe_after}
+use Rattle.stored_run.proofs.StoredPayloads.{images_held, reads_held}
+use Rattle.stored_run.proofs.RefusalEnds.{at_log_disk, at_log_unfinished}
+use Rattle.stored_run.proofs.pack_call.pack_log.Goals as goal
+
+pub returns-in-Ok-clause-packs : goal.returns-in-Ok-clause-packs
+returns-in-Ok-clause-packs g c =
+    let disk = g.D.Disk in
+    let held = g.K.Sink.held in
+    let a = g.A.StoredSession in
+    let only = g.met.D.Disk.only_now in
+    let hold = images_held disk.content disk.images g.met.D.Disk.content_is_image in
+    let reads = reads_held disk.content disk.images in
+    let laws = g.met.A.StoredSession in
+    let k = c.args.sink.now in
+    let d = c.args.disk.now in
+    let l = c.args.log.now in
+    let d1 = c.payloads.new.disk in
+    let k' = c.pack_payloads.new.sink in
+    let d' = c.pack_payloads.new.disk in
+    let read = c.in-Ok.payloads in
+    λ before bytes t version told st h f.
+    let same : read ≡ before = at_some (disk.content d) bytes (c.in-Ok.payloads ≡ before) told (c.in-Ok.ensures.payloads before st) in
+    let st1 = subst (λ (x : List (List ℕ)). Stands (disk.content d1) (disk.images d1) l x) (sym same) (c.in-Ok.ensures.stands before st) in
+    let h1 = subst (λ (x : List (List ℕ)). a.stands_for x ≡ Ok (t, version)) (sym same) h in
+    subst (λ (x : List (List ℕ)). PacksCall held disk.content disk.images disk.moment disk.images_since a.snapshot_of a.packed_text a.stands_for k k' d' x t version) same (c.pack_payloads.ensures.packs t version st1 h1 f)
+
+pub returns-in-Ok-clause-safe : goal.returns-in-Ok-clause-safe
+returns-in-Ok-clause-safe g c =
+    let disk = g.D.Disk in
+    let held = g.K.Sink.held in
+    let a = g.A.StoredSession in
+    let only = g.met.D.Disk.only_now in
+    let hold = images_held disk.content disk.images g.met.D.Disk.content_is_image in
+    let reads = reads_held disk.content disk.images in
+    let laws = g.met.A.StoredSession in
+    let k = c.args.sink.now in
+    let d = c.args.disk.now in
+    let l = c.args.log.now in
+    let d1 = c.payloads.new.disk in
+    let k' = c.pack_payloads.new.sink in
+    let d' = c.pack_payloads.new.disk in
+    let read = c.in-Ok.payloads in
+    λ before bytes t version told st h.
+    let same : read ≡ before = at_some (disk.content d) bytes (c.in-Ok.payloads ≡ before) told (c.in-Ok.ensures.payloads before st) in
+    let st1 = subst (λ (x : List (List ℕ)). Stands (disk.content d1) (disk.images d1) l x) (sym same) (c.in-Ok.ensures.stands before st) in
+    let h1 = subst (λ (x : List (List ℕ)). a.stands_for x ≡ Ok (t, version)) (sym same) h in
+    safe_after held disk.content disk.images disk.moment disk.images_since hold a.snapshot_of a.packed_text a.stands_for reads laws.version_stands laws.snapshot_stands d d' before t version h (HoldsPayloads before) (HoldsPayloads before) d1 (λ x p. inl p) (c.in-Ok.ensures.moments before st)
+    (subst (λ (x : List (List ℕ)). IsSafePack held disk.content disk.images disk.moment disk.images_since a.snapshot_of a.packed_text a.stands_for (HoldsPayloads x) d1 d' x t version) same (c.pack_payloads.ensures.safe t version st1 h1))
+
+pub returns-in-Err-clause-packs : goal.returns-in-Err-clause-packs
+returns-in-Err-clause-packs g c = λ before bytes t version told st h f. absurd (at_log_unfinished (g.K.Sink.held c.args.sink.now) (g.K.Sink.held c.refuse_log.new.sink) c.refuse_log.result c.in-Err.fault c.refuse_log.ensures.ends f)
+
+pub returns-in-Err-clause-safe : goal.returns-in-Err-clause-safe
+returns-in-Err-clause-safe g c =
+    let disk = g.D.Disk in
+    let held = g.K.Sink.held in
+    let a = g.A.StoredSession in
+    let only = g.met.D.Disk.only_now in
+    let hold = images_held disk.content disk.images g.met.D.Disk.content_is_image in
+    let reads = reads_held disk.content disk.images in
+    let laws = g.met.A.StoredSession in
+    let k = c.args.sink.now in
+    let d = c.args.disk.now in
+    let l = c.args.log.now in
+    let d1 = c.payloads.new.disk in
+    λ before bytes t version told st h.
+    safe_kept held disk.content disk.images disk.moment disk.images_since hold a.snapshot_of a.packed_text a.stands_for reads laws.version_stands laws.snapshot_stands d d1 before t version h (HoldsPayloads before) (λ x now. hold l d1 before x (c.in-Err.ensures.stands before st) now) (c.in-Err.ensures.moments before st)
+
+pub returns-in-Ok-clause-disk_fault : goal.returns-in-Ok-clause-disk_fault
+returns-in-Ok-clause-disk_fault g c =
+    let faults = g.D.Disk.faults in
+    λ e. increased_since (faults c.args.disk.now) (faults c.payloads.new.disk) (faults c.pack_payloads.new.disk) c.in-Ok.ensures.faults (c.pack_payloads.ensures.disk_fault e)
+
+pub returns-in-Err-clause-disk_fault : goal.returns-in-Err-clause-disk_fault
+returns-in-Err-clause-disk_fault g c = λ e. c.in-Err.ensures.cause (ap (λ (x : LogFault). Err x) (at_log_disk (g.K.Sink.held c.args.sink.now) (g.K.Sink.held c.refuse_log.new.sink) c.refuse_log.result c.in-Err.fault c.refuse_log.ensures.ends e))

@@ -1,0 +1,73 @@
+use Rattle.std.proofs.Common.{ℕ, List, Option, sym, subst, ◌∙◌}
+use Rattle.std.proofs.lemmas.Option.{same_Some}
+use Rattle.gate_log.specs.LogOnDisk.{LogState, HoldsPayloads, Stands}
+use Rattle.stored_run.specs.PackCall.{PacksCall, IsSafePack}
+use Rattle.stored_run.proofs.Moments.{leaves_same}
+use Rattle.stored_run.proofs.PackCalls.{safe_kept}
+use Rattle.stored_run.proofs.StoredPayloads.{images_held, reads_held}
+use Rattle.stored_run.proofs.RefusalEnds.{at_payloads_unfinished}
+use Rattle.stored_run.proofs.pack_call.pack_payloads.Goals as goal
+
+pub returns-in-Ok-clause-packs : goal.returns-in-Ok-clause-packs
+returns-in-Ok-clause-packs g c =
+    let disk = g.D.Disk in
+    let held = g.K.Sink.held in
+    let a = g.A.StoredSession in
+    let only = g.met.D.Disk.only_now in
+    let hold = images_held disk.content disk.images g.met.D.Disk.content_is_image in
+    let reads = reads_held disk.content disk.images in
+    let laws = g.met.A.StoredSession in
+    let k = c.args.sink.now in
+    let d = c.args.disk.now in
+    let l = c.args.log.now in
+    let before = c.args.payloads.now in
+    let opened = c.in-Ok.opened in
+    let k' = c.pack_session.new.sink in
+    let d' = c.pack_session.new.disk in
+    let one : a.State × Option (List ℕ) = (a.state opened.session, opened.version) in
+    λ t version st h f.
+    let other : a.State × Option (List ℕ) = (t, version) in
+    subst (λ (x : a.State × Option (List ℕ)). PacksCall held disk.content disk.images disk.moment disk.images_since a.snapshot_of a.packed_text a.stands_for k k' d' before x.0 x.1) (same_Some one other (sym c.in-Ok.ensures.session ∙ h))
+    (c.pack_session.ensures.packs before st c.in-Ok.ensures.session f)
+
+pub returns-in-Ok-clause-safe : goal.returns-in-Ok-clause-safe
+returns-in-Ok-clause-safe g c =
+    let disk = g.D.Disk in
+    let held = g.K.Sink.held in
+    let a = g.A.StoredSession in
+    let only = g.met.D.Disk.only_now in
+    let hold = images_held disk.content disk.images g.met.D.Disk.content_is_image in
+    let reads = reads_held disk.content disk.images in
+    let laws = g.met.A.StoredSession in
+    let k = c.args.sink.now in
+    let d = c.args.disk.now in
+    let l = c.args.log.now in
+    let before = c.args.payloads.now in
+    let opened = c.in-Ok.opened in
+    let k' = c.pack_session.new.sink in
+    let d' = c.pack_session.new.disk in
+    let one : a.State × Option (List ℕ) = (a.state opened.session, opened.version) in
+    λ t version st h.
+    let other : a.State × Option (List ℕ) = (t, version) in
+    subst (λ (x : a.State × Option (List ℕ)). IsSafePack held disk.content disk.images disk.moment disk.images_since a.snapshot_of a.packed_text a.stands_for (HoldsPayloads before) d d' before x.0 x.1) (same_Some one other (sym c.in-Ok.ensures.session ∙ h))
+    (c.pack_session.ensures.safe before st c.in-Ok.ensures.session)
+
+pub returns-in-Err-clause-packs : goal.returns-in-Err-clause-packs
+returns-in-Err-clause-packs g c = λ t version st h f. absurd (at_payloads_unfinished (g.K.Sink.held c.args.sink.now) (g.K.Sink.held c.refuse_payloads.new.sink) c.refuse_payloads.result c.in-Err.fault c.refuse_payloads.ensures.ends f)
+
+pub returns-in-Err-clause-safe : goal.returns-in-Err-clause-safe
+returns-in-Err-clause-safe g c =
+    let disk = g.D.Disk in
+    let held = g.K.Sink.held in
+    let a = g.A.StoredSession in
+    let only = g.met.D.Disk.only_now in
+    let hold = images_held disk.content disk.images g.met.D.Disk.content_is_image in
+    let reads = reads_held disk.content disk.images in
+    let laws = g.met.A.StoredSession in
+    let k = c.args.sink.now in
+    let d = c.args.disk.now in
+    let l = c.args.log.now in
+    let before = c.args.payloads.now in
+    λ t version st h.
+    safe_kept held disk.content disk.images disk.moment disk.images_since hold a.snapshot_of a.packed_text a.stands_for reads laws.version_stands laws.snapshot_stands d d before t version h (HoldsPayloads before) (λ x now. hold l d before x st now)
+    (leaves_same disk.moment disk.images_since d (HoldsPayloads before) (λ x was. hold l d before x st (only d x was)))

@@ -1,0 +1,188 @@
+//! The command `pack`, from its first call of the disk on.
+ghost use Rattle.std.specs.Prelude.{◌≡◌, ◌⊎◌, ◌∷◌, ◌++◌, [], List, ℕ, Ok, Some, OnOk, IfErr, option_to_list};
+ghost use Rattle.std.specs.declared.option.Option.{Option};
+ghost use Rattle.lens_io.specs.Causes.{Increased};
+ghost use Rattle.gate_log.specs.LogOnDisk.{HoldsPayloads, Stands};
+ghost use Rattle.stored_run.specs.Causes.{Counted, stop_in, SinkFailed};
+ghost use Rattle.stored_run.specs.Effects.{Adds, Stops};
+ghost use Rattle.stored_run.specs.Ends.{IsFinished};
+ghost use Rattle.stored_run.specs.PackCall.{PacksCall, IsSafePack, IsUnpacked};
+
+use crate::refusals::{give_stop, refuse_log, refuse_payloads};
+use crate::session::StoredSession;
+use crate::status::Status;
+use crate::stop::Stop;
+use crate::store::{store_and_answer, store_version};
+use gate_log::{Log, open_log};
+use lens_io::{Disk, Payloads, Sink};
+use std::alloc::Global;
+use texts::Bytes;
+
+/// Opens a store, stores a snapshot of the session for which its payloads stand, and then writes the line of `pack`.
+///
+/// - `packs`: after `Done` the payloads are those from before, the version record if there was one to store, and the snapshot.
+///   They stand for the same state, and the line was written.
+/// - `safe`: whatever the status, an image that a crash leaves holds the payloads from before, or these and the version record,
+///   or these and the snapshot, and each of these lists stands for the same state. If the sync of the opening failed, nothing
+///   has changed.
+/// - `sink_fault`, `disk_fault`: these statuses come only if that device failed.
+pub fn pack<A: StoredSession + Drop, K: Sink, D: Disk>(
+    alloc: Global,
+    sink: &mut K,
+    disk: &mut D,
+) -> Status
+    ensures packs { (before : List (List ℕ)) (bytes : List ℕ) (t : A.State) (version : Option (List ℕ))
+        → D.content disk.old ≡ Some bytes → HoldsPayloads before bytes → A.stands_for before ≡ Ok (t, version)
+        → IsFinished result
+        → PacksCall K.held D.content D.images D.moment D.images_since A.snapshot_of A.packed_text A.stands_for
+        sink.old sink.new disk.new before t version }
+    ensures safe { (before : List (List ℕ)) (bytes : List ℕ) (t : A.State) (version : Option (List ℕ))
+        → D.content disk.old ≡ Some bytes → HoldsPayloads before bytes → A.stands_for before ≡ Ok (t, version)
+        → (result ≡ Status.DiskFault)
+        × IsUnpacked K.held D.content D.images D.moment D.images_since A.snapshot_of A.packed_text A.stands_for
+        sink.old disk.old sink.new disk.new
+        ⊎ IsSafePack K.held D.content D.images D.moment D.images_since A.snapshot_of A.packed_text A.stands_for
+        (D.images disk.old) disk.old disk.new before t version }
+    ensures sink_fault { result ≡ Status.SinkFault
+        → SinkFailed K.faults K.empty_takes K.room K.held sink.old sink.new }
+    ensures disk_fault { result ≡ Status.DiskFault
+        → Increased (D.faults disk.old) (D.faults disk.new) }
+{
+    match open_log(disk) {
+        Ok(log) => {
+            let mut log = log;
+            pack_log::<A, K, D>(alloc, &mut log, sink, disk)
+        }
+        Err(fault) => refuse_log(alloc, fault, sink),
+    }
+}
+
+// Packs a store whose log was opened.
+fn pack_log<A: StoredSession + Drop, K: Sink, D: Disk>(
+    alloc: Global,
+    log: &mut Log,
+    sink: &mut K,
+    disk: &mut D,
+) -> Status
+    requires stands { (base : List (List ℕ))
+        × Stands (D.content disk.old) (D.images disk.old) log.old base }
+    ensures packs { (before : List (List ℕ)) (bytes : List ℕ) (t : A.State) (version : Option (List ℕ))
+        → D.content disk.old ≡ Some bytes → Stands (D.content disk.old) (D.images disk.old) log.old before
+        → A.stands_for before ≡ Ok (t, version) → IsFinished result
+        → PacksCall K.held D.content D.images D.moment D.images_since A.snapshot_of A.packed_text A.stands_for
+        sink.old sink.new disk.new before t version }
+    ensures safe { (before : List (List ℕ)) (bytes : List ℕ) (t : A.State) (version : Option (List ℕ))
+        → D.content disk.old ≡ Some bytes → Stands (D.content disk.old) (D.images disk.old) log.old before
+        → A.stands_for before ≡ Ok (t, version)
+        → IsSafePack K.held D.content D.images D.moment D.images_since A.snapshot_of A.packed_text A.stands_for
+        (HoldsPayloads before) disk.old disk.new before t version }
+    ensures sink_fault { result ≡ Status.SinkFault
+        → SinkFailed K.faults K.empty_takes K.room K.held sink.old sink.new }
+    ensures disk_fault { result ≡ Status.DiskFault
+        → Increased (D.faults disk.old) (D.faults disk.new) }
+{
+    match log.payloads(alloc, disk) {
+        Ok(payloads) => pack_payloads::<A, K, D>(alloc, log, &payloads, sink, disk),
+        Err(fault) => refuse_log(alloc, fault, sink),
+    }
+}
+
+// Packs a store of these payloads.
+fn pack_payloads<A: StoredSession + Drop, K: Sink, D: Disk>(
+    alloc: Global,
+    log: &mut Log,
+    payloads: &Payloads,
+    sink: &mut K,
+    disk: &mut D,
+) -> Status
+    requires stands { (base : List (List ℕ))
+        × Stands (D.content disk.old) (D.images disk.old) log.old base }
+    ensures packs { (t : A.State) (version : Option (List ℕ))
+        → Stands (D.content disk.old) (D.images disk.old) log.old payloads.now
+        → A.stands_for payloads.now ≡ Ok (t, version) → IsFinished result
+        → PacksCall K.held D.content D.images D.moment D.images_since A.snapshot_of A.packed_text A.stands_for
+        sink.old sink.new disk.new payloads.now t version }
+    ensures safe { (t : A.State) (version : Option (List ℕ))
+        → Stands (D.content disk.old) (D.images disk.old) log.old payloads.now
+        → A.stands_for payloads.now ≡ Ok (t, version)
+        → IsSafePack K.held D.content D.images D.moment D.images_since A.snapshot_of A.packed_text A.stands_for
+        (HoldsPayloads payloads.now) disk.old disk.new payloads.now t version }
+    ensures sink_fault { result ≡ Status.SinkFault
+        → SinkFailed K.faults K.empty_takes K.room K.held sink.old sink.new }
+    ensures disk_fault { result ≡ Status.DiskFault
+        → Increased (D.faults disk.old) (D.faults disk.new) }
+{
+    match A::reopen(alloc, payloads) {
+        Ok(opened) => pack_session(alloc, &opened.session, &opened.version, log, sink, disk),
+        Err(fault) => refuse_payloads(alloc, fault, sink),
+    }
+}
+
+// Packs a store that was opened. Its payload and its line are made before anything is stored.
+fn pack_session<A: StoredSession, K: Sink, D: Disk>(
+    alloc: Global,
+    session: &A,
+    version: &Option<Bytes>,
+    log: &mut Log,
+    sink: &mut K,
+    disk: &mut D,
+) -> Status
+    requires stands { (base : List (List ℕ))
+        × Stands (D.content disk.old) (D.images disk.old) log.old base }
+    ensures packs { (before : List (List ℕ))
+        → Stands (D.content disk.old) (D.images disk.old) log.old before
+        → A.stands_for before ≡ Ok (A.state session.now, version.now) → IsFinished result
+        → PacksCall K.held D.content D.images D.moment D.images_since A.snapshot_of A.packed_text A.stands_for
+        sink.old sink.new disk.new before (A.state session.now) version.now }
+    ensures safe { (before : List (List ℕ))
+        → Stands (D.content disk.old) (D.images disk.old) log.old before
+        → A.stands_for before ≡ Ok (A.state session.now, version.now)
+        → IsSafePack K.held D.content D.images D.moment D.images_since A.snapshot_of A.packed_text A.stands_for
+        (HoldsPayloads before) disk.old disk.new before (A.state session.now) version.now }
+    ensures sink_fault { result ≡ Status.SinkFault
+        → SinkFailed K.faults K.empty_takes K.room K.held sink.old sink.new }
+    ensures disk_fault { result ≡ Status.DiskFault
+        → Increased (D.faults disk.old) (D.faults disk.new) }
+{
+    let Ok(packing) = session.packing(alloc) else {
+        return Status::NoMemory;
+    };
+    let snapshot = packing.snapshot.as_slice();
+    let line = packing.line.as_slice();
+    match pack_store(alloc, log, disk, sink, version, snapshot, line) {
+        Ok(()) => Status::Done,
+        Err(stop) => give_stop(stop, sink),
+    }
+}
+
+/// Stores the version record, if there is one to store, then the snapshot, and then writes the line of `pack`.
+///
+/// The errors are those of [`store_and_answer`]. They come at the version record or at the snapshot.
+pub fn pack_store<K: Sink, D: Disk>(
+    alloc: Global,
+    log: &mut Log,
+    disk: &mut D,
+    sink: &mut K,
+    version: &Option<Bytes>,
+    snapshot: &[u8],
+    line: &[u8],
+) -> Result<(), Stop>
+    requires stands { (base : List (List ℕ))
+        × Stands (D.content disk.old) (D.images disk.old) log.old base }
+    ensures packed { OnOk result
+        (Adds K.held D.content D.images D.moment D.images_since
+        sink.old disk.old log.old sink.new disk.new log.new
+        line.now (option_to_list version.now ++ snapshot.now ∷ [])) }
+    ensures stopped { IfErr result (λ stop.
+        Stops K.held D.content D.images D.moment D.images_since
+        sink.old disk.old log.old sink.new disk.new log.new
+        stop [] [] [] (option_to_list version.now)
+        ⊎ Stops K.held D.content D.images D.moment D.images_since
+        sink.old disk.old log.old sink.new disk.new log.new
+        stop [] line.now (option_to_list version.now) (snapshot.now ∷ [])) }
+    ensures counted { Counted K.faults K.empty_takes K.room K.held D.faults
+        sink.old disk.old sink.new disk.new (stop_in result) }
+{
+    store_version(alloc, log, disk, sink, version)?;
+    store_and_answer(alloc, log, disk, sink, snapshot, line)
+}
