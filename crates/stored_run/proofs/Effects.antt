@@ -198,6 +198,13 @@ module _ {K D : Type 0} (held : K → Option (List ℕ)) (content : D → Option
   line_stopped (Err stop) k k' d d' l l' line kept a h =
       subst (λ (s : Stop). Stops held content images moment images_since k d l k' d' l' s [] line [] kept) (sym h.0) (stored_line_stops k k' d d' l l' line kept a h.1)
 
+  -- the line of a refused item
+  pub line_answered : (r : Result (Unit {0}) Stop) (k k' : K) (d : D) (l : LogState) (line : List ℕ) (payload : Option (List ℕ)) → payload ≡ None
+      → OnOk r (Appends (held k) (held k') line) → OnOk r (Adds held content images moment images_since k d l k' d l line (option_to_list payload))
+  line_answered (Ok u) k k' d l line payload e h =
+      subst (λ (o : Option (List ℕ)). Adds held content images moment images_since k d l k' d l line (option_to_list o)) (sym e) (adds_given k k' d l line h)
+  line_answered (Err stop) k k' d l line payload e h = tt
+
   -- the sink at the line of a refused item
   pub line_refused : (r : Result (Unit {0}) Stop) (k k' : K) (d : D) (l : LogState) (line : List ℕ) (payload : Option (List ℕ)) → payload ≡ None
       → IfErr r (λ stop. (stop ≡ SinkFault) × AppendsFront (held k) (held k') line)

@@ -1,5 +1,5 @@
 -- The end of a command by a refusal: it writes no `ok` line, and is not one of a command that came to its end.
-use Rattle.std.proofs.Common.{◌≡◌, ◌⊎◌, inl, inr, ℕ, List, [], ◌∷◌, ◌++◌, take, Option, refl, sym, append-nil}
+use Rattle.std.proofs.Common.{◌≡◌, ◌⊎◌, inl, inr, ℕ, List, [], ◌∷◌, ◌++◌, take, Option, refl, sym, append-nil, ap, subst, ◌∙◌}
 use Rattle.std.specs.Prelude.{codes, decimal}
 use Rattle.std.specs.Io.KnownBytes.{Appends}
 use Rattle.lens_io.specs.Content.{AppendsFront}
@@ -31,6 +31,12 @@ refusal_other (NotConsistent n) =
 -- these bytes were written, and no `ok` line among them
 abbrev pub GivesOther : Option (List ℕ) → Option (List ℕ) → Type 0
 GivesOther old new = (given : List ℕ) × (ok_lines given ≡ 0) × Appends old new given
+
+-- a line was written that is the one of this refusal, or a prefix of it
+pub refuses_given : (old new : Option (List ℕ)) (line : List ℕ) (r r' : StoreRefusal) (status : Status) → line ≡ refusal_line r → r' ≡ r
+    → (status ≡ ending.StoreRefused) × Appends old new line ⊎ (status ≡ ending.SinkFault) × AppendsFront old new line → Refuses old new r' status
+refuses_given old new line r r' status e is (inl h) = inl (h.0, subst (Appends old new) (e ∙ ap refusal_line (sym is)) h.1)
+refuses_given old new line r r' status e is (inr h) = inr (inl (h.0, subst (λ (x : List ℕ). AppendsFront old new x) (e ∙ ap refusal_line (sym is)) h.1))
 
 module _ (old new : Option (List ℕ)) (status : Status) where
   -- ---- one refusal

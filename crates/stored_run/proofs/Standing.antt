@@ -1,5 +1,5 @@
 -- The payloads that a run keeps stand for its triples.
-use Rattle.std.proofs.Common.{◌≡◌, ℕ, List, [], ◌∷◌, ◌++◌, Option, Some, None, refl, sym, ap, subst, ◌∙◌, append_assoc, append-nil}
+use Rattle.std.proofs.Common.{◌≡◌, ℕ, List, [], ◌∷◌, ◌++◌, Option, Some, None, refl, sym, ap, subst, ◌∙◌, append_assoc, append-nil, Result, Ok}
 use Rattle.std.specs.Prelude.{option_to_list}
 use Rattle.edit_journal.specs.declared.line.Line.{Line}
 use Rattle.stored_run.specs.Runs.{AreSteps, last, kept_of}

@@ -1,4 +1,5 @@
 -- What answering some lines of a journal comes to: for the session, the sink, the disk and the log.
+-- Read it from the end: `EndsPieces` and `StopsPieces`, then `StopsAmong` and `Answers`; `ComesOn` is for the loop.
 use Rattle.std.specs.Prelude.{◌≡◌, ℕ, ◌+◌, ◌^◌, ◌<◌, ◌≤◌, List, [], ◌++◌, length, ◌||◌, Option}
 use Rattle.std.specs.Io.KnownBytes.{Consumes, IsAtEnd}
 use Rattle.edit_journal.specs.Pieces.{nothing_fed, fed}
@@ -18,9 +19,10 @@ ended_lines bytes = (fed nothing_fed bytes).ended
 
 module _ {K D State : Type 0} (held : K → Option (List ℕ)) (content : D → Option (List ℕ)) (images : D → List ℕ → Type 0)
     (moment : D → ℕ) (images_since : D → ℕ → List ℕ → Type 0) (answer : State → ℕ → Line → Option (State × Answer)) where
-  -- These lines were answered: the steps of the run over them are known, their answer lines were given in order, and the payloads of the
-  -- changes that were accepted are stored behind those from before.
-  pub record Answers (k : K) (d : D) (l : LogState) (k' : K) (d' : D) (l' : LogState) (t : State) (p : Progress) (lines : List Line) (t' : State) (p' : Progress) : Type 0 where
+  -- These lines were answered, by these steps of the run. Their answer lines were written in order, and the payloads of the changes that
+  -- were accepted are stored behind those from before.
+  pub record Answers (k : K) (d : D) (l : LogState) (k' : K) (d' : D) (l' : LogState)
+      (t : State) (p : Progress) (lines : List Line) (t' : State) (p' : Progress) : Type 0 where
     pub steps : List (State × Answer)
     pub goes : GoesOver answer t p.number lines steps t' p'.number
     pub at_last : last t steps ≡ t'
@@ -29,8 +31,9 @@ module _ {K D State : Type 0} (held : K → Option (List ℕ)) (content : D → 
     pub refused : p'.refused ≡ (p.refused || any_refused steps)
     pub adds : Adds held content images moment images_since k d l k' d' l' (text_of steps) (kept_of steps)
 
-  -- The answering of these lines stopped: the lines up to one of them were handled; the answer to the last one of these may have been begun.
-  pub record StopsAmong (k : K) (d : D) (l : LogState) (k' : K) (d' : D) (l' : LogState) (t : State) (n : ℕ) (among : List Line) (stop : Stop) : Type 0 where
+  -- The answering of these lines stopped. The first ones were handled: of their steps all are done but the last one, which may be begun.
+  pub record StopsAmong (k : K) (d : D) (l : LogState) (k' : K) (d' : D) (l' : LogState)
+      (t : State) (n : ℕ) (among : List Line) (stop : Stop) : Type 0 where
     pub lines : List Line
     pub rest : List Line
     pub parts : among ≡ lines ++ rest
@@ -43,7 +46,8 @@ module _ {K D State : Type 0} (held : K → Option (List ℕ)) (content : D → 
     pub few : length begun ≤ 1
     pub are_done : AreAnswers done
     pub are_begun : AreAnswers begun
-    pub stops : Stops held content images moment images_since k d l k' d' l' stop (text_of done) (text_of begun) (kept_of done) (kept_of begun)
+    pub stops : Stops held content images moment images_since k d l k' d' l' stop
+        (text_of done) (text_of begun) (kept_of done) (kept_of begun)
 
   -- after a fault of the source, and too many bytes, all lines that have ended are answered
   abbrev pub AllAt : Stop → ℕ → List Line → Type 0
@@ -51,16 +55,18 @@ module _ {K D State : Type 0} (held : K → Option (List ℕ)) (content : D → 
   AllAt TooLong taken rest = (rest ≡ []) × (2 ^ 30 < taken)
   AllAt stop taken rest = Unit {0}
 
-  -- Answering a journal that comes in pieces stopped. Of the lines that have ended in the bytes taken some are answered, as above.
-  pub record StopsPieces (left left' : Option (List ℕ)) (k : K) (d : D) (l : LogState) (k' : K) (d' : D) (l' : LogState) (t : State) (n : ℕ) (stop : Stop) : Type 0 where
+  -- The answering of a journal that comes in pieces stopped, among the lines that have ended in these bytes.
+  pub record StopsPieces (left left' : Option (List ℕ)) (k : K) (d : D) (l : LogState) (k' : K) (d' : D) (l' : LogState)
+      (t : State) (n : ℕ) (stop : Stop) : Type 0 where
     pub bytes : List ℕ
     pub consumes : Consumes left left' bytes
     pub at_most : length bytes ≤ 2 ^ 30 + 1
     pub among : StopsAmong k d l k' d' l' t n (ended_lines bytes) stop
     pub all : AllAt stop (length bytes) among.rest
 
-  -- A journal that comes in pieces came to its end: all lines that have ended are answered, and the input has the last one.
-  pub record EndsPieces (left left' : Option (List ℕ)) (input : TakenInput) (k : K) (d : D) (l : LogState) (k' : K) (d' : D) (l' : LogState) (t : State) (p : Progress) (t' : State) (p' : Progress) : Type 0 where
+  -- A journal that comes in pieces came to its end. All lines that have ended are answered, and the input has the last one.
+  pub record EndsPieces (left left' : Option (List ℕ)) (input : TakenInput) (k : K) (d : D) (l : LogState) (k' : K) (d' : D) (l' : LogState)
+      (t : State) (p : Progress) (t' : State) (p' : Progress) : Type 0 where
     pub bytes : List ℕ
     pub consumes : Consumes left left' bytes
     pub at_end : IsAtEnd left'
@@ -69,8 +75,10 @@ module _ {K D State : Type 0} (held : K → Option (List ℕ)) (content : D → 
     pub begun : (fed nothing_fed bytes).begun ≡ input.lines.begun
     pub answers : Answers k d l k' d' l' t p (ended_lines bytes) t' p'
 
-  -- The answering as it goes on: these bytes were taken, some of the lines that have ended in them are answered, and the input holds the others.
-  pub record ComesOn (left left' : Option (List ℕ)) (input : TakenInput) (k : K) (d : D) (l : LogState) (k' : K) (d' : D) (l' : LogState) (t : State) (p : Progress) (t' : State) (p' : Progress) : Type 0 where
+  -- The answering as it goes on. These bytes were taken, some of the lines that have ended in them are answered, and the input has
+  -- the others.
+  pub record ComesOn (left left' : Option (List ℕ)) (input : TakenInput) (k : K) (d : D) (l : LogState) (k' : K) (d' : D) (l' : LogState)
+      (t : State) (p : Progress) (t' : State) (p' : Progress) : Type 0 where
     pub bytes : List ℕ
     pub consumes : Consumes left left' bytes
     pub count : input.taken ≡ length bytes

@@ -1,4 +1,4 @@
--- How `apply` ends over a store that was opened, and what holds then. Read it from the end: `Exits`, then `Continues`.
+-- How `apply` ends over a session that was opened, and what holds then. Read it from the end: `IsSafeFrom`, `Exits`, then `Continues`.
 use Rattle.std.specs.Prelude.{◌≡◌, ◌⊎◌, ℕ, ◌^◌, ◌≤◌, List, [], ◌∷◌, ◌++◌, length, Bool, true, false, Some, Option, codes}
 use Rattle.std.specs.Io.KnownBytes.{Appends, Consumes, IsAtEnd}
 use Rattle.lens_io.specs.Content.{AppendsFront}
@@ -21,11 +21,11 @@ use Rattle.stored_run.specs.declared.status.Status.TheVariants as ending
 use Rattle.stored_run.specs.declared.stop.Stop.{Stop}
 use Rattle.stored_run.specs.declared.stop.Stop.TheVariants.{LogFull, SourceFault, SinkFault, DiskFault, TooLong, NoMemory}
 
--- the line that is given where the log is full
+-- the line that is written if the log is full
 abbrev pub log_full_line : List ℕ
 log_full_line = refusal_line refusing.LogFull
 
--- what is given behind a stop
+-- what is written behind a stop
 abbrev pub said_at : Stop → List ℕ
 said_at LogFull = log_full_line
 said_at stop = []
@@ -57,20 +57,25 @@ module _ {K D State : Type 0} (held : K → Option (List ℕ)) (content : D → 
     pub adds : Adds held content images moment images_since k d l k d1 l1 [] version
     pub goes_on : P d1 l1
 
-  -- the journal came to its end: all its lines are answered, and their payloads stored behind the version record
-  abbrev pub EndsStored : Option (List ℕ) → Option (List ℕ) → K → D → LogState → K → D → LogState → List (List ℕ) → State → State → Progress → Type 0
+  -- The journal came to its end. All its lines are answered, and their payloads are stored behind the version record.
+  abbrev pub EndsStored : Option (List ℕ) → Option (List ℕ) → K → D → LogState → K → D → LogState
+      → List (List ℕ) → State → State → Progress → Type 0
   EndsStored left left' k d l k' d' l' version t t' p' =
-      AfterVersion k d l version (λ d1 l1. EndsJournal held content images moment images_since answer left left' k d1 l1 k' d' l' t (record { number = 0; refused = false }) t' p')
+      AfterVersion k d l version (λ d1 l1. EndsJournal held content images moment images_since answer
+      left left' k d1 l1 k' d' l' t (record { number = 0; refused = false }) t' p')
 
-  -- the answering of the journal stopped, or the storing of the version record before it
+  -- The answering of the journal stopped, or the storing of the version record before it.
   abbrev pub StopsStored : Option (List ℕ) → Option (List ℕ) → K → D → LogState → K → D → LogState → List (List ℕ) → State → Stop → Type 0
   StopsStored left left' k d l k' d' l' version t stop =
       IsOwnStop stop × Consumes left left' [] × Stops held content images moment images_since k d l k' d' l' stop [] [] [] version
-      ⊎ AfterVersion k d l version (λ d1 l1. StopsJournal held content images moment images_since answer left left' k d1 l1 k' d' l' t 0 stop)
+      ⊎ AfterVersion k d l version (λ d1 l1. StopsJournal held content images moment images_since answer
+      left left' k d1 l1 k' d' l' t 0 stop)
 
-  -- The source was read to its end, and gave these bytes. Their answer lines and then the state lines of the last triple were given. The
-  -- payloads held are those from before, the version record if there was one to store, and those of the accepted changes, in order.
-  pub record Continues (left left' : Option (List ℕ)) (k : K) (d : D) (l : LogState) (k' : K) (d' : D) (l' : LogState) (version : List (List ℕ)) (state_text : State → List ℕ) (t t' : State) (status : Status) : Type 0 where
+  -- The source was read to its end, and gave these bytes. The answer lines of their run, and then the state lines of its last state, were
+  -- written. The payloads held are those from before, the version record if it was to be stored, and those of the changes that were
+  -- accepted, in order.
+  pub record Continues (left left' : Option (List ℕ)) (k : K) (d : D) (l : LogState) (k' : K) (d' : D) (l' : LogState)
+      (version : List (List ℕ)) (state_text : State → List ℕ) (t t' : State) (status : Status) : Type 0 where
     pub bytes : List ℕ
     pub consumes : Consumes left left' bytes
     pub at_end : IsAtEnd left'
@@ -80,18 +85,22 @@ module _ {K D State : Type 0} (held : K → Option (List ℕ)) (content : D → 
     pub at_last : last t steps ≡ t'
     pub chain : AreSteps answer t steps
     pub given : Appends (held k) (held k') (text_of steps ++ state_text t')
-    pub stored : (base : List (List ℕ)) → Stands (content d) (images d) l base → Stands (content d') (images d') l' ((base ++ version) ++ kept_of steps)
+    pub stored : (base : List (List ℕ)) → Stands (content d) (images d) l base
+        → Stands (content d') (images d') l' ((base ++ version) ++ kept_of steps)
     pub ended : status ≡ end_of (any_refused steps)
 
-  -- The end of the journal was reached, but the state lines were not given whole: memory ran out before them, or the sink failed at them.
-  pub record EndsShort (left left' : Option (List ℕ)) (k : K) (d : D) (l : LogState) (k' : K) (d' : D) (l' : LogState) (version : List (List ℕ)) (state_text : State → List ℕ) (t t' : State) (status : Status) : Type 0 where
+  -- The end of the journal was reached, and not all of the state lines were written: memory ran out before them, or the sink failed.
+  pub record EndsShort (left left' : Option (List ℕ)) (k : K) (d : D) (l : LogState) (k' : K) (d' : D) (l' : LogState)
+      (version : List (List ℕ)) (state_text : State → List ℕ) (t t' : State) (status : Status) : Type 0 where
     pub k1 : K
     pub progress : Progress
     pub ends : EndsStored left left' k d l k1 d' l' version t t' progress
-    pub short : (status ≡ ending.NoMemory) × Appends (held k1) (held k') [] ⊎ (status ≡ ending.SinkFault) × AppendsFront (held k1) (held k') (state_text t')
+    pub short : (status ≡ ending.NoMemory) × Appends (held k1) (held k') []
+        ⊎ (status ≡ ending.SinkFault) × AppendsFront (held k1) (held k') (state_text t')
 
-  -- The call was stopped. Where the log was full, the line that says so was given behind, or a prefix of it and the sink failed.
-  pub record StopsShort (left left' : Option (List ℕ)) (k : K) (d : D) (l : LogState) (k' : K) (d' : D) (l' : LogState) (version : List (List ℕ)) (t : State) (status : Status) : Type 0 where
+  -- The call was stopped. If the log was full, the line that says so was written behind, or a prefix of it, and the sink failed.
+  pub record StopsShort (left left' : Option (List ℕ)) (k : K) (d : D) (l : LogState) (k' : K) (d' : D) (l' : LogState)
+      (version : List (List ℕ)) (t : State) (status : Status) : Type 0 where
     pub k1 : K
     pub stop : Stop
     pub stops : StopsStored left left' k d l k1 d' l' version t stop
@@ -99,16 +108,17 @@ module _ {K D State : Type 0} (held : K → Option (List ℕ)) (content : D → 
         ⊎ (stop ≡ LogFull) × (status ≡ ending.SinkFault) × AppendsFront (held k1) (held k') log_full_line
 
   -- how the call ends
-  abbrev pub Exits : Option (List ℕ) → Option (List ℕ) → K → D → LogState → K → D → LogState → List (List ℕ) → (State → List ℕ) → State → State → Status → Type 0
+  abbrev pub Exits : Option (List ℕ) → Option (List ℕ) → K → D → LogState → K → D → LogState
+      → List (List ℕ) → (State → List ℕ) → State → State → Status → Type 0
   Exits left left' k d l k' d' l' version state_text t t' status =
       Continues left left' k d l k' d' l' version state_text t t' status
       ⊎ EndsShort left left' k d l k' d' l' version state_text t t' status
       ⊎ StopsShort left left' k d l k' d' l' version t status
 
-  -- What a crash leaves. These bytes were taken and given; of the lines taken, the first ones were handled, by these steps of the run. Each
-  -- image that a crash now may leave holds what was acknowledged by the bytes given, with at most one payload more; or, where no `ok` line
-  -- was given, what was held before the version record was stored. Each image of a moment since the start holds the payloads from before
-  -- and the first of those kept, the version record among them.
+  -- What a crash leaves. These bytes were taken, and these were written. Of the lines taken the first ones were handled, by these steps of
+  -- the run. An image that a crash now may leave holds the payloads of the changes whose `ok` lines were written, and at most one more; or,
+  -- if no `ok` line was written, the payloads from before. An image of a moment since the start holds the payloads from before and the
+  -- first of those that follow: the version record, and then those of the changes.
   pub record IsSafeFrom (left left' : Option (List ℕ)) (k : K) (d : D) (l : LogState) (k' : K) (d' : D) (version : List (List ℕ)) (t : State) : Type 0 where
     pub bytes : List ℕ
     pub consumes : Consumes left left' bytes

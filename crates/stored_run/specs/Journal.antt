@@ -1,4 +1,4 @@
--- How the answering of a whole journal ends.
+-- How the answering of a whole journal ends: `EndsJournal` or `StopsJournal`.
 use Rattle.std.specs.Prelude.{◌⊎◌, ℕ, ◌^◌, ◌≤◌, List, length, Option}
 use Rattle.std.specs.Io.KnownBytes.{Consumes, IsAtEnd}
 use Rattle.edit_journal.specs.Pieces.{lines_of}
@@ -13,15 +13,17 @@ use Rattle.stored_run.specs.declared.stop.Stop.{Stop}
 module _ {K D State : Type 0} (held : K → Option (List ℕ)) (content : D → Option (List ℕ)) (images : D → List ℕ → Type 0)
     (moment : D → ℕ) (images_since : D → ℕ → List ℕ → Type 0) (answer : State → ℕ → Line → Option (State × Answer)) where
   -- The source was read to its end, and gave these bytes. All their lines are answered.
-  pub record EndsJournal (left left' : Option (List ℕ)) (k : K) (d : D) (l : LogState) (k' : K) (d' : D) (l' : LogState) (t : State) (p : Progress) (t' : State) (p' : Progress) : Type 0 where
+  pub record EndsJournal (left left' : Option (List ℕ)) (k : K) (d : D) (l : LogState) (k' : K) (d' : D) (l' : LogState)
+      (t : State) (p : Progress) (t' : State) (p' : Progress) : Type 0 where
     pub bytes : List ℕ
     pub consumes : Consumes left left' bytes
     pub at_end : IsAtEnd left'
     pub within : length bytes ≤ 2 ^ 30
     pub answers : Answers held content images moment images_since answer k d l k' d' l' t p (lines_of bytes) t' p'
 
-  -- the source was read to its end, and the answering of its lines stopped at the last one, which no LF ends
-  pub record StopsLast (left left' : Option (List ℕ)) (k : K) (d : D) (l : LogState) (k' : K) (d' : D) (l' : LogState) (t : State) (n : ℕ) (stop : Stop) : Type 0 where
+  -- The source was read to its end, and the answering stopped at the last line, which no LF ends.
+  pub record StopsLast (left left' : Option (List ℕ)) (k : K) (d : D) (l : LogState) (k' : K) (d' : D) (l' : LogState)
+      (t : State) (n : ℕ) (stop : Stop) : Type 0 where
     pub bytes : List ℕ
     pub consumes : Consumes left left' bytes
     pub at_end : IsAtEnd left'

@@ -26,23 +26,23 @@ module _ {State : Type 0} where
   AreAnswers [] = Unit {0}
   AreAnswers (s ∷ steps) = IsAnswer s.1 × AreAnswers steps
 
-  -- the triple after the last step
+  -- the state after the last step
   abbrev pub last : State → List (State × Answer) → State
   last t [] = t
   last t (s ∷ steps) = last s.0 steps
 
 module _ {State : Type 0} (answer : State → ℕ → Line → Option (State × Answer)) where
-  -- for each line that is not blank the triple after it and its answer; so many items were answered before
+  -- for each line that is not blank the state after it and its answer; n items were answered before
   abbrev pub run : State → ℕ → List Line → Option (List (State × Answer))
   run t n [] = Some []
   run t n (line ∷ lines) = if is_blank line then run t n lines
       else option_and_then (λ s. option_map (λ steps. s ∷ steps) (run s.0 (n + 1) lines)) (answer t (n + 1) line)
 
-  -- The run goes over these lines by these steps, whatever lines follow: from the first triple and number to the second.
+  -- The run goes over these lines by these steps, whatever lines follow: from the first state and number to the second.
   abbrev pub GoesOver : State → ℕ → List Line → List (State × Answer) → State → ℕ → Type 0
   GoesOver t n lines steps t' n' = (more : List Line) → run t n (lines ++ more) ≡ option_map (λ rest. steps ++ rest) (run t' n' more)
 
-  -- each step is what some line makes of the triple before it
+  -- each step is what some line makes of the state before it
   abbrev pub AreSteps : State → List (State × Answer) → Type 0
   AreSteps t [] = Unit {0}
   AreSteps t (s ∷ steps) = ((n : ℕ) × (line : Line) × (answer t n line ≡ Some s)) × AreSteps s.0 steps

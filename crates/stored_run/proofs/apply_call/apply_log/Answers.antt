@@ -1,4 +1,4 @@
-use Rattle.std.proofs.Common.{◌≡◌, ℕ, List, Some, Err, ap, sym, subst, ◌∙◌}
+use Rattle.std.proofs.Common.{◌≡◌, ℕ, List, Some, Err, ap, sym, subst, ◌∙◌, Ok}
 use Rattle.std.proofs.KnownBytes.{Consumes-nil}
 use Rattle.gate_log.specs.LogOnDisk.{LogState, HoldsPayloads, Stands}
 use Rattle.stored_run.specs.ApplyCall.{ContinuesCall, IsSafeCall}

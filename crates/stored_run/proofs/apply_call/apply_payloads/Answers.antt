@@ -1,6 +1,6 @@
 use Rattle.std.proofs.Common.{ℕ, List, Option, sym, subst, ◌∙◌}
 use Rattle.std.proofs.KnownBytes.{Consumes-nil}
-use Rattle.std.proofs.lemmas.Option.{same_Some}
+use Rattle.stored_run.proofs.Outcomes.{same_ok}
 use Rattle.gate_log.specs.LogOnDisk.{LogState, HoldsPayloads, Stands}
 use Rattle.stored_run.specs.ApplyCall.{ContinuesCall, IsSafeCall}
 use Rattle.stored_run.proofs.Moments.{leaves_same}
@@ -34,8 +34,8 @@ returns-in-Ok-clause-continues g c =
     let one : a.State × Option (List ℕ) = (t0, opened.version) in
     λ t version st h f.
     let other : a.State × Option (List ℕ) = (t, version) in
-    subst (λ (x : a.State × Option (List ℕ)). ContinuesCall held disk.content disk.images disk.moment disk.images_since a.answer a.state_text a.stands_for left left' k k' d' before x.0 x.1 status) (same_Some one other (sym c.in-Ok.ensures.session ∙ h))
-    (continues_call held disk.content disk.images disk.moment disk.images_since a.answer a.state_text a.stands_for hold reads laws.version_stands laws.change_stands laws.refused_stays left left' k k' d d' l l' before opened.version t0 t' status c.continue_store.ensures.exits f st c.in-Ok.ensures.session)
+    subst (λ (x : a.State × Option (List ℕ)). ContinuesCall held disk.content disk.images disk.moment disk.images_since a.answer a.state_text a.stands_for left left' k k' d' before x.0 x.1 status) (same_ok one other (a.stands_for before) c.in-Ok.ensures.stands h)
+    (continues_call held disk.content disk.images disk.moment disk.images_since a.answer a.state_text a.stands_for hold reads laws.version_stands laws.change_stands laws.refused_stays left left' k k' d d' l l' before opened.version t0 t' status c.continue_store.ensures.exits f st c.in-Ok.ensures.stands)
 
 pub returns-in-Ok-clause-safe : goal.returns-in-Ok-clause-safe
 returns-in-Ok-clause-safe g c =
@@ -62,8 +62,8 @@ returns-in-Ok-clause-safe g c =
     let one : a.State × Option (List ℕ) = (t0, opened.version) in
     λ t version st h.
     let other : a.State × Option (List ℕ) = (t, version) in
-    subst (λ (x : a.State × Option (List ℕ)). IsSafeCall held disk.content disk.images disk.moment disk.images_since a.answer a.state_text a.stands_for (HoldsPayloads before) left left' k d k' d' before x.0 x.1) (same_Some one other (sym c.in-Ok.ensures.session ∙ h))
-    (safe_call held disk.content disk.images disk.moment disk.images_since a.answer a.state_text a.stands_for hold reads laws.version_stands laws.change_stands laws.refused_stays left left' k k' d d' before opened.version t0 l c.continue_store.ensures.safe st c.in-Ok.ensures.session)
+    subst (λ (x : a.State × Option (List ℕ)). IsSafeCall held disk.content disk.images disk.moment disk.images_since a.answer a.state_text a.stands_for (HoldsPayloads before) left left' k d k' d' before x.0 x.1) (same_ok one other (a.stands_for before) c.in-Ok.ensures.stands h)
+    (safe_call held disk.content disk.images disk.moment disk.images_since a.answer a.state_text a.stands_for hold reads laws.version_stands laws.change_stands laws.refused_stays left left' k k' d d' before opened.version t0 l c.continue_store.ensures.safe st c.in-Ok.ensures.stands)
 
 pub returns-in-Err-clause-continues : goal.returns-in-Err-clause-continues
 returns-in-Err-clause-continues g c = λ t version st h f. absurd (at_payloads_unfinished (g.K.Sink.held c.args.sink.now) (g.K.Sink.held c.refuse_payloads.new.sink) c.refuse_payloads.result c.in-Err.fault c.refuse_payloads.ensures.ends f)

@@ -1,4 +1,4 @@
-use Rattle.std.proofs.Common.{◌≡◌, inl, ℕ, List, Some, Err, ap, sym, subst, ◌∙◌}
+use Rattle.std.proofs.Common.{◌≡◌, inl, ℕ, List, Some, Err, ap, sym, subst, ◌∙◌, Ok}
 use Rattle.gate_log.specs.LogOnDisk.{LogState, HoldsPayloads, Stands}
 use Rattle.stored_run.specs.PackCall.{PacksCall, IsSafePack}
 use Rattle.gate_log.specs.declared.fault.LogFault.{LogFault}

@@ -1,5 +1,5 @@
 use Rattle.std.proofs.Common.{ℕ, List, Option, sym, subst, ◌∙◌}
-use Rattle.std.proofs.lemmas.Option.{same_Some}
+use Rattle.stored_run.proofs.Outcomes.{same_ok}
 use Rattle.gate_log.specs.LogOnDisk.{LogState, HoldsPayloads, Stands}
 use Rattle.stored_run.specs.PackCall.{PacksCall, IsSafePack}
 use Rattle.stored_run.proofs.Moments.{leaves_same}
@@ -27,8 +27,8 @@ returns-in-Ok-clause-packs g c =
     let one : a.State × Option (List ℕ) = (a.state opened.session, opened.version) in
     λ t version st h f.
     let other : a.State × Option (List ℕ) = (t, version) in
-    subst (λ (x : a.State × Option (List ℕ)). PacksCall held disk.content disk.images disk.moment disk.images_since a.snapshot_of a.packed_text a.stands_for k k' d' before x.0 x.1) (same_Some one other (sym c.in-Ok.ensures.session ∙ h))
-    (c.pack_session.ensures.packs before st c.in-Ok.ensures.session f)
+    subst (λ (x : a.State × Option (List ℕ)). PacksCall held disk.content disk.images disk.moment disk.images_since a.snapshot_of a.packed_text a.stands_for k k' d' before x.0 x.1) (same_ok one other (a.stands_for before) c.in-Ok.ensures.stands h)
+    (c.pack_session.ensures.packs before st c.in-Ok.ensures.stands f)
 
 pub returns-in-Ok-clause-safe : goal.returns-in-Ok-clause-safe
 returns-in-Ok-clause-safe g c =
@@ -49,8 +49,8 @@ returns-in-Ok-clause-safe g c =
     let one : a.State × Option (List ℕ) = (a.state opened.session, opened.version) in
     λ t version st h.
     let other : a.State × Option (List ℕ) = (t, version) in
-    subst (λ (x : a.State × Option (List ℕ)). IsSafePack held disk.content disk.images disk.moment disk.images_since a.snapshot_of a.packed_text a.stands_for (HoldsPayloads before) d d' before x.0 x.1) (same_Some one other (sym c.in-Ok.ensures.session ∙ h))
-    (c.pack_session.ensures.safe before st c.in-Ok.ensures.session)
+    subst (λ (x : a.State × Option (List ℕ)). IsSafePack held disk.content disk.images disk.moment disk.images_since a.snapshot_of a.packed_text a.stands_for (HoldsPayloads before) d d' before x.0 x.1) (same_ok one other (a.stands_for before) c.in-Ok.ensures.stands h)
+    (c.pack_session.ensures.safe before st c.in-Ok.ensures.stands)
 
 pub returns-in-Err-clause-packs : goal.returns-in-Err-clause-packs
 returns-in-Err-clause-packs g c = λ t version st h f. absurd (at_payloads_unfinished (g.K.Sink.held c.args.sink.now) (g.K.Sink.held c.refuse_payloads.new.sink) c.refuse_payloads.result c.in-Err.fault c.refuse_payloads.ensures.ends f)

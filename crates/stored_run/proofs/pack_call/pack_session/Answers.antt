@@ -5,7 +5,7 @@ use Rattle.stored_run.specs.Effects.{Adds, Stops}
 use Rattle.stored_run.specs.declared.stop.Stop.{Stop}
 use Rattle.stored_run.proofs.Causes.{caused_sink, caused_disk}
 use Rattle.stored_run.proofs.Moments.{leaves_same}
-use Rattle.stored_run.proofs.PackCalls.{safe_kept, safe_packed, safe_short}
+use Rattle.stored_run.proofs.PackCalls.{safe_kept, safe_packed, safe_short, packs_call}
 use Rattle.stored_run.proofs.StoredPayloads.{images_held, reads_held}
 use Rattle.stored_run.proofs.pack_call.pack_session.Goals as goal
 
@@ -48,6 +48,29 @@ returns-in-Ok-pack_store-clause-safe g c =
     let snap = c.as_slice-snapshot.ensures ∙ c.in-Ok.ensures.snapshot in
     λ before st h.
     safe_packed held disk.content disk.images disk.moment disk.images_since hold a.snapshot_of a.packed_text a.stands_for reads laws.version_stands laws.snapshot_stands d d' before t version h (HoldsPayloads before) k k' l l' line
+    (subst (λ (x : List ℕ). Adds held disk.content disk.images disk.moment disk.images_since k d l k' d' l' line (option_to_list version ++ x ∷ [])) snap c.in-Ok-pack_store.ensures.packed) st
+
+pub returns-in-Ok-pack_store-clause-packs : goal.returns-in-Ok-pack_store-clause-packs
+returns-in-Ok-pack_store-clause-packs g c =
+    let disk = g.D.Disk in
+    let held = g.K.Sink.held in
+    let a = g.A.StoredSession in
+    let hold = images_held disk.content disk.images g.met.D.Disk.content_is_image in
+    let reads = reads_held disk.content disk.images in
+    let laws = g.met.A.StoredSession in
+    let k = c.args.sink.now in
+    let d = c.args.disk.now in
+    let l = c.args.log.now in
+    let t = a.state c.args.session.now in
+    let version = c.args.version.now in
+    let k' = c.pack_store.new.sink in
+    let d' = c.pack_store.new.disk in
+    let l' = c.pack_store.new.log in
+    let line = c.as_slice-line.result.now in
+    let snap = c.as_slice-snapshot.ensures ∙ c.in-Ok.ensures.snapshot in
+    λ before st h f.
+    packs_call held disk.content disk.images disk.moment disk.images_since hold a.snapshot_of a.packed_text a.stands_for reads laws.version_stands laws.snapshot_stands d d' before t version h k k' l l' line
+    (c.as_slice-line.ensures ∙ c.in-Ok.ensures.line)
     (subst (λ (x : List ℕ). Adds held disk.content disk.images disk.moment disk.images_since k d l k' d' l' line (option_to_list version ++ x ∷ [])) snap c.in-Ok-pack_store.ensures.packed) st
 
 pub returns-clause-safe : goal.returns-clause-safe
