@@ -1,9 +1,8 @@
 -- The whole call, from the opening on.
-use Rattle.std.proofs.Common.{◌≡◌, ◌⊎◌, inl, inr, ℕ, List, [], ◌∷◌, ◌++◌, take, Option, Some, None, refl, sym, ap, subst, ◌∙◌, Result, Ok}
-use Rattle.std.specs.Prelude.{option_to_list, IfSome, codes}
+use Rattle.std.proofs.Common.{◌≡◌, ◌⊎◌, inl, inr, ℕ, List, [], ◌∷◌, ◌++◌, Option, Some, None, refl, sym, ap, subst, ◌∙◌, Result, Ok}
+use Rattle.std.specs.Prelude.{option_to_list, IfSome}
 use Rattle.std.specs.Io.KnownBytes.{Appends, Consumes}
 use Rattle.std.proofs.lemmas.Option.{same_Some}
-use Rattle.lens_io.specs.Content.{AppendsFront}
 use Rattle.edit_journal.specs.declared.line.Line.{Line}
 use Rattle.gate_log.specs.LogBytes.{log_of}
 use Rattle.lens_io.specs.Disks.{LeavesOnly, Only}
@@ -14,7 +13,6 @@ use Rattle.gate_log.specs.declared.fault.LogFault.{LogFault}
 use Rattle.gate_log.specs.declared.fault.LogFault.TheVariants as log
 use Rattle.stored_run.specs.Effects.{HoldsFirst}
 use Rattle.stored_run.specs.Ends.{IsFinished, status_of, Exits, Continues, IsSafeFrom}
-use Rattle.stored_run.specs.OkLines.{ok_lines, AreOtherLines}
 use Rattle.stored_run.specs.Runs.{text_of, kept_of}
 use Rattle.stored_run.specs.ApplyCall.{ContinuesCall, IsSafeCall}
 use Rattle.stored_run.specs.declared.session.Answer.{Answer}

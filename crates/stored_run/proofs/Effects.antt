@@ -6,7 +6,7 @@ use Rattle.std.specs.Io.KnownBytes.{Appends}
 use Rattle.std.proofs.KnownBytes.{Appends-nil, Appends-trans}
 use Rattle.lens_io.specs.Content.{AppendsFront}
 use Rattle.lens_io.specs.Disks.{LeavesOnly}
-use Rattle.gate_log.specs.CallEnds.{AppendEnds, AppendLeaves, IsAppendFault}
+use Rattle.gate_log.specs.CallEnds.{AppendEnds, AppendLeaves}
 use Rattle.gate_log.specs.LogOnDisk.{LogState, HoldsPayloads, HoldsOneMore, Stands}
 use Rattle.gate_log.specs.declared.fault.LogFault.{LogFault}
 use Rattle.gate_log.specs.declared.fault.LogFault.TheVariants as log

@@ -10,6 +10,7 @@ pub mod Standing
 pub mod StoredPayloads
 pub mod Decimals
 pub mod RefusalEnds
+pub mod Openings
 pub mod ApplyCalls
 pub mod PackCalls
 pub mod Causes

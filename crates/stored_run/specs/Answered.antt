@@ -10,7 +10,7 @@ use Rattle.stored_run.specs.Runs.{GoesOver, AreSteps, AreAnswers, last, any_refu
 use Rattle.stored_run.specs.declared.session.Answer.{Answer}
 use Rattle.stored_run.specs.declared.journal.Progress.{Progress}
 use Rattle.stored_run.specs.declared.stop.Stop.{Stop}
-use Rattle.gate_log.specs.LogOnDisk.{LogState, Stands}
+use Rattle.gate_log.specs.LogOnDisk.{LogState}
 use Rattle.stored_run.specs.declared.stop.Stop.TheVariants.{SourceFault, TooLong}
 
 -- the lines that an LF has ended in these bytes

@@ -1,14 +1,16 @@
--- The whole command `apply`: what it comes to, and what a crash leaves of it. Read it from the end: `IsSafeCall`, then `ContinuesCall`.
+-- The whole command `apply`: what it comes to, and what a crash leaves of it.
+-- Read it from the end: `EndsCall` for each status, `IsSafeCall`, then `ContinuesCall`.
 use Rattle.std.specs.Prelude.{◌≡◌, ◌⊎◌, ℕ, ◌^◌, ◌≤◌, List, [], ◌++◌, length, Option, Some, None, Result, Ok, option_to_list, IfSome}
 use Rattle.std.specs.Io.KnownBytes.{Appends, Consumes, IsAtEnd}
 use Rattle.lens_io.specs.Disks.{LeavesOnly}
-use Rattle.gate_log.specs.LogOnDisk.{HoldsPayloads}
+use Rattle.gate_log.specs.LogOnDisk.{LogState, HoldsPayloads, Stands}
 use Rattle.edit_journal.specs.Pieces.{lines_of}
 use Rattle.edit_journal.specs.declared.line.Line.{Line}
 use Rattle.stored_run.specs.Crash.{IsAcknowledged}
 use Rattle.stored_run.specs.Effects.{HoldsFirst}
-use Rattle.stored_run.specs.Ends.{end_of}
+use Rattle.stored_run.specs.Ends.{end_of, Exits}
 use Rattle.stored_run.specs.OkLines.{ok_lines}
+use Rattle.stored_run.specs.Refusals.{IsUnwritten, FailsEarly}
 use Rattle.stored_run.specs.Runs.{run, last, any_refused, text_of, kept_of}
 use Rattle.stored_run.specs.declared.session.Answer.{Answer}
 use Rattle.stored_run.specs.declared.session.ReopenFault.{ReopenFault}
@@ -64,3 +66,24 @@ module _ {K D State : Type 0} (held : K → Option (List ℕ)) (content : D → 
     pub given : Appends (held k) (held k') []
     pub only : (c : List ℕ) → images d' c → images d c
     pub moments : LeavesOnly moment images_since d d' (images d)
+
+  -- ---- how the call ends, by its status
+
+  -- The session was opened with the payloads from before, and from there the call ended by one of the exits. The disk was d1 then, and
+  -- the log stood on it with these payloads.
+  pub record EndsOpened (left left' : Option (List ℕ)) (k k' : K) (d' : D) (before : List (List ℕ)) (t : State)
+      (version : Option (List ℕ)) (status : Status) : Type 0 where
+    pub d1 : D
+    pub log : LogState
+    pub log' : LogState
+    pub t' : State
+    pub stands : Stands (content d1) (images d1) log before
+    pub exits : Exits held content images moment images_since answer
+        left left' k d1 log k' d' log' (option_to_list version) state_text t t' status
+
+  -- the call ended so, or failed before: then nothing was taken from the source, and nothing was written to the disk or the sink
+  abbrev pub EndsCall : Option (List ℕ) → Option (List ℕ) → K → D → K → D
+      → List (List ℕ) → State → Option (List ℕ) → Status → Type 0
+  EndsCall left left' k d k' d' before t version status =
+      EndsOpened left left' k k' d' before t version status
+      ⊎ IsUnwritten content images d d' × Consumes left left' [] × FailsEarly (held k) (held k') status

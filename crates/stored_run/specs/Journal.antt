@@ -7,7 +7,7 @@ use Rattle.stored_run.specs.Answered.{Answers, StopsAmong, StopsPieces}
 use Rattle.stored_run.specs.Stopping.{IsOwnStop}
 use Rattle.stored_run.specs.declared.session.Answer.{Answer}
 use Rattle.stored_run.specs.declared.journal.Progress.{Progress}
-use Rattle.gate_log.specs.LogOnDisk.{LogState, Stands}
+use Rattle.gate_log.specs.LogOnDisk.{LogState}
 use Rattle.stored_run.specs.declared.stop.Stop.{Stop}
 
 module _ {K D State : Type 0} (held : K → Option (List ℕ)) (content : D → Option (List ℕ)) (images : D → List ℕ → Type 0)

@@ -1,5 +1,5 @@
 -- Why a store is refused, the line that says so, and how a command ends with it.
--- Read it from the end: `refusal_in`, `Refuses`, then `refusal_line`.
+-- Read it from the end: `refusal_in`, `EndsRefused`, `Refuses`, then `refusal_line`.
 use Rattle.std.specs.Prelude.{◌≡◌, ◌⊎◌, ℕ, List, [], ◌++◌, codes, decimal, Option, Some, None, Result, Ok, Err}
 use Rattle.std.specs.Io.KnownBytes.{Appends}
 use Rattle.lens_io.specs.Content.{AppendsFront}
@@ -50,6 +50,21 @@ abbrev pub EndsAtPayloads : Option (List ℕ) → Option (List ℕ) → ReopenFa
 EndsAtPayloads old new (reopening.BadRecord number) status = Refuses old new (BadRecord number) status
 EndsAtPayloads old new (reopening.NotConsistent number) status = Refuses old new (NotConsistent number) status
 EndsAtPayloads old new reopening.NoMemory status = (status ≡ ending.NoMemory) × Appends old new []
+
+-- ---- before a store is opened
+
+-- a read of the disk gives what it gave before, and a crash leaves nothing new
+pub record IsUnwritten {D : Type 0} (content : D → Option (List ℕ)) (images : D → List ℕ → Type 0) (d d' : D) : Type 0 where
+  pub same : content d' ≡ content d
+  pub only : (c : List ℕ) → images d' c → images d c
+
+-- the disk failed, or memory ran out, and nothing was written
+abbrev pub FailsEarly : Option (List ℕ) → Option (List ℕ) → Status → Type 0
+FailsEarly old new status = ((status ≡ ending.DiskFault) ⊎ (status ≡ ending.NoMemory)) × Appends old new []
+
+-- the end over bytes that are refused for this reason, unless the command failed before it was known
+abbrev pub EndsRefused : Option (List ℕ) → Option (List ℕ) → StoreRefusal → Status → Type 0
+EndsRefused old new refusal status = Refuses old new refusal status ⊎ FailsEarly old new status
 
 -- ---- the bytes of a disk
 

@@ -6,6 +6,8 @@ ghost use Rattle.gate_log.specs.LogOnDisk.{HoldsPayloads, Stands};
 ghost use Rattle.stored_run.specs.Causes.{Counted, stop_in, SinkFailed};
 ghost use Rattle.stored_run.specs.Effects.{Adds, Stops};
 ghost use Rattle.stored_run.specs.Ends.{IsFinished};
+ghost use Rattle.stored_run.specs.Refusals.{IsUnwritten, EndsRefused, refusal_in, refusal_of_payloads};
+ghost use Rattle.stored_run.specs.declared.refusals.StoreRefusal.{StoreRefusal};
 ghost use Rattle.stored_run.specs.PackCall.{PacksCall, IsSafePack, IsUnpacked};
 
 use crate::refusals::{give_stop, refuse_log, refuse_payloads};
@@ -25,6 +27,8 @@ use texts::Bytes;
 /// - `safe`: whatever the status, an image that a crash leaves holds the payloads from before, or these and the version record,
 ///   or these and the snapshot, and each of these lists stands for the same state. If the sync of the opening failed, nothing
 ///   has changed.
+/// - `refused`: if the bytes of the disk are refused, the line `store refused: REASON` is written, unless the disk failed or
+///   memory ran out before. Nothing is written to the disk.
 /// - `sink_fault`, `disk_fault`: these statuses come only if that device failed.
 pub fn pack<A: StoredSession + Drop, K: Sink, D: Disk>(
     alloc: Global,
@@ -43,6 +47,10 @@ pub fn pack<A: StoredSession + Drop, K: Sink, D: Disk>(
         sink.old disk.old sink.new disk.new
         ⊎ IsSafePack K.held D.content D.images D.moment D.images_since A.snapshot_of A.packed_text A.stands_for
         (D.images disk.old) disk.old disk.new before t version }
+    ensures refused { (bytes : List ℕ) (refusal : StoreRefusal)
+        → D.content disk.old ≡ Some bytes → refusal_in A.stands_for bytes ≡ Some refusal
+        → IsUnwritten D.content D.images disk.old disk.new
+        × EndsRefused (K.held sink.old) (K.held sink.new) refusal result }
     ensures sink_fault { result ≡ Status.SinkFault
         → SinkFailed K.faults K.empty_takes K.room K.held sink.old sink.new }
     ensures disk_fault { result ≡ Status.DiskFault
@@ -76,6 +84,11 @@ fn pack_log<A: StoredSession + Drop, K: Sink, D: Disk>(
         → A.stands_for before ≡ Ok (t, version)
         → IsSafePack K.held D.content D.images D.moment D.images_since A.snapshot_of A.packed_text A.stands_for
         (HoldsPayloads before) disk.old disk.new before t version }
+    ensures refused { (before : List (List ℕ)) (bytes : List ℕ) (refusal : StoreRefusal)
+        → D.content disk.old ≡ Some bytes → Stands (D.content disk.old) (D.images disk.old) log.old before
+        → refusal_of_payloads (A.stands_for before) ≡ Some refusal
+        → IsUnwritten D.content D.images disk.old disk.new
+        × EndsRefused (K.held sink.old) (K.held sink.new) refusal result }
     ensures sink_fault { result ≡ Status.SinkFault
         → SinkFailed K.faults K.empty_takes K.room K.held sink.old sink.new }
     ensures disk_fault { result ≡ Status.DiskFault
@@ -107,6 +120,10 @@ fn pack_payloads<A: StoredSession + Drop, K: Sink, D: Disk>(
         → A.stands_for payloads.now ≡ Ok (t, version)
         → IsSafePack K.held D.content D.images D.moment D.images_since A.snapshot_of A.packed_text A.stands_for
         (HoldsPayloads payloads.now) disk.old disk.new payloads.now t version }
+    ensures refused { (refusal : StoreRefusal)
+        → refusal_of_payloads (A.stands_for payloads.now) ≡ Some refusal
+        → IsUnwritten D.content D.images disk.old disk.new
+        × EndsRefused (K.held sink.old) (K.held sink.new) refusal result }
     ensures sink_fault { result ≡ Status.SinkFault
         → SinkFailed K.faults K.empty_takes K.room K.held sink.old sink.new }
     ensures disk_fault { result ≡ Status.DiskFault

@@ -1,6 +1,6 @@
-use Rattle.std.proofs.Common.{inl, inr, ℕ, List, Err, ap, ◌∷◌, [], ◌++◌, subst, ◌∙◌}
+use Rattle.std.proofs.Common.{inl, inr, ℕ, List, Err, ap, ◌∷◌, [], ◌++◌, subst, ◌∙◌, ◌≡◌, sym}
 use Rattle.std.specs.Prelude.{option_to_list}
-use Rattle.gate_log.specs.LogOnDisk.{LogState, HoldsPayloads, Stands}
+use Rattle.gate_log.specs.LogOnDisk.{HoldsPayloads, Stands}
 use Rattle.stored_run.proofs.Effects.{first_none}
 use Rattle.gate_log.specs.declared.fault.LogFault.{LogFault}
 use Rattle.stored_run.proofs.Causes.{increased_since}
@@ -8,6 +8,9 @@ use Rattle.stored_run.proofs.ApplyCalls.{same_held, only_disk, synced_holds}
 use Rattle.stored_run.proofs.PackCalls.{safe_kept, safe_after}
 use Rattle.stored_run.proofs.StoredPayloads.{images_held, reads_held}
 use Rattle.stored_run.proofs.RefusalEnds.{at_disk_fault, at_log_disk, at_log_unfinished}
+use Rattle.gate_log.specs.LogBytes.{payloads, log_of}
+use Rattle.stored_run.specs.Refusals.{refusal_of_log}
+use Rattle.stored_run.proofs.Openings.{at_content, unwritten_then, log_refused}
 use Rattle.stored_run.proofs.pack_call.pack.Goals as goal
 
 pub returns-in-Ok-clause-packs : goal.returns-in-Ok-clause-packs
@@ -80,3 +83,28 @@ returns-in-Ok-clause-disk_fault g c =
 
 pub returns-in-Err-clause-disk_fault : goal.returns-in-Err-clause-disk_fault
 returns-in-Err-clause-disk_fault g c = λ e. c.in-Err.ensures.cause (ap (λ (x : LogFault). Err x) (at_log_disk (g.K.Sink.held c.args.sink.now) (g.K.Sink.held c.refuse_log.new.sink) c.refuse_log.result c.in-Err.fault c.refuse_log.ensures.ends e))
+
+pub returns-in-Ok-clause-refused : goal.returns-in-Ok-clause-refused
+returns-in-Ok-clause-refused g c =
+    let disk = g.D.Disk in
+    let held = g.K.Sink.held in
+    let a = g.A.StoredSession in
+    let d = c.args.disk.now in
+    let d1 = c.open_log.new.disk in
+    let d' = c.pack_log.new.disk in
+    let log = c.in-Ok.ensures.log in
+    λ bytes refusal told q.
+    let is : log_of bytes ≡ payloads log.0 = at_content (disk.content d) bytes (HoldsPayloads log.0) told log.1 in
+    let e = c.pack_log.ensures.refused log.0 bytes refusal (c.in-Ok.ensures.content ∙ told) log.2 (ap (refusal_of_log a.stands_for) (sym is) ∙ q) in
+    (unwritten_then disk.content disk.images d d1 d' c.in-Ok.ensures.content c.in-Ok.ensures.images e.0, e.1)
+
+pub returns-in-Err-clause-refused : goal.returns-in-Err-clause-refused
+returns-in-Err-clause-refused g c =
+    let disk = g.D.Disk in
+    let held = g.K.Sink.held in
+    let a = g.A.StoredSession in
+    let d = c.args.disk.now in
+    let k = c.args.sink.now in
+    let k' = c.refuse_log.new.sink in
+    λ bytes refusal told q.
+    (record { same = c.in-Err.ensures.content; only = c.in-Err.ensures.images }, log_refused a.stands_for (held k) (held k') c.refuse_log.result c.in-Err.fault (disk.content d) bytes refusal told c.in-Err.ensures.log q c.refuse_log.ensures.ends)

@@ -1,5 +1,5 @@
-use Rattle.std.proofs.Common.{◌≡◌, inl, ℕ, List, Some, Err, ap, sym, subst, ◌∙◌, Ok}
-use Rattle.gate_log.specs.LogOnDisk.{LogState, HoldsPayloads, Stands}
+use Rattle.std.proofs.Common.{◌≡◌, inl, ℕ, List, Err, ap, sym, subst, ◌∙◌, Ok, inr}
+use Rattle.gate_log.specs.LogOnDisk.{HoldsPayloads, Stands}
 use Rattle.stored_run.specs.PackCall.{PacksCall, IsSafePack}
 use Rattle.gate_log.specs.declared.fault.LogFault.{LogFault}
 use Rattle.stored_run.proofs.Causes.{increased_since}
@@ -7,6 +7,9 @@ use Rattle.stored_run.proofs.ApplyCalls.{at_some}
 use Rattle.stored_run.proofs.PackCalls.{safe_kept, safe_after}
 use Rattle.stored_run.proofs.StoredPayloads.{images_held, reads_held}
 use Rattle.stored_run.proofs.RefusalEnds.{at_log_disk, at_log_unfinished}
+use Rattle.gate_log.specs.CallEnds.{NoBadRecord}
+use Rattle.stored_run.specs.Refusals.{refusal_of_payloads}
+use Rattle.stored_run.proofs.Openings.{unwritten_then, reading_fails}
 use Rattle.stored_run.proofs.pack_call.pack_log.Goals as goal
 
 pub returns-in-Ok-clause-packs : goal.returns-in-Ok-clause-packs
@@ -80,3 +83,32 @@ returns-in-Ok-clause-disk_fault g c =
 
 pub returns-in-Err-clause-disk_fault : goal.returns-in-Err-clause-disk_fault
 returns-in-Err-clause-disk_fault g c = λ e. c.in-Err.ensures.cause (ap (λ (x : LogFault). Err x) (at_log_disk (g.K.Sink.held c.args.sink.now) (g.K.Sink.held c.refuse_log.new.sink) c.refuse_log.result c.in-Err.fault c.refuse_log.ensures.ends e))
+
+pub returns-in-Ok-clause-refused : goal.returns-in-Ok-clause-refused
+returns-in-Ok-clause-refused g c =
+    let disk = g.D.Disk in
+    let held = g.K.Sink.held in
+    let a = g.A.StoredSession in
+    let d = c.args.disk.now in
+    let l = c.args.log.now in
+    let d1 = c.payloads.new.disk in
+    let d' = c.pack_payloads.new.disk in
+    let read = c.in-Ok.payloads in
+    let reading = c.in-Ok.ensures.reads in
+    λ before bytes refusal told st q.
+    let same : read ≡ before = at_some (disk.content d) bytes (read ≡ before) told (c.in-Ok.ensures.payloads before st) in
+    let e = c.pack_payloads.ensures.refused refusal (ap (λ (x : List (List ℕ)). refusal_of_payloads (a.stands_for x)) same ∙ q) in
+    (unwritten_then disk.content disk.images d d1 d' reading.same_content (λ x now. (reading.same_images x).1 now) e.0, e.1)
+
+pub returns-in-Err-clause-refused : goal.returns-in-Err-clause-refused
+returns-in-Err-clause-refused g c =
+    let disk = g.D.Disk in
+    let held = g.K.Sink.held in
+    let a = g.A.StoredSession in
+    let d = c.args.disk.now in
+    let k = c.args.sink.now in
+    let k' = c.refuse_log.new.sink in
+    let reading = c.in-Err.ensures.reads in
+    λ before bytes refusal told st q.
+    (record { same = reading.same_content; only = λ x now. (reading.same_images x).1 now }, 
+    inr (reading_fails (held k) (held k') c.refuse_log.result c.in-Err.fault c.payloads.result c.in-Err.is (at_some (disk.content d) bytes (NoBadRecord c.payloads.result) told c.payloads.ensures.never_bad) c.in-Err.ensures.possible c.refuse_log.ensures.ends))

@@ -1,11 +1,12 @@
-use Rattle.std.proofs.Common.{ℕ, List, Option, sym, subst, ◌∙◌}
+use Rattle.std.proofs.Common.{ℕ, List, Option, subst}
 use Rattle.stored_run.proofs.Outcomes.{same_ok}
-use Rattle.gate_log.specs.LogOnDisk.{LogState, HoldsPayloads, Stands}
+use Rattle.gate_log.specs.LogOnDisk.{HoldsPayloads}
 use Rattle.stored_run.specs.PackCall.{PacksCall, IsSafePack}
 use Rattle.stored_run.proofs.Moments.{leaves_same}
 use Rattle.stored_run.proofs.PackCalls.{safe_kept}
 use Rattle.stored_run.proofs.StoredPayloads.{images_held, reads_held}
 use Rattle.stored_run.proofs.RefusalEnds.{at_payloads_unfinished}
+use Rattle.stored_run.proofs.Openings.{unwritten_none, payloads_refused, never_refused}
 use Rattle.stored_run.proofs.pack_call.pack_payloads.Goals as goal
 
 pub returns-in-Ok-clause-packs : goal.returns-in-Ok-clause-packs
@@ -71,3 +72,21 @@ returns-in-Err-clause-safe g c =
     λ t version st h.
     safe_kept held disk.content disk.images disk.moment disk.images_since hold a.snapshot_of a.packed_text a.stands_for reads laws.version_stands laws.snapshot_stands d d before t version h (HoldsPayloads before) (λ x now. hold l d before x st now)
     (leaves_same disk.moment disk.images_since d (HoldsPayloads before) (λ x was. hold l d before x st (only d x was)))
+
+pub returns-in-Ok-clause-refused : goal.returns-in-Ok-clause-refused
+returns-in-Ok-clause-refused g c =
+    let a = g.A.StoredSession in
+    let opened = c.in-Ok.opened in
+    let one : a.State × Option (List ℕ) = (a.state opened.session, opened.version) in
+    λ refusal q. absurd (never_refused (a.stands_for c.args.payloads.now) one refusal c.in-Ok.ensures.stands q)
+
+pub returns-in-Err-clause-refused : goal.returns-in-Err-clause-refused
+returns-in-Err-clause-refused g c =
+    let disk = g.D.Disk in
+    let held = g.K.Sink.held in
+    let a = g.A.StoredSession in
+    let d = c.args.disk.now in
+    let k = c.args.sink.now in
+    let k' = c.refuse_payloads.new.sink in
+    λ refusal q.
+    (unwritten_none disk.content disk.images d, payloads_refused (a.stands_for c.args.payloads.now) (held k) (held k') c.refuse_payloads.result c.in-Err.fault refusal c.in-Err.ensures.stands q c.refuse_payloads.ensures.ends)
