@@ -10,4 +10,5 @@ pub mod Refusals
 pub mod Ends
 pub mod Reopening
 pub mod ApplyCall
+pub mod StoreEnds
 pub mod PackCall

@@ -1,7 +1,8 @@
-//! The commands that go on with a store: `apply` and `pack`.
+//! The commands over a store: `apply`, `pack`, and the part of `init` that makes it.
 //!
 //! A store is a log on a disk, and its payloads stand for a session. [`apply`] answers the lines of a journal. It stores the
-//! payload of each change that it accepts, and only then writes its answer. [`pack`] stores a snapshot of the session.
+//! payload of each change that it accepts, and only then writes its answer. [`pack`] stores a snapshot of the session, and
+//! [`begin_store`] makes a store.
 //!
 //! A crash at any moment leaves a disk that holds the payload of each change whose `ok` line was written: `IsAcknowledged`
 //! in specs/Crash.antt, and `IsSafeCall` in specs/ApplyCall.antt for the complete call. `ContinuesCall` beside it is what a
@@ -12,6 +13,7 @@
 mod apply_call;
 mod continuing;
 mod journal;
+mod making;
 mod pack_call;
 mod refusals;
 mod session;
@@ -22,6 +24,7 @@ mod store;
 pub use apply_call::apply;
 pub use continuing::{answer_journal, continue_store};
 pub use journal::{Progress, answer_line, answer_lines, answer_pieces};
+pub use making::begin_store;
 pub use pack_call::{pack, pack_store};
 pub use refusals::StoreRefusal;
 pub use session::{Answer, Opened, Packing, ReopenFault, StoredSession};

@@ -6,8 +6,9 @@ ghost use Rattle.gate_log.specs.LogOnDisk.{HoldsPayloads, Stands};
 ghost use Rattle.stored_run.specs.Causes.{Counted, stop_in, SinkFailed};
 ghost use Rattle.stored_run.specs.Effects.{Adds, Stops};
 ghost use Rattle.stored_run.specs.Ends.{IsFinished};
-ghost use Rattle.stored_run.specs.Refusals.{IsUnwritten, EndsRefused, refusal_in, refusal_of_payloads};
+ghost use Rattle.stored_run.specs.Refusals.{IsUnwritten, EndsRefused, FailsEarly, refusal_in, refusal_of_payloads};
 ghost use Rattle.stored_run.specs.declared.refusals.StoreRefusal.{StoreRefusal};
+ghost use Rattle.stored_run.specs.StoreEnds.{StoresBehind};
 ghost use Rattle.stored_run.specs.PackCall.{PacksCall, IsSafePack, IsUnpacked};
 
 use crate::refusals::{give_stop, refuse_log, refuse_payloads};
@@ -27,6 +28,7 @@ use texts::Bytes;
 /// - `safe`: whatever the status, an image that a crash leaves holds the payloads from before, or these and the version record,
 ///   or these and the snapshot, and each of these lists stands for the same state. If the sync of the opening failed, nothing
 ///   has changed.
+/// - `exits`: what was written and what is stored after each status, if the payloads stand for a session.
 /// - `refused`: if the bytes of the disk are refused, the line `store refused: REASON` is written, unless the disk failed or
 ///   memory ran out before. Nothing is written to the disk.
 /// - `sink_fault`, `disk_fault`: these statuses come only if that device failed.
@@ -47,6 +49,12 @@ pub fn pack<A: StoredSession + Drop, K: Sink, D: Disk>(
         sink.old disk.old sink.new disk.new
         ⊎ IsSafePack K.held D.content D.images D.moment D.images_since A.snapshot_of A.packed_text A.stands_for
         (D.images disk.old) disk.old disk.new before t version }
+    ensures exits { (before : List (List ℕ)) (bytes : List ℕ) (t : A.State) (version : Option (List ℕ))
+        → D.content disk.old ≡ Some bytes → HoldsPayloads before bytes → A.stands_for before ≡ Ok (t, version)
+        → StoresBehind K.held D.content D.images D.moment D.images_since sink.old sink.new disk.new
+        before (A.packed_text t) (option_to_list version) (A.snapshot_of t) result
+        ⊎ IsUnwritten D.content D.images disk.old disk.new
+        × FailsEarly (K.held sink.old) (K.held sink.new) result }
     ensures refused { (bytes : List ℕ) (refusal : StoreRefusal)
         → D.content disk.old ≡ Some bytes → refusal_in A.stands_for bytes ≡ Some refusal
         → IsUnwritten D.content D.images disk.old disk.new
@@ -84,6 +92,13 @@ fn pack_log<A: StoredSession + Drop, K: Sink, D: Disk>(
         → A.stands_for before ≡ Ok (t, version)
         → IsSafePack K.held D.content D.images D.moment D.images_since A.snapshot_of A.packed_text A.stands_for
         (HoldsPayloads before) disk.old disk.new before t version }
+    ensures exits { (before : List (List ℕ)) (bytes : List ℕ) (t : A.State) (version : Option (List ℕ))
+        → D.content disk.old ≡ Some bytes → Stands (D.content disk.old) (D.images disk.old) log.old before
+        → A.stands_for before ≡ Ok (t, version)
+        → StoresBehind K.held D.content D.images D.moment D.images_since sink.old sink.new disk.new
+        before (A.packed_text t) (option_to_list version) (A.snapshot_of t) result
+        ⊎ IsUnwritten D.content D.images disk.old disk.new
+        × FailsEarly (K.held sink.old) (K.held sink.new) result }
     ensures refused { (before : List (List ℕ)) (bytes : List ℕ) (refusal : StoreRefusal)
         → D.content disk.old ≡ Some bytes → Stands (D.content disk.old) (D.images disk.old) log.old before
         → refusal_of_payloads (A.stands_for before) ≡ Some refusal
@@ -120,6 +135,13 @@ fn pack_payloads<A: StoredSession + Drop, K: Sink, D: Disk>(
         → A.stands_for payloads.now ≡ Ok (t, version)
         → IsSafePack K.held D.content D.images D.moment D.images_since A.snapshot_of A.packed_text A.stands_for
         (HoldsPayloads payloads.now) disk.old disk.new payloads.now t version }
+    ensures exits { (t : A.State) (version : Option (List ℕ))
+        → Stands (D.content disk.old) (D.images disk.old) log.old payloads.now
+        → A.stands_for payloads.now ≡ Ok (t, version)
+        → StoresBehind K.held D.content D.images D.moment D.images_since sink.old sink.new disk.new
+        payloads.now (A.packed_text t) (option_to_list version) (A.snapshot_of t) result
+        ⊎ IsUnwritten D.content D.images disk.old disk.new
+        × FailsEarly (K.held sink.old) (K.held sink.new) result }
     ensures refused { (refusal : StoreRefusal)
         → refusal_of_payloads (A.stands_for payloads.now) ≡ Some refusal
         → IsUnwritten D.content D.images disk.old disk.new
@@ -156,6 +178,12 @@ fn pack_session<A: StoredSession, K: Sink, D: Disk>(
         → A.stands_for before ≡ Ok (A.state session.now, version.now)
         → IsSafePack K.held D.content D.images D.moment D.images_since A.snapshot_of A.packed_text A.stands_for
         (HoldsPayloads before) disk.old disk.new before (A.state session.now) version.now }
+    ensures exits { (before : List (List ℕ))
+        → Stands (D.content disk.old) (D.images disk.old) log.old before
+        → StoresBehind K.held D.content D.images D.moment D.images_since sink.old sink.new disk.new
+        before (A.packed_text (A.state session.now)) (option_to_list version.now) (A.snapshot_of (A.state session.now)) result
+        ⊎ IsUnwritten D.content D.images disk.old disk.new
+        × FailsEarly (K.held sink.old) (K.held sink.new) result }
     ensures sink_fault { result ≡ Status.SinkFault
         → SinkFailed K.faults K.empty_takes K.room K.held sink.old sink.new }
     ensures disk_fault { result ≡ Status.DiskFault

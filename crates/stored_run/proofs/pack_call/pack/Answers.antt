@@ -108,3 +108,33 @@ returns-in-Err-clause-refused g c =
     let k' = c.refuse_log.new.sink in
     λ bytes refusal told q.
     (record { same = c.in-Err.ensures.content; only = c.in-Err.ensures.images }, log_refused a.stands_for (held k) (held k') c.refuse_log.result c.in-Err.fault (disk.content d) bytes refusal told c.in-Err.ensures.log q c.refuse_log.ensures.ends)
+
+pub returns-in-Ok-clause-exits : goal.returns-in-Ok-clause-exits
+returns-in-Ok-clause-exits g c =
+    let disk = g.D.Disk in
+    let held = g.K.Sink.held in
+    let a = g.A.StoredSession in
+    let k = c.args.sink.now in
+    let d = c.args.disk.now in
+    let d1 = c.open_log.new.disk in
+    let d' = c.pack_log.new.disk in
+    let l = c.in-Ok.log in
+    let log = c.in-Ok.ensures.log in
+    λ before bytes t version told holds h.
+    let st = subst (λ (x : List (List ℕ)). Stands (disk.content d1) (disk.images d1) l x) (same_held (disk.content d) bytes log.0 before told log.1 holds) log.2 in
+    elim (c.pack_log.ensures.exits before bytes t version (c.in-Ok.ensures.content ∙ told) st h) [
+      | inl e ↦ inl e
+      | inr u ↦ inr (unwritten_then disk.content disk.images d d1 d' c.in-Ok.ensures.content c.in-Ok.ensures.images u.0, u.1)
+    ]
+
+pub returns-in-Err-clause-exits : goal.returns-in-Err-clause-exits
+returns-in-Err-clause-exits g c =
+    let disk = g.D.Disk in
+    let held = g.K.Sink.held in
+    let a = g.A.StoredSession in
+    let k = c.args.sink.now in
+    let d = c.args.disk.now in
+    let k' = c.refuse_log.new.sink in
+    λ before bytes t version told holds h.
+    let failed = at_disk_fault (held k) (held k') c.refuse_log.result c.in-Err.fault (only_disk c.in-Err.fault (disk.content d) bytes before told holds c.in-Err.ensures.log) c.refuse_log.ensures.ends in
+    inr (record { same = c.in-Err.ensures.content; only = c.in-Err.ensures.images }, (inl failed.0, failed.1))

@@ -10,6 +10,8 @@ use Rattle.stored_run.proofs.RefusalEnds.{at_log_disk, at_log_unfinished}
 use Rattle.gate_log.specs.CallEnds.{NoBadRecord}
 use Rattle.stored_run.specs.Refusals.{refusal_of_payloads}
 use Rattle.stored_run.proofs.Openings.{unwritten_then, reading_fails}
+use Rattle.stored_run.specs.StoreEnds.{StoresBehind}
+use Rattle.std.specs.Prelude.{option_to_list}
 use Rattle.stored_run.proofs.pack_call.pack_log.Goals as goal
 
 pub returns-in-Ok-clause-packs : goal.returns-in-Ok-clause-packs
@@ -112,3 +114,39 @@ returns-in-Err-clause-refused g c =
     λ before bytes refusal told st q.
     (record { same = reading.same_content; only = λ x now. (reading.same_images x).1 now }, 
     inr (reading_fails (held k) (held k') c.refuse_log.result c.in-Err.fault c.payloads.result c.in-Err.is (at_some (disk.content d) bytes (NoBadRecord c.payloads.result) told c.payloads.ensures.never_bad) c.in-Err.ensures.possible c.refuse_log.ensures.ends))
+
+pub returns-in-Ok-clause-exits : goal.returns-in-Ok-clause-exits
+returns-in-Ok-clause-exits g c =
+    let disk = g.D.Disk in
+    let held = g.K.Sink.held in
+    let a = g.A.StoredSession in
+    let k = c.args.sink.now in
+    let d = c.args.disk.now in
+    let l = c.args.log.now in
+    let k' = c.pack_payloads.new.sink in
+    let d1 = c.payloads.new.disk in
+    let d' = c.pack_payloads.new.disk in
+    let read = c.in-Ok.payloads in
+    let reading = c.in-Ok.ensures.reads in
+    let status = c.pack_payloads.result in
+    λ before bytes t version told st h.
+    let same : read ≡ before = at_some (disk.content d) bytes (read ≡ before) told (c.in-Ok.ensures.payloads before st) in
+    let st1 = subst (λ (x : List (List ℕ)). Stands (disk.content d1) (disk.images d1) l x) (sym same) (c.in-Ok.ensures.stands before st) in
+    let h1 = subst (λ (x : List (List ℕ)). a.stands_for x ≡ Ok (t, version)) (sym same) h in
+    elim (c.pack_payloads.ensures.exits t version st1 h1) [
+      | inl e ↦ inl (subst (λ (x : List (List ℕ)). StoresBehind held disk.content disk.images disk.moment disk.images_since k k' d' x (a.packed_text t) (option_to_list version) (a.snapshot_of t) status) same e)
+      | inr u ↦ inr (unwritten_then disk.content disk.images d d1 d' reading.same_content (λ x now. (reading.same_images x).1 now) u.0, u.1)
+    ]
+
+pub returns-in-Err-clause-exits : goal.returns-in-Err-clause-exits
+returns-in-Err-clause-exits g c =
+    let disk = g.D.Disk in
+    let held = g.K.Sink.held in
+    let a = g.A.StoredSession in
+    let k = c.args.sink.now in
+    let d = c.args.disk.now in
+    let k' = c.refuse_log.new.sink in
+    let reading = c.in-Err.ensures.reads in
+    λ before bytes t version told st h.
+    inr (record { same = reading.same_content; only = λ x now. (reading.same_images x).1 now },
+    reading_fails (held k) (held k') c.refuse_log.result c.in-Err.fault c.payloads.result c.in-Err.is (at_some (disk.content d) bytes (NoBadRecord c.payloads.result) told c.payloads.ensures.never_bad) c.in-Err.ensures.possible c.refuse_log.ensures.ends)

@@ -1,4 +1,4 @@
-use Rattle.std.proofs.Common.{ℕ, List, Option, subst}
+use Rattle.std.proofs.Common.{ℕ, List, Option, subst, inl, inr, ◌⊎◌}
 use Rattle.stored_run.proofs.Outcomes.{same_ok}
 use Rattle.gate_log.specs.LogOnDisk.{HoldsPayloads}
 use Rattle.stored_run.specs.PackCall.{PacksCall, IsSafePack}
@@ -6,7 +6,10 @@ use Rattle.stored_run.proofs.Moments.{leaves_same}
 use Rattle.stored_run.proofs.PackCalls.{safe_kept}
 use Rattle.stored_run.proofs.StoredPayloads.{images_held, reads_held}
 use Rattle.stored_run.proofs.RefusalEnds.{at_payloads_unfinished}
-use Rattle.stored_run.proofs.Openings.{unwritten_none, payloads_refused, never_refused}
+use Rattle.stored_run.proofs.Openings.{unwritten_none, payloads_refused, never_refused, payloads_stand}
+use Rattle.stored_run.specs.StoreEnds.{StoresBehind}
+use Rattle.stored_run.specs.Refusals.{IsUnwritten, FailsEarly}
+use Rattle.std.specs.Prelude.{option_to_list}
 use Rattle.stored_run.proofs.pack_call.pack_payloads.Goals as goal
 
 pub returns-in-Ok-clause-packs : goal.returns-in-Ok-clause-packs
@@ -90,3 +93,33 @@ returns-in-Err-clause-refused g c =
     let k' = c.refuse_payloads.new.sink in
     λ refusal q.
     (unwritten_none disk.content disk.images d, payloads_refused (a.stands_for c.args.payloads.now) (held k) (held k') c.refuse_payloads.result c.in-Err.fault refusal c.in-Err.ensures.stands q c.refuse_payloads.ensures.ends)
+
+pub returns-in-Ok-clause-exits : goal.returns-in-Ok-clause-exits
+returns-in-Ok-clause-exits g c =
+    let disk = g.D.Disk in
+    let held = g.K.Sink.held in
+    let a = g.A.StoredSession in
+    let k = c.args.sink.now in
+    let d = c.args.disk.now in
+    let k' = c.pack_session.new.sink in
+    let d' = c.pack_session.new.disk in
+    let before = c.args.payloads.now in
+    let opened = c.in-Ok.opened in
+    let one : a.State × Option (List ℕ) = (a.state opened.session, opened.version) in
+    let status = c.pack_session.result in
+    λ t version st h.
+    let other : a.State × Option (List ℕ) = (t, version) in
+    subst (λ (x : a.State × Option (List ℕ)). StoresBehind held disk.content disk.images disk.moment disk.images_since k k' d' before (a.packed_text x.0) (option_to_list x.1) (a.snapshot_of x.0) status
+      ⊎ IsUnwritten disk.content disk.images d d' × FailsEarly (held k) (held k') status) (same_ok one other (a.stands_for before) c.in-Ok.ensures.stands h)
+    (c.pack_session.ensures.exits before st)
+
+pub returns-in-Err-clause-exits : goal.returns-in-Err-clause-exits
+returns-in-Err-clause-exits g c =
+    let disk = g.D.Disk in
+    let held = g.K.Sink.held in
+    let a = g.A.StoredSession in
+    let k = c.args.sink.now in
+    let d = c.args.disk.now in
+    let k' = c.refuse_payloads.new.sink in
+    λ t version st h.
+    inr (unwritten_none disk.content disk.images d, payloads_stand (a.stands_for c.args.payloads.now) (t, version) (held k) (held k') c.refuse_payloads.result c.in-Err.fault h c.in-Err.ensures.stands c.refuse_payloads.ensures.ends)

@@ -1,4 +1,4 @@
-use Rattle.std.proofs.Common.{◌⊎◌, inl, inr, Some, ap, ℕ, List, [], ◌∷◌, ◌++◌, subst, ◌∙◌}
+use Rattle.std.proofs.Common.{◌⊎◌, inl, inr, Some, ap, ℕ, List, [], ◌∷◌, ◌++◌, subst, ◌∙◌, refl}
 use Rattle.std.specs.Prelude.{option_to_list}
 use Rattle.gate_log.specs.LogOnDisk.{HoldsPayloads}
 use Rattle.stored_run.specs.Effects.{Adds, Stops}
@@ -7,6 +7,8 @@ use Rattle.stored_run.proofs.Causes.{caused_sink, caused_disk}
 use Rattle.stored_run.proofs.Moments.{leaves_same}
 use Rattle.stored_run.proofs.PackCalls.{safe_kept, safe_packed, safe_short, packs_call}
 use Rattle.stored_run.proofs.StoredPayloads.{images_held, reads_held}
+use Rattle.std.proofs.KnownBytes.{Appends-nil}
+use Rattle.stored_run.proofs.Openings.{unwritten_none}
 use Rattle.stored_run.proofs.pack_call.pack_session.Goals as goal
 
 pub returns-in_default-clause-safe : goal.returns-in_default-clause-safe
@@ -117,3 +119,53 @@ returns-clause-disk_fault g c =
     let d = c.args.disk.now in
     let d' = c.pack_store.new.disk in
     λ e. caused_disk g.K.Sink.faults g.K.Sink.empty_takes g.K.Sink.room held disk.faults c.in-Err.stop k k1 d d' (c.give_stop.ensures.disk e) c.in-Err.ensures.counted
+
+pub returns-in_default-clause-exits : goal.returns-in_default-clause-exits
+returns-in_default-clause-exits g c =
+    let disk = g.D.Disk in
+    let k = c.args.sink.now in
+    let d = c.args.disk.now in
+    λ before st. inr (unwritten_none disk.content disk.images d, (inr refl, Appends-nil (g.K.Sink.held k)))
+
+pub returns-in-Ok-pack_store-clause-exits : goal.returns-in-Ok-pack_store-clause-exits
+returns-in-Ok-pack_store-clause-exits g c =
+    let disk = g.D.Disk in
+    let held = g.K.Sink.held in
+    let a = g.A.StoredSession in
+    let k = c.args.sink.now in
+    let d = c.args.disk.now in
+    let l = c.args.log.now in
+    let t = a.state c.args.session.now in
+    let version = option_to_list c.args.version.now in
+    let k' = c.pack_store.new.sink in
+    let d' = c.pack_store.new.disk in
+    let l' = c.pack_store.new.log in
+    let line = c.as_slice-line.result.now in
+    let snap = c.as_slice-snapshot.ensures ∙ c.in-Ok.ensures.snapshot in
+    let says = c.as_slice-line.ensures ∙ c.in-Ok.ensures.line in
+    λ before st.
+    inl (record { d1 = d; log = l; log' = l'; stands = st; ends = inl (refl, subst (λ (y : List ℕ). Adds held disk.content disk.images disk.moment disk.images_since k d l k' d' l' y (version ++ a.snapshot_of t ∷ [])) says
+    (subst (λ (x : List ℕ). Adds held disk.content disk.images disk.moment disk.images_since k d l k' d' l' line (version ++ x ∷ [])) snap c.in-Ok-pack_store.ensures.packed)) })
+
+pub returns-clause-exits : goal.returns-clause-exits
+returns-clause-exits g c =
+    let disk = g.D.Disk in
+    let held = g.K.Sink.held in
+    let a = g.A.StoredSession in
+    let k = c.args.sink.now in
+    let d = c.args.disk.now in
+    let l = c.args.log.now in
+    let t = a.state c.args.session.now in
+    let version = option_to_list c.args.version.now in
+    let k1 = c.pack_store.new.sink in
+    let d' = c.pack_store.new.disk in
+    let l' = c.pack_store.new.log in
+    let stop = c.in-Err.stop in
+    let line = c.as_slice-line.result.now in
+    let snap = c.as_slice-snapshot.ensures ∙ c.in-Ok.ensures.snapshot in
+    let says = c.as_slice-line.ensures ∙ c.in-Ok.ensures.line in
+    λ before st.
+    inl (record { d1 = d; log = l; log' = l'; stands = st; ends = inr (record { k1 = k1; stop = stop; stops =
+    subst (λ (y : List ℕ). Stops held disk.content disk.images disk.moment disk.images_since k d l k1 d' l' stop [] [] [] version ⊎ Stops held disk.content disk.images disk.moment disk.images_since k d l k1 d' l' stop [] y version (a.snapshot_of t ∷ [])) says
+    (subst (λ (x : List ℕ). Stops held disk.content disk.images disk.moment disk.images_since k d l k1 d' l' stop [] [] [] version ⊎ Stops held disk.content disk.images disk.moment disk.images_since k d l k1 d' l' stop [] line version (x ∷ [])) snap c.in-Err.ensures.stopped);
+    status_is = c.give_stop.ensures.gives }) })
