@@ -31,7 +31,6 @@ module _ {K D State : Type 0} (held : K → Option (List ℕ)) (content : D → 
     (moment : D → ℕ) (images_since : D → ℕ → List ℕ → Type 0) (answer : State → ℕ → Line → Option (State × Answer))
     (only_now : (d : D) (c : List ℕ) → images_since d (moment d) c → images d c)
     (images_hold : (l : LogState) (d : D) (base : List (List ℕ)) (c : List ℕ) → Stands (content d) (images d) l base → images d c → HoldsPayloads base c) where
-
   adds_as : (k k' : K) (d d' : D) (l l' : LogState) (text text' : List ℕ) (kept kept' : List (List ℕ)) → text ≡ text' → kept ≡ kept'
       → Adds held content images moment images_since k d l k' d' l' text kept → Adds held content images moment images_since k d l k' d' l' text' kept'
   adds_as k k' d d' l l' text text' kept kept' e f h =
@@ -100,8 +99,8 @@ module _ {K D State : Type 0} (held : K → Option (List ℕ)) (content : D → 
     are = are_append a.steps b.steps a.are b.are;
     refused = refused_then p.refused p'.refused p''.refused a.steps b.steps a.refused b.refused;
     adds = adds_as k k'' d d'' l l'' (text_of a.steps ++ text_of b.steps) (text_of (a.steps ++ b.steps)) (kept_of a.steps ++ kept_of b.steps) (kept_of (a.steps ++ b.steps))
-    (sym (text_append a.steps b.steps)) (sym (kept_append a.steps b.steps))
-    (adds_then held content images moment images_since only_now images_hold k k' k'' d d' d'' l l' l'' (text_of a.steps) (text_of b.steps) (kept_of a.steps) (kept_of b.steps) a.adds b.adds);
+        (sym (text_append a.steps b.steps)) (sym (kept_append a.steps b.steps))
+        (adds_then held content images moment images_since only_now images_hold k k' k'' d d' d'' l l' l'' (text_of a.steps) (text_of b.steps) (kept_of a.steps) (kept_of b.steps) a.adds b.adds);
   }
 
   -- ---- stops
@@ -176,14 +175,14 @@ module _ {K D State : Type 0} (held : K → Option (List ℕ)) (content : D → 
     t' = s.t';
     n' = s.n';
     goes = subst (λ (x : List (State × Answer)). GoesOver answer t p.number (lines ++ s.lines) x s.t' s.n') (sym (append_assoc a.steps s.done s.begun))
-    (goes_then answer t t' s.t' p.number p'.number s.n' lines s.lines a.steps (s.done ++ s.begun) a.goes s.goes);
+        (goes_then answer t t' s.t' p.number p'.number s.n' lines s.lines a.steps (s.done ++ s.begun) a.goes s.goes);
     chain = subst (λ (x : List (State × Answer)). AreSteps answer t x) (sym (append_assoc a.steps s.done s.begun)) (chain_append answer t t' a.steps (s.done ++ s.begun) a.at_last a.chain s.chain);
     few = s.few;
     are_done = are_append a.steps s.done a.are s.are_done;
     are_begun = s.are_begun;
     stops = stops_as k k'' d d'' l l'' stop (text_of a.steps ++ text_of s.done) (text_of (a.steps ++ s.done)) (text_of s.begun) (text_of s.begun) (kept_of a.steps ++ kept_of s.done) (kept_of (a.steps ++ s.done)) (kept_of s.begun) (kept_of s.begun)
-    (sym (text_append a.steps s.done)) refl (sym (kept_append a.steps s.done)) refl
-    (stops_then held content images moment images_since only_now images_hold k k' k'' d d' d'' l l' l'' stop (text_of a.steps) (text_of s.done) (text_of s.begun) (kept_of a.steps) (kept_of s.done) (kept_of s.begun) a.adds s.stops);
+        (sym (text_append a.steps s.done)) refl (sym (kept_append a.steps s.done)) refl
+        (stops_then held content images moment images_since only_now images_hold k k' k'' d d' d'' l l' l'' stop (text_of a.steps) (text_of s.done) (text_of s.begun) (kept_of a.steps) (kept_of s.done) (kept_of s.begun) a.adds s.stops);
   }
 
   -- all lines are answered, and nothing is begun

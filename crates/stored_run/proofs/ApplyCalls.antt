@@ -39,9 +39,8 @@ module _ {K D State : Type 0} (held : K → Option (List ℕ)) (content : D → 
     (read_holds : (l : LogState) (d : D) (base : Payloads) → Stands (content d) (images d) l base → IfSome (content d) (HoldsPayloads base))
     (version_stands : (ps : Payloads) (t : State) (v : List ℕ) → stands_for ps ≡ Ok (t, Some v) → stands_for (ps ++ v ∷ []) ≡ Ok (t, None))
     (change_stands : (ps : Payloads) (t t' : State) (n : ℕ) (line : Line) (a : Answer) (p : List ℕ) → stands_for ps ≡ Ok (t, None) → answer t n line ≡ Some (t', a) → a.payload ≡ Some p
-        → stands_for (ps ++ p ∷ []) ≡ Ok (t', None))
+    → stands_for (ps ++ p ∷ []) ≡ Ok (t', None))
     (refused_stays : (t t' : State) (n : ℕ) (line : Line) (a : Answer) → answer t n line ≡ Some (t', a) → a.payload ≡ None → t' ≡ t) where
-
   -- ---- a store that went on
 
   no_stop : (stop : Stop) (status : Status) (A : Type 0) → status ≡ status_of stop → IsFinished status → A
@@ -136,7 +135,7 @@ module _ {K D State : Type 0} (held : K → Option (List ℕ)) (content : D → 
     appends = s.appends;
     now = s.now;
     moments = leaves_then moment images_since d d1 d' past' (λ c. past c ⊎ HoldsFirst before (option_to_list version ++ kept_of s.steps) c) (λ c. past' c ⊎ HoldsFirst before (option_to_list version ++ kept_of s.steps) c)
-    (λ c x. inl x) (λ c x. elim x [ inl p ↦ f (option_to_list version ++ kept_of s.steps) c p | inr h ↦ inr h ]) moments s.moments;
+        (λ c x. inl x) (λ c x. elim x [ inl p ↦ f (option_to_list version ++ kept_of s.steps) c p | inr h ↦ inr h ]) moments s.moments;
     stand = s.stand;
   }
 

@@ -37,7 +37,6 @@ module _ {K D State : Type 0} (held : K → Option (List ℕ)) (content : D → 
     (moment : D → ℕ) (images_since : D → ℕ → List ℕ → Type 0)
     (only_now : (d : D) (c : List ℕ) → images_since d (moment d) c → images d c)
     (images_hold : (l : LogState) (d : D) (base : List (List ℕ)) (c : List ℕ) → Stands (content d) (images d) l base → images d c → HoldsPayloads base c) where
-
   -- all answers were given, and then bytes in which there is no `ok` line
   pub safe_answers : (k k' k'' : K) (d d' : D) (l l' : LogState) (steps : List (State × Answer)) (more : List ℕ) → AreAnswers steps → ok_lines more ≡ 0
       → Adds held content images moment images_since k d l k' d' l' (text_of steps) (kept_of steps) → Appends (held k') (held k'') more
@@ -70,7 +69,7 @@ module _ {K D State : Type 0} (held : K → Option (List ℕ)) (content : D → 
         appends = given;
         now = λ base s c is. exactly base (kept_of done) begun (text_of done ++ more) c count (images_hold l' d' (base ++ kept_of done) c (stored base s) is);
         moments = λ base s. leaves_more moment images_since d d' (HoldsFirst base (kept_of done ++ [])) (HoldsFirst base (kept_of done ++ begun))
-        (λ c h. first_more base (kept_of done) begun c (subst (λ (x : List (List ℕ)). HoldsFirst base x c) (append-nil (kept_of done)) h)) (moments base s);
+            (λ c h. first_more base (kept_of done) begun c (subst (λ (x : List (List ℕ)). HoldsFirst base x c) (append-nil (kept_of done)) h)) (moments base s);
       }
 
   -- the answering stopped

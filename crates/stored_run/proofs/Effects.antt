@@ -72,7 +72,6 @@ module _ {K D : Type 0} (held : K → Option (List ℕ)) (content : D → Option
     (moment : D → ℕ) (images_since : D → ℕ → List ℕ → Type 0)
     (only_now : (d : D) (c : List ℕ) → images_since d (moment d) c → images d c)
     (images_hold : (l : LogState) (d : D) (base : Payloads) (c : List ℕ) → Stands (content d) (images d) l base → images d c → HoldsPayloads base c) where
-
   stands_as : (l : LogState) (d : D) (a b : Payloads) → a ≡ b → Stands (content d) (images d) l a → Stands (content d) (images d) l b
   stands_as l d a b e h = subst (λ (x : Payloads). Stands (content d) (images d) l x) e h
 
@@ -94,7 +93,7 @@ module _ {K D : Type 0} (held : K → Option (List ℕ)) (content : D → Option
     given = Appends-trans (held k) (held k') (held k'') text text' a.given b.given;
     stored = λ base s. stands_as l'' d'' ((base ++ kept) ++ kept') (base ++ (kept ++ kept')) (append_assoc base kept kept') (b.stored (base ++ kept) (a.stored base s));
     moments = λ base s. leaves_then moment images_since d d' d'' (HoldsFirst base kept) (HoldsFirst (base ++ kept) kept') (HoldsFirst base (kept ++ kept'))
-    (first_more base kept kept') (first_behind base kept kept') (a.moments base s) (b.moments (base ++ kept) (a.stored base s));
+        (first_more base kept kept') (first_behind base kept kept') (a.moments base s) (b.moments (base ++ kept) (a.stored base s));
   }
 
   gives_then : (stop : Stop) (k k' k'' : K) (text done begun : List ℕ) → Appends (held k) (held k') text
@@ -129,10 +128,10 @@ module _ {K D : Type 0} (held : K → Option (List ℕ)) (content : D → Option
     given = gives_then stop k k' k'' text done begun a.given b.given;
     stored = stores_then stop d d' d'' l l' l'' kept done_kept begun_kept a.stored b.stored;
     moments = λ base s.
-    leaves_then moment images_since d d' d'' (HoldsFirst base kept) (HoldsFirst (base ++ kept) (done_kept ++ begun_at stop begun_kept)) (HoldsFirst base ((kept ++ done_kept) ++ begun_at stop begun_kept))
-    (λ c h. first_as base (kept ++ (done_kept ++ begun_at stop begun_kept)) ((kept ++ done_kept) ++ begun_at stop begun_kept) c (sym (append_assoc kept done_kept (begun_at stop begun_kept))) (first_more base kept (done_kept ++ begun_at stop begun_kept) c h))
-    (λ c h. first_as base (kept ++ (done_kept ++ begun_at stop begun_kept)) ((kept ++ done_kept) ++ begun_at stop begun_kept) c (sym (append_assoc kept done_kept (begun_at stop begun_kept))) (first_behind base kept (done_kept ++ begun_at stop begun_kept) c h))
-    (a.moments base s) (b.moments (base ++ kept) (a.stored base s));
+        leaves_then moment images_since d d' d'' (HoldsFirst base kept) (HoldsFirst (base ++ kept) (done_kept ++ begun_at stop begun_kept)) (HoldsFirst base ((kept ++ done_kept) ++ begun_at stop begun_kept))
+        (λ c h. first_as base (kept ++ (done_kept ++ begun_at stop begun_kept)) ((kept ++ done_kept) ++ begun_at stop begun_kept) c (sym (append_assoc kept done_kept (begun_at stop begun_kept))) (first_more base kept (done_kept ++ begun_at stop begun_kept) c h))
+        (λ c h. first_as base (kept ++ (done_kept ++ begun_at stop begun_kept)) ((kept ++ done_kept) ++ begun_at stop begun_kept) c (sym (append_assoc kept done_kept (begun_at stop begun_kept))) (first_behind base kept (done_kept ++ begun_at stop begun_kept) c h))
+        (a.moments base s) (b.moments (base ++ kept) (a.stored base s));
   }
 
   -- ---- an append

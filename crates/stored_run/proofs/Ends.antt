@@ -45,7 +45,6 @@ module _ {K D State : Type 0} (held : K → Option (List ℕ)) (content : D → 
     (moment : D → ℕ) (images_since : D → ℕ → List ℕ → Type 0) (answer : State → ℕ → Line → Option (State × Answer))
     (only_now : (d : D) (c : List ℕ) → images_since d (moment d) c → images d c)
     (images_hold : (l : LogState) (d : D) (base : List (List ℕ)) (c : List ℕ) → Stands (content d) (images d) l base → images d c → HoldsPayloads base c) where
-
   -- ---- a whole journal
 
   -- out of memory before anything was read
@@ -71,7 +70,7 @@ module _ {K D State : Type 0} (held : K → Option (List ℕ)) (content : D → 
       at_end = e.at_end;
       within = e.within;
       answers = subst (λ (x : List Line). Answers held content images moment images_since answer k d l k'' d'' l'' t p x t'' p'') all_lines
-      (answers_then held content images moment images_since answer only_now images_hold k k' k'' d d' d'' l l' l'' t t' t'' p p' p'' (ended_lines e.bytes) (option_to_list (last_line input.lines.begun)) e.answers a);
+          (answers_then held content images moment images_since answer only_now images_hold k k' k'' d d' d'' l l' l'' t t' t'' p p' p'' (ended_lines e.bytes) (option_to_list (last_line input.lines.begun)) e.answers a);
     }
 
     pub stops_last : (k'' : K) (d'' : D) (l'' : LogState) (stop : Stop) → IsOwnStop stop → StopsAmong held content images moment images_since answer k' d' l' k'' d'' l'' t' p'.number (option_to_list (last_line input.lines.begun)) stop
@@ -83,7 +82,7 @@ module _ {K D State : Type 0} (held : K → Option (List ℕ)) (content : D → 
       within = e.within;
       own = own;
       among = subst (λ (x : List Line). StopsAmong held content images moment images_since answer k d l k'' d'' l'' t p.number x stop) all_lines
-      (stops_behind held content images moment images_since answer only_now images_hold k k' k'' d d' d'' l l' l'' t t' p p' (ended_lines e.bytes) (option_to_list (last_line input.lines.begun)) stop e.answers s);
+          (stops_behind held content images moment images_since answer only_now images_hold k k' k'' d d' d'' l l' l'' t t' p p' (ended_lines e.bytes) (option_to_list (last_line input.lines.begun)) stop e.answers s);
     })
 
   -- ---- exits
@@ -136,8 +135,8 @@ module _ {K D State : Type 0} (held : K → Option (List ℕ)) (content : D → 
       appends = s.appends;
       now = λ base h c is. inr (s.now (base ++ version) (a.stored base h) c is);
       moments = λ base h.
-      leaves_then moment images_since d d1 d' (HoldsFirst base version) (HoldsFirst (base ++ version) (kept_of steps)) (HoldsFirst base (version ++ kept_of steps))
-      (first_more base version (kept_of steps)) (first_behind base version (kept_of steps)) (a.moments base h) (s.moments (base ++ version) (a.stored base h));
+          leaves_then moment images_since d d1 d' (HoldsFirst base version) (HoldsFirst (base ++ version) (kept_of steps)) (HoldsFirst base (version ++ kept_of steps))
+          (first_more base version (kept_of steps)) (first_behind base version (kept_of steps)) (a.moments base h) (s.moments (base ++ version) (a.stored base h));
     }
 
   -- the journal came to its end, and then lines were given that do not begin with `ok `, or a prefix of them

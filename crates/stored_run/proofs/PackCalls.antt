@@ -136,7 +136,7 @@ module _ {K D : Type 0} (held : K → Option (List ℕ)) (content : D → Option
       safe_after past past' d1 f moments s = record {
         now = s.now;
         moments = leaves_then moment images_since d d1 d' past' (λ c. past c ⊎ HoldsFirst before whole c) (λ c. past' c ⊎ HoldsFirst before whole c)
-        (λ c x. inl x) (λ c x. elim x [ inl p ↦ f c p | inr y ↦ inr y ]) moments s.moments;
+            (λ c x. inl x) (λ c x. elim x [ inl p ↦ f c p | inr y ↦ inr y ]) moments s.moments;
         stand = s.stand;
       }
 

@@ -12,9 +12,8 @@ Payloads = List (List ℕ)
 module _ {State : Type 0} (answer : State → ℕ → Line → Option (State × Answer)) (stands_for : Payloads → Result (State × Option (List ℕ)) ReopenFault)
     (version_stands : (ps : Payloads) (t : State) (v : List ℕ) → stands_for ps ≡ Ok (t, Some v) → stands_for (ps ++ v ∷ []) ≡ Ok (t, None))
     (change_stands : (ps : Payloads) (t t' : State) (n : ℕ) (line : Line) (a : Answer) (p : List ℕ) → stands_for ps ≡ Ok (t, None) → answer t n line ≡ Some (t', a) → a.payload ≡ Some p
-        → stands_for (ps ++ p ∷ []) ≡ Ok (t', None))
+    → stands_for (ps ++ p ∷ []) ≡ Ok (t', None))
     (refused_stays : (t t' : State) (n : ℕ) (line : Line) (a : Answer) → answer t n line ≡ Some (t', a) → a.payload ≡ None → t' ≡ t) where
-
   -- these payloads stand for the triple behind some of the steps
   pub record StandsIn (before : Payloads) (t : State) (steps : List (State × Answer)) : Type 0 where
     pub xs : List (State × Answer)

@@ -12,3 +12,4 @@ pub mod Reopening
 pub mod ApplyCall
 pub mod StoreEnds
 pub mod PackCall
+pub mod ViewCall

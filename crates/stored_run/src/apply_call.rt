@@ -160,7 +160,15 @@ fn apply_payloads<S: Source, A: StoredSession + Drop, K: Sink, D: Disk>(
     match A::reopen(alloc, payloads) {
         Ok(opened) => {
             let mut opened = opened;
-            continue_store(alloc, &mut opened.session, &opened.version, source, log, disk, sink)
+            continue_store(
+                alloc,
+                &mut opened.session,
+                &opened.version,
+                source,
+                log,
+                disk,
+                sink,
+            )
         }
         Err(fault) => refuse_payloads(alloc, fault, sink),
     }

@@ -54,7 +54,9 @@ pub fn answer_journal<S: Source, A: StoredSession, K: Sink, D: Disk>(
         return Err(Stop::NoMemory);
     };
     let mut input = Input::new(alloc);
-    let progress = answer_pieces(alloc, session, &mut input, source, &mut piece, log, disk, sink)?;
+    let progress = answer_pieces(
+        alloc, session, &mut input, source, &mut piece, log, disk, sink,
+    )?;
     answer_last(alloc, session, progress, input, log, disk, sink)
 }
 

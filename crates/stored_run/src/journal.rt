@@ -61,7 +61,14 @@ fn give_answer<K: Sink, D: Disk>(
 {
     match &answer.payload {
         Some(payload) => {
-            store_and_answer(alloc, log, disk, sink, payload.as_slice(), answer.line.as_slice())
+            store_and_answer(
+                alloc,
+                log,
+                disk,
+                sink,
+                payload.as_slice(),
+                answer.line.as_slice(),
+            )
         }
         None => give_line(sink, answer.line.as_slice()),
     }

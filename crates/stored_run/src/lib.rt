@@ -1,8 +1,8 @@
-//! The commands over a store: `apply`, `pack`, and the part of `init` that makes it.
+//! The commands over a store: `apply`, `pack`, `show`, `verify`, and the part of `init` that makes it.
 //!
 //! A store is a log on a disk, and its payloads stand for a session. [`apply`] answers the lines of a journal. It stores the
-//! payload of each change that it accepts, and only then writes its answer. [`pack`] stores a snapshot of the session, and
-//! [`begin_store`] makes a store.
+//! payload of each change that it accepts, and only then writes its answer. [`pack`] stores a snapshot of the session.
+//! [`show`] and [`verify`] only read, and [`begin_store`] makes a store.
 //!
 //! A crash at any moment leaves a disk that holds the payload of each change whose `ok` line was written: `IsAcknowledged`
 //! in specs/Crash.antt, and `IsSafeCall` in specs/ApplyCall.antt for the complete call. `ContinuesCall` beside it is what a
@@ -20,6 +20,7 @@ mod session;
 mod status;
 mod stop;
 mod store;
+mod view_call;
 
 pub use apply_call::apply;
 pub use continuing::{answer_journal, continue_store};
@@ -31,3 +32,4 @@ pub use session::{Answer, Opened, Packing, ReopenFault, StoredSession};
 pub use status::Status;
 pub use stop::Stop;
 pub use store::{store_and_answer, store_version};
+pub use view_call::{show, verify};

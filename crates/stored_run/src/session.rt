@@ -74,6 +74,9 @@ pub trait StoredSession: Sized {
     /// The state lines.
     ghost state_text: { State → List ℕ };
 
+    /// The line of `verify`.
+    ghost count_text: { State → List ℕ };
+
     /// The payload of a snapshot.
     ghost snapshot_of: { State → List ℕ };
 
@@ -104,6 +107,10 @@ pub trait StoredSession: Sized {
     fn state_lines(&self, alloc: Global) -> Result<Bytes, AllocError>
         ensures text { IfOk result (λ text. text ≡ state_text (state self.now)) }
         ensures lines { IfOk result AreOtherLines };
+
+    /// The line of `verify`: `consistent N`. The only error is running out of memory.
+    fn count_line(&self, alloc: Global) -> Result<Bytes, AllocError>
+        ensures text { IfOk result (λ text. text ≡ count_text (state self.now)) };
 
     /// The version record changes nothing but the version.
     ghost version_stands: { (ps : List (List ℕ)) (t : State) (v : List ℕ)

@@ -77,7 +77,7 @@ returns-in-Err-clause-safe g c =
     let failed = at_disk_fault (g.K.Sink.held c.args.sink.now) (g.K.Sink.held c.refuse_log.new.sink) c.refuse_log.result c.in-Err.fault (only_disk c.in-Err.fault (disk.content d) bytes before told holds c.in-Err.ensures.log) c.refuse_log.ensures.ends in
     elim c.in-Err.ensures.synced [
       | inl now ↦ inr (safe_synced held disk.content disk.images disk.moment disk.images_since a.answer a.state_text a.stands_for hold reads laws.version_stands laws.change_stands laws.refused_stays (disk.images d) left left k k' d d1 before version t (Consumes-nil left) (at_log_other (g.K.Sink.held c.args.sink.now) (g.K.Sink.held c.refuse_log.new.sink) c.refuse_log.result c.in-Err.fault c.refuse_log.ensures.ends)
-        (synced_holds (disk.content d) bytes before (disk.images d1) told holds now) c.in-Err.ensures.moments h)
+          (synced_holds (disk.content d) bytes before (disk.images d1) told holds now) c.in-Err.ensures.moments h)
       | inr unsynced ↦ inl (failed.0, record { consumes = Consumes-nil left; given = failed.1; only = c.in-Err.ensures.images; moments = c.in-Err.ensures.moments })
     ]
 

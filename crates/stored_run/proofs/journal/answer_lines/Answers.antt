@@ -81,7 +81,7 @@ lines-preserved-in_ok-answer_line g c =
         h.0 ++ line ∷ [],
         h.1 ∙ ap (λ (l : List Line). h.0 ++ l) taken.0 ∙ sym (append_assoc h.0 (line ∷ []) new.lines.ended),
         answers_then held disk.content disk.images disk.moment disk.images_since answer only hold c.args.sink.now c.lines.sink c.answer_line.new.sink c.args.disk.now c.lines.disk c.answer_line.new.disk c.args.log.now c.lines.log c.answer_line.new.log
-        (state c.args.session.now) (state c.lines.session) (state c.answer_line.new.session) c.args.progress.now c.lines.progress c.answer_line.new.progress h.0 (line ∷ []) h.2 c.in_ok-answer_line.ensures.answered,
+            (state c.args.session.now) (state c.lines.session) (state c.answer_line.new.session) c.args.progress.now c.lines.progress c.answer_line.new.progress h.0 (line ∷ []) h.2 c.in_ok-answer_line.ensures.answered,
       );
       counted = counted_then g.K.Sink.faults g.K.Sink.empty_takes g.K.Sink.room held disk.faults c.args.sink.now c.lines.sink c.answer_line.new.sink c.args.disk.now c.lines.disk c.answer_line.new.disk None c.lines.invariant.counted c.in_ok-answer_line.ensures.counted;
       begun = taken.1 ∙ c.lines.invariant.begun;
@@ -106,7 +106,7 @@ lines-preserved g c =
         h.0 ++ line ∷ [],
         h.1 ∙ ap (λ (l : List Line). h.0 ++ l) taken.0 ∙ sym (append_assoc h.0 (line ∷ []) new.lines.ended),
         answers_then held disk.content disk.images disk.moment disk.images_since answer only hold c.args.sink.now c.lines.sink c.answer_line.new.sink c.args.disk.now c.lines.disk c.answer_line.new.disk c.args.log.now c.lines.log c.answer_line.new.log
-        (state c.args.session.now) (state c.lines.session) (state c.answer_line.new.session) c.args.progress.now c.lines.progress c.answer_line.new.progress h.0 (line ∷ []) h.2 c.in_ok-answer_line.ensures.answered,
+            (state c.args.session.now) (state c.lines.session) (state c.answer_line.new.session) c.args.progress.now c.lines.progress c.answer_line.new.progress h.0 (line ∷ []) h.2 c.in_ok-answer_line.ensures.answered,
       );
       counted = counted_then g.K.Sink.faults g.K.Sink.empty_takes g.K.Sink.room held disk.faults c.args.sink.now c.lines.sink c.answer_line.new.sink c.args.disk.now c.lines.disk c.answer_line.new.disk None c.lines.invariant.counted c.in_ok-answer_line.ensures.counted;
       begun = taken.1 ∙ c.lines.invariant.begun;

@@ -111,9 +111,10 @@ returns-in-Err-clause-refused g c =
     let k = c.args.sink.now in
     let k' = c.refuse_log.new.sink in
     let reading = c.in-Err.ensures.reads in
-    λ before bytes refusal told st q.
-    (record { same = reading.same_content; only = λ x now. (reading.same_images x).1 now }, 
-    inr (reading_fails (held k) (held k') c.refuse_log.result c.in-Err.fault c.payloads.result c.in-Err.is (at_some (disk.content d) bytes (NoBadRecord c.payloads.result) told c.payloads.ensures.never_bad) c.in-Err.ensures.possible c.refuse_log.ensures.ends))
+    λ before bytes refusal told st q. (
+      record { same = reading.same_content; only = λ x now. (reading.same_images x).1 now },
+      inr (reading_fails (held k) (held k') c.refuse_log.result c.in-Err.fault c.payloads.result c.in-Err.is (at_some (disk.content d) bytes (NoBadRecord c.payloads.result) told c.payloads.ensures.never_bad) c.in-Err.ensures.possible c.refuse_log.ensures.ends),
+    )
 
 pub returns-in-Ok-clause-exits : goal.returns-in-Ok-clause-exits
 returns-in-Ok-clause-exits g c =
@@ -148,5 +149,7 @@ returns-in-Err-clause-exits g c =
     let k' = c.refuse_log.new.sink in
     let reading = c.in-Err.ensures.reads in
     λ before bytes t version told st h.
-    inr (record { same = reading.same_content; only = λ x now. (reading.same_images x).1 now },
-    reading_fails (held k) (held k') c.refuse_log.result c.in-Err.fault c.payloads.result c.in-Err.is (at_some (disk.content d) bytes (NoBadRecord c.payloads.result) told c.payloads.ensures.never_bad) c.in-Err.ensures.possible c.refuse_log.ensures.ends)
+    inr (
+      record { same = reading.same_content; only = λ x now. (reading.same_images x).1 now },
+      reading_fails (held k) (held k') c.refuse_log.result c.in-Err.fault c.payloads.result c.in-Err.is (at_some (disk.content d) bytes (NoBadRecord c.payloads.result) told c.payloads.ensures.never_bad) c.in-Err.ensures.possible c.refuse_log.ensures.ends,
+    )

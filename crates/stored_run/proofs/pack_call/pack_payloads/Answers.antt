@@ -110,7 +110,7 @@ returns-in-Ok-clause-exits g c =
     λ t version st h.
     let other : a.State × Option (List ℕ) = (t, version) in
     subst (λ (x : a.State × Option (List ℕ)). StoresBehind held disk.content disk.images disk.moment disk.images_since k k' d' before (a.packed_text x.0) (option_to_list x.1) (a.snapshot_of x.0) status
-      ⊎ IsUnwritten disk.content disk.images d d' × FailsEarly (held k) (held k') status) (same_ok one other (a.stands_for before) c.in-Ok.ensures.stands h)
+    ⊎ IsUnwritten disk.content disk.images d d' × FailsEarly (held k) (held k') status) (same_ok one other (a.stands_for before) c.in-Ok.ensures.stands h)
     (c.pack_session.ensures.exits before st)
 
 pub returns-in-Err-clause-exits : goal.returns-in-Err-clause-exits

@@ -144,8 +144,17 @@ returns-in-Ok-pack_store-clause-exits g c =
     let snap = c.as_slice-snapshot.ensures ∙ c.in-Ok.ensures.snapshot in
     let says = c.as_slice-line.ensures ∙ c.in-Ok.ensures.line in
     λ before st.
-    inl (record { d1 = d; log = l; log' = l'; stands = st; ends = inl (refl, subst (λ (y : List ℕ). Adds held disk.content disk.images disk.moment disk.images_since k d l k' d' l' y (version ++ a.snapshot_of t ∷ [])) says
-    (subst (λ (x : List ℕ). Adds held disk.content disk.images disk.moment disk.images_since k d l k' d' l' line (version ++ x ∷ [])) snap c.in-Ok-pack_store.ensures.packed)) })
+    inl (record {
+      d1 = d;
+      log = l;
+      log' = l';
+      stands = st;
+      ends = inl (
+        refl,
+        subst (λ (y : List ℕ). Adds held disk.content disk.images disk.moment disk.images_since k d l k' d' l' y (version ++ a.snapshot_of t ∷ [])) says
+            (subst (λ (x : List ℕ). Adds held disk.content disk.images disk.moment disk.images_since k d l k' d' l' line (version ++ x ∷ [])) snap c.in-Ok-pack_store.ensures.packed),
+      );
+    })
 
 pub returns-clause-exits : goal.returns-clause-exits
 returns-clause-exits g c =
@@ -165,7 +174,17 @@ returns-clause-exits g c =
     let snap = c.as_slice-snapshot.ensures ∙ c.in-Ok.ensures.snapshot in
     let says = c.as_slice-line.ensures ∙ c.in-Ok.ensures.line in
     λ before st.
-    inl (record { d1 = d; log = l; log' = l'; stands = st; ends = inr (record { k1 = k1; stop = stop; stops =
-    subst (λ (y : List ℕ). Stops held disk.content disk.images disk.moment disk.images_since k d l k1 d' l' stop [] [] [] version ⊎ Stops held disk.content disk.images disk.moment disk.images_since k d l k1 d' l' stop [] y version (a.snapshot_of t ∷ [])) says
-    (subst (λ (x : List ℕ). Stops held disk.content disk.images disk.moment disk.images_since k d l k1 d' l' stop [] [] [] version ⊎ Stops held disk.content disk.images disk.moment disk.images_since k d l k1 d' l' stop [] line version (x ∷ [])) snap c.in-Err.ensures.stopped);
-    status_is = c.give_stop.ensures.gives }) })
+    inl (record {
+      d1 = d;
+      log = l;
+      log' = l';
+      stands = st;
+      ends = inr (record {
+        k1 = k1;
+        stop = stop;
+        stops =
+            subst (λ (y : List ℕ). Stops held disk.content disk.images disk.moment disk.images_since k d l k1 d' l' stop [] [] [] version ⊎ Stops held disk.content disk.images disk.moment disk.images_since k d l k1 d' l' stop [] y version (a.snapshot_of t ∷ [])) says
+            (subst (λ (x : List ℕ). Stops held disk.content disk.images disk.moment disk.images_since k d l k1 d' l' stop [] [] [] version ⊎ Stops held disk.content disk.images disk.moment disk.images_since k d l k1 d' l' stop [] line version (x ∷ [])) snap c.in-Err.ensures.stopped);
+        status_is = c.give_stop.ensures.gives;
+      });
+    })
