@@ -4,6 +4,7 @@ use Rattle.std.specs.Prelude.{option_to_list, IfSome}
 use Rattle.std.specs.Io.KnownBytes.{Appends}
 use Rattle.lens_io.specs.Disks.{LeavesOnly}
 use Rattle.gate_log.specs.LogOnDisk.{LogState, HoldsPayloads, Stands}
+use Rattle.stored_run.specs.CountLines.{packed_line}
 use Rattle.stored_run.specs.Effects.{HoldsFirst, begun_at, Adds, Stops}
 use Rattle.stored_run.specs.PackCall.{PacksCall, IsSafePack}
 use Rattle.stored_run.specs.Ends.{IsFinished, status_of}
@@ -69,7 +70,7 @@ module _ {K D : Type 0} (held : K → Option (List ℕ)) (content : D → Option
       let parts = begun_parts stop kept begun more in
       leaves_more moment images_since d d' (HoldsFirst base (kept ++ begun_at stop begun)) (HoldsFirst base whole) (λ c h. first_of base (kept ++ begun_at stop begun) parts.0 whole c (parts.1 ∙ e) h) (s.moments base st)
 
-  module _ {State : Type 0} (snapshot_of packed_text : State → List ℕ) (stands_for : Payloads → Result (State × Option (List ℕ)) ReopenFault)
+  module _ {State : Type 0} (snapshot_of : State → List ℕ) (count_of : Payloads → ℕ) (stands_for : Payloads → Result (State × Option (List ℕ)) ReopenFault)
       (read_holds : (l : LogState) (d : D) (base : Payloads) → Stands (content d) (images d) l base → IfSome (content d) (HoldsPayloads base))
       (version_stands : (ps : Payloads) (t : State) (v : List ℕ) → stands_for ps ≡ Ok (t, Some v) → stands_for (ps ++ v ∷ []) ≡ Ok (t, None))
       (snapshot_stands : (ps : Payloads) (t : State) → stands_for ps ≡ Ok (t, None) → stands_for (ps ++ snapshot_of t ∷ []) ≡ Ok (t, None)) where
@@ -101,18 +102,18 @@ module _ {K D : Type 0} (held : K → Option (List ℕ)) (content : D → Option
       whole = option_to_list version ++ snapshot_of t ∷ []
 
       safe_of : (past : List ℕ → Type 0) → ((c : List ℕ) → images d' c → HoldsFirst before whole c) → LeavesOnly moment images_since d d' (λ c. past c ⊎ HoldsFirst before whole c)
-          → IsSafePack held content images moment images_since snapshot_of packed_text stands_for past d d' before t version
+          → IsSafePack held content images moment images_since snapshot_of count_of stands_for past d d' before t version
       safe_of past now moments = record { now = now; moments = moments; stand = λ front rest e. each_stands before t version front rest h e }
 
       pub safe_packed : (past : List ℕ → Type 0) (k k' : K) (l l' : LogState) (line : List ℕ) → Adds held content images moment images_since k d l k' d' l' line whole → Stands (content d) (images d) l before
-          → IsSafePack held content images moment images_since snapshot_of packed_text stands_for past d d' before t version
+          → IsSafePack held content images moment images_since snapshot_of count_of stands_for past d d' before t version
       safe_packed past k k' l l' line a st =
           safe_of past (λ c now. first_all before whole c (images_hold l' d' (before ++ whole) c (a.stored before st) now))
           (leaves_more moment images_since d d' (HoldsFirst before whole) (λ c. past c ⊎ HoldsFirst before whole c) (λ c x. inr x) (a.moments before st))
 
       pub safe_short : (past : List ℕ → Type 0) (k k' : K) (l l' : LogState) (stop : Stop) (line : List ℕ)
           → Stops held content images moment images_since k d l k' d' l' stop [] [] [] (option_to_list version) ⊎ Stops held content images moment images_since k d l k' d' l' stop [] line (option_to_list version) (snapshot_of t ∷ [])
-          → Stands (content d) (images d) l before → IsSafePack held content images moment images_since snapshot_of packed_text stands_for past d d' before t version
+          → Stands (content d) (images d) l before → IsSafePack held content images moment images_since snapshot_of count_of stands_for past d d' before t version
       safe_short past k k' l l' stop line (inl s) st =
           safe_of past (now_at stop k k' d d' l l' before whole [] [] [] (option_to_list version) (snapshot_of t ∷ []) refl s st)
           (leaves_more moment images_since d d' (HoldsFirst before whole) (λ c. past c ⊎ HoldsFirst before whole c) (λ c x. inr x)
@@ -124,15 +125,15 @@ module _ {K D : Type 0} (held : K → Option (List ℕ)) (content : D → Option
 
       -- the store is as it was
       pub safe_kept : (past : List ℕ → Type 0) → ((c : List ℕ) → images d' c → HoldsPayloads before c) → LeavesOnly moment images_since d d' past
-          → IsSafePack held content images moment images_since snapshot_of packed_text stands_for past d d' before t version
+          → IsSafePack held content images moment images_since snapshot_of count_of stands_for past d d' before t version
       safe_kept past now moments =
           safe_of past (λ c is. first_none before whole c (now c is))
           (leaves_more moment images_since d d' past (λ c. past c ⊎ HoldsFirst before whole c) (λ c x. inl x) moments)
 
       -- behind calls of the disk that left no other image
       pub safe_after : (past past' : List ℕ → Type 0) (d1 : D) → ((c : List ℕ) → past c → past' c ⊎ HoldsFirst before whole c) → LeavesOnly moment images_since d d1 past'
-          → IsSafePack held content images moment images_since snapshot_of packed_text stands_for past d1 d' before t version
-          → IsSafePack held content images moment images_since snapshot_of packed_text stands_for past' d d' before t version
+          → IsSafePack held content images moment images_since snapshot_of count_of stands_for past d1 d' before t version
+          → IsSafePack held content images moment images_since snapshot_of count_of stands_for past' d d' before t version
       safe_after past past' d1 f moments s = record {
         now = s.now;
         moments = leaves_then moment images_since d d1 d' past' (λ c. past c ⊎ HoldsFirst before whole c) (λ c. past' c ⊎ HoldsFirst before whole c)
@@ -140,8 +141,8 @@ module _ {K D : Type 0} (held : K → Option (List ℕ)) (content : D → Option
         stand = s.stand;
       }
 
-      pub packs_call : (k k' : K) (l l' : LogState) (line : List ℕ) → line ≡ packed_text t → Adds held content images moment images_since k d l k' d' l' line whole → Stands (content d) (images d) l before
-          → PacksCall held content images moment images_since snapshot_of packed_text stands_for k k' d' before t version
+      pub packs_call : (k k' : K) (l l' : LogState) (line : List ℕ) → line ≡ packed_line (count_of before) → Adds held content images moment images_since k d l k' d' l' line whole → Stands (content d) (images d) l before
+          → PacksCall held content images moment images_since snapshot_of count_of stands_for k k' d' before t version
       packs_call k k' l l' line e a st = record {
         given = subst (Appends (held k) (held k')) e a.given;
         kept = read_holds l' d' (before ++ whole) (a.stored before st);

@@ -1,5 +1,5 @@
 -- The end of a command that stores a payload and writes a line.
-use Rattle.std.proofs.Common.{◌≡◌, ◌⊎◌, inl, inr, ℕ, ◌<◌, List, [], ◌∷◌, ◌++◌, Option, Some, None, length, sym, subst, arith}
+use Rattle.std.proofs.Common.{◌≡◌, inl, inr, ℕ, List, [], ◌∷◌, ◌++◌, Option, Some, None, subst}
 use Rattle.std.specs.Prelude.{IfSome}
 use Rattle.gate_log.specs.CallEnds.{IsCreateFault}
 use Rattle.gate_log.specs.LogOnDisk.{LogState}

@@ -5,6 +5,7 @@ pub mod Effects
 pub mod Stopping
 pub mod Answered
 pub mod Journal
+pub mod CountLines
 pub mod Crash
 pub mod Refusals
 pub mod Ends

@@ -3,18 +3,19 @@ use Rattle.std.specs.Prelude.{◌≡◌, ◌⊎◌, ℕ, List, [], ◌∷◌, �
 use Rattle.std.specs.Io.KnownBytes.{Appends}
 use Rattle.lens_io.specs.Disks.{LeavesOnly}
 use Rattle.gate_log.specs.LogOnDisk.{HoldsPayloads}
+use Rattle.stored_run.specs.CountLines.{packed_line}
 use Rattle.stored_run.specs.Effects.{HoldsFirst}
 use Rattle.stored_run.specs.declared.session.ReopenFault.{ReopenFault}
 
 -- A sink and a disk, before a call (k, d) and after it (k', d'). The payloads held before the call stand for the state t, with a version
 -- record if it is still to be stored.
 module _ {K D State : Type 0} (held : K → Option (List ℕ)) (content : D → Option (List ℕ)) (images : D → List ℕ → Type 0)
-    (moment : D → ℕ) (images_since : D → ℕ → List ℕ → Type 0) (snapshot_of packed_text : State → List ℕ)
+    (moment : D → ℕ) (images_since : D → ℕ → List ℕ → Type 0) (snapshot_of : State → List ℕ) (count_of : List (List ℕ) → ℕ)
     (stands_for : List (List ℕ) → Result (State × Option (List ℕ)) ReopenFault) where
   -- The payloads held are those from before, the version record if it was to be stored, and the snapshot of the state for which they
-  -- stand. They stand for the same state. The line of `pack` was written.
+  -- stand. They stand for the same state. The line `packed N` was written, N the number of changes among the payloads from before.
   pub record PacksCall (k k' : K) (d' : D) (before : List (List ℕ)) (t : State) (version : Option (List ℕ)) : Type 0 where
-    pub given : Appends (held k) (held k') (packed_text t)
+    pub given : Appends (held k) (held k') (packed_line (count_of before))
     pub kept : IfSome (content d') (HoldsPayloads (before ++ (option_to_list version ++ snapshot_of t ∷ [])))
     pub stand : stands_for (before ++ (option_to_list version ++ snapshot_of t ∷ [])) ≡ Ok (t, None)
 

@@ -12,6 +12,7 @@
 
 mod apply_call;
 mod continuing;
+mod count_lines;
 mod journal;
 mod making;
 mod pack_call;
@@ -28,7 +29,7 @@ pub use journal::{Progress, answer_line, answer_lines, answer_pieces};
 pub use making::begin_store;
 pub use pack_call::{pack, pack_store};
 pub use refusals::StoreRefusal;
-pub use session::{Answer, Opened, Packing, ReopenFault, StoredSession};
+pub use session::{Answer, Opened, ReopenFault, StoredSession};
 pub use status::Status;
 pub use stop::Stop;
 pub use store::{store_and_answer, store_version};

@@ -1,9 +1,10 @@
 //! The command `pack`, from its first call of the disk on.
-ghost use Rattle.std.specs.Prelude.{◌≡◌, ◌⊎◌, ◌∷◌, ◌++◌, [], List, ℕ, Ok, Some, OnOk, IfErr, option_to_list};
+ghost use Rattle.std.specs.Prelude.{◌≡◌, ◌⊎◌, ◌∷◌, ◌++◌, [], List, ℕ, Ok, Some, OnOk, IfOk, IfErr, option_to_list};
 ghost use Rattle.std.specs.declared.option.Option.{Option};
 ghost use Rattle.lens_io.specs.Causes.{Increased};
 ghost use Rattle.gate_log.specs.LogOnDisk.{HoldsPayloads, Stands};
 ghost use Rattle.stored_run.specs.Causes.{Counted, stop_in, SinkFailed};
+ghost use Rattle.stored_run.specs.CountLines.{packed_line};
 ghost use Rattle.stored_run.specs.Effects.{Adds, Stops};
 ghost use Rattle.stored_run.specs.Ends.{IsFinished};
 ghost use Rattle.stored_run.specs.Refusals.{IsUnwritten, EndsRefused, FailsEarly, refusal_in, refusal_of_payloads};
@@ -11,6 +12,7 @@ ghost use Rattle.stored_run.specs.declared.refusals.StoreRefusal.{StoreRefusal};
 ghost use Rattle.stored_run.specs.StoreEnds.{StoresBehind};
 ghost use Rattle.stored_run.specs.PackCall.{PacksCall, IsSafePack, IsUnpacked};
 
+use crate::count_lines::packed_line;
 use crate::refusals::{give_stop, refuse_log, refuse_payloads};
 use crate::session::StoredSession;
 use crate::status::Status;
@@ -18,7 +20,7 @@ use crate::stop::Stop;
 use crate::store::{store_and_answer, store_version};
 use gate_log::{Log, open_log};
 use lens_io::{Disk, Payloads, Sink};
-use std::alloc::Global;
+use std::alloc::{AllocError, Global};
 use texts::Bytes;
 
 /// Opens a store, stores a snapshot of the session for which its payloads stand, and then writes the line of `pack`.
@@ -40,19 +42,19 @@ pub fn pack<A: StoredSession + Drop, K: Sink, D: Disk>(
     ensures packs { (before : List (List ℕ)) (bytes : List ℕ) (t : A.State) (version : Option (List ℕ))
         → D.content disk.old ≡ Some bytes → HoldsPayloads before bytes → A.stands_for before ≡ Ok (t, version)
         → IsFinished result
-        → PacksCall K.held D.content D.images D.moment D.images_since A.snapshot_of A.packed_text A.stands_for
+        → PacksCall K.held D.content D.images D.moment D.images_since A.snapshot_of A.count_of A.stands_for
         sink.old sink.new disk.new before t version }
     ensures safe { (before : List (List ℕ)) (bytes : List ℕ) (t : A.State) (version : Option (List ℕ))
         → D.content disk.old ≡ Some bytes → HoldsPayloads before bytes → A.stands_for before ≡ Ok (t, version)
         → (result ≡ Status.DiskFault)
-        × IsUnpacked K.held D.content D.images D.moment D.images_since A.snapshot_of A.packed_text A.stands_for
+        × IsUnpacked K.held D.content D.images D.moment D.images_since A.snapshot_of A.count_of A.stands_for
         sink.old disk.old sink.new disk.new
-        ⊎ IsSafePack K.held D.content D.images D.moment D.images_since A.snapshot_of A.packed_text A.stands_for
+        ⊎ IsSafePack K.held D.content D.images D.moment D.images_since A.snapshot_of A.count_of A.stands_for
         (D.images disk.old) disk.old disk.new before t version }
     ensures exits { (before : List (List ℕ)) (bytes : List ℕ) (t : A.State) (version : Option (List ℕ))
         → D.content disk.old ≡ Some bytes → HoldsPayloads before bytes → A.stands_for before ≡ Ok (t, version)
         → StoresBehind K.held D.content D.images D.moment D.images_since sink.old sink.new disk.new
-        before (A.packed_text t) (option_to_list version) (A.snapshot_of t) result
+        before (packed_line (A.count_of before)) (option_to_list version) (A.snapshot_of t) result
         ⊎ IsUnwritten D.content D.images disk.old disk.new
         × FailsEarly (K.held sink.old) (K.held sink.new) result }
     ensures refused { (bytes : List ℕ) (refusal : StoreRefusal)
@@ -85,18 +87,18 @@ fn pack_log<A: StoredSession + Drop, K: Sink, D: Disk>(
     ensures packs { (before : List (List ℕ)) (bytes : List ℕ) (t : A.State) (version : Option (List ℕ))
         → D.content disk.old ≡ Some bytes → Stands (D.content disk.old) (D.images disk.old) log.old before
         → A.stands_for before ≡ Ok (t, version) → IsFinished result
-        → PacksCall K.held D.content D.images D.moment D.images_since A.snapshot_of A.packed_text A.stands_for
+        → PacksCall K.held D.content D.images D.moment D.images_since A.snapshot_of A.count_of A.stands_for
         sink.old sink.new disk.new before t version }
     ensures safe { (before : List (List ℕ)) (bytes : List ℕ) (t : A.State) (version : Option (List ℕ))
         → D.content disk.old ≡ Some bytes → Stands (D.content disk.old) (D.images disk.old) log.old before
         → A.stands_for before ≡ Ok (t, version)
-        → IsSafePack K.held D.content D.images D.moment D.images_since A.snapshot_of A.packed_text A.stands_for
+        → IsSafePack K.held D.content D.images D.moment D.images_since A.snapshot_of A.count_of A.stands_for
         (HoldsPayloads before) disk.old disk.new before t version }
     ensures exits { (before : List (List ℕ)) (bytes : List ℕ) (t : A.State) (version : Option (List ℕ))
         → D.content disk.old ≡ Some bytes → Stands (D.content disk.old) (D.images disk.old) log.old before
         → A.stands_for before ≡ Ok (t, version)
         → StoresBehind K.held D.content D.images D.moment D.images_since sink.old sink.new disk.new
-        before (A.packed_text t) (option_to_list version) (A.snapshot_of t) result
+        before (packed_line (A.count_of before)) (option_to_list version) (A.snapshot_of t) result
         ⊎ IsUnwritten D.content D.images disk.old disk.new
         × FailsEarly (K.held sink.old) (K.held sink.new) result }
     ensures refused { (before : List (List ℕ)) (bytes : List ℕ) (refusal : StoreRefusal)
@@ -128,18 +130,18 @@ fn pack_payloads<A: StoredSession + Drop, K: Sink, D: Disk>(
     ensures packs { (t : A.State) (version : Option (List ℕ))
         → Stands (D.content disk.old) (D.images disk.old) log.old payloads.now
         → A.stands_for payloads.now ≡ Ok (t, version) → IsFinished result
-        → PacksCall K.held D.content D.images D.moment D.images_since A.snapshot_of A.packed_text A.stands_for
+        → PacksCall K.held D.content D.images D.moment D.images_since A.snapshot_of A.count_of A.stands_for
         sink.old sink.new disk.new payloads.now t version }
     ensures safe { (t : A.State) (version : Option (List ℕ))
         → Stands (D.content disk.old) (D.images disk.old) log.old payloads.now
         → A.stands_for payloads.now ≡ Ok (t, version)
-        → IsSafePack K.held D.content D.images D.moment D.images_since A.snapshot_of A.packed_text A.stands_for
+        → IsSafePack K.held D.content D.images D.moment D.images_since A.snapshot_of A.count_of A.stands_for
         (HoldsPayloads payloads.now) disk.old disk.new payloads.now t version }
     ensures exits { (t : A.State) (version : Option (List ℕ))
         → Stands (D.content disk.old) (D.images disk.old) log.old payloads.now
         → A.stands_for payloads.now ≡ Ok (t, version)
         → StoresBehind K.held D.content D.images D.moment D.images_since sink.old sink.new disk.new
-        payloads.now (A.packed_text t) (option_to_list version) (A.snapshot_of t) result
+        payloads.now (packed_line (A.count_of payloads.now)) (option_to_list version) (A.snapshot_of t) result
         ⊎ IsUnwritten D.content D.images disk.old disk.new
         × FailsEarly (K.held sink.old) (K.held sink.new) result }
     ensures refused { (refusal : StoreRefusal)
@@ -152,7 +154,17 @@ fn pack_payloads<A: StoredSession + Drop, K: Sink, D: Disk>(
         → Increased (D.faults disk.old) (D.faults disk.new) }
 {
     match A::reopen(alloc, payloads) {
-        Ok(opened) => pack_session(alloc, &opened.session, &opened.version, log, sink, disk),
+        Ok(opened) => {
+            pack_session(
+                alloc,
+                &opened.session,
+                opened.count,
+                &opened.version,
+                log,
+                sink,
+                disk,
+            )
+        }
         Err(fault) => refuse_payloads(alloc, fault, sink),
     }
 }
@@ -161,6 +173,7 @@ fn pack_payloads<A: StoredSession + Drop, K: Sink, D: Disk>(
 fn pack_session<A: StoredSession, K: Sink, D: Disk>(
     alloc: Global,
     session: &A,
+    count: u64,
     version: &Option<Bytes>,
     log: &mut Log,
     sink: &mut K,
@@ -170,18 +183,19 @@ fn pack_session<A: StoredSession, K: Sink, D: Disk>(
         × Stands (D.content disk.old) (D.images disk.old) log.old base }
     ensures packs { (before : List (List ℕ))
         → Stands (D.content disk.old) (D.images disk.old) log.old before
-        → A.stands_for before ≡ Ok (A.state session.now, version.now) → IsFinished result
-        → PacksCall K.held D.content D.images D.moment D.images_since A.snapshot_of A.packed_text A.stands_for
+        → A.stands_for before ≡ Ok (A.state session.now, version.now)
+        → count ≡ A.count_of before → IsFinished result
+        → PacksCall K.held D.content D.images D.moment D.images_since A.snapshot_of A.count_of A.stands_for
         sink.old sink.new disk.new before (A.state session.now) version.now }
     ensures safe { (before : List (List ℕ))
         → Stands (D.content disk.old) (D.images disk.old) log.old before
         → A.stands_for before ≡ Ok (A.state session.now, version.now)
-        → IsSafePack K.held D.content D.images D.moment D.images_since A.snapshot_of A.packed_text A.stands_for
+        → IsSafePack K.held D.content D.images D.moment D.images_since A.snapshot_of A.count_of A.stands_for
         (HoldsPayloads before) disk.old disk.new before (A.state session.now) version.now }
     ensures exits { (before : List (List ℕ))
         → Stands (D.content disk.old) (D.images disk.old) log.old before
         → StoresBehind K.held D.content D.images D.moment D.images_since sink.old sink.new disk.new
-        before (A.packed_text (A.state session.now)) (option_to_list version.now) (A.snapshot_of (A.state session.now)) result
+        before (packed_line count) (option_to_list version.now) (A.snapshot_of (A.state session.now)) result
         ⊎ IsUnwritten D.content D.images disk.old disk.new
         × FailsEarly (K.held sink.old) (K.held sink.new) result }
     ensures sink_fault { result ≡ Status.SinkFault
@@ -189,7 +203,7 @@ fn pack_session<A: StoredSession, K: Sink, D: Disk>(
     ensures disk_fault { result ≡ Status.DiskFault
         → Increased (D.faults disk.old) (D.faults disk.new) }
 {
-    let Ok(packing) = session.packing(alloc) else {
+    let Ok(packing) = packing_of(alloc, session, count) else {
         return Status::NoMemory;
     };
     let snapshot = packing.snapshot.as_slice();
@@ -198,6 +212,27 @@ fn pack_session<A: StoredSession, K: Sink, D: Disk>(
         Ok(()) => Status::Done,
         Err(stop) => give_stop(stop, sink),
     }
+}
+
+// What `pack` stores and writes.
+#[derive(Drop)]
+struct Packing {
+    snapshot: Bytes,
+    line: Bytes,
+}
+
+// The snapshot, and the line `packed N`.
+fn packing_of<A: StoredSession>(
+    alloc: Global,
+    session: &A,
+    count: u64,
+) -> Result<Packing, AllocError>
+    ensures snapshot { IfOk result (λ p. p.snapshot ≡ A.snapshot_of (A.state session.now)) }
+    ensures line { IfOk result (λ p. p.line ≡ packed_line count) }
+{
+    let snapshot = session.snapshot(alloc)?;
+    let line = packed_line(alloc, count)?;
+    Ok(Packing { snapshot, line })
 }
 
 /// Stores the version record, if there is one to store, then the snapshot, and then writes the line of `pack`.

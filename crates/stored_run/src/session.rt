@@ -38,15 +38,8 @@ pub struct Opened<A> {
     pub session: A,
     /// The version record, if it is still to be stored.
     pub version: Option<Bytes>,
-}
-
-/// What `pack` stores and writes.
-#[derive(Drop)]
-pub struct Packing {
-    /// The payload of the snapshot.
-    pub snapshot: Bytes,
-    /// The line `packed N`, with its line feed.
-    pub line: Bytes,
+    /// How many of the payloads are of changes.
+    pub count: u64,
 }
 
 /// Why payloads stand for no session. Records are numbered from 1, and the fault is that of the first record that has one.
@@ -62,7 +55,7 @@ pub enum ReopenFault {
 
 /// A session that payloads can stand for: its calls, and the laws that tie them to the payloads.
 pub trait StoredSession: Sized {
-    /// What the payloads of a store stand for: the lens, its triple and how many changes were accepted.
+    /// What the payloads of a store stand for: the lens and its triple.
     ghost State: { Type 0 };
 
     /// The state of this session.
@@ -74,14 +67,11 @@ pub trait StoredSession: Sized {
     /// The state lines.
     ghost state_text: { State → List ℕ };
 
-    /// The line of `verify`.
-    ghost count_text: { State → List ℕ };
-
     /// The payload of a snapshot.
     ghost snapshot_of: { State → List ℕ };
 
-    /// The line of `pack`.
-    ghost packed_text: { State → List ℕ };
+    /// How many payloads are of changes.
+    ghost count_of: { List (List ℕ) → ℕ };
 
     /// The state for which payloads stand, with the version record if it is not among them; or why they stand for none.
     ghost stands_for: { List (List ℕ) → Result (State × Option (List ℕ)) ReopenFault };
@@ -90,12 +80,12 @@ pub trait StoredSession: Sized {
     fn reopen(alloc: Global, payloads: &Payloads) -> Result<Opened<Self>, ReopenFault>
         ensures stands { MatchResult result
             (λ o. stands_for payloads.now ≡ Ok (state o.session, o.version))
-            (IsReopenFault (stands_for payloads.now)) };
+            (IsReopenFault (stands_for payloads.now)) }
+        ensures count { IfOk result (λ o. o.count ≡ count_of payloads.now) };
 
-    /// The snapshot, and the line of `pack`. The only error is running out of memory.
-    fn packing(&self, alloc: Global) -> Result<Packing, AllocError>
-        ensures snapshot { IfOk result (λ p. p.snapshot ≡ snapshot_of (state self.now)) }
-        ensures line { IfOk result (λ p. p.line ≡ packed_text (state self.now)) };
+    /// The payload of a snapshot. The only error is running out of memory.
+    fn snapshot(&self, alloc: Global) -> Result<Bytes, AllocError>
+        ensures { IfOk result (λ payload. payload ≡ snapshot_of (state self.now)) };
 
     /// Answers the item with this number. The only error is running out of memory.
     fn answer(&mut self, alloc: Global, number: u64, line: &Line) -> Result<Answer, AllocError>
@@ -107,10 +97,6 @@ pub trait StoredSession: Sized {
     fn state_lines(&self, alloc: Global) -> Result<Bytes, AllocError>
         ensures text { IfOk result (λ text. text ≡ state_text (state self.now)) }
         ensures lines { IfOk result AreOtherLines };
-
-    /// The line of `verify`: `consistent N`. The only error is running out of memory.
-    fn count_line(&self, alloc: Global) -> Result<Bytes, AllocError>
-        ensures text { IfOk result (λ text. text ≡ count_text (state self.now)) };
 
     /// The version record changes nothing but the version.
     ghost version_stands: { (ps : List (List ℕ)) (t : State) (v : List ℕ)

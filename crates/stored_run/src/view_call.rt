@@ -5,10 +5,12 @@ ghost use Rattle.lens_io.specs.Causes.{Increased};
 ghost use Rattle.lens_io.specs.Disks.{LeavesOnly};
 ghost use Rattle.gate_log.specs.LogOnDisk.{HoldsPayloads, Stands};
 ghost use Rattle.stored_run.specs.Causes.{SinkFailed};
+ghost use Rattle.stored_run.specs.CountLines.{consistent_line};
 ghost use Rattle.stored_run.specs.Refusals.{IsUnwritten, EndsRefused, refusal_in, refusal_of_payloads};
 ghost use Rattle.stored_run.specs.ViewCall.{Views, view_text};
 ghost use Rattle.stored_run.specs.declared.refusals.StoreRefusal.{StoreRefusal};
 
+use crate::count_lines::consistent_line;
 use crate::refusals::{refuse_log, refuse_payloads};
 use crate::session::StoredSession;
 use crate::status::Status;
@@ -66,7 +68,7 @@ pub fn verify<A: StoredSession + Drop, K: Sink, D: Disk>(
 ) -> Status
     ensures views { (before : List (List ℕ)) (bytes : List ℕ) (t : A.State) (version : Option (List ℕ))
         → D.content disk.old ≡ Some bytes → HoldsPayloads before bytes → A.stands_for before ≡ Ok (t, version)
-        → Views (K.held sink.old) (K.held sink.new) (A.count_text t) result }
+        → Views (K.held sink.old) (K.held sink.new) (consistent_line (A.count_of before)) result }
     ensures refused { (bytes : List ℕ) (refusal : StoreRefusal)
         → D.content disk.old ≡ Some bytes → refusal_in A.stands_for bytes ≡ Some refusal
         → EndsRefused (K.held sink.old) (K.held sink.new) refusal result }
@@ -89,7 +91,7 @@ fn view_store<A: StoredSession + Drop, K: Sink, D: Disk>(
 ) -> Status
     ensures views { (before : List (List ℕ)) (bytes : List ℕ) (t : A.State) (version : Option (List ℕ))
         → D.content disk.old ≡ Some bytes → HoldsPayloads before bytes → A.stands_for before ≡ Ok (t, version)
-        → Views (K.held sink.old) (K.held sink.new) (view_text A.state_text A.count_text view t) result }
+        → Views (K.held sink.old) (K.held sink.new) (view_text A.state_text view t (A.count_of before)) result }
     ensures refused { (bytes : List ℕ) (refusal : StoreRefusal)
         → D.content disk.old ≡ Some bytes → refusal_in A.stands_for bytes ≡ Some refusal
         → EndsRefused (K.held sink.old) (K.held sink.new) refusal result }
@@ -119,7 +121,7 @@ fn view_log<A: StoredSession + Drop, K: Sink, D: Disk>(
     ensures views { (before : List (List ℕ)) (bytes : List ℕ) (t : A.State) (version : Option (List ℕ))
         → D.content disk.old ≡ Some bytes → Stands (D.content disk.old) (D.images disk.old) log.now before
         → A.stands_for before ≡ Ok (t, version)
-        → Views (K.held sink.old) (K.held sink.new) (view_text A.state_text A.count_text view t) result }
+        → Views (K.held sink.old) (K.held sink.new) (view_text A.state_text view t (A.count_of before)) result }
     ensures refused { (before : List (List ℕ)) (bytes : List ℕ) (refusal : StoreRefusal)
         → D.content disk.old ≡ Some bytes → Stands (D.content disk.old) (D.images disk.old) log.now before
         → refusal_of_payloads (A.stands_for before) ≡ Some refusal
@@ -145,7 +147,7 @@ fn view_payloads<A: StoredSession + Drop, K: Sink>(
     sink: &mut K,
 ) -> Status
     ensures views { (t : A.State) (version : Option (List ℕ)) → A.stands_for payloads.now ≡ Ok (t, version)
-        → Views (K.held sink.old) (K.held sink.new) (view_text A.state_text A.count_text view t) result }
+        → Views (K.held sink.old) (K.held sink.new) (view_text A.state_text view t (A.count_of payloads.now)) result }
     ensures refused { (refusal : StoreRefusal)
         → refusal_of_payloads (A.stands_for payloads.now) ≡ Some refusal
         → EndsRefused (K.held sink.old) (K.held sink.new) refusal result }
@@ -154,7 +156,7 @@ fn view_payloads<A: StoredSession + Drop, K: Sink>(
     ensures no_disk { result ≡ Status.DiskFault → ⊥ }
 {
     match A::reopen(alloc, payloads) {
-        Ok(opened) => give_view(alloc, &opened.session, view, sink),
+        Ok(opened) => give_view(alloc, &opened.session, opened.count, view, sink),
         Err(fault) => refuse_payloads(alloc, fault, sink),
     }
 }
@@ -163,16 +165,17 @@ fn view_payloads<A: StoredSession + Drop, K: Sink>(
 fn give_view<A: StoredSession, K: Sink>(
     alloc: Global,
     session: &A,
+    count: u64,
     view: StoreView,
     sink: &mut K,
 ) -> Status
     ensures views { Views (K.held sink.old) (K.held sink.new)
-        (view_text A.state_text A.count_text view (A.state session.now)) result }
+        (view_text A.state_text view (A.state session.now) count) result }
     ensures sink_fault { result ≡ Status.SinkFault
         → SinkFailed K.faults K.empty_takes K.room K.held sink.old sink.new }
     ensures no_disk { result ≡ Status.DiskFault → ⊥ }
 {
-    let Ok(text) = text_of_view(alloc, session, view) else {
+    let Ok(text) = text_of_view(alloc, session, count, view) else {
         return Status::NoMemory;
     };
     match give_all(sink, text.as_slice()) {
@@ -184,12 +187,13 @@ fn give_view<A: StoredSession, K: Sink>(
 fn text_of_view<A: StoredSession>(
     alloc: Global,
     session: &A,
+    count: u64,
     view: StoreView,
 ) -> Result<Bytes, AllocError>
-    ensures { IfOk result (λ text. text ≡ view_text A.state_text A.count_text view (A.state session.now)) }
+    ensures { IfOk result (λ text. text ≡ view_text A.state_text view (A.state session.now) count) }
 {
     match view {
         StoreView::State => session.state_lines(alloc),
-        StoreView::Count => session.count_line(alloc),
+        StoreView::Count => consistent_line(alloc, count),
     }
 }

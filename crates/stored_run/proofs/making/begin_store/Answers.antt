@@ -1,4 +1,4 @@
-use Rattle.std.proofs.Common.{◌≡◌, ◌<◌, inl, inr, ℕ, List, [], ◌∷◌, Err, length, ap, arith}
+use Rattle.std.proofs.Common.{◌≡◌, ◌<◌, inl, inr, [], ◌∷◌, Err, length, ap, arith}
 use Rattle.gate_log.specs.declared.fault.LogFault.{LogFault}
 use Rattle.lens_io.specs.Disks.{OnlyReads}
 use Rattle.stored_run.specs.Refusals.{IsUnwritten, EndsRefused}

@@ -1,4 +1,4 @@
-use Rattle.std.proofs.Common.{◌≡◌, inl, inr, refl, Some, ap}
+use Rattle.std.proofs.Common.{inl, inr, refl, Some, ap}
 use Rattle.stored_run.specs.declared.stop.Stop.{Stop}
 use Rattle.stored_run.proofs.Causes.{caused_sink, caused_disk}
 use Rattle.stored_run.proofs.making.fill_log.Goals as goal

@@ -1,4 +1,4 @@
-use Rattle.std.proofs.Common.{ℕ, List, Option, subst, inl, inr, ◌⊎◌}
+use Rattle.std.proofs.Common.{ℕ, List, Option, subst, inr, ◌⊎◌}
 use Rattle.stored_run.proofs.Outcomes.{same_ok}
 use Rattle.gate_log.specs.LogOnDisk.{HoldsPayloads}
 use Rattle.stored_run.specs.PackCall.{PacksCall, IsSafePack}
@@ -10,6 +10,7 @@ use Rattle.stored_run.proofs.Openings.{unwritten_none, payloads_refused, never_r
 use Rattle.stored_run.specs.StoreEnds.{StoresBehind}
 use Rattle.stored_run.specs.Refusals.{IsUnwritten, FailsEarly}
 use Rattle.std.specs.Prelude.{option_to_list}
+use Rattle.stored_run.specs.CountLines.{packed_line}
 use Rattle.stored_run.proofs.pack_call.pack_payloads.Goals as goal
 
 pub returns-in-Ok-clause-packs : goal.returns-in-Ok-clause-packs
@@ -31,8 +32,8 @@ returns-in-Ok-clause-packs g c =
     let one : a.State × Option (List ℕ) = (a.state opened.session, opened.version) in
     λ t version st h f.
     let other : a.State × Option (List ℕ) = (t, version) in
-    subst (λ (x : a.State × Option (List ℕ)). PacksCall held disk.content disk.images disk.moment disk.images_since a.snapshot_of a.packed_text a.stands_for k k' d' before x.0 x.1) (same_ok one other (a.stands_for before) c.in-Ok.ensures.stands h)
-    (c.pack_session.ensures.packs before st c.in-Ok.ensures.stands f)
+    subst (λ (x : a.State × Option (List ℕ)). PacksCall held disk.content disk.images disk.moment disk.images_since a.snapshot_of a.count_of a.stands_for k k' d' before x.0 x.1) (same_ok one other (a.stands_for before) c.in-Ok.ensures.stands h)
+    (c.pack_session.ensures.packs before st c.in-Ok.ensures.stands c.in-Ok.ensures.count f)
 
 pub returns-in-Ok-clause-safe : goal.returns-in-Ok-clause-safe
 returns-in-Ok-clause-safe g c =
@@ -53,7 +54,7 @@ returns-in-Ok-clause-safe g c =
     let one : a.State × Option (List ℕ) = (a.state opened.session, opened.version) in
     λ t version st h.
     let other : a.State × Option (List ℕ) = (t, version) in
-    subst (λ (x : a.State × Option (List ℕ)). IsSafePack held disk.content disk.images disk.moment disk.images_since a.snapshot_of a.packed_text a.stands_for (HoldsPayloads before) d d' before x.0 x.1) (same_ok one other (a.stands_for before) c.in-Ok.ensures.stands h)
+    subst (λ (x : a.State × Option (List ℕ)). IsSafePack held disk.content disk.images disk.moment disk.images_since a.snapshot_of a.count_of a.stands_for (HoldsPayloads before) d d' before x.0 x.1) (same_ok one other (a.stands_for before) c.in-Ok.ensures.stands h)
     (c.pack_session.ensures.safe before st c.in-Ok.ensures.stands)
 
 pub returns-in-Err-clause-packs : goal.returns-in-Err-clause-packs
@@ -73,7 +74,7 @@ returns-in-Err-clause-safe g c =
     let l = c.args.log.now in
     let before = c.args.payloads.now in
     λ t version st h.
-    safe_kept held disk.content disk.images disk.moment disk.images_since hold a.snapshot_of a.packed_text a.stands_for reads laws.version_stands laws.snapshot_stands d d before t version h (HoldsPayloads before) (λ x now. hold l d before x st now)
+    safe_kept held disk.content disk.images disk.moment disk.images_since hold a.snapshot_of a.count_of a.stands_for reads laws.version_stands laws.snapshot_stands d d before t version h (HoldsPayloads before) (λ x now. hold l d before x st now)
     (leaves_same disk.moment disk.images_since d (HoldsPayloads before) (λ x was. hold l d before x st (only d x was)))
 
 pub returns-in-Ok-clause-refused : goal.returns-in-Ok-clause-refused
@@ -109,9 +110,10 @@ returns-in-Ok-clause-exits g c =
     let status = c.pack_session.result in
     λ t version st h.
     let other : a.State × Option (List ℕ) = (t, version) in
-    subst (λ (x : a.State × Option (List ℕ)). StoresBehind held disk.content disk.images disk.moment disk.images_since k k' d' before (a.packed_text x.0) (option_to_list x.1) (a.snapshot_of x.0) status
+    subst (λ (x : a.State × Option (List ℕ)). StoresBehind held disk.content disk.images disk.moment disk.images_since k k' d' before (packed_line (a.count_of before)) (option_to_list x.1) (a.snapshot_of x.0) status
     ⊎ IsUnwritten disk.content disk.images d d' × FailsEarly (held k) (held k') status) (same_ok one other (a.stands_for before) c.in-Ok.ensures.stands h)
-    (c.pack_session.ensures.exits before st)
+    (subst (λ (n : ℕ). StoresBehind held disk.content disk.images disk.moment disk.images_since k k' d' before (packed_line n) (option_to_list opened.version) (a.snapshot_of (a.state opened.session)) status
+    ⊎ IsUnwritten disk.content disk.images d d' × FailsEarly (held k) (held k') status) c.in-Ok.ensures.count (c.pack_session.ensures.exits before st))
 
 pub returns-in-Err-clause-exits : goal.returns-in-Err-clause-exits
 returns-in-Err-clause-exits g c =

@@ -1,10 +1,11 @@
-use Rattle.std.proofs.Common.{◌≡◌, inl, inr, ℕ, List, Ok, Err, sym, ap, subst, ◌∙◌}
+use Rattle.std.proofs.Common.{◌≡◌, inr, ℕ, List, Ok, Err, sym, ap, subst, ◌∙◌}
 use Rattle.gate_log.specs.CallEnds.{NoBadRecord}
 use Rattle.gate_log.specs.declared.fault.LogFault.{LogFault}
 use Rattle.stored_run.specs.Refusals.{refusal_of_payloads}
 use Rattle.stored_run.proofs.ApplyCalls.{at_some}
 use Rattle.stored_run.proofs.Openings.{reading_fails}
 use Rattle.stored_run.proofs.RefusalEnds.{at_log_disk}
+use Rattle.stored_run.specs.ViewCall.{Views, view_text}
 use Rattle.stored_run.proofs.view_call.view_log.Goals as goal
 
 pub returns-in-Ok-clause-views : goal.returns-in-Ok-clause-views
@@ -17,7 +18,8 @@ returns-in-Ok-clause-views g c =
     let read = c.in-Ok.payloads in
     λ before bytes t version told st h.
     let same : read ≡ before = at_some (disk.content d) bytes (read ≡ before) told (c.in-Ok.ensures.payloads before st) in
-    c.view_payloads.ensures.views t version (subst (λ (x : List (List ℕ)). a.stands_for x ≡ Ok (t, version)) (sym same) h)
+    subst (λ (x : List (List ℕ)). Views (held k) (held c.view_payloads.new.sink) (view_text a.state_text c.args.view t (a.count_of x)) c.view_payloads.result) same
+    (c.view_payloads.ensures.views t version (subst (λ (x : List (List ℕ)). a.stands_for x ≡ Ok (t, version)) (sym same) h))
 
 pub returns-in-Err-clause-views : goal.returns-in-Err-clause-views
 returns-in-Err-clause-views g c =

@@ -1,4 +1,4 @@
-use Rattle.std.proofs.Common.{◌≡◌, inl, inr, ℕ, List, Option, ap, subst}
+use Rattle.std.proofs.Common.{inr, ℕ, List, Option, subst}
 use Rattle.stored_run.specs.ViewCall.{Views, view_text}
 use Rattle.stored_run.proofs.Openings.{payloads_refused, payloads_stand, never_refused}
 use Rattle.stored_run.proofs.Outcomes.{same_ok}
@@ -16,7 +16,8 @@ returns-in-Ok-clause-views g c =
     let one : a.State × Option (List ℕ) = (a.state opened.session, opened.version) in
     λ t version h.
     let other : a.State × Option (List ℕ) = (t, version) in
-    subst (λ (x : a.State × Option (List ℕ)). Views (held k) (held k') (view_text a.state_text a.count_text c.args.view x.0) c.give_view.result) (same_ok one other (a.stands_for before) c.in-Ok.ensures.stands h) c.give_view.ensures.views
+    subst (λ (x : a.State × Option (List ℕ)). Views (held k) (held k') (view_text a.state_text c.args.view x.0 (a.count_of before)) c.give_view.result) (same_ok one other (a.stands_for before) c.in-Ok.ensures.stands h)
+    (subst (λ (n : ℕ). Views (held k) (held k') (view_text a.state_text c.args.view (a.state opened.session) n) c.give_view.result) c.in-Ok.ensures.count c.give_view.ensures.views)
 
 pub returns-in-Err-clause-views : goal.returns-in-Err-clause-views
 returns-in-Err-clause-views g c =
