@@ -7,6 +7,7 @@ pub mod OkLineCounts
 pub mod CrashSafety
 pub mod Ends
 pub mod Standing
+pub mod ChangeCounts
 pub mod StoredPayloads
 pub mod Decimals
 pub mod RefusalEnds

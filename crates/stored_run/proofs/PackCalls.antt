@@ -73,7 +73,14 @@ module _ {K D : Type 0} (held : K → Option (List ℕ)) (content : D → Option
   module _ {State : Type 0} (snapshot_of : State → List ℕ) (count_of : Payloads → ℕ) (stands_for : Payloads → Result (State × Option (List ℕ)) ReopenFault)
       (read_holds : (l : LogState) (d : D) (base : Payloads) → Stands (content d) (images d) l base → IfSome (content d) (HoldsPayloads base))
       (version_stands : (ps : Payloads) (t : State) (v : List ℕ) → stands_for ps ≡ Ok (t, Some v) → stands_for (ps ++ v ∷ []) ≡ Ok (t, None))
-      (snapshot_stands : (ps : Payloads) (t : State) → stands_for ps ≡ Ok (t, None) → stands_for (ps ++ snapshot_of t ∷ []) ≡ Ok (t, None)) where
+      (snapshot_stands : (ps : Payloads) (t : State) → stands_for ps ≡ Ok (t, None) → stands_for (ps ++ snapshot_of t ∷ []) ≡ Ok (t, None))
+      (version_counts : (ps : Payloads) (t : State) (v : List ℕ) → stands_for ps ≡ Ok (t, Some v) → count_of (ps ++ v ∷ []) ≡ count_of ps)
+      (snapshot_counts : (ps : Payloads) (t : State) → stands_for ps ≡ Ok (t, None) → count_of (ps ++ snapshot_of t ∷ []) ≡ count_of ps) where
+    all_counted : (before : Payloads) (t : State) (version : Option (List ℕ)) → stands_for before ≡ Ok (t, version) → count_of (before ++ (option_to_list version ++ snapshot_of t ∷ [])) ≡ count_of before
+    all_counted before t None h = snapshot_counts before t h
+    all_counted before t (Some v) h =
+        ap count_of (sym (append_assoc before (v ∷ []) (snapshot_of t ∷ []))) ∙ (snapshot_counts (before ++ v ∷ []) t (version_stands before t v h) ∙ version_counts before t v h)
+
     all_stand : (before : Payloads) (t : State) (version : Option (List ℕ)) → stands_for before ≡ Ok (t, version) → stands_for (before ++ (option_to_list version ++ snapshot_of t ∷ [])) ≡ Ok (t, None)
     all_stand before t None h = snapshot_stands before t h
     all_stand before t (Some v) h = ap stands_for (sym (append_assoc before (v ∷ []) (snapshot_of t ∷ []))) ∙ snapshot_stands (before ++ v ∷ []) t (version_stands before t v h)
@@ -147,4 +154,5 @@ module _ {K D : Type 0} (held : K → Option (List ℕ)) (content : D → Option
         given = subst (Appends (held k) (held k')) e a.given;
         kept = read_holds l' d' (before ++ whole) (a.stored before st);
         stand = all_stand before t version h;
+        count = all_counted before t version h;
       }

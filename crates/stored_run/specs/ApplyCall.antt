@@ -1,6 +1,6 @@
 -- The whole command `apply`: what it comes to, and what a crash leaves of it.
 -- Read it from the end: `EndsCall` for each status, `IsSafeCall`, then `ContinuesCall`.
-use Rattle.std.specs.Prelude.{◌≡◌, ◌⊎◌, ℕ, ◌^◌, ◌≤◌, List, [], ◌++◌, length, Option, Some, None, Result, Ok, option_to_list, IfSome}
+use Rattle.std.specs.Prelude.{◌≡◌, ◌⊎◌, ℕ, ◌+◌, ◌^◌, ◌≤◌, List, [], ◌++◌, length, Option, Some, None, Result, Ok, option_to_list, IfSome}
 use Rattle.std.specs.Io.KnownBytes.{Appends, Consumes, IsAtEnd}
 use Rattle.lens_io.specs.Disks.{LeavesOnly}
 use Rattle.gate_log.specs.LogOnDisk.{LogState, HoldsPayloads, Stands}
@@ -20,10 +20,12 @@ use Rattle.stored_run.specs.declared.status.Status.{Status}
 -- the call stand for the state t, with a version record if it is still to be stored.
 module _ {K D State : Type 0} (held : K → Option (List ℕ)) (content : D → Option (List ℕ)) (images : D → List ℕ → Type 0)
     (moment : D → ℕ) (images_since : D → ℕ → List ℕ → Type 0) (answer : State → ℕ → Line → Option (State × Answer))
-    (state_text : State → List ℕ) (stands_for : List (List ℕ) → Result (State × Option (List ℕ)) ReopenFault) where
+    (state_text : State → List ℕ) (stands_for : List (List ℕ) → Result (State × Option (List ℕ)) ReopenFault)
+    (count_of : List (List ℕ) → ℕ) where
   -- The source was read to its end, and gave these bytes. The answer lines of the run over their lines, and then the state lines of
   -- its last state, were written. The payloads held are those from before, the version record if it was to be stored, and those of
-  -- the changes that were accepted, in order. They stand for the last state.
+  -- the changes that were accepted, in order. They stand for the last state, and have so
+  -- many changes more.
   pub record ContinuesCall (left left' : Option (List ℕ)) (k k' : K) (d' : D) (before : List (List ℕ)) (t : State)
       (version : Option (List ℕ)) (status : Status) : Type 0 where
     pub bytes : List ℕ
@@ -35,6 +37,7 @@ module _ {K D State : Type 0} (held : K → Option (List ℕ)) (content : D → 
     pub given : Appends (held k) (held k') (text_of steps ++ state_text (last t steps))
     pub kept : IfSome (content d') (HoldsPayloads ((before ++ option_to_list version) ++ kept_of steps))
     pub stand : stands_for ((before ++ option_to_list version) ++ kept_of steps) ≡ Ok (last t steps, None)
+    pub count : count_of ((before ++ option_to_list version) ++ kept_of steps) ≡ count_of before + length (kept_of steps)
     pub ended : status ≡ end_of (any_refused steps)
 
   -- These bytes were taken, and these were written. Of the lines taken the first ones were handled, by these steps of the run. An

@@ -18,6 +18,7 @@ module _ {K D State : Type 0} (held : K → Option (List ℕ)) (content : D → 
     pub given : Appends (held k) (held k') (packed_line (count_of before))
     pub kept : IfSome (content d') (HoldsPayloads (before ++ (option_to_list version ++ snapshot_of t ∷ [])))
     pub stand : stands_for (before ++ (option_to_list version ++ snapshot_of t ∷ [])) ≡ Ok (t, None)
+    pub count : count_of (before ++ (option_to_list version ++ snapshot_of t ∷ [])) ≡ count_of before
 
   -- An image that a crash now may leave holds the payloads from before, or these and the version record, or these and the snapshot. An
   -- image of a moment since the start of the call is one of those, or was possible then. Each of these lists stands for the same state.

@@ -1,5 +1,5 @@
 //! What a store needs of its session: calls, definitions and laws.
-ghost use Rattle.std.specs.Prelude.{◌≡◌, List, ℕ, ◌∷◌, ◌++◌, [], IfOk, MatchResult, Ok, Some, None, not, is_some};
+ghost use Rattle.std.specs.Prelude.{◌≡◌, List, ℕ, ◌+◌, ◌∷◌, ◌++◌, [], IfOk, MatchResult, Ok, Some, None, not, is_some};
 ghost use Rattle.std.specs.declared.option.Option.{Option};
 ghost use Rattle.std.specs.declared.result.Result.{Result};
 ghost use Rattle.edit_journal.specs.declared.line.Line.{Line};
@@ -106,6 +106,19 @@ pub trait StoredSession: Sized {
     ghost change_stands: { (ps : List (List ℕ)) (t t' : State) (n : ℕ) (line : Line) (a : Answer) (p : List ℕ)
         → stands_for ps ≡ Ok (t, None) → answer t n line ≡ Some (t', a) → a.payload ≡ Some p
         → stands_for (ps ++ p ∷ []) ≡ Ok (t', None) };
+
+    /// The version record is not one of a change.
+    ghost version_counts: { (ps : List (List ℕ)) (t : State) (v : List ℕ)
+        → stands_for ps ≡ Ok (t, Some v) → count_of (ps ++ v ∷ []) ≡ count_of ps };
+
+    /// The payload of a change that was accepted counts one.
+    ghost change_counts: { (ps : List (List ℕ)) (t t' : State) (n : ℕ) (line : Line) (a : Answer) (p : List ℕ)
+        → stands_for ps ≡ Ok (t, None) → answer t n line ≡ Some (t', a) → a.payload ≡ Some p
+        → count_of (ps ++ p ∷ []) ≡ count_of ps + 1 };
+
+    /// A snapshot is not one of a change.
+    ghost snapshot_counts: { (ps : List (List ℕ)) (t : State)
+        → stands_for ps ≡ Ok (t, None) → count_of (ps ++ snapshot_of t ∷ []) ≡ count_of ps };
 
     /// An item that is refused leaves the state.
     ghost refused_stays: { (t t' : State) (n : ℕ) (line : Line) (a : Answer)

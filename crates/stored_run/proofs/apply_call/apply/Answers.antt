@@ -53,7 +53,7 @@ returns-in-Ok-clause-safe g c =
     let left' = g.S.Source.left c.apply_log.new.source in
     λ before bytes t version told holds h.
     let st = subst (λ (x : List (List ℕ)). Stands (disk.content d1) (disk.images d1) l x) (same_held (disk.content d) bytes log.0 before told log.1 holds) log.2 in
-    inr (safe_later held disk.content disk.images disk.moment disk.images_since a.answer a.state_text a.stands_for hold reads laws.version_stands laws.change_stands laws.refused_stays (HoldsPayloads before) (disk.images d) left left' k k' d d1 d' before version t (held_first held disk.content disk.images disk.moment disk.images_since a.answer a.state_text a.stands_for hold reads laws.version_stands laws.change_stands laws.refused_stays before (disk.images d)) c.in-Ok.ensures.moments
+    inr (safe_later held disk.content disk.images disk.moment disk.images_since a.answer a.state_text a.stands_for a.count_of hold reads laws.version_stands laws.change_stands laws.refused_stays laws.version_counts laws.change_counts (HoldsPayloads before) (disk.images d) left left' k k' d d1 d' before version t (held_first held disk.content disk.images disk.moment disk.images_since a.answer a.state_text a.stands_for a.count_of hold reads laws.version_stands laws.change_stands laws.refused_stays laws.version_counts laws.change_counts before (disk.images d)) c.in-Ok.ensures.moments
     (c.apply_log.ensures.safe before bytes t version (c.in-Ok.ensures.content ∙ told) st h))
 
 pub returns-in-Err-clause-continues : goal.returns-in-Err-clause-continues
@@ -76,7 +76,7 @@ returns-in-Err-clause-safe g c =
     λ before bytes t version told holds h.
     let failed = at_disk_fault (g.K.Sink.held c.args.sink.now) (g.K.Sink.held c.refuse_log.new.sink) c.refuse_log.result c.in-Err.fault (only_disk c.in-Err.fault (disk.content d) bytes before told holds c.in-Err.ensures.log) c.refuse_log.ensures.ends in
     elim c.in-Err.ensures.synced [
-      | inl now ↦ inr (safe_synced held disk.content disk.images disk.moment disk.images_since a.answer a.state_text a.stands_for hold reads laws.version_stands laws.change_stands laws.refused_stays (disk.images d) left left k k' d d1 before version t (Consumes-nil left) (at_log_other (g.K.Sink.held c.args.sink.now) (g.K.Sink.held c.refuse_log.new.sink) c.refuse_log.result c.in-Err.fault c.refuse_log.ensures.ends)
+      | inl now ↦ inr (safe_synced held disk.content disk.images disk.moment disk.images_since a.answer a.state_text a.stands_for a.count_of hold reads laws.version_stands laws.change_stands laws.refused_stays laws.version_counts laws.change_counts (disk.images d) left left k k' d d1 before version t (Consumes-nil left) (at_log_other (g.K.Sink.held c.args.sink.now) (g.K.Sink.held c.refuse_log.new.sink) c.refuse_log.result c.in-Err.fault c.refuse_log.ensures.ends)
           (synced_holds (disk.content d) bytes before (disk.images d1) told holds now) c.in-Err.ensures.moments h)
       | inr unsynced ↦ inl (failed.0, record { consumes = Consumes-nil left; given = failed.1; only = c.in-Err.ensures.images; moments = c.in-Err.ensures.moments })
     ]

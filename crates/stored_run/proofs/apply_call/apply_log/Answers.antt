@@ -35,7 +35,7 @@ returns-in-Ok-clause-continues g c =
     let same : read ≡ before = at_some (disk.content d) bytes (c.in-Ok.payloads ≡ before) told (c.in-Ok.ensures.payloads before st) in
     let st1 = subst (λ (x : List (List ℕ)). Stands (disk.content d1) (disk.images d1) l x) (sym same) (c.in-Ok.ensures.stands before st) in
     let h1 = subst (λ (x : List (List ℕ)). a.stands_for x ≡ Ok (t, version)) (sym same) h in
-    subst (λ (x : List (List ℕ)). ContinuesCall held disk.content disk.images disk.moment disk.images_since a.answer a.state_text a.stands_for left left' k k' d' x t version status) same (c.apply_payloads.ensures.continues t version st1 h1 f)
+    subst (λ (x : List (List ℕ)). ContinuesCall held disk.content disk.images disk.moment disk.images_since a.answer a.state_text a.stands_for a.count_of left left' k k' d' x t version status) same (c.apply_payloads.ensures.continues t version st1 h1 f)
 
 pub returns-in-Ok-clause-safe : goal.returns-in-Ok-clause-safe
 returns-in-Ok-clause-safe g c =
@@ -60,8 +60,8 @@ returns-in-Ok-clause-safe g c =
     let same : read ≡ before = at_some (disk.content d) bytes (c.in-Ok.payloads ≡ before) told (c.in-Ok.ensures.payloads before st) in
     let st1 = subst (λ (x : List (List ℕ)). Stands (disk.content d1) (disk.images d1) l x) (sym same) (c.in-Ok.ensures.stands before st) in
     let h1 = subst (λ (x : List (List ℕ)). a.stands_for x ≡ Ok (t, version)) (sym same) h in
-    safe_later held disk.content disk.images disk.moment disk.images_since a.answer a.state_text a.stands_for hold reads laws.version_stands laws.change_stands laws.refused_stays (HoldsPayloads before) (HoldsPayloads before) left left' k k' d d1 d' before version t (held_first held disk.content disk.images disk.moment disk.images_since a.answer a.state_text a.stands_for hold reads laws.version_stands laws.change_stands laws.refused_stays before (HoldsPayloads before)) (c.in-Ok.ensures.moments before st)
-    (subst (λ (x : List (List ℕ)). IsSafeCall held disk.content disk.images disk.moment disk.images_since a.answer a.state_text a.stands_for (HoldsPayloads x) left left' k d1 k' d' x t version) same (c.apply_payloads.ensures.safe t version st1 h1))
+    safe_later held disk.content disk.images disk.moment disk.images_since a.answer a.state_text a.stands_for a.count_of hold reads laws.version_stands laws.change_stands laws.refused_stays laws.version_counts laws.change_counts (HoldsPayloads before) (HoldsPayloads before) left left' k k' d d1 d' before version t (held_first held disk.content disk.images disk.moment disk.images_since a.answer a.state_text a.stands_for a.count_of hold reads laws.version_stands laws.change_stands laws.refused_stays laws.version_counts laws.change_counts before (HoldsPayloads before)) (c.in-Ok.ensures.moments before st)
+    (subst (λ (x : List (List ℕ)). IsSafeCall held disk.content disk.images disk.moment disk.images_since a.answer a.state_text a.stands_for a.count_of (HoldsPayloads x) left left' k d1 k' d' x t version) same (c.apply_payloads.ensures.safe t version st1 h1))
 
 pub returns-in-Err-clause-continues : goal.returns-in-Err-clause-continues
 returns-in-Err-clause-continues g c = λ before bytes t version told st h f. absurd (at_log_unfinished (g.K.Sink.held c.args.sink.now) (g.K.Sink.held c.refuse_log.new.sink) c.refuse_log.result c.in-Err.fault c.refuse_log.ensures.ends f)
@@ -81,7 +81,7 @@ returns-in-Err-clause-safe g c =
     let left = g.S.Source.left c.args.source.now in
     let d1 = c.payloads.new.disk in
     λ before bytes t version told st h.
-    safe_unread held disk.content disk.images disk.moment disk.images_since a.answer a.state_text a.stands_for hold reads laws.version_stands laws.change_stands laws.refused_stays left left k c.refuse_log.new.sink d d1 before version t l (Consumes-nil left) (at_log_other (g.K.Sink.held c.args.sink.now) (g.K.Sink.held c.refuse_log.new.sink) c.refuse_log.result c.in-Err.fault c.refuse_log.ensures.ends) (c.in-Err.ensures.stands before st) (c.in-Err.ensures.moments before st) h
+    safe_unread held disk.content disk.images disk.moment disk.images_since a.answer a.state_text a.stands_for a.count_of hold reads laws.version_stands laws.change_stands laws.refused_stays laws.version_counts laws.change_counts left left k c.refuse_log.new.sink d d1 before version t l (Consumes-nil left) (at_log_other (g.K.Sink.held c.args.sink.now) (g.K.Sink.held c.refuse_log.new.sink) c.refuse_log.result c.in-Err.fault c.refuse_log.ensures.ends) (c.in-Err.ensures.stands before st) (c.in-Err.ensures.moments before st) h
 
 pub returns-in-Ok-clause-disk_fault : goal.returns-in-Ok-clause-disk_fault
 returns-in-Ok-clause-disk_fault g c =
@@ -110,7 +110,7 @@ returns-in-Ok-clause-exits g c =
     let same : read ≡ before = at_some (disk.content d) bytes (read ≡ before) told (c.in-Ok.ensures.payloads before st) in
     let st1 = subst (λ (x : List (List ℕ)). Stands (disk.content d1) (disk.images d1) l x) (sym same) (c.in-Ok.ensures.stands before st) in
     let h1 = subst (λ (x : List (List ℕ)). a.stands_for x ≡ Ok (t, version)) (sym same) h in
-    elim (subst (λ (x : List (List ℕ)). EndsCall held disk.content disk.images disk.moment disk.images_since a.answer a.state_text a.stands_for left left' k d1 k' d' x t version c.apply_payloads.result) same (c.apply_payloads.ensures.exits t version st1 h1)) [
+    elim (subst (λ (x : List (List ℕ)). EndsCall held disk.content disk.images disk.moment disk.images_since a.answer a.state_text a.stands_for a.count_of left left' k d1 k' d' x t version c.apply_payloads.result) same (c.apply_payloads.ensures.exits t version st1 h1)) [
       | inl e ↦ inl e
       | inr u ↦ inr (unwritten_then disk.content disk.images d d1 d' reading.same_content (λ x now. (reading.same_images x).1 now) u.0, u.1, u.2)
     ]

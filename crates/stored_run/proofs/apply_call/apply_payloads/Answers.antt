@@ -35,8 +35,8 @@ returns-in-Ok-clause-continues g c =
     let one : a.State × Option (List ℕ) = (t0, opened.version) in
     λ t version st h f.
     let other : a.State × Option (List ℕ) = (t, version) in
-    subst (λ (x : a.State × Option (List ℕ)). ContinuesCall held disk.content disk.images disk.moment disk.images_since a.answer a.state_text a.stands_for left left' k k' d' before x.0 x.1 status) (same_ok one other (a.stands_for before) c.in-Ok.ensures.stands h)
-    (continues_call held disk.content disk.images disk.moment disk.images_since a.answer a.state_text a.stands_for hold reads laws.version_stands laws.change_stands laws.refused_stays left left' k k' d d' l l' before opened.version t0 t' status c.continue_store.ensures.exits f st c.in-Ok.ensures.stands)
+    subst (λ (x : a.State × Option (List ℕ)). ContinuesCall held disk.content disk.images disk.moment disk.images_since a.answer a.state_text a.stands_for a.count_of left left' k k' d' before x.0 x.1 status) (same_ok one other (a.stands_for before) c.in-Ok.ensures.stands h)
+    (continues_call held disk.content disk.images disk.moment disk.images_since a.answer a.state_text a.stands_for a.count_of hold reads laws.version_stands laws.change_stands laws.refused_stays laws.version_counts laws.change_counts left left' k k' d d' l l' before opened.version t0 t' status c.continue_store.ensures.exits f st c.in-Ok.ensures.stands)
 
 pub returns-in-Ok-clause-safe : goal.returns-in-Ok-clause-safe
 returns-in-Ok-clause-safe g c =
@@ -63,8 +63,8 @@ returns-in-Ok-clause-safe g c =
     let one : a.State × Option (List ℕ) = (t0, opened.version) in
     λ t version st h.
     let other : a.State × Option (List ℕ) = (t, version) in
-    subst (λ (x : a.State × Option (List ℕ)). IsSafeCall held disk.content disk.images disk.moment disk.images_since a.answer a.state_text a.stands_for (HoldsPayloads before) left left' k d k' d' before x.0 x.1) (same_ok one other (a.stands_for before) c.in-Ok.ensures.stands h)
-    (safe_call held disk.content disk.images disk.moment disk.images_since a.answer a.state_text a.stands_for hold reads laws.version_stands laws.change_stands laws.refused_stays left left' k k' d d' before opened.version t0 l c.continue_store.ensures.safe st c.in-Ok.ensures.stands)
+    subst (λ (x : a.State × Option (List ℕ)). IsSafeCall held disk.content disk.images disk.moment disk.images_since a.answer a.state_text a.stands_for a.count_of (HoldsPayloads before) left left' k d k' d' before x.0 x.1) (same_ok one other (a.stands_for before) c.in-Ok.ensures.stands h)
+    (safe_call held disk.content disk.images disk.moment disk.images_since a.answer a.state_text a.stands_for a.count_of hold reads laws.version_stands laws.change_stands laws.refused_stays laws.version_counts laws.change_counts left left' k k' d d' before opened.version t0 l c.continue_store.ensures.safe st c.in-Ok.ensures.stands)
 
 pub returns-in-Err-clause-continues : goal.returns-in-Err-clause-continues
 returns-in-Err-clause-continues g c = λ t version st h f. absurd (at_payloads_unfinished (g.K.Sink.held c.args.sink.now) (g.K.Sink.held c.refuse_payloads.new.sink) c.refuse_payloads.result c.in-Err.fault c.refuse_payloads.ensures.ends f)
@@ -84,7 +84,7 @@ returns-in-Err-clause-safe g c =
     let left = g.S.Source.left c.args.source.now in
     let before = c.args.payloads.now in
     λ t version st h.
-    safe_unread held disk.content disk.images disk.moment disk.images_since a.answer a.state_text a.stands_for hold reads laws.version_stands laws.change_stands laws.refused_stays left left k c.refuse_payloads.new.sink d d before version t l (Consumes-nil left) (at_payloads_other (g.K.Sink.held c.args.sink.now) (g.K.Sink.held c.refuse_payloads.new.sink) c.refuse_payloads.result c.in-Err.fault c.refuse_payloads.ensures.ends) st
+    safe_unread held disk.content disk.images disk.moment disk.images_since a.answer a.state_text a.stands_for a.count_of hold reads laws.version_stands laws.change_stands laws.refused_stays laws.version_counts laws.change_counts left left k c.refuse_payloads.new.sink d d before version t l (Consumes-nil left) (at_payloads_other (g.K.Sink.held c.args.sink.now) (g.K.Sink.held c.refuse_payloads.new.sink) c.refuse_payloads.result c.in-Err.fault c.refuse_payloads.ensures.ends) st
     (leaves_same disk.moment disk.images_since d (HoldsPayloads before) (λ x was. hold l d before x st (only d x was))) h
 
 pub returns-in-Ok-clause-exits : goal.returns-in-Ok-clause-exits
@@ -103,7 +103,7 @@ returns-in-Ok-clause-exits g c =
     let one : a.State × Option (List ℕ) = (a.state opened.session, opened.version) in
     λ t version st h.
     let other : a.State × Option (List ℕ) = (t, version) in
-    subst (λ (x : a.State × Option (List ℕ)). EndsCall held disk.content disk.images disk.moment disk.images_since a.answer a.state_text a.stands_for left left' k d k' d' before x.0 x.1 c.continue_store.result)
+    subst (λ (x : a.State × Option (List ℕ)). EndsCall held disk.content disk.images disk.moment disk.images_since a.answer a.state_text a.stands_for a.count_of left left' k d k' d' before x.0 x.1 c.continue_store.result)
     (same_ok one other (a.stands_for before) c.in-Ok.ensures.stands h)
     (inl (record { d1 = d; log = c.args.log.now; log' = c.continue_store.new.log; t' = a.state c.continue_store.new.session; stands = st; exits = c.continue_store.ensures.exits }))
 

@@ -51,7 +51,7 @@ returns-in-Ok-clause-safe g c =
     let d' = c.pack_log.new.disk in
     λ before bytes t version told holds h.
     let st = subst (λ (x : List (List ℕ)). Stands (disk.content d1) (disk.images d1) l x) (same_held (disk.content d) bytes log.0 before told log.1 holds) log.2 in
-    inr (safe_after held disk.content disk.images disk.moment disk.images_since hold a.snapshot_of a.count_of a.stands_for reads laws.version_stands laws.snapshot_stands d d' before t version h (HoldsPayloads before) (disk.images d) d1 (λ x p. inr (first_none before (option_to_list version ++ a.snapshot_of t ∷ []) x p)) c.in-Ok.ensures.moments
+    inr (safe_after held disk.content disk.images disk.moment disk.images_since hold a.snapshot_of a.count_of a.stands_for reads laws.version_stands laws.snapshot_stands laws.version_counts laws.snapshot_counts d d' before t version h (HoldsPayloads before) (disk.images d) d1 (λ x p. inr (first_none before (option_to_list version ++ a.snapshot_of t ∷ []) x p)) c.in-Ok.ensures.moments
     (c.pack_log.ensures.safe before bytes t version (c.in-Ok.ensures.content ∙ told) st h))
 
 pub returns-in-Err-clause-packs : goal.returns-in-Err-clause-packs
@@ -72,7 +72,7 @@ returns-in-Err-clause-safe g c =
     λ before bytes t version told holds h.
     let failed = at_disk_fault (g.K.Sink.held c.args.sink.now) (g.K.Sink.held c.refuse_log.new.sink) c.refuse_log.result c.in-Err.fault (only_disk c.in-Err.fault (disk.content d) bytes before told holds c.in-Err.ensures.log) c.refuse_log.ensures.ends in
     elim c.in-Err.ensures.synced [
-      | inl now ↦ inr (safe_kept held disk.content disk.images disk.moment disk.images_since hold a.snapshot_of a.count_of a.stands_for reads laws.version_stands laws.snapshot_stands d d1 before t version h (disk.images d) (synced_holds (disk.content d) bytes before (disk.images d1) told holds now) c.in-Err.ensures.moments)
+      | inl now ↦ inr (safe_kept held disk.content disk.images disk.moment disk.images_since hold a.snapshot_of a.count_of a.stands_for reads laws.version_stands laws.snapshot_stands laws.version_counts laws.snapshot_counts d d1 before t version h (disk.images d) (synced_holds (disk.content d) bytes before (disk.images d1) told holds now) c.in-Err.ensures.moments)
       | inr unsynced ↦ inl (failed.0, record { given = failed.1; only = c.in-Err.ensures.images; moments = c.in-Err.ensures.moments })
     ]
 

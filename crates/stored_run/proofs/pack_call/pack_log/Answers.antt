@@ -57,7 +57,7 @@ returns-in-Ok-clause-safe g c =
     let same : read ≡ before = at_some (disk.content d) bytes (c.in-Ok.payloads ≡ before) told (c.in-Ok.ensures.payloads before st) in
     let st1 = subst (λ (x : List (List ℕ)). Stands (disk.content d1) (disk.images d1) l x) (sym same) (c.in-Ok.ensures.stands before st) in
     let h1 = subst (λ (x : List (List ℕ)). a.stands_for x ≡ Ok (t, version)) (sym same) h in
-    safe_after held disk.content disk.images disk.moment disk.images_since hold a.snapshot_of a.count_of a.stands_for reads laws.version_stands laws.snapshot_stands d d' before t version h (HoldsPayloads before) (HoldsPayloads before) d1 (λ x p. inl p) (c.in-Ok.ensures.moments before st)
+    safe_after held disk.content disk.images disk.moment disk.images_since hold a.snapshot_of a.count_of a.stands_for reads laws.version_stands laws.snapshot_stands laws.version_counts laws.snapshot_counts d d' before t version h (HoldsPayloads before) (HoldsPayloads before) d1 (λ x p. inl p) (c.in-Ok.ensures.moments before st)
     (subst (λ (x : List (List ℕ)). IsSafePack held disk.content disk.images disk.moment disk.images_since a.snapshot_of a.count_of a.stands_for (HoldsPayloads x) d1 d' x t version) same (c.pack_payloads.ensures.safe t version st1 h1))
 
 pub returns-in-Err-clause-packs : goal.returns-in-Err-clause-packs
@@ -77,7 +77,7 @@ returns-in-Err-clause-safe g c =
     let l = c.args.log.now in
     let d1 = c.payloads.new.disk in
     λ before bytes t version told st h.
-    safe_kept held disk.content disk.images disk.moment disk.images_since hold a.snapshot_of a.count_of a.stands_for reads laws.version_stands laws.snapshot_stands d d1 before t version h (HoldsPayloads before) (λ x now. hold l d1 before x (c.in-Err.ensures.stands before st) now) (c.in-Err.ensures.moments before st)
+    safe_kept held disk.content disk.images disk.moment disk.images_since hold a.snapshot_of a.count_of a.stands_for reads laws.version_stands laws.snapshot_stands laws.version_counts laws.snapshot_counts d d1 before t version h (HoldsPayloads before) (λ x now. hold l d1 before x (c.in-Err.ensures.stands before st) now) (c.in-Err.ensures.moments before st)
 
 pub returns-in-Ok-clause-disk_fault : goal.returns-in-Ok-clause-disk_fault
 returns-in-Ok-clause-disk_fault g c =

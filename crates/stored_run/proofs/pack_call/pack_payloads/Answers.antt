@@ -74,7 +74,7 @@ returns-in-Err-clause-safe g c =
     let l = c.args.log.now in
     let before = c.args.payloads.now in
     λ t version st h.
-    safe_kept held disk.content disk.images disk.moment disk.images_since hold a.snapshot_of a.count_of a.stands_for reads laws.version_stands laws.snapshot_stands d d before t version h (HoldsPayloads before) (λ x now. hold l d before x st now)
+    safe_kept held disk.content disk.images disk.moment disk.images_since hold a.snapshot_of a.count_of a.stands_for reads laws.version_stands laws.snapshot_stands laws.version_counts laws.snapshot_counts d d before t version h (HoldsPayloads before) (λ x now. hold l d before x st now)
     (leaves_same disk.moment disk.images_since d (HoldsPayloads before) (λ x was. hold l d before x st (only d x was)))
 
 pub returns-in-Ok-clause-refused : goal.returns-in-Ok-clause-refused

@@ -27,7 +27,7 @@ returns-in_default-clause-safe g c =
     let t = a.state c.args.session.now in
     let version = c.args.version.now in
     λ before st h.
-    safe_kept held disk.content disk.images disk.moment disk.images_since hold a.snapshot_of a.count_of a.stands_for reads laws.version_stands laws.snapshot_stands d d before t version h (HoldsPayloads before) (λ x now. hold l d before x st now)
+    safe_kept held disk.content disk.images disk.moment disk.images_since hold a.snapshot_of a.count_of a.stands_for reads laws.version_stands laws.snapshot_stands laws.version_counts laws.snapshot_counts d d before t version h (HoldsPayloads before) (λ x now. hold l d before x st now)
     (leaves_same disk.moment disk.images_since d (HoldsPayloads before) (λ x was. hold l d before x st (only d x was)))
 
 pub returns-in-Ok-pack_store-clause-safe : goal.returns-in-Ok-pack_store-clause-safe
@@ -50,7 +50,7 @@ returns-in-Ok-pack_store-clause-safe g c =
     let line = c.as_slice-line.result.now in
     let snap = c.as_slice-snapshot.ensures ∙ c.in-Ok.ensures.snapshot in
     λ before st h.
-    safe_packed held disk.content disk.images disk.moment disk.images_since hold a.snapshot_of a.count_of a.stands_for reads laws.version_stands laws.snapshot_stands d d' before t version h (HoldsPayloads before) k k' l l' line
+    safe_packed held disk.content disk.images disk.moment disk.images_since hold a.snapshot_of a.count_of a.stands_for reads laws.version_stands laws.snapshot_stands laws.version_counts laws.snapshot_counts d d' before t version h (HoldsPayloads before) k k' l l' line
     (subst (λ (x : List ℕ). Adds held disk.content disk.images disk.moment disk.images_since k d l k' d' l' line (option_to_list version ++ x ∷ [])) snap c.in-Ok-pack_store.ensures.packed) st
 
 pub returns-in-Ok-pack_store-clause-packs : goal.returns-in-Ok-pack_store-clause-packs
@@ -72,7 +72,7 @@ returns-in-Ok-pack_store-clause-packs g c =
     let line = c.as_slice-line.result.now in
     let snap = c.as_slice-snapshot.ensures ∙ c.in-Ok.ensures.snapshot in
     λ before st h n f.
-    packs_call held disk.content disk.images disk.moment disk.images_since hold a.snapshot_of a.count_of a.stands_for reads laws.version_stands laws.snapshot_stands d d' before t version h k k' l l' line
+    packs_call held disk.content disk.images disk.moment disk.images_since hold a.snapshot_of a.count_of a.stands_for reads laws.version_stands laws.snapshot_stands laws.version_counts laws.snapshot_counts d d' before t version h k k' l l' line
     (c.as_slice-line.ensures ∙ c.in-Ok.ensures.line ∙ ap packed_line n)
     (subst (λ (x : List ℕ). Adds held disk.content disk.images disk.moment disk.images_since k d l k' d' l' line (option_to_list version ++ x ∷ [])) snap c.in-Ok-pack_store.ensures.packed) st
 
@@ -97,7 +97,7 @@ returns-clause-safe g c =
     let snap = c.as_slice-snapshot.ensures ∙ c.in-Ok.ensures.snapshot in
     λ before st h.
     let stop = c.in-Err.stop in
-    safe_short held disk.content disk.images disk.moment disk.images_since hold a.snapshot_of a.count_of a.stands_for reads laws.version_stands laws.snapshot_stands d d' before t version h (HoldsPayloads before) k k' l l' stop line
+    safe_short held disk.content disk.images disk.moment disk.images_since hold a.snapshot_of a.count_of a.stands_for reads laws.version_stands laws.snapshot_stands laws.version_counts laws.snapshot_counts d d' before t version h (HoldsPayloads before) k k' l l' stop line
     (subst (λ (x : List ℕ). Stops held disk.content disk.images disk.moment disk.images_since k d l k' d' l' stop [] [] [] (option_to_list version) ⊎ Stops held disk.content disk.images disk.moment disk.images_since k d l k' d' l' stop [] line (option_to_list version) (x ∷ [])) snap c.in-Err.ensures.stopped) st
 
 pub returns-clause-sink_fault : goal.returns-clause-sink_fault
