@@ -44,7 +44,7 @@ module _ {K D State : Type 0} (held : K → Option (List ℕ)) (content : D → 
     (refused_stays : (t t' : State) (n : ℕ) (line : Line) (a : Answer) → answer t n line ≡ Some (t', a) → a.payload ≡ None → t' ≡ t)
     (version_counts : (ps : Payloads) (t : State) (v : List ℕ) → stands_for ps ≡ Ok (t, Some v) → count_of (ps ++ v ∷ []) ≡ count_of ps)
     (change_counts : (ps : Payloads) (t t' : State) (n : ℕ) (line : Line) (a : Answer) (p : List ℕ) → stands_for ps ≡ Ok (t, None) → answer t n line ≡ Some (t', a) → a.payload ≡ Some p
-        → count_of (ps ++ p ∷ []) ≡ count_of ps + 1) where
+    → count_of (ps ++ p ∷ []) ≡ count_of ps + 1) where
   -- ---- a store that went on
 
   no_stop : (stop : Stop) (status : Status) (A : Type 0) → status ≡ status_of stop → IsFinished status → A

@@ -12,11 +12,11 @@ Payloads = List (List ℕ)
 module _ {State : Type 0} (answer : State → ℕ → Line → Option (State × Answer)) (stands_for : Payloads → Result (State × Option (List ℕ)) ReopenFault) (count_of : Payloads → ℕ)
     (version_stands : (ps : Payloads) (t : State) (v : List ℕ) → stands_for ps ≡ Ok (t, Some v) → stands_for (ps ++ v ∷ []) ≡ Ok (t, None))
     (change_stands : (ps : Payloads) (t t' : State) (n : ℕ) (line : Line) (a : Answer) (p : List ℕ) → stands_for ps ≡ Ok (t, None) → answer t n line ≡ Some (t', a) → a.payload ≡ Some p
-        → stands_for (ps ++ p ∷ []) ≡ Ok (t', None))
+    → stands_for (ps ++ p ∷ []) ≡ Ok (t', None))
     (refused_stays : (t t' : State) (n : ℕ) (line : Line) (a : Answer) → answer t n line ≡ Some (t', a) → a.payload ≡ None → t' ≡ t)
     (version_counts : (ps : Payloads) (t : State) (v : List ℕ) → stands_for ps ≡ Ok (t, Some v) → count_of (ps ++ v ∷ []) ≡ count_of ps)
     (change_counts : (ps : Payloads) (t t' : State) (n : ℕ) (line : Line) (a : Answer) (p : List ℕ) → stands_for ps ≡ Ok (t, None) → answer t n line ≡ Some (t', a) → a.payload ≡ Some p
-        → count_of (ps ++ p ∷ []) ≡ count_of ps + 1) where
+    → count_of (ps ++ p ∷ []) ≡ count_of ps + 1) where
   count_step : (before : Payloads) (t : State) (s : State × Answer) (steps : List (State × Answer)) → stands_for before ≡ Ok (t, None) → (n : ℕ) × (line : Line) × (answer t n line ≡ Some s)
       → (o : Option (List ℕ)) → s.1.payload ≡ o
       → ((before' : Payloads) → stands_for before' ≡ Ok (s.0, None) → count_of (before' ++ kept_of steps) ≡ count_of before' + length (kept_of steps))

@@ -35,23 +35,34 @@ pub fn apply<S: Source, A: StoredSession + Drop, K: Sink, D: Disk>(
     sink: &mut K,
     disk: &mut D,
 ) -> Status
-    ensures continues { (before : List (List ℕ)) (bytes : List ℕ) (t : A.State) (version : Option (List ℕ))
-        → D.content disk.old ≡ Some bytes → HoldsPayloads before bytes → A.stands_for before ≡ Ok (t, version)
+    ensures continues { (before : List (List ℕ)) (bytes : List ℕ) (t : A.State)
+        (version : Option (List ℕ))
+        → D.content disk.old ≡ Some bytes → HoldsPayloads before bytes
+        → A.stands_for before ≡ Ok (t, version)
         → IsFinished result
-        → ContinuesCall K.held D.content D.images D.moment D.images_since A.answer A.state_text A.stands_for A.count_of
+        → ContinuesCall K.held D.content D.images D.moment D.images_since A.answer
+        A.state_text A.stands_for A.count_of
         (S.left source.old) (S.left source.new) sink.old sink.new disk.new before t version result }
-    ensures safe { (before : List (List ℕ)) (bytes : List ℕ) (t : A.State) (version : Option (List ℕ))
-        → D.content disk.old ≡ Some bytes → HoldsPayloads before bytes → A.stands_for before ≡ Ok (t, version)
+    ensures safe { (before : List (List ℕ)) (bytes : List ℕ) (t : A.State)
+        (version : Option (List ℕ))
+        → D.content disk.old ≡ Some bytes → HoldsPayloads before bytes
+        → A.stands_for before ≡ Ok (t, version)
         → (result ≡ Status.DiskFault)
-        × IsUnopened K.held D.content D.images D.moment D.images_since A.answer A.state_text A.stands_for A.count_of
+        × IsUnopened K.held D.content D.images D.moment D.images_since A.answer
+        A.state_text A.stands_for A.count_of
         (S.left source.old) (S.left source.new) sink.old disk.old sink.new disk.new
-        ⊎ IsSafeCall K.held D.content D.images D.moment D.images_since A.answer A.state_text A.stands_for A.count_of
+        ⊎ IsSafeCall K.held D.content D.images D.moment D.images_since A.answer
+        A.state_text A.stands_for A.count_of
         (D.images disk.old) (S.left source.old) (S.left source.new)
         sink.old disk.old sink.new disk.new before t version }
-    ensures exits { (before : List (List ℕ)) (bytes : List ℕ) (t : A.State) (version : Option (List ℕ))
-        → D.content disk.old ≡ Some bytes → HoldsPayloads before bytes → A.stands_for before ≡ Ok (t, version)
-        → EndsCall K.held D.content D.images D.moment D.images_since A.answer A.state_text A.stands_for A.count_of
-        (S.left source.old) (S.left source.new) sink.old disk.old sink.new disk.new before t version result }
+    ensures exits { (before : List (List ℕ)) (bytes : List ℕ) (t : A.State)
+        (version : Option (List ℕ))
+        → D.content disk.old ≡ Some bytes → HoldsPayloads before bytes
+        → A.stands_for before ≡ Ok (t, version)
+        → EndsCall K.held D.content D.images D.moment D.images_since A.answer
+        A.state_text A.stands_for A.count_of
+        (S.left source.old) (S.left source.new) sink.old disk.old sink.new disk.new
+        before t version result }
     ensures refused { (bytes : List ℕ) (refusal : StoreRefusal)
         → D.content disk.old ≡ Some bytes → refusal_in A.stands_for bytes ≡ Some refusal
         → IsUnwritten D.content D.images disk.old disk.new
@@ -83,24 +94,35 @@ fn apply_log<S: Source, A: StoredSession + Drop, K: Sink, D: Disk>(
 ) -> Status
     requires stands { (base : List (List ℕ))
         × Stands (D.content disk.old) (D.images disk.old) log.old base }
-    ensures continues { (before : List (List ℕ)) (bytes : List ℕ) (t : A.State) (version : Option (List ℕ))
-        → D.content disk.old ≡ Some bytes → Stands (D.content disk.old) (D.images disk.old) log.old before
+    ensures continues { (before : List (List ℕ)) (bytes : List ℕ) (t : A.State)
+        (version : Option (List ℕ))
+        → D.content disk.old ≡ Some bytes → Stands (D.content disk.old) (D.images disk.old)
+        log.old before
         → A.stands_for before ≡ Ok (t, version) → IsFinished result
-        → ContinuesCall K.held D.content D.images D.moment D.images_since A.answer A.state_text A.stands_for A.count_of
+        → ContinuesCall K.held D.content D.images D.moment D.images_since A.answer
+        A.state_text A.stands_for A.count_of
         (S.left source.old) (S.left source.new) sink.old sink.new disk.new before t version result }
-    ensures safe { (before : List (List ℕ)) (bytes : List ℕ) (t : A.State) (version : Option (List ℕ))
-        → D.content disk.old ≡ Some bytes → Stands (D.content disk.old) (D.images disk.old) log.old before
+    ensures safe { (before : List (List ℕ)) (bytes : List ℕ) (t : A.State)
+        (version : Option (List ℕ))
+        → D.content disk.old ≡ Some bytes → Stands (D.content disk.old) (D.images disk.old)
+        log.old before
         → A.stands_for before ≡ Ok (t, version)
-        → IsSafeCall K.held D.content D.images D.moment D.images_since A.answer A.state_text A.stands_for A.count_of
+        → IsSafeCall K.held D.content D.images D.moment D.images_since A.answer
+        A.state_text A.stands_for A.count_of
         (HoldsPayloads before) (S.left source.old) (S.left source.new)
         sink.old disk.old sink.new disk.new before t version }
-    ensures exits { (before : List (List ℕ)) (bytes : List ℕ) (t : A.State) (version : Option (List ℕ))
-        → D.content disk.old ≡ Some bytes → Stands (D.content disk.old) (D.images disk.old) log.old before
+    ensures exits { (before : List (List ℕ)) (bytes : List ℕ) (t : A.State)
+        (version : Option (List ℕ))
+        → D.content disk.old ≡ Some bytes → Stands (D.content disk.old) (D.images disk.old)
+        log.old before
         → A.stands_for before ≡ Ok (t, version)
-        → EndsCall K.held D.content D.images D.moment D.images_since A.answer A.state_text A.stands_for A.count_of
-        (S.left source.old) (S.left source.new) sink.old disk.old sink.new disk.new before t version result }
+        → EndsCall K.held D.content D.images D.moment D.images_since A.answer
+        A.state_text A.stands_for A.count_of
+        (S.left source.old) (S.left source.new) sink.old disk.old sink.new disk.new
+        before t version result }
     ensures refused { (before : List (List ℕ)) (bytes : List ℕ) (refusal : StoreRefusal)
-        → D.content disk.old ≡ Some bytes → Stands (D.content disk.old) (D.images disk.old) log.old before
+        → D.content disk.old ≡ Some bytes → Stands (D.content disk.old) (D.images disk.old)
+        log.old before
         → refusal_of_payloads (A.stands_for before) ≡ Some refusal
         → IsUnwritten D.content D.images disk.old disk.new
         × Consumes (S.left source.old) (S.left source.new) []
@@ -132,19 +154,24 @@ fn apply_payloads<S: Source, A: StoredSession + Drop, K: Sink, D: Disk>(
     ensures continues { (t : A.State) (version : Option (List ℕ))
         → Stands (D.content disk.old) (D.images disk.old) log.old payloads.now
         → A.stands_for payloads.now ≡ Ok (t, version) → IsFinished result
-        → ContinuesCall K.held D.content D.images D.moment D.images_since A.answer A.state_text A.stands_for A.count_of
-        (S.left source.old) (S.left source.new) sink.old sink.new disk.new payloads.now t version result }
+        → ContinuesCall K.held D.content D.images D.moment D.images_since A.answer
+        A.state_text A.stands_for A.count_of
+        (S.left source.old) (S.left source.new) sink.old sink.new disk.new
+        payloads.now t version result }
     ensures safe { (t : A.State) (version : Option (List ℕ))
         → Stands (D.content disk.old) (D.images disk.old) log.old payloads.now
         → A.stands_for payloads.now ≡ Ok (t, version)
-        → IsSafeCall K.held D.content D.images D.moment D.images_since A.answer A.state_text A.stands_for A.count_of
+        → IsSafeCall K.held D.content D.images D.moment D.images_since A.answer
+        A.state_text A.stands_for A.count_of
         (HoldsPayloads payloads.now) (S.left source.old) (S.left source.new)
         sink.old disk.old sink.new disk.new payloads.now t version }
     ensures exits { (t : A.State) (version : Option (List ℕ))
         → Stands (D.content disk.old) (D.images disk.old) log.old payloads.now
         → A.stands_for payloads.now ≡ Ok (t, version)
-        → EndsCall K.held D.content D.images D.moment D.images_since A.answer A.state_text A.stands_for A.count_of
-        (S.left source.old) (S.left source.new) sink.old disk.old sink.new disk.new payloads.now t version result }
+        → EndsCall K.held D.content D.images D.moment D.images_since A.answer
+        A.state_text A.stands_for A.count_of
+        (S.left source.old) (S.left source.new) sink.old disk.old sink.new disk.new
+        payloads.now t version result }
     ensures refused { (refusal : StoreRefusal)
         → refusal_of_payloads (A.stands_for payloads.now) ≡ Some refusal
         → IsUnwritten D.content D.images disk.old disk.new

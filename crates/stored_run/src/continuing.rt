@@ -77,7 +77,8 @@ fn answer_last<A: StoredSession, K: Sink, D: Disk>(
     ensures answered { IfOk result
         (Answers K.held D.content D.images D.moment D.images_since A.answer
         sink.old disk.old log.old sink.new disk.new log.new
-        (A.state session.old) progress (option_to_list (last_line input.lines.begun)) (A.state session.new)) }
+        (A.state session.old) progress (option_to_list (last_line input.lines.begun))
+        (A.state session.new)) }
     ensures stopped { IfErr result
         (StopsAmong K.held D.content D.images D.moment D.images_since A.answer
         sink.old disk.old log.old sink.new disk.new log.new
@@ -148,7 +149,8 @@ pub fn continue_store<S: Source, A: StoredSession, K: Sink, D: Disk>(
     ensures exits { Exits K.held D.content D.images D.moment D.images_since A.answer
         (S.left source.old) (S.left source.new)
         sink.old disk.old log.old sink.new disk.new log.new
-        (option_to_list version.now) A.state_text (A.state session.old) (A.state session.new) result }
+        (option_to_list version.now) A.state_text (A.state session.old)
+        (A.state session.new) result }
     ensures safe { IsSafeFrom K.held D.content D.images D.moment D.images_since A.answer
         (S.left source.old) (S.left source.new)
         sink.old disk.old log.old sink.new disk.new

@@ -190,7 +190,8 @@ pub fn answer_lines<A: StoredSession, K: Sink, D: Disk>(
     ensures answered { OnOk result
         (Answers K.held D.content D.images D.moment D.images_since A.answer
         sink.old disk.old log.old sink.new disk.new log.new
-        (A.state session.old) progress.old input.old.lines.ended (A.state session.new) progress.new) }
+        (A.state session.old) progress.old input.old.lines.ended
+        (A.state session.new) progress.new) }
     ensures stopped { IfErr result
         (StopsAmong K.held D.content D.images D.moment D.images_since A.answer
         sink.old disk.old log.old sink.new disk.new log.new

@@ -39,20 +39,29 @@ pub fn pack<A: StoredSession + Drop, K: Sink, D: Disk>(
     sink: &mut K,
     disk: &mut D,
 ) -> Status
-    ensures packs { (before : List (List ℕ)) (bytes : List ℕ) (t : A.State) (version : Option (List ℕ))
-        → D.content disk.old ≡ Some bytes → HoldsPayloads before bytes → A.stands_for before ≡ Ok (t, version)
+    ensures packs { (before : List (List ℕ)) (bytes : List ℕ) (t : A.State)
+        (version : Option (List ℕ))
+        → D.content disk.old ≡ Some bytes → HoldsPayloads before bytes
+        → A.stands_for before ≡ Ok (t, version)
         → IsFinished result
-        → PacksCall K.held D.content D.images D.moment D.images_since A.snapshot_of A.count_of A.stands_for
+        → PacksCall K.held D.content D.images D.moment D.images_since
+        A.snapshot_of A.count_of A.stands_for
         sink.old sink.new disk.new before t version }
-    ensures safe { (before : List (List ℕ)) (bytes : List ℕ) (t : A.State) (version : Option (List ℕ))
-        → D.content disk.old ≡ Some bytes → HoldsPayloads before bytes → A.stands_for before ≡ Ok (t, version)
+    ensures safe { (before : List (List ℕ)) (bytes : List ℕ) (t : A.State)
+        (version : Option (List ℕ))
+        → D.content disk.old ≡ Some bytes → HoldsPayloads before bytes
+        → A.stands_for before ≡ Ok (t, version)
         → (result ≡ Status.DiskFault)
-        × IsUnpacked K.held D.content D.images D.moment D.images_since A.snapshot_of A.count_of A.stands_for
+        × IsUnpacked K.held D.content D.images D.moment D.images_since
+        A.snapshot_of A.count_of A.stands_for
         sink.old disk.old sink.new disk.new
-        ⊎ IsSafePack K.held D.content D.images D.moment D.images_since A.snapshot_of A.count_of A.stands_for
+        ⊎ IsSafePack K.held D.content D.images D.moment D.images_since
+        A.snapshot_of A.count_of A.stands_for
         (D.images disk.old) disk.old disk.new before t version }
-    ensures exits { (before : List (List ℕ)) (bytes : List ℕ) (t : A.State) (version : Option (List ℕ))
-        → D.content disk.old ≡ Some bytes → HoldsPayloads before bytes → A.stands_for before ≡ Ok (t, version)
+    ensures exits { (before : List (List ℕ)) (bytes : List ℕ) (t : A.State)
+        (version : Option (List ℕ))
+        → D.content disk.old ≡ Some bytes → HoldsPayloads before bytes
+        → A.stands_for before ≡ Ok (t, version)
         → StoresBehind K.held D.content D.images D.moment D.images_since sink.old sink.new disk.new
         before (packed_line (A.count_of before)) (option_to_list version) (A.snapshot_of t) result
         ⊎ IsUnwritten D.content D.images disk.old disk.new
@@ -84,25 +93,34 @@ fn pack_log<A: StoredSession + Drop, K: Sink, D: Disk>(
 ) -> Status
     requires stands { (base : List (List ℕ))
         × Stands (D.content disk.old) (D.images disk.old) log.old base }
-    ensures packs { (before : List (List ℕ)) (bytes : List ℕ) (t : A.State) (version : Option (List ℕ))
-        → D.content disk.old ≡ Some bytes → Stands (D.content disk.old) (D.images disk.old) log.old before
+    ensures packs { (before : List (List ℕ)) (bytes : List ℕ) (t : A.State)
+        (version : Option (List ℕ))
+        → D.content disk.old ≡ Some bytes → Stands (D.content disk.old) (D.images disk.old)
+        log.old before
         → A.stands_for before ≡ Ok (t, version) → IsFinished result
-        → PacksCall K.held D.content D.images D.moment D.images_since A.snapshot_of A.count_of A.stands_for
+        → PacksCall K.held D.content D.images D.moment D.images_since
+        A.snapshot_of A.count_of A.stands_for
         sink.old sink.new disk.new before t version }
-    ensures safe { (before : List (List ℕ)) (bytes : List ℕ) (t : A.State) (version : Option (List ℕ))
-        → D.content disk.old ≡ Some bytes → Stands (D.content disk.old) (D.images disk.old) log.old before
+    ensures safe { (before : List (List ℕ)) (bytes : List ℕ) (t : A.State)
+        (version : Option (List ℕ))
+        → D.content disk.old ≡ Some bytes → Stands (D.content disk.old) (D.images disk.old)
+        log.old before
         → A.stands_for before ≡ Ok (t, version)
-        → IsSafePack K.held D.content D.images D.moment D.images_since A.snapshot_of A.count_of A.stands_for
+        → IsSafePack K.held D.content D.images D.moment D.images_since
+        A.snapshot_of A.count_of A.stands_for
         (HoldsPayloads before) disk.old disk.new before t version }
-    ensures exits { (before : List (List ℕ)) (bytes : List ℕ) (t : A.State) (version : Option (List ℕ))
-        → D.content disk.old ≡ Some bytes → Stands (D.content disk.old) (D.images disk.old) log.old before
+    ensures exits { (before : List (List ℕ)) (bytes : List ℕ) (t : A.State)
+        (version : Option (List ℕ))
+        → D.content disk.old ≡ Some bytes → Stands (D.content disk.old) (D.images disk.old)
+        log.old before
         → A.stands_for before ≡ Ok (t, version)
         → StoresBehind K.held D.content D.images D.moment D.images_since sink.old sink.new disk.new
         before (packed_line (A.count_of before)) (option_to_list version) (A.snapshot_of t) result
         ⊎ IsUnwritten D.content D.images disk.old disk.new
         × FailsEarly (K.held sink.old) (K.held sink.new) result }
     ensures refused { (before : List (List ℕ)) (bytes : List ℕ) (refusal : StoreRefusal)
-        → D.content disk.old ≡ Some bytes → Stands (D.content disk.old) (D.images disk.old) log.old before
+        → D.content disk.old ≡ Some bytes → Stands (D.content disk.old) (D.images disk.old)
+        log.old before
         → refusal_of_payloads (A.stands_for before) ≡ Some refusal
         → IsUnwritten D.content D.images disk.old disk.new
         × EndsRefused (K.held sink.old) (K.held sink.new) refusal result }
@@ -130,18 +148,21 @@ fn pack_payloads<A: StoredSession + Drop, K: Sink, D: Disk>(
     ensures packs { (t : A.State) (version : Option (List ℕ))
         → Stands (D.content disk.old) (D.images disk.old) log.old payloads.now
         → A.stands_for payloads.now ≡ Ok (t, version) → IsFinished result
-        → PacksCall K.held D.content D.images D.moment D.images_since A.snapshot_of A.count_of A.stands_for
+        → PacksCall K.held D.content D.images D.moment D.images_since
+        A.snapshot_of A.count_of A.stands_for
         sink.old sink.new disk.new payloads.now t version }
     ensures safe { (t : A.State) (version : Option (List ℕ))
         → Stands (D.content disk.old) (D.images disk.old) log.old payloads.now
         → A.stands_for payloads.now ≡ Ok (t, version)
-        → IsSafePack K.held D.content D.images D.moment D.images_since A.snapshot_of A.count_of A.stands_for
+        → IsSafePack K.held D.content D.images D.moment D.images_since
+        A.snapshot_of A.count_of A.stands_for
         (HoldsPayloads payloads.now) disk.old disk.new payloads.now t version }
     ensures exits { (t : A.State) (version : Option (List ℕ))
         → Stands (D.content disk.old) (D.images disk.old) log.old payloads.now
         → A.stands_for payloads.now ≡ Ok (t, version)
         → StoresBehind K.held D.content D.images D.moment D.images_since sink.old sink.new disk.new
-        payloads.now (packed_line (A.count_of payloads.now)) (option_to_list version) (A.snapshot_of t) result
+        payloads.now (packed_line (A.count_of payloads.now))
+        (option_to_list version) (A.snapshot_of t) result
         ⊎ IsUnwritten D.content D.images disk.old disk.new
         × FailsEarly (K.held sink.old) (K.held sink.new) result }
     ensures refused { (refusal : StoreRefusal)
@@ -185,17 +206,20 @@ fn pack_session<A: StoredSession, K: Sink, D: Disk>(
         → Stands (D.content disk.old) (D.images disk.old) log.old before
         → A.stands_for before ≡ Ok (A.state session.now, version.now)
         → count ≡ A.count_of before → IsFinished result
-        → PacksCall K.held D.content D.images D.moment D.images_since A.snapshot_of A.count_of A.stands_for
+        → PacksCall K.held D.content D.images D.moment D.images_since
+        A.snapshot_of A.count_of A.stands_for
         sink.old sink.new disk.new before (A.state session.now) version.now }
     ensures safe { (before : List (List ℕ))
         → Stands (D.content disk.old) (D.images disk.old) log.old before
         → A.stands_for before ≡ Ok (A.state session.now, version.now)
-        → IsSafePack K.held D.content D.images D.moment D.images_since A.snapshot_of A.count_of A.stands_for
+        → IsSafePack K.held D.content D.images D.moment D.images_since
+        A.snapshot_of A.count_of A.stands_for
         (HoldsPayloads before) disk.old disk.new before (A.state session.now) version.now }
     ensures exits { (before : List (List ℕ))
         → Stands (D.content disk.old) (D.images disk.old) log.old before
         → StoresBehind K.held D.content D.images D.moment D.images_since sink.old sink.new disk.new
-        before (packed_line count) (option_to_list version.now) (A.snapshot_of (A.state session.now)) result
+        before (packed_line count)
+        (option_to_list version.now) (A.snapshot_of (A.state session.now)) result
         ⊎ IsUnwritten D.content D.images disk.old disk.new
         × FailsEarly (K.held sink.old) (K.held sink.new) result }
     ensures sink_fault { result ≡ Status.SinkFault

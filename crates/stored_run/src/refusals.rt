@@ -110,7 +110,8 @@ fn give_made<K: Sink>(sink: &mut K, line: Result<Bytes, AllocError>) -> Status
 
 // Writes the line of a refusal.
 fn give_refusal<K: Sink>(sink: &mut K, line: &[u8]) -> Status
-    ensures gives { (result ≡ Status.StoreRefused) × Appends (K.held sink.old) (K.held sink.new) line.now
+    ensures gives { (result ≡ Status.StoreRefused) × Appends (K.held sink.old) (K.held sink.new)
+        line.now
         ⊎ (result ≡ Status.SinkFault) × AppendsFront (K.held sink.old) (K.held sink.new) line.now }
     ensures sink_fault { result ≡ Status.SinkFault
         → SinkFailed K.faults K.empty_takes K.room K.held sink.old sink.new }
@@ -123,7 +124,8 @@ fn give_refusal<K: Sink>(sink: &mut K, line: &[u8]) -> Status
 
 /// Ends a command that was stopped. If the log is full, the line that says so is written.
 pub(crate) fn give_stop<K: Sink>(stop: Stop, sink: &mut K) -> Status
-    ensures gives { (result ≡ status_of stop) × Appends (K.held sink.old) (K.held sink.new) (said_at stop)
+    ensures gives { (result ≡ status_of stop) × Appends
+        (K.held sink.old) (K.held sink.new) (said_at stop)
         ⊎ (stop ≡ Stop.LogFull) × (result ≡ Status.SinkFault)
         × AppendsFront (K.held sink.old) (K.held sink.new) log_full_line }
     ensures sink_fault { result ≡ Status.SinkFault

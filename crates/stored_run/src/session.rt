@@ -103,7 +103,8 @@ pub trait StoredSession: Sized {
         → stands_for ps ≡ Ok (t, Some v) → stands_for (ps ++ v ∷ []) ≡ Ok (t, None) };
 
     /// The payload of a change that was accepted stands for its step.
-    ghost change_stands: { (ps : List (List ℕ)) (t t' : State) (n : ℕ) (line : Line) (a : Answer) (p : List ℕ)
+    ghost change_stands: { (ps : List (List ℕ)) (t t' : State)
+        (n : ℕ) (line : Line) (a : Answer) (p : List ℕ)
         → stands_for ps ≡ Ok (t, None) → answer t n line ≡ Some (t', a) → a.payload ≡ Some p
         → stands_for (ps ++ p ∷ []) ≡ Ok (t', None) };
 
@@ -112,7 +113,8 @@ pub trait StoredSession: Sized {
         → stands_for ps ≡ Ok (t, Some v) → count_of (ps ++ v ∷ []) ≡ count_of ps };
 
     /// The payload of a change that was accepted counts one.
-    ghost change_counts: { (ps : List (List ℕ)) (t t' : State) (n : ℕ) (line : Line) (a : Answer) (p : List ℕ)
+    ghost change_counts: { (ps : List (List ℕ)) (t t' : State)
+        (n : ℕ) (line : Line) (a : Answer) (p : List ℕ)
         → stands_for ps ≡ Ok (t, None) → answer t n line ≡ Some (t', a) → a.payload ≡ Some p
         → count_of (ps ++ p ∷ []) ≡ count_of ps + 1 };
 

@@ -34,7 +34,8 @@ pub fn store_and_answer<K: Sink, D: Disk>(
         sink.old disk.old log.old sink.new disk.new log.new line.now (payload.now ∷ [])) }
     ensures stopped { IfErr result (λ stop.
         Stops K.held D.content D.images D.moment D.images_since
-        sink.old disk.old log.old sink.new disk.new log.new stop [] line.now [] (payload.now ∷ [])) }
+        sink.old disk.old log.old sink.new disk.new log.new stop []
+        line.now [] (payload.now ∷ [])) }
     ensures own { IfErr result IsOwnStop }
     ensures counted { Counted K.faults K.empty_takes K.room K.held D.faults
         sink.old disk.old sink.new disk.new (stop_in result) }
@@ -80,7 +81,8 @@ pub fn store_version<K: Sink, D: Disk>(
         _sink.now disk.old log.old _sink.now disk.new log.new [] (option_to_list version.now)) }
     ensures stopped { IfErr result (λ stop.
         Stops K.held D.content D.images D.moment D.images_since
-        _sink.now disk.old log.old _sink.now disk.new log.new stop [] [] [] (option_to_list version.now)) }
+        _sink.now disk.old log.old _sink.now disk.new log.new stop [] [] []
+        (option_to_list version.now)) }
     ensures own { IfErr result IsOwnStop }
     ensures counted { Counted K.faults K.empty_takes K.room K.held D.faults
         _sink.now disk.old _sink.now disk.new (stop_in result) }

@@ -39,8 +39,10 @@ pub fn show<A: StoredSession + Drop, K: Sink, D: Disk>(
     sink: &mut K,
     disk: &mut D,
 ) -> Status
-    ensures views { (before : List (List ℕ)) (bytes : List ℕ) (t : A.State) (version : Option (List ℕ))
-        → D.content disk.old ≡ Some bytes → HoldsPayloads before bytes → A.stands_for before ≡ Ok (t, version)
+    ensures views { (before : List (List ℕ)) (bytes : List ℕ) (t : A.State)
+        (version : Option (List ℕ))
+        → D.content disk.old ≡ Some bytes → HoldsPayloads before bytes
+        → A.stands_for before ≡ Ok (t, version)
         → Views (K.held sink.old) (K.held sink.new) (A.state_text t) result }
     ensures refused { (bytes : List ℕ) (refusal : StoreRefusal)
         → D.content disk.old ≡ Some bytes → refusal_in A.stands_for bytes ≡ Some refusal
@@ -66,8 +68,10 @@ pub fn verify<A: StoredSession + Drop, K: Sink, D: Disk>(
     sink: &mut K,
     disk: &mut D,
 ) -> Status
-    ensures views { (before : List (List ℕ)) (bytes : List ℕ) (t : A.State) (version : Option (List ℕ))
-        → D.content disk.old ≡ Some bytes → HoldsPayloads before bytes → A.stands_for before ≡ Ok (t, version)
+    ensures views { (before : List (List ℕ)) (bytes : List ℕ) (t : A.State)
+        (version : Option (List ℕ))
+        → D.content disk.old ≡ Some bytes → HoldsPayloads before bytes
+        → A.stands_for before ≡ Ok (t, version)
         → Views (K.held sink.old) (K.held sink.new) (consistent_line (A.count_of before)) result }
     ensures refused { (bytes : List ℕ) (refusal : StoreRefusal)
         → D.content disk.old ≡ Some bytes → refusal_in A.stands_for bytes ≡ Some refusal
@@ -89,9 +93,12 @@ fn view_store<A: StoredSession + Drop, K: Sink, D: Disk>(
     sink: &mut K,
     disk: &mut D,
 ) -> Status
-    ensures views { (before : List (List ℕ)) (bytes : List ℕ) (t : A.State) (version : Option (List ℕ))
-        → D.content disk.old ≡ Some bytes → HoldsPayloads before bytes → A.stands_for before ≡ Ok (t, version)
-        → Views (K.held sink.old) (K.held sink.new) (view_text A.state_text view t (A.count_of before)) result }
+    ensures views { (before : List (List ℕ)) (bytes : List ℕ) (t : A.State)
+        (version : Option (List ℕ))
+        → D.content disk.old ≡ Some bytes → HoldsPayloads before bytes
+        → A.stands_for before ≡ Ok (t, version)
+        → Views (K.held sink.old) (K.held sink.new) (view_text
+        A.state_text view t (A.count_of before)) result }
     ensures refused { (bytes : List ℕ) (refusal : StoreRefusal)
         → D.content disk.old ≡ Some bytes → refusal_in A.stands_for bytes ≡ Some refusal
         → EndsRefused (K.held sink.old) (K.held sink.new) refusal result }
@@ -118,12 +125,16 @@ fn view_log<A: StoredSession + Drop, K: Sink, D: Disk>(
 ) -> Status
     requires stands { (base : List (List ℕ))
         × Stands (D.content disk.old) (D.images disk.old) log.now base }
-    ensures views { (before : List (List ℕ)) (bytes : List ℕ) (t : A.State) (version : Option (List ℕ))
-        → D.content disk.old ≡ Some bytes → Stands (D.content disk.old) (D.images disk.old) log.now before
+    ensures views { (before : List (List ℕ)) (bytes : List ℕ) (t : A.State)
+        (version : Option (List ℕ))
+        → D.content disk.old ≡ Some bytes
+        → Stands (D.content disk.old) (D.images disk.old) log.now before
         → A.stands_for before ≡ Ok (t, version)
-        → Views (K.held sink.old) (K.held sink.new) (view_text A.state_text view t (A.count_of before)) result }
+        → Views (K.held sink.old) (K.held sink.new) (view_text
+        A.state_text view t (A.count_of before)) result }
     ensures refused { (before : List (List ℕ)) (bytes : List ℕ) (refusal : StoreRefusal)
-        → D.content disk.old ≡ Some bytes → Stands (D.content disk.old) (D.images disk.old) log.now before
+        → D.content disk.old ≡ Some bytes
+        → Stands (D.content disk.old) (D.images disk.old) log.now before
         → refusal_of_payloads (A.stands_for before) ≡ Some refusal
         → EndsRefused (K.held sink.old) (K.held sink.new) refusal result }
     ensures unwritten { IsUnwritten D.content D.images disk.old disk.new }
@@ -146,8 +157,10 @@ fn view_payloads<A: StoredSession + Drop, K: Sink>(
     payloads: &Payloads,
     sink: &mut K,
 ) -> Status
-    ensures views { (t : A.State) (version : Option (List ℕ)) → A.stands_for payloads.now ≡ Ok (t, version)
-        → Views (K.held sink.old) (K.held sink.new) (view_text A.state_text view t (A.count_of payloads.now)) result }
+    ensures views { (t : A.State) (version : Option (List ℕ))
+        → A.stands_for payloads.now ≡ Ok (t, version)
+        → Views (K.held sink.old) (K.held sink.new) (view_text
+        A.state_text view t (A.count_of payloads.now)) result }
     ensures refused { (refusal : StoreRefusal)
         → refusal_of_payloads (A.stands_for payloads.now) ≡ Some refusal
         → EndsRefused (K.held sink.old) (K.held sink.new) refusal result }
