@@ -1,5 +1,6 @@
 //! The command `apply`, from its first call of the disk on.
 ghost use Rattle.std.specs.Prelude.{◌≡◌, ◌⊎◌, [], List, ℕ, Ok, Some};
+ghost use Rattle.std.specs.Io.KnownBytes.{Consumes};
 ghost use Rattle.std.specs.declared.option.Option.{Option};
 ghost use Rattle.lens_io.specs.Causes.{Increased};
 ghost use Rattle.gate_log.specs.LogOnDisk.{HoldsPayloads, Stands};
@@ -8,7 +9,6 @@ ghost use Rattle.stored_run.specs.Causes.{SinkFailed};
 ghost use Rattle.stored_run.specs.Ends.{IsFinished};
 ghost use Rattle.stored_run.specs.Refusals.{IsUnwritten, EndsRefused, refusal_in, refusal_of_payloads};
 ghost use Rattle.stored_run.specs.declared.refusals.StoreRefusal.{StoreRefusal};
-ghost use Rattle.std.specs.Io.KnownBytes.{Consumes};
 
 use crate::continuing::continue_store;
 use crate::refusals::{refuse_log, refuse_payloads};

@@ -7,10 +7,10 @@ ghost use Rattle.stored_run.specs.Causes.{Counted, stop_in, SinkFailed};
 ghost use Rattle.stored_run.specs.CountLines.{packed_line};
 ghost use Rattle.stored_run.specs.Effects.{Adds, Stops};
 ghost use Rattle.stored_run.specs.Ends.{IsFinished};
-ghost use Rattle.stored_run.specs.Refusals.{IsUnwritten, EndsRefused, FailsEarly, refusal_in, refusal_of_payloads};
-ghost use Rattle.stored_run.specs.declared.refusals.StoreRefusal.{StoreRefusal};
-ghost use Rattle.stored_run.specs.StoreEnds.{StoresBehind};
 ghost use Rattle.stored_run.specs.PackCall.{PacksCall, IsSafePack, IsUnpacked};
+ghost use Rattle.stored_run.specs.Refusals.{IsUnwritten, EndsRefused, FailsEarly, refusal_in, refusal_of_payloads};
+ghost use Rattle.stored_run.specs.StoreEnds.{StoresBehind};
+ghost use Rattle.stored_run.specs.declared.refusals.StoreRefusal.{StoreRefusal};
 
 use crate::count_lines::packed_line;
 use crate::refusals::{give_stop, refuse_log, refuse_payloads};
