@@ -9,9 +9,9 @@ use Rattle.hold_shapes.proofs.ValidDepths.{GoesOn, Low, HeadAtMost, PutOk, Whole
 use Rattle.hold_shapes.proofs.ChildPlaces.{child-at, block, low, front-length}
 use Rattle.hold_shapes.proofs.Nodes.{child-numbered}
 use Rattle.shape_laws.proofs.Content.{end-within}
-use Rattle.edit_inverse.proofs.SamePrefix.{node-same, node-in, prefix-less, prefix-take}
-use Rattle.edit_inverse.proofs.Children.{within-descendants, before-part, children-more, child-at_end, child-at_place, children-less, child-descendant}
-use Rattle.edit_inverse.proofs.OtherChildren.{IsSlot, slot-left, put-back-same, length-between}
+use Rattle.shape_laws.proofs.SamePrefix.{node-same, node-in, prefix-less, prefix-take}
+use Rattle.shape_laws.proofs.Children.{within-descendants, before-part, children-more, child-at_end, child-at_place, children-less, child-descendant}
+use Rattle.shape_laws.proofs.OtherChildren.{IsSlot, slot-left, put-back-same, length-between}
 
 -- ---- a part put into a list and taken out again
 

@@ -31,7 +31,7 @@ use Rattle.edit_module.specs.Words.{PrimitiveTree, modify, shape, WordTree, no_p
 use Rattle.edit_module.specs.Action.{act}
 use Rattle.edit_inverse.specs.Paths.{next_path, paths_after, parent_path}
 use Rattle.edit_inverse.specs.Construct.{reshape, unless_empty, full_insertions, last_insertion, insertions, modify_each, put_each, graft_each}
-use Rattle.edit_inverse.proofs.Gathered.{content-insert}
+use Rattle.shape_laws.proofs.Content.{content-insert}
 use Rattle.edit_inverse.proofs.Ways.{Way, way-next, length-next_path}
 use Rattle.edit_inverse.proofs.Moves.{Makes}
 use Rattle.edit_inverse.proofs.Grafts.{graft-next, next-named}

@@ -18,9 +18,9 @@ use Rattle.hold_shapes.specs.Plans.{Planned, plan, at_place, old_places, insert_
 use Rattle.edit_inverse.specs.Paths.{next_path, parent_path}
 use Rattle.hold_shapes.proofs.ValidDepths.{Low, HeadAtMost, end-zero, end-suc}
 use Rattle.hold_shapes.proofs.ChildPlaces.{child-at}
-use Rattle.edit_inverse.proofs.Gathered.{content-remove_part, content-insert}
-use Rattle.edit_inverse.proofs.SamePrefix.{node-in}
-use Rattle.edit_inverse.proofs.Children.{not-before, next-place, child-descendant, drop-insert, children-skip}
+use Rattle.shape_laws.proofs.Content.{content-remove_part, content-insert}
+use Rattle.shape_laws.proofs.SamePrefix.{node-in}
+use Rattle.shape_laws.proofs.Children.{not-before, next-place, child-descendant, drop-insert, children-skip}
 use Rattle.edit_inverse.proofs.Blocks.{after-all, low-head}
 use Rattle.edit_inverse.proofs.Ways.{Way, on-way, end-before, way-more, way-last, way-next, parent-next_path, length-next_path}
 use Rattle.edit_inverse.proofs.Moves.{Makes}

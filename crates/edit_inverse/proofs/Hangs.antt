@@ -17,10 +17,10 @@ use Rattle.shape_laws.specs.Children.{child_path}
 use Rattle.edit_inverse.specs.Paths.{parent_path, last_number}
 use Rattle.hold_shapes.proofs.ValidDepths.{GoesOn, Low, HeadAtMost, Whole, whole}
 use Rattle.hold_shapes.proofs.ChildPlaces.{child-at, length-remove_part}
-use Rattle.edit_inverse.proofs.Gathered.{content-move_part}
+use Rattle.shape_laws.proofs.Content.{content-move_part}
 use Rattle.shape_laws.proofs.Content.{not-zero}
-use Rattle.edit_inverse.proofs.SamePrefix.{node-in, node-child}
-use Rattle.edit_inverse.proofs.OtherChildren.{length-between}
+use Rattle.shape_laws.proofs.SamePrefix.{node-in, node-child}
+use Rattle.shape_laws.proofs.OtherChildren.{length-between}
 use Rattle.edit_inverse.proofs.Blocks.{slice-inserted, remove-inserted, end-inserted, get-inserted, length-inserted}
 use Rattle.edit_inverse.proofs.Moves.{Makes, below_node, IsChild, put-last, Child, child-out, shift-home, still, left-still, past}
 use Rattle.edit_inverse.proofs.Returns.{at-ok, if-ok, else-ok, ok-shape, ok-origins}

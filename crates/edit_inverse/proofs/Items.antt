@@ -26,7 +26,7 @@ use Rattle.shape_laws.proofs.Lawful.{key-within}
 use Rattle.shape_laws.proofs.Once.{kept}
 use Rattle.shape_laws.proofs.Content.{content-old_places}
 use Rattle.edit_inverse.specs.Inverse.{place_among, inverse_order}
-use Rattle.edit_inverse.proofs.Gathered.{map-insert, content-insert, content-remove}
+use Rattle.shape_laws.proofs.Content.{map-insert, content-insert, content-remove}
 use Rattle.edit_inverse.proofs.Moves.{Makes}
 use Rattle.edit_inverse.proofs.Returns.{if-ok, else-ok, ok-shape, ok-origins}
 use Rattle.edit_inverse.proofs.Fills.{ins-makes, put-makes}

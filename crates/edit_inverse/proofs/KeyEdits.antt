@@ -19,7 +19,7 @@ use Rattle.texts.proofs.Conjunction.{both, first, second}
 use Rattle.texts.proofs.KeyOrder.{bytes_eq-refl, before-trans, rising-first, rising-rest, rising-insert, rising-remove, after-all, after-tail, before-differs, after-differs, rank-length, key_place-found, key_place-remove}
 use Rattle.shape_laws.proofs.Lawful.{key-within}
 use Rattle.shape_laws.proofs.Content.{content-old_places}
-use Rattle.edit_inverse.proofs.Gathered.{map-insert, content-insert, content-remove}
+use Rattle.shape_laws.proofs.Content.{map-insert, content-insert, content-remove}
 use Rattle.edit_inverse.proofs.Moves.{Makes}
 use Rattle.edit_inverse.proofs.Fills.{put-makes}
 use Rattle.edit_inverse.proofs.Items.{made-same, back-through, remove-inserted-item, insert-removed-item}

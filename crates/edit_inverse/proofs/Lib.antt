@@ -17,8 +17,4 @@ pub mod Returns
 pub mod Spliced
 pub mod Texts
 pub mod Ways
-pub mod SamePrefix
-pub mod Children
-pub mod OtherChildren
-pub mod Gathered
 mod Examples

@@ -18,11 +18,11 @@ use Rattle.edit_inverse.specs.Paths.{parent_path, last_number}
 use Rattle.hold_shapes.proofs.ValidDepths.{GoesOn, Low, HeadAtMost, PutOk, Whole, above-end, end-zero, end-suc, end-ok, whole}
 use Rattle.hold_shapes.proofs.ChildPlaces.{child-at, block, low, front-length, length-remove_part}
 use Rattle.hold_shapes.proofs.Nodes.{child-numbered}
-use Rattle.edit_inverse.proofs.Gathered.{content-remove_part, content-move_part, content-insert}
+use Rattle.shape_laws.proofs.Content.{content-remove_part, content-move_part, content-insert}
 use Rattle.shape_laws.proofs.Content.{end-within, not-zero}
-use Rattle.edit_inverse.proofs.SamePrefix.{node-same, node-in, node-child, prefix-less, prefix-take, prefix-trans}
-use Rattle.edit_inverse.proofs.Children.{within-descendants, before-part, children-more, child-at_end, child-at_place, children-less, child-descendant}
-use Rattle.edit_inverse.proofs.OtherChildren.{put-back-same, length-between}
+use Rattle.shape_laws.proofs.SamePrefix.{node-same, node-in, node-child, prefix-less, prefix-take, prefix-trans}
+use Rattle.shape_laws.proofs.Children.{within-descendants, before-part, children-more, child-at_end, child-at_place, children-less, child-descendant}
+use Rattle.shape_laws.proofs.OtherChildren.{put-back-same, length-between}
 use Rattle.edit_inverse.proofs.Blocks.{slice-inserted, remove-inserted, move-back, head-after, low-head, put-head, end-inserted, get-inserted, home, length-inserted}
 use Rattle.edit_inverse.proofs.Moves.{Makes, below_node, IsChild, put-child, put-last, Child, child-out, shift-home, still, left-still, past, number-below}
 

@@ -9,8 +9,8 @@ use Rattle.hold_shapes.specs.Plans.{insert_part}
 use Rattle.edit_inverse.specs.Paths.{next_number, next_path, paths_after, paths, parent_path}
 use Rattle.hold_shapes.proofs.ValidDepths.{GoesOn, Low, HeadAtMost, above-end}
 use Rattle.hold_shapes.proofs.ChildPlaces.{child-at}
-use Rattle.edit_inverse.proofs.SamePrefix.{SamePrefix, prefix-less, prefix-take, child-same}
-use Rattle.edit_inverse.proofs.Children.{deeper-test, no_child-test, before-part, children-more, child-at_end}
+use Rattle.shape_laws.proofs.SamePrefix.{SamePrefix, prefix-less, prefix-take, child-same}
+use Rattle.shape_laws.proofs.Children.{deeper-test, no_child-test, before-part, children-more, child-at_end}
 
 -- ---- lists with more behind them
 
