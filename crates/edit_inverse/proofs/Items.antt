@@ -192,13 +192,13 @@ new-numbers n f before a (suc m) w h fresh =
         absurd (omega arith)
     other false k a i j f before e lt x y z = z
 
+reorder-plan : (n : ℕ) (f : List ℕ) → nat_eq (length f) n ≡ true → is_each_new n [] f ≡ true → plan (list_of n) (Reorder f) ≡ Ok (list_of n, map Old f)
+reorder-plan n f h k =
+    ap (λ (b : Bool). if b then (if is_each_new n [] f then Ok (list_of n, map Old f) else Err Range) else Err Length) h
+    ∙ ap (λ (b : Bool). if b then Ok (list_of n, map Old f) else Err Range) k
+
 reorder-makes : {X : Type 0} (n : ℕ) (f : List ℕ) (fresh : X) (xs : List X) → nat_eq (length f) n ≡ true → is_each_new n [] f ≡ true → Makes (list_of n) (Reorder f) fresh xs (list_of n) (map (content_at xs fresh) (map Old f))
-reorder-makes n f fresh xs h k = (
-  map Old f,
-  ap (λ (b : Bool). if b then (if is_each_new n [] f then Ok (list_of n, map Old f) else Err Range) else Err Length) h
-      ∙ ap (λ (b : Bool). if b then Ok (list_of n, map Old f) else Err Range) k,
-  refl,
-)
+reorder-makes n f fresh xs h k = (map Old f, reorder-plan n f h k, refl)
 
 gather-order : {X : Type 0} (n a m : ℕ) (f : List ℕ) (fresh : X) (xs : List X) → ((k : ℕ) → k < n → (place_among f k < length f) × (get_or f (place_among f k) 0 ≡ k)) → a + m ≤ n
     → map (content_at (map (content_at xs fresh) (map Old f)) fresh) (map Old (map (place_among f) (range_with_len a m))) ≡ map (content_at xs fresh) (map Old (range_with_len a m))
@@ -213,6 +213,15 @@ gather-order n a (suc m) f fresh xs w h =
     ∙ ap (λ (i : ℕ). get_or xs i fresh) here.1) in
     let rest = gather-order n (a + 1) m f fresh xs w (omega arith) in
     rw (one, rest) refl
+
+-- in an order each place below its length is among the numbers
+pub all-among : (f : List ℕ) → is_each_new (length f) [] f ≡ true → (k : ℕ) → k < length f → (place_among f k < length f) × (get_or f (place_among f k) 0 ≡ k)
+all-among f h k lt =
+    let n = length f in
+    let size : nat_eq n n ≡ true = grind (arith, nat_tests) in
+    let all = (kept (list_of n) (Reorder f) (list_of n) (map Old f) (reorder-plan n f size h)).0 in
+    let c = all k lt in
+    found-among f k (omega arith)
 
 pub reorder-back : {X : Type 0} (n : ℕ) (f : List ℕ) (s : Shape) (from : List Origin) (fresh : X) (xs : List X) → n ≡ length xs → plan (list_of n) (Reorder f) ≡ Ok (s, from)
     → Makes s (Reorder (inverse_order f)) fresh (map (content_at xs fresh) from) (list_of n) xs

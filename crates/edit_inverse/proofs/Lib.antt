@@ -17,4 +17,9 @@ pub mod Returns
 pub mod Spliced
 pub mod Texts
 pub mod Ways
+pub mod Cuts
+pub mod Orders
+pub mod Regrown
+pub mod Rows
+pub mod Walks
 mod Examples
