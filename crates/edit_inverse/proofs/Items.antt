@@ -1,35 +1,30 @@
 -- Edits of lists and of keyed maps that take one another back.
-use Rattle.std.proofs.Common.{◌≡◌, ℕ, ◌+◌, ◌-◌, ◌<◌, ◌≤◌, suc, zero, Bool, true, false, ◌&&◌, ◌||◌, not, cond, List, [], ◌∷◌, ◌++◌, length, map, take, drop, get_or, replicate, Option, Some, None, Result, Ok, Err, refl, sym, ap, ◌∙◌, subst, arith}
-use Rattle.std.specs.Prelude.{if◌then◌else◌, nat_lt, nat_eq, nat_le, bytes_eq}
+use Rattle.std.proofs.Common.{◌≡◌, ℕ, ◌+◌, ◌-◌, ◌<◌, ◌≤◌, suc, zero, Bool, true, false, ◌&&◌, ◌||◌, not, cond, List, [], ◌∷◌, ◌++◌, length, map, take, get_or, replicate, Ok, Err, refl, sym, ap, ◌∙◌, subst, arith}
+use Rattle.std.specs.Prelude.{if◌then◌else◌, nat_lt, nat_eq, nat_le}
 use Rattle.std.specs.List.{insert, remove, range_with_len, count_by}
 use Rattle.std.proofs.lemmas.Bool.Decides.{nat_tests}
-use Rattle.std.proofs.lemmas.List.{length-append, append_assoc, take-append-drop, length-take-le, length-map, get_or-map, length-replicate}
+use Rattle.std.proofs.lemmas.List.{length-append, append_assoc, length-map, get_or-map, length-replicate}
 use Rattle.std.proofs.lemmas.List.Edits.{get_or-insert_at, length-insert, length-remove}
 use Rattle.std.proofs.lemmas.List.FromFn.{length-map-range_with_len}
 use Rattle.std.proofs.lemmas.List.Sums.{sum_by-cons}
-use Rattle.std.proofs.lemmas.Slice.Eq.{bytes_eq-Decides}
 use Rattle.std.proofs.Math.Seq.{get_or-append_seam, take-append_seam}
 use Rattle.hold_shapes.specs.declared.shape.Shape.{Shape}
-use Rattle.hold_shapes.specs.declared.shape.Shape.TheVariants.{List as ListOf, Keyed as KeyedOf, Tree as TreeOf}
 use Rattle.hold_shapes.specs.declared.origins.Origin.{Origin}
 use Rattle.hold_shapes.specs.declared.origins.Origin.TheVariants.{Old, Fresh}
 use Rattle.hold_shapes.specs.declared.edit.ShapeEdit.{ShapeEdit}
-use Rattle.hold_shapes.specs.declared.edit.ShapeEdit.TheVariants.{Ins, Del, MoveItem, Reorder, PutKey, DropKey, RenameKey}
-use Rattle.hold_shapes.specs.Causes.{PlanCause, Place, Range, Length}
+use Rattle.hold_shapes.specs.declared.edit.ShapeEdit.TheVariants.{Ins, Del, MoveItem, Reorder}
+use Rattle.hold_shapes.specs.Causes.{Place, Range, Length}
 use Rattle.hold_shapes.specs.Gather.{content_at}
-use Rattle.hold_shapes.specs.Plans.{Planned, plan, list_of, is_count, is_each_new, has_number, old_places, add_key, put_key, drop_key, rename_to, rename_key}
-use Rattle.texts.specs.Keys.{is_rising, all_after, is_before, rank, key_from, key_place}
+use Rattle.hold_shapes.specs.Plans.{plan, list_of, is_count, is_each_new, has_number, old_places}
 use Rattle.texts.proofs.Conjunction.{both, first, second}
-use Rattle.texts.proofs.KeyOrder.{bytes_eq-refl, before-trans, rising-first, rising-rest, rising-insert, rising-remove, after-all, after-tail, before-differs, after-differs, rank-length, key_place-found, key_place-remove}
 use Rattle.shape_laws.specs.Laws.{is_old}
-use Rattle.shape_laws.proofs.Lawful.{key-within}
 use Rattle.shape_laws.proofs.Once.{kept}
 use Rattle.shape_laws.proofs.Content.{content-old_places}
 use Rattle.edit_inverse.specs.Inverse.{place_among, inverse_order}
-use Rattle.shape_laws.proofs.Content.{map-insert, content-insert, content-remove}
+use Rattle.shape_laws.proofs.Content.{map-insert, content-remove}
 use Rattle.edit_inverse.proofs.Moves.{Makes}
-use Rattle.edit_inverse.proofs.Returns.{if-ok, else-ok, ok-shape, ok-origins}
-use Rattle.edit_inverse.proofs.Fills.{ins-makes, put-makes}
+use Rattle.edit_inverse.proofs.Returns.{if-ok, ok-shape, ok-origins}
+use Rattle.edit_inverse.proofs.Fills.{ins-makes}
 
 -- ---- what a plan makes, it makes alone
 

@@ -1,12 +1,12 @@
 -- Nodes that grow again, as the code makes them.
-use Rattle.std.proofs.Common.{◌≡◌, ℕ, zero, suc, ◌+◌, ◌-◌, ◌<◌, ◌≤◌, List, [], ◌∷◌, length, map, get_or, take, drop, Option, None, Some, refl, sym, ap, subst, ◌∙◌, arith}
+use Rattle.std.proofs.Common.{◌≡◌, ℕ, zero, suc, ◌+◌, ◌-◌, ◌<◌, ◌≤◌, List, [], ◌∷◌, length, map, get_or, take, drop, Option, Some, sym, ap, subst, ◌∙◌, arith}
 use Rattle.std.specs.Prelude.{slice_range}
-use Rattle.std.proofs.lemmas.List.{drop_more, length-drop}
+use Rattle.std.proofs.lemmas.List.{drop_more}
 use Rattle.hold_shapes.specs.declared.edit.Place.TheVariants.{Key, Node}
 use Rattle.hold_shapes.specs.declared.edit.ShapeEdit.TheVariants.{Ins, Del, PutKey, DropKey, Graft, Hang, Shift}
 use Rattle.hold_shapes.specs.declared.shape.Shape.{Shape}
 use Rattle.hold_shapes.specs.Shapes.{size_of, place_of}
-use Rattle.hold_shapes.specs.Trees.{node, child, children, end_of, is_valid}
+use Rattle.hold_shapes.specs.Trees.{node, child, children, end_of}
 use Rattle.doc_values.specs.Documents.{DocTree, unit, DocTrees, no_docs, more_docs, doc_list}
 use Rattle.doc_values.specs.Types.{TyTree}
 use Rattle.shape_laws.specs.Children.{child_path}

@@ -1,16 +1,15 @@
 -- The rows of containers, whatever their kind.
-use Rattle.std.proofs.Common.{◌≡◌, true, Option, None, Some, Err, refl, subst}
+use Rattle.std.proofs.Common.{◌≡◌, true, Some, refl, subst}
 use Rattle.hold_shapes.specs.declared.shape.Shape.{Shape}
 use Rattle.hold_shapes.specs.declared.edit.Place.{Place}
 use Rattle.hold_shapes.specs.declared.edit.Place.TheVariants.{Index, Key, Node}
 use Rattle.hold_shapes.specs.declared.edit.ShapeEdit.{ShapeEdit}
 use Rattle.hold_shapes.specs.Shapes.{place_of}
 use Rattle.hold_shapes.specs.Plans.{plan}
-use Rattle.doc_values.specs.Documents.{DocTree, hold, DocTrees}
+use Rattle.doc_values.specs.Documents.{hold, DocTrees}
 use Rattle.doc_values.specs.Types.{TyTree, ty_list, ty_keyed, ty_ordered, is_well_formed}
 use Rattle.doc_values.specs.Typing.{has}
 use Rattle.doc_values.specs.Initial.{initial}
-use Rattle.edit_module.specs.declared.fault.Cause.TheVariants.{Kind}
 use Rattle.edit_module.specs.Words.{WordTree, modify, shape}
 use Rattle.edit_module.specs.Action.{act, act_primitive, act_at_place, doc_at, reshaped}
 use Rattle.edit_module.specs.Containers.{IsHeld}

@@ -1,12 +1,12 @@
 -- The walk over a word, and its inverses from the last to the first.
-use Rattle.std.proofs.Common.{◌≡◌, ℕ, zero, suc, ◌+◌, ◌<◌, ◌≤◌, List, [], ◌∷◌, ◌++◌, length, map, drop, get_or, Result, Ok, Err, refl, sym, ap, subst, ◌∙◌, arith}
+use Rattle.std.proofs.Common.{◌≡◌, ℕ, zero, suc, ◌+◌, ◌<◌, ◌≤◌, List, [], ◌∷◌, ◌++◌, length, map, drop, get_or, Result, Ok, refl, sym, ap, subst, ◌∙◌, arith}
 use Rattle.std.proofs.lemmas.List.{drop_more, drop_all, map-append}
 use Rattle.doc_values.specs.Documents.{DocTree}
 use Rattle.doc_values.specs.Types.{TyTree}
 use Rattle.edit_module.specs.declared.fault.Cause.{Cause}
 use Rattle.edit_module.specs.declared.word.Primitive.{Primitive}
 use Rattle.edit_module.specs.declared.word.Word.{Word}
-use Rattle.edit_module.specs.Words.{PrimitiveTree, WordTree, no_primitives, more_primitives, word_of, joined}
+use Rattle.edit_module.specs.Words.{WordTree, no_primitives, word_of, joined}
 use Rattle.edit_module.specs.Depths.{primitive_depth, word_depth}
 use Rattle.edit_module.specs.Views.{primitive_tree, word_tree}
 use Rattle.edit_module.specs.Action.{act_primitive}

@@ -1,4 +1,4 @@
-use Rattle.std.proofs.Common.{◌<◌, [], length, refl, arith}
+use Rattle.std.proofs.Common.{[], length, refl, arith}
 use Rattle.edit_inverse.proofs.Orders.{below, placed-next, placed-all}
 use Rattle.edit_inverse.proofs.old_shapes.inverse_order.Goals as goal
 

@@ -1,4 +1,4 @@
-use Rattle.std.proofs.Common.{◌≡◌, List, ℕ, Some, sym, ap, subst, ◌∙◌}
+use Rattle.std.proofs.Common.{◌≡◌, List, ℕ, Some, sym, ap, ◌∙◌}
 use Rattle.hold_shapes.specs.declared.edit.Place.TheVariants.{Key}
 use Rattle.hold_shapes.specs.Shapes.{place_of}
 use Rattle.doc_values.specs.Documents.{doc_tree, docs_tree}

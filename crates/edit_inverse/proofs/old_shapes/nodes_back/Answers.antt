@@ -1,4 +1,4 @@
-use Rattle.std.proofs.Common.{◌≡◌, ◌-◌, ◌<◌, ◌≤◌, ℕ, List, Some, IfOk, length, sym, ap, subst, ◌∙◌, arith}
+use Rattle.std.proofs.Common.{◌≡◌, ◌-◌, ℕ, List, Some, IfOk, sym, ap, subst, ◌∙◌, arith}
 use Rattle.hold_shapes.specs.Trees.{node, child, children}
 use Rattle.doc_values.specs.Documents.{docs_tree}
 use Rattle.doc_values.specs.Types.{ty_tree}

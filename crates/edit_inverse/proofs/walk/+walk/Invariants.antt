@@ -1,4 +1,4 @@
-use Rattle.std.proofs.Common.{◌≡◌, ℕ, ◌+◌, ◌*◌, true, map, drop}
+use Rattle.std.proofs.Common.{◌≡◌, ◌+◌, ◌*◌, true, map, drop}
 use Rattle.doc_values.specs.Documents.{doc_tree}
 use Rattle.doc_values.specs.Types.{ty_tree}
 use Rattle.doc_values.specs.Typing.{has}

@@ -1,4 +1,4 @@
-use Rattle.std.proofs.Common.{length, map, sym, ap, ◌∙◌, arith}
+use Rattle.std.proofs.Common.{map, sym, ap, ◌∙◌, arith}
 use Rattle.edit_module.specs.Views.{primitive_tree, word_tree}
 use Rattle.edit_module.specs.Words.{word_of, joined}
 use Rattle.edit_inverse.specs.Steps.{backwards}
