@@ -1,17 +1,14 @@
 -- A subtree as a block of a tree: where it ends, and how it is taken out again.
-use Rattle.std.proofs.Common.{◌≡◌, ℕ, ◌+◌, ◌-◌, ◌<◌, ◌≤◌, suc, zero, Bool, true, false, ◌&&◌, List, [], ◌∷◌, ◌++◌, length, map, take, drop, get_or, Option, Some, None, refl, sym, ap, ◌∙◌, subst, arith}
-use Rattle.std.specs.Prelude.{if◌then◌else◌, nat_lt, nat_eq, nat_le, is_some, slice_range}
+use Rattle.std.proofs.Common.{◌≡◌, ℕ, ◌+◌, ◌-◌, ◌<◌, ◌≤◌, suc, zero, Bool, true, false, List, [], ◌∷◌, ◌++◌, length, take, drop, get_or, Option, Some, None, refl, sym, ap, ◌∙◌, subst, arith}
+use Rattle.std.specs.Prelude.{if◌then◌else◌, nat_lt, nat_eq, slice_range}
 use Rattle.std.proofs.lemmas.Bool.Decides.{nat_tests}
 use Rattle.std.proofs.lemmas.List.{length-append, length-take, length-drop, drop-drop}
-use Rattle.hold_shapes.specs.Trees.{node, node_from, child, child_at, child_from, children, children_of, end_of, descendants}
-use Rattle.hold_shapes.specs.Plans.{insert_part, remove_part, move_part, place_for_child, moved_depths, all_at_most}
-use Rattle.hold_shapes.proofs.ValidDepths.{GoesOn, Low, HeadAtMost, PutOk, Whole, above-end, end-zero, end-suc, end-ok}
-use Rattle.hold_shapes.proofs.ChildPlaces.{child-at, block, low, front-length}
-use Rattle.hold_shapes.proofs.Nodes.{child-numbered}
-use Rattle.shape_laws.proofs.Content.{end-within}
-use Rattle.edit_inverse.proofs.SamePrefix.{node-same, node-in, prefix-less, prefix-take}
-use Rattle.edit_inverse.proofs.Children.{within-descendants, before-part, children-more, child-at_end, child-at_place, children-less, child-descendant}
-use Rattle.edit_inverse.proofs.OtherChildren.{IsSlot, slot-left, put-back-same, length-between}
+use Rattle.hold_shapes.specs.Trees.{child, child_from, children_of, end_of, descendants}
+use Rattle.hold_shapes.specs.Plans.{insert_part, remove_part, move_part, place_for_child}
+use Rattle.hold_shapes.proofs.ValidDepths.{Low, HeadAtMost, PutOk, above-end, end-zero, end-suc}
+use Rattle.hold_shapes.proofs.ChildPlaces.{child-at}
+use Rattle.shape_laws.proofs.Children.{within-descendants, before-part}
+use Rattle.shape_laws.proofs.OtherChildren.{IsSlot, slot-left, put-back-same, length-between}
 
 -- ---- a part put into a list and taken out again
 

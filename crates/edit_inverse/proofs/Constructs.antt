@@ -1,6 +1,6 @@
 -- The word that makes a document makes it.
-use Rattle.std.proofs.Common.{◌≡◌, ℕ, ◌+◌, ◌-◌, ◌<◌, ◌≤◌, suc, zero, Bool, true, false, List, [], ◌∷◌, ◌++◌, length, map, get_or, set, take, drop, replicate, ℤ, Option, None, Some, option_map, Result, Ok, Err, refl, sym, ap, subst, ◌∙◌, arith}
-use Rattle.std.specs.Prelude.{IfOk, if◌then◌else◌, not, nat_lt, nat_eq, bytes_eq, ◌&&◌}
+use Rattle.std.proofs.Common.{◌≡◌, ℕ, ◌+◌, Bool, true, false, List, [], ◌∷◌, ◌++◌, length, get_or, set, ℤ, Option, None, Some, option_map, Result, Ok, Err, refl, sym, ap, subst, ◌∙◌, arith}
+use Rattle.std.specs.Prelude.{IfOk, if◌then◌else◌, not, bytes_eq}
 use Rattle.std.specs.Ordering.{int_eq}
 use Rattle.std.proofs.lemmas.List.{append-nil, append_assoc, length-append}
 use Rattle.std.proofs.lemmas.Bool.Decides.{Decides-int_eq}
@@ -12,8 +12,8 @@ use Rattle.hold_shapes.specs.declared.edit.Place.TheVariants.{Node}
 use Rattle.hold_shapes.specs.Plans.{list_of}
 use Rattle.hold_shapes.specs.Shapes.{size_of}
 use Rattle.hold_shapes.proofs.ValidDepths.{GoesOn, Low, Whole, whole}
-use Rattle.texts.specs.Keys.{is_rising, all_after, is_before, has_name}
-use Rattle.texts.proofs.Conjunction.{both, first, second}
+use Rattle.texts.specs.Keys.{is_rising, all_after}
+use Rattle.texts.proofs.Conjunction.{first, second}
 use Rattle.texts.proofs.KeyOrder.{bytes_eq-refl, rising-first, rising-rest, before-differs, after-tail}
 use Rattle.doc_values.specs.Documents.{DocTree, unit, truth, int, text, pick, rec, alt, hold, DocTrees, no_docs, more_docs, docs_of, doc_list}
 use Rattle.doc_values.specs.Types.{TyTree, ty_unit, ty_bool, ty_int, ty_text, ty_enum, ty_rec, ty_alt, ty_list, ty_keyed, ty_ordered, FieldTrees, no_fields, more_fields, names_of, is_well_formed, are_well_formed, are_choices}
@@ -25,12 +25,12 @@ use Rattle.edit_module.specs.declared.atom.Atom.{Atom}
 use Rattle.edit_module.specs.declared.atom.Atom.TheVariants.{Truth, Number, Letters}
 use Rattle.edit_inverse.proofs.ContainerKinds as kinds
 use Rattle.edit_module.specs.declared.fault.Cause.{Cause}
-use Rattle.edit_module.specs.declared.fault.Cause.TheVariants.{Place, Tag, Value}
+use Rattle.edit_module.specs.declared.fault.Cause.TheVariants.{Place, Tag}
 use Rattle.edit_module.specs.declared.word.Word.{Word}
 use Rattle.edit_module.specs.Views.{word_tree}
-use Rattle.edit_module.specs.Words.{PrimitiveTree, set as set_to, at, stay, switch, modify, shape, WordTree, no_primitives, more_primitives}
-use Rattle.edit_module.specs.Action.{Why, act, act_primitive, inner, map_ok, if_present, put_result_at, put_at, doc_at}
-use Rattle.edit_module.proofs.ActionKeepsTypes.{list-held, keyed-held, tree-held, content-has_type}
+use Rattle.edit_module.specs.Words.{set as set_to, at, stay, switch, WordTree, no_primitives}
+use Rattle.edit_module.specs.Action.{Why, act, act_primitive, inner, map_ok, if_present, put_result_at, doc_at}
+use Rattle.edit_module.proofs.ActionKeepsTypes.{list-held, keyed-held, tree-held}
 use Rattle.edit_inverse.specs.Construct.{construct, construct_fields, construct_each, only, set_unless, unless_empty, at_each, to_tag, modify_each, put_each, graft_each, grow, insertions, names_in, depths_in}
 use Rattle.edit_inverse.specs.Paths.{paths, paths_after}
 use Rattle.edit_inverse.proofs.Acts.{acts-only, acts-unless, acts-there, acts-same, set-seam}

@@ -1,37 +1,34 @@
 -- Words that fill containers with contents.
-use Rattle.std.proofs.Common.{◌≡◌, ℕ, ◌+◌, ◌-◌, ◌*◌, ◌/◌, ◌%◌, ◌<◌, ◌≤◌, suc, zero, Bool, true, false, List, [], ◌∷◌, ◌++◌, length, map, get_or, set, take, drop, replicate, Option, None, Some, Result, Ok, Err, refl, sym, ap, subst, ◌∙◌, arith}
-use Rattle.std.specs.Prelude.{if◌then◌else◌, nat_lt, nat_eq, bytes_eq, ◌&&◌, nat_le}
+use Rattle.std.proofs.Common.{◌≡◌, ℕ, ◌+◌, ◌-◌, ◌*◌, ◌/◌, ◌%◌, ◌<◌, ◌≤◌, suc, zero, Bool, true, false, List, [], ◌∷◌, ◌++◌, length, map, get_or, take, drop, replicate, Option, None, Some, Ok, Err, refl, sym, ap, subst, ◌∙◌, arith}
+use Rattle.std.specs.Prelude.{if◌then◌else◌, nat_lt, nat_eq, bytes_eq, nat_le}
 use Rattle.std.specs.List.{insert}
 use Rattle.std.proofs.lemmas.Bool.Decides.{nat_tests}
 use Rattle.std.proofs.lemmas.List.{append-nil, append_assoc, length-append, map-append, length-replicate}
 use Rattle.std.proofs.lemmas.List.Edits.{insert_end}
 use Rattle.std.proofs.lemmas.Nat.{div-add-mod', mod_below}
 use Rattle.std.proofs.Math.Seq.{get_or-append_seam}
-use Rattle.hold_shapes.specs.declared.shape.Shape.{Shape}
-use Rattle.hold_shapes.specs.declared.shape.Shape.TheVariants.{List as ListOf, Keyed as KeyedOf, Tree as TreeOf}
-use Rattle.hold_shapes.specs.declared.origins.Origin.{Origin}
-use Rattle.hold_shapes.specs.declared.origins.Origin.TheVariants.{Old, Fresh}
+use Rattle.hold_shapes.specs.declared.shape.Shape.TheVariants.{Keyed as KeyedOf, Tree as TreeOf}
+use Rattle.hold_shapes.specs.declared.origins.Origin.TheVariants.{Fresh}
 use Rattle.hold_shapes.specs.declared.edit.Place.TheVariants.{Index, Key, Node}
-use Rattle.hold_shapes.specs.declared.edit.ShapeEdit.{ShapeEdit}
 use Rattle.hold_shapes.specs.declared.edit.ShapeEdit.TheVariants.{Ins, PutKey, Graft}
-use Rattle.hold_shapes.specs.Causes.{PlanCause, Range}
+use Rattle.hold_shapes.specs.Causes.{Range}
 use Rattle.hold_shapes.specs.Gather.{content_at}
 use Rattle.hold_shapes.specs.Shapes.{place_of}
-use Rattle.hold_shapes.specs.Plans.{Planned, plan, list_of, is_count, old_places, put_key}
+use Rattle.hold_shapes.specs.Plans.{list_of, is_count, old_places, put_key}
 use Rattle.hold_shapes.proofs.ValidDepths.{GoesOn, Low, HeadAtMost}
 use Rattle.texts.specs.Keys.{is_rising, all_after, is_before, rank, key_place}
-use Rattle.texts.proofs.Conjunction.{both, first, second}
+use Rattle.texts.proofs.Conjunction.{both}
 use Rattle.texts.proofs.KeyOrder.{bytes_eq-refl, rising-first, rising-rest, after-all, key_place-past, key_place-found}
 use Rattle.shape_laws.proofs.Content.{content-old_places}
-use Rattle.doc_values.specs.Documents.{DocTree, unit, hold, DocTrees, docs_of, doc_list}
+use Rattle.doc_values.specs.Documents.{DocTree, unit, hold, docs_of}
 use Rattle.doc_values.specs.Types.{TyTree, ty_list, ty_keyed, ty_ordered}
 use Rattle.doc_values.specs.Initial.{initial}
 use Rattle.edit_inverse.proofs.ContainerKinds as kinds
-use Rattle.edit_module.specs.Words.{PrimitiveTree, modify, shape, WordTree, no_primitives, more_primitives}
+use Rattle.edit_module.specs.Words.{modify, shape, WordTree, no_primitives}
 use Rattle.edit_module.specs.Action.{act}
 use Rattle.edit_inverse.specs.Paths.{next_path, paths_after, parent_path}
 use Rattle.edit_inverse.specs.Construct.{reshape, unless_empty, full_insertions, last_insertion, insertions, modify_each, put_each, graft_each}
-use Rattle.edit_inverse.proofs.Gathered.{content-insert}
+use Rattle.shape_laws.proofs.Content.{content-insert}
 use Rattle.edit_inverse.proofs.Ways.{Way, way-next, length-next_path}
 use Rattle.edit_inverse.proofs.Moves.{Makes}
 use Rattle.edit_inverse.proofs.Grafts.{graft-next, next-named}

@@ -1,28 +1,25 @@
 -- The next node of a tree grafted, and a last child pruned.
-use Rattle.std.proofs.Common.{◌≡◌, ℕ, ◌+◌, ◌-◌, ◌<◌, ◌≤◌, suc, zero, Bool, true, false, ◌&&◌, List, [], ◌∷◌, ◌++◌, length, map, take, drop, get_or, Option, Some, None, Result, Ok, Err, refl, sym, ap, ◌∙◌, subst, arith}
-use Rattle.std.specs.Prelude.{if◌then◌else◌, nat_lt, nat_eq, nat_le, is_some, slice_range, slice_index}
+use Rattle.std.proofs.Common.{◌≡◌, ℕ, ◌+◌, ◌-◌, ◌<◌, ◌≤◌, suc, zero, Bool, true, false, List, [], ◌∷◌, ◌++◌, length, take, drop, get_or, Option, Some, None, Ok, Err, refl, sym, ap, ◌∙◌, subst, arith}
+use Rattle.std.specs.Prelude.{if◌then◌else◌, nat_lt, nat_eq}
 use Rattle.std.specs.List.{insert}
 use Rattle.std.proofs.lemmas.Bool.Decides.{nat_tests}
 use Rattle.std.proofs.lemmas.List.{length-append, get_or_append_left, append_assoc, drop-drop}
 use Rattle.std.proofs.Math.Seq.{take-append_seam, drop-append_seam}
 use Rattle.hold_shapes.specs.declared.origins.Origin.{Origin}
-use Rattle.hold_shapes.specs.declared.origins.Origin.TheVariants.{Old, Fresh}
+use Rattle.hold_shapes.specs.declared.origins.Origin.TheVariants.{Fresh}
 use Rattle.hold_shapes.specs.declared.shape.Shape.{Shape}
 use Rattle.hold_shapes.specs.declared.shape.Shape.TheVariants.{Tree as TreeOf}
-use Rattle.hold_shapes.specs.declared.edit.ShapeEdit.{ShapeEdit}
-use Rattle.hold_shapes.specs.declared.edit.ShapeEdit.TheVariants.{Graft, Prune, Shift, Hang}
-use Rattle.hold_shapes.specs.Causes.{PlanCause, Place, Range, Deep}
-use Rattle.hold_shapes.specs.Gather.{content_at}
-use Rattle.hold_shapes.specs.Trees.{is_valid, node, node_from, child, child_at, child_from, children, children_of, end_of, descendants}
-use Rattle.hold_shapes.specs.Plans.{Planned, plan, at_place, old_places, insert_part, remove_part, graft, prune, prune_child}
+use Rattle.hold_shapes.specs.declared.edit.ShapeEdit.TheVariants.{Graft, Prune}
+use Rattle.hold_shapes.specs.Causes.{Range, Deep}
+use Rattle.hold_shapes.specs.Trees.{node, child, child_from, children, children_of, end_of, descendants}
+use Rattle.hold_shapes.specs.Plans.{plan, at_place, old_places, remove_part, graft, prune, prune_child}
 use Rattle.edit_inverse.specs.Paths.{next_path, parent_path}
-use Rattle.hold_shapes.proofs.ValidDepths.{Low, HeadAtMost, end-zero, end-suc}
+use Rattle.hold_shapes.proofs.ValidDepths.{HeadAtMost, end-zero, end-suc}
 use Rattle.hold_shapes.proofs.ChildPlaces.{child-at}
-use Rattle.edit_inverse.proofs.Gathered.{content-remove_part, content-insert}
-use Rattle.edit_inverse.proofs.SamePrefix.{node-in}
-use Rattle.edit_inverse.proofs.Children.{not-before, next-place, child-descendant, drop-insert, children-skip}
-use Rattle.edit_inverse.proofs.Blocks.{after-all, low-head}
-use Rattle.edit_inverse.proofs.Ways.{Way, on-way, end-before, way-more, way-last, way-next, parent-next_path, length-next_path}
+use Rattle.shape_laws.proofs.Content.{content-insert}
+use Rattle.shape_laws.proofs.Children.{not-before, next-place, children-skip}
+use Rattle.edit_inverse.proofs.Blocks.{after-all}
+use Rattle.edit_inverse.proofs.Ways.{Way, on-way, end-before, way-last, way-next, parent-next_path}
 use Rattle.edit_inverse.proofs.Moves.{Makes}
 use Rattle.edit_inverse.proofs.Returns.{at-ok, if-ok, else-ok, ok-shape, ok-origins}
 

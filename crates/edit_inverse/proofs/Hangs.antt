@@ -1,29 +1,28 @@
 -- A hang taken back: by a hang below the old parent, and a shift to the old number.
-use Rattle.std.proofs.Common.{◌≡◌, ℕ, ◌+◌, ◌-◌, ◌<◌, ◌≤◌, suc, zero, Bool, true, false, ◌&&◌, List, [], ◌∷◌, ◌++◌, length, map, take, drop, get_or, Option, Some, None, Result, Ok, Err, refl, sym, ap, ◌∙◌, subst, arith}
-use Rattle.std.specs.Prelude.{if◌then◌else◌, nat_lt, nat_eq, nat_le, is_some, slice_range, slice_index}
+use Rattle.std.proofs.Common.{◌≡◌, ℕ, ◌+◌, ◌-◌, ◌<◌, ◌≤◌, suc, zero, Bool, true, false, ◌&&◌, List, [], ◌∷◌, ◌++◌, length, map, take, drop, get_or, Option, Some, None, Ok, Err, refl, sym, ap, ◌∙◌, subst, arith}
+use Rattle.std.specs.Prelude.{if◌then◌else◌, nat_eq, nat_le, slice_range}
 use Rattle.std.proofs.lemmas.Bool.Decides.{nat_tests}
-use Rattle.std.proofs.lemmas.List.{length-append, length-take-le, length-drop, length-take, take_all, take_more, length-map}
+use Rattle.std.proofs.lemmas.List.{take_all, take_more, length-map}
 use Rattle.hold_shapes.specs.declared.origins.Origin.{Origin}
-use Rattle.hold_shapes.specs.declared.origins.Origin.TheVariants.{Old, Fresh}
 use Rattle.hold_shapes.specs.declared.shape.Shape.{Shape}
 use Rattle.hold_shapes.specs.declared.shape.Shape.TheVariants.{Tree as TreeOf}
 use Rattle.hold_shapes.specs.declared.edit.ShapeEdit.{ShapeEdit}
-use Rattle.hold_shapes.specs.declared.edit.ShapeEdit.TheVariants.{Graft, Prune, Shift, Hang}
-use Rattle.hold_shapes.specs.Causes.{PlanCause, Place, Range, Deep}
+use Rattle.hold_shapes.specs.declared.edit.ShapeEdit.TheVariants.{Shift, Hang}
+use Rattle.hold_shapes.specs.Causes.{Place, Deep}
 use Rattle.hold_shapes.specs.Gather.{content_at}
-use Rattle.hold_shapes.specs.Trees.{is_valid, node, node_from, child, child_at, child_from, children, children_of, end_of, descendants}
-use Rattle.hold_shapes.specs.Plans.{Planned, plan, at_place, old_places, insert_part, remove_part, move_part, moved_depths, all_at_most, allowed_depths, hang, hang_at, hang_below, hang_depths}
+use Rattle.hold_shapes.specs.Trees.{is_valid, node, child, child_at, children, end_of}
+use Rattle.hold_shapes.specs.Plans.{plan, at_place, old_places, insert_part, remove_part, move_part, moved_depths, all_at_most, hang, hang_at, hang_below, hang_depths}
 use Rattle.shape_laws.specs.Children.{child_path}
 use Rattle.edit_inverse.specs.Paths.{parent_path, last_number}
-use Rattle.hold_shapes.proofs.ValidDepths.{GoesOn, Low, HeadAtMost, Whole, whole}
-use Rattle.hold_shapes.proofs.ChildPlaces.{child-at, length-remove_part}
-use Rattle.edit_inverse.proofs.Gathered.{content-move_part}
+use Rattle.hold_shapes.proofs.ValidDepths.{GoesOn, Low, Whole, whole}
+use Rattle.hold_shapes.proofs.ChildPlaces.{length-remove_part}
+use Rattle.shape_laws.proofs.Content.{content-move_part}
 use Rattle.shape_laws.proofs.Content.{not-zero}
-use Rattle.edit_inverse.proofs.SamePrefix.{node-in, node-child}
-use Rattle.edit_inverse.proofs.OtherChildren.{length-between}
+use Rattle.shape_laws.proofs.SamePrefix.{node-in, node-child}
+use Rattle.shape_laws.proofs.OtherChildren.{length-between}
 use Rattle.edit_inverse.proofs.Blocks.{slice-inserted, remove-inserted, end-inserted, get-inserted, length-inserted}
-use Rattle.edit_inverse.proofs.Moves.{Makes, below_node, IsChild, put-last, Child, child-out, shift-home, still, left-still, past}
-use Rattle.edit_inverse.proofs.Returns.{at-ok, if-ok, else-ok, ok-shape, ok-origins}
+use Rattle.edit_inverse.proofs.Moves.{Makes, below_node, put-last, child-out, shift-home, still, left-still, past}
+use Rattle.edit_inverse.proofs.Returns.{at-ok, else-ok, ok-shape, ok-origins}
 
 -- ---- depths that are counted from another node and back
 

@@ -1,35 +1,30 @@
 -- Edits of lists and of keyed maps that take one another back.
-use Rattle.std.proofs.Common.{◌≡◌, ℕ, ◌+◌, ◌-◌, ◌<◌, ◌≤◌, suc, zero, Bool, true, false, ◌&&◌, ◌||◌, not, cond, List, [], ◌∷◌, ◌++◌, length, map, take, drop, get_or, replicate, Option, Some, None, Result, Ok, Err, refl, sym, ap, ◌∙◌, subst, arith}
-use Rattle.std.specs.Prelude.{if◌then◌else◌, nat_lt, nat_eq, nat_le, bytes_eq}
+use Rattle.std.proofs.Common.{◌≡◌, ℕ, ◌+◌, ◌-◌, ◌<◌, ◌≤◌, suc, zero, Bool, true, false, ◌&&◌, ◌||◌, not, cond, List, [], ◌∷◌, ◌++◌, length, map, take, get_or, replicate, Ok, Err, refl, sym, ap, ◌∙◌, subst, arith}
+use Rattle.std.specs.Prelude.{if◌then◌else◌, nat_lt, nat_eq, nat_le}
 use Rattle.std.specs.List.{insert, remove, range_with_len, count_by}
 use Rattle.std.proofs.lemmas.Bool.Decides.{nat_tests}
-use Rattle.std.proofs.lemmas.List.{length-append, append_assoc, take-append-drop, length-take-le, length-map, get_or-map, length-replicate}
+use Rattle.std.proofs.lemmas.List.{length-append, append_assoc, length-map, get_or-map, length-replicate}
 use Rattle.std.proofs.lemmas.List.Edits.{get_or-insert_at, length-insert, length-remove}
 use Rattle.std.proofs.lemmas.List.FromFn.{length-map-range_with_len}
 use Rattle.std.proofs.lemmas.List.Sums.{sum_by-cons}
-use Rattle.std.proofs.lemmas.Slice.Eq.{bytes_eq-Decides}
 use Rattle.std.proofs.Math.Seq.{get_or-append_seam, take-append_seam}
 use Rattle.hold_shapes.specs.declared.shape.Shape.{Shape}
-use Rattle.hold_shapes.specs.declared.shape.Shape.TheVariants.{List as ListOf, Keyed as KeyedOf, Tree as TreeOf}
 use Rattle.hold_shapes.specs.declared.origins.Origin.{Origin}
 use Rattle.hold_shapes.specs.declared.origins.Origin.TheVariants.{Old, Fresh}
 use Rattle.hold_shapes.specs.declared.edit.ShapeEdit.{ShapeEdit}
-use Rattle.hold_shapes.specs.declared.edit.ShapeEdit.TheVariants.{Ins, Del, MoveItem, Reorder, PutKey, DropKey, RenameKey}
-use Rattle.hold_shapes.specs.Causes.{PlanCause, Place, Range, Length}
+use Rattle.hold_shapes.specs.declared.edit.ShapeEdit.TheVariants.{Ins, Del, MoveItem, Reorder}
+use Rattle.hold_shapes.specs.Causes.{Place, Range, Length}
 use Rattle.hold_shapes.specs.Gather.{content_at}
-use Rattle.hold_shapes.specs.Plans.{Planned, plan, list_of, is_count, is_each_new, has_number, old_places, add_key, put_key, drop_key, rename_to, rename_key}
-use Rattle.texts.specs.Keys.{is_rising, all_after, is_before, rank, key_from, key_place}
+use Rattle.hold_shapes.specs.Plans.{plan, list_of, is_count, is_each_new, has_number, old_places}
 use Rattle.texts.proofs.Conjunction.{both, first, second}
-use Rattle.texts.proofs.KeyOrder.{bytes_eq-refl, before-trans, rising-first, rising-rest, rising-insert, rising-remove, after-all, after-tail, before-differs, after-differs, rank-length, key_place-found, key_place-remove}
 use Rattle.shape_laws.specs.Laws.{is_old}
-use Rattle.shape_laws.proofs.Lawful.{key-within}
 use Rattle.shape_laws.proofs.Once.{kept}
 use Rattle.shape_laws.proofs.Content.{content-old_places}
 use Rattle.edit_inverse.specs.Inverse.{place_among, inverse_order}
-use Rattle.edit_inverse.proofs.Gathered.{map-insert, content-insert, content-remove}
+use Rattle.shape_laws.proofs.Content.{map-insert, content-remove}
 use Rattle.edit_inverse.proofs.Moves.{Makes}
-use Rattle.edit_inverse.proofs.Returns.{if-ok, else-ok, ok-shape, ok-origins}
-use Rattle.edit_inverse.proofs.Fills.{ins-makes, put-makes}
+use Rattle.edit_inverse.proofs.Returns.{if-ok, ok-shape, ok-origins}
+use Rattle.edit_inverse.proofs.Fills.{ins-makes}
 
 -- ---- what a plan makes, it makes alone
 
@@ -192,13 +187,13 @@ new-numbers n f before a (suc m) w h fresh =
         absurd (omega arith)
     other false k a i j f before e lt x y z = z
 
+reorder-plan : (n : ℕ) (f : List ℕ) → nat_eq (length f) n ≡ true → is_each_new n [] f ≡ true → plan (list_of n) (Reorder f) ≡ Ok (list_of n, map Old f)
+reorder-plan n f h k =
+    ap (λ (b : Bool). if b then (if is_each_new n [] f then Ok (list_of n, map Old f) else Err Range) else Err Length) h
+    ∙ ap (λ (b : Bool). if b then Ok (list_of n, map Old f) else Err Range) k
+
 reorder-makes : {X : Type 0} (n : ℕ) (f : List ℕ) (fresh : X) (xs : List X) → nat_eq (length f) n ≡ true → is_each_new n [] f ≡ true → Makes (list_of n) (Reorder f) fresh xs (list_of n) (map (content_at xs fresh) (map Old f))
-reorder-makes n f fresh xs h k = (
-  map Old f,
-  ap (λ (b : Bool). if b then (if is_each_new n [] f then Ok (list_of n, map Old f) else Err Range) else Err Length) h
-      ∙ ap (λ (b : Bool). if b then Ok (list_of n, map Old f) else Err Range) k,
-  refl,
-)
+reorder-makes n f fresh xs h k = (map Old f, reorder-plan n f h k, refl)
 
 gather-order : {X : Type 0} (n a m : ℕ) (f : List ℕ) (fresh : X) (xs : List X) → ((k : ℕ) → k < n → (place_among f k < length f) × (get_or f (place_among f k) 0 ≡ k)) → a + m ≤ n
     → map (content_at (map (content_at xs fresh) (map Old f)) fresh) (map Old (map (place_among f) (range_with_len a m))) ≡ map (content_at xs fresh) (map Old (range_with_len a m))
@@ -213,6 +208,15 @@ gather-order n a (suc m) f fresh xs w h =
     ∙ ap (λ (i : ℕ). get_or xs i fresh) here.1) in
     let rest = gather-order n (a + 1) m f fresh xs w (omega arith) in
     rw (one, rest) refl
+
+-- in an order each place below its length is among the numbers
+pub all-among : (f : List ℕ) → is_each_new (length f) [] f ≡ true → (k : ℕ) → k < length f → (place_among f k < length f) × (get_or f (place_among f k) 0 ≡ k)
+all-among f h k lt =
+    let n = length f in
+    let size : nat_eq n n ≡ true = grind (arith, nat_tests) in
+    let all = (kept (list_of n) (Reorder f) (list_of n) (map Old f) (reorder-plan n f size h)).0 in
+    let c = all k lt in
+    found-among f k (omega arith)
 
 pub reorder-back : {X : Type 0} (n : ℕ) (f : List ℕ) (s : Shape) (from : List Origin) (fresh : X) (xs : List X) → n ≡ length xs → plan (list_of n) (Reorder f) ≡ Ok (s, from)
     → Makes s (Reorder (inverse_order f)) fresh (map (content_at xs fresh) from) (list_of n) xs

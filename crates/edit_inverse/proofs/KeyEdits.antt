@@ -1,25 +1,21 @@
 -- Edits of keyed maps that take one another back.
-use Rattle.std.proofs.Common.{◌≡◌, ℕ, ◌+◌, ◌-◌, ◌<◌, ◌≤◌, suc, zero, Bool, true, false, ◌&&◌, cond, List, [], ◌∷◌, ◌++◌, length, map, take, drop, get_or, Option, Some, None, Result, Ok, Err, refl, sym, ap, ◌∙◌, subst, arith}
-use Rattle.std.specs.Prelude.{if◌then◌else◌, nat_lt, nat_eq, nat_le, bytes_eq}
+use Rattle.std.proofs.Common.{◌≡◌, ℕ, ◌+◌, ◌<◌, ◌≤◌, suc, zero, Bool, true, false, List, [], ◌∷◌, length, map, get_or, Option, Some, None, Ok, refl, sym, ap, ◌∙◌, subst, arith}
+use Rattle.std.specs.Prelude.{if◌then◌else◌, bytes_eq}
 use Rattle.std.specs.List.{insert, remove}
-use Rattle.std.proofs.lemmas.Bool.Decides.{nat_tests}
 use Rattle.std.proofs.lemmas.List.Edits.{get_or-insert_at, length-insert, length-remove}
 use Rattle.std.proofs.lemmas.Slice.Eq.{bytes_eq-Decides}
 use Rattle.hold_shapes.specs.declared.shape.Shape.{Shape}
 use Rattle.hold_shapes.specs.declared.shape.Shape.TheVariants.{Keyed as KeyedOf}
 use Rattle.hold_shapes.specs.declared.origins.Origin.{Origin}
-use Rattle.hold_shapes.specs.declared.origins.Origin.TheVariants.{Old, Fresh}
-use Rattle.hold_shapes.specs.declared.edit.ShapeEdit.{ShapeEdit}
+use Rattle.hold_shapes.specs.declared.origins.Origin.TheVariants.{Old}
 use Rattle.hold_shapes.specs.declared.edit.ShapeEdit.TheVariants.{PutKey, DropKey, RenameKey}
-use Rattle.hold_shapes.specs.Causes.{PlanCause, Place, Present}
 use Rattle.hold_shapes.specs.Gather.{content_at}
-use Rattle.hold_shapes.specs.Plans.{Planned, plan, old_places, add_key, put_key, drop_key, rename_to, rename_key}
+use Rattle.hold_shapes.specs.Plans.{plan, old_places, put_key, drop_key, rename_to, rename_key}
 use Rattle.texts.specs.Keys.{is_rising, all_after, is_before, rank, key_from, key_place}
-use Rattle.texts.proofs.Conjunction.{both, first, second}
 use Rattle.texts.proofs.KeyOrder.{bytes_eq-refl, before-trans, rising-first, rising-rest, rising-insert, rising-remove, after-all, after-tail, before-differs, after-differs, rank-length, key_place-found, key_place-remove}
 use Rattle.shape_laws.proofs.Lawful.{key-within}
 use Rattle.shape_laws.proofs.Content.{content-old_places}
-use Rattle.edit_inverse.proofs.Gathered.{map-insert, content-insert, content-remove}
+use Rattle.shape_laws.proofs.Content.{map-insert, content-remove}
 use Rattle.edit_inverse.proofs.Moves.{Makes}
 use Rattle.edit_inverse.proofs.Fills.{put-makes}
 use Rattle.edit_inverse.proofs.Items.{made-same, back-through, remove-inserted-item, insert-removed-item}

@@ -17,8 +17,9 @@ pub mod Returns
 pub mod Spliced
 pub mod Texts
 pub mod Ways
-pub mod SamePrefix
-pub mod Children
-pub mod OtherChildren
-pub mod Gathered
+pub mod Cuts
+pub mod Orders
+pub mod Regrown
+pub mod Rows
+pub mod Walks
 mod Examples

@@ -1,30 +1,20 @@
 -- Edits of trees taken back: graft, shift, hang.
-use Rattle.std.proofs.Common.{◌≡◌, ℕ, ◌+◌, ◌-◌, ◌<◌, ◌≤◌, suc, zero, Bool, true, false, ◌&&◌, List, [], ◌∷◌, ◌++◌, length, map, take, drop, get_or, Option, Some, None, Result, Ok, Err, refl, sym, ap, ◌∙◌, subst, arith}
-use Rattle.std.specs.Prelude.{if◌then◌else◌, nat_lt, nat_eq, nat_le, is_some, slice_range, slice_index}
+use Rattle.std.proofs.Common.{◌≡◌, ℕ, ◌+◌, ◌-◌, ◌<◌, ◌≤◌, suc, Bool, true, false, ◌&&◌, List, [], ◌∷◌, length, map, get_or, Option, Some, None, Ok, Err, refl, sym, ap, ◌∙◌, subst, arith}
+use Rattle.std.specs.Prelude.{if◌then◌else◌, nat_lt, nat_eq}
 use Rattle.std.specs.List.{insert}
 use Rattle.std.proofs.lemmas.Bool.Decides.{nat_tests}
-use Rattle.std.proofs.lemmas.List.{length-append, length-take-le, length-drop, length-take, take_all, get_or_append_left, length-map}
 use Rattle.hold_shapes.specs.declared.origins.Origin.{Origin}
-use Rattle.hold_shapes.specs.declared.origins.Origin.TheVariants.{Old, Fresh}
 use Rattle.hold_shapes.specs.declared.shape.Shape.{Shape}
 use Rattle.hold_shapes.specs.declared.shape.Shape.TheVariants.{Tree as TreeOf}
-use Rattle.hold_shapes.specs.declared.edit.ShapeEdit.{ShapeEdit}
-use Rattle.hold_shapes.specs.declared.edit.ShapeEdit.TheVariants.{Graft, Prune, Shift, Hang}
-use Rattle.hold_shapes.specs.Causes.{PlanCause, Place, Range, Deep}
+use Rattle.hold_shapes.specs.declared.edit.ShapeEdit.TheVariants.{Prune, Shift}
+use Rattle.hold_shapes.specs.Causes.{PlanCause, Range}
 use Rattle.hold_shapes.specs.Gather.{content_at}
-use Rattle.hold_shapes.specs.Trees.{is_valid, node, node_from, child, child_at, child_from, children, children_of, end_of, descendants}
-use Rattle.hold_shapes.specs.Plans.{Planned, plan, at_place, old_places, insert_part, remove_part, move_part, graft, prune, prune_child, place_for_child, shift, shift_child, move_subtree, moved_depths, all_at_most, allowed_depths, hang, hang_at, hang_below, hang_depths}
-use Rattle.edit_inverse.specs.Paths.{parent_path, last_number}
-use Rattle.hold_shapes.proofs.ValidDepths.{GoesOn, Low, HeadAtMost, PutOk, Whole, above-end, end-zero, end-suc, end-ok, whole}
-use Rattle.hold_shapes.proofs.ChildPlaces.{child-at, block, low, front-length, length-remove_part}
-use Rattle.hold_shapes.proofs.Nodes.{child-numbered}
-use Rattle.edit_inverse.proofs.Gathered.{content-remove_part, content-move_part, content-insert}
-use Rattle.shape_laws.proofs.Content.{end-within, not-zero}
-use Rattle.edit_inverse.proofs.SamePrefix.{node-same, node-in, node-child, prefix-less, prefix-take, prefix-trans}
-use Rattle.edit_inverse.proofs.Children.{within-descendants, before-part, children-more, child-at_end, child-at_place, children-less, child-descendant}
-use Rattle.edit_inverse.proofs.OtherChildren.{put-back-same, length-between}
-use Rattle.edit_inverse.proofs.Blocks.{slice-inserted, remove-inserted, move-back, head-after, low-head, put-head, end-inserted, get-inserted, home, length-inserted}
-use Rattle.edit_inverse.proofs.Moves.{Makes, below_node, IsChild, put-child, put-last, Child, child-out, shift-home, still, left-still, past, number-below}
+use Rattle.hold_shapes.specs.Trees.{node, child, children, end_of}
+use Rattle.hold_shapes.specs.Plans.{Planned, plan, at_place, old_places, insert_part, remove_part, move_part, prune, prune_child, place_for_child, shift, shift_child}
+use Rattle.shape_laws.proofs.Content.{content-remove_part, content-move_part}
+use Rattle.shape_laws.proofs.SamePrefix.{node-in}
+use Rattle.edit_inverse.proofs.Blocks.{remove-inserted, end-inserted, length-inserted}
+use Rattle.edit_inverse.proofs.Moves.{Makes, below_node, put-child, put-last, child-out, shift-home, still}
 
 -- ---- what a plan that is there says
 

@@ -1,16 +1,16 @@
 -- The way from the root to the last node of a tree, and the next node in preorder.
-use Rattle.std.proofs.Common.{◌≡◌, ℕ, ◌+◌, ◌-◌, ◌<◌, ◌≤◌, suc, zero, Bool, true, false, List, [], ◌∷◌, ◌++◌, length, take, drop, get_or, Option, Some, None, refl, sym, ap, ◌∙◌, subst, arith}
+use Rattle.std.proofs.Common.{◌≡◌, ℕ, ◌+◌, ◌-◌, ◌<◌, ◌≤◌, suc, zero, Bool, true, false, List, [], ◌∷◌, ◌++◌, length, take, drop, get_or, Option, Some, refl, sym, ap, ◌∙◌, subst, arith}
 use Rattle.std.specs.Prelude.{if◌then◌else◌, nat_lt, nat_eq}
 use Rattle.std.proofs.lemmas.Bool.Decides.{nat_tests}
 use Rattle.std.proofs.lemmas.List.{append-nil, append_assoc, length-append, length-take-le, get_or_append_left, drop_all}
 use Rattle.std.proofs.Math.Seq.{take-append_seam, take_all}
-use Rattle.hold_shapes.specs.Trees.{node_from, child, child_at, children, children_of, end_of, descendants}
+use Rattle.hold_shapes.specs.Trees.{node_from, child, children, children_of, end_of, descendants}
 use Rattle.hold_shapes.specs.Plans.{insert_part}
-use Rattle.edit_inverse.specs.Paths.{next_number, next_path, paths_after, paths, parent_path}
-use Rattle.hold_shapes.proofs.ValidDepths.{GoesOn, Low, HeadAtMost, above-end}
+use Rattle.edit_inverse.specs.Paths.{next_number, next_path, paths_after, parent_path}
+use Rattle.hold_shapes.proofs.ValidDepths.{GoesOn, HeadAtMost, above-end}
 use Rattle.hold_shapes.proofs.ChildPlaces.{child-at}
-use Rattle.edit_inverse.proofs.SamePrefix.{SamePrefix, prefix-less, prefix-take, child-same}
-use Rattle.edit_inverse.proofs.Children.{deeper-test, no_child-test, before-part, children-more, child-at_end}
+use Rattle.shape_laws.proofs.SamePrefix.{SamePrefix, prefix-less, child-same}
+use Rattle.shape_laws.proofs.Children.{deeper-test, no_child-test, children-more, child-at_end}
 
 -- ---- lists with more behind them
 

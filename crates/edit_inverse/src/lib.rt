@@ -5,7 +5,12 @@
 
 mod construction;
 pub mod laws;
+mod old_shapes;
+mod old_values;
+mod walk;
 mod words;
 
 pub use crate::construction::construct;
 pub use crate::laws::{action_keeps_texts, construct_makes, inverse_takes_back, texts_are_met};
+pub use crate::walk::inverse;
+pub use edit_module::ActFault as InverseFault;

@@ -48,6 +48,8 @@ fn document_outcome(alloc: Global, call: &str, case: &Case<'_>) -> Result<Value>
 fn word_outcome(alloc: Global, call: &str, case: &Case<'_>) -> Result<Value> {
     match call {
         "act" => words::run_act(alloc, case),
+        "construct" => words::run_construct(alloc, case),
+        "inverse" => words::run_inverse(alloc, case),
         "read_word" => words::run_read_word(alloc, case),
         "has_tree" => words::run_has_tree(alloc, case),
         "len" => words::run_len(alloc, case),

@@ -8,6 +8,7 @@ use crate::type_trees::{doc_of, ok_doc, ty_of};
 use crate::word_trees::{ok_word, word_of};
 use anyhow::{Result, bail};
 use doc_values::{Doc, Ty};
+use edit_inverse::{construct, inverse};
 use edit_journal::side_text;
 use edit_json::{EditFault, has_tree, read_word};
 use edit_module::{ActFault, Cause, Word, act};
@@ -63,6 +64,38 @@ fn cause_text(cause: Cause) -> &'static str {
         Cause::Present => "present",
         Cause::Length => "length",
         Cause::Deep => "deep",
+    }
+}
+
+/// Runs `construct`: the word. It is refused if the document has not the type.
+pub fn run_construct(alloc: Global, case: &Case<'_>) -> Result<Value> {
+    let ty = ty_of(alloc, case, "type")?;
+    let doc = doc_of(alloc, &ty, case, "doc")?;
+    if !doc.has_type(&ty) {
+        bail!("the document has another type");
+    }
+    ok_word(alloc, &construct(alloc, &ty, &doc)?)
+}
+
+/// Runs `inverse`: the word, or the number and the cause. It is refused if the type is ill formed.
+pub fn run_inverse(alloc: Global, case: &Case<'_>) -> Result<Value> {
+    let ty = ty_of(alloc, case, "type")?;
+    let doc = doc_of(alloc, &ty, case, "doc")?;
+    let word = word_of(alloc, case.argument("edit")?)?;
+    taken_back(alloc, &ty, &word, &doc)
+}
+
+fn taken_back(alloc: Global, ty: &Ty, word: &Word, doc: &Doc) -> Result<Value> {
+    if !ty.is_well_formed() || !doc.has_type(ty) {
+        bail!("the type is ill formed");
+    }
+    match inverse(alloc, ty, word, doc) {
+        Ok(back) => {
+            let written = ok_word(alloc, &back);
+            drop(back);
+            written
+        }
+        Err(fault) => act_fault(alloc, &fault),
     }
 }
 
