@@ -1,9 +1,8 @@
 -- The triples after the entries of a list that grows at its end.
-use Rattle.std.proofs.Common.{◌≡◌, ℕ, ◌+◌, ◌-◌, ◌<◌, ◌≤◌, List, [], ◌∷◌, ◌++◌, length, take, map, slice_get, Option, None, Some, Result, Ok, Err, Bool, true, false, zero, suc, if◌then◌else◌, refl, sym, ap, ◌∙◌, arith}
+use Rattle.std.proofs.Common.{◌≡◌, ℕ, ◌+◌, ◌-◌, ◌<◌, ◌≤◌, List, [], ◌∷◌, ◌++◌, length, take, map, slice_get, Option, None, Some, Ok, false, zero, suc, if◌then◌else◌, refl, sym, ap, ◌∙◌, arith}
 use Rattle.std.specs.Prelude.{nat_eq, option_map, option_and_then}
 use Rattle.std.proofs.lemmas.List.{take_all, take-append-le}
 use Rattle.texts.specs.declared.side.Side.{Side}
-use Rattle.texts.specs.declared.side.Side.TheVariants.{Left, Right}
 use Rattle.texts.specs.Sides.{other}
 use Rattle.doc_values.specs.Documents.{DocTree}
 use Rattle.doc_values.specs.Types.{TyTree}
@@ -14,9 +13,9 @@ use Rattle.lens_core.specs.Sides.{near}
 use Rattle.lens_core.specs.Translation.{Translated}
 use Rattle.edit_session.specs.Step.{TripleTree, first, document_on, triple_from, step}
 use Rattle.edit_session.specs.Run.{AnswerTree, last, take_item, run}
-use Rattle.turn_link.specs.Turns.{BatchTree, is_even, is_turn, last_made}
-use Rattle.turn_link.specs.Links.{single, triple_at, carried_word, batch_word, batch_at, last_batch, word_of_step}
-use Rattle.turn_link.proofs.Numbers.{length-snoc, slice_get-front, slice_get-end, positive, last_made-le, last_made-taken}
+use Rattle.turn_link.specs.Turns.{BatchTree, is_turn, last_made}
+use Rattle.turn_link.specs.Links.{single, triple_at, batch_word, batch_at, last_batch}
+use Rattle.turn_link.proofs.Numbers.{length-snoc, slice_get-front, positive, last_made-le, last_made-taken}
 
 -- the triple after a list of items begins at the triple after the first
 last-cons : (t : TripleTree) (s : TripleTree × AnswerTree ⊥) (o : Option (List (TripleTree × AnswerTree ⊥)))

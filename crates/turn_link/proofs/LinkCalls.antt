@@ -1,12 +1,11 @@
 -- What each call of a link makes of its entries, sites and packets.
-use Rattle.std.proofs.Common.{◌≡◌, ℕ, List, [], ◌∷◌, ◌++◌, length, map, slice_get, Option, None, Some, Result, Ok, Err, Bool, true, false, if◌then◌else◌, refl, sym, ap, ◌∙◌, subst}
+use Rattle.std.proofs.Common.{◌≡◌, ℕ, List, [], ◌∷◌, ◌++◌, length, map, slice_get, Option, None, Some, Result, Ok, Err, true, false, if◌then◌else◌, refl, sym, ap, ◌∙◌, subst}
 use Rattle.std.specs.Prelude.{option_map}
 use Rattle.texts.specs.declared.side.Side.{Side}
 use Rattle.texts.specs.declared.side.Side.TheVariants.{Left, Right}
-use Rattle.texts.specs.Sides.{other}
 use Rattle.doc_values.specs.Documents.{DocTree}
 use Rattle.doc_values.specs.Types.{TyTree}
-use Rattle.edit_module.specs.Words.{WordTree, no_primitives}
+use Rattle.edit_module.specs.Words.{WordTree}
 use Rattle.edit_module.specs.Action.{act, Why}
 use Rattle.lens_core.specs.Complements.{CompTree}
 use Rattle.lens_core.specs.Translation.{Translated}
@@ -17,12 +16,12 @@ use Rattle.edit_module.specs.declared.entry.Entry.{Entry}
 use Rattle.edit_module.specs.Views.{word_tree, entry_tree}
 use Rattle.turn_link.specs.declared.batch.Packet.{Packet}
 use Rattle.turn_link.specs.Views.{batch_tree, packet_tree, told_of}
-use Rattle.turn_link.specs.Turns.{BatchTree, is_turn, Refusal, not_turn, last_number, unfit, no_batch, IsRefusal}
+use Rattle.turn_link.specs.Turns.{BatchTree, is_turn, Refusal, not_turn, unfit, no_batch, IsRefusal}
 use Rattle.turn_link.specs.Sites.{LeftTree, RightTree, drafted, joining, edited, left_drafted, right_drafted, left_start, right_start, left_edit, right_edit, left_seal, right_seal, left_receive, right_receive, left_restart, right_restart}
-use Rattle.turn_link.specs.Links.{EventTree, edit, seal, send, deliver, restart, LinkTree, ToldTree, told_draft, sealed, packet, taken, stale, restarted, PacketTree, link_start, last_batch, left_of, right_of, left_site, right_site, happens}
-use Rattle.turn_link.specs.Laws.{InTurns, AreSites}
+use Rattle.turn_link.specs.Links.{EventTree, edit, seal, send, deliver, restart, LinkTree, ToldTree, told_draft, sealed, packet, taken, stale, restarted, PacketTree, last_batch, left_of, right_of, happens}
+use Rattle.turn_link.specs.Laws.{AreSites}
 use Rattle.turn_link.specs.LinkViews.{link_of, IsLink, IsLinkRefusal}
-use Rattle.turn_link.proofs.LinkSites.{EditsLeft, EditsRight, edits_left, edits_right, refuses_edit_left, refuses_edit_right, restarts_left, restarts_right, sends, no_sending, seals_left_site, seals_right_site, refuses_seal_left, refuses_seal_right, receives_left, receives_right, never_refused_left, never_refused_right, received}
+use Rattle.turn_link.proofs.LinkSites.{edits_left, edits_right, refuses_edit_left, refuses_edit_right, restarts_left, restarts_right, sends, no_sending, seals_left_site, seals_right_site, refuses_seal_left, refuses_seal_right, receives_left, receives_right, never_refused_left, never_refused_right}
 use Rattle.turn_link.proofs.LinkRuns.{start_sites, no_unfit}
 
 same_some : {A : Type 0} {o : Option A} {x y : A} → o ≡ Some x → o ≡ Some y → x ≡ y

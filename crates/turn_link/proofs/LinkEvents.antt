@@ -1,6 +1,5 @@
 -- Each event keeps a link in turns.
-use Rattle.std.proofs.Common.{◌≡◌, ℕ, ◌+◌, ◌-◌, ◌<◌, ◌≤◌, max, List, [], ◌∷◌, ◌++◌, ◌⊎◌, inl, inr, length, take, map, slice_get, Option, None, Some, Result, Ok, Err, Bool, true, false, not, if◌then◌else◌, refl, sym, ap, ◌∙◌, subst, arith}
-use Rattle.std.specs.Prelude.{option_map, option_and_then}
+use Rattle.std.proofs.Common.{◌≡◌, ℕ, ◌+◌, ◌-◌, ◌<◌, ◌≤◌, List, [], ◌∷◌, ◌++◌, inl, inr, length, Option, Some, Ok, Bool, true, false, not, if◌then◌else◌, refl, sym, ap, ◌∙◌, subst, arith}
 use borrow.Author.Count.{below_more}
 use Rattle.texts.specs.declared.side.Side.{Side}
 use Rattle.texts.specs.declared.side.Side.TheVariants.{Left, Right}
@@ -14,13 +13,13 @@ use Rattle.edit_module.proofs.WordSteps.{act-joined}
 use Rattle.lens_core.specs.Complements.{CompTree}
 use Rattle.lens_core.specs.Sides.{near}
 use Rattle.lens_core.specs.Translation.{Translated}
-use Rattle.lens_core.specs.Laws.{WordsCarry, StartTogether}
-use Rattle.edit_session.specs.Step.{TripleTree, IsInStep, first, document_on, triple_from, step}
+use Rattle.lens_core.specs.Laws.{WordsCarry}
+use Rattle.edit_session.specs.Step.{TripleTree, IsInStep, first, document_on, triple_from}
 use Rattle.edit_session.proofs.StepsCarry.{carries, from_seen}
 use Rattle.turn_link.specs.Turns.{BatchTree, is_even, is_turn, last_made}
-use Rattle.turn_link.specs.Links.{LinkTree, PacketTree, number_on, draft_on, with_entry, with_number, with_draft, with_packet, triple_at, batch_word, batch_at}
+use Rattle.turn_link.specs.Links.{LinkTree, PacketTree, number_on, with_entry, with_number, with_draft, with_packet, triple_at, batch_word, batch_at}
 use Rattle.turn_link.specs.Laws.{IsOfBatch, InTurns, Moment, Present, IsDraft, IsLinked}
-use Rattle.turn_link.proofs.Numbers.{length-snoc, slice_get-front, slice_get-end, slice_get-snoc, turn-next, turn-other, both_odd, even-next, last_made-taken, last_made-sealed, last_made-le}
+use Rattle.turn_link.proofs.Numbers.{length-snoc, slice_get-front, slice_get-end, slice_get-snoc, turn-next, turn-other, both_odd, even-next, last_made-le}
 use Rattle.turn_link.proofs.Histories.{triple_at-front, triple_at-end, batch_word-front, named_batch, steps, entered}
 
 not_true : (b : Bool) → not b ≡ true → b ≡ false

@@ -1,22 +1,21 @@
 -- Every list of events goes on to its end, and the link is then in turns.
-use Rattle.std.proofs.Common.{◌≡◌, ℕ, ◌+◌, ◌<◌, ◌≤◌, List, [], ◌∷◌, ◌⊎◌, inl, inr, length, slice_get, Option, None, Some, Result, Ok, Err, Bool, true, false, if◌then◌else◌, refl, sym, ap, ◌∙◌, subst, arith}
-use Rattle.std.specs.Prelude.{nat_eq, nat_le, option_map, option_and_then, ◌^◌, ◌-◌}
+use Rattle.std.proofs.Common.{◌≡◌, ℕ, ◌+◌, ◌≤◌, List, [], ◌∷◌, ◌⊎◌, inl, inr, length, slice_get, Option, None, Some, Result, Ok, Err, true, false, if◌then◌else◌, refl, ap, arith}
+use Rattle.std.specs.Prelude.{nat_eq, nat_le, option_map, ◌^◌, ◌-◌}
 use Rattle.texts.specs.declared.side.Side.{Side}
 use Rattle.texts.specs.declared.side.Side.TheVariants.{Left, Right}
 use Rattle.doc_values.specs.Documents.{DocTree}
 use Rattle.doc_values.specs.Types.{TyTree}
-use Rattle.edit_module.specs.Words.{WordTree, no_primitives}
+use Rattle.edit_module.specs.Words.{WordTree}
 use Rattle.lens_core.specs.Complements.{CompTree}
 use Rattle.lens_core.specs.Translation.{Translated}
 use Rattle.lens_core.specs.Laws.{WordsCarry, StartTogether}
-use Rattle.edit_session.specs.Step.{TripleTree, IsInStep, first}
-use Rattle.turn_link.specs.declared.fault.Received.{Received}
+use Rattle.edit_session.specs.Step.{first}
 use Rattle.turn_link.specs.declared.fault.Received.TheVariants.{Taken, Stale}
 use Rattle.turn_link.specs.Turns.{BatchTree, is_turn, Refusal, not_turn, last_number, unfit, no_packet}
-use Rattle.turn_link.specs.Sites.{LeftTree, RightTree, left_start, right_start, left_edit, right_edit, left_seal, right_seal, left_receive, right_receive}
-use Rattle.turn_link.specs.Links.{EventTree, edit, seal, send, deliver, restart, LinkTree, ToldTree, sealed, PacketTree, link_start, number_on, with_entry, batch_at, last_batch, triple_at, left_of, right_of, left_site, right_site, naming, happens, link_after, after_events}
-use Rattle.turn_link.specs.Laws.{InTurns, IsLinked, AreSites}
-use Rattle.turn_link.specs.Runs.{Answers, Delivers, Fits, LinksStayInTurns}
+use Rattle.turn_link.specs.Sites.{LeftTree, RightTree, left_start, right_start, left_edit, right_edit, left_seal, right_seal}
+use Rattle.turn_link.specs.Links.{EventTree, edit, seal, send, deliver, restart, LinkTree, ToldTree, sealed, PacketTree, link_start, number_on, with_entry, batch_at, last_batch, left_of, right_of, naming, happens, link_after, after_events}
+use Rattle.turn_link.specs.Laws.{IsLinked, AreSites}
+use Rattle.turn_link.specs.Runs.{Answers, Fits, LinksStayInTurns}
 use Rattle.turn_link.proofs.Numbers.{at_most, within_number}
 use Rattle.turn_link.proofs.LinkEvents.{empty_draft, fresh_left, fresh_right}
 use Rattle.turn_link.proofs.LinkSites.{edits_left, edits_right, refuses_edit_left, refuses_edit_right, restarts_left, restarts_right, sends, no_sending, seals_left_site, seals_right_site, refuses_seal_left, refuses_seal_right, receives_left-of, receives_right-of, taken_left, taken_right, received}

@@ -1,28 +1,26 @@
 -- What the sites of a link answer is what the link's events make of it, and they stay its sites.
-use Rattle.std.proofs.Common.{◌≡◌, ◌≢◌, ℕ, ◌+◌, ◌-◌, ◌^◌, ◌<◌, ◌≤◌, List, [], ◌∷◌, ◌++◌, ◌⊎◌, inl, inr, length, slice_get, Option, None, Some, Result, Ok, Err, Bool, true, false, not, ◌&&◌, if◌then◌else◌, refl, sym, ap, ◌∙◌, subst, arith}
-use Rattle.std.specs.Prelude.{nat_eq, nat_le, option_map, option_and_then}
+use Rattle.std.proofs.Common.{◌≡◌, ℕ, ◌+◌, ◌-◌, ◌^◌, ◌<◌, ◌≤◌, List, [], ◌∷◌, ◌++◌, ◌⊎◌, inl, inr, length, slice_get, Option, None, Some, Result, Ok, Err, true, false, not, if◌then◌else◌, refl, sym, ap, ◌∙◌, subst, arith}
+use Rattle.std.specs.Prelude.{nat_eq, nat_le, option_map}
 use Rattle.std.specs.Result.{result_unwrap_or}
 use Rattle.texts.specs.declared.side.Side.{Side}
 use Rattle.texts.specs.declared.side.Side.TheVariants.{Left, Right}
-use Rattle.texts.specs.Sides.{other}
 use Rattle.doc_values.specs.Documents.{DocTree}
 use Rattle.doc_values.specs.Types.{TyTree}
 use Rattle.edit_module.specs.Words.{WordTree, no_primitives, joined}
 use Rattle.edit_module.specs.Action.{act, Why}
 use Rattle.lens_core.specs.Complements.{CompTree}
-use Rattle.lens_core.specs.Sides.{near}
 use Rattle.lens_core.specs.Translation.{Translated}
 use Rattle.lens_core.specs.Laws.{WordsCarry}
 use Rattle.edit_session.specs.Step.{TripleTree}
 use Rattle.turn_link.specs.declared.fault.Received.{Received}
 use Rattle.turn_link.specs.declared.fault.Received.TheVariants.{Taken, Stale}
-use Rattle.turn_link.specs.Turns.{BatchTree, is_even, is_turn, last_made, Refusal, not_turn, no_apply, last_number, unfit, no_batch}
-use Rattle.turn_link.specs.Sites.{LeftTree, RightTree, drafted, joining, edited, left_drafted, right_drafted, left_edit, right_edit, next_batch, sealing, left_sealed, right_sealed, left_seal, right_seal, receiving, left_receive, right_receive, left_restart, right_restart}
-use Rattle.turn_link.specs.Links.{LinkTree, PacketTree, ToldTree, edit, seal, send, deliver, restart, told_draft, sealed, packet, taken, stale, restarted, number_on, draft_on, with_entry, with_number, with_draft, with_packet, triple_at, batch_word, batch_at, last_batch, left_of, right_of, left_site, right_site, naming, happens}
-use Rattle.turn_link.specs.Laws.{IsOfBatch, InTurns, IsDraft, IsLinked, AreSites}
-use Rattle.turn_link.proofs.Numbers.{positive, not_positive, at_most, not_at_most, same_number, last_made-le, last_made-sealed, last_made-taken}
-use Rattle.turn_link.proofs.Histories.{triple_at-front, last_batch-front, last_batch-taken, named_batch}
-use Rattle.turn_link.proofs.LinkEvents.{on_turn, fresh_left, fresh_right, SealsLeft, SealsRight, seals_left, seals_right, TakesLeft, TakesRight, takes_left, takes_right, draft_joined, empty_draft, linked-drafted_left, linked-drafted_right, linked-sent, last_of_batch, batch_word-some}
+use Rattle.turn_link.specs.Turns.{BatchTree, is_turn, last_made, Refusal, not_turn, last_number, no_batch}
+use Rattle.turn_link.specs.Sites.{LeftTree, RightTree, drafted, joining, edited, left_drafted, right_drafted, left_edit, right_edit, next_batch, sealing, left_sealed, right_sealed, left_seal, right_seal, left_receive, right_receive, left_restart, right_restart}
+use Rattle.turn_link.specs.Links.{LinkTree, ToldTree, edit, seal, send, deliver, told_draft, sealed, packet, taken, stale, number_on, with_entry, with_number, with_draft, with_packet, triple_at, batch_word, batch_at, last_batch, left_of, right_of, left_site, right_site, happens}
+use Rattle.turn_link.specs.Laws.{IsDraft, IsLinked, AreSites}
+use Rattle.turn_link.proofs.Numbers.{positive, not_positive, at_most, not_at_most, same_number, last_made-le, last_made-sealed}
+use Rattle.turn_link.proofs.Histories.{triple_at-front, last_batch-front, last_batch-taken}
+use Rattle.turn_link.proofs.LinkEvents.{fresh_left, fresh_right, SealsLeft, SealsRight, seals_left, seals_right, takes_left, takes_right, draft_joined, empty_draft, linked-drafted_left, linked-drafted_right, linked-sent, last_of_batch, batch_word-some}
 
 same_pair : {A B C : Type 0} {o : Result (A × B) C} {a c : A} {b d : B} → o ≡ Ok (a, b) → o ≡ Ok (c, d) → (a ≡ c) × (b ≡ d)
 same_pair {A} {B} {C} {o} {a} {c} {b} {d} p q = let e : (a, b) ≡ (c, d) = cc in (ap (λ (p : A × B). p.0) e, ap (λ (p : A × B). p.1) e)

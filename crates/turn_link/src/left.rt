@@ -222,7 +222,7 @@ impl<L: EditLens> LeftSite<L> {
 // The parts at the start.
 fn first_parts<L: EditLens>(alloc: Global, lens: &L) -> Result<LeftParts, AllocError>
     ensures start { IfOk result (λ p. left_tree p ≡ left_start (L.left_type lens.now)
-            (L.start lens.now)) }
+        (L.start lens.now)) }
     ensures kept { IfOk result (λ p. IsLeft (L.left_type lens.now) p) }
 {
     let doc = init(alloc, lens.ty(Side::Left))?;
@@ -257,10 +257,10 @@ fn edited<L: EditLens>(
     requires kept { IsLeft (L.left_type lens.now) parts.now }
     ensures edits { MatchResult result
         (λ d. (is_turn Left parts.now.number ≡ true) ×
-            (act (L.left_type lens.now) (word_tree word.now) (after_tree parts.now) ≡ Ok
-            (doc_tree d)))
+        (act (L.left_type lens.now) (word_tree word.now) (after_tree parts.now) ≡ Ok
+        (doc_tree d)))
         (λ fault. IsRefusal (left_edit (L.left_type lens.now) (left_tree parts.now)
-            (word_tree word.now)) (site_refusal fault)) }
+        (word_tree word.now)) (site_refusal fault)) }
     ensures typed { IfOk result (λ d. has (L.left_type lens.now) (doc_tree d) ≡ true) }
 {
     if !is_turn(Side::Left, parts.number) {
@@ -284,9 +284,9 @@ fn sealed<L: EditLens>(
     requires kept { IsLeft (L.left_type lens.now) parts.now }
     ensures seals { MatchResult result
         (λ r. left_seal (L.left_type lens.now) (L.carried lens.now) (left_tree parts.now) ≡ Ok
-            (left_tree r.0, batch_tree r.1))
+        (left_tree r.0, batch_tree r.1))
         (λ fault. IsRefusal (left_seal (L.left_type lens.now) (L.carried lens.now)
-            (left_tree parts.now)) (site_refusal fault)) }
+        (left_tree parts.now)) (site_refusal fault)) }
     ensures kept { IfOk result (λ r. IsLeft (L.left_type lens.now) r.0) }
 {
     if !is_turn(Side::Left, parts.number) {
@@ -327,12 +327,15 @@ fn taken_over<L: EditLens>(
     requires kept { IsLeft (L.left_type lens.now) parts.now }
     ensures takes { MatchResult result
         (λ r. left_taking (L.left_type lens.now) (left_tree parts.now)
-            (L.carried lens.now Right (comp_tree parts.now.comp) (word_tree word.now))
-        ≡ Ok (record
-            (left_tree parts.now) { number = parts.now.number + 1; doc = doc_tree r.0; comp = comp_tree r.1 }, Taken))
+        (L.carried lens.now Right (comp_tree parts.now.comp) (word_tree word.now))
+        ≡ Ok (
+          record
+              (left_tree parts.now) { number = parts.now.number + 1; doc = doc_tree r.0; comp = comp_tree r.1 },
+          Taken,
+        ))
         (λ fault. IsRefusal (left_taking (L.left_type lens.now) (left_tree parts.now)
-            (L.carried lens.now Right (comp_tree parts.now.comp) (word_tree word.now)))
-            (receive_refusal fault)) }
+        (L.carried lens.now Right (comp_tree parts.now.comp) (word_tree word.now)))
+        (receive_refusal fault)) }
     ensures typed { IfOk result (λ r. has (L.left_type lens.now) (doc_tree r.0) ≡ true) }
 {
     let Carried { word, comp } = match lens.carry(alloc, Side::Right, &parts.comp, word) {

@@ -219,9 +219,9 @@ fn edited(alloc: Global, ty: &Ty, parts: &RightParts, word: &Word) -> Result<Doc
     requires kept { IsRight (ty_tree ty.now) parts.now }
     ensures edits { MatchResult result
         (λ d. (is_turn Right parts.now.number ≡ true) ×
-            (act (ty_tree ty.now) (word_tree word.now) (right_after parts.now) ≡ Ok (doc_tree d)))
+        (act (ty_tree ty.now) (word_tree word.now) (right_after parts.now) ≡ Ok (doc_tree d)))
         (λ fault. IsRefusal (right_edit (ty_tree ty.now) (right_tree parts.now)
-            (word_tree word.now)) (site_refusal fault)) }
+        (word_tree word.now)) (site_refusal fault)) }
     ensures typed { IfOk result (λ d. has (ty_tree ty.now) (doc_tree d) ≡ true) }
 {
     if !is_turn(Side::Right, parts.number) {
@@ -241,9 +241,9 @@ fn sealed(alloc: Global, ty: &Ty, parts: &RightParts) -> Result<(RightParts, Bat
     requires kept { IsRight (ty_tree ty.now) parts.now }
     ensures seals { MatchResult result
         (λ r. right_seal (ty_tree ty.now) (right_tree parts.now) ≡ Ok
-            (right_tree r.0, batch_tree r.1))
+        (right_tree r.0, batch_tree r.1))
         (λ fault. IsRefusal (right_seal (ty_tree ty.now) (right_tree parts.now))
-            (site_refusal fault)) }
+        (site_refusal fault)) }
     ensures kept { IfOk result (λ r. IsRight (ty_tree ty.now) r.0) }
 {
     if !is_turn(Side::Right, parts.number) {
@@ -275,12 +275,15 @@ fn taken_over(alloc: Global, ty: &Ty, parts: &RightParts, word: &Word) -> Result
     requires kept { IsRight (ty_tree ty.now) parts.now }
     ensures takes { MatchResult result
         (λ d. right_taking (right_tree parts.now)
-            (act (ty_tree ty.now) (word_tree word.now) (doc_tree parts.now.doc))
-        ≡ Ok (record
-            (right_tree parts.now) { number = parts.now.number + 1; doc = doc_tree d }, Taken))
+        (act (ty_tree ty.now) (word_tree word.now) (doc_tree parts.now.doc))
+        ≡ Ok (
+          record
+              (right_tree parts.now) { number = parts.now.number + 1; doc = doc_tree d },
+          Taken,
+        ))
         (λ fault. IsRefusal (right_taking (right_tree parts.now)
-            (act (ty_tree ty.now) (word_tree word.now) (doc_tree parts.now.doc)))
-            (receive_refusal fault)) }
+        (act (ty_tree ty.now) (word_tree word.now) (doc_tree parts.now.doc)))
+        (receive_refusal fault)) }
     ensures typed { IfOk result (λ d. has (ty_tree ty.now) (doc_tree d) ≡ true) }
 {
     match act(alloc, ty, word, &parts.doc) {

@@ -1,4 +1,4 @@
-use Rattle.std.proofs.Common.{◌≡◌, map, ap}
+use Rattle.std.proofs.Common.{map}
 use Rattle.texts.specs.declared.side.Side.TheVariants.{Left}
 use Rattle.doc_values.specs.Types.{ty_tree}
 use Rattle.edit_module.specs.Views.{entry_tree}
