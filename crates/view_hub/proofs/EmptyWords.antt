@@ -1,5 +1,5 @@
 -- The empty word leaves a document as it is.
-use Rattle.std.proofs.Common.{◌≡◌, ℕ, ◌+◌, Ok, refl, arith}
+use Rattle.std.proofs.Common.{◌≡◌, Ok, refl, arith}
 use Rattle.doc_values.specs.Documents.{DocTree}
 use Rattle.doc_values.specs.Types.{TyTree}
 use Rattle.edit_module.specs.Words.{WordTree, no_primitives, more_primitives, word_length}

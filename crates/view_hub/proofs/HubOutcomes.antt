@@ -1,13 +1,11 @@
 -- What the parts of a step make of it, by its definition.
-use Rattle.std.proofs.Common.{◌≡◌, ℕ, suc, ◌<◌, ◌≤◌, List, [], ◌∷◌, ◌++◌, length, map, slice_get, Option, None, Some, Result, Ok, Err, true, refl, sym, ap, ◌∙◌, subst, arith}
-use Rattle.std.specs.Prelude.{option_map, option_and_then}
+use Rattle.std.proofs.Common.{◌≡◌, ℕ, suc, ◌<◌, ◌≤◌, List, [], ◌∷◌, length, map, slice_get, Option, None, Some, Result, Ok, Err, refl, sym, ap, ◌∙◌, subst, arith}
 use Rattle.std.proofs.lemmas.Option.{slice_get_past}
 use Rattle.texts.specs.declared.side.Side.{Side}
 use Rattle.texts.specs.declared.side.Side.TheVariants.{Left, Right}
 use Rattle.doc_values.specs.Documents.{DocTree}
 use Rattle.doc_values.specs.Types.{TyTree}
 use Rattle.doc_values.specs.Initial.{initial}
-use Rattle.doc_values.specs.Typing.{has}
 use Rattle.edit_module.specs.Words.{WordTree}
 use Rattle.edit_module.specs.Action.{act, Why}
 use Rattle.lens_core.specs.Complements.{CompTree}
@@ -15,33 +13,17 @@ use Rattle.lens_core.specs.Translation.{Translated}
 use Rattle.lens_core.specs.Laws.{WordsCarry, StartTogether, TogetherAreTyped}
 use Rattle.view_hub.specs.declared.fault.HubFault.{HubFault}
 use Rattle.view_hub.specs.declared.fault.HubFault.TheVariants.{NoView, NoApply, NoMemory}
-use Rattle.view_hub.specs.Hubs.{ViewTree, HubTree, Place, at_hub, at_view, CarriedTree, Refusal, no_view, no_apply, stepped, hub_after, lower, lower_all, lower_others, after_hub, act_on_hub, after_view, step_view, step, first_view, first_hub, start_hub}
-use Rattle.view_hub.specs.Laws.{SameLeft, HaveOneLeftType, IsHub}
-use Rattle.view_hub.specs.Lowering.{IsLowered, CanLower, Adds, IsLifted}
+use Rattle.view_hub.specs.Hubs.{ViewTree, HubTree, Place, at_view, CarriedTree, no_view, hub_after, lower_others, step, first_hub, start_hub}
+use Rattle.view_hub.specs.Laws.{HaveOneLeftType, IsHub}
+use Rattle.view_hub.specs.Lowering.{CanLower, Adds, IsLifted}
 use Rattle.view_hub.specs.Views.{IsHubRefusal, IsActionFault}
-use Rattle.view_hub.proofs.HubSteps.{AllIn, Keeps, lowers, view_at, keeps, starts}
+use Rattle.view_hub.proofs.HubSteps.{AllIn, lowers, view_at, keeps, starts}
+
+same_some : {A : Type 0} {o : Option A} {a b : A} → o ≡ Some a → o ≡ Some b → a ≡ b
+same_some p q = cc
 
 module _ {L : Type 0} (left_type : L → TyTree) (right_type : L → TyTree) (carried : L → Side → CompTree → WordTree → Option Translated) where
-  -- ---- a word of the hub
-
-  pub hub_steps : (l : L) (ls : List L) (h : HubTree) (w : WordTree) (x : DocTree) (vs : List ViewTree) (ws : List WordTree) → act (left_type l) w h.hub ≡ Ok x
-      → Adds (lower_all left_type right_type carried w (l ∷ ls) h.views) [] [] vs ws
-      → step left_type right_type carried (l ∷ ls) h (at_hub, w) ≡ Some (Ok (record { hub = x; views = vs }, record { hub = w; views = ws }))
-  hub_steps l ls h w x vs ws acts adds =
-      let all = adds.is in
-      let views : map (λ r. r.0) adds.results ≡ vs = sym adds.views_are in
-      let words : map (λ r. r.1) adds.results ≡ ws = sym adds.words_are in
-      rw (acts, all) (ap (λ vs. Some (Ok (record { hub = x; views = vs }, record { hub = w; views = map (λ r. r.1) adds.results }))) views
-      ∙ ap (λ ws. Some (Ok (record { hub = x; views = vs }, record { hub = w; views = ws }))) words)
-
-  pub hub_refuses : (l : L) (ls : List L) (h : HubTree) (w : WordTree) (fault : HubFault) → IsActionFault (act (left_type l) w h.hub) fault
-      → IsHubRefusal (step left_type right_type carried (l ∷ ls) h (at_hub, w)) fault
-  hub_refuses l ls h w (NoView views) is = absurd is
-  hub_refuses l ls h w (NoApply at cause) is = rw is refl
-  hub_refuses l ls h w NoMemory is = tt
-
-  -- ---- a word of a view
-
+  -- a word of a view that was lifted and then carried to the other views makes a step
   pub view_steps : (ls : List L) (h : HubTree) (k : ℕ) (l : L) (v : ViewTree) (w : WordTree) (new : ViewTree) (up : WordTree) (x : DocTree) (vs : List ViewTree) (ws : List WordTree)
       → slice_get ls k ≡ Some l → slice_get h.views k ≡ Some v → IsLifted (left_type l) (right_type l) (carried l) h.hub v w new up x
       → Adds (lower_others left_type right_type carried up (new, w) k ls h.views) [] [] vs ws
@@ -56,6 +38,7 @@ module _ {L : Type 0} (left_type : L → TyTree) (right_type : L → TyTree) (ca
       rw (view, lens, acts, carries, hub_acts, all) (ap (λ vs. Some (Ok (record { hub = x; views = vs }, record { hub = up; views = map (λ r. r.1) adds.results }))) views
       ∙ ap (λ ws. Some (Ok (record { hub = x; views = vs }, record { hub = up; views = ws }))) words)
 
+  -- a word that is refused at its own view refuses the step
   pub view_refuses : (ls : List L) (h : HubTree) (k : ℕ) (l : L) (v : ViewTree) (w : WordTree) (fault : HubFault)
       → slice_get ls k ≡ Some l → slice_get h.views k ≡ Some v → IsActionFault (act (right_type l) w v.doc) fault
       → IsHubRefusal (step left_type right_type carried ls h (at_view k, w)) fault
@@ -63,6 +46,7 @@ module _ {L : Type 0} (left_type : L → TyTree) (right_type : L → TyTree) (ca
   view_refuses ls h k l v w (NoApply at cause) lens view is = rw (view, lens, is) refl
   view_refuses ls h k l v w NoMemory lens view is = tt
 
+  -- and so does a number that no view has
   pub no_view_refuses : (ls : List L) (h : HubTree) (k : ℕ) (w : WordTree) → slice_get h.views k ≡ None
       → step left_type right_type carried ls h (at_view k, w) ≡ Some (Err (no_view (length h.views)))
   no_view_refuses ls h k w none = rw none refl
@@ -105,12 +89,7 @@ module _ {L : Type 0} (left_type : L → TyTree) (right_type : L → TyTree) (st
         let one = lowers left_type right_type start holds carried from_left from_right l w v x x' all.1 (subst (λ t. act t w x ≡ Ok x') (sym all.0) acts) in
         ((typed l x v.comp v.doc all.1).1, record { result = one.result; is = one.lowers }, in_can ty ls vs w x x' all.2 acts)
 
-    -- the hub's document has the type of each lens, so that of the first
-    pub hub_typed : (l : L) (ls : List L) (x : DocTree) (vs : List ViewTree) → In (left_type l) (l ∷ ls) x vs → has (left_type l) x ≡ true
-    hub_typed l ls x [] all = absurd all
-    hub_typed l ls x (v ∷ vs) all = (typed l x v.comp v.doc all.1).0
-
-    -- a hub has a lens for each view, and there is one
+    -- a word that acts on the hub's document can be lowered to all its views
     pub hub_can : (ls : List L) (h : HubTree) (l : L) (w : WordTree) (x : DocTree) → Hub ls h → slice_get ls 0 ≡ Some l → act (left_type l) w h.hub ≡ Ok x
         → CanLower left_type right_type carried w ls h.views
     hub_can [] h l w x all first acts = absurd all
@@ -126,15 +105,6 @@ module _ {L : Type 0} (left_type : L → TyTree) (right_type : L → TyTree) (st
         let same : at.lens ≡ l = same_some at.lens_is lens in
         let same_type : left_type l ≡ left_type m = ap left_type (sym same) ∙ at.same_type in
         in_can (left_type m) (m ∷ ls) h.views w h.hub x all (subst (λ t. act t w h.hub ≡ Ok x) same_type acts)
-      where
-        same_some : {A : Type 0} {o : Option A} {a b : A} → o ≡ Some a → o ≡ Some b → a ≡ b
-        same_some p q = cc
-
-    pub first_typed : (ls : List L) (h : HubTree) (l : L) → Hub ls h → slice_get ls 0 ≡ Some l → has (left_type l) h.hub ≡ true
-    first_typed [] h l all first = absurd all
-    first_typed (m ∷ ls) h l all first =
-        let same : m ≡ l = cc in
-        subst (λ l. has (left_type l) h.hub ≡ true) same (hub_typed m ls h.hub h.views all)
 
   -- a word that acts on a view is carried to the hub, and acts there
   pub lift_fits : (l : L) (w : WordTree) (x : DocTree) (v : ViewTree) (y : DocTree) → holds l x v.comp v.doc → act (right_type l) w v.doc ≡ Ok y
@@ -145,12 +115,9 @@ module _ {L : Type 0} (left_type : L → TyTree) (right_type : L → TyTree) (st
       → carried l Right v.comp w ≡ Some r → act (left_type l) r.0 x ≡ Err why → ⊥
   lift_acts l w x v y r why h acts some refused =
       let k = from_right l w v.doc v.comp x y h acts in
-      let same : (k.word, k.comp) ≡ r = same_translated k.carried some in
+      let same : (k.word, k.comp) ≡ r = same_some k.carried some in
       let here : act (left_type l) r.0 x ≡ Ok k.document = ap (λ (r : Translated). act (left_type l) r.0 x) (sym same) ∙ k.acts in
       cc
-    where
-      same_translated : {o : Option Translated} {a b : Translated} → o ≡ Some a → o ≡ Some b → a ≡ b
-      same_translated p q = cc
 
   -- a view is in step with the hub
   pub view_in_step : (ls : List L) (h : HubTree) (k : ℕ) (l : L) (v : ViewTree) → Hub ls h → slice_get ls k ≡ Some l → slice_get h.views k ≡ Some v → holds l h.hub v.comp v.doc
@@ -159,9 +126,6 @@ module _ {L : Type 0} (left_type : L → TyTree) (right_type : L → TyTree) (st
       let at = view_at left_type right_type start holds carried from_left from_right (left_type m) (m ∷ ls) h.views h.hub k v all view in
       let same : at.lens ≡ l = same_some at.lens_is lens in
       subst (λ l. holds l h.hub v.comp v.doc) same at.in_step
-    where
-      same_some : {A : Type 0} {o : Option A} {a b : A} → o ≡ Some a → o ≡ Some b → a ≡ b
-      same_some p q = cc
 
   -- there is a lens for each view, and there is one
   in_length : (ty : TyTree) (ls : List L) (x : DocTree) (vs : List ViewTree) → In ty ls x vs → length ls ≡ length vs
@@ -181,16 +145,7 @@ module _ {L : Type 0} (left_type : L → TyTree) (right_type : L → TyTree) (st
   some_lens [] h all = absurd all
   some_lens (l ∷ ls) h all = omega arith
 
-  -- the hub at its start
-  pub start_is : (ls : List L) (l : L) (h : HubTree) → slice_get ls 0 ≡ Some l → h.hub ≡ initial (left_type l) → h.views ≡ map (first_view left_type right_type start) ls
-      → start_hub left_type right_type start ls ≡ Some h
-  start_is [] l h first hub views = cc
-  start_is (m ∷ ls) l h first hub views =
-      let same : m ≡ l = cc in
-      let hub_is : initial (left_type m) ≡ h.hub = ap (λ l. initial (left_type l)) same ∙ sym hub in
-      ap (λ x. Some (record { hub = x; views = map (first_view left_type right_type start) (m ∷ ls) })) hub_is
-      ∙ ap (λ vs. Some (record { hub = h.hub; views = vs })) (sym views)
-
+  -- a hub is in step at its start
   pub starts_in_step : ((l : L) → StartTogether (holds l) (left_type l) (right_type l) (start l)) → (ls : List L) (h : HubTree)
       → HaveOneLeftType left_type right_type start holds carried ls → start_hub left_type right_type start ls ≡ Some h → Hub ls h
   starts_in_step together [] h same is = absurd same
@@ -198,7 +153,3 @@ module _ {L : Type 0} (left_type : L → TyTree) (right_type : L → TyTree) (st
       let begun : first_hub left_type right_type start l (l ∷ ls) ≡ h = cc in
       subst (λ (h : HubTree). Hub (l ∷ ls) h) begun
       (starts left_type right_type start holds carried from_left from_right together (left_type l) (initial (left_type l)) (λ m is. ap initial (sym is)) (l ∷ ls) (refl, same))
-
-  pub some_lens-start : (ls : List L) → HaveOneLeftType left_type right_type start holds carried ls → 0 < length ls
-  some_lens-start [] same = absurd same
-  some_lens-start (l ∷ ls) same = omega arith

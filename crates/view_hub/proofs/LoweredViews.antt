@@ -1,11 +1,10 @@
 -- The views after a word of the hub, one after another, and around the view that was edited.
-use Rattle.std.proofs.Common.{◌≡◌, ℕ, zero, suc, ◌+◌, ◌<◌, List, [], ◌∷◌, ◌++◌, append_assoc, ◌≤◌, get_or, length, map, take, drop, slice_get, Option, None, Some, Ok, true, refl, sym, ap, ◌∙◌, subst, arith, ◌-◌, length-drop}
+use Rattle.std.proofs.Common.{◌≡◌, ℕ, zero, suc, ◌+◌, ◌<◌, List, [], ◌∷◌, ◌++◌, append_assoc, ◌≤◌, get_or, length, map, take, drop, slice_get, Option, None, Some, true, refl, sym, ap, ◌∙◌, subst, arith, ◌-◌, length-drop}
 use Rattle.std.specs.Prelude.{option_map, option_and_then}
 use Rattle.std.proofs.Math.Seq.{take-suc, take-length}
 use Rattle.std.proofs.lemmas.List.{map-append, append-nil, take-map, drop-map, length-map}
 use Rattle.std.proofs.lemmas.Option.{slice_get_within, slice_get_read, slice_get-map, get_or_from_slice_get}
 use Rattle.texts.specs.declared.side.Side.{Side}
-use Rattle.doc_values.specs.Documents.{DocTree}
 use Rattle.doc_values.specs.Types.{TyTree}
 use Rattle.doc_values.specs.Typing.{has}
 use Rattle.edit_module.specs.Words.{WordTree}

@@ -23,8 +23,8 @@ use texts::{Side, Twin};
 
 /// A document, the hub, and its views: each has a lens whose left side is the hub, a complement and a document.
 ///
-/// There is no hub in which a view is not in its lens's consistency relation with the hub's document. Contracts see a hub as
-/// its lenses and its parts.
+/// There is no hub in which a view is not in its lens's consistency relation with the hub's document. Contracts see
+/// a hub as its lenses and its parts.
 #[derive(Drop)]
 pub struct Hub<L: EditLens> {
     lenses: Vec<L>,
@@ -50,11 +50,12 @@ impl<L: EditLens> Model for Hub<L> {
 }
 
 impl<L: EditLens> Hub<L> {
-    /// A hub with the initial document of the lenses' left type. Each view has its lens's missing complement and the initial
-    /// document of its right type.
+    /// A hub with the initial document of the lenses' left type. Each view has its lens's missing complement and
+    /// the initial document of its right type.
     ///
-    /// There is a lens, and all lenses have the same left type. The views are numbered from 0 in the order of the lenses. The
-    /// hub keeps the allocator for its steps. It fails only if memory runs out. The lenses are then dropped.
+    /// There is a lens, and all lenses have the same left type. The views are numbered from 0 in the order of the
+    /// lenses. The hub keeps the allocator for its steps. It fails only if memory runs out. The lenses are then
+    /// dropped.
     pub fn start(alloc: Global, lenses: Vec<L>) -> Result<Hub<L>, AllocError>
     where
         L: Drop,
@@ -71,20 +72,21 @@ impl<L: EditLens> Hub<L> {
         })
     }
 
-    /// Applies a word to the hub's document or to that of a view, and carries it to all the others. Returns the words that
-    /// acted: the hub's and one for each view.
+    /// Applies a word to the hub's document or to that of a view, and carries it to all the others. Returns the
+    /// words that acted: the hub's and one for each view.
     ///
-    /// A word of the hub is carried to each view by the view's lens. A word of a view is carried to the hub by its lens, and
-    /// the hub's word from there to each other view. The word that is returned for the edited document is the word itself.
+    /// A word of the hub is carried to each view by the view's lens. A word of a view is carried to the hub by its
+    /// lens, and the hub's word from there to each other view. The word that is returned for the edited document is
+    /// the word itself.
     ///
     /// - `NoView`: if and only if there is no view with this number; it has the number of views.
-    /// - `NoApply`: if and only if the word does not apply to the edited document; it has the number of the first primitive
-    ///   that fails, and the cause.
+    /// - `NoApply`: if and only if the word does not apply to the edited document; it has the number of the first
+    ///   primitive that fails, and the cause.
     /// - `NoMemory`: only if memory ran out.
     ///
-    /// After an error all documents and complements are as they were. A word that applies to the edited document is carried
-    /// to the hub and to every view, and applies there. A view whose word is empty keeps its document, which is neither
-    /// copied nor walked over.
+    /// After an error all documents and complements are as they were. A word that applies to the edited document is
+    /// carried to the hub and to every view, and applies there. A view whose word is empty keeps its document,
+    /// which is neither copied nor walked over.
     pub fn step(&mut self, side: HubSide, word: &Word) -> Result<HubCarried, HubFault>
         ensures steps { IsOutcome L.left_type L.right_type L.carried
             self.old (place_of side, word_tree word.now) self.new result }
@@ -98,9 +100,11 @@ impl<L: EditLens> Hub<L> {
         Ok(carried)
     }
 
-    /// The hub's document.
+    /// The hub's document. It is in each view's relation with the view's complement and document.
     pub fn hub(&self) -> &Doc
-        ensures { result.now ≡ self.now.parts.hub.value }
+        ensures hub { result.now ≡ self.now.parts.hub.value }
+        ensures in_step { IsHub L.left_type L.right_type L.start L.holds L.carried
+            self.now.lenses (hub_tree self.now.parts) }
     {
         &self.parts.hub
     }

@@ -89,7 +89,13 @@ pub(crate) fn lower_others<L: EditLens>(
     lower_each(alloc, &lenses[..place], &views[..place], word, &mut out)?;
     out.views.push(own.view)?;
     out.words.push(own.word)?;
-    lower_each(alloc, &lenses[place + 1..], &views[place + 1..], word, &mut out)?;
+    lower_each(
+        alloc,
+        &lenses[place + 1..],
+        &views[place + 1..],
+        word,
+        &mut out,
+    )?;
     Ok(out)
 }
 
@@ -123,7 +129,8 @@ fn lower_each<L: EditLens>(
     Ok(())
 }
 
-// A view after a word of the hub, and the word that it was carried to. The definition has a value, so that nothing is refused.
+// A view after a word of the hub, and the word that it was carried to. The definition has a value, so that nothing
+// is refused.
 fn lower<L: EditLens>(
     alloc: Global,
     lens: &L,

@@ -15,7 +15,8 @@ use lens_core::Comp;
 use std::alloc::{AllocError, Global};
 use std::rc::Rc;
 
-// A view: its complement and its document. A document is shared, so that a step which leaves it as it is copies no document.
+// A view: its complement and its document. A document is shared, so that a step which leaves it as it is copies no
+// document.
 #[derive(Drop)]
 pub(crate) struct View {
     pub(crate) comp: Comp,

@@ -1,4 +1,4 @@
-use Rattle.std.proofs.Common.{length, refl, sym, ap, subst}
+use Rattle.std.proofs.Common.{length, refl, sym, subst}
 use Rattle.std.proofs.lemmas.Option.{slice_get_read}
 use Rattle.doc_values.specs.Documents.{doc_tree}
 use Rattle.edit_module.specs.Views.{word_tree}

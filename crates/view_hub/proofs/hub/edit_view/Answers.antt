@@ -1,4 +1,4 @@
-use Rattle.std.proofs.Common.{◌<◌, [], length, refl, sym, ap, subst, arith}
+use Rattle.std.proofs.Common.{[], length, refl, sym, subst, arith}
 use Rattle.std.proofs.lemmas.List.{length-map}
 use Rattle.std.proofs.lemmas.Option.{slice_get_read}
 use Rattle.doc_values.specs.Documents.{doc_tree}
@@ -12,9 +12,12 @@ use Rattle.view_hub.proofs.hub.edit_view.Goals as goal
 
 pub offset_bounds-lenses-place : goal.offset_bounds-lenses-place
 offset_bounds-lenses-place g c =
-    omega (arith, lens_within g.L.EditLens.left_type g.L.EditLens.right_type g.L.EditLens.start g.L.EditLens.holds g.L.EditLens.carried
-    g.met.L.EditLens.left_edits_carry g.met.L.EditLens.right_edits_carry c.args.lenses.now (hub_tree c.args.parts.now) c.args.place (length c.args.parts.now.views.items)
-    c.requires.in_step (length-map c.args.parts.now.views.items view_tree) c.requires.view)
+    omega (
+      arith,
+      lens_within g.L.EditLens.left_type g.L.EditLens.right_type g.L.EditLens.start g.L.EditLens.holds g.L.EditLens.carried
+          g.met.L.EditLens.left_edits_carry g.met.L.EditLens.right_edits_carry c.args.lenses.now (hub_tree c.args.parts.now) c.args.place (length c.args.parts.now.views.items)
+          c.requires.in_step (length-map c.args.parts.now.views.items view_tree) c.requires.view,
+    )
 
 pub bounds-lenses-place : goal.bounds-lenses-place
 bounds-lenses-place g c =
