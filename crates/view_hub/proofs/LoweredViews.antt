@@ -2,7 +2,7 @@
 use Rattle.std.proofs.Common.{◌≡◌, ℕ, zero, suc, ◌+◌, ◌<◌, List, [], ◌∷◌, ◌++◌, append_assoc, ◌≤◌, get_or, length, map, take, drop, slice_get, Option, None, Some, true, refl, sym, ap, ◌∙◌, subst, arith, ◌-◌, length-drop}
 use Rattle.std.specs.Prelude.{option_map, option_and_then}
 use Rattle.std.proofs.Math.Seq.{take-suc, take-length}
-use Rattle.std.proofs.lemmas.List.{map-append, append-nil, take-map, drop-map, length-map}
+use Rattle.std.proofs.lemmas.List.{map-append, take-map, drop-map, length-map}
 use Rattle.std.proofs.lemmas.Option.{slice_get_within, slice_get_read, slice_get-map, get_or_from_slice_get}
 use Rattle.texts.specs.declared.side.Side.{Side}
 use Rattle.doc_values.specs.Types.{TyTree}
@@ -89,10 +89,6 @@ module _ {L : Type 0} (left_type : L → TyTree) (right_type : L → TyTree) (ca
   lower_snoc w (m ∷ ls) (u ∷ vs) l v rs r is one =
       lower_snoc-at w l v r (lower left_type right_type carried m w u) (Lower_all w ls vs) (Lower_all w (ls ++ l ∷ []) (vs ++ v ∷ [])) rs
       (λ qs some. lower_snoc w ls vs l v qs r some one) is
-
-  -- no view was lowered yet
-  pub adds-none : (w : WordTree) (vs : List ViewTree) (ws : List WordTree) → Adds (Lower_all w [] []) vs ws vs ws
-  adds-none w vs ws = record { results = []; is = refl; views_are = sym (append-nil vs); words_are = sym (append-nil ws) }
 
   -- the next view was lowered
   pub adds-more : (w : WordTree) (ls : List L) (us : List ViewTree) (k : ℕ) (l : L) (u : ViewTree) (vs : List ViewTree) (ws : List WordTree) (vs' : List ViewTree) (ws' : List WordTree)
