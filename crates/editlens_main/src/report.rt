@@ -23,11 +23,11 @@ use journal_answers::{Progress, state_lines};
 use journal_input::Input;
 use journal_stream::last_answers;
 use lens_core::EditLens;
-use lens_run::Checked;
+use lens_flat::Flat;
 use lens_types::Typed;
 use script_parts::ProgramText;
 use std::alloc::{AllocError, Global};
-use texts::{Bytes, Side, Twin};
+use texts::{Bytes, Side};
 
 /// What is written at the end of an input, and the status.
 #[derive(Drop)]
@@ -77,13 +77,14 @@ fn run_empty(alloc: Global, lens: &Typed) -> Result<Report, AllocError>
 }
 
 /// A session of a form at its first triple. The only error is running out of memory.
-pub fn first_session(alloc: Global, typed: &Typed) -> Result<Session<Checked>, AllocError>
+#[tactic(auto, using(crate::proofs::FormLenses::is_lens_of))]
+pub fn first_session(alloc: Global, typed: &Typed) -> Result<Session<Flat>, AllocError>
     ensures of_form { IfOk result (λ s. IsLensOf (left_type (form_tree s.lens.typed)) (right_type (form_tree s.lens.typed))
         (missing (form_tree s.lens.typed)) (IsConsistent (form_tree s.lens.typed)) (translate (form_tree s.lens.typed))
         (form_tree typed.now)) }
     ensures first { IfOk result (λ s. triple_tree s.triple ≡ first_of (form_tree typed.now)) }
 {
-    let lens = Checked::new(typed.twin(alloc)?);
+    let lens = Flat::compile(alloc, typed)?;
     Session::start(alloc, lens)
 }
 

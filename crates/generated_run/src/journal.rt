@@ -13,7 +13,7 @@ use crate::program::fixed_lens;
 use crate::summary::Summary;
 use doc_values::{Doc, Docs};
 use edit_session::{Session, StepFault};
-use lens_run::Checked;
+use lens_flat::Flat;
 use std::alloc::{AllocError, Global};
 
 /// Runs a generated journal of this many entries, from 1 to 10,000, through a session of the fixed program.
@@ -56,7 +56,7 @@ struct Progress {
 }
 
 // A session of the fixed program, with the initial documents.
-fn first_session(alloc: Global) -> Result<Session<Checked>, AllocError>
+fn first_session(alloc: Global) -> Result<Session<Flat>, AllocError>
     ensures lens { IfOk result (λ s. form_tree s.lens.typed ≡ generated_form) }
     ensures first { IfOk result (λ s. triple_tree s.triple ≡ first_triple) }
 {
@@ -67,7 +67,7 @@ fn first_session(alloc: Global) -> Result<Session<Checked>, AllocError>
 // Makes the entry after this many others, and steps the session.
 fn take_entry(
     alloc: Global,
-    session: &mut Session<Checked>,
+    session: &mut Session<Flat>,
     progress: Progress,
     before: u64,
 ) -> Result<Progress, AllocError>

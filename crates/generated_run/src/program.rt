@@ -7,7 +7,7 @@ ghost use Rattle.lens_syntax.specs.declared.fault.ProgramFault.TheVariants as Re
 ghost use Rattle.lens_types.specs.declared.fault.TypeFault.TheVariants as TypingFault;
 ghost use Rattle.generated_run.specs.Program.{program_tree as fixed_program, generated_form};
 
-use lens_run::Checked;
+use lens_flat::Flat;
 use lens_syntax::{Program, ProgramFault, read_program};
 use lens_types::{TypeFault, check};
 use std::alloc::{AllocError, Global};
@@ -18,12 +18,12 @@ const TEXT: &str =
 
 /// The lens of the fixed program. Fails only if memory runs out.
 #[tactic(auto, using(crate::proofs::Accepted::form_is, crate::proofs::Accepted::typing_fault))]
-pub(crate) fn fixed_lens(alloc: Global) -> Result<Checked, AllocError>
+pub(crate) fn fixed_lens(alloc: Global) -> Result<Flat, AllocError>
     ensures { IfOk result (λ lens. form_tree lens.typed ≡ generated_form) }
 {
     let program = fixed_program(alloc)?;
     match check(alloc, &program) {
-        Ok(typed) => Ok(Checked::new(typed)),
+        Ok(typed) => Flat::compile(alloc, &typed),
         Err(fault) => Err(from_typing(fault)),
     }
 }

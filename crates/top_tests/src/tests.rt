@@ -8,8 +8,8 @@ use edit_json::{has_tree, read_word, write_word_text};
 use edit_module::{Cause, Word};
 use editlens_main::{Status, run_sure};
 use lens_core::{Comp, EditLens};
+use lens_flat::Flat;
 use lens_io::{Bytes, SureSink, SureSource};
-use lens_run::Checked;
 use lens_syntax::{ProgramFault, read_program};
 use lens_types::{TypeFault, check};
 use serde_json::Value;
@@ -35,7 +35,8 @@ fn is_one_nil(comp: &Comp) -> bool {
 fn a_word_is_translated(rt: HostRuntime) -> Result<(), Fail> {
     let alloc = rt.alloc();
     let program = read_program(alloc, b"main {a ~ b: id int}")?;
-    let lens = Checked::new(check(alloc, &program).ok().ok_or("no type")?);
+    let typed = check(alloc, &program).ok().ok_or("no type")?;
+    let lens = Flat::compile(alloc, &typed)?;
     let comp = lens.missing(alloc)?.twin(alloc)?;
     assert!(rt; is_one_nil(&comp));
     let edit = word(alloc, "[{\"at\":[\"a\",[{\"set\":5}]]}]")?;

@@ -4,7 +4,7 @@ use Rattle.lens_core.specs.Consistency.{IsConsistent}
 use Rattle.edit_module.specs.Views.{word_tree, entry_tree}
 use Rattle.edit_session.specs.Step.{IsInStep}
 use Rattle.edit_session.specs.Views.{triple_tree}
-use Rattle.lens_run.specs.declared.checked.Checked.{Checked}
+use Rattle.lens_flat.specs.declared.flat.ReadyForm.{ReadyForm}
 use Rattle.generated_run.specs.Journal.{drawn_from}
 use Rattle.generated_run.specs.Invariant.{IsPossible}
 use Rattle.generated_run.specs.declared.choice.Choice.{Choice}
@@ -30,7 +30,7 @@ returns-in-Ok-clause-generated c =
     let lens = c.args.session.now.lens in
     let next = triple_tree c.step.new.self.triple in
     let P : Choice → Type 0 = λ z. IsPossible z (k + 1) p o in
-    let Q : Checked → Type 0 = λ l. IsInStep (IsConsistent (form_tree l.typed)) next in
+    let Q : ReadyForm → Type 0 = λ l. IsInStep (IsConsistent (form_tree l.typed)) next in
     let possible = subst P (sym c.choose-choice.ensures) (choice_possible (k + 1) p o (drawn_from c.next_seed-seed.result)) in
     let made = taken (form_tree lens.typed) c.requires.lens c.choose-choice.result k p o c.args.progress.seed (triple_tree c.args.session.now.triple) next
     (entry_tree c.in_ok-entry.entry) (word_tree c.in-Ok.field-0) c.requires.bounded possible c.requires.generated c.in_ok-entry.ensures c.in-Ok.ensures.steps

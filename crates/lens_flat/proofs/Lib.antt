@@ -1,0 +1,4 @@
+pub mod FormsOfTables
+pub mod Growth
+pub mod InsideNodes
+pub mod LensesInside
