@@ -1,0 +1,6 @@
+pub mod LastTriple
+pub mod Snapshots
+pub mod ConsistencyDecided
+pub mod Appending
+pub mod WrittenStands
+pub mod AcceptedDepths
