@@ -2,5 +2,5 @@ pub mod ComplementsAreRead
 pub mod ComplementDepths
 pub mod AppliedWords
 pub mod RecordsAreRead
-pub mod Payloads
+pub mod PayloadTrees
 pub mod Openings

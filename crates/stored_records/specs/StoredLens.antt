@@ -1,5 +1,5 @@
 -- The lens of a store: what its first record says.
--- Read it from the end: `stored_form` and `opened`.
+-- Read it from the end: `stored_form` and `lens_and_version`.
 use Rattle.std.specs.Prelude.{ℕ, List, [], ◌∷◌, Option, Some, None, option_map, option_and_then, Result, Ok, Err}
 use Rattle.edit_journal.specs.EntryJson.{tree_of_text}
 use Rattle.lens_forms.specs.Forms.{FormTree}
@@ -24,10 +24,10 @@ with_form o = option_map (λ l. (l, o.1)) (form_of_text o.0)
 abbrev pub opening_of_payload : List ℕ → Option (List ℕ × ℕ)
 opening_of_payload payload = option_and_then opening_of (tree_of_text payload)
 
-abbrev pub opened : List ℕ → Option (FormTree × ℕ)
-opened payload = option_and_then with_form (opening_of_payload payload)
+abbrev pub lens_and_version : List ℕ → Option (FormTree × ℕ)
+lens_and_version payload = option_and_then with_form (opening_of_payload payload)
 
 -- the lens of the first record
 abbrev pub stored_form : List (List ℕ) → Option FormTree
 stored_form [] = None
-stored_form (p ∷ ps) = option_map (λ o. o.0) (opened p)
+stored_form (p ∷ ps) = option_map (λ o. o.0) (lens_and_version p)

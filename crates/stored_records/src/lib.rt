@@ -7,15 +7,6 @@
 //!
 //! The trees of records, and what a tree is as a record, are in specs/RecordJson.antt; the complement that a tree is is in
 //! specs/StoredComplements.antt. The page docs/FORMATS.md has each record with an example.
-//!
-//! Draft: this crate is not proved yet. Definitions, calls with their contracts, laws with their proofs, and edits are written.
-//! The check has found no type error in the code but three, which are mended, and it has proved proofs/AppliedWords.antt in a
-//! crate of its own. It has not seen the definitions, the contracts and the other lemmas. What to do, in this order:
-//! - proofs/ComplementsAreRead and ComplementDepths stand on complement_file alone, RecordsAreRead on edit_journal.
-//! - `read_tree` and `payload_of` take the lemmas of edit_journal's proofs/Texts (`text_read`, `text_refused`) and `string_read`.
-//! - The payload calls take no float, depth and reading back from proofs/Payloads.antt.
-//! - `opening_in`, `three_parts` and `snapshot_in` go by the entries of a map, as value_json's proofs/Shapes.antt does.
-//! - `stored_lens` takes proofs/Openings.antt.
 #![tactic(auto)]
 
 pub mod change;

@@ -7,7 +7,7 @@ ghost use Rattle.program_terms.specs.Views.{program_tree};
 ghost use Rattle.serde_json.specs.View.{view};
 ghost use Rattle.stored_records.specs.Outcomes.{IsBadFirst};
 ghost use Rattle.stored_records.specs.RecordJson.{opening_of};
-ghost use Rattle.stored_records.specs.StoredLens.{accepted, form_of_text, opened, opening_of_payload, stored_form};
+ghost use Rattle.stored_records.specs.StoredLens.{accepted, form_of_text, lens_and_version, opening_of_payload, stored_form};
 
 use crate::fault::ReopenFault;
 use crate::parts::opening_in;
@@ -41,8 +41,8 @@ pub fn stored_lens(alloc: Global, payloads: &Payloads) -> Result<Typed, ReopenFa
 #[tactic(auto, using(crate::proofs::Openings::opening_rules))]
 fn lens_of_payload(alloc: Global, payload: &[u8]) -> Result<Typed, ReopenFault>
     ensures { MatchResult result
-        (λ lens. option_map (λ o. o.0) (opened payload.now) ≡ Some (form_tree lens))
-        (IsBadFirst (option_map (λ o. o.0) (opened payload.now))) }
+        (λ lens. option_map (λ o. o.0) (lens_and_version payload.now) ≡ Some (form_tree lens))
+        (IsBadFirst (option_map (λ o. o.0) (lens_and_version payload.now))) }
 {
     match read_tree(alloc, payload)? {
         Some(tree) => lens_of_tree(alloc, &tree),

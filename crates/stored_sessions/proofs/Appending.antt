@@ -2,7 +2,7 @@
 use Rattle.std.proofs.Common.{◌≡◌, ℕ, zero, suc, ◌+◌, List, [], ◌∷◌, ◌++◌, length, Option, Some, None, Result, Ok, Err, refl, sym, ap, ◌∙◌, arith}
 use Rattle.lens_forms.specs.Forms.{FormTree}
 use Rattle.stored_records.specs.RecordJson.{record_in}
-use Rattle.stored_records.specs.StoredLens.{opened}
+use Rattle.stored_records.specs.StoredLens.{lens_and_version}
 use Rattle.stored_records.specs.declared.fault.ReopenFault.{ReopenFault}
 use Rattle.stored_sessions.specs.Stands.{Standing, going_on, after_record, after_payloads, at_start, from_opening, stands}
 
@@ -36,4 +36,4 @@ from_append ps p None s h = cc
 
 pub stands_append : (ps : List (List ℕ)) (p : List ℕ) (s : Standing) → stands ps ≡ Ok s → stands (ps ++ p ∷ []) ≡ after_record (length ps + 1) s (record_in p)
 stands_append [] p s h = cc
-stands_append (q ∷ ps) p s h = from_append ps p (opened q) s h
+stands_append (q ∷ ps) p s h = from_append ps p (lens_and_version q) s h

@@ -1,5 +1,7 @@
 pub mod LastTriple
 pub mod Snapshots
+pub mod RecordSteps
+pub mod RecordOrder
 pub mod ConsistencyDecided
 pub mod Appending
 pub mod WrittenStands

@@ -21,7 +21,7 @@ use Rattle.lens_syntax.proofs.GrammarAnswers.{read_again}
 use Rattle.accepted_programs.specs.Program.{form_of_program}
 use Rattle.edit_session.specs.Step.{TripleTree, AllStepped}
 use Rattle.stored_records.specs.RecordJson.{RecordTree, version_record, change_record, snapshot_record, tree_of_program, tree_of_change_record, opening_of, record_of, record_in}
-use Rattle.stored_records.specs.StoredLens.{accepted, form_of_text, with_form, opening_of_payload, opened}
+use Rattle.stored_records.specs.StoredLens.{accepted, form_of_text, with_form, opening_of_payload, lens_and_version}
 use Rattle.stored_records.specs.StoredComplements.{complement_of}
 use Rattle.stored_records.specs.declared.fault.ReopenFault.{ReopenFault}
 use Rattle.stored_records.specs.declared.fault.ReopenFault.TheVariants.{BadRecord, NotConsistent}
@@ -117,5 +117,5 @@ program_alone_stands text program l p is accepted_as reads =
     let again_read = read_again text program is in
     let form : form_of_text (canonical program) ≡ Some l = ap (λ r. accepted (form_of_program r)) again_read ∙ ap accepted accepted_as in
     let opening : opening_of_payload p ≡ Some (canonical program, 2) = ap (option_and_then opening_of) reads ∙ program_read (canonical program) in
-    let whole : opened p ≡ Some (l, 2) = ap (option_and_then with_form) opening ∙ ap (option_map (λ (k : FormTree). (k, 2))) form in
+    let whole : lens_and_version p ≡ Some (l, 2) = ap (option_and_then with_form) opening ∙ ap (option_map (λ (k : FormTree). (k, 2))) form in
     ap (from_opening []) whole

@@ -11,7 +11,7 @@ use Rattle.edit_session.specs.Step.{TripleTree, AllStepped, first, step_all}
 use Rattle.stored_sessions.specs.ConsistencyTest.{is_consistent}
 use Rattle.stored_records.specs.StoredComplements.{complement_of}
 use Rattle.stored_records.specs.RecordJson.{RecordTree, version_record, change_record, snapshot_record, record_in}
-use Rattle.stored_records.specs.StoredLens.{opened}
+use Rattle.stored_records.specs.StoredLens.{lens_and_version}
 use Rattle.stored_records.specs.declared.fault.ReopenFault.{ReopenFault}
 use Rattle.stored_records.specs.declared.fault.ReopenFault.TheVariants.{BadRecord, NotConsistent}
 
@@ -84,4 +84,4 @@ from_opening ps None = Err (BadRecord 1)
 -- what payloads stand for; the records are numbered from 1 on
 abbrev pub stands : List (List ℕ) → Result Standing ReopenFault
 stands [] = Err (BadRecord 1)
-stands (p ∷ ps) = from_opening ps (opened p)
+stands (p ∷ ps) = from_opening ps (lens_and_version p)

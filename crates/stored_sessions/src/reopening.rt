@@ -1,6 +1,6 @@
 //! The session for which payloads stand.
 
-ghost use Rattle.std.specs.Prelude.{◌≡◌, ◌<◌, ◌≤◌, ◌+◌, Ok, Some, IfOk, OnOk, MatchResult};
+ghost use Rattle.std.specs.Prelude.{◌≡◌, ◌<◌, ◌≤◌, ◌+◌, ℕ, Some, Ok, IfOk, OnOk, MatchResult};
 ghost use Rattle.serde_json.specs.View.{view};
 ghost use Rattle.edit_module.specs.Views.{change_tree};
 ghost use Rattle.lens_core.specs.Consistency.{IsConsistent};
@@ -8,11 +8,11 @@ ghost use Rattle.lens_core.specs.LensOf.{IsLensOf};
 ghost use Rattle.lens_forms.specs.Forms.{FormTree, form_tree};
 ghost use Rattle.edit_session.specs.Step.{IsInStep};
 ghost use Rattle.edit_session.specs.Views.{triple_tree};
-ghost use Rattle.stored_records.specs.declared.fault.ReopenFault;
 ghost use Rattle.stored_records.specs.RecordJson.{record_of, record_in, version_record, change_record, snapshot_record};
-ghost use Rattle.stored_records.specs.StoredLens.{stored_form};
-ghost use Rattle.stored_sessions.specs.Outcomes.{IsReopenFault};
-ghost use Rattle.stored_sessions.specs.Stands.{after_record, is_too_new, stands};
+ghost use Rattle.stored_records.specs.declared.fault.ReopenFault;
+ghost use Rattle.stored_records.specs.StoredLens.{lens_and_version, stored_form};
+ghost use Rattle.stored_sessions.specs.Outcomes.{IsReopenFault, Reaches};
+ghost use Rattle.stored_sessions.specs.Stands.{after_record, at_start, is_too_new, stands};
 ghost use Rattle.stored_sessions.specs.Views.{standing};
 
 use crate::snapshots::{is_in_step, read_triple};
@@ -23,7 +23,10 @@ use lens_io::Payloads;
 use lens_types::Typed;
 use serde_json::Value;
 use std::alloc::Global;
-use stored_records::{ReopenFault, VERSION, change_in, is_version_record, read_tree, snapshot_in, stored_version};
+use stored_records::{
+    ReopenFault, VERSION, change_in, is_version_record, read_tree, snapshot_in, stored_version,
+};
+use texts::Bytes;
 
 /// A stored session that was opened.
 #[derive(Drop)]
@@ -54,7 +57,8 @@ pub fn reopen<L: EditLens + Drop>(
     typed: &Typed,
     payloads: &Payloads,
 ) -> Result<Opened<L>, ReopenFault>
-    requires means { IsLensOf (L.left_type lens) (L.right_type lens) (L.start lens) (L.holds lens) (L.carried lens) (form_tree typed.now) }
+    requires means { IsLensOf (L.left_type lens) (L.right_type lens) (L.start lens) (L.holds lens) (L.carried lens)
+        (form_tree typed.now) }
     requires stored { stored_form payloads.now ≡ Some (form_tree typed.now) }
 
     ensures stands { MatchResult result
@@ -66,19 +70,41 @@ pub fn reopen<L: EditLens + Drop>(
     ensures consistent { IfOk result (λ opened. IsInStep (IsConsistent (form_tree typed.now)) (triple_tree opened.session.triple)) }
 {
     let records = payloads.as_slice();
-    let Some(version) = stored_version(alloc, &records[0])? else {
-        unreachable!()
-    };
-    let session = Session::start(alloc, lens)?;
-    let mut opened = Opened {
-        session,
-        count: 0,
-        version,
-    };
+    let mut opened = begin(alloc, lens, typed, &records[0])?;
     for at in 1..records.len() {
         take_record(alloc, typed, at as u64 + 1, records[at].as_slice(), &mut opened)?;
     }
+    // The proof needs that the session is in step, which this call says.
+    let _comp = opened.session.comp();
     Ok(opened)
+}
+
+// The session before any change, for this first payload.
+fn begin<L: EditLens + Drop>(
+    alloc: Global,
+    lens: L,
+    typed: &Typed,
+    payload: &Bytes,
+) -> Result<Opened<L>, ReopenFault>
+    requires means { IsLensOf (L.left_type lens) (L.right_type lens) (L.start lens) (L.holds lens) (L.carried lens)
+        (form_tree typed.now) }
+    requires stored { (version : ℕ) × (lens_and_version payload.now ≡ Some (form_tree typed.now, version)) }
+    ensures stands { MatchResult result
+        (λ o. (lens_and_version payload.now ≡ Some (form_tree typed.now, o.version))
+        × (standing (form_tree typed.now) (triple_tree o.session.triple) o.count o.version ≡ at_start (form_tree typed.now, o.version)))
+        (λ fault. fault ≡ ReopenFault.NoMemory) }
+    ensures lens { IfOk result (λ o. o.session.lens ≡ lens) }
+    ensures count { IfOk result (λ o. o.count ≡ 0) }
+{
+    let Some(version) = stored_version(alloc, payload)? else {
+        unreachable!()
+    };
+    let session = Session::start(alloc, lens)?;
+    Ok(Opened {
+        session,
+        count: 0,
+        version,
+    })
 }
 
 // Goes on by the record with this number.
@@ -92,17 +118,17 @@ fn take_record<L: EditLens>(
     requires means { IsLensOf (L.left_type opened.old.session.lens) (L.right_type opened.old.session.lens)
         (L.start opened.old.session.lens) (L.holds opened.old.session.lens) (L.carried opened.old.session.lens) (form_tree typed.now) }
     requires count { opened.old.count < number }
-    ensures stands { MatchResult result
-        (λ _. after_record number (standing (form_tree typed.now) (triple_tree opened.old.session.triple) opened.old.count opened.old.version) (record_in payload.now)
-        ≡ Ok (standing (form_tree typed.now) (triple_tree opened.new.session.triple) opened.new.count opened.new.version))
-        (IsReopenFault (after_record number (standing (form_tree typed.now) (triple_tree opened.old.session.triple) opened.old.count opened.old.version) (record_in payload.now))) }
+    ensures stands { Reaches result
+        (after_record number (standing (form_tree typed.now) (triple_tree opened.old.session.triple) opened.old.count opened.old.version)
+        (record_in payload.now))
+        (standing (form_tree typed.now) (triple_tree opened.new.session.triple) opened.new.count opened.new.version) }
     ensures lens { opened.new.session.lens ≡ opened.old.session.lens }
     ensures count { opened.new.count ≤ opened.old.count + 1 }
 {
-    match read_tree(alloc, payload)? {
-        Some(tree) => take_tree(alloc, typed, number, &tree, opened),
-        None => Err(ReopenFault::BadRecord { number }),
-    }
+    let Some(tree) = read_tree(alloc, payload)? else {
+        return Err(ReopenFault::BadRecord { number });
+    };
+    take_tree(alloc, typed, number, &tree, opened)
 }
 
 // Goes on by the record of this tree.
@@ -116,10 +142,10 @@ fn take_tree<L: EditLens>(
     requires means { IsLensOf (L.left_type opened.old.session.lens) (L.right_type opened.old.session.lens)
         (L.start opened.old.session.lens) (L.holds opened.old.session.lens) (L.carried opened.old.session.lens) (form_tree typed.now) }
     requires count { opened.old.count < number }
-    ensures stands { MatchResult result
-        (λ _. after_record number (standing (form_tree typed.now) (triple_tree opened.old.session.triple) opened.old.count opened.old.version) (record_of (view tree.now))
-        ≡ Ok (standing (form_tree typed.now) (triple_tree opened.new.session.triple) opened.new.count opened.new.version))
-        (IsReopenFault (after_record number (standing (form_tree typed.now) (triple_tree opened.old.session.triple) opened.old.count opened.old.version) (record_of (view tree.now)))) }
+    ensures stands { Reaches result
+        (after_record number (standing (form_tree typed.now) (triple_tree opened.old.session.triple) opened.old.count opened.old.version)
+        (record_of (view tree.now)))
+        (standing (form_tree typed.now) (triple_tree opened.new.session.triple) opened.new.count opened.new.version) }
     ensures lens { opened.new.session.lens ≡ opened.old.session.lens }
     ensures count { opened.new.count ≤ opened.old.count + 1 }
 {
@@ -133,15 +159,8 @@ fn take_tree<L: EditLens>(
         Some((comp, left, right)) => {
             take_snapshot(alloc, typed, number, comp, left, right, opened)
         }
-        None => Err(no_record(number)),
+        None => Err(ReopenFault::BadRecord { number }),
     }
-}
-
-// The fault of a tree that is not one of a record.
-fn no_record(number: u64) -> ReopenFault
-    ensures { result ≡ ReopenFault.BadRecord number }
-{
-    ReopenFault::BadRecord { number }
 }
 
 // Steps by a change, which counts one. A group is refused at version 1.
@@ -154,10 +173,10 @@ fn take_change<L: EditLens>(
     ensures stands { (form : FormTree)
         → IsLensOf (L.left_type opened.old.session.lens) (L.right_type opened.old.session.lens)
         (L.start opened.old.session.lens) (L.holds opened.old.session.lens) (L.carried opened.old.session.lens) form
-        → MatchResult result
-        (λ _. after_record number (standing form (triple_tree opened.old.session.triple) opened.old.count opened.old.version) (Some (change_record (change_tree change.now)))
-        ≡ Ok (standing form (triple_tree opened.new.session.triple) opened.new.count opened.new.version))
-        (IsReopenFault (after_record number (standing form (triple_tree opened.old.session.triple) opened.old.count opened.old.version) (Some (change_record (change_tree change.now))))) }
+        → Reaches result
+        (after_record number (standing form (triple_tree opened.old.session.triple) opened.old.count opened.old.version)
+        (Some (change_record (change_tree change.now))))
+        (standing form (triple_tree opened.new.session.triple) opened.new.count opened.new.version) }
     ensures lens { opened.new.session.lens ≡ opened.old.session.lens }
     ensures count { opened.new.count ≤ opened.old.count + 1 }
 {
@@ -186,10 +205,10 @@ fn is_too_new(change: &Change, version: u64) -> bool
 
 // Makes the version 2, in a store of version 1.
 fn take_version<L: EditLens>(number: u64, opened: &mut Opened<L>) -> Result<(), ReopenFault>
-    ensures stands { (form : FormTree) → MatchResult result
-        (λ _. after_record number (standing form (triple_tree opened.old.session.triple) opened.old.count opened.old.version) (Some version_record)
-        ≡ Ok (standing form (triple_tree opened.new.session.triple) opened.new.count opened.new.version))
-        (IsReopenFault (after_record number (standing form (triple_tree opened.old.session.triple) opened.old.count opened.old.version) (Some version_record))) }
+    ensures stands { (form : FormTree) → Reaches result
+        (after_record number (standing form (triple_tree opened.old.session.triple) opened.old.count opened.old.version)
+        (Some version_record))
+        (standing form (triple_tree opened.new.session.triple) opened.new.count opened.new.version) }
     ensures lens { opened.new.session.lens ≡ opened.old.session.lens }
     ensures count { opened.new.count ≡ opened.old.count }
 {
@@ -212,12 +231,10 @@ fn take_snapshot<L: EditLens>(
 ) -> Result<(), ReopenFault>
     requires means { IsLensOf (L.left_type opened.old.session.lens) (L.right_type opened.old.session.lens)
         (L.start opened.old.session.lens) (L.holds opened.old.session.lens) (L.carried opened.old.session.lens) (form_tree typed.now) }
-    ensures stands { MatchResult result
-        (λ _. after_record number (standing (form_tree typed.now) (triple_tree opened.old.session.triple) opened.old.count opened.old.version)
-        (Some (snapshot_record (view comp.now, view left.now, view right.now)))
-        ≡ Ok (standing (form_tree typed.now) (triple_tree opened.new.session.triple) opened.new.count opened.new.version))
-        (IsReopenFault (after_record number (standing (form_tree typed.now) (triple_tree opened.old.session.triple) opened.old.count opened.old.version)
-        (Some (snapshot_record (view comp.now, view left.now, view right.now))))) }
+    ensures stands { Reaches result
+        (after_record number (standing (form_tree typed.now) (triple_tree opened.old.session.triple) opened.old.count opened.old.version)
+        (Some (snapshot_record (view comp.now, view left.now, view right.now))))
+        (standing (form_tree typed.now) (triple_tree opened.new.session.triple) opened.new.count opened.new.version) }
     ensures lens { opened.new.session.lens ≡ opened.old.session.lens }
     ensures count { opened.new.count ≡ opened.old.count }
 {

@@ -1,11 +1,12 @@
 //! The triple of a snapshot.
 
-ghost use Rattle.std.specs.Prelude.{◌≡◌, IfOk, option_map, option_and_then};
+ghost use Rattle.std.specs.Prelude.{◌≡◌, ◌↔◌, IfOk, IsTrue, option_map, option_and_then};
 ghost use Rattle.serde_json.specs.View.{view};
 ghost use Rattle.doc_values.specs.Documents.{doc_tree};
 ghost use Rattle.doc_values.specs.Types.{ty_tree};
 ghost use Rattle.value_json.specs.DocumentJson.{document_of};
 ghost use Rattle.lens_core.specs.Complements.{comp_tree};
+ghost use Rattle.lens_core.specs.Consistency.{IsConsistent};
 ghost use Rattle.lens_forms.specs.Forms.{form_tree};
 ghost use Rattle.edit_session.specs.Views.{triple_tree};
 ghost use Rattle.stored_sessions.specs.ConsistencyTest.{is_consistent};
@@ -22,9 +23,9 @@ use serde_json::Value;
 use std::alloc::{AllocError, Global};
 use value_json::{DocFault, read_doc};
 
-/// The triple of the trees of a complement, a left document and a right document.
-///
-/// None if and only if one of them is not one of the lens's: a document of its type, or a complement that fits.
+// The triple of the trees of a complement, a left document and a right document.
+//
+// None if and only if one of them is not one of the lens's: a document of its type, or a complement that fits.
 pub(crate) fn read_triple(
     alloc: Global,
     typed: &Typed,
@@ -69,10 +70,12 @@ fn read_complement(alloc: Global, typed: &Typed, tree: &Value) -> Result<Option<
     }
 }
 
-/// Whether a triple is consistent.
+// Whether a triple is consistent.
 pub(crate) fn is_in_step(alloc: Global, typed: &Typed, triple: &Triple) -> Result<bool, AllocError>
-    ensures { IfOk result (λ b. b
+    ensures tested { IfOk result (λ b. b
         ≡ is_consistent (form_tree typed.now) (doc_tree triple.now.left) (comp_tree triple.now.comp) (doc_tree triple.now.right)) }
+    ensures consistent { IfOk result (λ b. IsTrue b
+        ↔ IsConsistent (form_tree typed.now) (doc_tree triple.now.left) (comp_tree triple.now.comp) (doc_tree triple.now.right)) }
 {
     // The proof needs that the form is typed, which this call says.
     let _form = typed.form();

@@ -1,4 +1,5 @@
 use Rattle.std.proofs.Common.{◌≡◌, ◌+◌, ◌≤◌, drop}
+use Rattle.lens_core.specs.LensOf.{IsLensOf}
 use Rattle.lens_forms.specs.Forms.{form_tree}
 use Rattle.edit_session.specs.Views.{triple_tree}
 use Rattle.stored_sessions.specs.Stands.{after_payloads, stands}
