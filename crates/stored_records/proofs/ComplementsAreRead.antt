@@ -245,8 +245,8 @@ number_back fs k (Some q) e typed h =
     let f = tag_found fs (tag_name fs k) q e in
     let below : nat_lt q.0 (tag_count fs) ≡ true = grind (arith, nat_tests, f.0) in
     let same = apart (form_part fs) typed (tags_comp (q.0 ∷ [])) (tags_comp (k ∷ []))
-        (both_true (nat_lt q.0 (tag_count fs)) true below refl) (both_true (nat_lt k (tag_count fs)) true h refl)
-        (ap (λ n. one (codes "tags") (array (item (string n) no_items))) f.1) in
+    (both_true (nat_lt q.0 (tag_count fs)) true below refl) (both_true (nat_lt k (tag_count fs)) true h refl)
+    (ap (λ n. one (codes "tags") (array (item (string n) no_items))) f.1) in
     ap Some (only_number q.0 k same)
 
 tags_back : (fs : FieldTrees) (ks : List ℕ) → is_typed (form_part fs) ≡ true → are_below (tag_count fs) ks ≡ true → tag_numbers_of fs (tag_items fs ks) ≡ Some ks

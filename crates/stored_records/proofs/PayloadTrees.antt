@@ -1,5 +1,5 @@
 -- The texts of payloads and their trees.
-use Rattle.std.proofs.Common.{◌≡◌, ℕ, ◌≤◌, ◌*◌, List, [], ◌∷◌, Bool, true, false, cond, Option, Some, None, String, Global, refl, arith}
+use Rattle.std.proofs.Common.{◌≡◌, ℕ, ◌≤◌, ◌*◌, List, [], ◌∷◌, Bool, true, false, cond, Option, Some, None, Result, Ok, Err, IfOk, String, Global, refl, sym, subst, arith}
 use Rattle.std.specs.Prelude.{string_bytes}
 use Rattle.std.specs.Str.{IsUtf8, is_utf8}
 use Rattle.std.proofs.lemmas.Bool.{or_from}
@@ -54,3 +54,9 @@ version_low = omega arith
 pub snapshot_low : (l : FormTree) (x : DocTree) (c : CompTree) (y : DocTree) → form_height l ≤ greatest_height → height (left_type l) ≤ greatest_height → height (right_type l) ≤ greatest_height
     → depth (tree_of_snapshot l x c y) ≤ max_depth
 snapshot_low l x c y h left right = omega (arith, low l c, documents.shallow (left_type l) x, documents.shallow (right_type l) y, h, left, right)
+
+-- what is read back of a payload whose tree is low
+pub read_low : {E : Type 0} (r : Result (List ℕ) E) (t d : Data) → t ≡ d → depth d ≤ max_depth → IfOk r (λ bytes. depth t ≤ max_depth → tree_of_text bytes ≡ Some t)
+    → IfOk r (λ bytes. tree_of_text bytes ≡ Some d)
+read_low (Ok bytes) t d e low h = subst (λ (x : Data). tree_of_text bytes ≡ Some x) e (h (subst (λ (x : Data). depth x ≤ max_depth) (sym e) low))
+read_low (Err error) t d e low h = h

@@ -123,9 +123,28 @@ pub fn snapshot_payload(
     ensures reads_back { IfOk result (λ bytes. tree_of_text bytes
         ≡ Some (tree_of_snapshot (form_tree typed.now) (doc_tree left.now) (comp_tree comp.now) (doc_tree right.now))) }
 {
+    let tree = snapshot_record(alloc, typed, left, comp, right)?;
+    let payload = payload_of(alloc, &tree);
+    // The proof needs how high the form and its two types are, which these calls say.
+    let (_form, _left, _right) = (typed.form(), typed.left(), typed.right());
+    payload
+}
+
+fn snapshot_record(
+    alloc: Global,
+    typed: &Typed,
+    left: &Doc,
+    comp: &Comp,
+    right: &Doc,
+) -> Result<Value, AllocError>
+    requires left_has { IsTrue (has (left_type (form_tree typed.now)) (doc_tree left.now)) }
+    requires comp_fits { Fits (form_tree typed.now) (comp_tree comp.now) }
+    requires right_has { IsTrue (has (right_type (form_tree typed.now)) (doc_tree right.now)) }
+    ensures { IfOk result (λ tree. view tree
+        ≡ tree_of_snapshot (form_tree typed.now) (doc_tree left.now) (comp_tree comp.now) (doc_tree right.now)) }
+{
     let content = triple_record(alloc, typed, left, comp, right)?;
-    let tree = record_named(alloc, "snapshot", content)?;
-    payload_of(alloc, &tree)
+    record_named(alloc, "snapshot", content)
 }
 
 fn triple_record(
@@ -142,8 +161,23 @@ fn triple_record(
         ≡ tree_of_triple (form_tree typed.now) (doc_tree left.now) (comp_tree comp.now) (doc_tree right.now)) }
 {
     let mut members = Map::new(alloc);
-    put(&mut members, alloc, "complement", write_comp(alloc, typed, comp)?)?;
-    put(&mut members, alloc, "left", write_doc(alloc, typed.left(), left)?)?;
-    put(&mut members, alloc, "right", write_doc(alloc, typed.right(), right)?)?;
+    put(
+        &mut members,
+        alloc,
+        "complement",
+        write_comp(alloc, typed, comp)?,
+    )?;
+    put(
+        &mut members,
+        alloc,
+        "left",
+        write_doc(alloc, typed.left(), left)?,
+    )?;
+    put(
+        &mut members,
+        alloc,
+        "right",
+        write_doc(alloc, typed.right(), right)?,
+    )?;
     Ok(Value::Object(members))
 }
