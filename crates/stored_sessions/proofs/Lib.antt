@@ -1,5 +1,5 @@
 pub mod LastTriple
-pub mod Snapshots
+pub mod SnapshotParts
 pub mod RecordSteps
 pub mod RecordOrder
 pub mod ConsistencyDecided
