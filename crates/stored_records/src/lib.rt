@@ -3,7 +3,7 @@
 //! A store is a list of payloads. The first one has a program; each later one has a change, a snapshot of both documents with
 //! the complement, or the version of the store. [`program_payload`], [`version_payload`], [`change_payload`] and
 //! [`snapshot_payload`] return the payloads that this program writes. [`stored_lens`] returns the lens of the first payload, and
-//! [`read_change`] the change of one.
+//! [`read_change`] the change of one. What all payloads of a store stand for is in stored_sessions.
 //!
 //! The trees of records, and what a tree is as a record, are in specs/RecordJson.antt; the complement that a tree is is in
 //! specs/StoredComplements.antt. The page docs/FORMATS.md has each record with an example.
