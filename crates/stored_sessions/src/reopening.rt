@@ -72,7 +72,13 @@ pub fn reopen<L: EditLens + Drop>(
     let records = payloads.as_slice();
     let mut opened = begin(alloc, lens, typed, &records[0])?;
     for at in 1..records.len() {
-        take_record(alloc, typed, at as u64 + 1, records[at].as_slice(), &mut opened)?;
+        take_record(
+            alloc,
+            typed,
+            at as u64 + 1,
+            records[at].as_slice(),
+            &mut opened,
+        )?;
     }
     // The proof needs that the session is in step, which this call says.
     let _comp = opened.session.comp();
