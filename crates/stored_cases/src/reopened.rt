@@ -30,7 +30,13 @@ fn answer_by(alloc: Global, typed: &Typed, payloads: &Payloads) -> Result<String
 
 fn opened_text(alloc: Global, typed: &Typed, opened: &Opened<Checked>) -> Result<String> {
     let session = &opened.session;
-    let snapshot = snapshot_payload(alloc, typed, session.left(), session.comp(), session.right())?;
+    let snapshot = snapshot_payload(
+        alloc,
+        typed,
+        session.left(),
+        session.comp(),
+        session.right(),
+    )?;
     let Ok(snapshot) = str::from_utf8(snapshot.as_slice()) else {
         bail!("a snapshot is not a text");
     };
