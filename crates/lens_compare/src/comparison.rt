@@ -3,7 +3,7 @@
 use crate::case::{Case, entry_of};
 use crate::complements::are_same;
 use anyhow::{Result, bail};
-use edit_json::write_word_text;
+use edit_json::append_word;
 use edit_module::{Entry, Word};
 use edit_session::{Session, StepFault};
 use lens_core::{Carried, CarryFault, EditLens};
@@ -143,7 +143,7 @@ fn same_answers(
 
 // Whether two words have the same text.
 fn same_words(alloc: Global, one: &Word, other: &Word) -> Result<bool> {
-    let one = write_word_text(alloc, one)?;
-    let other = write_word_text(alloc, other)?;
+    let one = append_word(Vec::new(alloc), one)?;
+    let other = append_word(Vec::new(alloc), other)?;
     Ok(one == other)
 }

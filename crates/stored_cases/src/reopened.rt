@@ -1,6 +1,11 @@
 //! What the payloads of a store stand for, as a text.
 
+ghost use Rattle.std.specs.Prelude.{◌≡◌, Some};
+ghost use Rattle.lens_forms.specs.Forms.{form_tree};
+ghost use Rattle.stored_records.specs.StoredLens.{stored_form};
+
 use anyhow::{Result, bail};
+use lens_check::conforms;
 use lens_core::EditLens;
 use lens_io::Payloads;
 use lens_run::Checked;
@@ -20,7 +25,9 @@ pub fn answer(alloc: Global, payloads: &Payloads) -> Result<String> {
     }
 }
 
-fn answer_by(alloc: Global, typed: &Typed, payloads: &Payloads) -> Result<String> {
+fn answer_by(alloc: Global, typed: &Typed, payloads: &Payloads) -> Result<String>
+    requires stored { stored_form payloads.now ≡ Some (form_tree typed.now) }
+{
     let lens = Checked::new(typed.twin(alloc)?);
     match reopen(alloc, lens, typed, payloads) {
         Ok(opened) => opened_text(alloc, typed, &opened),
@@ -29,14 +36,12 @@ fn answer_by(alloc: Global, typed: &Typed, payloads: &Payloads) -> Result<String
 }
 
 fn opened_text(alloc: Global, typed: &Typed, opened: &Opened<Checked>) -> Result<String> {
-    let session = &opened.session;
-    let snapshot = snapshot_payload(
-        alloc,
-        typed,
-        session.left(),
-        session.comp(),
-        session.right(),
-    )?;
+    let (left, right) = (opened.session.left(), opened.session.right());
+    let comp = opened.session.comp();
+    if !left.has_type(typed.left()) || !right.has_type(typed.right()) || !conforms(typed, comp) {
+        bail!("what was opened does not fit the lens");
+    }
+    let snapshot = snapshot_payload(alloc, typed, left, comp, right)?;
     let Ok(snapshot) = str::from_utf8(snapshot.as_slice()) else {
         bail!("a snapshot is not a text");
     };
