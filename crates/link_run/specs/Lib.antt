@@ -1,0 +1,2 @@
+pub mod EventJson
+pub mod Reading

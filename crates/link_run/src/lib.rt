@@ -1,0 +1,11 @@
+//! The script of a link: from a line to its answer and the next link.
+//!
+//! [`read_event`] returns the event that a line is, by specs/EventJson.antt. The page docs/FORMATS.md has the forms
+//! with examples.
+#![tactic(auto)]
+
+mod fault;
+mod read;
+
+pub use crate::fault::EventFault;
+pub use crate::read::read_event;
