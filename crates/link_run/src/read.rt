@@ -10,6 +10,7 @@ ghost use Rattle.turn_link.specs.Links.{EventTree};
 ghost use Rattle.turn_link.specs.Views.{event_tree};
 ghost use Rattle.link_run.specs.EventJson.{side_of_tree, side_and_edit, edit_of_parts, delivery_of, event_of_member, event_of_tree, event_of_text, event_of_line, tree_of_event, event_counts_fit, event_numbers_fit, not_json, not_an_event, not_an_edit};
 ghost use Rattle.link_run.specs.Reading.{Gives};
+ghost use Rattle.link_run.specs.declared.fault.EventFault;
 
 use crate::fault::EventFault;
 use edit_journal::Line;
@@ -36,6 +37,22 @@ use value_json::{only_member, read_count};
 pub fn read_event(alloc: Global, line: &Line) -> Result<Event, EventFault>
     // The event and each refusal are the definition's, both ways.
     ensures event { Gives event_tree result (event_of_line line.now) }
+
+    // What is read has a tree, and it is the tree of this line.
+    ensures fits { IfOk result (λ event. event_counts_fit (event_tree event) ≡ true) }
+    ensures tree { IfOk result
+        (λ event. tree_of_line line.now ≡ Some (tree_of_event (event_tree event))) }
+
+    // If it is refused and memory has not run out, no event has the tree of this line.
+    ensures refused { IfErr result (λ fault. fault ≢ EventFault.NoMemory → (event : EventTree)
+        → event_counts_fit event ≡ true → event_numbers_fit event ≡ true
+        → tree_of_line line.now ≡ Some (tree_of_event event) → ⊥) }
+{
+    read_line(alloc, line)
+}
+
+fn read_line(alloc: Global, line: &Line) -> Result<Event, EventFault>
+    ensures { Gives event_tree result (event_of_line line.now) }
 {
     match line {
         Line::Text(bytes) => read_text(alloc, bytes.as_slice()),
