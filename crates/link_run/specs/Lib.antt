@@ -1,2 +1,5 @@
 pub mod EventJson
 pub mod Reading
+pub mod Runs
+pub mod Answers
+pub mod Views

@@ -4,9 +4,11 @@
 //! with examples.
 #![tactic(auto)]
 
+mod answers;
 mod fault;
 pub mod laws;
 mod read;
 
+pub use crate::answers::{Answer, answer_line};
 pub use crate::fault::EventFault;
 pub use crate::read::read_event;
