@@ -3,3 +3,5 @@ pub mod Reading
 pub mod Runs
 pub mod Answers
 pub mod Views
+pub mod Linked
+pub mod Running

@@ -6,9 +6,11 @@
 
 mod answers;
 mod fault;
+mod journal;
 pub mod laws;
 mod read;
 
 pub use crate::answers::{Answer, answer_line};
 pub use crate::fault::EventFault;
+pub use crate::journal::take_item;
 pub use crate::read::read_event;
