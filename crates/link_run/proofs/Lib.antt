@@ -1,3 +1,3 @@
 pub mod Events
 pub mod Reading
-pub mod LinkSteps
+pub mod ToldLines

@@ -1,4 +1,4 @@
--- A link whose parts belong together, for contracts that name a link by a type parameter's lens.
+-- A link of a type parameter's lens: what an item makes of it, and what belongs together in it.
 use Rattle.std.specs.Prelude.{Option}
 use Rattle.texts.specs.declared.side.Side.{Side}
 use Rattle.doc_values.specs.Documents.{DocTree}
@@ -8,8 +8,8 @@ use Rattle.lens_core.specs.Complements.{CompTree}
 use Rattle.lens_core.specs.Translation.{Translated}
 use Rattle.turn_link.specs.Laws.{IsLinked}
 use Rattle.turn_link.specs.LinkViews.{LinkOf, link_tree}
-use Rattle.link_run.specs.Runs.{ScriptItem, AnswerTree, take_item}
 use Rattle.turn_link.specs.Links.{LinkTree}
+use Rattle.link_run.specs.Runs.{ScriptItem, AnswerTree, take_item}
 
 module _ {L : Type 0} (left : L → TyTree) (right : L → TyTree) (start : L → CompTree)
     (carried : L → Side → CompTree → WordTree → Option Translated) where
