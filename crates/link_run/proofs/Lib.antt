@@ -1,3 +1,5 @@
 pub mod Events
 pub mod Reading
 pub mod ToldLines
+pub mod RunsAgree
+pub mod ShownState

@@ -4,4 +4,4 @@ pub mod Runs
 pub mod Answers
 pub mod Views
 pub mod Linked
-pub mod Running
+pub mod Lines

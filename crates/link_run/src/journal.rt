@@ -1,22 +1,50 @@
 //! The lines of a script, one after another, over a link.
-ghost use Rattle.std.specs.Prelude.{◌≡◌, ◌+◌, ◌^◌, ◌<◌, ◌≤◌, ◌∷◌, ◌++◌, ◌||◌, [], Ok, List, ℕ, IfOk, OnErr, OnOk};
-ghost use Rattle.edit_journal.specs.declared.line.Line.{Line};
-ghost use Rattle.journal_answers.specs.Running.{come};
+ghost use Rattle.std.specs.Prelude.{◌≡◌, Ok, IfOk};
 ghost use Rattle.turn_link.specs.LinkViews.{link_tree};
 ghost use Rattle.turn_link.specs.Views.{event_tree};
 ghost use Rattle.link_run.specs.EventJson.{event_of_line};
 ghost use Rattle.link_run.specs.Linked.{IsLinkedOf, take_item_of};
-ghost use Rattle.link_run.specs.Runs.{ScriptItem, items_of};
-ghost use Rattle.link_run.specs.Running.{written_of};
 ghost use Rattle.link_run.specs.Views.{step_with, HasAnswerLine};
 
-use crate::answers::Answer;
+use crate::answers::{Answer, answer_line};
 use crate::fault::EventFault;
 use crate::read::read_event;
 use edit_journal::Line;
 use lens_core::EditLens;
+use line_stream::LineAnswers;
 use std::alloc::{AllocError, Global};
 use turn_link::{Event, Link, LinkFault};
+
+/// A link that answers the lines of a script.
+#[derive(Drop)]
+pub struct LinkRun<L: EditLens> {
+    pub link: Link<L>,
+}
+
+impl<L: EditLens> LineAnswers for LinkRun<L> {
+    ghost use Rattle.turn_link.specs.Links.{LinkTree};
+    ghost use Rattle.turn_link.specs.LinkViews.{link_tree};
+    ghost use Rattle.link_run.specs.Lines.{line_answer};
+
+    ghost State = { L × LinkTree };
+
+    ghost state = { λ s. (s.link.left.lens, link_tree s.link) };
+
+    ghost answer = { λ s n line.
+        line_answer L.left_type L.right_type L.start L.carried s n line };
+
+    fn answer(
+        &mut self,
+        alloc: Global,
+        number: u64,
+        line: &Line,
+    ) -> Result<line_stream::Answer, AllocError> {
+        let answer = take_item(alloc, &mut self.link, line)?;
+        let line = answer_line(alloc, number, &answer)?;
+        let refused = answer.is_refused();
+        Ok(line_stream::Answer { line, refused })
+    }
+}
 
 /// The answer to a line that is not blank, which makes the event happen that the line is.
 ///
@@ -27,10 +55,9 @@ pub fn take_item<L: EditLens>(
     link: &mut Link<L>,
     line: &Line,
 ) -> Result<Answer, AllocError>
-    requires linked { IsLinkedOf L.left_type L.right_type L.start L.carried L.holds link.old }
     ensures answer { IfOk result (λ answer. take_item_of L.left_type L.right_type L.start L.carried
         link.old (event_of_line line.now) ≡ step_with (link_tree link.new) answer) }
-    ensures linked { IsLinkedOf L.left_type L.right_type L.start L.carried L.holds link.new }
+    ensures has_line { IfOk result (λ answer. HasAnswerLine answer) }
     ensures lens { link.new.left.lens ≡ link.old.left.lens }
 {
     match read_event(alloc, line) {
@@ -42,15 +69,24 @@ pub fn take_item<L: EditLens>(
 
 // The answer to an event.
 fn take_event<L: EditLens>(link: &mut Link<L>, event: &Event) -> Result<Answer, AllocError>
-    requires linked { IsLinkedOf L.left_type L.right_type L.start L.carried L.holds link.old }
     ensures answer { IfOk result (λ answer. take_item_of L.left_type L.right_type L.start L.carried
         link.old (Ok (event_tree event.now)) ≡ step_with (link_tree link.new) answer) }
-    ensures linked { IsLinkedOf L.left_type L.right_type L.start L.carried L.holds link.new }
+    ensures has_line { IfOk result (λ answer. HasAnswerLine answer) }
     ensures lens { link.new.left.lens ≡ link.old.left.lens }
 {
     match link.step(event) {
-        Ok(told) => Ok(Answer::Told(told)),
+        Ok(told) => {
+            is_linked(link);
+            Ok(Answer::Told(told))
+        }
         Err(LinkFault::NoMemory) => Err(AllocError),
         Err(fault) => Ok(Answer::Refused(fault)),
     }
+}
+
+// Does nothing; its clause is what the left site's call says of the link.
+fn is_linked<L: EditLens>(link: &Link<L>)
+    ensures { IsLinkedOf L.left_type L.right_type L.start L.carried L.holds link.now }
+{
+    let _ = link.left();
 }
