@@ -3,3 +3,4 @@ pub mod Reading
 pub mod ToldLines
 pub mod RunsAgree
 pub mod ShownState
+pub mod RunsInTurns

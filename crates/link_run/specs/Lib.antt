@@ -5,3 +5,4 @@ pub mod Answers
 pub mod Views
 pub mod Linked
 pub mod Lines
+pub mod Reports

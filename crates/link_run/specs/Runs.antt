@@ -1,8 +1,9 @@
 -- The run of a link over the lines of a script. A lens comes as its two types, its first complement and its translation of words.
--- Read it from the end: `links`, `run`, `take_item`, then `items_of`.
-use Rattle.std.specs.Prelude.{List, [], ◌∷◌, map, Bool, true, false, Option, Some, option_map, option_and_then, Result, Ok, Err, if◌then◌else◌}
-use Rattle.std.specs.List.{list_any}
+-- Read it from the end: `RunsStayInTurns`, `links`, `run`, `take_item`, then `items_of`.
+use Rattle.std.specs.Prelude.{◌≡◌, List, [], ◌∷◌, map, Bool, true, false, Option, Some, option_map, option_and_then, Result, Ok, Err, if◌then◌else◌}
+use Rattle.std.specs.List.{list_any, All}
 use Rattle.texts.specs.declared.side.Side.{Side}
+use Rattle.doc_values.specs.Documents.{DocTree}
 use Rattle.doc_values.specs.Types.{TyTree}
 use Rattle.edit_module.specs.Words.{WordTree}
 use Rattle.edit_journal.specs.Lines.{is_blank}
@@ -10,7 +11,8 @@ use Rattle.edit_journal.specs.declared.line.Line.{Line}
 use Rattle.lens_core.specs.Complements.{CompTree}
 use Rattle.lens_core.specs.Translation.{Translated}
 use Rattle.turn_link.specs.Turns.{Refusal}
-use Rattle.turn_link.specs.Links.{EventTree, ToldTree, LinkTree, happens}
+use Rattle.turn_link.specs.Links.{EventTree, ToldTree, LinkTree, link_start, happens}
+use Rattle.turn_link.specs.Laws.{InTurns}
 use Rattle.link_run.specs.EventJson.{EventCause, event_of_line}
 
 -- an item of a script is an event, or the fault of a line that is not an event
@@ -62,3 +64,8 @@ module _ (left : TyTree) (right : TyTree) (start : CompTree) (carried : Side →
   -- every link of a run from this one on: it, and the one after each item, those after refused items included
   abbrev pub links : LinkTree → List ScriptItem → Option (List LinkTree)
   links s items = option_map (λ steps. s ∷ map (λ step. step.0) steps) (run s items)
+
+-- every run from the start of a link goes on to its end, and each of its links is in turns, whatever its items are
+abbrev pub RunsStayInTurns : (DocTree → CompTree → DocTree → Type 0) → TyTree → TyTree → CompTree → (Side → CompTree → WordTree → Option Translated) → Type 0
+RunsStayInTurns holds left right start carried = (items : List ScriptItem)
+    → (all : List LinkTree) × (links left right start carried link_start items ≡ Some all) × All (InTurns holds left right start carried) all

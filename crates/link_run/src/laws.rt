@@ -1,9 +1,12 @@
-//! Laws of events and their trees, as contracts of functions that do nothing.
+//! Laws of events, of their trees and of runs, as contracts of functions that do nothing.
 
 ghost use Rattle.std.specs.Prelude.{◌≡◌, true, Ok};
 ghost use Rattle.serde_json.specs.Data.{Data};
 ghost use Rattle.turn_link.specs.Links.{EventTree};
 ghost use Rattle.link_run.specs.EventJson.{tree_of_event, event_of_tree, event_counts_fit, event_numbers_fit};
+ghost use Rattle.link_run.specs.Runs.{RunsStayInTurns};
+
+use lens_core::EditLens;
 
 /// Reading the tree of an event and writing it are inverse.
 pub fn reading_inverts_writing()
@@ -15,4 +18,12 @@ pub fn reading_inverts_writing()
     ensures writes_back { (tree : Data) (event : EventTree) → event_of_tree tree ≡ Ok event
         → (event_counts_fit event ≡ true) × (event_numbers_fit event ≡ true)
         × (tree_of_event event ≡ tree) }
+{}
+
+/// Every run of a script from the start of a link goes on to its end, whatever its lines are. Each
+/// link of it is in turns, by `InTurns` of turn_link: also those after events that are refused and
+/// after lines that are not events.
+pub fn runs_stay_in_turns<L: EditLens>(_lens: &L)
+    ensures { RunsStayInTurns (L.holds _lens.now) (L.left_type _lens.now)
+        (L.right_type _lens.now) (L.start _lens.now) (L.carried _lens.now) }
 {}
