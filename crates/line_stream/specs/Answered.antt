@@ -1,4 +1,4 @@
--- How far a run has come over a journal that comes in pieces. Read it from the end: `AnswersPieces`, `StopsRun`, `EndsRun`, then
+-- How far a run has come over an input that comes in pieces. Read it from the end: `AnswersPieces`, `StopsRun`, `EndsRun`, then
 -- `AnswersPiece`, which is one turn.
 use Rattle.std.specs.Prelude.{◌≡◌, ◌⊎◌, ℕ, ◌+◌, ◌^◌, ◌<◌, ◌≤◌, List, [], ◌++◌, length, take, Bool, true, false, Some, Result, Ok, Err}
 use Rattle.std.specs.declared.option.Option.{Option}
@@ -147,7 +147,7 @@ module _ {T : Type 0} (answer : T → ℕ → Line → Option (T × Answer)) whe
     HasEnded before input room more left' held held' t (Ok p) = EndsRun before input more left' held held' t p
     HasEnded before input room more left' held held' t (Err stopped) = StopsRun before room more held held' stopped
 
-    -- Answering a journal took these bytes more.
+    -- Answering the lines of an input took these bytes more.
     pub record AnswersPieces (before input : TakenInput) (room : ℕ) (source source' held held' : Option (List ℕ)) (t : T) (result : Result Progress Stopped) : Type 0 where
       pub more : List ℕ
       pub consumes : Consumes source source' more

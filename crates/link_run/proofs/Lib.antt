@@ -4,3 +4,4 @@ pub mod ToldLines
 pub mod RunsAgree
 pub mod ShownState
 pub mod RunsInTurns
+pub mod ReportText

@@ -7,6 +7,7 @@ use Rattle.edit_journal.specs.Lines.{is_blank}
 use Rattle.edit_journal.specs.declared.line.Line.{Line}
 use Rattle.lens_core.specs.Complements.{CompTree}
 use Rattle.lens_core.specs.Translation.{Translated}
+use Rattle.value_json.proofs.Facts.{map_some}
 use Rattle.line_stream.specs.Runs as stream
 use Rattle.line_stream.specs.declared.state.Answer.{Answer}
 use Rattle.turn_link.specs.Links.{LinkTree}
@@ -66,3 +67,25 @@ module _ {L : Type 0} (left : L → TyTree) (right : L → TyTree) (start : L �
   runs_agree lens s n (line ∷ lines) =
       line_agrees lens s n line lines (is_blank line) (take_item (left lens) (right lens) (start lens) (carried lens) s (event_of_line line)) (runs_agree lens s n lines) (λ s'. runs_agree lens s' (n + 1) lines)
       ∙ ap (option_map (all_numbered lens n)) (sym (items_split lens s line lines (is_blank line)))
+
+  -- what a run over lines comes to, as steps of the run of the link
+  pub record Steps (lens : L) (s : LinkTree) (lines : List Line) (text : List ℕ) (refused : Bool) (end : L × LinkTree) : Type 0 where
+    pub steps : List (LinkTree × AnswerTree)
+    pub run_is : run_of lens s lines ≡ Some steps
+    pub text_is : answer_lines 1 steps ≡ text
+    pub refused_is : any_refused steps ≡ refused
+    pub end_is : (lens, last s steps) ≡ end
+
+  pub comes_to : (lens : L) (s : LinkTree) (lines : List Line) (text : List ℕ) (refused : Bool) (end : L × LinkTree)
+      → stream.written (line_answer left right start carried) (lens, s) lines ≡ Some (text, refused, end) → Steps lens s lines text refused end
+  comes_to lens s lines text refused end h =
+      let x = map_some (stream.of_steps (lens, s)) (stream_of (lens, s) 0 lines) (text, refused, end) h in
+      let y = map_some (all_numbered lens 0) (run_of lens s lines) x.0 (sym (runs_agree lens s 0 lines) ∙ x.1) in
+      let parts : stream.of_steps (lens, s) (all_numbered lens 0 y.0) ≡ (text, refused, end) = ap (stream.of_steps (lens, s)) y.2 ∙ x.2 in
+      record {
+        steps = y.0;
+        run_is = y.1;
+        text_is = sym (lines_agree lens 0 y.0) ∙ ap (λ (w : List ℕ × Bool × (L × LinkTree)). w.0) parts;
+        refused_is = sym (refusals_agree lens 0 y.0) ∙ ap (λ (w : List ℕ × Bool × (L × LinkTree)). w.1) parts;
+        end_is = sym (ends_agree lens 0 s y.0) ∙ ap (λ (w : List ℕ × Bool × (L × LinkTree)). w.2) parts;
+      }
