@@ -1,0 +1,9 @@
+pub mod AnswerLines
+pub mod Answers
+pub mod EditJson
+pub mod FoundLenses
+pub mod HeldPieces
+pub mod Lenses
+pub mod Pieces
+pub mod Runs
+pub mod Views

@@ -1,0 +1,15 @@
+//! A hub over a script: the pieces of its program part, the lines of its journal, and what is written.
+#![tactic(auto)]
+
+mod answers;
+pub mod laws;
+mod line;
+mod pieces;
+mod state;
+mod views;
+
+pub use crate::answers::{HubAnswer, answer_line, no_view_line, ok_line};
+pub use crate::line::read_hub_edit;
+pub use crate::pieces::{MOST_VIEWS, PieceText, Pieces};
+pub use crate::state::{hub_line, lines_of_view};
+pub use crate::views::{HubRefused, refusal_line, view_lens};
