@@ -1,6 +1,9 @@
 pub mod AnswersHaveLines
 pub mod EditTrees
+pub mod FoundLoops
 pub mod FoundViews
 pub mod HeldPieces
+pub mod Outcomes
 pub mod PieceLines
+pub mod RunReports
 pub mod WordLists

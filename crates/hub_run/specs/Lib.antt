@@ -5,5 +5,6 @@ pub mod FoundLenses
 pub mod HeldPieces
 pub mod Lenses
 pub mod Pieces
+pub mod Running
 pub mod Runs
 pub mod Views

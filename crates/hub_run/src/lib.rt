@@ -2,6 +2,7 @@
 #![tactic(auto)]
 
 mod answers;
+mod journal;
 pub mod laws;
 mod line;
 mod pieces;
@@ -9,6 +10,7 @@ mod state;
 mod views;
 
 pub use crate::answers::{HubAnswer, answer_line, no_view_line, ok_line};
+pub use crate::journal::{Progress, handle_line, take_item};
 pub use crate::line::read_hub_edit;
 pub use crate::pieces::{MOST_VIEWS, PieceText, Pieces};
 pub use crate::state::{hub_line, lines_of_view};

@@ -84,9 +84,9 @@ impl PieceText {
 /// that there are so many is kept.
 #[derive(Drop)]
 pub struct Pieces {
-    ended: Vec<PieceText>,
-    begun: PieceText,
-    is_many: bool,
+    pub(crate) ended: Vec<PieceText>,
+    pub(crate) begun: PieceText,
+    pub(crate) is_many: bool,
 }
 
 impl Pieces {

@@ -6,11 +6,11 @@ ghost use Rattle.lens_forms.specs.Forms.{FormTree, form_tree};
 ghost use Rattle.accepted_programs.specs.Refused.{IsKnown, IsRefusal};
 ghost use Rattle.accepted_programs.specs.Program.{Refusal};
 ghost use Rattle.answer_text.specs.Lines.{program_refused_line};
-ghost use Rattle.hub_run.specs.HeldPieces.{HoldsPiece};
-ghost use Rattle.hub_run.specs.Lenses.{HubRefusal, view_with, with_left, form_of_view, first_left, reason, view_reason, refusal_line, views_differ};
+ghost use Rattle.hub_run.specs.HeldPieces.{HoldsPiece, HoldsPieces};
+ghost use Rattle.hub_run.specs.Lenses.{HubRefusal, view_with, with_left, form_of_view, first_left, forms_of, reason, view_reason, refusal_line, views_differ};
 ghost use Rattle.hub_run.specs.FoundLenses.{IsRefusalOf, IsRefused, HasRefusalLine};
 
-use crate::pieces::PieceText;
+use crate::pieces::{PieceText, Pieces};
 use accepted_programs::Refused;
 use answer_text::{syntax_line, typing_line};
 use lens_types::Typed;
@@ -55,6 +55,35 @@ impl<T: Drop> From<AllocFailed<T>> for HubRefused {
     }
 }
 
+impl Pieces {
+    /// The lenses of the views, one for each piece, or why the program part is refused. It is refused by the first of these:
+    ///
+    /// - `TooManyViews`: if and only if there are more than 64 pieces.
+    /// - Then, for each piece in order, `InView`: if and only if its program is refused, with the number of the view and the cause
+    ///   that `read_lens` of accepted_programs has; a piece of more than 65,536 bytes is too long.
+    /// - For the same piece after that, `ViewsDiffer`: if and only if its left type is not the same as view 0's.
+    ///
+    /// `NoMemory` says nothing of the program part.
+    pub fn lenses(&self, alloc: Global) -> Result<Vec<Typed>, HubRefused>
+        ensures lenses { (ended : List (List ℕ)) (begun : List ℕ) → HoldsPieces self.now ended begun → MatchResult result
+            (λ lenses. forms_of (ended ++ begun ∷ []) ≡ Ok (map form_tree lenses.items))
+            (λ refused. IsRefused (forms_of (ended ++ begun ∷ [])) refused) }
+        ensures known { IfErr result HasRefusalLine }
+    {
+        if self.is_many {
+            return Err(HubRefused::TooManyViews);
+        }
+        let mut lenses = Vec::new(alloc);
+        for piece in &self.ended {
+            let lens = view_lens(alloc, &lenses, piece)?;
+            lenses.push(lens)?;
+        }
+        let lens = view_lens(alloc, &lenses, &self.begun)?;
+        lenses.push(lens)?;
+        Ok(lenses)
+    }
+}
+
 /// The lens of the view behind those that were found before, with the number that they are, or why it is refused. It is refused by
 /// the first of these:
 ///
@@ -78,7 +107,7 @@ pub fn view_lens(alloc: Global, before: &[Typed], piece: &PieceText) -> Result<T
 // Why the view with this number is refused, whose program is.
 #[tactic(auto, using(crate::proofs::FoundViews::view_syntax, crate::proofs::FoundViews::view_typing))]
 fn refused_view(number: u64, refused: Refused) -> HubRefused
-    requires known { IsKnown refused }
+    requires has_line { IsKnown refused }
     ensures refused { (ty : Option TyTree) (outcome : Result FormTree Refusal) → IsRefusal outcome refused
         → IsRefused (view_with ty number outcome) result }
     ensures known { HasRefusalLine result }
