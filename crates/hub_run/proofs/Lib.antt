@@ -2,7 +2,10 @@ pub mod AnswersHaveLines
 pub mod EditTrees
 pub mod FoundLoops
 pub mod FoundViews
+pub mod FrontPieces
 pub mod HeldPieces
+pub mod HubHeads
+pub mod HubLines
 pub mod Outcomes
 pub mod PieceLines
 pub mod RunReports

@@ -3,6 +3,7 @@ pub mod Answers
 pub mod EditJson
 pub mod FoundLenses
 pub mod HeldPieces
+pub mod HubHeads
 pub mod Lenses
 pub mod Pieces
 pub mod Running

@@ -2,6 +2,7 @@
 #![tactic(auto)]
 
 mod answers;
+mod head;
 mod journal;
 pub mod laws;
 mod line;
@@ -10,6 +11,7 @@ mod state;
 mod views;
 
 pub use crate::answers::{HubAnswer, answer_line, no_view_line, ok_line};
+pub use crate::head::{HubHead, read_hub_head};
 pub use crate::journal::{Progress, handle_line, take_item};
 pub use crate::line::read_hub_edit;
 pub use crate::pieces::{MOST_VIEWS, PieceText, Pieces};
