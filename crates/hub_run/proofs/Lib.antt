@@ -6,7 +6,9 @@ pub mod FrontPieces
 pub mod HeldPieces
 pub mod HubHeads
 pub mod HubLines
+pub mod MappedLenses
 pub mod Outcomes
 pub mod PieceLines
 pub mod RunReports
+pub mod RunsInStep
 pub mod WordLists

@@ -1,11 +1,14 @@
 pub mod AnswerLines
 pub mod Answers
 pub mod EditJson
+pub mod Ends
 pub mod FoundLenses
 pub mod HeldPieces
 pub mod HubHeads
 pub mod Lenses
 pub mod Pieces
+pub mod Reports
+pub mod RunLaws
 pub mod Running
 pub mod Runs
 pub mod Views

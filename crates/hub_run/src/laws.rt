@@ -1,9 +1,12 @@
-//! Laws of the pieces of a program part. Each function here does nothing: its clause is the law.
+//! Laws of the pieces of a program part, and of the runs of a hub. Each function here does nothing: its clause is the law.
 
 ghost use Rattle.std.specs.Prelude.{◌≡◌, ◌++◌, ◌∷◌, [], List, ℕ, true, if◌then◌else◌};
 ghost use Rattle.edit_journal.specs.Pieces.{has_no_end};
 ghost use Rattle.script_parts.specs.Lines.{cut};
 ghost use Rattle.hub_run.specs.Pieces.{is_cut, pieces_from};
+ghost use Rattle.hub_run.specs.RunLaws.{RunsStayInStep};
+
+use lens_core::EditLens;
 
 /// A line with its LF, in front of more bytes: a cut ends the piece that has begun and belongs to none, and any other line belongs
 /// to it with its LF.
@@ -11,4 +14,10 @@ ghost use Rattle.hub_run.specs.Pieces.{is_cut, pieces_from};
 pub fn pieces_come_by_lines()
     ensures { (begun text more : List ℕ) → has_no_end text ≡ true → pieces_from begun (cut (text ++ 10 ∷ more))
         ≡ (if is_cut text then begun ∷ pieces_from [] (cut more) else pieces_from ((begun ++ text) ++ 10 ∷ []) (cut more)) }
+{}
+
+/// Every run of a hub over the items of a journal goes on to its end. In every hub of it, those after refused items included, each
+/// view's complement and document are in its lens's relation with the hub's document.
+pub fn runs_stay_in_step<L: EditLens>()
+    ensures { RunsStayInStep L.left_type L.right_type L.start L.holds L.carried }
 {}

@@ -8,6 +8,7 @@ pub mod laws;
 mod line;
 mod pieces;
 mod state;
+mod status;
 mod views;
 
 pub use crate::answers::{HubAnswer, answer_line, no_view_line, ok_line};
@@ -16,4 +17,5 @@ pub use crate::journal::{Progress, handle_line, take_item};
 pub use crate::line::read_hub_edit;
 pub use crate::pieces::{MOST_VIEWS, PieceText, Pieces};
 pub use crate::state::{hub_line, lines_of_view};
+pub use crate::status::HubStatus;
 pub use crate::views::{HubRefused, refusal_line, view_lens};
