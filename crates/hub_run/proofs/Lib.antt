@@ -1,3 +1,4 @@
+pub mod AnsweredLines
 pub mod AnswersHaveLines
 pub mod EditTrees
 pub mod FoundLoops
@@ -6,6 +7,7 @@ pub mod FrontPieces
 pub mod HeldPieces
 pub mod HubHeads
 pub mod HubLines
+pub mod Journals
 pub mod MappedLenses
 pub mod Outcomes
 pub mod PieceLines

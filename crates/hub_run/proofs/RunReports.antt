@@ -1,5 +1,5 @@
--- The run in the form of the code is the run: one item more, and a blank line.
-use Rattle.std.proofs.Common.{◌≡◌, ℕ, ◌+◌, List, [], ◌∷◌, ◌++◌, append-nil, Bool, true, false, ◌||◌, cond, Option, Some, None, option_map, option_and_then, refl, sym, ap, ◌∙◌, append_assoc}
+-- The run in the form of the code is the run: one item more, a blank line, and the two ends.
+use Rattle.std.proofs.Common.{◌≡◌, ℕ, ◌+◌, List, [], ◌∷◌, ◌++◌, append-nil, Bool, true, false, ◌||◌, cond, Option, Some, None, option_map, option_and_then, refl, sym, ap, ap₂, ◌∙◌, append_assoc}
 use Rattle.texts.specs.declared.side.Side.{Side}
 use Rattle.doc_values.specs.Types.{TyTree}
 use Rattle.edit_module.specs.Words.{WordTree}
@@ -11,7 +11,7 @@ use Rattle.view_hub.specs.Hubs.{HubTree}
 use Rattle.hub_run.specs.Answers.{HubAnswerTree, is_refused, answer_line}
 use Rattle.hub_run.specs.EditJson.{edit_of_line}
 use Rattle.hub_run.specs.Runs.{HubItem, items_of, take_item, run, any_refused, answer_lines}
-use Rattle.hub_run.specs.Running.{Come, Written, after_progress, written_after}
+use Rattle.hub_run.specs.Running.{Come, Written, of_steps, after_progress, written, written_after}
 
 or_assoc : (a b c : Bool) → (a || (b || c)) ≡ ((a || b) || c)
 or_assoc true b c = refl
@@ -63,3 +63,14 @@ module _ {L : Type 0} (left right : L → TyTree) (translation : L → Side → 
   -- with no items left, what was written is all
   pub at_end : (t : HubTree) (p : Come) → written_after left right translation ls t p [] ≡ Some (p.text, p.refused, t)
   at_end t p = same_written _ _ _ _ _ _ (append-nil p.text) (or_false p.refused) refl
+
+  -- with nothing written
+  from_nothing : (t : HubTree) (p : Come) (o : Option (List (HubTree × HubAnswerTree))) → p.number ≡ 0 → p.refused ≡ false → p.text ≡ []
+      → option_map (after_progress t p) o ≡ option_map (of_steps t) o
+  from_nothing t p None number refused text = refl
+  from_nothing t p (Some steps) number refused text =
+      same_written _ _ _ _ _ _ (ap₂ (λ x n. x ++ answer_lines (n + 1) steps) text number) (ap (λ b. b || any_refused steps) refused) refl
+
+  pub at_start : (t : HubTree) (p : Come) (items : List HubItem) → p.number ≡ 0 → p.refused ≡ false → p.text ≡ []
+      → written_after left right translation ls t p items ≡ written left right translation ls t items
+  at_start t p items number refused text = from_nothing t p (run left right translation ls t items) number refused text

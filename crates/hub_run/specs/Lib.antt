@@ -1,4 +1,5 @@
 pub mod AnswerLines
+pub mod Answered
 pub mod Answers
 pub mod EditJson
 pub mod Ends

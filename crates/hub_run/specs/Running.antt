@@ -31,12 +31,20 @@ come given p = record { number = p.number; refused = p.refused; text = given ++ 
 abbrev pub Written : Type 0
 Written = List ℕ × Bool × HubTree
 
--- what steps come to that come after some progress
+-- what the steps of a run from a hub come to
+abbrev pub of_steps : HubTree → List (HubTree × HubAnswerTree) → Written
+of_steps h steps = (answer_lines 1 steps, any_refused steps, last h steps)
+
+-- the same for steps that come after some progress
 abbrev pub after_progress : HubTree → Come → List (HubTree × HubAnswerTree) → Written
 after_progress h p steps = (p.text ++ answer_lines (p.number + 1) steps, p.refused || any_refused steps, last h steps)
 
 module _ {L : Type 0} (left : L → TyTree) (right : L → TyTree) (translation : L → Side → CompTree → WordTree → Option Translated) where
-  -- what a run comes to with the progress before, and the items that are left
+  -- what a run over these items comes to
+  abbrev pub written : List L → HubTree → List HubItem → Option Written
+  written ls h items = option_map (of_steps h) (run left right translation ls h items)
+
+  -- what it comes to with the progress before, and the items that are left
   abbrev pub written_after : List L → HubTree → Come → List HubItem → Option Written
   written_after ls h p items = option_map (after_progress h p) (run left right translation ls h items)
 

@@ -69,7 +69,7 @@ pub fn handle_line<L: EditLens>(
         (come given progress.old) (items_of (line.now ∷ lines))
         ≡ written_after L.left_type L.right_type L.carried hub.old.lenses (hub_tree hub.new.parts)
         (come given progress.new) (items_of lines)) }
-    ensures lenses { hub.new.lenses ≡ hub.old.lenses }
+    ensures lens { hub.new.lenses ≡ hub.old.lenses }
     ensures number { OnOk result (progress.new.number ≤ progress.old.number + 1) }
     ensures unchanged { OnErr result (come [] progress.new ≡ come [] progress.old) }
 {
@@ -92,7 +92,7 @@ fn answer_item<L: EditLens>(
         (come given progress.old) (edit_of_line line.now ∷ items)
         ≡ written_after L.left_type L.right_type L.carried hub.old.lenses (hub_tree hub.new.parts)
         (come given progress.new) items) }
-    ensures lenses { hub.new.lenses ≡ hub.old.lenses }
+    ensures lens { hub.new.lenses ≡ hub.old.lenses }
     ensures number { OnOk result (progress.new.number ≡ progress.old.number + 1) }
     ensures unchanged { OnErr result (come [] progress.new ≡ come [] progress.old) }
 {
@@ -113,7 +113,7 @@ pub fn take_item<L: EditLens>(
         hub.old.lenses (hub_tree hub.old.parts) (edit_of_line line.now)
         ≡ step_with (hub_tree hub.new.parts) answer) }
     ensures has_line { IfOk result (λ answer. HasAnswerLine answer) }
-    ensures lenses { hub.new.lenses ≡ hub.old.lenses }
+    ensures lens { hub.new.lenses ≡ hub.old.lenses }
 {
     match read_hub_edit(alloc, line) {
         Ok((side, word)) => take_edit(hub, side, &word),
@@ -132,7 +132,7 @@ fn take_edit<L: EditLens>(
         hub.old.lenses (hub_tree hub.old.parts) (Ok (place_of side, word_tree word.now))
         ≡ step_with (hub_tree hub.new.parts) answer) }
     ensures has_line { IfOk result (λ answer. HasAnswerLine answer) }
-    ensures lenses { hub.new.lenses ≡ hub.old.lenses }
+    ensures lens { hub.new.lenses ≡ hub.old.lenses }
 {
     match hub.step(side, word) {
         Ok(carried) => Ok(HubAnswer::Carried(carried)),

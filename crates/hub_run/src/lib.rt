@@ -9,6 +9,7 @@ mod line;
 mod pieces;
 mod state;
 mod status;
+mod stream;
 mod views;
 
 pub use crate::answers::{HubAnswer, answer_line, no_view_line, ok_line};
@@ -18,4 +19,5 @@ pub use crate::line::read_hub_edit;
 pub use crate::pieces::{MOST_VIEWS, PieceText, Pieces};
 pub use crate::state::{hub_line, lines_of_view};
 pub use crate::status::HubStatus;
+pub use crate::stream::{answer_piece, answer_pieces};
 pub use crate::views::{HubRefused, refusal_line, view_lens};
