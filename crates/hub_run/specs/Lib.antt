@@ -2,6 +2,7 @@ pub mod AnswerLines
 pub mod Answered
 pub mod Answers
 pub mod EditJson
+pub mod Ending
 pub mod Ends
 pub mod FoundLenses
 pub mod HeldPieces
@@ -12,4 +13,5 @@ pub mod Reports
 pub mod RunLaws
 pub mod Running
 pub mod Runs
+pub mod Status
 pub mod Views

@@ -1,6 +1,6 @@
 //! The state of a hub as lines, which end a run.
 
-ghost use Rattle.std.specs.Prelude.{◌≡◌, ◌++◌, codes, decimal, IfOk, IsTrue};
+ghost use Rattle.std.specs.Prelude.{◌≡◌, ◌++◌, codes, decimal, map, slice_get, Some, IfOk, IfSome, IsTrue};
 ghost use Rattle.doc_values.specs.Documents.{doc_tree};
 ghost use Rattle.doc_values.specs.Types.{ty_tree, is_well_formed};
 ghost use Rattle.doc_values.specs.Typing.{has};
@@ -9,16 +9,19 @@ ghost use Rattle.lens_forms.specs.Forms.{form_tree, left_type, right_type};
 ghost use Rattle.lens_core.specs.Complements.{comp_tree, Fits};
 ghost use Rattle.complement_file.specs.ComplementJson.{tree_of_complement};
 ghost use Rattle.answer_text.specs.Lines.{tree_line};
-ghost use Rattle.hub_run.specs.Runs.{hub_line, lines_of_view};
+ghost use Rattle.view_hub.specs.Views.{hub_tree};
+ghost use Rattle.hub_run.specs.Runs.{hub_line, lines_of_view, state_lines};
 
 use answer_text::tree_line;
 use complement_file::write_comp;
 use doc_values::{Doc, Ty};
 use lens_core::Comp;
+use lens_run::Checked;
 use lens_types::Typed;
 use std::alloc::{AllocError, Global};
 use texts::Bytes;
 use value_json::write_doc;
+use view_hub::Hub;
 
 /// `hub JSON` and a line feed: the document of a hub, which has the left type of the form. The only error is running out of memory.
 pub fn hub_line(alloc: Global, typed: &Typed, hub: &Doc) -> Result<Bytes, AllocError>
@@ -71,4 +74,41 @@ fn complement_line(alloc: Global, label: &str, typed: &Typed, comp: &Comp) -> Re
 {
     let tree = write_comp(alloc, typed, comp)?;
     tree_line(alloc, label, &tree)
+}
+
+/// The state lines of a hub: `hub JSON`, and for each view `view V JSON` and `complement V JSON`.
+///
+/// The hub's lenses are those of the forms. The only error is running out of memory.
+pub fn state_lines(
+    alloc: Global,
+    typed: &[Typed],
+    hub: &Hub<Checked>,
+) -> Result<Vec<u8>, AllocError>
+    requires of_forms { map form_tree typed.now ≡ map (λ l. form_tree l.typed) hub.now.lenses }
+    ensures lines { IfOk result (λ text. text.items ≡ state_lines (map form_tree typed.now) (hub_tree hub.now.parts)) }
+{
+    let line = hub_line(alloc, &typed[0], hub.hub())?;
+    let mut text = line.into_vec();
+    for number in 0..typed.len() {
+        let lines = lines_at(alloc, &typed[number], hub, number as u64)?;
+        text.extend_from_slice(&lines)?;
+    }
+    Ok(text)
+}
+
+// The lines of the view with this number.
+fn lines_at(
+    alloc: Global,
+    typed: &Typed,
+    hub: &Hub<Checked>,
+    number: u64,
+) -> Result<Vec<u8>, AllocError>
+    requires form { slice_get (map (λ l. form_tree l.typed) hub.now.lenses) number ≡ Some (form_tree typed.now) }
+    ensures { IfOk result (λ lines. IfSome (slice_get (hub_tree hub.now.parts).views number)
+        (λ v. lines.items ≡ lines_of_view number (form_tree typed.now) v.comp v.doc)) }
+{
+    match (hub.view(number), hub.comp(number)) {
+        (Some(doc), Some(comp)) => lines_of_view(alloc, number, typed, doc, comp),
+        _ => unreachable!(),
+    }
 }

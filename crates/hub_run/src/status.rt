@@ -1,5 +1,10 @@
 //! How a call over the script of a hub ends.
 
+ghost use Rattle.std.specs.Prelude.{◌≡◌};
+ghost use Rattle.hub_run.specs.Status.{status_of};
+
+use journal_stream::Stopped;
+
 /// How a call over the script of a hub ends.
 #[derive(Clone, Copy, Debug, PartialEq, Eq)]
 pub enum HubStatus {
@@ -17,4 +22,18 @@ pub enum HubStatus {
     InputTooLong,
     /// Memory ran out.
     NoMemory,
+}
+
+impl HubStatus {
+    // The status of a run that was stopped.
+    pub(crate) fn of_stop(stopped: Stopped) -> HubStatus
+        ensures { result ≡ status_of stopped }
+    {
+        match stopped {
+            Stopped::SourceFault => HubStatus::SourceFault,
+            Stopped::TooLong => HubStatus::InputTooLong,
+            Stopped::SinkFault => HubStatus::SinkFault,
+            Stopped::NoMemory => HubStatus::NoMemory,
+        }
+    }
 }
