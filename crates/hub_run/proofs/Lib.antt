@@ -1,6 +1,8 @@
 pub mod AnsweredLines
 pub mod AnswersHaveLines
 pub mod EditTrees
+pub mod FormsInStep
+pub mod FoundForms
 pub mod FoundLoops
 pub mod FoundViews
 pub mod FrontPieces

@@ -1,23 +1,15 @@
 -- How a call over the script of a hub ends where it does not come to the end of its input, and completeness. Read it from the end:
 -- `IsComplete`, then `Stops` and `IsCleanStop`.
 use Rattle.std.specs.Prelude.{◌≡◌, ◌⊎◌, ℕ, ◌+◌, ◌<◌, ◌≤◌, List, [], ◌++◌, length, true, Option, Some, option_map, Result, Ok, Err}
-use Rattle.std.specs.List.{All}
 use Rattle.std.specs.Io.KnownBytes.{Appends, Consumes, IsAtEnd}
 use Rattle.lens_io.specs.Content.{AppendsFront}
-use Rattle.lens_forms.specs.Forms.{FormTree, left_type, right_type}
-use Rattle.lens_core.specs.Complements.{missing}
-use Rattle.lens_core.specs.Consistency.{IsConsistent}
-use Rattle.lens_core.specs.Translation.{translate}
+use Rattle.lens_forms.specs.Forms.{FormTree}
 use Rattle.edit_journal.specs.declared.line.Line.{Line}
 use Rattle.script_parts.specs.Coming.{has_separator, journal_lines, HasPart}
 use Rattle.script_parts.specs.Lines.{program_part}
 use Rattle.journal_input.specs.declared.limits.TheConstants.{MOST_BYTES, PIECE_BYTES}
-use Rattle.view_hub.specs.Hubs.{HubTree}
-use Rattle.view_hub.specs.Laws.{IsHub}
-use Rattle.hub_run.specs.Answers.{HubAnswerTree}
 use Rattle.hub_run.specs.Lenses.{HubRefusal, lenses_of, refusal_line}
-use Rattle.hub_run.specs.Reports.{report}
-use Rattle.hub_run.specs.RunLaws.{hubs_of}
+use Rattle.hub_run.specs.Reports.{RunStaysInStep, report}
 use Rattle.hub_run.specs.Runs.{items_of, run_of, answer_lines}
 use Rattle.hub_run.specs.declared.status.HubStatus.{HubStatus}
 use Rattle.hub_run.specs.declared.status.HubStatus.TheVariants.{Done, SomeRefused, ProgramRefused, SourceFault, SinkFault, InputTooLong, NoMemory}
@@ -33,16 +25,9 @@ answers_with (Err refusal) lines = Some []
 abbrev pub answers_to : List ℕ → List Line → Option (List ℕ)
 answers_to bytes lines = answers_with (lenses_of (program_part bytes)) lines
 
--- The run of these lenses over these lines goes on to its end, and every hub of it is in step.
-pub record StaysInStep (forms : List FormTree) (lines : List Line) : Type 0 where
-  pub first : HubTree
-  pub steps : List (HubTree × HubAnswerTree)
-  pub is_run : run_of forms (items_of lines) ≡ Some (first, steps)
-  pub in_step : All (IsHub left_type right_type missing IsConsistent translate forms) (hubs_of first steps)
-
--- the same for the lenses of a program part that is accepted
+-- the run over these lines stays in step, for the lenses of a program part that is accepted
 abbrev pub LinesStayInStep : Result (List FormTree) HubRefusal → List Line → Type 0
-LinesStayInStep (Ok forms) lines = StaysInStep forms lines
+LinesStayInStep (Ok forms) lines = RunStaysInStep forms (items_of lines)
 LinesStayInStep (Err refusal) lines = Unit {0}
 
 -- This text has the answers to the first lines of the journal that an LF has ended in these bytes, and there are these lines more.

@@ -35,19 +35,24 @@ report_with (Err refusal) items = Some (refusal_line refusal, ProgramRefused)
 abbrev pub report : List ℕ → Option (List ℕ × HubStatus)
 report bytes = report_with (lenses_of (program_part bytes)) (items_of (journal bytes))
 
--- The source was read to its end and gave these bytes, at most 2^30. The answer lines of the run over the lines of their journal and the
--- state lines of its last hub were written to the sink, and the status says whether an item was refused. In every hub of the run each
--- view's complement and document are in its lens's consistency relation with the hub's document.
+-- The run of these lenses over these items goes on to its end, and in every hub of it each view's complement and document are in its
+-- lens's consistency relation with the hub's document.
+pub record RunStaysInStep (forms : List FormTree) (items : List HubItem) : Type 0 where
+  pub first : HubTree
+  pub steps : List (HubTree × HubAnswerTree)
+  pub is_run : run_of forms items ≡ Some (first, steps)
+  pub in_step : All (IsHub left_type right_type missing IsConsistent translate forms) (hubs_of first steps)
+
+-- The source was read to its end and gave these bytes, at most 2^30. Their report, with this status, was written to the sink. The
+-- program part is accepted, and every hub of the run over the lines of the journal is in step.
 pub record Reports (left left' held held' : Option (List ℕ)) (status : HubStatus) : Type 0 where
   pub bytes : List ℕ
   pub consumes : Consumes left left' bytes
   pub at_end : IsAtEnd left'
   pub within : length bytes ≤ MOST_BYTES
+  pub text : List ℕ
+  pub is_report : report bytes ≡ Some (text, status)
+  pub appends : Appends held held' text
   pub forms : List FormTree
   pub has_lenses : lenses_of (program_part bytes) ≡ Ok forms
-  pub first : HubTree
-  pub steps : List (HubTree × HubAnswerTree)
-  pub is_run : run_of forms (items_of (journal bytes)) ≡ Some (first, steps)
-  pub appends : Appends held held' (text_from forms first steps)
-  pub ends : status ≡ ending (any_refused steps)
-  pub in_step : All (IsHub left_type right_type missing IsConsistent translate forms) (hubs_of first steps)
+  pub in_step : RunStaysInStep forms (items_of (journal bytes))
