@@ -11,11 +11,10 @@ use Rattle.lens_core.specs.Translation.{translate}
 use Rattle.accepted_programs.specs.Program.{Refusal, lens_of}
 use Rattle.accepted_programs.proofs.AcceptedForms.{accepted_typed}
 use Rattle.view_hub.specs.Laws.{SameLeft, HaveOneLeftType}
+use Rattle.hub_run.specs.FoundLenses.{HasLeft}
 use Rattle.hub_run.specs.Lenses.{HubRefusal, too_many_views, views_differ, with_left, view_with, form_of_view, first_left, then_forms, forms_from, forms_of, lenses_of}
-use Rattle.hub_run.specs.Pieces.{pieces, pieces_from}
-use Rattle.script_parts.specs.Lines.{cut}
-use Rattle.hub_run.specs.Pieces.{is_cut}
-use Rattle.script_parts.specs.Lines.{up_to_line_end}
+use Rattle.hub_run.specs.Pieces.{is_cut, pieces, pieces_from}
+use Rattle.script_parts.specs.Lines.{cut, up_to_line_end}
 
 abbrev Same : TyTree → List FormTree → Type 0
 Same = SameLeft left_type right_type missing IsConsistent translate
@@ -32,11 +31,6 @@ AllTyped (form ∷ forms) = IsTrue (is_typed form) × AllTyped forms
 abbrev pub OneLeft : List FormTree → Type 0
 OneLeft [] = Unit {0}
 OneLeft (form ∷ forms) = Same (left_type form) forms
-
--- a form has this left type, if there is one
-abbrev pub HasLeft : Option TyTree → FormTree → Type 0
-HasLeft None form = Unit {0}
-HasLeft (Some ty) form = left_type form ≡ ty
 
 typed_more : (forms : List FormTree) (form : FormTree) → AllTyped forms → IsTrue (is_typed form) → AllTyped (forms ++ form ∷ [])
 typed_more [] form all is = (is, tt)

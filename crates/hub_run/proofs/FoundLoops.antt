@@ -3,15 +3,20 @@ use Rattle.std.proofs.Common.{◌≡◌, ℕ, zero, suc, ◌+◌, ◌<◌, ◌�
 use Rattle.std.specs.Prelude.{nat_lt}
 use borrow.Author.Tests.{ltb-true}
 use Rattle.std.proofs.lemmas.List.{drop_all, length-map, map-append}
-use Rattle.lens_forms.specs.Forms.{FormTree, form_tree}
+use Rattle.lens_forms.specs.Forms.{FormTree, form_tree, left_type, right_type}
+use Rattle.lens_core.specs.Complements.{missing}
+use Rattle.lens_core.specs.Consistency.{IsConsistent}
+use Rattle.lens_core.specs.Translation.{translate}
+use Rattle.view_hub.specs.Laws.{HaveOneLeftType}
 use Rattle.lens_types.specs.declared.typed.Typed.{Typed}
 use Rattle.hub_run.specs.HeldPieces.{HoldsPiece, HoldsEach, HoldsUnless}
 use Rattle.hub_run.specs.Lenses.{HubRefusal, too_many_views, form_of_view, first_left, then_forms, forms_from, forms_of}
-use Rattle.hub_run.specs.FoundLenses.{IsRefused}
+use Rattle.hub_run.specs.FoundLenses.{HasLeft, IsRefused}
 use Rattle.hub_run.specs.declared.pieces.PieceText.{PieceText}
 use Rattle.hub_run.specs.declared.pieces.TheConstants.{MOST_VIEWS}
 use Rattle.hub_run.specs.declared.views.HubRefused.{HubRefused}
 use Rattle.hub_run.specs.declared.views.HubRefused.TheVariants.{TooManyViews, InView, ViewsDiffer, NoMemory}
+use Rattle.hub_run.proofs.FoundForms.{OneLeft, one_more, some_left}
 
 -- ---- pieces
 
@@ -109,3 +114,16 @@ kept_few false kept last ended begun is h = h
 pub kept_many : (b : Bool) (kept : List PieceText) (last : PieceText) (ended : List (List ℕ)) (begun : List ℕ) → b ≡ true → HoldsUnless b kept last ended begun → MOST_VIEWS ≤ length ended
 kept_many true kept last ended begun is h = h
 kept_many false kept last ended begun is h = cc
+
+-- ---- one left type
+
+-- the views with one more have one left type
+pub view_joins : (before after : List Typed) (lens : Typed) → after ≡ before ++ lens ∷ [] → OneLeft (map form_tree before) → HasLeft (first_left (map form_tree before)) (form_tree lens) → OneLeft (map form_tree after)
+view_joins before after lens more one same =
+    subst OneLeft (sym (ap (map form_tree) more ∙ map-append form_tree before (lens ∷ []))) (one_more (map form_tree before) (form_tree lens) one same)
+
+pub last_joins : (before after : List Typed) (lens : Typed) → after ≡ before ++ lens ∷ [] → OneLeft (map form_tree before) → HasLeft (first_left (map form_tree before)) (form_tree lens)
+    → HaveOneLeftType left_type right_type missing IsConsistent translate (map form_tree after)
+last_joins before after lens more one same =
+    subst (HaveOneLeftType left_type right_type missing IsConsistent translate) (sym (ap (map form_tree) more ∙ map-append form_tree before (lens ∷ [])))
+    (some_left (map form_tree before) (form_tree lens) (one_more (map form_tree before) (form_tree lens) one same))

@@ -1,5 +1,7 @@
 -- What the code finds of the lenses of a program part.
-use Rattle.std.specs.Prelude.{◌≡◌, Result, Err}
+use Rattle.std.specs.Prelude.{◌≡◌, Option, None, Some, Result, Err}
+use Rattle.doc_values.specs.Types.{TyTree}
+use Rattle.lens_forms.specs.Forms.{FormTree, left_type}
 use Rattle.accepted_programs.specs.Program.{Refusal}
 use Rattle.accepted_programs.specs.Refused.{IsRefusal, IsKnown}
 use Rattle.hub_run.specs.Lenses.{HubRefusal, too_many_views, in_view, views_differ}
@@ -22,3 +24,8 @@ IsRefused outcome refused = (refusal : HubRefusal) × (outcome ≡ Err refusal) 
 abbrev pub HasRefusalLine : HubRefused → Type 0
 HasRefusalLine (InView v refused) = IsKnown refused
 HasRefusalLine _ = Unit {0}
+
+-- a form has this left type, if there is one
+abbrev pub HasLeft : Option TyTree → FormTree → Type 0
+HasLeft None form = Unit {0}
+HasLeft (Some ty) form = left_type form ≡ ty

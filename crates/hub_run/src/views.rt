@@ -2,13 +2,17 @@
 
 ghost use Rattle.std.specs.Prelude.{◌≡◌, ◌++◌, ◌∷◌, [], List, ℕ, IfOk, IfErr, MatchResult, Option, Result, Ok, Err, codes, length, map};
 ghost use Rattle.doc_values.specs.Types.{TyTree};
-ghost use Rattle.lens_forms.specs.Forms.{FormTree, form_tree};
+ghost use Rattle.lens_forms.specs.Forms.{FormTree, form_tree, left_type, right_type};
+ghost use Rattle.lens_core.specs.Complements.{missing};
+ghost use Rattle.lens_core.specs.Consistency.{IsConsistent};
+ghost use Rattle.lens_core.specs.Translation.{translate};
+ghost use Rattle.view_hub.specs.Laws.{HaveOneLeftType};
 ghost use Rattle.accepted_programs.specs.Refused.{IsKnown, IsRefusal};
 ghost use Rattle.accepted_programs.specs.Program.{Refusal};
 ghost use Rattle.answer_text.specs.Lines.{program_refused_line};
 ghost use Rattle.hub_run.specs.HeldPieces.{HoldsPiece, HoldsPieces};
 ghost use Rattle.hub_run.specs.Lenses.{HubRefusal, view_with, with_left, form_of_view, first_left, forms_of, reason, view_reason, refusal_line, views_differ};
-ghost use Rattle.hub_run.specs.FoundLenses.{IsRefusalOf, IsRefused, HasRefusalLine};
+ghost use Rattle.hub_run.specs.FoundLenses.{IsRefusalOf, IsRefused, HasRefusalLine, HasLeft};
 
 use crate::pieces::{PieceText, Pieces};
 use accepted_programs::Refused;
@@ -68,6 +72,8 @@ impl Pieces {
         ensures lenses { (ended : List (List ℕ)) (begun : List ℕ) → HoldsPieces self.now ended begun → MatchResult result
             (λ lenses. forms_of (ended ++ begun ∷ []) ≡ Ok (map form_tree lenses.items))
             (λ refused. IsRefused (forms_of (ended ++ begun ∷ [])) refused) }
+        ensures one_left { IfOk result (λ lenses. HaveOneLeftType left_type right_type missing IsConsistent translate
+            (map form_tree lenses.items)) }
         ensures known { IfErr result HasRefusalLine }
     {
         if self.is_many {
@@ -96,6 +102,7 @@ pub fn view_lens(alloc: Global, before: &[Typed], piece: &PieceText) -> Result<T
     ensures lens { (text : List ℕ) → HoldsPiece piece.now text → MatchResult result
         (λ lens. form_of_view (first_left (map form_tree before.now)) (length before.now) text ≡ Ok (form_tree lens))
         (λ refused. IsRefused (form_of_view (first_left (map form_tree before.now)) (length before.now) text) refused) }
+    ensures same_left { IfOk result (λ lens. HasLeft (first_left (map form_tree before.now)) (form_tree lens)) }
     ensures known { IfErr result HasRefusalLine }
 {
     match piece.lens(alloc) {
@@ -124,6 +131,7 @@ fn with_left(before: &[Typed], lens: Typed) -> Result<Typed, HubRefused>
     ensures lens { MatchResult result
         (λ same. with_left (first_left (map form_tree before.now)) (length before.now) (form_tree lens) ≡ Ok (form_tree same))
         (λ refused. IsRefused (with_left (first_left (map form_tree before.now)) (length before.now) (form_tree lens)) refused) }
+    ensures same_left { IfOk result (λ same. HasLeft (first_left (map form_tree before.now)) (form_tree same)) }
     ensures known { IfErr result HasRefusalLine }
 {
     if before.len() > 0 && !before[0].left().is_same(lens.left()) {
