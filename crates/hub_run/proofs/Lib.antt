@@ -13,6 +13,9 @@ pub mod Journals
 pub mod MappedLenses
 pub mod Outcomes
 pub mod PieceLines
+pub mod RunEnds
 pub mod RunReports
+pub mod RunTexts
 pub mod RunsInStep
+pub mod ScriptEnds
 pub mod WordLists

@@ -11,7 +11,9 @@ ghost use Rattle.journal_input.specs.Taking.{IsWithin};
 ghost use Rattle.journal_input.specs.declared.limits.TheConstants.{MOST_BYTES, PIECE_BYTES};
 ghost use Rattle.journal_stream.specs.Stopping.{SinkFailed};
 ghost use Rattle.script_parts.specs.Parts.{IsTaken, IsHead};
+ghost use Rattle.view_hub.specs.Hubs.{start_hub};
 ghost use Rattle.view_hub.specs.Laws.{HaveOneLeftType};
+ghost use Rattle.view_hub.specs.Views.{hub_tree};
 ghost use Rattle.hub_run.specs.Ending.{Ended, Gives, HasEnd};
 ghost use Rattle.hub_run.specs.Ends.{IsFinished, Stops, IsComplete};
 ghost use Rattle.hub_run.specs.Lenses.{lenses_of};
@@ -24,8 +26,10 @@ use crate::stream::answer_pieces;
 use journal_input::{Input, piece_buffer};
 use journal_stream::Stopped;
 use lens_io::{Sink, Source, give_all};
+use lens_run::Checked;
 use lens_types::Typed;
 use std::alloc::{AllocError, Global};
+use view_hub::Hub;
 
 /// Runs the script of a hub, with its input and its output.
 ///
@@ -74,7 +78,7 @@ fn run_script<S: Source, K: Sink>(alloc: Global, source: &mut S, sink: &mut K) -
     }
 }
 
-// Runs the journal of a script whose program part is accepted, behind its separator, as it comes. It ends with the state lines.
+// Runs the journal of a script whose program part is accepted, behind its separator.
 fn run_lenses<S: Source, K: Sink>(
     alloc: Global,
     lenses: &[Typed],
@@ -95,9 +99,35 @@ fn run_lenses<S: Source, K: Sink>(
     let Ok(mut hub) = first_hub(alloc, lenses) else {
         return HubStatus::NoMemory;
     };
+    let status = answer_journal(alloc, lenses, &mut hub, input, source, piece, sink);
+    drop(hub);
+    status
+}
+
+// Answers a journal as it comes, and ends with the state of the hub.
+fn answer_journal<S: Source, K: Sink>(
+    alloc: Global,
+    typed: &[Typed],
+    hub: &mut Hub<Checked>,
+    input: Input,
+    source: &mut S,
+    piece: &mut [u8],
+    sink: &mut K,
+) -> HubStatus
+    requires of_forms { map form_tree typed.now ≡ map (λ l. form_tree l.typed) hub.old.lenses }
+    requires some { 0 < length piece.old }
+    requires few { length piece.old ≤ PIECE_BYTES }
+    requires within { IsWithin input }
+    ensures ended { (left : Option (List ℕ)) (front rest part : List ℕ) → IsTaken left (S.left source.old) input front rest → IsHead front part
+        → lenses_of part ≡ Ok (map form_tree typed.now)
+        → start_hub left_type right_type missing (map form_tree typed.now) ≡ Some (hub_tree hub.old.parts)
+        → Ended left (S.left source.new) (K.held sink.old) (K.held sink.new) result }
+    ensures source_fault { result ≡ HubStatus.SourceFault → Increased (S.faults source.old) (S.faults source.new) }
+    ensures sink_fault { result ≡ HubStatus.SinkFault → SinkFailed K.faults K.empty_takes K.room K.held sink.old sink.new }
+{
     let mut input = input;
-    match answer_pieces(alloc, &mut hub, &mut input, source, piece, sink) {
-        Ok(progress) => give_report(last_report(alloc, lenses, &mut hub, progress, input), sink),
+    match answer_pieces(alloc, hub, &mut input, source, piece, sink) {
+        Ok(progress) => give_report(last_report(alloc, typed, hub, progress, input), sink),
         Err(stopped) => HubStatus::of_stop(stopped),
     }
 }
