@@ -18,4 +18,5 @@ pub mod RunReports
 pub mod RunTexts
 pub mod RunsInStep
 pub mod ScriptEnds
+pub mod StateLines
 pub mod WordLists

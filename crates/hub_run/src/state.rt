@@ -1,6 +1,6 @@
 //! The state of a hub as lines, which end a run.
 
-ghost use Rattle.std.specs.Prelude.{◌≡◌, ◌++◌, codes, decimal, map, slice_get, Some, IfOk, IfSome, IsTrue};
+ghost use Rattle.std.specs.Prelude.{◌≡◌, ◌++◌, codes, decimal, map, slice_get, Some, IfOk, IsTrue};
 ghost use Rattle.doc_values.specs.Documents.{doc_tree};
 ghost use Rattle.doc_values.specs.Types.{ty_tree, is_well_formed};
 ghost use Rattle.doc_values.specs.Typing.{has};
@@ -9,6 +9,7 @@ ghost use Rattle.lens_forms.specs.Forms.{form_tree, left_type, right_type};
 ghost use Rattle.lens_core.specs.Complements.{comp_tree, Fits};
 ghost use Rattle.complement_file.specs.ComplementJson.{tree_of_complement};
 ghost use Rattle.answer_text.specs.Lines.{tree_line};
+ghost use Rattle.view_hub.specs.Hubs.{ViewTree};
 ghost use Rattle.view_hub.specs.Views.{hub_tree};
 ghost use Rattle.hub_run.specs.Runs.{hub_line, lines_of_view, state_lines};
 
@@ -87,7 +88,8 @@ pub fn state_lines(
     requires of_forms { map form_tree typed.now ≡ map (λ l. form_tree l.typed) hub.now.lenses }
     ensures lines { IfOk result (λ text. text.items ≡ state_lines (map form_tree typed.now) (hub_tree hub.now.parts)) }
 {
-    let line = hub_line(alloc, &typed[0], hub.hub())?;
+    let document = hub.hub();
+    let line = hub_line(alloc, &typed[0], document)?;
     let mut text = line.into_vec();
     for number in 0..typed.len() {
         let lines = lines_at(alloc, &typed[number], hub, number as u64)?;
@@ -104,11 +106,15 @@ fn lines_at(
     number: u64,
 ) -> Result<Vec<u8>, AllocError>
     requires form { slice_get (map (λ l. form_tree l.typed) hub.now.lenses) number ≡ Some (form_tree typed.now) }
-    ensures { IfOk result (λ lines. IfSome (slice_get (hub_tree hub.now.parts).views number)
-        (λ v. lines.items ≡ lines_of_view number (form_tree typed.now) v.comp v.doc)) }
+    ensures { IfOk result (λ lines. (v : ViewTree) → slice_get (hub_tree hub.now.parts).views number ≡ Some v
+        → lines.items ≡ lines_of_view number (form_tree typed.now) v.comp v.doc) }
 {
-    match (hub.view(number), hub.comp(number)) {
-        (Some(doc), Some(comp)) => lines_of_view(alloc, number, typed, doc, comp),
-        _ => unreachable!(),
-    }
+    let _document = hub.hub();
+    let Some(doc) = hub.view(number) else {
+        unreachable!();
+    };
+    let Some(comp) = hub.comp(number) else {
+        unreachable!();
+    };
+    lines_of_view(alloc, number, typed, doc, comp)
 }
