@@ -161,9 +161,9 @@ module _ {L : Type 0} (left right : L → TyTree) (translation : L → Side → 
         }
 
     -- a stop at the piece
-    pub run_stops : (stopped : Stopped) (any_triple : HubTree) → AnswersPiece left right translation ls input next room mid_source source' mid held' t t' p p' (Err stopped)
-        → AnswersPieces left right translation ls start before next room source source' held held' any_triple (Err stopped)
-    run_stops stopped any_triple a = record {
+    pub run_stops : (stopped : Stopped) (any_hub : HubTree) → AnswersPiece left right translation ls input next room mid_source source' mid held' t t' p p' (Err stopped)
+        → AnswersPieces left right translation ls start before next room source source' held held' any_hub (Err stopped)
+    run_stops stopped any_hub a = record {
       more = c.more ++ a.bytes;
       consumes = all_consumed a.bytes a.consumes;
       at_most = omega (arith, taken, a.at_most);
