@@ -1,0 +1,75 @@
+-- Openings that are refused, or fail.
+use Rattle.std.proofs.Common.{◌≡◌, inl, inr, ℕ, List, Option, Some, None, Result, Ok, Err, refl, sym, ap, subst, ◌∙◌}
+use Rattle.std.proofs.lemmas.Option.{same_Some}
+use Rattle.std.specs.Prelude.{IfSome}
+use Rattle.gate_log.specs.CallEnds.{IsLogRefusal, IsPayloadsFault, NoBadRecord}
+use Rattle.gate_log.specs.LogBytes.{not_a_log, bad_record, log_of}
+use Rattle.gate_log.specs.declared.fault.LogFault.{LogFault}
+use Rattle.gate_log.specs.declared.fault.LogFault.TheVariants as log
+use Rattle.stored_run.specs.Refusals.{Refuses, EndsAtLog, EndsAtPayloads, IsUnwritten, FailsEarly, EndsRefused, refusal_of_payloads, refusal_of_log, refusal_in}
+use Rattle.stored_run.specs.Reopening.{IsReopenFault}
+use Rattle.stored_run.specs.declared.refusals.StoreRefusal.{StoreRefusal}
+use Rattle.stored_run.specs.declared.refusals.StoreRefusal.TheVariants.{NotALog, BadRecord, NotConsistent}
+use Rattle.stored_run.specs.declared.session.ReopenFault.{ReopenFault}
+use Rattle.stored_run.specs.declared.session.ReopenFault.TheVariants as reopening
+use Rattle.stored_run.specs.declared.status.Status.{Status}
+
+-- what holds of a known content
+pub at_content : (o : Option (List ℕ)) (bytes : List ℕ) (P : List ℕ → Type 0) → o ≡ Some bytes → IfSome o P → P bytes
+at_content None bytes P e h = cc
+at_content (Some b) bytes P e h = subst P (same_Some b bytes e) h
+
+-- calls of the disk that only read, one after another
+pub unwritten_then : {D : Type 0} (content : D → Option (List ℕ)) (images : D → List ℕ → Type 0) (d d1 d' : D) → content d1 ≡ content d → ((c : List ℕ) → images d1 c → images d c)
+    → IsUnwritten content images d1 d' → IsUnwritten content images d d'
+unwritten_then content images d d1 d' e f u = record { same = u.same ∙ e; only = λ c x. f c (u.only c x) }
+
+pub unwritten_none : {D : Type 0} (content : D → Option (List ℕ)) (images : D → List ℕ → Type 0) (d : D) → IsUnwritten content images d d
+unwritten_none content images d = record { same = refl; only = λ c x. x }
+
+-- the opening of bytes that are refused
+pub log_refused : {T : Type 0} (stands_for : List (List ℕ) → Result T ReopenFault) (old new : Option (List ℕ)) (status : Status) (fault : LogFault) (o : Option (List ℕ)) (bytes : List ℕ) (refusal : StoreRefusal)
+    → o ≡ Some bytes → IsLogRefusal o fault → refusal_in stands_for bytes ≡ Some refusal → EndsAtLog old new fault status → EndsRefused old new refusal status
+log_refused stands_for old new status log.NotALog o bytes refusal e r q ends =
+    let is = at_content o bytes (λ b. log_of b ≡ not_a_log) e r in
+    let same : NotALog ≡ refusal = same_Some NotALog refusal (ap (refusal_of_log stands_for) (sym is) ∙ q) in
+    inl (subst (λ (x : StoreRefusal). Refuses old new x status) same ends)
+log_refused stands_for old new status (log.BadRecord n) o bytes refusal e r q ends =
+    let is = at_content o bytes (λ b. log_of b ≡ bad_record n) e r in
+    let same : BadRecord n ≡ refusal = same_Some (BadRecord n) refusal (ap (refusal_of_log stands_for) (sym is) ∙ q) in
+    inl (subst (λ (x : StoreRefusal). Refuses old new x status) same ends)
+log_refused stands_for old new status log.DiskFault o bytes refusal e r q ends = inr (inl ends.0, ends.1)
+log_refused stands_for old new status log.LogExists o bytes refusal e r q ends = absurd r
+log_refused stands_for old new status log.LogFull o bytes refusal e r q ends = absurd r
+log_refused stands_for old new status log.NoMemory o bytes refusal e r q ends = absurd r
+
+-- the reading of payloads fails
+pub reading_fails : {T : Type 0} (old new : Option (List ℕ)) (status : Status) (fault : LogFault) (r : Result T LogFault) → r ≡ Err fault → NoBadRecord r → IsPayloadsFault fault → EndsAtLog old new fault status
+    → FailsEarly old new status
+reading_fails old new status (log.BadRecord n) r e never possible ends = absurd (subst NoBadRecord e never)
+reading_fails old new status log.DiskFault r e never possible ends = (inl ends.0, ends.1)
+reading_fails old new status log.NoMemory r e never possible ends = (inr ends.0, ends.1)
+reading_fails old new status log.NotALog r e never possible ends = absurd possible
+reading_fails old new status log.LogExists r e never possible ends = absurd possible
+reading_fails old new status log.LogFull r e never possible ends = absurd possible
+
+-- payloads that are refused
+pub payloads_refused : {T : Type 0} (r : Result T ReopenFault) (old new : Option (List ℕ)) (status : Status) (fault : ReopenFault) (refusal : StoreRefusal)
+    → IsReopenFault r fault → refusal_of_payloads r ≡ Some refusal → EndsAtPayloads old new fault status → EndsRefused old new refusal status
+payloads_refused r old new status (reopening.BadRecord n) refusal is q ends =
+    let same : BadRecord n ≡ refusal = same_Some (BadRecord n) refusal (ap refusal_of_payloads (sym is) ∙ q) in
+    inl (subst (λ (x : StoreRefusal). Refuses old new x status) same ends)
+payloads_refused r old new status (reopening.NotConsistent n) refusal is q ends =
+    let same : NotConsistent n ≡ refusal = same_Some (NotConsistent n) refusal (ap refusal_of_payloads (sym is) ∙ q) in
+    inl (subst (λ (x : StoreRefusal). Refuses old new x status) same ends)
+payloads_refused r old new status reopening.NoMemory refusal is q ends = inr (inr ends.0, ends.1)
+
+-- payloads that stand for a session are not refused
+pub payloads_stand : {T : Type 0} (r : Result T ReopenFault) (x : T) (old new : Option (List ℕ)) (status : Status) (fault : ReopenFault)
+    → r ≡ Ok x → IsReopenFault r fault → EndsAtPayloads old new fault status → FailsEarly old new status
+payloads_stand r x old new status (reopening.BadRecord n) e is ends = let never = sym e ∙ is in cc
+payloads_stand r x old new status (reopening.NotConsistent n) e is ends = let never = sym e ∙ is in cc
+payloads_stand r x old new status reopening.NoMemory e is ends = (inr ends.0, ends.1)
+
+pub never_refused : {T : Type 0} (r : Result T ReopenFault) (x : T) (refusal : StoreRefusal) → r ≡ Ok x → refusal_of_payloads r ≡ Some refusal → ⊥
+never_refused r x refusal e q = let never : None ≡ Some refusal = ap refusal_of_payloads (sym e) ∙ q in cc

@@ -1,0 +1,146 @@
+use Rattle.std.proofs.Common.{inl, inr, ℕ, List, Err, ap, subst, ◌∙◌, ◌≡◌, sym}
+use Rattle.std.proofs.KnownBytes.{Consumes-nil}
+use Rattle.gate_log.specs.LogOnDisk.{HoldsPayloads, Stands}
+use Rattle.gate_log.specs.declared.fault.LogFault.{LogFault}
+use Rattle.stored_run.proofs.Causes.{increased_since}
+use Rattle.stored_run.proofs.ApplyCalls.{same_held, only_disk, synced_holds, safe_later, safe_synced, held_first}
+use Rattle.stored_run.proofs.StoredPayloads.{images_held, reads_held}
+use Rattle.stored_run.proofs.RefusalEnds.{at_disk_fault, at_log_disk, at_log_other, at_log_unfinished}
+use Rattle.gate_log.specs.LogBytes.{payloads, log_of}
+use Rattle.stored_run.specs.Refusals.{refusal_of_log}
+use Rattle.stored_run.proofs.Openings.{at_content, unwritten_then, log_refused}
+use Rattle.stored_run.proofs.apply_call.apply.Goals as goal
+
+pub returns-in-Ok-clause-continues : goal.returns-in-Ok-clause-continues
+returns-in-Ok-clause-continues g c =
+    let disk = g.D.Disk in
+    let held = g.K.Sink.held in
+    let a = g.A.StoredSession in
+    let only = g.met.D.Disk.only_now in
+    let hold = images_held disk.content disk.images g.met.D.Disk.content_is_image in
+    let reads = reads_held disk.content disk.images in
+    let laws = g.met.A.StoredSession in
+    let k = c.args.sink.now in
+    let d = c.args.disk.now in
+    let left = g.S.Source.left c.args.source.now in
+    let d1 = c.open_log.new.disk in
+    let l = c.in-Ok.log in
+    let log = c.in-Ok.ensures.log in
+    let k' = c.apply_log.new.sink in
+    let d' = c.apply_log.new.disk in
+    let left' = g.S.Source.left c.apply_log.new.source in
+    λ before bytes t version told holds h f.
+    let st = subst (λ (x : List (List ℕ)). Stands (disk.content d1) (disk.images d1) l x) (same_held (disk.content d) bytes log.0 before told log.1 holds) log.2 in
+    c.apply_log.ensures.continues before bytes t version (c.in-Ok.ensures.content ∙ told) st h f
+
+pub returns-in-Ok-clause-safe : goal.returns-in-Ok-clause-safe
+returns-in-Ok-clause-safe g c =
+    let disk = g.D.Disk in
+    let held = g.K.Sink.held in
+    let a = g.A.StoredSession in
+    let only = g.met.D.Disk.only_now in
+    let hold = images_held disk.content disk.images g.met.D.Disk.content_is_image in
+    let reads = reads_held disk.content disk.images in
+    let laws = g.met.A.StoredSession in
+    let k = c.args.sink.now in
+    let d = c.args.disk.now in
+    let left = g.S.Source.left c.args.source.now in
+    let d1 = c.open_log.new.disk in
+    let l = c.in-Ok.log in
+    let log = c.in-Ok.ensures.log in
+    let k' = c.apply_log.new.sink in
+    let d' = c.apply_log.new.disk in
+    let left' = g.S.Source.left c.apply_log.new.source in
+    λ before bytes t version told holds h.
+    let st = subst (λ (x : List (List ℕ)). Stands (disk.content d1) (disk.images d1) l x) (same_held (disk.content d) bytes log.0 before told log.1 holds) log.2 in
+    inr (safe_later held disk.content disk.images disk.moment disk.images_since a.answer a.state_text a.stands_for a.count_of hold reads laws.version_stands laws.change_stands laws.refused_stays laws.version_counts laws.change_counts (HoldsPayloads before) (disk.images d) left left' k k' d d1 d' before version t (held_first held disk.content disk.images disk.moment disk.images_since a.answer a.state_text a.stands_for a.count_of hold reads laws.version_stands laws.change_stands laws.refused_stays laws.version_counts laws.change_counts before (disk.images d)) c.in-Ok.ensures.moments
+    (c.apply_log.ensures.safe before bytes t version (c.in-Ok.ensures.content ∙ told) st h))
+
+pub returns-in-Err-clause-continues : goal.returns-in-Err-clause-continues
+returns-in-Err-clause-continues g c = λ before bytes t version told holds h f. absurd (at_log_unfinished (g.K.Sink.held c.args.sink.now) (g.K.Sink.held c.refuse_log.new.sink) c.refuse_log.result c.in-Err.fault c.refuse_log.ensures.ends f)
+
+pub returns-in-Err-clause-safe : goal.returns-in-Err-clause-safe
+returns-in-Err-clause-safe g c =
+    let disk = g.D.Disk in
+    let held = g.K.Sink.held in
+    let a = g.A.StoredSession in
+    let only = g.met.D.Disk.only_now in
+    let hold = images_held disk.content disk.images g.met.D.Disk.content_is_image in
+    let reads = reads_held disk.content disk.images in
+    let laws = g.met.A.StoredSession in
+    let k = c.args.sink.now in
+    let d = c.args.disk.now in
+    let left = g.S.Source.left c.args.source.now in
+    let d1 = c.open_log.new.disk in
+    let k' = c.refuse_log.new.sink in
+    λ before bytes t version told holds h.
+    let failed = at_disk_fault (g.K.Sink.held c.args.sink.now) (g.K.Sink.held c.refuse_log.new.sink) c.refuse_log.result c.in-Err.fault (only_disk c.in-Err.fault (disk.content d) bytes before told holds c.in-Err.ensures.log) c.refuse_log.ensures.ends in
+    elim c.in-Err.ensures.synced [
+      | inl now ↦ inr (safe_synced held disk.content disk.images disk.moment disk.images_since a.answer a.state_text a.stands_for a.count_of hold reads laws.version_stands laws.change_stands laws.refused_stays laws.version_counts laws.change_counts (disk.images d) left left k k' d d1 before version t (Consumes-nil left) (at_log_other (g.K.Sink.held c.args.sink.now) (g.K.Sink.held c.refuse_log.new.sink) c.refuse_log.result c.in-Err.fault c.refuse_log.ensures.ends)
+          (synced_holds (disk.content d) bytes before (disk.images d1) told holds now) c.in-Err.ensures.moments h)
+      | inr unsynced ↦ inl (failed.0, record { consumes = Consumes-nil left; given = failed.1; only = c.in-Err.ensures.images; moments = c.in-Err.ensures.moments })
+    ]
+
+pub returns-in-Ok-clause-disk_fault : goal.returns-in-Ok-clause-disk_fault
+returns-in-Ok-clause-disk_fault g c =
+    let faults = g.D.Disk.faults in
+    λ e. increased_since (faults c.args.disk.now) (faults c.open_log.new.disk) (faults c.apply_log.new.disk) c.in-Ok.ensures.faults (c.apply_log.ensures.disk_fault e)
+
+pub returns-in-Err-clause-disk_fault : goal.returns-in-Err-clause-disk_fault
+returns-in-Err-clause-disk_fault g c = λ e. c.in-Err.ensures.cause (ap (λ (x : LogFault). Err x) (at_log_disk (g.K.Sink.held c.args.sink.now) (g.K.Sink.held c.refuse_log.new.sink) c.refuse_log.result c.in-Err.fault c.refuse_log.ensures.ends e))
+
+pub returns-in-Ok-clause-exits : goal.returns-in-Ok-clause-exits
+returns-in-Ok-clause-exits g c =
+    let disk = g.D.Disk in
+    let held = g.K.Sink.held in
+    let a = g.A.StoredSession in
+    let d = c.args.disk.now in
+    let d1 = c.open_log.new.disk in
+    let d' = c.apply_log.new.disk in
+    let l = c.in-Ok.log in
+    let log = c.in-Ok.ensures.log in
+    λ before bytes t version told holds h.
+    let st = subst (λ (x : List (List ℕ)). Stands (disk.content d1) (disk.images d1) l x) (same_held (disk.content d) bytes log.0 before told log.1 holds) log.2 in
+    elim (c.apply_log.ensures.exits before bytes t version (c.in-Ok.ensures.content ∙ told) st h) [
+      | inl e ↦ inl e
+      | inr u ↦ inr (unwritten_then disk.content disk.images d d1 d' c.in-Ok.ensures.content c.in-Ok.ensures.images u.0, u.1, u.2)
+    ]
+
+pub returns-in-Err-clause-exits : goal.returns-in-Err-clause-exits
+returns-in-Err-clause-exits g c =
+    let disk = g.D.Disk in
+    let held = g.K.Sink.held in
+    let a = g.A.StoredSession in
+    let d = c.args.disk.now in
+    let left = g.S.Source.left c.args.source.now in
+    let k = c.args.sink.now in
+    let k' = c.refuse_log.new.sink in
+    λ before bytes t version told holds h.
+    let failed = at_disk_fault (held k) (held k') c.refuse_log.result c.in-Err.fault (only_disk c.in-Err.fault (disk.content d) bytes before told holds c.in-Err.ensures.log) c.refuse_log.ensures.ends in
+    inr (record { same = c.in-Err.ensures.content; only = c.in-Err.ensures.images }, Consumes-nil left, (inl failed.0, failed.1))
+
+pub returns-in-Ok-clause-refused : goal.returns-in-Ok-clause-refused
+returns-in-Ok-clause-refused g c =
+    let disk = g.D.Disk in
+    let held = g.K.Sink.held in
+    let a = g.A.StoredSession in
+    let d = c.args.disk.now in
+    let d1 = c.open_log.new.disk in
+    let d' = c.apply_log.new.disk in
+    let log = c.in-Ok.ensures.log in
+    λ bytes refusal told q.
+    let is : log_of bytes ≡ payloads log.0 = at_content (disk.content d) bytes (HoldsPayloads log.0) told log.1 in
+    let e = c.apply_log.ensures.refused log.0 bytes refusal (c.in-Ok.ensures.content ∙ told) log.2 (ap (refusal_of_log a.stands_for) (sym is) ∙ q) in
+    (unwritten_then disk.content disk.images d d1 d' c.in-Ok.ensures.content c.in-Ok.ensures.images e.0, e.1, e.2)
+
+pub returns-in-Err-clause-refused : goal.returns-in-Err-clause-refused
+returns-in-Err-clause-refused g c =
+    let disk = g.D.Disk in
+    let held = g.K.Sink.held in
+    let a = g.A.StoredSession in
+    let d = c.args.disk.now in
+    let left = g.S.Source.left c.args.source.now in
+    let k = c.args.sink.now in
+    let k' = c.refuse_log.new.sink in
+    λ bytes refusal told q.
+    (record { same = c.in-Err.ensures.content; only = c.in-Err.ensures.images }, Consumes-nil left, log_refused a.stands_for (held k) (held k') c.refuse_log.result c.in-Err.fault (disk.content d) bytes refusal told c.in-Err.ensures.log q c.refuse_log.ensures.ends)

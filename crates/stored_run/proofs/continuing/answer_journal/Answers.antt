@@ -1,0 +1,81 @@
+use Rattle.std.proofs.Common.{false}
+use Rattle.std.specs.Prelude.{option_to_list}
+use Rattle.edit_journal.specs.Pieces.{last_line}
+use Rattle.stored_run.specs.Answered.{Answers, StopsAmong}
+use Rattle.stored_run.specs.Journal.{EndsJournal, StopsJournal}
+use Rattle.stored_run.specs.Stopping.{IsOwnStop}
+use Rattle.stored_run.proofs.Ends.{stops_at_once, ends_journal, stops_last}
+use Rattle.stored_run.proofs.AnsweredLines.{progress_at}
+use Rattle.stored_run.proofs.Outcomes.{if_ok, if_err2}
+use Rattle.stored_run.proofs.StoredPayloads.{images_held}
+use Rattle.stored_run.proofs.continuing.answer_journal.Goals as goal
+
+pub returns-in_default-clause-stopped : goal.returns-in_default-clause-stopped
+returns-in_default-clause-stopped g c =
+    let disk = g.D.Disk in
+    let held = g.K.Sink.held in
+    let only = g.met.D.Disk.only_now in
+    let hold = images_held disk.content disk.images g.met.D.Disk.content_is_image in
+    let answer = g.A.StoredSession.answer in
+    let state = g.A.StoredSession.state in
+    stops_at_once held disk.content disk.images disk.moment disk.images_since answer only hold (g.S.Source.left c.args.source.now) c.args.sink.now c.args.disk.now c.args.log.now (state c.args.session.now)
+
+pub returns-clause-ended : goal.returns-clause-ended
+returns-clause-ended g c =
+    let disk = g.D.Disk in
+    let held = g.K.Sink.held in
+    let only = g.met.D.Disk.only_now in
+    let hold = images_held disk.content disk.images g.met.D.Disk.content_is_image in
+    let answer = g.A.StoredSession.answer in
+    let state = g.A.StoredSession.state in
+    let k = c.args.sink.now in
+    let d = c.args.disk.now in
+    let l = c.args.log.now in
+    let t = state c.args.session.now in
+    let p = progress_at 0 false in
+    let k' = c.answer_pieces.new.sink in
+    let d' = c.answer_pieces.new.disk in
+    let l' = c.answer_pieces.new.log in
+    let t' = state c.answer_pieces.new.session in
+    let p' = c.in_ok-progress.progress in
+    let k'' = c.answer_last.new.sink in
+    let d'' = c.answer_last.new.disk in
+    let l'' = c.answer_last.new.log in
+    let t'' = state c.answer_last.new.session in
+    let left = g.S.Source.left c.args.source.now in
+    let left' = g.S.Source.left c.answer_pieces.new.source in
+    let input = c.answer_pieces.new.input in
+    let lines = option_to_list (last_line input.lines.begun) in
+    if_ok c.answer_last.result (Answers held disk.content disk.images disk.moment disk.images_since answer k' d' l' k'' d'' l'' t' p' lines t'') (EndsJournal held disk.content disk.images disk.moment disk.images_since answer left left' k d l k'' d'' l'' t p t'')
+    (λ p'' a. ends_journal held disk.content disk.images disk.moment disk.images_since answer only hold left left' input k k' d d' l l' t t' p p' c.in_ok-progress.ensures.ended k'' d'' l'' t'' p'' a)
+    c.answer_last.ensures.answered
+
+pub returns-clause-stopped : goal.returns-clause-stopped
+returns-clause-stopped g c =
+    let disk = g.D.Disk in
+    let held = g.K.Sink.held in
+    let only = g.met.D.Disk.only_now in
+    let hold = images_held disk.content disk.images g.met.D.Disk.content_is_image in
+    let answer = g.A.StoredSession.answer in
+    let state = g.A.StoredSession.state in
+    let k = c.args.sink.now in
+    let d = c.args.disk.now in
+    let l = c.args.log.now in
+    let t = state c.args.session.now in
+    let p = progress_at 0 false in
+    let k' = c.answer_pieces.new.sink in
+    let d' = c.answer_pieces.new.disk in
+    let l' = c.answer_pieces.new.log in
+    let t' = state c.answer_pieces.new.session in
+    let p' = c.in_ok-progress.progress in
+    let k'' = c.answer_last.new.sink in
+    let d'' = c.answer_last.new.disk in
+    let l'' = c.answer_last.new.log in
+    let t'' = state c.answer_last.new.session in
+    let left = g.S.Source.left c.args.source.now in
+    let left' = g.S.Source.left c.answer_pieces.new.source in
+    let input = c.answer_pieces.new.input in
+    let lines = option_to_list (last_line input.lines.begun) in
+    if_err2 c.answer_last.result IsOwnStop (StopsAmong held disk.content disk.images disk.moment disk.images_since answer k' d' l' k'' d'' l'' t' p'.number lines) (StopsJournal held disk.content disk.images disk.moment disk.images_since answer left left' k d l k'' d'' l'' t 0)
+    (λ stop own s. stops_last held disk.content disk.images disk.moment disk.images_since answer only hold left left' input k k' d d' l l' t t' p p' c.in_ok-progress.ensures.ended k'' d'' l'' stop own s)
+    c.answer_last.ensures.own c.answer_last.ensures.stopped

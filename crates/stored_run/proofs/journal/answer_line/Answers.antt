@@ -1,0 +1,14 @@
+use Rattle.std.proofs.Common.{sym, ◌∙◌}
+use Rattle.stored_run.proofs.AnsweredLines.{answers_blank}
+use Rattle.stored_run.proofs.StoredPayloads.{images_held}
+use Rattle.stored_run.proofs.journal.answer_line.Goals as goal
+
+pub returns-then-is_blank-clause-answered : goal.returns-then-is_blank-clause-answered
+returns-then-is_blank-clause-answered g c =
+    let disk = g.D.Disk in
+    let held = g.K.Sink.held in
+    let only = g.met.D.Disk.only_now in
+    let hold = images_held disk.content disk.images g.met.D.Disk.content_is_image in
+    let answer = g.A.StoredSession.answer in
+    let state = g.A.StoredSession.state in
+    answers_blank held disk.content disk.images disk.moment disk.images_since answer only hold c.args.sink.now c.args.disk.now c.args.log.now (state c.args.session.now) c.args.progress.now c.args.line.now (sym c.is_blank.ensures ∙ c.if-is_blank.true)

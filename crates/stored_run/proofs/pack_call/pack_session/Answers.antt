@@ -1,0 +1,191 @@
+use Rattle.std.proofs.Common.{◌⊎◌, inl, inr, Some, ap, ℕ, List, [], ◌∷◌, ◌++◌, subst, ◌∙◌, refl}
+use Rattle.std.specs.Prelude.{option_to_list}
+use Rattle.gate_log.specs.LogOnDisk.{HoldsPayloads}
+use Rattle.stored_run.specs.Effects.{Adds, Stops}
+use Rattle.stored_run.specs.declared.stop.Stop.{Stop}
+use Rattle.stored_run.proofs.Causes.{caused_sink, caused_disk}
+use Rattle.stored_run.proofs.Moments.{leaves_same}
+use Rattle.stored_run.proofs.PackCalls.{safe_kept, safe_packed, safe_short, packs_call}
+use Rattle.stored_run.proofs.StoredPayloads.{images_held, reads_held}
+use Rattle.std.proofs.KnownBytes.{Appends-nil}
+use Rattle.stored_run.proofs.Openings.{unwritten_none}
+use Rattle.stored_run.specs.CountLines.{packed_line}
+use Rattle.stored_run.proofs.pack_call.pack_session.Goals as goal
+
+pub returns-in_default-clause-safe : goal.returns-in_default-clause-safe
+returns-in_default-clause-safe g c =
+    let disk = g.D.Disk in
+    let held = g.K.Sink.held in
+    let a = g.A.StoredSession in
+    let only = g.met.D.Disk.only_now in
+    let hold = images_held disk.content disk.images g.met.D.Disk.content_is_image in
+    let reads = reads_held disk.content disk.images in
+    let laws = g.met.A.StoredSession in
+    let k = c.args.sink.now in
+    let d = c.args.disk.now in
+    let l = c.args.log.now in
+    let t = a.state c.args.session.now in
+    let version = c.args.version.now in
+    λ before st h.
+    safe_kept held disk.content disk.images disk.moment disk.images_since hold a.snapshot_of a.count_of a.stands_for reads laws.version_stands laws.snapshot_stands laws.version_counts laws.snapshot_counts d d before t version h (HoldsPayloads before) (λ x now. hold l d before x st now)
+    (leaves_same disk.moment disk.images_since d (HoldsPayloads before) (λ x was. hold l d before x st (only d x was)))
+
+pub returns-in-Ok-pack_store-clause-safe : goal.returns-in-Ok-pack_store-clause-safe
+returns-in-Ok-pack_store-clause-safe g c =
+    let disk = g.D.Disk in
+    let held = g.K.Sink.held in
+    let a = g.A.StoredSession in
+    let only = g.met.D.Disk.only_now in
+    let hold = images_held disk.content disk.images g.met.D.Disk.content_is_image in
+    let reads = reads_held disk.content disk.images in
+    let laws = g.met.A.StoredSession in
+    let k = c.args.sink.now in
+    let d = c.args.disk.now in
+    let l = c.args.log.now in
+    let t = a.state c.args.session.now in
+    let version = c.args.version.now in
+    let k' = c.pack_store.new.sink in
+    let d' = c.pack_store.new.disk in
+    let l' = c.pack_store.new.log in
+    let line = c.as_slice-line.result.now in
+    let snap = c.as_slice-snapshot.ensures ∙ c.in-Ok.ensures.snapshot in
+    λ before st h.
+    safe_packed held disk.content disk.images disk.moment disk.images_since hold a.snapshot_of a.count_of a.stands_for reads laws.version_stands laws.snapshot_stands laws.version_counts laws.snapshot_counts d d' before t version h (HoldsPayloads before) k k' l l' line
+    (subst (λ (x : List ℕ). Adds held disk.content disk.images disk.moment disk.images_since k d l k' d' l' line (option_to_list version ++ x ∷ [])) snap c.in-Ok-pack_store.ensures.packed) st
+
+pub returns-in-Ok-pack_store-clause-packs : goal.returns-in-Ok-pack_store-clause-packs
+returns-in-Ok-pack_store-clause-packs g c =
+    let disk = g.D.Disk in
+    let held = g.K.Sink.held in
+    let a = g.A.StoredSession in
+    let hold = images_held disk.content disk.images g.met.D.Disk.content_is_image in
+    let reads = reads_held disk.content disk.images in
+    let laws = g.met.A.StoredSession in
+    let k = c.args.sink.now in
+    let d = c.args.disk.now in
+    let l = c.args.log.now in
+    let t = a.state c.args.session.now in
+    let version = c.args.version.now in
+    let k' = c.pack_store.new.sink in
+    let d' = c.pack_store.new.disk in
+    let l' = c.pack_store.new.log in
+    let line = c.as_slice-line.result.now in
+    let snap = c.as_slice-snapshot.ensures ∙ c.in-Ok.ensures.snapshot in
+    λ before st h n f.
+    packs_call held disk.content disk.images disk.moment disk.images_since hold a.snapshot_of a.count_of a.stands_for reads laws.version_stands laws.snapshot_stands laws.version_counts laws.snapshot_counts d d' before t version h k k' l l' line
+    (c.as_slice-line.ensures ∙ c.in-Ok.ensures.line ∙ ap packed_line n)
+    (subst (λ (x : List ℕ). Adds held disk.content disk.images disk.moment disk.images_since k d l k' d' l' line (option_to_list version ++ x ∷ [])) snap c.in-Ok-pack_store.ensures.packed) st
+
+pub returns-clause-safe : goal.returns-clause-safe
+returns-clause-safe g c =
+    let disk = g.D.Disk in
+    let held = g.K.Sink.held in
+    let a = g.A.StoredSession in
+    let only = g.met.D.Disk.only_now in
+    let hold = images_held disk.content disk.images g.met.D.Disk.content_is_image in
+    let reads = reads_held disk.content disk.images in
+    let laws = g.met.A.StoredSession in
+    let k = c.args.sink.now in
+    let d = c.args.disk.now in
+    let l = c.args.log.now in
+    let t = a.state c.args.session.now in
+    let version = c.args.version.now in
+    let k' = c.pack_store.new.sink in
+    let d' = c.pack_store.new.disk in
+    let l' = c.pack_store.new.log in
+    let line = c.as_slice-line.result.now in
+    let snap = c.as_slice-snapshot.ensures ∙ c.in-Ok.ensures.snapshot in
+    λ before st h.
+    let stop = c.in-Err.stop in
+    safe_short held disk.content disk.images disk.moment disk.images_since hold a.snapshot_of a.count_of a.stands_for reads laws.version_stands laws.snapshot_stands laws.version_counts laws.snapshot_counts d d' before t version h (HoldsPayloads before) k k' l l' stop line
+    (subst (λ (x : List ℕ). Stops held disk.content disk.images disk.moment disk.images_since k d l k' d' l' stop [] [] [] (option_to_list version) ⊎ Stops held disk.content disk.images disk.moment disk.images_since k d l k' d' l' stop [] line (option_to_list version) (x ∷ [])) snap c.in-Err.ensures.stopped) st
+
+pub returns-clause-sink_fault : goal.returns-clause-sink_fault
+returns-clause-sink_fault g c =
+    let disk = g.D.Disk in
+    let held = g.K.Sink.held in
+    let k = c.args.sink.now in
+    let k1 = c.pack_store.new.sink in
+    let d = c.args.disk.now in
+    let d' = c.pack_store.new.disk in
+    λ e. caused_sink g.K.Sink.faults g.K.Sink.empty_takes g.K.Sink.room held disk.faults (Some c.in-Err.stop) k k1 c.give_stop.new.sink d d' c.in-Err.ensures.counted
+    (elim (c.give_stop.ensures.sink_fault e) [ inl s ↦ inl (ap (λ (x : Stop). Some x) s.0, s.1) | inr f ↦ inr f ])
+
+pub returns-clause-disk_fault : goal.returns-clause-disk_fault
+returns-clause-disk_fault g c =
+    let disk = g.D.Disk in
+    let held = g.K.Sink.held in
+    let k = c.args.sink.now in
+    let k1 = c.pack_store.new.sink in
+    let d = c.args.disk.now in
+    let d' = c.pack_store.new.disk in
+    λ e. caused_disk g.K.Sink.faults g.K.Sink.empty_takes g.K.Sink.room held disk.faults c.in-Err.stop k k1 d d' (c.give_stop.ensures.disk e) c.in-Err.ensures.counted
+
+pub returns-in_default-clause-exits : goal.returns-in_default-clause-exits
+returns-in_default-clause-exits g c =
+    let disk = g.D.Disk in
+    let k = c.args.sink.now in
+    let d = c.args.disk.now in
+    λ before st. inr (unwritten_none disk.content disk.images d, (inr refl, Appends-nil (g.K.Sink.held k)))
+
+pub returns-in-Ok-pack_store-clause-exits : goal.returns-in-Ok-pack_store-clause-exits
+returns-in-Ok-pack_store-clause-exits g c =
+    let disk = g.D.Disk in
+    let held = g.K.Sink.held in
+    let a = g.A.StoredSession in
+    let k = c.args.sink.now in
+    let d = c.args.disk.now in
+    let l = c.args.log.now in
+    let t = a.state c.args.session.now in
+    let version = option_to_list c.args.version.now in
+    let k' = c.pack_store.new.sink in
+    let d' = c.pack_store.new.disk in
+    let l' = c.pack_store.new.log in
+    let line = c.as_slice-line.result.now in
+    let snap = c.as_slice-snapshot.ensures ∙ c.in-Ok.ensures.snapshot in
+    let says = c.as_slice-line.ensures ∙ c.in-Ok.ensures.line in
+    λ before st.
+    inl (record {
+      d1 = d;
+      log = l;
+      log' = l';
+      stands = st;
+      ends = inl (
+        refl,
+        subst (λ (y : List ℕ). Adds held disk.content disk.images disk.moment disk.images_since k d l k' d' l' y (version ++ a.snapshot_of t ∷ [])) says
+            (subst (λ (x : List ℕ). Adds held disk.content disk.images disk.moment disk.images_since k d l k' d' l' line (version ++ x ∷ [])) snap c.in-Ok-pack_store.ensures.packed),
+      );
+    })
+
+pub returns-clause-exits : goal.returns-clause-exits
+returns-clause-exits g c =
+    let disk = g.D.Disk in
+    let held = g.K.Sink.held in
+    let a = g.A.StoredSession in
+    let k = c.args.sink.now in
+    let d = c.args.disk.now in
+    let l = c.args.log.now in
+    let t = a.state c.args.session.now in
+    let version = option_to_list c.args.version.now in
+    let k1 = c.pack_store.new.sink in
+    let d' = c.pack_store.new.disk in
+    let l' = c.pack_store.new.log in
+    let stop = c.in-Err.stop in
+    let line = c.as_slice-line.result.now in
+    let snap = c.as_slice-snapshot.ensures ∙ c.in-Ok.ensures.snapshot in
+    let says = c.as_slice-line.ensures ∙ c.in-Ok.ensures.line in
+    λ before st.
+    inl (record {
+      d1 = d;
+      log = l;
+      log' = l';
+      stands = st;
+      ends = inr (record {
+        k1 = k1;
+        stop = stop;
+        stops =
+            subst (λ (y : List ℕ). Stops held disk.content disk.images disk.moment disk.images_since k d l k1 d' l' stop [] [] [] version ⊎ Stops held disk.content disk.images disk.moment disk.images_since k d l k1 d' l' stop [] y version (a.snapshot_of t ∷ [])) says
+            (subst (λ (x : List ℕ). Stops held disk.content disk.images disk.moment disk.images_since k d l k1 d' l' stop [] [] [] version ⊎ Stops held disk.content disk.images disk.moment disk.images_since k d l k1 d' l' stop [] line version (x ∷ [])) snap c.in-Err.ensures.stopped);
+        status_is = c.give_stop.ensures.gives;
+      });
+    })

@@ -1,0 +1,50 @@
+use Rattle.std.proofs.Common.{◌⊎◌, inr, [], ◌∷◌, ◌++◌}
+use Rattle.std.specs.Prelude.{option_to_list}
+use Rattle.stored_run.specs.Effects.{Adds, Stops}
+use Rattle.stored_run.proofs.Effects.{packs, packs_short}
+use Rattle.stored_run.proofs.Outcomes.{on_ok, if_err}
+use Rattle.stored_run.proofs.StoredPayloads.{images_held}
+use Rattle.stored_run.proofs.pack_call.pack_store.Goals as goal
+
+pub returns-clause-packed : goal.returns-clause-packed
+returns-clause-packed g c =
+    let disk = g.D.Disk in
+    let held = g.K.Sink.held in
+    let only = g.met.D.Disk.only_now in
+    let hold = images_held disk.content disk.images g.met.D.Disk.content_is_image in
+    let k = c.args.sink.now in
+    let d = c.args.disk.now in
+    let l = c.args.log.now in
+    let d1 = c.store_version.new.disk in
+    let l1 = c.store_version.new.log in
+    let k' = c.store_and_answer.new.sink in
+    let d' = c.store_and_answer.new.disk in
+    let l' = c.store_and_answer.new.log in
+    let version = option_to_list c.args.version.now in
+    let line = c.args.line.now in
+    let kept = c.args.snapshot.now ∷ [] in
+    on_ok c.store_and_answer.result (Adds held disk.content disk.images disk.moment disk.images_since k d1 l1 k' d' l' line kept) (Adds held disk.content disk.images disk.moment disk.images_since k d l k' d' l' line (version ++ kept))
+    (λ adds. packs held disk.content disk.images disk.moment disk.images_since only hold k k' d d1 d' l l1 l' version line kept c.in_ok-store_version.ensures.stored adds)
+    c.store_and_answer.ensures.stored
+
+pub returns-clause-stopped : goal.returns-clause-stopped
+returns-clause-stopped g c =
+    let disk = g.D.Disk in
+    let held = g.K.Sink.held in
+    let only = g.met.D.Disk.only_now in
+    let hold = images_held disk.content disk.images g.met.D.Disk.content_is_image in
+    let k = c.args.sink.now in
+    let d = c.args.disk.now in
+    let l = c.args.log.now in
+    let d1 = c.store_version.new.disk in
+    let l1 = c.store_version.new.log in
+    let k' = c.store_and_answer.new.sink in
+    let d' = c.store_and_answer.new.disk in
+    let l' = c.store_and_answer.new.log in
+    let version = option_to_list c.args.version.now in
+    let line = c.args.line.now in
+    let kept = c.args.snapshot.now ∷ [] in
+    if_err c.store_and_answer.result (λ stop. Stops held disk.content disk.images disk.moment disk.images_since k d1 l1 k' d' l' stop [] line [] kept)
+    (λ stop. Stops held disk.content disk.images disk.moment disk.images_since k d l k' d' l' stop [] [] [] version ⊎ Stops held disk.content disk.images disk.moment disk.images_since k d l k' d' l' stop [] line version kept)
+    (λ stop stops. inr (packs_short held disk.content disk.images disk.moment disk.images_since only hold k k' d d1 d' l l1 l' version stop line kept c.in_ok-store_version.ensures.stored stops))
+    c.store_and_answer.ensures.stopped

@@ -1,0 +1,52 @@
+use Rattle.std.proofs.Common.{◌≡◌, ◌∷◌, [], List, ℕ, Option, Some, sym, subst, ap, ◌∙◌}
+use Rattle.std.specs.Prelude.{option_to_list}
+use Rattle.stored_run.specs.Effects.{Adds, Stops}
+use Rattle.stored_run.specs.declared.stop.Stop.{Stop}
+use Rattle.stored_run.proofs.Effects.{adds_none, append_adds, append_stops}
+use Rattle.stored_run.proofs.StoredPayloads.{images_held}
+use Rattle.stored_run.proofs.store.store_version.Goals as goal
+
+pub returns-in-Ok-clause-stored : goal.returns-in-Ok-clause-stored
+returns-in-Ok-clause-stored g c =
+    let disk = g.D.Disk in
+    let held = g.K.Sink.held in
+    let only = g.met.D.Disk.only_now in
+    let hold = images_held disk.content disk.images g.met.D.Disk.content_is_image in
+    let k = c.args._sink.now in
+    let d = c.args.disk.now in
+    let l = c.args.log.now in
+    let d' = c.append.new.disk in
+    let l' = c.append.new.self in
+    let payload = c.as_slice.result.now in
+    let is : c.args.version.now ≡ Some payload = c.in-Some.is ∙ ap (λ (x : List ℕ). Some x) (sym c.as_slice.ensures) in
+    subst (λ (o : Option (List ℕ)). Adds held disk.content disk.images disk.moment disk.images_since k d l k d' l' [] (option_to_list o)) (sym is)
+    (append_adds held disk.content disk.images disk.moment disk.images_since only hold k d d' l l' payload c.in-Ok.ensures.ends c.in-Ok.ensures.moments)
+
+pub returns-in-Err-clause-stopped : goal.returns-in-Err-clause-stopped
+returns-in-Err-clause-stopped g c =
+    let disk = g.D.Disk in
+    let held = g.K.Sink.held in
+    let only = g.met.D.Disk.only_now in
+    let hold = images_held disk.content disk.images g.met.D.Disk.content_is_image in
+    let k = c.args._sink.now in
+    let d = c.args.disk.now in
+    let l = c.args.log.now in
+    let d' = c.append.new.disk in
+    let l' = c.append.new.self in
+    let payload = c.as_slice.result.now in
+    let is : c.args.version.now ≡ Some payload = c.in-Some.is ∙ ap (λ (x : List ℕ). Some x) (sym c.as_slice.ensures) in
+    subst (λ (o : Option (List ℕ)). Stops held disk.content disk.images disk.moment disk.images_since k d l k d' l' c.at_append.result [] [] [] (option_to_list o)) (sym is)
+    (subst (λ (s : Stop). Stops held disk.content disk.images disk.moment disk.images_since k d l k d' l' s [] [] [] (payload ∷ [])) (sym c.at_append.ensures.stop)
+    (append_stops held disk.content disk.images disk.moment disk.images_since only hold k d d' l l' payload [] c.in-Err.fault c.requires.stands c.in-Err.ensures.ends c.in-Err.ensures.moments))
+
+pub returns-in-None-clause-stored : goal.returns-in-None-clause-stored
+returns-in-None-clause-stored g c =
+    let disk = g.D.Disk in
+    let held = g.K.Sink.held in
+    let only = g.met.D.Disk.only_now in
+    let hold = images_held disk.content disk.images g.met.D.Disk.content_is_image in
+    let k = c.args._sink.now in
+    let d = c.args.disk.now in
+    let l = c.args.log.now in
+    subst (λ (o : Option (List ℕ)). Adds held disk.content disk.images disk.moment disk.images_since k d l k d l [] (option_to_list o)) (sym c.in-None.is)
+    (adds_none held disk.content disk.images disk.moment disk.images_since only hold k d l)

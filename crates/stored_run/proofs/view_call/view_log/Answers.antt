@@ -1,0 +1,74 @@
+use Rattle.std.proofs.Common.{◌≡◌, inr, ℕ, List, Ok, Err, sym, ap, subst, ◌∙◌}
+use Rattle.gate_log.specs.CallEnds.{NoBadRecord}
+use Rattle.gate_log.specs.declared.fault.LogFault.{LogFault}
+use Rattle.stored_run.specs.Refusals.{refusal_of_payloads}
+use Rattle.stored_run.proofs.ApplyCalls.{at_some}
+use Rattle.stored_run.proofs.Openings.{reading_fails}
+use Rattle.stored_run.proofs.RefusalEnds.{at_log_disk}
+use Rattle.stored_run.specs.ViewCall.{Views, view_text}
+use Rattle.stored_run.proofs.view_call.view_log.Goals as goal
+
+pub returns-in-Ok-clause-views : goal.returns-in-Ok-clause-views
+returns-in-Ok-clause-views g c =
+    let disk = g.D.Disk in
+    let held = g.K.Sink.held in
+    let a = g.A.StoredSession in
+    let k = c.args.sink.now in
+    let d = c.args.disk.now in
+    let read = c.in-Ok.payloads in
+    λ before bytes t version told st h.
+    let same : read ≡ before = at_some (disk.content d) bytes (read ≡ before) told (c.in-Ok.ensures.payloads before st) in
+    subst (λ (x : List (List ℕ)). Views (held k) (held c.view_payloads.new.sink) (view_text a.state_text c.args.view t (a.count_of x)) c.view_payloads.result) same
+    (c.view_payloads.ensures.views t version (subst (λ (x : List (List ℕ)). a.stands_for x ≡ Ok (t, version)) (sym same) h))
+
+pub returns-in-Err-clause-views : goal.returns-in-Err-clause-views
+returns-in-Err-clause-views g c =
+    let disk = g.D.Disk in
+    let held = g.K.Sink.held in
+    let a = g.A.StoredSession in
+    let k = c.args.sink.now in
+    let d = c.args.disk.now in
+    let k' = c.refuse_log.new.sink in
+    λ before bytes t version told st h.
+    inr (inr (reading_fails (held k) (held k') c.refuse_log.result c.in-Err.fault c.payloads.result c.in-Err.is (at_some (disk.content d) bytes (NoBadRecord c.payloads.result) told c.payloads.ensures.never_bad) c.in-Err.ensures.possible c.refuse_log.ensures.ends))
+
+pub returns-in-Ok-clause-refused : goal.returns-in-Ok-clause-refused
+returns-in-Ok-clause-refused g c =
+    let disk = g.D.Disk in
+    let held = g.K.Sink.held in
+    let a = g.A.StoredSession in
+    let k = c.args.sink.now in
+    let d = c.args.disk.now in
+    let read = c.in-Ok.payloads in
+    λ before bytes refusal told st q.
+    let same : read ≡ before = at_some (disk.content d) bytes (read ≡ before) told (c.in-Ok.ensures.payloads before st) in
+    c.view_payloads.ensures.refused refusal (ap (λ (x : List (List ℕ)). refusal_of_payloads (a.stands_for x)) same ∙ q)
+
+pub returns-in-Err-clause-refused : goal.returns-in-Err-clause-refused
+returns-in-Err-clause-refused g c =
+    let disk = g.D.Disk in
+    let held = g.K.Sink.held in
+    let a = g.A.StoredSession in
+    let k = c.args.sink.now in
+    let d = c.args.disk.now in
+    let k' = c.refuse_log.new.sink in
+    λ before bytes refusal told st q.
+    inr (reading_fails (held k) (held k') c.refuse_log.result c.in-Err.fault c.payloads.result c.in-Err.is (at_some (disk.content d) bytes (NoBadRecord c.payloads.result) told c.payloads.ensures.never_bad) c.in-Err.ensures.possible c.refuse_log.ensures.ends)
+
+pub returns-in-Ok-clause-unwritten : goal.returns-in-Ok-clause-unwritten
+returns-in-Ok-clause-unwritten g c = record { same = c.in-Ok.ensures.reads.same_content; only = λ x now. (c.in-Ok.ensures.reads.same_images x).1 now }
+
+pub returns-in-Err-clause-unwritten : goal.returns-in-Err-clause-unwritten
+returns-in-Err-clause-unwritten g c = record { same = c.in-Err.ensures.reads.same_content; only = λ x now. (c.in-Err.ensures.reads.same_images x).1 now }
+
+pub returns-in-Ok-clause-moments : goal.returns-in-Ok-clause-moments
+returns-in-Ok-clause-moments g c = c.in-Ok.ensures.reads.crash
+
+pub returns-in-Err-clause-moments : goal.returns-in-Err-clause-moments
+returns-in-Err-clause-moments g c = c.in-Err.ensures.reads.crash
+
+pub returns-in-Ok-clause-disk_fault : goal.returns-in-Ok-clause-disk_fault
+returns-in-Ok-clause-disk_fault g c = λ e. absurd (c.view_payloads.ensures.no_disk e)
+
+pub returns-in-Err-clause-disk_fault : goal.returns-in-Err-clause-disk_fault
+returns-in-Err-clause-disk_fault g c = λ e. c.in-Err.ensures.cause (ap (λ (x : LogFault). Err x) (at_log_disk (g.K.Sink.held c.args.sink.now) (g.K.Sink.held c.refuse_log.new.sink) c.refuse_log.result c.in-Err.fault c.refuse_log.ensures.ends e))

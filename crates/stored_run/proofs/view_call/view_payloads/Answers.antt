@@ -1,0 +1,48 @@
+use Rattle.std.proofs.Common.{inr, ℕ, List, Option, subst}
+use Rattle.stored_run.specs.ViewCall.{Views, view_text}
+use Rattle.stored_run.proofs.Openings.{payloads_refused, payloads_stand, never_refused}
+use Rattle.stored_run.proofs.Outcomes.{same_ok}
+use Rattle.stored_run.proofs.RefusalEnds.{at_payloads_deviceless}
+use Rattle.stored_run.proofs.view_call.view_payloads.Goals as goal
+
+pub returns-in-Ok-clause-views : goal.returns-in-Ok-clause-views
+returns-in-Ok-clause-views g c =
+    let held = g.K.Sink.held in
+    let a = g.A.StoredSession in
+    let k = c.args.sink.now in
+    let before = c.args.payloads.now in
+    let k' = c.give_view.new.sink in
+    let opened = c.in-Ok.opened in
+    let one : a.State × Option (List ℕ) = (a.state opened.session, opened.version) in
+    λ t version h.
+    let other : a.State × Option (List ℕ) = (t, version) in
+    subst (λ (x : a.State × Option (List ℕ)). Views (held k) (held k') (view_text a.state_text c.args.view x.0 (a.count_of before)) c.give_view.result) (same_ok one other (a.stands_for before) c.in-Ok.ensures.stands h)
+    (subst (λ (n : ℕ). Views (held k) (held k') (view_text a.state_text c.args.view (a.state opened.session) n) c.give_view.result) c.in-Ok.ensures.count c.give_view.ensures.views)
+
+pub returns-in-Err-clause-views : goal.returns-in-Err-clause-views
+returns-in-Err-clause-views g c =
+    let held = g.K.Sink.held in
+    let a = g.A.StoredSession in
+    let k = c.args.sink.now in
+    let before = c.args.payloads.now in
+    let k' = c.refuse_payloads.new.sink in
+    λ t version h. inr (inr (payloads_stand (a.stands_for before) (t, version) (held k) (held k') c.refuse_payloads.result c.in-Err.fault h c.in-Err.ensures.stands c.refuse_payloads.ensures.ends))
+
+pub returns-in-Ok-clause-refused : goal.returns-in-Ok-clause-refused
+returns-in-Ok-clause-refused g c =
+    let a = g.A.StoredSession in
+    let opened = c.in-Ok.opened in
+    let one : a.State × Option (List ℕ) = (a.state opened.session, opened.version) in
+    λ refusal q. absurd (never_refused (a.stands_for c.args.payloads.now) one refusal c.in-Ok.ensures.stands q)
+
+pub returns-in-Err-clause-refused : goal.returns-in-Err-clause-refused
+returns-in-Err-clause-refused g c =
+    let held = g.K.Sink.held in
+    let a = g.A.StoredSession in
+    let k = c.args.sink.now in
+    let before = c.args.payloads.now in
+    let k' = c.refuse_payloads.new.sink in
+    λ refusal q. payloads_refused (a.stands_for before) (held k) (held k') c.refuse_payloads.result c.in-Err.fault refusal c.in-Err.ensures.stands q c.refuse_payloads.ensures.ends
+
+pub returns-in-Err-clause-no_disk : goal.returns-in-Err-clause-no_disk
+returns-in-Err-clause-no_disk g c = λ e. at_payloads_deviceless (g.K.Sink.held c.args.sink.now) (g.K.Sink.held c.refuse_payloads.new.sink) c.refuse_payloads.result c.in-Err.fault c.refuse_payloads.ensures.ends (inr e)

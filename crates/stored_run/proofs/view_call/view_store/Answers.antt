@@ -1,0 +1,82 @@
+use Rattle.std.proofs.Common.{◌≡◌, inl, inr, ℕ, List, Err, sym, ap, subst, ◌∙◌}
+use Rattle.gate_log.specs.LogBytes.{payloads, log_of}
+use Rattle.gate_log.specs.LogOnDisk.{HoldsPayloads, Stands}
+use Rattle.gate_log.specs.declared.fault.LogFault.{LogFault}
+use Rattle.stored_run.specs.Refusals.{refusal_of_log}
+use Rattle.stored_run.proofs.ApplyCalls.{same_held, only_disk}
+use Rattle.stored_run.proofs.Causes.{increased_since}
+use Rattle.stored_run.proofs.Moments.{leaves_then}
+use Rattle.stored_run.proofs.Openings.{at_content, unwritten_then, log_refused}
+use Rattle.stored_run.proofs.RefusalEnds.{at_disk_fault, at_log_disk}
+use Rattle.stored_run.proofs.view_call.view_store.Goals as goal
+
+pub returns-in-Ok-clause-views : goal.returns-in-Ok-clause-views
+returns-in-Ok-clause-views g c =
+    let disk = g.D.Disk in
+    let held = g.K.Sink.held in
+    let a = g.A.StoredSession in
+    let k = c.args.sink.now in
+    let d = c.args.disk.now in
+    let d1 = c.open_log.new.disk in
+    let l = c.in-Ok.log in
+    let log = c.in-Ok.ensures.log in
+    λ before bytes t version told holds h.
+    let st = subst (λ (x : List (List ℕ)). Stands (disk.content d1) (disk.images d1) l x) (same_held (disk.content d) bytes log.0 before told log.1 holds) log.2 in
+    c.view_log.ensures.views before bytes t version (c.in-Ok.ensures.content ∙ told) st h
+
+pub returns-in-Err-clause-views : goal.returns-in-Err-clause-views
+returns-in-Err-clause-views g c =
+    let disk = g.D.Disk in
+    let held = g.K.Sink.held in
+    let a = g.A.StoredSession in
+    let k = c.args.sink.now in
+    let d = c.args.disk.now in
+    let k' = c.refuse_log.new.sink in
+    λ before bytes t version told holds h.
+    let failed = at_disk_fault (held k) (held k') c.refuse_log.result c.in-Err.fault (only_disk c.in-Err.fault (disk.content d) bytes before told holds c.in-Err.ensures.log) c.refuse_log.ensures.ends in
+    inr (inr (inl failed.0, failed.1))
+
+pub returns-in-Ok-clause-refused : goal.returns-in-Ok-clause-refused
+returns-in-Ok-clause-refused g c =
+    let disk = g.D.Disk in
+    let held = g.K.Sink.held in
+    let a = g.A.StoredSession in
+    let k = c.args.sink.now in
+    let d = c.args.disk.now in
+    let log = c.in-Ok.ensures.log in
+    λ bytes refusal told q.
+    let is : log_of bytes ≡ payloads log.0 = at_content (disk.content d) bytes (HoldsPayloads log.0) told log.1 in
+    c.view_log.ensures.refused log.0 bytes refusal (c.in-Ok.ensures.content ∙ told) log.2 (ap (refusal_of_log a.stands_for) (sym is) ∙ q)
+
+pub returns-in-Err-clause-refused : goal.returns-in-Err-clause-refused
+returns-in-Err-clause-refused g c =
+    let disk = g.D.Disk in
+    let held = g.K.Sink.held in
+    let a = g.A.StoredSession in
+    let k = c.args.sink.now in
+    let d = c.args.disk.now in
+    let k' = c.refuse_log.new.sink in
+    λ bytes refusal told q. log_refused a.stands_for (held k) (held k') c.refuse_log.result c.in-Err.fault (disk.content d) bytes refusal told c.in-Err.ensures.log q c.refuse_log.ensures.ends
+
+pub returns-in-Ok-clause-unwritten : goal.returns-in-Ok-clause-unwritten
+returns-in-Ok-clause-unwritten g c =
+    let disk = g.D.Disk in
+    unwritten_then disk.content disk.images c.args.disk.now c.open_log.new.disk c.view_log.new.disk c.in-Ok.ensures.content c.in-Ok.ensures.images c.view_log.ensures.unwritten
+
+pub returns-in-Err-clause-unwritten : goal.returns-in-Err-clause-unwritten
+returns-in-Err-clause-unwritten g c = record { same = c.in-Err.ensures.content; only = c.in-Err.ensures.images }
+
+pub returns-in-Ok-clause-moments : goal.returns-in-Ok-clause-moments
+returns-in-Ok-clause-moments g c =
+    let disk = g.D.Disk in
+    let d = c.args.disk.now in
+    let d1 = c.open_log.new.disk in
+    leaves_then disk.moment disk.images_since d d1 c.view_log.new.disk (disk.images d) (disk.images d1) (disk.images d) (λ x h. h) (λ x h. c.in-Ok.ensures.images x h) c.in-Ok.ensures.moments c.view_log.ensures.moments
+
+pub returns-in-Ok-clause-disk_fault : goal.returns-in-Ok-clause-disk_fault
+returns-in-Ok-clause-disk_fault g c =
+    let faults = g.D.Disk.faults in
+    λ e. increased_since (faults c.args.disk.now) (faults c.open_log.new.disk) (faults c.view_log.new.disk) c.in-Ok.ensures.faults (c.view_log.ensures.disk_fault e)
+
+pub returns-in-Err-clause-disk_fault : goal.returns-in-Err-clause-disk_fault
+returns-in-Err-clause-disk_fault g c = λ e. c.in-Err.ensures.cause (ap (λ (x : LogFault). Err x) (at_log_disk (g.K.Sink.held c.args.sink.now) (g.K.Sink.held c.refuse_log.new.sink) c.refuse_log.result c.in-Err.fault c.refuse_log.ensures.ends e))

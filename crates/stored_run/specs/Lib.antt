@@ -1,0 +1,16 @@
+pub mod Causes
+pub mod OkLines
+pub mod Runs
+pub mod Effects
+pub mod Stopping
+pub mod Answered
+pub mod Journal
+pub mod CountLines
+pub mod Crash
+pub mod Refusals
+pub mod Ends
+pub mod Reopening
+pub mod ApplyCall
+pub mod StoreEnds
+pub mod PackCall
+pub mod ViewCall

@@ -1,0 +1,36 @@
+//! The commands over a store: `apply`, `pack`, `show`, `verify`, and the part of `init` that makes it.
+//!
+//! A store is a log on a disk, and its payloads stand for a session. [`apply`] answers the lines of a journal. It stores the
+//! payload of each change that it accepts, and only then writes its answer. [`pack`] stores a snapshot of the session.
+//! [`show`] and [`verify`] only read, and [`begin_store`] makes a store.
+//!
+//! A crash at any moment leaves a disk that holds the payload of each change whose `ok` line was written: `IsAcknowledged`
+//! in specs/Crash.antt, and `IsSafeCall` in specs/ApplyCall.antt for the complete call. `ContinuesCall` beside it is what a
+//! call that came to its end has done. The clauses are proved over any source, sink and disk, and over any session with the
+//! calls and the laws of [`StoredSession`].
+#![tactic(auto)]
+
+mod apply_call;
+mod continuing;
+mod count_lines;
+mod journal;
+mod making;
+mod pack_call;
+mod refusals;
+mod session;
+mod status;
+mod stop;
+mod store;
+mod view_call;
+
+pub use apply_call::apply;
+pub use continuing::{answer_journal, continue_store};
+pub use journal::{Progress, answer_line, answer_lines, answer_pieces};
+pub use making::begin_store;
+pub use pack_call::{pack, pack_store};
+pub use refusals::StoreRefusal;
+pub use session::{Answer, Opened, ReopenFault, StoredSession};
+pub use status::Status;
+pub use stop::Stop;
+pub use store::{store_and_answer, store_version};
+pub use view_call::{show, verify};

@@ -1,0 +1,292 @@
+//! The command `pack`, from its first call of the disk on.
+ghost use Rattle.std.specs.Prelude.{◌≡◌, ◌⊎◌, ◌∷◌, ◌++◌, [], List, ℕ, Ok, Some, OnOk, IfOk, IfErr, option_to_list};
+ghost use Rattle.std.specs.declared.option.Option.{Option};
+ghost use Rattle.lens_io.specs.Causes.{Increased};
+ghost use Rattle.gate_log.specs.LogOnDisk.{HoldsPayloads, Stands};
+ghost use Rattle.stored_run.specs.Causes.{Counted, stop_in, SinkFailed};
+ghost use Rattle.stored_run.specs.CountLines.{packed_line};
+ghost use Rattle.stored_run.specs.Effects.{Adds, Stops};
+ghost use Rattle.stored_run.specs.Ends.{IsFinished};
+ghost use Rattle.stored_run.specs.PackCall.{PacksCall, IsSafePack, IsUnpacked};
+ghost use Rattle.stored_run.specs.Refusals.{IsUnwritten, EndsRefused, FailsEarly, refusal_in, refusal_of_payloads};
+ghost use Rattle.stored_run.specs.StoreEnds.{StoresBehind};
+ghost use Rattle.stored_run.specs.declared.refusals.StoreRefusal.{StoreRefusal};
+
+use crate::count_lines::packed_line;
+use crate::refusals::{give_stop, refuse_log, refuse_payloads};
+use crate::session::StoredSession;
+use crate::status::Status;
+use crate::stop::Stop;
+use crate::store::{store_and_answer, store_version};
+use gate_log::{Log, open_log};
+use lens_io::{Disk, Payloads, Sink};
+use std::alloc::{AllocError, Global};
+use texts::Bytes;
+
+/// Opens a store, stores a snapshot of the session for which its payloads stand, and then writes the line of `pack`.
+///
+/// - `packs`: after `Done` the payloads are those from before, the version record if there was one to store, and the snapshot.
+///   They stand for the same state, and the line was written.
+/// - `safe`: whatever the status, an image that a crash leaves holds the payloads from before, or these and the version record,
+///   or these and the snapshot, and each of these lists stands for the same state. If the sync of the opening failed, nothing
+///   has changed.
+/// - `exits`: what was written and what is stored after each status, if the payloads stand for a session.
+/// - `refused`: if the bytes of the disk are refused, the line `store refused: REASON` is written, unless the disk failed or
+///   memory ran out before. Nothing is written to the disk.
+/// - `sink_fault`, `disk_fault`: these statuses come only if that device failed.
+pub fn pack<A: StoredSession + Drop, K: Sink, D: Disk>(
+    alloc: Global,
+    sink: &mut K,
+    disk: &mut D,
+) -> Status
+    ensures packs { (before : List (List ℕ)) (bytes : List ℕ) (t : A.State)
+        (version : Option (List ℕ))
+        → D.content disk.old ≡ Some bytes → HoldsPayloads before bytes
+        → A.stands_for before ≡ Ok (t, version)
+        → IsFinished result
+        → PacksCall K.held D.content D.images D.moment D.images_since
+        A.snapshot_of A.count_of A.stands_for
+        sink.old sink.new disk.new before t version }
+    ensures safe { (before : List (List ℕ)) (bytes : List ℕ) (t : A.State)
+        (version : Option (List ℕ))
+        → D.content disk.old ≡ Some bytes → HoldsPayloads before bytes
+        → A.stands_for before ≡ Ok (t, version)
+        → (result ≡ Status.DiskFault)
+        × IsUnpacked K.held D.content D.images D.moment D.images_since
+        A.snapshot_of A.count_of A.stands_for
+        sink.old disk.old sink.new disk.new
+        ⊎ IsSafePack K.held D.content D.images D.moment D.images_since
+        A.snapshot_of A.count_of A.stands_for
+        (D.images disk.old) disk.old disk.new before t version }
+    ensures exits { (before : List (List ℕ)) (bytes : List ℕ) (t : A.State)
+        (version : Option (List ℕ))
+        → D.content disk.old ≡ Some bytes → HoldsPayloads before bytes
+        → A.stands_for before ≡ Ok (t, version)
+        → StoresBehind K.held D.content D.images D.moment D.images_since sink.old sink.new disk.new
+        before (packed_line (A.count_of before)) (option_to_list version) (A.snapshot_of t) result
+        ⊎ IsUnwritten D.content D.images disk.old disk.new
+        × FailsEarly (K.held sink.old) (K.held sink.new) result }
+    ensures refused { (bytes : List ℕ) (refusal : StoreRefusal)
+        → D.content disk.old ≡ Some bytes → refusal_in A.stands_for bytes ≡ Some refusal
+        → IsUnwritten D.content D.images disk.old disk.new
+        × EndsRefused (K.held sink.old) (K.held sink.new) refusal result }
+    ensures sink_fault { result ≡ Status.SinkFault
+        → SinkFailed K.faults K.empty_takes K.room K.held sink.old sink.new }
+    ensures disk_fault { result ≡ Status.DiskFault
+        → Increased (D.faults disk.old) (D.faults disk.new) }
+{
+    match open_log(disk) {
+        Ok(log) => {
+            let mut log = log;
+            pack_log::<A, K, D>(alloc, &mut log, sink, disk)
+        }
+        Err(fault) => refuse_log(alloc, fault, sink),
+    }
+}
+
+// Packs a store whose log was opened.
+fn pack_log<A: StoredSession + Drop, K: Sink, D: Disk>(
+    alloc: Global,
+    log: &mut Log,
+    sink: &mut K,
+    disk: &mut D,
+) -> Status
+    requires stands { (base : List (List ℕ))
+        × Stands (D.content disk.old) (D.images disk.old) log.old base }
+    ensures packs { (before : List (List ℕ)) (bytes : List ℕ) (t : A.State)
+        (version : Option (List ℕ))
+        → D.content disk.old ≡ Some bytes → Stands (D.content disk.old) (D.images disk.old)
+        log.old before
+        → A.stands_for before ≡ Ok (t, version) → IsFinished result
+        → PacksCall K.held D.content D.images D.moment D.images_since
+        A.snapshot_of A.count_of A.stands_for
+        sink.old sink.new disk.new before t version }
+    ensures safe { (before : List (List ℕ)) (bytes : List ℕ) (t : A.State)
+        (version : Option (List ℕ))
+        → D.content disk.old ≡ Some bytes → Stands (D.content disk.old) (D.images disk.old)
+        log.old before
+        → A.stands_for before ≡ Ok (t, version)
+        → IsSafePack K.held D.content D.images D.moment D.images_since
+        A.snapshot_of A.count_of A.stands_for
+        (HoldsPayloads before) disk.old disk.new before t version }
+    ensures exits { (before : List (List ℕ)) (bytes : List ℕ) (t : A.State)
+        (version : Option (List ℕ))
+        → D.content disk.old ≡ Some bytes → Stands (D.content disk.old) (D.images disk.old)
+        log.old before
+        → A.stands_for before ≡ Ok (t, version)
+        → StoresBehind K.held D.content D.images D.moment D.images_since sink.old sink.new disk.new
+        before (packed_line (A.count_of before)) (option_to_list version) (A.snapshot_of t) result
+        ⊎ IsUnwritten D.content D.images disk.old disk.new
+        × FailsEarly (K.held sink.old) (K.held sink.new) result }
+    ensures refused { (before : List (List ℕ)) (bytes : List ℕ) (refusal : StoreRefusal)
+        → D.content disk.old ≡ Some bytes → Stands (D.content disk.old) (D.images disk.old)
+        log.old before
+        → refusal_of_payloads (A.stands_for before) ≡ Some refusal
+        → IsUnwritten D.content D.images disk.old disk.new
+        × EndsRefused (K.held sink.old) (K.held sink.new) refusal result }
+    ensures sink_fault { result ≡ Status.SinkFault
+        → SinkFailed K.faults K.empty_takes K.room K.held sink.old sink.new }
+    ensures disk_fault { result ≡ Status.DiskFault
+        → Increased (D.faults disk.old) (D.faults disk.new) }
+{
+    match log.payloads(alloc, disk) {
+        Ok(payloads) => pack_payloads::<A, K, D>(alloc, log, &payloads, sink, disk),
+        Err(fault) => refuse_log(alloc, fault, sink),
+    }
+}
+
+// Packs a store of these payloads.
+fn pack_payloads<A: StoredSession + Drop, K: Sink, D: Disk>(
+    alloc: Global,
+    log: &mut Log,
+    payloads: &Payloads,
+    sink: &mut K,
+    disk: &mut D,
+) -> Status
+    requires stands { (base : List (List ℕ))
+        × Stands (D.content disk.old) (D.images disk.old) log.old base }
+    ensures packs { (t : A.State) (version : Option (List ℕ))
+        → Stands (D.content disk.old) (D.images disk.old) log.old payloads.now
+        → A.stands_for payloads.now ≡ Ok (t, version) → IsFinished result
+        → PacksCall K.held D.content D.images D.moment D.images_since
+        A.snapshot_of A.count_of A.stands_for
+        sink.old sink.new disk.new payloads.now t version }
+    ensures safe { (t : A.State) (version : Option (List ℕ))
+        → Stands (D.content disk.old) (D.images disk.old) log.old payloads.now
+        → A.stands_for payloads.now ≡ Ok (t, version)
+        → IsSafePack K.held D.content D.images D.moment D.images_since
+        A.snapshot_of A.count_of A.stands_for
+        (HoldsPayloads payloads.now) disk.old disk.new payloads.now t version }
+    ensures exits { (t : A.State) (version : Option (List ℕ))
+        → Stands (D.content disk.old) (D.images disk.old) log.old payloads.now
+        → A.stands_for payloads.now ≡ Ok (t, version)
+        → StoresBehind K.held D.content D.images D.moment D.images_since sink.old sink.new disk.new
+        payloads.now (packed_line (A.count_of payloads.now))
+        (option_to_list version) (A.snapshot_of t) result
+        ⊎ IsUnwritten D.content D.images disk.old disk.new
+        × FailsEarly (K.held sink.old) (K.held sink.new) result }
+    ensures refused { (refusal : StoreRefusal)
+        → refusal_of_payloads (A.stands_for payloads.now) ≡ Some refusal
+        → IsUnwritten D.content D.images disk.old disk.new
+        × EndsRefused (K.held sink.old) (K.held sink.new) refusal result }
+    ensures sink_fault { result ≡ Status.SinkFault
+        → SinkFailed K.faults K.empty_takes K.room K.held sink.old sink.new }
+    ensures disk_fault { result ≡ Status.DiskFault
+        → Increased (D.faults disk.old) (D.faults disk.new) }
+{
+    match A::reopen(alloc, payloads) {
+        Ok(opened) => {
+            pack_session(
+                alloc,
+                &opened.session,
+                opened.count,
+                &opened.version,
+                log,
+                sink,
+                disk,
+            )
+        }
+        Err(fault) => refuse_payloads(alloc, fault, sink),
+    }
+}
+
+// Packs a store that was opened. Its payload and its line are made before anything is stored.
+fn pack_session<A: StoredSession, K: Sink, D: Disk>(
+    alloc: Global,
+    session: &A,
+    count: u64,
+    version: &Option<Bytes>,
+    log: &mut Log,
+    sink: &mut K,
+    disk: &mut D,
+) -> Status
+    requires stands { (base : List (List ℕ))
+        × Stands (D.content disk.old) (D.images disk.old) log.old base }
+    ensures packs { (before : List (List ℕ))
+        → Stands (D.content disk.old) (D.images disk.old) log.old before
+        → A.stands_for before ≡ Ok (A.state session.now, version.now)
+        → count ≡ A.count_of before → IsFinished result
+        → PacksCall K.held D.content D.images D.moment D.images_since
+        A.snapshot_of A.count_of A.stands_for
+        sink.old sink.new disk.new before (A.state session.now) version.now }
+    ensures safe { (before : List (List ℕ))
+        → Stands (D.content disk.old) (D.images disk.old) log.old before
+        → A.stands_for before ≡ Ok (A.state session.now, version.now)
+        → IsSafePack K.held D.content D.images D.moment D.images_since
+        A.snapshot_of A.count_of A.stands_for
+        (HoldsPayloads before) disk.old disk.new before (A.state session.now) version.now }
+    ensures exits { (before : List (List ℕ))
+        → Stands (D.content disk.old) (D.images disk.old) log.old before
+        → StoresBehind K.held D.content D.images D.moment D.images_since sink.old sink.new disk.new
+        before (packed_line count)
+        (option_to_list version.now) (A.snapshot_of (A.state session.now)) result
+        ⊎ IsUnwritten D.content D.images disk.old disk.new
+        × FailsEarly (K.held sink.old) (K.held sink.new) result }
+    ensures sink_fault { result ≡ Status.SinkFault
+        → SinkFailed K.faults K.empty_takes K.room K.held sink.old sink.new }
+    ensures disk_fault { result ≡ Status.DiskFault
+        → Increased (D.faults disk.old) (D.faults disk.new) }
+{
+    let Ok(packing) = packing_of(alloc, session, count) else {
+        return Status::NoMemory;
+    };
+    let snapshot = packing.snapshot.as_slice();
+    let line = packing.line.as_slice();
+    match pack_store(alloc, log, disk, sink, version, snapshot, line) {
+        Ok(()) => Status::Done,
+        Err(stop) => give_stop(stop, sink),
+    }
+}
+
+// What `pack` stores and writes.
+#[derive(Drop)]
+struct Packing {
+    snapshot: Bytes,
+    line: Bytes,
+}
+
+// The snapshot, and the line `packed N`.
+fn packing_of<A: StoredSession>(
+    alloc: Global,
+    session: &A,
+    count: u64,
+) -> Result<Packing, AllocError>
+    ensures snapshot { IfOk result (λ p. p.snapshot ≡ A.snapshot_of (A.state session.now)) }
+    ensures line { IfOk result (λ p. p.line ≡ packed_line count) }
+{
+    let snapshot = session.snapshot(alloc)?;
+    let line = packed_line(alloc, count)?;
+    Ok(Packing { snapshot, line })
+}
+
+/// Stores the version record, if there is one to store, then the snapshot, and then writes the line of `pack`.
+///
+/// The errors are those of [`store_and_answer`]. They come at the version record or at the snapshot.
+pub fn pack_store<K: Sink, D: Disk>(
+    alloc: Global,
+    log: &mut Log,
+    disk: &mut D,
+    sink: &mut K,
+    version: &Option<Bytes>,
+    snapshot: &[u8],
+    line: &[u8],
+) -> Result<(), Stop>
+    requires stands { (base : List (List ℕ))
+        × Stands (D.content disk.old) (D.images disk.old) log.old base }
+    ensures packed { OnOk result
+        (Adds K.held D.content D.images D.moment D.images_since
+        sink.old disk.old log.old sink.new disk.new log.new
+        line.now (option_to_list version.now ++ snapshot.now ∷ [])) }
+    ensures stopped { IfErr result (λ stop.
+        Stops K.held D.content D.images D.moment D.images_since
+        sink.old disk.old log.old sink.new disk.new log.new
+        stop [] [] [] (option_to_list version.now)
+        ⊎ Stops K.held D.content D.images D.moment D.images_since
+        sink.old disk.old log.old sink.new disk.new log.new
+        stop [] line.now (option_to_list version.now) (snapshot.now ∷ [])) }
+    ensures counted { Counted K.faults K.empty_takes K.room K.held D.faults
+        sink.old disk.old sink.new disk.new (stop_in result) }
+{
+    store_version(alloc, log, disk, sink, version)?;
+    store_and_answer(alloc, log, disk, sink, snapshot, line)
+}
