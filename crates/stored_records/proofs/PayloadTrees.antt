@@ -1,0 +1,62 @@
+-- The texts of payloads and their trees.
+use Rattle.std.proofs.Common.{◌≡◌, ℕ, ◌≤◌, ◌*◌, List, [], ◌∷◌, Bool, true, false, cond, Option, Some, None, Result, Ok, Err, IfOk, String, Global, refl, sym, subst, arith}
+use Rattle.std.specs.Prelude.{string_bytes}
+use Rattle.std.specs.Str.{IsUtf8, is_utf8}
+use Rattle.std.proofs.lemmas.Bool.{or_from}
+use Rattle.std.proofs.lemmas.Str.{is_utf8-from_IsUtf8, IsUtf8-from_is_utf8, IsUtf8-string_bytes}
+use Rattle.serde_json.specs.Data.{Data, depth, items_depth}
+use Rattle.serde_json.specs.Read.{read, max_depth}
+use Rattle.serde_json.specs.Written.{has_float, items_have_float}
+use Rattle.doc_values.specs.Documents.{DocTree}
+use Rattle.doc_values.specs.Types.{height}
+use Rattle.value_json.proofs.TreeDepths as documents
+use Rattle.edit_module.specs.Changes.{ChangeTree, one, group}
+use Rattle.edit_module.specs.Words.{WordTree}
+use Rattle.edit_journal.specs.EntryJson.{tree_of_text, tree_of_entry}
+use Rattle.edit_journal.proofs.Entries as entry
+use Rattle.edit_journal.proofs.Groups as groups
+use Rattle.lens_core.specs.Complements.{CompTree}
+use Rattle.lens_forms.specs.Forms.{FormTree, left_type, right_type}
+use Rattle.lens_forms.specs.Measures.{form_height, greatest_height}
+use Rattle.complement_file.proofs.Floats as complements
+use Rattle.stored_records.specs.RecordJson.{tree_of_program, tree_of_version, tree_of_change_record, tree_of_triple, tree_of_snapshot}
+use Rattle.stored_records.proofs.ComplementDepths.{low}
+
+-- ---- reading a text
+
+-- a string that reads as a tree is a text of it
+pub string_read : (s : String Global) (d : Data) → read (string_bytes s) ≡ Some d → tree_of_text (string_bytes s) ≡ Some d
+string_read s d h = rw (is_utf8-from_IsUtf8 (string_bytes s) (IsUtf8-string_bytes s)) h
+
+-- ---- no float
+
+pub program_whole : (text : List ℕ) → has_float (tree_of_program text) ≡ false
+program_whole text = refl
+
+pub version_whole : has_float tree_of_version ≡ false
+version_whole = refl
+
+pub change_whole : (change : ChangeTree) → has_float (tree_of_change_record change) ≡ false
+change_whole (one e) = or_from _ _ (entry.whole e) refl
+change_whole (group es) = groups.change_whole (group es)
+
+pub snapshot_whole : (l : FormTree) (x : DocTree) (c : CompTree) (y : DocTree) → has_float (tree_of_snapshot l x c y) ≡ false
+snapshot_whole l x c y = or_from _ _ (or_from _ _ (complements.whole l c) (or_from _ _ (documents.whole (left_type l) x) (or_from _ _ (documents.whole (right_type l) y) refl))) refl
+
+-- ---- depth
+
+pub program_low : (text : List ℕ) → depth (tree_of_program text) ≤ max_depth
+program_low text = omega arith
+
+pub version_low : depth tree_of_version ≤ max_depth
+version_low = omega arith
+
+pub snapshot_low : (l : FormTree) (x : DocTree) (c : CompTree) (y : DocTree) → form_height l ≤ greatest_height → height (left_type l) ≤ greatest_height → height (right_type l) ≤ greatest_height
+    → depth (tree_of_snapshot l x c y) ≤ max_depth
+snapshot_low l x c y h left right = omega (arith, low l c, documents.shallow (left_type l) x, documents.shallow (right_type l) y, h, left, right)
+
+-- what is read back of a payload whose tree is low
+pub read_low : {E : Type 0} (r : Result (List ℕ) E) (t d : Data) → t ≡ d → depth d ≤ max_depth → IfOk r (λ bytes. depth t ≤ max_depth → tree_of_text bytes ≡ Some t)
+    → IfOk r (λ bytes. tree_of_text bytes ≡ Some d)
+read_low (Ok bytes) t d e low h = subst (λ (x : Data). tree_of_text bytes ≡ Some x) e (h (subst (λ (x : Data). depth x ≤ max_depth) (sym e) low))
+read_low (Err error) t d e low h = h

@@ -1,0 +1,4 @@
+pub mod StoredComplements
+pub mod RecordJson
+pub mod StoredLens
+pub mod Outcomes

@@ -1,0 +1,8 @@
+pub mod LastTriple
+pub mod SnapshotParts
+pub mod RecordSteps
+pub mod RecordOrder
+pub mod ConsistencyDecided
+pub mod Appending
+pub mod WrittenStands
+pub mod AcceptedDepths

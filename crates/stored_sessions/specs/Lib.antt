@@ -1,0 +1,5 @@
+pub mod ConsistencyTest
+pub mod Stands
+pub mod Views
+pub mod Outcomes
+pub mod Written
