@@ -1,5 +1,5 @@
 -- The test of consistency is true if and only if the three are consistent.
-use Rattle.std.proofs.Common.{◌≡◌, Bool, true, false, ◌&&◌, Option, None, Some, refl}
+use Rattle.std.proofs.Common.{◌≡◌, Bool, true, false, ◌&&◌, Option, None, Some, Result, Ok, Err, IfOk, refl}
 use Rattle.std.specs.Prelude.{◌↔◌, IsTrue}
 use Rattle.texts.proofs.Conjunction.{first, second, both}
 use Rattle.texts.specs.declared.side.Side.TheVariants.{Left}
@@ -56,3 +56,9 @@ same_truth false false f g = refl
 pub is_decided : (b : Bool) (l : FormTree) (x : DocTree) (c : CompTree) (y : DocTree) → is_typed l ≡ true → (IsTrue b ↔ IsConsistent l x c y) → b ≡ is_consistent l x c y
 is_decided b l x c y typed k =
     same_truth b (is_consistent l x c y) (λ h. consistent_then l x c y typed (k.0 h)) (λ h. k.1 (consistent_if l x c y typed h))
+
+-- the same of what a call returns
+pub all_decided : {E : Type 0} (r : Result Bool E) (l : FormTree) (x : DocTree) (c : CompTree) (y : DocTree) → is_typed l ≡ true
+    → IfOk r (λ b. IsTrue b ↔ IsConsistent l x c y) → IfOk r (λ b. b ≡ is_consistent l x c y)
+all_decided (Ok b) l x c y typed k = is_decided b l x c y typed k
+all_decided (Err fault) l x c y typed k = k

@@ -14,14 +14,19 @@ use Rattle.stored_sessions.specs.Written.{WrittenRecord, the_version, the_change
 module _ (F : Type 0) where
   one_taken : (o : Option Stepped) (t : TripleTree) (side : Side) (m : TripleTree × List WordTree) → option_map alone o ≡ Some (Ok m)
       → (a : AnswerTree F) × (option_map (answered {F = F} t side) o ≡ Some (m.0, a))
-  one_taken (Some (Ok s)) t side m h = let same : s.0 ≡ m.0 = cc in (_, ap (λ x. Some (x, _)) same)
+  one_taken (Some (Ok s)) t side m h =
+      let same : s.0 ≡ m.0 = cc in
+      let a = answered {F = F} t side (Ok s) in
+      (a.1, ap (λ (x : TripleTree). Some (x, a.1)) same)
   one_taken (Some (Err why)) t side m h = cc
   one_taken None t side m h = cc
 
   taken : (l : FormTree) (t u : TripleTree) (c : ChangeTree) (words : List WordTree) → step_of l t c ≡ Some (Ok (u, words))
       → (a : AnswerTree F) × (take_change {F = F} (left_type l) (right_type l) (translate l) t c ≡ Some (u, a))
   taken l t u (one e) words h = one_taken (step (left_type l) (right_type l) (translate l) t e) t e.0 (u, words) h
-  taken l t u (group es) words h = (_, ap (option_map (group_answered {F = F} t es)) h)
+  taken l t u (group es) words h =
+      let a = group_answered {F = F} t es (Ok (u, words)) in
+      (a.1, ap (option_map (group_answered {F = F} t es)) h)
 
   run_step : (l : FormTree) (t u end : TripleTree) (c : ChangeTree) (cs : List ChangeTree) (a : AnswerTree F)
       → take_change {F = F} (left_type l) (right_type l) (translate l) t c ≡ Some (u, a) → RunsTo F l u cs end → RunsTo F l t (c ∷ cs) end

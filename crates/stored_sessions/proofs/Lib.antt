@@ -1,6 +1,5 @@
 pub mod LastTriple
 pub mod SnapshotParts
-pub mod RecordSteps
 pub mod RecordOrder
 pub mod ConsistencyDecided
 pub mod Appending
