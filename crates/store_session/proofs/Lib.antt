@@ -1,0 +1,4 @@
+pub mod NoLineEnd
+pub mod AnswerLines
+pub mod StateSteps
+pub mod Versions
