@@ -1,1 +1,2 @@
 pub mod StoredStates
+pub mod Views

@@ -1,6 +1,10 @@
 //! A session of the program as a store has it.
 //!
-//! Draft: the definitions and the lemmas stand; the calls are not written yet.
+//! specs/StoredStates.antt defines its state, what payloads stand for, and the answer to a line. [`laws`] ties the answers to the
+//! payloads, and [`StoreSession`] has the calls.
 #![tactic(auto)]
 
-mod draft;
+pub mod laws;
+mod session;
+
+pub use crate::session::StoreSession;
