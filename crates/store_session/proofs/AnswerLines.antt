@@ -119,8 +119,14 @@ states_are_other t =
     let right = tree_line (codes "right") y in
     let comp = tree_line (codes "complement") c in
     let whole : (left ++ right) ++ comp ≡ left ++ (right ++ (comp ++ [])) =
-        append_assoc left right comp ∙ ap (λ z. left ++ (right ++ z)) (sym (append-nil comp)) in
-    (left ∷ right ∷ comp ∷ [], whole,
-    (record { is_line = tree_is_line (codes "left") x refl; other = refl },
-    (record { is_line = tree_is_line (codes "right") y refl; other = refl },
-    (record { is_line = tree_is_line (codes "complement") c refl; other = refl }, tt))))
+    append_assoc left right comp ∙ ap (λ z. left ++ (right ++ z)) (sym (append-nil comp)) in (
+      left ∷ right ∷ comp ∷ [],
+      whole,
+      (
+        record { is_line = tree_is_line (codes "left") x refl; other = refl },
+        (
+          record { is_line = tree_is_line (codes "right") y refl; other = refl },
+          (record { is_line = tree_is_line (codes "complement") c refl; other = refl }, tt),
+        ),
+      ),
+    )

@@ -85,10 +85,10 @@ module _ (t : StoredState) (n : ℕ) where
 
 -- every answer is one line
 pub is_answer : (t t' : StoredState) (n : ℕ) (line : Line) (a : Answer) → answer t n line ≡ Some (t', a) → IsAnswer a
-is_answer t t' n line a e = elim (kinds t n line t' a e) [ | inl r ↦ r.is | inr r ↦ r.is ]
+is_answer t t' n line a e = elim (kinds t n line t' a e) [ inl r ↦ r.is | inr r ↦ r.is ]
 
 pub refused_stays : (t t' : StoredState) (n : ℕ) (line : Line) (a : Answer) → answer t n line ≡ Some (t', a) → a.payload ≡ None → t' ≡ t
-refused_stays t t' n line a e none = elim (kinds t n line t' a e) [ | inl r ↦ r.stays | inr r ↦ let p = r.payload in cc ]
+refused_stays t t' n line a e none = elim (kinds t n line t' a e) [ inl r ↦ r.stays | inr r ↦ let p = r.payload in cc ]
 
 -- the payload of an accepted change stands for the next state
 pub accepted_step : (t t' : StoredState) (n : ℕ) (line : Line) (a : Answer) (p : List ℕ) → answer t n line ≡ Some (t', a) → a.payload ≡ Some p → stored_step t p ≡ Some t'
