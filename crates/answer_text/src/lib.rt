@@ -12,5 +12,6 @@ mod shown;
 mod words;
 
 pub use crate::answers::{fault_line, group_line, group_refused_line, no_apply_line, ok_line};
-pub use crate::refusals::{syntax_line, typing_line};
+pub use crate::refusals::{program_refused_line, syntax_line, typing_line};
 pub use crate::shown::{tree_line, type_line};
+pub use crate::words::{bytes_of, cause_text};

@@ -60,7 +60,9 @@ pub fn typing_line(alloc: Global, fault: &TypeFault) -> Result<Bytes, AllocError
     }
 }
 
-fn program_refused_line(alloc: Global, reason: &str) -> Result<Bytes, AllocError>
+/// The line `program refused: REASON`, for a reason that is given as text. The only error is running
+/// out of memory.
+pub fn program_refused_line(alloc: Global, reason: &str) -> Result<Bytes, AllocError>
     ensures { IfOk result (λ line. line ≡ program_refused_line reason.now) }
 {
     let line = format!(in alloc; "program refused: {reason}\n")?;

@@ -8,7 +8,8 @@ use edit_journal::EntryFault;
 use edit_module::Cause;
 use texts::Bytes;
 
-pub(crate) fn cause_text(cause: Cause) -> &'static str
+/// The word for a cause, as it stands in an answer line.
+pub fn cause_text(cause: Cause) -> &'static str
     ensures { result.now ≡ cause_text cause }
 {
     match cause {
@@ -37,8 +38,8 @@ pub(crate) fn fault_text(fault: EntryFault) -> &'static str
     }
 }
 
-// The bytes of a text. The call does not allocate.
-pub(crate) fn bytes_of(text: String) -> Bytes
+/// The bytes of a text. The call does not allocate.
+pub fn bytes_of(text: String) -> Bytes
     ensures { result ≡ string_bytes text }
 {
     Bytes::from_vec(text.into_bytes())

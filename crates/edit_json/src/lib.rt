@@ -21,6 +21,7 @@ pub mod write;
 pub use crate::compact::append_word;
 pub use crate::fault::EditFault;
 pub use crate::fits::has_tree;
+pub use crate::parts::two_items;
 pub use crate::read::read_word;
 pub use crate::text::write_word_text;
 pub use crate::write::write_word;

@@ -6,8 +6,8 @@ ghost use Rattle.edit_json.specs.Parts.{two_items, three_items};
 
 use serde_json::Value;
 
-// The items of an array of two. None if and only if the tree is not such an array.
-pub(crate) fn two_items(tree: &Value) -> Option<(&Value, &Value)>
+/// The items of an array of two. None if and only if the tree is not such an array.
+pub fn two_items(tree: &Value) -> Option<(&Value, &Value)>
     ensures { option_map (λ p. (view p.0.now, view p.1.now)) result ≡ two_items (view tree.now) }
 {
     let items = tree.as_array()?;

@@ -1,6 +1,6 @@
 //! The command `gen`: the generated run, and its summary.
 ghost use Rattle.std.specs.Prelude.{◌≡◌, ◌≤◌, IfOk, string_bytes};
-ghost use Rattle.journal_stream.specs.Stopping.{SinkFailed};
+ghost use Rattle.lens_io.specs.Causes.{SinkFailed};
 ghost use Rattle.editlens_main.specs.Generated.{WritesSummary, count_lines, list_lines, summary_lines};
 
 use crate::Status;

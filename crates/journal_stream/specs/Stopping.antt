@@ -1,8 +1,4 @@
--- What stops a run at a piece of its input, and when a sink has failed.
-use Rattle.std.specs.Prelude.{◌⊎◌, ℕ, List}
-use Rattle.std.specs.declared.option.Option.{Option}
-use Rattle.lens_io.specs.Causes.{Increased}
-use Rattle.lens_io.specs.Content.{IsFull}
+-- What stops a run at a piece of its input.
 use Rattle.lens_io.specs.declared.failed.TakeFault.{TakeFault}
 use Rattle.lens_io.specs.declared.failed.TakeFault.TheVariants as taking
 use Rattle.journal_stream.specs.declared.stopped.Stopped.{Stopped}
@@ -12,7 +8,3 @@ abbrev pub stop_of : TakeFault → Stopped
 stop_of taking.SourceFault = SourceFault
 stop_of taking.TooLong = TooLong
 stop_of taking.NoMemory = NoMemory
-
--- the sink failed, or took 0 bytes of a piece that is not empty; in the latter case a sink whose room is known is full
-abbrev pub SinkFailed : {K : Type 0} (faults empty_takes : K → ℕ) (room : K → Option ℕ) (held : K → Option (List ℕ)) → K → K → Type 0
-SinkFailed faults empty_takes room held old new = Increased (faults old) (faults new) ⊎ Increased (empty_takes old) (empty_takes new) × IsFull (room new) (held new)

@@ -1,11 +1,10 @@
 //! The loop that answers a journal, piece by piece.
 ghost use Rattle.std.specs.Prelude.{◌≡◌, ◌+◌, ◌^◌, ◌<◌, ◌≤◌, ◌∷◌, [], length, IfOk, IfErr, IsErrOf, MatchResult, OnOk, OnErr};
 ghost use Rattle.edit_session.specs.Views.{triple_tree};
-ghost use Rattle.lens_io.specs.Causes.{Increased};
+ghost use Rattle.lens_io.specs.Causes.{Increased, SinkFailed};
 ghost use Rattle.lens_io.specs.Content.{AppendsFront};
 ghost use Rattle.journal_input.specs.Taking.{IsWithin};
 ghost use Rattle.journal_stream.specs.Answered.{GivesAnswers, WritesPart, AnswersLines, StopsLines, AnswersPiece, AnswersPieces};
-ghost use Rattle.journal_stream.specs.Stopping.{SinkFailed};
 ghost use Rattle.journal_stream.specs.declared.stream.TheConstants.{MOST_KEPT};
 
 use crate::stopped::Stopped;

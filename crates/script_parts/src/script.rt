@@ -30,8 +30,8 @@ pub struct ProgramText {
 }
 
 impl ProgramText {
-    // An empty program part. Does not allocate.
-    fn new(alloc: Global) -> Self
+    /// An empty program part. Does not allocate.
+    pub fn new(alloc: Global) -> Self
         ensures { HoldsPart result [] }
     {
         ProgramText {
@@ -40,8 +40,8 @@ impl ProgramText {
         }
     }
 
-    // Adds a line and what ends it. The only error is running out of memory.
-    fn add(&mut self, line: &Line, end: &[u8]) -> Result<(), AllocError>
+    /// Adds a line and what ends it. The only error is running out of memory; of the text nothing is known then.
+    pub fn add(&mut self, line: &Line, end: &[u8]) -> Result<(), AllocError>
         ensures { IfOk result (λ _. (part text : List ℕ) → HoldsPart self.old part → line.now ≡ line_of text
             → HoldsPart self.new ((part ++ text) ++ end.now)) }
     {

@@ -1,12 +1,12 @@
 -- Counts of faults over parts of a call, one after another.
 use Rattle.std.proofs.Common.{◌≡◌, ◌⊎◌, inl, inr, ℕ, ◌≤◌, List, Option, Some, None, Result, Ok, Err, refl, sym, ap, subst, arith}
 use Rattle.std.specs.Prelude.{IfErr, IsErrAnd, IsErrOf}
-use Rattle.lens_io.specs.Causes.{Increased}
+use Rattle.lens_io.specs.Causes.{Increased, SinkFailed}
 use Rattle.lens_io.specs.declared.failed.TakeFault.{TakeFault}
 use Rattle.lens_io.specs.declared.failed.TakeFault.TheVariants as taking
 use Rattle.gate_log.specs.declared.fault.LogFault.{LogFault}
 use Rattle.gate_log.specs.declared.fault.LogFault.TheVariants as log
-use Rattle.stored_run.specs.Causes.{SinkFailed, stop_in, IsCaused, Counted}
+use Rattle.stored_run.specs.Causes.{stop_in, IsCaused, Counted}
 use Rattle.gate_log.specs.CallEnds.{IsAppendFault}
 use Rattle.stored_run.specs.Stopping.{stop_of_log, stop_of_input}
 use Rattle.stored_run.specs.declared.stop.Stop.{Stop}

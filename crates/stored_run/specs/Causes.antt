@@ -1,13 +1,8 @@
--- The causes of a stop: when a sink has failed, and that a fault of the sink or of the disk comes only if it has.
-use Rattle.std.specs.Prelude.{◌⊎◌, ℕ, ◌≤◌, List, Option, Some, None, Result, Ok, Err}
-use Rattle.lens_io.specs.Causes.{Increased}
-use Rattle.lens_io.specs.Content.{IsFull}
+-- The causes of a stop: a fault of the sink or of the disk comes only if that device has failed.
+use Rattle.std.specs.Prelude.{ℕ, ◌≤◌, List, Option, Some, None, Result, Ok, Err}
+use Rattle.lens_io.specs.Causes.{Increased, SinkFailed}
 use Rattle.stored_run.specs.declared.stop.Stop.{Stop}
 use Rattle.stored_run.specs.declared.stop.Stop.TheVariants.{SinkFault, DiskFault}
-
--- the sink failed, or took 0 bytes of a piece that is not empty; in the latter case a sink whose room is known is full
-abbrev pub SinkFailed : {K : Type 0} (faults empty_takes : K → ℕ) (room : K → Option ℕ) (held : K → Option (List ℕ)) → K → K → Type 0
-SinkFailed faults empty_takes room held old new = Increased (faults old) (faults new) ⊎ Increased (empty_takes old) (empty_takes new) × IsFull (room new) (held new)
 
 -- the stop of an outcome, if it is one
 abbrev pub stop_in : {T : Type 0} → Result T Stop → Option Stop

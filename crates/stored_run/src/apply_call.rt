@@ -2,10 +2,9 @@
 ghost use Rattle.std.specs.Prelude.{◌≡◌, ◌⊎◌, [], List, ℕ, Ok, Some};
 ghost use Rattle.std.specs.Io.KnownBytes.{Consumes};
 ghost use Rattle.std.specs.declared.option.Option.{Option};
-ghost use Rattle.lens_io.specs.Causes.{Increased};
+ghost use Rattle.lens_io.specs.Causes.{Increased, SinkFailed};
 ghost use Rattle.gate_log.specs.LogOnDisk.{HoldsPayloads, Stands};
 ghost use Rattle.stored_run.specs.ApplyCall.{ContinuesCall, IsSafeCall, IsUnopened, EndsCall};
-ghost use Rattle.stored_run.specs.Causes.{SinkFailed};
 ghost use Rattle.stored_run.specs.Ends.{IsFinished};
 ghost use Rattle.stored_run.specs.Refusals.{IsUnwritten, EndsRefused, refusal_in, refusal_of_payloads};
 ghost use Rattle.stored_run.specs.declared.refusals.StoreRefusal.{StoreRefusal};

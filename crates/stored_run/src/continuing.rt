@@ -1,12 +1,12 @@
 //! Going on with a session that was opened, by a journal: what comes before the lines and behind them.
 ghost use Rattle.std.specs.Prelude.{◌≡◌, ◌⊎◌, ◌+◌, ◌^◌, ◌<◌, ◌≤◌, [], false, List, ℕ, OnOk, IfOk, IfErr, IsErrOf, option_to_list};
 ghost use Rattle.std.specs.Io.KnownBytes.{Appends};
-ghost use Rattle.lens_io.specs.Causes.{Increased};
+ghost use Rattle.lens_io.specs.Causes.{Increased, SinkFailed};
 ghost use Rattle.lens_io.specs.Content.{AppendsFront};
 ghost use Rattle.gate_log.specs.LogOnDisk.{Stands};
 ghost use Rattle.edit_journal.specs.Pieces.{last_line};
 ghost use Rattle.stored_run.specs.Answered.{Answers, StopsAmong};
-ghost use Rattle.stored_run.specs.Causes.{Counted, stop_in, SinkFailed};
+ghost use Rattle.stored_run.specs.Causes.{Counted, stop_in};
 ghost use Rattle.stored_run.specs.Ends.{EndsStored, StopsStored, Exits, IsSafeFrom, end_of};
 ghost use Rattle.stored_run.specs.Journal.{EndsJournal, StopsJournal};
 ghost use Rattle.stored_run.specs.OkLines.{AreOtherLines};

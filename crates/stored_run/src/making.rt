@@ -1,9 +1,8 @@
 //! The making of a store: the part of `init` behind its program.
 ghost use Rattle.std.specs.Prelude.{◌≡◌, ◌⊎◌, ◌∷◌, ◌<◌, ◌≤◌, [], List, ℕ, length, IfSome};
 ghost use Rattle.std.specs.Io.KnownBytes.{Appends};
-ghost use Rattle.lens_io.specs.Causes.{Increased};
+ghost use Rattle.lens_io.specs.Causes.{Increased, SinkFailed};
 ghost use Rattle.gate_log.specs.LogOnDisk.{HoldsPayloads, Stands};
-ghost use Rattle.stored_run.specs.Causes.{SinkFailed};
 ghost use Rattle.stored_run.specs.Refusals.{IsUnwritten, EndsRefused};
 ghost use Rattle.stored_run.specs.StoreEnds.{StoresBehind, StoreEnds};
 

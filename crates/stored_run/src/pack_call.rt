@@ -1,9 +1,9 @@
 //! The command `pack`, from its first call of the disk on.
 ghost use Rattle.std.specs.Prelude.{◌≡◌, ◌⊎◌, ◌∷◌, ◌++◌, [], List, ℕ, Ok, Some, OnOk, IfOk, IfErr, option_to_list};
 ghost use Rattle.std.specs.declared.option.Option.{Option};
-ghost use Rattle.lens_io.specs.Causes.{Increased};
+ghost use Rattle.lens_io.specs.Causes.{Increased, SinkFailed};
 ghost use Rattle.gate_log.specs.LogOnDisk.{HoldsPayloads, Stands};
-ghost use Rattle.stored_run.specs.Causes.{Counted, stop_in, SinkFailed};
+ghost use Rattle.stored_run.specs.Causes.{Counted, stop_in};
 ghost use Rattle.stored_run.specs.CountLines.{packed_line};
 ghost use Rattle.stored_run.specs.Effects.{Adds, Stops};
 ghost use Rattle.stored_run.specs.Ends.{IsFinished};

@@ -1,8 +1,8 @@
 //! The refusals of a store.
 ghost use Rattle.std.specs.Prelude.{◌≡◌, ◌⊎◌, List, ℕ, [], IfOk};
 ghost use Rattle.std.specs.Io.KnownBytes.{Appends};
+ghost use Rattle.lens_io.specs.Causes.{SinkFailed};
 ghost use Rattle.lens_io.specs.Content.{AppendsFront};
-ghost use Rattle.stored_run.specs.Causes.{SinkFailed};
 ghost use Rattle.stored_run.specs.Ends.{status_of, said_at, log_full_line};
 ghost use Rattle.stored_run.specs.OkLines.{ok_lines};
 ghost use Rattle.stored_run.specs.Refusals.{refusal_line, Refuses, EndsAtLog, EndsAtPayloads};

@@ -1,9 +1,10 @@
 //! Storing a payload, and then writing its answer.
 ghost use Rattle.std.specs.Prelude.{◌≡◌, ◌≤◌, ◌∷◌, ◌++◌, [], List, ℕ, OnOk, IfErr, IsErrOf, option_to_list};
 ghost use Rattle.std.specs.Io.KnownBytes.{Appends};
+ghost use Rattle.lens_io.specs.Causes.{SinkFailed};
 ghost use Rattle.lens_io.specs.Content.{AppendsFront};
 ghost use Rattle.gate_log.specs.LogOnDisk.{Stands};
-ghost use Rattle.stored_run.specs.Causes.{SinkFailed, Counted, stop_in};
+ghost use Rattle.stored_run.specs.Causes.{Counted, stop_in};
 ghost use Rattle.stored_run.specs.Effects.{Adds, Stops};
 ghost use Rattle.stored_run.specs.Stopping.{IsOwnStop};
 

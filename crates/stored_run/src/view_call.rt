@@ -1,10 +1,9 @@
 //! The commands `show` and `verify`, which only read a store.
 ghost use Rattle.std.specs.Prelude.{◌≡◌, ◌⊎◌, List, ℕ, Ok, Some, IfOk};
 ghost use Rattle.std.specs.declared.option.Option.{Option};
-ghost use Rattle.lens_io.specs.Causes.{Increased};
+ghost use Rattle.lens_io.specs.Causes.{Increased, SinkFailed};
 ghost use Rattle.lens_io.specs.Disks.{LeavesOnly};
 ghost use Rattle.gate_log.specs.LogOnDisk.{HoldsPayloads, Stands};
-ghost use Rattle.stored_run.specs.Causes.{SinkFailed};
 ghost use Rattle.stored_run.specs.CountLines.{consistent_line};
 ghost use Rattle.stored_run.specs.Refusals.{IsUnwritten, EndsRefused, refusal_in, refusal_of_payloads};
 ghost use Rattle.stored_run.specs.ViewCall.{Views, view_text};
