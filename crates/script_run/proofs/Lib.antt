@@ -1,0 +1,4 @@
+pub mod Complete
+pub mod Ends
+pub mod JournalEnds
+pub mod StepsStay

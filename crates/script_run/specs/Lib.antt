@@ -1,0 +1,4 @@
+pub mod Ending
+pub mod Ends
+pub mod Report
+pub mod Status

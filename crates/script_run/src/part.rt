@@ -1,0 +1,91 @@
+//! What comes once the program part of a script was read.
+ghost use Rattle.std.specs.Prelude.{◌≡◌, ◌<◌, ◌≤◌, List, ℕ, length};
+ghost use Rattle.std.specs.declared.option.Option.{Option};
+ghost use Rattle.lens_io.specs.Causes.{Increased, SinkFailed};
+ghost use Rattle.journal_input.specs.Taking.{IsWithin};
+ghost use Rattle.journal_input.specs.declared.limits.TheConstants.{PIECE_BYTES};
+ghost use Rattle.script_parts.specs.Lines.{program_part};
+ghost use Rattle.script_parts.specs.Parts.{IsTaken, IsHead};
+ghost use Rattle.script_run.specs.Ends.{EveryRunStaysInStep};
+ghost use Rattle.script_run.specs.Ending.{EndsWhole, Ended, Opens};
+
+use crate::journal::answer_script;
+use crate::report::{first_report, give_report, refusal};
+use crate::state::{NotOpened, ScriptState};
+use crate::status::ScriptStatus;
+use journal_input::Input;
+use lens_io::{Sink, Source};
+use std::alloc::Global;
+
+/// Goes on behind a program part and its separator. `opened` is the state before the journal, or why there is none.
+///
+/// If there is one, the journal is answered as it comes, and the state lines are written at its end. If the program part is
+/// refused, the line of the refusal is written, and nothing more is read. The status, and what was read and written then, is
+/// said by `Ended`:
+///
+/// - `Done`, `SomeRefused`: the report of the complete input was written, and every state of the run is in step.
+/// - `ProgramRefused`: only if `opened` is a refusal. Its line was written, and nothing more.
+/// - `SourceFault`, `SinkFault`: only if the source, or the sink, failed.
+/// - `InputTooLong`: if and only if more than 2^30 bytes were taken, and nothing stopped the call first.
+/// - `NoMemory`: only if memory ran out, or had when the state was made.
+pub fn answer_part<S: Source, K: Sink, A: ScriptState>(
+    alloc: Global,
+    opened: Result<A, NotOpened>,
+    input: Input,
+    source: &mut S,
+    piece: &mut [u8],
+    sink: &mut K,
+) -> ScriptStatus
+    requires some { 0 < length piece.old }
+    requires few { length piece.old ≤ PIECE_BYTES }
+    requires within { IsWithin input }
+    requires in_step { EveryRunStaysInStep A.accepted A.start A.answer A.in_step }
+    ensures ended { (left : Option (List ℕ)) (front rest part : List ℕ)
+        → IsTaken left (S.left source.old) input front rest → IsHead front part
+        → Opens (A.accepted part) A.refusal_line A.start A.state opened
+        → Ended A.accepted A.refusal_line A.start A.answer A.state_text A.in_step
+        left (S.left source.new) (K.held sink.old) (K.held sink.new) result }
+    ensures source_fault { result ≡ ScriptStatus.SourceFault
+        → Increased (S.faults source.old) (S.faults source.new) }
+    ensures sink_fault { result ≡ ScriptStatus.SinkFault
+        → SinkFailed K.faults K.empty_takes K.room K.held sink.old sink.new }
+{
+    match opened {
+        Ok(state) => answer_script(alloc, state, input, source, piece, sink),
+        Err(refused) => give_report(refusal(refused), sink),
+    }
+}
+
+/// Ends a script that is a program part alone. `opened` is the state before the journal, or why there is none.
+///
+/// If there is one, its state lines are written. If the program part is refused, the line of the refusal is written. The
+/// status, and what was written then, is said by `Ended`:
+///
+/// - `Done`: the report of the complete input was written, and the state is in step.
+/// - `ProgramRefused`: only if `opened` is a refusal. Its line was written, and nothing more.
+/// - `SinkFault`: only if the sink failed.
+/// - `NoMemory`: only if memory ran out, or had when the state was made.
+/// - No other status comes.
+pub fn answer_alone<K: Sink, A: ScriptState>(
+    alloc: Global,
+    opened: Result<A, NotOpened>,
+    sink: &mut K,
+) -> ScriptStatus
+    requires in_step { EveryRunStaysInStep A.accepted A.start A.answer A.in_step }
+    ensures ended { (left left' : Option (List ℕ)) (bytes : List ℕ) → EndsWhole left left' bytes
+        → Opens (A.accepted (program_part bytes)) A.refusal_line A.start A.state opened
+        → Ended A.accepted A.refusal_line A.start A.answer A.state_text A.in_step
+        left left' (K.held sink.old) (K.held sink.new) result }
+    ensures no_fault { result ≡ ScriptStatus.SourceFault → ⊥ }
+    ensures sink_fault { result ≡ ScriptStatus.SinkFault
+        → SinkFailed K.faults K.empty_takes K.room K.held sink.old sink.new }
+{
+    match opened {
+        Ok(state) => {
+            let report = first_report(alloc, &state);
+            drop(state);
+            give_report(report, sink)
+        }
+        Err(refused) => give_report(refusal(refused), sink),
+    }
+}
