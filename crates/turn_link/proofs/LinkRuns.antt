@@ -143,6 +143,11 @@ module _ (holds : DocTree → CompTree → DocTree → Type 0) (left : TyTree) (
     goes s k (restart Left) = record { answer = _; happened = refl; linked = (restarts_left holds left right start carried s _ _ (own_sites s k)).linked }
     goes s k (restart Right) = record { answer = _; happened = refl; linked = (restarts_right holds left right start carried s _ _ (own_sites s k)).linked }
 
+    -- every event happens to a link that has its parts together, or is refused, and keeps them together
+    pub goes_on : (s : LinkTree) → Linked s → (e : EventTree)
+        → (answer : Result (LinkTree × ToldTree) Refusal) × (happens left right start carried s e ≡ Some answer) × Linked (link_after s answer)
+    goes_on s k e = let g = goes s k e in (g.answer, g.happened, g.linked)
+
     -- a list of events
     runs : (s : LinkTree) (k : Linked s) (events : List EventTree) → (s' : LinkTree) × (after_events left right start carried s events ≡ Some s') × Linked s'
     runs s k [] = (s, refl, k)

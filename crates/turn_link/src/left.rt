@@ -175,6 +175,13 @@ impl<L: EditLens> LeftSite<L> {
         put(&mut self.parts.after, None);
     }
 
+    /// The lens.
+    pub fn lens(&self) -> &L
+        ensures { result.now ≡ self.now.lens }
+    {
+        &self.lens
+    }
+
     /// How many batches the site made or took.
     pub fn number(&self) -> u64
         ensures { result ≡ self.now.parts.number }
@@ -209,13 +216,6 @@ impl<L: EditLens> LeftSite<L> {
         ensures { result.now ≡ self.now.parts.draft }
     {
         &self.parts.draft
-    }
-
-    // The lens.
-    pub(crate) fn lens(&self) -> &L
-        ensures { result.now ≡ self.now.lens }
-    {
-        &self.lens
     }
 }
 

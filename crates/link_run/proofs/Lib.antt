@@ -1,0 +1,7 @@
+pub mod Events
+pub mod Reading
+pub mod ToldLines
+pub mod ShownState
+pub mod RunsInTurns
+pub mod AnswerSteps
+pub mod RefusalLines

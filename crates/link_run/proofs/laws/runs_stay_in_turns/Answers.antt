@@ -1,0 +1,5 @@
+use Rattle.link_run.proofs.RunsInTurns.{every_run}
+use Rattle.link_run.proofs.laws.runs_stay_in_turns.Goals as goal
+
+pub returns : goal.returns
+returns c = every_run

@@ -1,0 +1,79 @@
+//! The lines of a script, one after another, over a link.
+ghost use Rattle.std.specs.Prelude.{◌≡◌, Ok, Some, IfOk};
+ghost use Rattle.turn_link.specs.LinkViews.{link_tree};
+ghost use Rattle.turn_link.specs.Views.{event_tree};
+ghost use Rattle.link_run.specs.EventJson.{event_of_line};
+ghost use Rattle.link_run.specs.Linked.{IsLinkedOf, take_item_of};
+ghost use Rattle.link_run.specs.Runs.{line_answer, state_of};
+ghost use Rattle.link_run.specs.Views.{step_with, HasAnswerLine};
+
+use crate::answers::{Answer, answer_line};
+use crate::fault::EventFault;
+use crate::read::read_event;
+use edit_journal::Line;
+use lens_core::EditLens;
+use lens_flat::Flat;
+use std::alloc::{AllocError, Global};
+use turn_link::{Event, Link, LinkFault};
+
+/// The answer line to a line that is not blank, which is the item with this number. The event happens
+/// to the link if the link does not refuse it. The only error is running out of memory.
+pub(crate) fn answer_item(
+    alloc: Global,
+    link: &mut Link<Flat>,
+    number: u64,
+    line: &Line,
+) -> Result<line_stream::Answer, AllocError>
+    ensures { IfOk result (λ a. line_answer (state_of link.old) number line.now
+        ≡ Some (state_of link.new, a)) }
+{
+    let answer = take_item(alloc, link, line)?;
+    let line = answer_line(alloc, number, &answer)?;
+    let refused = answer.is_refused();
+    Ok(line_stream::Answer { line, refused })
+}
+
+/// The answer to a line that is not blank, which makes the event happen that the line is.
+///
+/// An event that the link refuses, and a line that is not an event, leave the link as it was. The
+/// only error is running out of memory.
+pub fn take_item<L: EditLens>(
+    alloc: Global,
+    link: &mut Link<L>,
+    line: &Line,
+) -> Result<Answer, AllocError>
+    ensures answer { IfOk result (λ answer. take_item_of L.left_type L.right_type L.start L.carried
+        link.old (event_of_line line.now) ≡ step_with (link_tree link.new) answer) }
+    ensures has_line { IfOk result (λ answer. HasAnswerLine answer) }
+    ensures lens { link.new.left.lens ≡ link.old.left.lens }
+{
+    match read_event(alloc, line) {
+        Ok(event) => take_event(link, &event),
+        Err(EventFault::NoMemory) => Err(AllocError),
+        Err(fault) => Ok(Answer::NoEvent(fault)),
+    }
+}
+
+// The answer to an event.
+fn take_event<L: EditLens>(link: &mut Link<L>, event: &Event) -> Result<Answer, AllocError>
+    ensures answer { IfOk result (λ answer. take_item_of L.left_type L.right_type L.start L.carried
+        link.old (Ok (event_tree event.now)) ≡ step_with (link_tree link.new) answer) }
+    ensures has_line { IfOk result (λ answer. HasAnswerLine answer) }
+    ensures lens { link.new.left.lens ≡ link.old.left.lens }
+{
+    match link.step(event) {
+        Ok(told) => {
+            is_linked(link);
+            Ok(Answer::Told(told))
+        }
+        Err(LinkFault::NoMemory) => Err(AllocError),
+        Err(fault) => Ok(Answer::Refused(fault)),
+    }
+}
+
+// Does nothing; its clause is what the left site's call says of the link.
+fn is_linked<L: EditLens>(link: &Link<L>)
+    ensures { IsLinkedOf L.left_type L.right_type L.start L.carried L.holds link.now }
+{
+    let _ = link.left();
+}

@@ -1,0 +1,130 @@
+//! A script over a link: its program part, its journal and its last link.
+ghost use Rattle.std.specs.Prelude.{◌≡◌, ℕ, List, IfOk, Result};
+ghost use Rattle.lens_forms.specs.Forms.{FormTree, form_tree};
+ghost use Rattle.accepted_programs.specs.Program.{Refusal, lens_of};
+ghost use Rattle.accepted_programs.specs.Refused.{IsKnown, IsRefusal};
+ghost use Rattle.script_parts.specs.Parts.{HoldsPart};
+ghost use Rattle.script_run.specs.Ending.{Opens, IsNotOpened};
+ghost use Rattle.link_run.specs.Runs.{first_link, line_answer, refusal_line, state_of, state_text};
+
+use crate::journal::answer_item;
+use crate::state::state_lines;
+use accepted_programs::Refused;
+use answer_text::{syntax_line, typing_line};
+use edit_journal::Line;
+use lens_flat::Flat;
+use lens_types::Typed;
+use line_stream::Answer;
+use script_parts::ProgramText;
+use script_run::{NotOpened, ScriptState};
+use std::alloc::{AllocError, Global};
+use texts::Bytes;
+use turn_link::Link;
+
+/// A link that answers the journal of a script.
+#[derive(Drop)]
+pub struct LinkRun {
+    pub link: Link<Flat>,
+}
+
+impl ScriptState for LinkRun {
+    ghost use Rattle.lens_forms.specs.Forms.{FormTree};
+    ghost use Rattle.accepted_programs.specs.Program.{Refusal, lens_of};
+    ghost use Rattle.turn_link.specs.Links.{LinkTree};
+    ghost use Rattle.link_run.specs.Runs.{first_link, line_answer, refusal_line, state_of, state_text, IsInTurnsWith};
+
+    ghost Accepted = { FormTree };
+
+    ghost Refusal = { Refusal };
+
+    ghost State = { FormTree × LinkTree };
+
+    ghost state = { λ s. state_of s.link };
+
+    ghost accepted = { lens_of };
+
+    ghost refusal_line = { refusal_line };
+
+    ghost start = { first_link };
+
+    ghost answer = { line_answer };
+
+    ghost state_text = { state_text };
+
+    ghost in_step = { IsInTurnsWith };
+
+    fn answer(&mut self, alloc: Global, number: u64, line: &Line) -> Result<Answer, AllocError> {
+        answer_item(alloc, &mut self.link, number, line)
+    }
+
+    fn state_lines(&self, alloc: Global) -> Result<Bytes, AllocError> {
+        text_of_state(alloc, &self.link)
+    }
+}
+
+// The state lines of a link of a compiled lens.
+#[tactic(auto, using(crate::proofs::AnswerSteps::own_form))]
+fn text_of_state(alloc: Global, link: &Link<Flat>) -> Result<Bytes, AllocError>
+    ensures { IfOk result (λ text. text ≡ state_text (state_of link.now)) }
+{
+    let text = state_lines(alloc, link.left().lens().typed(), link)?;
+    Ok(Bytes::from_vec(text))
+}
+
+/// The link of a program part before any event, or why there is none.
+pub(crate) fn open_link(alloc: Global, program: &ProgramText) -> Result<LinkRun, NotOpened>
+    ensures { (part : List ℕ) → HoldsPart program.now part
+        → Opens (lens_of part) refusal_line first_link (λ run. state_of run.link) result }
+{
+    match program.lens(alloc) {
+        Ok(typed) => start_run(alloc, typed),
+        Err(refused) => Err(refusal(alloc, refused)),
+    }
+}
+
+// The link of a lens before any event.
+fn start_run(alloc: Global, typed: Typed) -> Result<LinkRun, NotOpened>
+    ensures { (part : List ℕ) → lens_of part ≡ Ok (form_tree typed)
+        → Opens (lens_of part) refusal_line first_link (λ run. state_of run.link) result }
+{
+    let started = first_run(alloc, &typed);
+    drop(typed);
+    match started {
+        Ok(run) => Ok(run),
+        Err(_) => Err(NotOpened::NoMemory),
+    }
+}
+
+fn first_run(alloc: Global, typed: &Typed) -> Result<LinkRun, AllocError>
+    ensures { IfOk result (λ run. state_of run.link ≡ first_link (form_tree typed.now)) }
+{
+    let lens = Flat::compile(alloc, typed)?;
+    let link = Link::start(alloc, lens)?;
+    Ok(LinkRun { link })
+}
+
+// The refusal of a program part, with its line. Running out of memory is not a refusal.
+fn refusal(alloc: Global, refused: Refused) -> NotOpened
+    requires { IsKnown refused }
+    ensures { (outcome : Result FormTree Refusal) → IsRefusal outcome refused
+        → IsNotOpened outcome refusal_line first_link result }
+{
+    let line = line_of_refusal(alloc, &refused);
+    drop(refused);
+    match line {
+        Ok(line) => NotOpened::Refused(line),
+        Err(_) => NotOpened::NoMemory,
+    }
+}
+
+fn line_of_refusal(alloc: Global, refused: &Refused) -> Result<Bytes, AllocError>
+    requires { IsKnown refused.now }
+    ensures { IfOk result (λ line. (outcome : Result FormTree Refusal) → IsRefusal outcome refused.now
+        → IsNotOpened outcome refusal_line first_link (NotOpened.Refused line)) }
+{
+    match refused {
+        Refused::Syntax(fault) => syntax_line(alloc, fault),
+        Refused::Typing(fault) => typing_line(alloc, fault),
+        Refused::NoMemory => Err(AllocError),
+    }
+}
