@@ -1,0 +1,17 @@
+pub mod AnswersHaveLines
+pub mod EditTrees
+pub mod FormsInStep
+pub mod FoundForms
+pub mod FoundLoops
+pub mod FoundViews
+pub mod FrontPieces
+pub mod HeldPieces
+pub mod HubAnswers
+pub mod HubHeads
+pub mod HubLines
+pub mod HubStarts
+pub mod MappedLenses
+pub mod PieceLines
+pub mod RunsInStep
+pub mod StateLines
+pub mod WordLists

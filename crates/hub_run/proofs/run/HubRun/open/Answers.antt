@@ -1,0 +1,15 @@
+use Rattle.std.proofs.Common.{ap, ◌∙◌, map}
+use Rattle.lens_forms.specs.Forms.{form_tree}
+use Rattle.hub_run.specs.Lenses.{forms_of}
+use Rattle.hub_run.proofs.HubStarts.{opens, part_refused}
+use Rattle.hub_run.proofs.run.HubRun.open.Goals as goal
+
+pub returns-in-Ok : goal.returns-in-Ok
+returns-in-Ok c = record {
+  opens = λ part h. opens part (map form_tree c.in-Ok.typed.items) c.started.result (ap forms_of h.are ∙ c.in-Ok.ensures.lenses h.ended h.begun h.holds) c.started.ensures;
+}
+
+pub returns-in-Err : goal.returns-in-Err
+returns-in-Err c = record {
+  opens = λ part h. c.not_opened.ensures part (part_refused part c.args.pieces.now c.in-Err.refused h (c.in-Err.ensures.lenses h.ended h.begun h.holds));
+}

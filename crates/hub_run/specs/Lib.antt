@@ -1,0 +1,11 @@
+pub mod AnswerLines
+pub mod Answers
+pub mod EditJson
+pub mod FoundLenses
+pub mod HeldPieces
+pub mod HubHeads
+pub mod Lenses
+pub mod Pieces
+pub mod RunStates
+pub mod Runs
+pub mod Views

@@ -1,0 +1,187 @@
+//! A hub that answers the journal of a script.
+
+ghost use Rattle.std.specs.Prelude.{◌≡◌, ℕ, List, map, Some, IfOk, MatchResult};
+ghost use Rattle.lens_forms.specs.Forms.{form_tree, left_type, right_type};
+ghost use Rattle.lens_core.specs.Complements.{missing};
+ghost use Rattle.lens_core.specs.Consistency.{IsConsistent};
+ghost use Rattle.lens_core.specs.Translation.{translate};
+ghost use Rattle.script_run.specs.Ending.{Opens, IsNotOpened};
+ghost use Rattle.view_hub.specs.Laws.{HaveOneLeftType};
+ghost use Rattle.view_hub.specs.Views.{hub_tree};
+ghost use Rattle.hub_run.specs.FoundLenses.{IsRefused, HasRefusalLine};
+ghost use Rattle.hub_run.specs.HubHeads.{HasPieces};
+ghost use Rattle.hub_run.specs.Lenses.{lenses_of, refusal_line};
+ghost use Rattle.hub_run.specs.RunStates.{state_of, forms_of_lenses};
+ghost use Rattle.hub_run.specs.Runs.{answer, first_state, hub_of};
+
+use crate::answers::answer_line;
+use crate::journal::take_item;
+use crate::pieces::Pieces;
+use crate::state::state_lines;
+use crate::views::{HubRefused, refusal_line};
+use edit_journal::Line;
+use lens_flat::Flat;
+use lens_types::Typed;
+use line_stream::Answer;
+use script_run::{NotOpened, ScriptState};
+use std::alloc::{AllocError, Global};
+use std::marker::Model;
+use texts::Bytes;
+use view_hub::Hub;
+
+/// A hub that answers the journal of a script, with the typed forms of its lenses. Contracts see it as the hub.
+#[derive(Drop)]
+pub struct HubRun {
+    typed: Vec<Typed>,
+    hub: Hub<Flat>,
+}
+
+impl Model for HubRun {
+    ghost use Rattle.lens_flat.specs.contracts.flat.ReadyForm as ready_form;
+    ghost use Rattle.lens_flat.specs.declared.flat.ReadyForm.{ReadyForm};
+    ghost use Rattle.view_hub.specs.contracts.view.HubParts as parts_type;
+    ghost use Rattle.view_hub.specs.Views.{HubOf, hub_code};
+
+    ghost Value = { HubOf ReadyForm };
+
+    ghost coded = { hub_code ready_form.the_row.coded parts_type.the_row.coded };
+
+    ghost use Rattle.std.specs.Prelude.{◌≡◌, map};
+    ghost use Rattle.lens_forms.specs.Forms.{form_tree};
+    ghost use Rattle.hub_run.specs.RunStates.{forms_of_lenses};
+
+    ghost view = { λ r. r.hub };
+
+    ghost invariant = { λ r. map form_tree r.typed.items ≡ forms_of_lenses r.hub.lenses };
+}
+
+impl ScriptState for HubRun {
+    ghost use Rattle.std.specs.Prelude.{List};
+    ghost use Rattle.lens_forms.specs.Forms.{FormTree};
+    ghost use Rattle.hub_run.specs.Lenses.{HubRefusal, lenses_of, refusal_line};
+    ghost use Rattle.hub_run.specs.RunStates.{state_of};
+    ghost use Rattle.hub_run.specs.Runs.{HubState, IsInStep, answer, first_state, state_text};
+
+    ghost Accepted = { List FormTree };
+
+    ghost Refusal = { HubRefusal };
+
+    ghost State = { HubState };
+
+    ghost state = { state_of };
+
+    ghost accepted = { lenses_of };
+
+    ghost refusal_line = { refusal_line };
+
+    ghost start = { first_state };
+
+    ghost answer = { answer };
+
+    ghost state_text = { state_text };
+
+    ghost in_step = { IsInStep };
+
+    fn answer(&mut self, alloc: Global, number: u64, line: &Line) -> Result<Answer, AllocError> {
+        answer_item(alloc, &mut self.hub, number, line)
+    }
+
+    fn state_lines(&self, alloc: Global) -> Result<Bytes, AllocError> {
+        let lines = state_lines(alloc, &self.typed, &self.hub)?;
+        Ok(Bytes::from_vec(lines))
+    }
+}
+
+// Answers the item with this number, which steps the hub if it is an edit.
+fn answer_item(
+    alloc: Global,
+    hub: &mut Hub<Flat>,
+    number: u64,
+    line: &Line,
+) -> Result<Answer, AllocError>
+    ensures answer { IfOk result (λ a.
+        answer (state_of hub.old) number line.now ≡ Some (state_of hub.new, a)) }
+    ensures lenses { hub.new.lenses ≡ hub.old.lenses }
+{
+    let answer = take_item(alloc, hub, line)?;
+    let refused = answer.is_refused();
+    let line = answer_line(alloc, number, &answer)?;
+    Ok(Answer { line, refused })
+}
+
+impl HubRun {
+    /// A hub of these lenses at its start. There is a lens, and all lenses have the same left type.
+    ///
+    /// The only error is running out of memory.
+    pub fn start(alloc: Global, typed: Vec<Typed>) -> Result<HubRun, AllocError>
+        requires one_left { HaveOneLeftType left_type right_type missing IsConsistent translate
+            (map form_tree typed.items) }
+        ensures state { IfOk result (λ r. state_of r ≡ first_state (map form_tree typed.items)) }
+    {
+        let hub = first_hub(alloc, &typed)?;
+        Ok(HubRun { typed, hub })
+    }
+
+    /// The hub of a program part at its start; or the line of the refusal, if the program part is refused as
+    /// [`Pieces::lenses`] says.
+    ///
+    /// `NoMemory` comes only if memory ran out, and says nothing of the program part.
+    pub fn open(alloc: Global, pieces: &Pieces) -> Result<HubRun, NotOpened>
+        ensures opens { (part : List ℕ) → HasPieces pieces.now part
+            → Opens (lenses_of part) refusal_line first_state state_of result }
+    {
+        match pieces.lenses(alloc) {
+            Ok(typed) => started(alloc, typed),
+            Err(refused) => Err(not_opened(alloc, &refused)),
+        }
+    }
+}
+
+// A hub of these lenses at its start, unless memory ran out.
+fn started(alloc: Global, typed: Vec<Typed>) -> Result<HubRun, NotOpened>
+    requires one_left { HaveOneLeftType left_type right_type missing IsConsistent translate
+        (map form_tree typed.items) }
+    ensures { MatchResult result (λ r. state_of r ≡ first_state (map form_tree typed.items))
+        (λ refused. refused ≡ NotOpened.NoMemory) }
+{
+    match HubRun::start(alloc, typed) {
+        Ok(run) => Ok(run),
+        Err(_) => Err(NotOpened::NoMemory),
+    }
+}
+
+// The line of a refusal, unless memory ran out.
+fn not_opened(alloc: Global, refused: &HubRefused) -> NotOpened
+    requires has_line { HasRefusalLine refused.now }
+    ensures { (part : List ℕ) → IsRefused (lenses_of part) refused.now
+        → IsNotOpened (lenses_of part) refusal_line first_state result }
+{
+    match refusal_line(alloc, refused) {
+        Ok(line) => NotOpened::Refused(line),
+        Err(_) => NotOpened::NoMemory,
+    }
+}
+
+// A hub of these lenses at its start.
+#[tactic(auto, using(crate::proofs::HubStarts::one_left_of_lenses))]
+fn first_hub(alloc: Global, typed: &[Typed]) -> Result<Hub<Flat>, AllocError>
+    requires one_left { HaveOneLeftType left_type right_type missing IsConsistent translate
+        (map form_tree typed.now) }
+    ensures forms { IfOk result (λ h. map form_tree typed.now ≡ forms_of_lenses h.lenses) }
+    ensures first { IfOk result (λ h. hub_tree h.parts ≡ hub_of (map form_tree typed.now)) }
+{
+    let lenses = compiled(alloc, typed)?;
+    Hub::start(alloc, lenses)
+}
+
+// The lenses, each as a table of nodes.
+fn compiled(alloc: Global, typed: &[Typed]) -> Result<Vec<Flat>, AllocError>
+    ensures { IfOk result (λ lenses. forms_of_lenses lenses.items ≡ map form_tree typed.now) }
+{
+    let mut lenses = Vec::with_capacity(alloc, typed.len())?;
+    for lens in typed {
+        let flat = Flat::compile(alloc, lens)?;
+        lenses.push(flat)?;
+    }
+    Ok(lenses)
+}

@@ -1,0 +1,143 @@
+//! The state of a hub as lines, which end a run.
+
+ghost use Rattle.std.specs.Prelude.{◌≡◌, ◌++◌, codes, decimal, map, slice_get, Some, IfOk, IsTrue};
+ghost use Rattle.doc_values.specs.Documents.{doc_tree};
+ghost use Rattle.doc_values.specs.Types.{ty_tree, is_well_formed};
+ghost use Rattle.doc_values.specs.Typing.{has};
+ghost use Rattle.value_json.specs.DocumentJson.{tree_of_document};
+ghost use Rattle.lens_forms.specs.Forms.{form_tree, left_type, right_type};
+ghost use Rattle.lens_core.specs.Complements.{comp_tree, Fits};
+ghost use Rattle.complement_file.specs.ComplementJson.{tree_of_complement};
+ghost use Rattle.answer_text.specs.Lines.{tree_line};
+ghost use Rattle.view_hub.specs.Views.{hub_tree};
+ghost use Rattle.hub_run.specs.RunStates.{forms_of_lenses, IsHubOf};
+ghost use Rattle.hub_run.specs.Runs.{hub_line, lines_of_view, view_lines, state_lines, HasLinesOfView};
+
+use answer_text::tree_line;
+use complement_file::write_comp;
+use doc_values::{Doc, Ty};
+use lens_core::Comp;
+use lens_flat::Flat;
+use lens_types::Typed;
+use std::alloc::{AllocError, Global};
+use texts::Bytes;
+use value_json::write_doc;
+use view_hub::Hub;
+
+/// `hub JSON` and a line feed: the document of a hub, which has the left type of the form. The only error is running out of memory.
+pub fn hub_line(alloc: Global, typed: &Typed, hub: &Doc) -> Result<Bytes, AllocError>
+    requires has_type { IsTrue (has (left_type (form_tree typed.now)) (doc_tree hub.now)) }
+    ensures line { IfOk result (λ line. line ≡ hub_line (form_tree typed.now) (doc_tree hub.now)) }
+{
+    document_line(alloc, "hub", typed.left(), hub)
+}
+
+/// `view V JSON` and `complement V JSON`, each with a line feed: the document and the complement of the view with this number.
+///
+/// The document has the right type of the form, and the complement fits the form. The only error is running out of memory.
+pub fn lines_of_view(
+    alloc: Global,
+    number: u64,
+    typed: &Typed,
+    doc: &Doc,
+    comp: &Comp,
+) -> Result<Vec<u8>, AllocError>
+    requires has_type { IsTrue (has (right_type (form_tree typed.now)) (doc_tree doc.now)) }
+    requires fits { Fits (form_tree typed.now) (comp_tree comp.now) }
+    ensures lines { IfOk result (λ lines. lines.items ≡ lines_of_view number (form_tree typed.now)
+        (comp_tree comp.now) (doc_tree doc.now)) }
+{
+    let view = format!(in alloc; "view {number}")?;
+    let view = document_line(alloc, view.as_str(), typed.right(), doc)?;
+    let label = format!(in alloc; "complement {number}")?;
+    let comp = complement_line(alloc, label.as_str(), typed, comp)?;
+    let mut lines = view.into_vec();
+    lines.extend_from_slice(comp.as_slice())?;
+    Ok(lines)
+}
+
+// A label, and the compact text of a document.
+#[tactic(auto, using(value_json::proofs::TreeDepths::whole))]
+fn document_line(alloc: Global, label: &str, ty: &Ty, doc: &Doc) -> Result<Bytes, AllocError>
+    requires well_formed { IsTrue (is_well_formed (ty_tree ty.now)) }
+    requires typed { IsTrue (has (ty_tree ty.now) (doc_tree doc.now)) }
+    ensures { IfOk result (λ line. line ≡ tree_line label.now (tree_of_document (ty_tree ty.now) (doc_tree doc.now))) }
+{
+    let tree = write_doc(alloc, ty, doc)?;
+    tree_line(alloc, label, &tree)
+}
+
+// A label, and the compact text of a complement.
+#[tactic(auto, using(complement_file::proofs::Floats::whole))]
+fn complement_line(
+    alloc: Global,
+    label: &str,
+    typed: &Typed,
+    comp: &Comp,
+) -> Result<Bytes, AllocError>
+    requires { Fits (form_tree typed.now) (comp_tree comp.now) }
+    ensures { IfOk result (λ line. line ≡ tree_line label.now (tree_of_complement (form_tree typed.now) (comp_tree comp.now))) }
+{
+    let tree = write_comp(alloc, typed, comp)?;
+    tree_line(alloc, label, &tree)
+}
+
+/// The state lines of a hub: `hub JSON`, and for each view `view V JSON` and `complement V JSON`.
+///
+/// The hub's lenses are those of the forms. The only error is running out of memory.
+pub fn state_lines(alloc: Global, typed: &[Typed], hub: &Hub<Flat>) -> Result<Vec<u8>, AllocError>
+    requires of_forms { map form_tree typed.now ≡ forms_of_lenses hub.now.lenses }
+    ensures lines { IfOk result (λ text. text.items
+        ≡ state_lines (map form_tree typed.now) (hub_tree hub.now.parts)) }
+{
+    let document = hub.hub();
+    let line = hub_line(alloc, &typed[0], document)?;
+    add_views(alloc, typed, hub, line.into_vec())
+}
+
+// A text with the lines of all views behind it.
+fn add_views(
+    alloc: Global,
+    typed: &[Typed],
+    hub: &Hub<Flat>,
+    line: Vec<u8>,
+) -> Result<Vec<u8>, AllocError>
+    requires of_forms { map form_tree typed.now ≡ forms_of_lenses hub.now.lenses }
+    ensures { IfOk result (λ text. text.items
+        ≡ line.items ++ view_lines 0 (map form_tree typed.now) (hub_tree hub.now.parts).views) }
+{
+    let mut text = line;
+    for number in 0..typed.len() {
+        let lines = lines_at(alloc, &typed[number], hub, number as u64)?;
+        text.extend_from_slice(&lines)?;
+    }
+    Ok(text)
+}
+
+// The lines of the view with this number.
+fn lines_at(
+    alloc: Global,
+    typed: &Typed,
+    hub: &Hub<Flat>,
+    number: u64,
+) -> Result<Vec<u8>, AllocError>
+    requires form { slice_get (forms_of_lenses hub.now.lenses) number ≡ Some (form_tree typed.now) }
+    ensures { IfOk result (λ lines. HasLinesOfView (hub_tree hub.now.parts).views number
+        (form_tree typed.now) lines.items) }
+{
+    is_in_step(hub);
+    let Some(doc) = hub.view(number) else {
+        unreachable!();
+    };
+    let Some(comp) = hub.comp(number) else {
+        unreachable!();
+    };
+    lines_of_view(alloc, number, typed, doc, comp)
+}
+
+// Does nothing; its clause is what a hub's calls say of it.
+fn is_in_step(hub: &Hub<Flat>)
+    ensures { IsHubOf hub.now.lenses (hub_tree hub.now.parts) }
+{
+    let _ = hub.hub();
+}

@@ -1,0 +1,199 @@
+//! The lenses of the views, or why a program part is refused.
+
+ghost use Rattle.std.specs.Prelude.{◌≡◌, ◌≢◌, ◌++◌, ◌∷◌, [], List, ℕ, IfOk, IfErr, MatchResult, Option, Result, Ok, Err, codes, length, map};
+ghost use Rattle.doc_values.specs.Types.{TyTree};
+ghost use Rattle.lens_forms.specs.Forms.{FormTree, form_tree, left_type, right_type};
+ghost use Rattle.lens_core.specs.Complements.{missing};
+ghost use Rattle.lens_core.specs.Consistency.{IsConsistent};
+ghost use Rattle.lens_core.specs.Translation.{translate};
+ghost use Rattle.view_hub.specs.Laws.{HaveOneLeftType};
+ghost use Rattle.accepted_programs.specs.Refused.{IsKnown, IsRefusal};
+ghost use Rattle.accepted_programs.specs.Program.{Refusal};
+ghost use Rattle.answer_text.specs.Lines.{program_refused_line};
+ghost use Rattle.script_parts.specs.Parts.{HoldsPart};
+ghost use Rattle.hub_run.specs.HeldPieces.{HoldsPieces};
+ghost use Rattle.hub_run.specs.Lenses.{HubRefusal, view_with, with_left, form_of_view, first_left, forms_of, reason, view_reason, refusal_line, views_differ};
+ghost use Rattle.hub_run.specs.FoundLenses.{IsRefusalOf, IsRefused, HasRefusalLine, HasLeft};
+
+use crate::pieces::Pieces;
+use accepted_programs::Refused;
+use answer_text::{program_refused_line, syntax_line, typing_line};
+use lens_types::Typed;
+use script_parts::ProgramText;
+use std::alloc::{AllocError, AllocFailed, Global};
+use texts::Bytes;
+
+// The bytes in front of the reason in the line of a refusal.
+const FRONT: usize = 17;
+
+/// Why the program part of a hub is refused.
+#[derive(Drop)]
+pub enum HubRefused {
+    /// There are more than 64 views.
+    TooManyViews,
+    /// The program of the view with this number, from 0, is refused for this cause, which is not that memory ran out.
+    InView(u64, Refused),
+    /// The left type of the view with this number is not that of view 0.
+    ViewsDiffer(u64),
+    /// Memory ran out.
+    NoMemory,
+}
+
+impl From<AllocError> for HubRefused {
+    ghost use Rattle.std.specs.Prelude.{◌≡◌};
+    ghost use Rattle.hub_run.specs.declared.views.HubRefused.TheVariants.{NoMemory};
+
+    ghost from_gives = { λ _ refused. refused ≡ NoMemory };
+
+    fn from(_: AllocError) -> HubRefused {
+        HubRefused::NoMemory
+    }
+}
+
+impl<T: Drop> From<AllocFailed<T>> for HubRefused {
+    ghost use Rattle.std.specs.Prelude.{◌≡◌};
+    ghost use Rattle.hub_run.specs.declared.views.HubRefused.TheVariants.{NoMemory};
+
+    ghost from_gives = { λ _ refused. refused ≡ NoMemory };
+
+    fn from(_: AllocFailed<T>) -> HubRefused {
+        HubRefused::NoMemory
+    }
+}
+
+impl Pieces {
+    /// The lenses of the views, one for each piece, or why the program part is refused. It is refused by the first of these:
+    ///
+    /// - `TooManyViews`: if and only if there are more than 64 pieces.
+    /// - Then, for each piece in order, `InView`: if and only if its program is refused, with the number of the view and the cause
+    ///   that `read_lens` of accepted_programs has; a piece of more than 65,536 bytes is too long.
+    /// - For the same piece after that, `ViewsDiffer`: if and only if its left type is not the same as view 0's.
+    ///
+    /// `NoMemory` says nothing of the program part.
+    pub fn lenses(&self, alloc: Global) -> Result<Vec<Typed>, HubRefused>
+        ensures lenses { (ended : List (List ℕ)) (begun : List ℕ) → HoldsPieces self.now ended begun → MatchResult result
+            (λ lenses. forms_of (ended ++ begun ∷ []) ≡ Ok (map form_tree lenses.items))
+            (λ refused. IsRefused (forms_of (ended ++ begun ∷ [])) refused) }
+        ensures one_left { IfOk result (λ lenses. HaveOneLeftType left_type right_type missing IsConsistent translate
+            (map form_tree lenses.items)) }
+        ensures known { IfErr result HasRefusalLine }
+    {
+        if self.is_many {
+            return Err(HubRefused::TooManyViews);
+        }
+        let mut lenses = Vec::new(alloc);
+        for piece in &self.ended {
+            let lens = view_lens(alloc, &lenses, piece)?;
+            lenses.push(lens)?;
+        }
+        let lens = view_lens(alloc, &lenses, &self.begun)?;
+        lenses.push(lens)?;
+        Ok(lenses)
+    }
+}
+
+/// The lens of the view behind those that were found before, with the number that they are, or why it is refused. It is refused by
+/// the first of these:
+///
+/// - `InView`: if and only if its program is refused, with the number of the view and the cause that `read_lens` of
+///   accepted_programs has; a piece of more than 65,536 bytes is too long.
+/// - `ViewsDiffer`: if and only if there is a view before it, and its left type is not the same as view 0's.
+///
+/// `NoMemory` says nothing of the piece.
+pub fn view_lens(alloc: Global, before: &[Typed], piece: &ProgramText) -> Result<Typed, HubRefused>
+    ensures lens { (text : List ℕ) → HoldsPart piece.now text → MatchResult result
+        (λ lens. form_of_view (first_left (map form_tree before.now)) (length before.now) text ≡ Ok (form_tree lens))
+        (λ refused. IsRefused (form_of_view (first_left (map form_tree before.now)) (length before.now) text) refused) }
+    ensures same_left { IfOk result (λ lens. HasLeft (first_left (map form_tree before.now)) (form_tree lens)) }
+    ensures known { IfErr result HasRefusalLine }
+{
+    match piece.lens(alloc) {
+        Ok(lens) => with_left(before, lens),
+        Err(refused) => Err(refused_view(before.len() as u64, refused)),
+    }
+}
+
+// Why the view with this number is refused, whose program is.
+fn refused_view(number: u64, refused: Refused) -> HubRefused
+    requires has_line { IsKnown refused }
+    ensures refused { (ty : Option TyTree) (outcome : Result FormTree Refusal) → IsRefusal outcome refused
+        → IsRefused (view_with ty number outcome) result }
+    ensures known { HasRefusalLine result }
+{
+    match refused {
+        Refused::Syntax(fault) => HubRefused::InView(number, Refused::Syntax(fault)),
+        Refused::Typing(fault) => HubRefused::InView(number, Refused::Typing(fault)),
+        Refused::NoMemory => HubRefused::NoMemory,
+    }
+}
+
+// The lens, if its left type is that of the first.
+fn with_left(before: &[Typed], lens: Typed) -> Result<Typed, HubRefused>
+    ensures lens { MatchResult result
+        (λ same. with_left (first_left (map form_tree before.now)) (length before.now) (form_tree lens) ≡ Ok (form_tree same))
+        (λ refused. IsRefused (with_left (first_left (map form_tree before.now)) (length before.now) (form_tree lens)) refused) }
+    ensures same_left { IfOk result (λ same. HasLeft (first_left (map form_tree before.now)) (form_tree same)) }
+    ensures known { IfErr result HasRefusalLine }
+{
+    if before.len() > 0 && !before[0].left().is_same(lens.left()) {
+        return Err(HubRefused::ViewsDiffer(before.len() as u64));
+    }
+    Ok(lens)
+}
+
+/// `program refused: too-many-views`, `program refused: view V REASON` or `program refused: views-differ V`, and a line feed.
+///
+/// REASON is that of the same refusal of a program that stands alone. Running out of memory is not a refusal, and the only error.
+pub fn refusal_line(alloc: Global, refused: &HubRefused) -> Result<Bytes, AllocError>
+    requires has_line { HasRefusalLine refused.now }
+    ensures refusal { IfOk result (λ _. refused.now ≢ HubRefused.NoMemory) }
+    ensures line { IfOk result (λ line. (refusal : HubRefusal) → IsRefusalOf refused.now refusal → line ≡ refusal_line refusal) }
+{
+    match refused {
+        HubRefused::TooManyViews => program_refused_line(alloc, "too-many-views"),
+        HubRefused::InView(number, refused) => in_view_line(alloc, *number, refused),
+        HubRefused::ViewsDiffer(number) => views_differ_line(alloc, *number),
+        HubRefused::NoMemory => Err(AllocError),
+    }
+}
+
+fn views_differ_line(alloc: Global, number: u64) -> Result<Bytes, AllocError>
+    ensures { IfOk result (λ line. line ≡ refusal_line (views_differ number)) }
+{
+    let reason = format!(in alloc; "views-differ {number}")?;
+    program_refused_line(alloc, reason.as_str())
+}
+
+// The line of a refusal of the view with this number.
+fn in_view_line(alloc: Global, number: u64, refused: &Refused) -> Result<Bytes, AllocError>
+    requires has_line { IsKnown refused.now }
+    ensures { IfOk result (λ line. (why : Refusal) → IsRefusal (Err why) refused.now
+        → line ≡ program_refused_line (view_reason number (reason why))) }
+{
+    match refused {
+        Refused::Syntax(fault) => view_line(alloc, number, &syntax_line(alloc, fault)?),
+        Refused::Typing(fault) => view_line(alloc, number, &typing_line(alloc, fault)?),
+        Refused::NoMemory => Err(AllocError),
+    }
+}
+
+// The line of a refusal, with the number of the view in front of the reason.
+fn view_line(alloc: Global, number: u64, line: &Bytes) -> Result<Bytes, AllocError>
+    ensures { IfOk result (λ longer. (why : List ℕ) → line.now ≡ program_refused_line why
+        → longer ≡ program_refused_line (view_reason number why)) }
+{
+    let front = format!(in alloc; "program refused: view {number} ")?;
+    let mut longer = front.into_bytes();
+    longer.extend_from_slice(behind(line.as_slice()))?;
+    Ok(Bytes::from_vec(longer))
+}
+
+// What stands behind the front of a line of refusal.
+fn behind(line: &[u8]) -> &[u8]
+    ensures { (rest : List ℕ) → line.now ≡ codes "program refused: " ++ rest → result.now ≡ rest }
+{
+    if line.len() < FRONT {
+        return line;
+    }
+    &line[FRONT..]
+}
