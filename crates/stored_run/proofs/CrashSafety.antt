@@ -34,13 +34,13 @@ behind_nothing : (old new : Option (List ℕ)) (text : List ℕ) → Appends old
 behind_nothing old new text h = subst (λ (x : List ℕ). Appends old new x) (sym (append-nil text)) h
 
 module _ {K D State : Type 0} (held : K → Option (List ℕ)) (content : D → Option (List ℕ)) (images : D → List ℕ → Type 0)
-    (moment : D → ℕ) (images_since : D → ℕ → List ℕ → Type 0)
+    (moment : D → ℕ) (images_since : D → ℕ → List ℕ → Type 0) (room : D → Option ℕ)
     (only_now : (d : D) (c : List ℕ) → images_since d (moment d) c → images d c)
     (images_hold : (l : LogState) (d : D) (base : List (List ℕ)) (c : List ℕ) → Stands (content d) (images d) l base → images d c → HoldsPayloads base c) where
   -- all answers were given, and then bytes in which there is no `ok` line
   pub safe_answers : (k k' k'' : K) (d d' : D) (l l' : LogState) (steps : List (State × Answer)) (more : List ℕ) → AreAnswers steps → ok_lines more ≡ 0
-      → Adds held content images moment images_since k d l k' d' l' (text_of steps) (kept_of steps) → Appends (held k') (held k'') more
-      → IsCrashSafe held content images moment images_since k d l k'' d' l' (kept_of steps)
+      → Adds held content images moment images_since room k d l k' d' l' (text_of steps) (kept_of steps) → Appends (held k') (held k'') more
+      → IsCrashSafe held content images moment images_since room k d l k'' d' l' (kept_of steps)
   safe_answers k k' k'' d d' l l' steps more are none a given =
       let count : ok_lines (text_of steps ++ more) ≡ length (kept_of steps) = omega (arith, count_answers steps more are, none) in
       record {
@@ -61,7 +61,7 @@ module _ {K D State : Type 0} (held : K → Option (List ℕ)) (content : D → 
   safe_done : (k k' : K) (d d' : D) (l l' : LogState) (done : List (State × Answer)) (begun : List (List ℕ)) (more : List ℕ) → AreAnswers done → ok_lines more ≡ 0
       → Appends (held k) (held k') (text_of done ++ more) → ((base : List (List ℕ)) → Stands (content d) (images d) l base → Stands (content d') (images d') l' (base ++ kept_of done))
       → ((base : List (List ℕ)) → Stands (content d) (images d) l base → LeavesOnly moment images_since d d' (HoldsFirst base (kept_of done ++ [])))
-      → IsCrashSafe held content images moment images_since k d l k' d' l' (kept_of done ++ begun)
+      → IsCrashSafe held content images moment images_since room k d l k' d' l' (kept_of done ++ begun)
   safe_done k k' d d' l l' done begun more are none given stored moments =
       let count : ok_lines (text_of done ++ more) ≡ length (kept_of done) = omega (arith, count_answers done more are, none) in
       record {
@@ -74,8 +74,8 @@ module _ {K D State : Type 0} (held : K → Option (List ℕ)) (content : D → 
 
   -- the answering stopped
   pub safe_stop : (stop : Stop) (k k' : K) (d d' : D) (l l' : LogState) (done begun : List (State × Answer)) → AreAnswers done → AreAnswers begun → length begun ≤ 1
-      → Stops held content images moment images_since k d l k' d' l' stop (text_of done) (text_of begun) (kept_of done) (kept_of begun)
-      → IsCrashSafe held content images moment images_since k d l k' d' l' (kept_of done ++ kept_of begun)
+      → Stops held content images moment images_since room k d l k' d' l' stop (text_of done) (text_of begun) (kept_of done) (kept_of begun)
+      → IsCrashSafe held content images moment images_since room k d l k' d' l' (kept_of done ++ kept_of begun)
   safe_stop SinkFault k k' d d' l l' done begun are are_begun few s =
       let front = s.given.0 in
       let count : ok_lines (text_of done ++ front) ≡ length (kept_of done) = omega (arith, count_answers done front are, count_plain front (begun_front begun front few are_begun s.given.1)) in
@@ -103,7 +103,7 @@ module _ {K D State : Type 0} (held : K → Option (List ℕ)) (content : D → 
 
   -- the log was full, and then the line of that refusal was given, or a prefix of it
   pub safe_refusal : (k k' k'' : K) (d d' : D) (l l' : LogState) (done begun : List (State × Answer)) (more : List ℕ) → AreAnswers done → ok_lines more ≡ 0
-      → Stops held content images moment images_since k d l k' d' l' LogFull (text_of done) (text_of begun) (kept_of done) (kept_of begun) → Appends (held k') (held k'') more
-      → IsCrashSafe held content images moment images_since k d l k'' d' l' (kept_of done ++ kept_of begun)
+      → Stops held content images moment images_since room k d l k' d' l' LogFull (text_of done) (text_of begun) (kept_of done) (kept_of begun) → Appends (held k') (held k'') more
+      → IsCrashSafe held content images moment images_since room k d l k'' d' l' (kept_of done ++ kept_of begun)
   safe_refusal k k' k'' d d' l l' done begun more are none s given =
       safe_done k k'' d d' l l' done (kept_of begun) more are none (Appends-trans (held k) (held k') (held k'') (text_of done) more s.given given) s.stored s.moments

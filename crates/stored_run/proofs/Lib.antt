@@ -16,3 +16,4 @@ pub mod ApplyCalls
 pub mod PackCalls
 pub mod StoreEnding
 pub mod Causes
+pub mod Rooms

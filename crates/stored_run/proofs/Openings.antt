@@ -2,17 +2,19 @@
 use Rattle.std.proofs.Common.{◌≡◌, inl, inr, ℕ, List, Option, Some, None, Result, Ok, Err, refl, sym, ap, subst, ◌∙◌}
 use Rattle.std.proofs.lemmas.Option.{same_Some}
 use Rattle.std.specs.Prelude.{IfSome}
+use Rattle.lens_io.specs.Disks.{LeavesOnly}
 use Rattle.gate_log.specs.CallEnds.{IsLogRefusal, IsPayloadsFault, NoBadRecord}
 use Rattle.gate_log.specs.LogBytes.{not_a_log, bad_record, log_of}
 use Rattle.gate_log.specs.declared.fault.LogFault.{LogFault}
 use Rattle.gate_log.specs.declared.fault.LogFault.TheVariants as log
-use Rattle.stored_run.specs.Refusals.{Refuses, EndsAtLog, EndsAtPayloads, IsUnwritten, FailsEarly, EndsRefused, refusal_of_payloads, refusal_of_log, refusal_in}
+use Rattle.stored_run.specs.Refusals.{Refuses, EndsAtLog, EndsAtPayloads, IsUnwritten, IsOpening, FailsEarly, EndsRefused, refusal_of_payloads, refusal_of_log, refusal_in}
 use Rattle.stored_run.specs.Reopening.{IsReopenFault}
 use Rattle.stored_run.specs.declared.refusals.StoreRefusal.{StoreRefusal}
 use Rattle.stored_run.specs.declared.refusals.StoreRefusal.TheVariants.{NotALog, BadRecord, NotConsistent}
 use Rattle.stored_run.specs.declared.session.ReopenFault.{ReopenFault}
 use Rattle.stored_run.specs.declared.session.ReopenFault.TheVariants as reopening
 use Rattle.stored_run.specs.declared.status.Status.{Status}
+use Rattle.stored_run.proofs.Moments.{leaves_same, leaves_then}
 
 -- what holds of a known content
 pub at_content : (o : Option (List ℕ)) (bytes : List ℕ) (P : List ℕ → Type 0) → o ≡ Some bytes → IfSome o P → P bytes
@@ -26,6 +28,20 @@ unwritten_then content images d d1 d' e f u = record { same = u.same ∙ e; only
 
 pub unwritten_none : {D : Type 0} (content : D → Option (List ℕ)) (images : D → List ℕ → Type 0) (d : D) → IsUnwritten content images d d
 unwritten_none content images d = record { same = refl; only = λ c x. x }
+
+-- an opening that came to this disk, and calls of the disk before it that only read
+pub opening_none : {D : Type 0} (content : D → Option (List ℕ)) (images : D → List ℕ → Type 0) (moment : D → ℕ) (images_since : D → ℕ → List ℕ → Type 0) (room : D → Option ℕ)
+    → ((d : D) (c : List ℕ) → images_since d (moment d) c → images d c) → (d : D) → IsOpening content images moment images_since room d d
+opening_none content images moment images_since room only d = record { unwritten = unwritten_none content images d; moments = leaves_same moment images_since d (images d) (only d); same_room = refl }
+
+pub opening_then : {D : Type 0} (content : D → Option (List ℕ)) (images : D → List ℕ → Type 0) (moment : D → ℕ) (images_since : D → ℕ → List ℕ → Type 0) (room : D → Option ℕ) (d d1 d' : D)
+    → content d1 ≡ content d → ((c : List ℕ) → images d1 c → images d c) → LeavesOnly moment images_since d d1 (images d) → room d1 ≡ room d
+    → IsOpening content images moment images_since room d1 d' → IsOpening content images moment images_since room d d'
+opening_then content images moment images_since room d d1 d' e f moments same o = record {
+  unwritten = unwritten_then content images d d1 d' e f o.unwritten;
+  moments = leaves_then moment images_since d d1 d' (images d) (images d1) (images d) (λ c x. x) f moments o.moments;
+  same_room = o.same_room ∙ same;
+}
 
 -- the opening of bytes that are refused
 pub log_refused : {T : Type 0} (stands_for : List (List ℕ) → Result T ReopenFault) (old new : Option (List ℕ)) (status : Status) (fault : LogFault) (o : Option (List ℕ)) (bytes : List ℕ) (refusal : StoreRefusal)

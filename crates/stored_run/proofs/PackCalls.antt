@@ -6,7 +6,7 @@ use Rattle.lens_io.specs.Disks.{LeavesOnly}
 use Rattle.gate_log.specs.LogOnDisk.{LogState, HoldsPayloads, Stands}
 use Rattle.stored_run.specs.CountLines.{packed_line}
 use Rattle.stored_run.specs.Effects.{HoldsFirst, begun_at, Adds, Stops}
-use Rattle.stored_run.specs.PackCall.{PacksCall, IsSafePack}
+use Rattle.stored_run.specs.PackCall.{PacksCall, IsSafePack, EndsPacked}
 use Rattle.stored_run.specs.Ends.{IsFinished, status_of}
 use Rattle.stored_run.specs.declared.status.Status.{Status}
 use Rattle.stored_run.specs.declared.stop.Stop.{Stop}
@@ -14,6 +14,7 @@ use Rattle.stored_run.specs.declared.stop.Stop.TheVariants.{LogFull, SourceFault
 use Rattle.stored_run.proofs.Effects.{first_none, first_all, first_more}
 use Rattle.stored_run.specs.declared.session.ReopenFault.{ReopenFault}
 use Rattle.stored_run.proofs.Moments.{leaves_more, leaves_then}
+use Rattle.stored_run.proofs.Openings.{opening_then}
 
 abbrev Payloads : Type 0
 Payloads = List (List ℕ)
@@ -41,11 +42,11 @@ never_finished NoMemory status e (inl f) = cc
 never_finished NoMemory status e (inr f) = cc
 
 module _ {K D : Type 0} (held : K → Option (List ℕ)) (content : D → Option (List ℕ)) (images : D → List ℕ → Type 0)
-    (moment : D → ℕ) (images_since : D → ℕ → List ℕ → Type 0)
+    (moment : D → ℕ) (images_since : D → ℕ → List ℕ → Type 0) (room : D → Option ℕ)
     (images_hold : (l : LogState) (d : D) (base : Payloads) (c : List ℕ) → Stands (content d) (images d) l base → images d c → HoldsPayloads base c) where
   -- what each image holds after a stop
   now_at : (stop : Stop) (k k' : K) (d d' : D) (l l' : LogState) (base whole : Payloads) (text begun_text : List ℕ) (kept begun more : Payloads) → (kept ++ begun) ++ more ≡ whole
-      → Stops held content images moment images_since k d l k' d' l' stop text begun_text kept begun → Stands (content d) (images d) l base → (c : List ℕ) → images d' c → HoldsFirst base whole c
+      → Stops held content images moment images_since room k d l k' d' l' stop text begun_text kept begun → Stands (content d) (images d) l base → (c : List ℕ) → images d' c → HoldsFirst base whole c
   now_at SinkFault k k' d d' l l' base whole text begun_text kept begun more e s st c now = front_holds base (kept ++ begun) more whole c e (images_hold l' d' (base ++ (kept ++ begun)) c (s.stored base st) now)
   now_at DiskFault k k' d d' l l' base whole text begun_text kept begun more e s st c now = elim (s.stored base st c now) [
     | inl without ↦ front_holds base kept (begun ++ more) whole c (sym (append_assoc kept begun more) ∙ e) without
@@ -65,94 +66,134 @@ module _ {K D : Type 0} (held : K → Option (List ℕ)) (content : D → Option
   begun_parts NoMemory kept begun more = (begun ++ more, ap (λ (x : Payloads). x ++ (begun ++ more)) (append-nil kept) ∙ sym (append_assoc kept begun more))
 
   moments_at : (stop : Stop) (k k' : K) (d d' : D) (l l' : LogState) (base whole : Payloads) (text begun_text : List ℕ) (kept begun more : Payloads) → (kept ++ begun) ++ more ≡ whole
-      → Stops held content images moment images_since k d l k' d' l' stop text begun_text kept begun → Stands (content d) (images d) l base → LeavesOnly moment images_since d d' (HoldsFirst base whole)
+      → Stops held content images moment images_since room k d l k' d' l' stop text begun_text kept begun → Stands (content d) (images d) l base → LeavesOnly moment images_since d d' (HoldsFirst base whole)
   moments_at stop k k' d d' l l' base whole text begun_text kept begun more e s st =
       let parts = begun_parts stop kept begun more in
       leaves_more moment images_since d d' (HoldsFirst base (kept ++ begun_at stop begun)) (HoldsFirst base whole) (λ c h. first_of base (kept ++ begun_at stop begun) parts.0 whole c (parts.1 ∙ e) h) (s.moments base st)
 
-  module _ {State : Type 0} (snapshot_of : State → List ℕ) (count_of : Payloads → ℕ) (stands_for : Payloads → Result (State × Option (List ℕ)) ReopenFault)
+  module _ {State : Type 0} (is_snapshot : State → List ℕ → Type 0) (count_of : Payloads → ℕ) (stands_for : Payloads → Result (State × Option (List ℕ)) ReopenFault)
       (read_holds : (l : LogState) (d : D) (base : Payloads) → Stands (content d) (images d) l base → IfSome (content d) (HoldsPayloads base))
       (version_stands : (ps : Payloads) (t : State) (v : List ℕ) → stands_for ps ≡ Ok (t, Some v) → stands_for (ps ++ v ∷ []) ≡ Ok (t, None))
-      (snapshot_stands : (ps : Payloads) (t : State) → stands_for ps ≡ Ok (t, None) → stands_for (ps ++ snapshot_of t ∷ []) ≡ Ok (t, None))
+      (snapshot_stands : (ps : Payloads) (t : State) (p : List ℕ) → stands_for ps ≡ Ok (t, None) → is_snapshot t p → stands_for (ps ++ p ∷ []) ≡ Ok (t, None))
       (version_counts : (ps : Payloads) (t : State) (v : List ℕ) → stands_for ps ≡ Ok (t, Some v) → count_of (ps ++ v ∷ []) ≡ count_of ps)
-      (snapshot_counts : (ps : Payloads) (t : State) → stands_for ps ≡ Ok (t, None) → count_of (ps ++ snapshot_of t ∷ []) ≡ count_of ps) where
-    all_counted : (before : Payloads) (t : State) (version : Option (List ℕ)) → stands_for before ≡ Ok (t, version) → count_of (before ++ (option_to_list version ++ snapshot_of t ∷ [])) ≡ count_of before
-    all_counted before t None h = snapshot_counts before t h
-    all_counted before t (Some v) h =
-        ap count_of (sym (append_assoc before (v ∷ []) (snapshot_of t ∷ []))) ∙ (snapshot_counts (before ++ v ∷ []) t (version_stands before t v h) ∙ version_counts before t v h)
+      (snapshot_counts : (ps : Payloads) (t : State) (p : List ℕ) → stands_for ps ≡ Ok (t, None) → is_snapshot t p → count_of (ps ++ p ∷ []) ≡ count_of ps) where
+    -- ---- a snapshot that was made
 
-    all_stand : (before : Payloads) (t : State) (version : Option (List ℕ)) → stands_for before ≡ Ok (t, version) → stands_for (before ++ (option_to_list version ++ snapshot_of t ∷ [])) ≡ Ok (t, None)
-    all_stand before t None h = snapshot_stands before t h
-    all_stand before t (Some v) h = ap stands_for (sym (append_assoc before (v ∷ []) (snapshot_of t ∷ []))) ∙ snapshot_stands (before ++ v ∷ []) t (version_stands before t v h)
+    module _ (t : State) (s : List ℕ) (made : is_snapshot t s) where
+      all_counted : (before : Payloads) (version : Option (List ℕ)) → stands_for before ≡ Ok (t, version) → count_of (before ++ (option_to_list version ++ s ∷ [])) ≡ count_of before
+      all_counted before None h = snapshot_counts before t s h made
+      all_counted before (Some v) h =
+          ap count_of (sym (append_assoc before (v ∷ []) (s ∷ []))) ∙ (snapshot_counts (before ++ v ∷ []) t s (version_stands before t v h) made ∙ version_counts before t v h)
 
-    -- each of the lists Stands (content the) (images the) for triple
-    one_stands : (before : Payloads) (t : State) (front rest : Payloads) → stands_for before ≡ Ok (t, None) → snapshot_of t ∷ [] ≡ front ++ rest → (v : Option (List ℕ)) × (stands_for (before ++ front) ≡ Ok (t, v))
-    one_stands before t [] rest h e = (None, ap stands_for (append-nil before) ∙ h)
-    one_stands before t (p ∷ []) rest h e =
-        let same : snapshot_of t ≡ p = cc in
-        (None, ap (λ (x : List ℕ). stands_for (before ++ x ∷ [])) (sym same) ∙ snapshot_stands before t h)
-    one_stands before t (p ∷ q ∷ front) rest h e = let never : [] ≡ q ∷ (front ++ rest) = cc in cc
+      all_stand : (before : Payloads) (version : Option (List ℕ)) → stands_for before ≡ Ok (t, version) → stands_for (before ++ (option_to_list version ++ s ∷ [])) ≡ Ok (t, None)
+      all_stand before None h = snapshot_stands before t s h made
+      all_stand before (Some v) h = ap stands_for (sym (append_assoc before (v ∷ []) (s ∷ []))) ∙ snapshot_stands (before ++ v ∷ []) t s (version_stands before t v h) made
 
-    pub each_stands : (before : Payloads) (t : State) (version : Option (List ℕ)) (front rest : Payloads) → stands_for before ≡ Ok (t, version) → option_to_list version ++ snapshot_of t ∷ [] ≡ front ++ rest
-        → (v : Option (List ℕ)) × (stands_for (before ++ front) ≡ Ok (t, v))
-    each_stands before t None front rest h e = one_stands before t front rest h e
-    each_stands before t (Some v) [] rest h e = (Some v, ap stands_for (append-nil before) ∙ h)
-    each_stands before t (Some v) (p ∷ front) rest h e =
-        let same : v ≡ p = cc in
-        let tail : snapshot_of t ∷ [] ≡ front ++ rest = cc in
-        let where_ : (before ++ v ∷ []) ++ front ≡ before ++ p ∷ front = append_assoc before (v ∷ []) front ∙ ap (λ (x : List ℕ). before ++ x ∷ front) same in
-        let stood = one_stands (before ++ v ∷ []) t front rest (version_stands before t v h) tail in
-        (stood.0, ap stands_for (sym where_) ∙ stood.1)
+      one_stands : (before front rest : Payloads) → stands_for before ≡ Ok (t, None) → s ∷ [] ≡ front ++ rest → (v : Option (List ℕ)) × (stands_for (before ++ front) ≡ Ok (t, v))
+      one_stands before [] rest h e = (None, ap stands_for (append-nil before) ∙ h)
+      one_stands before (p ∷ []) rest h e =
+          let same : s ≡ p = cc in
+          (None, ap (λ (x : List ℕ). stands_for (before ++ x ∷ [])) (sym same) ∙ snapshot_stands before t s h made)
+      one_stands before (p ∷ q ∷ front) rest h e = let never : [] ≡ q ∷ (front ++ rest) = cc in cc
+
+      -- each of the lists stands for the state
+      pub each_stands : (before : Payloads) (version : Option (List ℕ)) → stands_for before ≡ Ok (t, version) → (front rest : Payloads) → option_to_list version ++ s ∷ [] ≡ front ++ rest
+          → (v : Option (List ℕ)) × (stands_for (before ++ front) ≡ Ok (t, v))
+      each_stands before None h front rest e = one_stands before front rest h e
+      each_stands before (Some v) h [] rest e = (Some v, ap stands_for (append-nil before) ∙ h)
+      each_stands before (Some v) h (p ∷ front) rest e =
+          let same : v ≡ p = cc in
+          let tail : s ∷ [] ≡ front ++ rest = cc in
+          let where_ : (before ++ v ∷ []) ++ front ≡ before ++ p ∷ front = append_assoc before (v ∷ []) front ∙ ap (λ (x : List ℕ). before ++ x ∷ front) same in
+          let stood = one_stands (before ++ v ∷ []) front rest (version_stands before t v h) tail in
+          (stood.0, ap stands_for (sym where_) ∙ stood.1)
+
+      module _ (d d' : D) (before : Payloads) (version : Option (List ℕ)) (h : stands_for before ≡ Ok (t, version)) where
+        abbrev whole : Payloads
+        whole = option_to_list version ++ s ∷ []
+
+        safe_of : (past : List ℕ → Type 0) → ((c : List ℕ) → images d' c → HoldsFirst before whole c) → LeavesOnly moment images_since d d' (λ c. past c ⊎ HoldsFirst before whole c)
+            → IsSafePack held content images moment images_since room is_snapshot count_of stands_for past d d' before t version
+        safe_of past now moments = record { kept = whole; is = inr (s, made, refl); now = now; moments = moments; stand = each_stands before version h }
+
+        pub safe_packed : (past : List ℕ → Type 0) (k k' : K) (l l' : LogState) (line : List ℕ) → Adds held content images moment images_since room k d l k' d' l' line whole → Stands (content d) (images d) l before
+            → IsSafePack held content images moment images_since room is_snapshot count_of stands_for past d d' before t version
+        safe_packed past k k' l l' line a st =
+            safe_of past (λ c now. first_all before whole c (images_hold l' d' (before ++ whole) c (a.stored before st) now))
+            (leaves_more moment images_since d d' (HoldsFirst before whole) (λ c. past c ⊎ HoldsFirst before whole c) (λ c x. inr x) (a.moments before st))
+
+        pub safe_short : (past : List ℕ → Type 0) (k k' : K) (l l' : LogState) (stop : Stop) (line : List ℕ)
+            → Stops held content images moment images_since room k d l k' d' l' stop [] [] [] (option_to_list version) ⊎ Stops held content images moment images_since room k d l k' d' l' stop [] line (option_to_list version) (s ∷ [])
+            → Stands (content d) (images d) l before → IsSafePack held content images moment images_since room is_snapshot count_of stands_for past d d' before t version
+        safe_short past k k' l l' stop line (inl e) st =
+            safe_of past (now_at stop k k' d d' l l' before whole [] [] [] (option_to_list version) (s ∷ []) refl e st)
+            (leaves_more moment images_since d d' (HoldsFirst before whole) (λ c. past c ⊎ HoldsFirst before whole c) (λ c x. inr x)
+            (moments_at stop k k' d d' l l' before whole [] [] [] (option_to_list version) (s ∷ []) refl e st))
+        safe_short past k k' l l' stop line (inr e) st =
+            safe_of past (now_at stop k k' d d' l l' before whole [] line (option_to_list version) (s ∷ []) [] (append-nil whole) e st)
+            (leaves_more moment images_since d d' (HoldsFirst before whole) (λ c. past c ⊎ HoldsFirst before whole c) (λ c x. inr x)
+            (moments_at stop k k' d d' l l' before whole [] line (option_to_list version) (s ∷ []) [] (append-nil whole) e st))
+
+        pub packs_call : (k k' : K) (l l' : LogState) (line : List ℕ) → line ≡ packed_line (count_of before) → Adds held content images moment images_since room k d l k' d' l' line whole → Stands (content d) (images d) l before
+            → PacksCall held content images moment images_since room is_snapshot count_of stands_for k k' d' before t version
+        packs_call k k' l l' line e a st = record {
+          snapshot = s;
+          is = made;
+          given = subst (Appends (held k) (held k')) e a.given;
+          kept = read_holds l' d' (before ++ whole) (a.stored before st);
+          stand = all_stand before version h;
+          count = all_counted before version h;
+        }
+
+    -- ---- no snapshot
 
     module _ (d d' : D) (before : Payloads) (t : State) (version : Option (List ℕ)) (h : stands_for before ≡ Ok (t, version)) where
-      abbrev whole : Payloads
-      whole = option_to_list version ++ snapshot_of t ∷ []
-
-      safe_of : (past : List ℕ → Type 0) → ((c : List ℕ) → images d' c → HoldsFirst before whole c) → LeavesOnly moment images_since d d' (λ c. past c ⊎ HoldsFirst before whole c)
-          → IsSafePack held content images moment images_since snapshot_of count_of stands_for past d d' before t version
-      safe_of past now moments = record { now = now; moments = moments; stand = λ front rest e. each_stands before t version front rest h e }
-
-      pub safe_packed : (past : List ℕ → Type 0) (k k' : K) (l l' : LogState) (line : List ℕ) → Adds held content images moment images_since k d l k' d' l' line whole → Stands (content d) (images d) l before
-          → IsSafePack held content images moment images_since snapshot_of count_of stands_for past d d' before t version
-      safe_packed past k k' l l' line a st =
-          safe_of past (λ c now. first_all before whole c (images_hold l' d' (before ++ whole) c (a.stored before st) now))
-          (leaves_more moment images_since d d' (HoldsFirst before whole) (λ c. past c ⊎ HoldsFirst before whole c) (λ c x. inr x) (a.moments before st))
-
-      pub safe_short : (past : List ℕ → Type 0) (k k' : K) (l l' : LogState) (stop : Stop) (line : List ℕ)
-          → Stops held content images moment images_since k d l k' d' l' stop [] [] [] (option_to_list version) ⊎ Stops held content images moment images_since k d l k' d' l' stop [] line (option_to_list version) (snapshot_of t ∷ [])
-          → Stands (content d) (images d) l before → IsSafePack held content images moment images_since snapshot_of count_of stands_for past d d' before t version
-      safe_short past k k' l l' stop line (inl s) st =
-          safe_of past (now_at stop k k' d d' l l' before whole [] [] [] (option_to_list version) (snapshot_of t ∷ []) refl s st)
-          (leaves_more moment images_since d d' (HoldsFirst before whole) (λ c. past c ⊎ HoldsFirst before whole c) (λ c x. inr x)
-          (moments_at stop k k' d d' l l' before whole [] [] [] (option_to_list version) (snapshot_of t ∷ []) refl s st))
-      safe_short past k k' l l' stop line (inr s) st =
-          safe_of past (now_at stop k k' d d' l l' before whole [] line (option_to_list version) (snapshot_of t ∷ []) [] (append-nil whole) s st)
-          (leaves_more moment images_since d d' (HoldsFirst before whole) (λ c. past c ⊎ HoldsFirst before whole c) (λ c x. inr x)
-          (moments_at stop k k' d d' l l' before whole [] line (option_to_list version) (snapshot_of t ∷ []) [] (append-nil whole) s st))
+      nothing_stands : (front rest : Payloads) → [] ≡ front ++ rest → (v : Option (List ℕ)) × (stands_for (before ++ front) ≡ Ok (t, v))
+      nothing_stands [] rest e = (version, ap stands_for (append-nil before) ∙ h)
+      nothing_stands (p ∷ front) rest e = cc
 
       -- the store is as it was
       pub safe_kept : (past : List ℕ → Type 0) → ((c : List ℕ) → images d' c → HoldsPayloads before c) → LeavesOnly moment images_since d d' past
-          → IsSafePack held content images moment images_since snapshot_of count_of stands_for past d d' before t version
-      safe_kept past now moments =
-          safe_of past (λ c is. first_none before whole c (now c is))
-          (leaves_more moment images_since d d' past (λ c. past c ⊎ HoldsFirst before whole c) (λ c x. inl x) moments)
+          → IsSafePack held content images moment images_since room is_snapshot count_of stands_for past d d' before t version
+      safe_kept past now moments = record {
+        kept = [];
+        is = inl refl;
+        now = λ c is. first_none before [] c (now c is);
+        moments = leaves_more moment images_since d d' past (λ c. past c ⊎ HoldsFirst before [] c) (λ c x. inl x) moments;
+        stand = nothing_stands;
+      }
 
       -- behind calls of the disk that left no other image
-      pub safe_after : (past past' : List ℕ → Type 0) (d1 : D) → ((c : List ℕ) → past c → past' c ⊎ HoldsFirst before whole c) → LeavesOnly moment images_since d d1 past'
-          → IsSafePack held content images moment images_since snapshot_of count_of stands_for past d1 d' before t version
-          → IsSafePack held content images moment images_since snapshot_of count_of stands_for past' d d' before t version
-      safe_after past past' d1 f moments s = record {
-        now = s.now;
-        moments = leaves_then moment images_since d d1 d' past' (λ c. past c ⊎ HoldsFirst before whole c) (λ c. past' c ⊎ HoldsFirst before whole c)
-            (λ c x. inl x) (λ c x. elim x [ inl p ↦ f c p | inr y ↦ inr y ]) moments s.moments;
-        stand = s.stand;
+      pub safe_after : (past past' : List ℕ → Type 0) (d1 : D) → ((kept : Payloads) (c : List ℕ) → past c → past' c ⊎ HoldsFirst before kept c) → LeavesOnly moment images_since d d1 past'
+          → IsSafePack held content images moment images_since room is_snapshot count_of stands_for past d1 d' before t version
+          → IsSafePack held content images moment images_since room is_snapshot count_of stands_for past' d d' before t version
+      safe_after past past' d1 f moments e = record {
+        kept = e.kept;
+        is = e.is;
+        now = e.now;
+        moments = leaves_then moment images_since d d1 d' past' (λ c. past c ⊎ HoldsFirst before e.kept c) (λ c. past' c ⊎ HoldsFirst before e.kept c)
+            (λ c x. inl x) (λ c x. elim x [ inl p ↦ f e.kept c p | inr y ↦ inr y ]) moments e.moments;
+        stand = e.stand;
       }
 
-      pub packs_call : (k k' : K) (l l' : LogState) (line : List ℕ) → line ≡ packed_line (count_of before) → Adds held content images moment images_since k d l k' d' l' line whole → Stands (content d) (images d) l before
-          → PacksCall held content images moment images_since snapshot_of count_of stands_for k k' d' before t version
-      packs_call k k' l l' line e a st = record {
-        given = subst (Appends (held k) (held k')) e a.given;
-        kept = read_holds l' d' (before ++ whole) (a.stored before st);
-        stand = all_stand before t version h;
-        count = all_counted before t version h;
-      }
+module _ {K D : Type 0} (held : K → Option (List ℕ)) (content : D → Option (List ℕ)) (images : D → List ℕ → Type 0)
+    (moment : D → ℕ) (images_since : D → ℕ → List ℕ → Type 0) (room : D → Option ℕ) where
+  -- a snapshot was packed behind calls of the disk that only read
+  pub packed_later : {State : Type 0} (is_snapshot : State → List ℕ → Type 0) (count_of : Payloads → ℕ) (stands_for : Payloads → Result (State × Option (List ℕ)) ReopenFault)
+      (k k' : K) (d d1 d' : D) (before : Payloads) (t : State) (version : Option (List ℕ)) (status : Status)
+      → content d1 ≡ content d → ((c : List ℕ) → images d1 c → images d c) → LeavesOnly moment images_since d d1 (images d) → room d1 ≡ room d
+      → EndsPacked held content images moment images_since room is_snapshot count_of stands_for k d1 k' d' before t version status
+      → EndsPacked held content images moment images_since room is_snapshot count_of stands_for k d k' d' before t version status
+  packed_later is_snapshot count_of stands_for k k' d d1 d' before t version status e f moments same p = record {
+    snapshot = p.snapshot;
+    is = p.is;
+    ends = record {
+      d1 = p.ends.d1;
+      log = p.ends.log;
+      log' = p.ends.log';
+      opens = opening_then content images moment images_since room d d1 p.ends.d1 e f moments same p.ends.opens;
+      stands = p.ends.stands;
+      ends = p.ends.ends;
+    };
+    stand = p.stand;
+  }

@@ -70,7 +70,8 @@ module _ {State : Type 0} where
     goes_run t t' n n' lines steps h =
         ap (run answer t n) (sym (append-nil lines)) ∙ h [] ∙ ap (λ (l : List (State × Answer)). Some l) (append-nil steps)
 
+  module _ (answer : State → ℕ → Line → Option (State × Answer)) (is_step : State → ℕ → Line → State × Answer → Type 0) where
     -- steps and then others from the triple behind them
-    pub chain_append : (t t' : State) (xs ys : List (State × Answer)) → last t xs ≡ t' → AreSteps answer t xs → AreSteps answer t' ys → AreSteps answer t (xs ++ ys)
-    chain_append t t' [] ys e h k = subst (λ (u : State). AreSteps answer u ys) (sym e) k
+    pub chain_append : (t t' : State) (xs ys : List (State × Answer)) → last t xs ≡ t' → AreSteps answer is_step t xs → AreSteps answer is_step t' ys → AreSteps answer is_step t (xs ++ ys)
+    chain_append t t' [] ys e h k = subst (λ (u : State). AreSteps answer is_step u ys) (sym e) k
     chain_append t t' (x ∷ xs) ys e h k = (h.0, chain_append x.0 t' xs ys e h.1 k)

@@ -26,11 +26,11 @@ creating_fails old new status fault (inr e) ends =
     inr (inl failed.0, failed.1)
 
 module _ {K D : Type 0} (held : K → Option (List ℕ)) (content : D → Option (List ℕ)) (images : D → List ℕ → Type 0)
-    (moment : D → ℕ) (images_since : D → ℕ → List ℕ → Type 0) where
+    (moment : D → ℕ) (images_since : D → ℕ → List ℕ → Type 0) (room : D → Option ℕ) where
   -- after `Done` all was stored and written
   pub ends_done : (k k' : K) (d d' : D) (l l' : LogState) (line : List ℕ) (front : List (List ℕ)) (payload : List ℕ) (status : Status)
-      → StoreEnds held content images moment images_since k d l k' d' l' line front payload status → status ≡ ending.Done
-      → Adds held content images moment images_since k d l k' d' l' line (front ++ payload ∷ [])
+      → StoreEnds held content images moment images_since room k d l k' d' l' line front payload status → status ≡ ending.Done
+      → Adds held content images moment images_since room k d l k' d' l' line (front ++ payload ∷ [])
   ends_done k k' d d' l l' line front payload status (inl h) e = h.1
   ends_done k k' d d' l l' line front payload status (inr s) e = elim s.status_is [
     | inl x ↦ absurd (never_finished s.stop status x.0 (inl e))

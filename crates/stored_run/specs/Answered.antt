@@ -18,7 +18,7 @@ abbrev pub ended_lines : List ℕ → List Line
 ended_lines bytes = (fed nothing_fed bytes).ended
 
 module _ {K D State : Type 0} (held : K → Option (List ℕ)) (content : D → Option (List ℕ)) (images : D → List ℕ → Type 0)
-    (moment : D → ℕ) (images_since : D → ℕ → List ℕ → Type 0) (answer : State → ℕ → Line → Option (State × Answer)) where
+    (moment : D → ℕ) (images_since : D → ℕ → List ℕ → Type 0) (room : D → Option ℕ) (answer : State → ℕ → Line → Option (State × Answer)) (is_step : State → ℕ → Line → State × Answer → Type 0) where
   -- These lines were answered, by these steps of the run. Their answer lines were written in order, and the payloads of the changes that
   -- were accepted are stored behind those from before.
   pub record Answers (k : K) (d : D) (l : LogState) (k' : K) (d' : D) (l' : LogState)
@@ -26,10 +26,10 @@ module _ {K D State : Type 0} (held : K → Option (List ℕ)) (content : D → 
     pub steps : List (State × Answer)
     pub goes : GoesOver answer t p.number lines steps t' p'.number
     pub at_last : last t steps ≡ t'
-    pub chain : AreSteps answer t steps
+    pub chain : AreSteps answer is_step t steps
     pub are : AreAnswers steps
     pub refused : p'.refused ≡ (p.refused || any_refused steps)
-    pub adds : Adds held content images moment images_since k d l k' d' l' (text_of steps) (kept_of steps)
+    pub adds : Adds held content images moment images_since room k d l k' d' l' (text_of steps) (kept_of steps)
 
   -- The answering of these lines stopped. The first ones were handled: of their steps all are done but the last one, which may be begun.
   pub record StopsAmong (k : K) (d : D) (l : LogState) (k' : K) (d' : D) (l' : LogState)
@@ -42,11 +42,11 @@ module _ {K D State : Type 0} (held : K → Option (List ℕ)) (content : D → 
     pub t' : State
     pub n' : ℕ
     pub goes : GoesOver answer t n lines (done ++ begun) t' n'
-    pub chain : AreSteps answer t (done ++ begun)
+    pub chain : AreSteps answer is_step t (done ++ begun)
     pub few : length begun ≤ 1
     pub are_done : AreAnswers done
     pub are_begun : AreAnswers begun
-    pub stops : Stops held content images moment images_since k d l k' d' l' stop
+    pub stops : Stops held content images moment images_since room k d l k' d' l' stop
         (text_of done) (text_of begun) (kept_of done) (kept_of begun)
 
   -- after a fault of the source, and too many bytes, all lines that have ended are answered

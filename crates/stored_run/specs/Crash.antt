@@ -19,7 +19,7 @@ pub record IsAcknowledged (base kept : List (List ℕ)) (given image : List ℕ)
   pub most : length front ≤ ok_lines given + 1
 
 module _ {K D : Type 0} (held : K → Option (List ℕ)) (content : D → Option (List ℕ)) (images : D → List ℕ → Type 0)
-    (moment : D → ℕ) (images_since : D → ℕ → List ℕ → Type 0) where
+    (moment : D → ℕ) (images_since : D → ℕ → List ℕ → Type 0) (room : D → Option ℕ) where
   -- These bytes were written. An image that a crash now may leave holds the payloads whose `ok` lines are among them, and at most one
   -- more. An image of a moment since the start holds the payloads from before and the first of those that are kept.
   pub record IsCrashSafe (k : K) (d : D) (l : LogState) (k' : K) (d' : D) (l' : LogState) (kept : List (List ℕ)) : Type 0 where

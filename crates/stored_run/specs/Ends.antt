@@ -49,26 +49,26 @@ status_of TooLong = ending.InputTooLong
 status_of NoMemory = ending.NoMemory
 
 module _ {K D State : Type 0} (held : K → Option (List ℕ)) (content : D → Option (List ℕ)) (images : D → List ℕ → Type 0)
-    (moment : D → ℕ) (images_since : D → ℕ → List ℕ → Type 0) (answer : State → ℕ → Line → Option (State × Answer)) where
+    (moment : D → ℕ) (images_since : D → ℕ → List ℕ → Type 0) (room : D → Option ℕ) (answer : State → ℕ → Line → Option (State × Answer)) (is_step : State → ℕ → Line → State × Answer → Type 0) where
   -- The version record, if there is one to store, was stored, and from there on P holds.
   pub record AfterVersion (k : K) (d : D) (l : LogState) (version : List (List ℕ)) (P : D → LogState → Type 0) : Type 0 where
     pub d1 : D
     pub l1 : LogState
-    pub adds : Adds held content images moment images_since k d l k d1 l1 [] version
+    pub adds : Adds held content images moment images_since room k d l k d1 l1 [] version
     pub goes_on : P d1 l1
 
   -- The journal came to its end. All its lines are answered, and their payloads are stored behind the version record.
   abbrev pub EndsStored : Option (List ℕ) → Option (List ℕ) → K → D → LogState → K → D → LogState
       → List (List ℕ) → State → State → Progress → Type 0
   EndsStored left left' k d l k' d' l' version t t' p' =
-      AfterVersion k d l version (λ d1 l1. EndsJournal held content images moment images_since answer
+      AfterVersion k d l version (λ d1 l1. EndsJournal held content images moment images_since room answer is_step
       left left' k d1 l1 k' d' l' t (record { number = 0; refused = false }) t' p')
 
   -- The answering of the journal stopped, or the storing of the version record before it.
   abbrev pub StopsStored : Option (List ℕ) → Option (List ℕ) → K → D → LogState → K → D → LogState → List (List ℕ) → State → Stop → Type 0
   StopsStored left left' k d l k' d' l' version t stop =
-      IsOwnStop stop × Consumes left left' [] × Stops held content images moment images_since k d l k' d' l' stop [] [] [] version
-      ⊎ AfterVersion k d l version (λ d1 l1. StopsJournal held content images moment images_since answer
+      IsOwnStop stop × Consumes left left' [] × Stops held content images moment images_since room k d l k' d' l' stop [] [] [] version
+      ⊎ AfterVersion k d l version (λ d1 l1. StopsJournal held content images moment images_since room answer is_step
       left left' k d1 l1 k' d' l' t 0 stop)
 
   -- The source was read to its end, and gave these bytes. The answer lines of their run, and then the state lines of its last state, were
@@ -83,7 +83,7 @@ module _ {K D State : Type 0} (held : K → Option (List ℕ)) (content : D → 
     pub steps : List (State × Answer)
     pub is_run : run answer t 0 (lines_of bytes) ≡ Some steps
     pub at_last : last t steps ≡ t'
-    pub chain : AreSteps answer t steps
+    pub chain : AreSteps answer is_step t steps
     pub given : Appends (held k) (held k') (text_of steps ++ state_text t')
     pub stored : (base : List (List ℕ)) → Stands (content d) (images d) l base
         → Stands (content d') (images d') l' ((base ++ version) ++ kept_of steps)
@@ -127,7 +127,7 @@ module _ {K D State : Type 0} (held : K → Option (List ℕ)) (content : D → 
     pub parts : lines_of bytes ≡ lines ++ rest
     pub steps : List (State × Answer)
     pub is_run : run answer t 0 lines ≡ Some steps
-    pub chain : AreSteps answer t steps
+    pub chain : AreSteps answer is_step t steps
     pub given : List ℕ
     pub appends : Appends (held k) (held k') given
     pub now : (base : List (List ℕ)) → Stands (content d) (images d) l base → (c : List ℕ) → images d' c

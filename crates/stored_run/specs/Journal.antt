@@ -11,7 +11,7 @@ use Rattle.gate_log.specs.LogOnDisk.{LogState}
 use Rattle.stored_run.specs.declared.stop.Stop.{Stop}
 
 module _ {K D State : Type 0} (held : K → Option (List ℕ)) (content : D → Option (List ℕ)) (images : D → List ℕ → Type 0)
-    (moment : D → ℕ) (images_since : D → ℕ → List ℕ → Type 0) (answer : State → ℕ → Line → Option (State × Answer)) where
+    (moment : D → ℕ) (images_since : D → ℕ → List ℕ → Type 0) (room : D → Option ℕ) (answer : State → ℕ → Line → Option (State × Answer)) (is_step : State → ℕ → Line → State × Answer → Type 0) where
   -- The source was read to its end, and gave these bytes. All their lines are answered.
   pub record EndsJournal (left left' : Option (List ℕ)) (k : K) (d : D) (l : LogState) (k' : K) (d' : D) (l' : LogState)
       (t : State) (p : Progress) (t' : State) (p' : Progress) : Type 0 where
@@ -19,7 +19,7 @@ module _ {K D State : Type 0} (held : K → Option (List ℕ)) (content : D → 
     pub consumes : Consumes left left' bytes
     pub at_end : IsAtEnd left'
     pub within : length bytes ≤ 2 ^ 30
-    pub answers : Answers held content images moment images_since answer k d l k' d' l' t p (lines_of bytes) t' p'
+    pub answers : Answers held content images moment images_since room answer is_step k d l k' d' l' t p (lines_of bytes) t' p'
 
   -- The source was read to its end, and the answering stopped at the last line, which no LF ends.
   pub record StopsLast (left left' : Option (List ℕ)) (k : K) (d : D) (l : LogState) (k' : K) (d' : D) (l' : LogState)
@@ -29,10 +29,10 @@ module _ {K D State : Type 0} (held : K → Option (List ℕ)) (content : D → 
     pub at_end : IsAtEnd left'
     pub within : length bytes ≤ 2 ^ 30
     pub own : IsOwnStop stop
-    pub among : StopsAmong held content images moment images_since answer k d l k' d' l' t n (lines_of bytes) stop
+    pub among : StopsAmong held content images moment images_since room answer is_step k d l k' d' l' t n (lines_of bytes) stop
 
   -- the answering stopped at a line that has ended or at a piece, or at the last line
   abbrev pub StopsJournal : Option (List ℕ) → Option (List ℕ) → K → D → LogState → K → D → LogState → State → ℕ → Stop → Type 0
   StopsJournal left left' k d l k' d' l' t n stop =
-      StopsPieces held content images moment images_since answer left left' k d l k' d' l' t n stop
+      StopsPieces held content images moment images_since room answer is_step left left' k d l k' d' l' t n stop
       ⊎ StopsLast left left' k d l k' d' l' t n stop

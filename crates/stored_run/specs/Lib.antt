@@ -10,6 +10,7 @@ pub mod Crash
 pub mod Refusals
 pub mod Ends
 pub mod Reopening
+pub mod Rooms
 pub mod ApplyCall
 pub mod StoreEnds
 pub mod PackCall

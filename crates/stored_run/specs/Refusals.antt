@@ -1,8 +1,9 @@
 -- Why a store is refused, the line that says so, and how a command ends with it.
 -- Read it from the end: `refusal_in`, `EndsRefused`, `Refuses`, then `refusal_line`.
-use Rattle.std.specs.Prelude.{◌≡◌, ◌⊎◌, ℕ, List, [], ◌++◌, codes, decimal, Option, Some, None, Result, Ok, Err}
+use Rattle.std.specs.Prelude.{◌≡◌, ◌⊎◌, ℕ, List, [], ◌++◌, codes, decimal, Option, Some, None, IsNone, Result, Ok, Err}
 use Rattle.std.specs.Io.KnownBytes.{Appends}
 use Rattle.lens_io.specs.Content.{AppendsFront}
+use Rattle.lens_io.specs.Disks.{LeavesOnly}
 use Rattle.gate_log.specs.LogBytes.{LogContent, payloads, not_a_log, bad_record, log_of}
 use Rattle.gate_log.specs.declared.fault.LogFault.{LogFault}
 use Rattle.gate_log.specs.declared.fault.LogFault.TheVariants as log
@@ -58,9 +59,20 @@ pub record IsUnwritten {D : Type 0} (content : D → Option (List ℕ)) (images 
   pub same : content d' ≡ content d
   pub only : (c : List ℕ) → images d' c → images d c
 
+-- what opening a store and reading its payloads does to the disk: nothing is written, and no crash on the way leaves anything new
+pub record IsOpening {D : Type 0} (content : D → Option (List ℕ)) (images : D → List ℕ → Type 0)
+    (moment : D → ℕ) (images_since : D → ℕ → List ℕ → Type 0) (room : D → Option ℕ) (d d' : D) : Type 0 where
+  pub unwritten : IsUnwritten content images d d'
+  pub moments : LeavesOnly moment images_since d d' (images d)
+  pub same_room : room d' ≡ room d
+
 -- the disk failed, or memory ran out, and nothing was written
 abbrev pub FailsEarly : Option (List ℕ) → Option (List ℕ) → Status → Type 0
 FailsEarly old new status = ((status ≡ ending.DiskFault) ⊎ (status ≡ ending.NoMemory)) × Appends old new []
+
+-- the same, and the disk failed only if its room is not known
+abbrev pub FailsUnopened : Option ℕ → Option (List ℕ) → Option (List ℕ) → Status → Type 0
+FailsUnopened room old new status = FailsEarly old new status × (status ≡ ending.DiskFault → IsNone room)
 
 -- the end over bytes that are refused for this reason, unless the command failed before it was known
 abbrev pub EndsRefused : Option (List ℕ) → Option (List ℕ) → StoreRefusal → Status → Type 0

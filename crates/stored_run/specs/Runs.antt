@@ -42,7 +42,8 @@ module _ {State : Type 0} (answer : State → ℕ → Line → Option (State × 
   abbrev pub GoesOver : State → ℕ → List Line → List (State × Answer) → State → ℕ → Type 0
   GoesOver t n lines steps t' n' = (more : List Line) → run t n (lines ++ more) ≡ option_map (λ rest. steps ++ rest) (run t' n' more)
 
-  -- each step is what some line makes of the state before it
+module _ {State : Type 0} (answer : State → ℕ → Line → Option (State × Answer)) (is_step : State → ℕ → Line → State × Answer → Type 0) where
+  -- each step is what some line makes of the state before it, and it was made
   abbrev pub AreSteps : State → List (State × Answer) → Type 0
   AreSteps t [] = Unit {0}
-  AreSteps t (s ∷ steps) = ((n : ℕ) × (line : Line) × (answer t n line ≡ Some s)) × AreSteps s.0 steps
+  AreSteps t (s ∷ steps) = ((n : ℕ) × (line : Line) × (answer t n line ≡ Some s) × is_step t n line s) × AreSteps s.0 steps

@@ -7,6 +7,7 @@ ghost use Rattle.gate_log.specs.LogOnDisk.{HoldsPayloads, Stands};
 ghost use Rattle.stored_run.specs.ApplyCall.{ContinuesCall, IsSafeCall, IsUnopened, EndsCall};
 ghost use Rattle.stored_run.specs.Ends.{IsFinished};
 ghost use Rattle.stored_run.specs.Refusals.{IsUnwritten, EndsRefused, refusal_in, refusal_of_payloads};
+ghost use Rattle.stored_run.specs.Rooms.{most_bytes, TakesTooMany, RunHasNoRoom, IsApplyCause};
 ghost use Rattle.stored_run.specs.declared.refusals.StoreRefusal.{StoreRefusal};
 
 use crate::continuing::continue_store;
@@ -25,6 +26,10 @@ use std::alloc::Global;
 /// - `safe`: whatever the status, a crash at any moment of the call leaves what the definition says. If the sync of the opening
 ///   failed, nothing has changed.
 /// - `exits`: what was written and what is stored after each status, if the payloads stand for a session.
+/// - `causes`: over such payloads `StoreRefused` comes only if the log had no room for a payload of the run, and `DiskFault`, if
+///   the disk's room is known, only if the disk had none. After `InputTooLong` 2^30 + 1 bytes were taken, and after `Done`,
+///   `SomeRefused` and `SourceFault` no more than 2^30.
+/// - `complete`: so with no fault, at most 2^30 bytes and a log that has room, the status is `Done`, `SomeRefused` or `NoMemory`.
 /// - `refused`: if the bytes of the disk are refused, the line `store refused: REASON` is written, unless the disk failed or
 ///   memory ran out before. Nothing is taken from the source, and nothing is written to the disk.
 /// - `source_fault`, `sink_fault`, `disk_fault`: these statuses come only if that device failed.
@@ -39,7 +44,7 @@ pub fn apply<S: Source, A: StoredSession + Drop, K: Sink, D: Disk>(
         → D.content disk.old ≡ Some bytes → HoldsPayloads before bytes
         → A.stands_for before ≡ Ok (t, version)
         → IsFinished result
-        → ContinuesCall K.held D.content D.images D.moment D.images_since A.answer
+        → ContinuesCall K.held D.content D.images D.moment D.images_since D.room A.answer A.is_step
         A.state_text A.stands_for A.count_of
         (S.left source.old) (S.left source.new) sink.old sink.new disk.new before t version result }
     ensures safe { (before : List (List ℕ)) (bytes : List ℕ) (t : A.State)
@@ -47,10 +52,10 @@ pub fn apply<S: Source, A: StoredSession + Drop, K: Sink, D: Disk>(
         → D.content disk.old ≡ Some bytes → HoldsPayloads before bytes
         → A.stands_for before ≡ Ok (t, version)
         → (result ≡ Status.DiskFault)
-        × IsUnopened K.held D.content D.images D.moment D.images_since A.answer
+        × IsUnopened K.held D.content D.images D.moment D.images_since D.room A.answer A.is_step
         A.state_text A.stands_for A.count_of
         (S.left source.old) (S.left source.new) sink.old disk.old sink.new disk.new
-        ⊎ IsSafeCall K.held D.content D.images D.moment D.images_since A.answer
+        ⊎ IsSafeCall K.held D.content D.images D.moment D.images_since D.room A.answer A.is_step
         A.state_text A.stands_for A.count_of
         (D.images disk.old) (S.left source.old) (S.left source.new)
         sink.old disk.old sink.new disk.new before t version }
@@ -58,10 +63,27 @@ pub fn apply<S: Source, A: StoredSession + Drop, K: Sink, D: Disk>(
         (version : Option (List ℕ))
         → D.content disk.old ≡ Some bytes → HoldsPayloads before bytes
         → A.stands_for before ≡ Ok (t, version)
-        → EndsCall K.held D.content D.images D.moment D.images_since A.answer
+        → EndsCall K.held D.content D.images D.moment D.images_since D.room A.answer A.is_step
         A.state_text A.stands_for A.count_of
         (S.left source.old) (S.left source.new) sink.old disk.old sink.new disk.new
         before t version result }
+    ensures causes { (before : List (List ℕ)) (bytes : List ℕ) (t : A.State)
+        (version : Option (List ℕ))
+        → D.content disk.old ≡ Some bytes → HoldsPayloads before bytes
+        → A.stands_for before ≡ Ok (t, version)
+        → IsApplyCause A.answer result (D.room disk.old) (S.left source.old) (S.left source.new)
+        before t version }
+    ensures complete { (before : List (List ℕ)) (bytes : List ℕ) (t : A.State)
+        (version : Option (List ℕ))
+        → D.content disk.old ≡ Some bytes → HoldsPayloads before bytes
+        → A.stands_for before ≡ Ok (t, version)
+        → (Increased (S.faults source.old) (S.faults source.new) → ⊥)
+        → (SinkFailed K.faults K.empty_takes K.room K.held sink.old sink.new → ⊥)
+        → (Increased (D.faults disk.old) (D.faults disk.new) → ⊥)
+        → (TakesTooMany (S.left source.old) (S.left source.new) → ⊥)
+        → (RunHasNoRoom A.answer most_bytes (S.left source.old) (S.left source.new)
+        before t version → ⊥)
+        → IsFinished result ⊎ (result ≡ Status.NoMemory) }
     ensures refused { (bytes : List ℕ) (refusal : StoreRefusal)
         → D.content disk.old ≡ Some bytes → refusal_in A.stands_for bytes ≡ Some refusal
         → IsUnwritten D.content D.images disk.old disk.new
@@ -98,7 +120,7 @@ fn apply_log<S: Source, A: StoredSession + Drop, K: Sink, D: Disk>(
         → D.content disk.old ≡ Some bytes → Stands (D.content disk.old) (D.images disk.old)
         log.old before
         → A.stands_for before ≡ Ok (t, version) → IsFinished result
-        → ContinuesCall K.held D.content D.images D.moment D.images_since A.answer
+        → ContinuesCall K.held D.content D.images D.moment D.images_since D.room A.answer A.is_step
         A.state_text A.stands_for A.count_of
         (S.left source.old) (S.left source.new) sink.old sink.new disk.new before t version result }
     ensures safe { (before : List (List ℕ)) (bytes : List ℕ) (t : A.State)
@@ -106,7 +128,7 @@ fn apply_log<S: Source, A: StoredSession + Drop, K: Sink, D: Disk>(
         → D.content disk.old ≡ Some bytes → Stands (D.content disk.old) (D.images disk.old)
         log.old before
         → A.stands_for before ≡ Ok (t, version)
-        → IsSafeCall K.held D.content D.images D.moment D.images_since A.answer
+        → IsSafeCall K.held D.content D.images D.moment D.images_since D.room A.answer A.is_step
         A.state_text A.stands_for A.count_of
         (HoldsPayloads before) (S.left source.old) (S.left source.new)
         sink.old disk.old sink.new disk.new before t version }
@@ -115,7 +137,7 @@ fn apply_log<S: Source, A: StoredSession + Drop, K: Sink, D: Disk>(
         → D.content disk.old ≡ Some bytes → Stands (D.content disk.old) (D.images disk.old)
         log.old before
         → A.stands_for before ≡ Ok (t, version)
-        → EndsCall K.held D.content D.images D.moment D.images_since A.answer
+        → EndsCall K.held D.content D.images D.moment D.images_since D.room A.answer A.is_step
         A.state_text A.stands_for A.count_of
         (S.left source.old) (S.left source.new) sink.old disk.old sink.new disk.new
         before t version result }
@@ -153,21 +175,21 @@ fn apply_payloads<S: Source, A: StoredSession + Drop, K: Sink, D: Disk>(
     ensures continues { (t : A.State) (version : Option (List ℕ))
         → Stands (D.content disk.old) (D.images disk.old) log.old payloads.now
         → A.stands_for payloads.now ≡ Ok (t, version) → IsFinished result
-        → ContinuesCall K.held D.content D.images D.moment D.images_since A.answer
+        → ContinuesCall K.held D.content D.images D.moment D.images_since D.room A.answer A.is_step
         A.state_text A.stands_for A.count_of
         (S.left source.old) (S.left source.new) sink.old sink.new disk.new
         payloads.now t version result }
     ensures safe { (t : A.State) (version : Option (List ℕ))
         → Stands (D.content disk.old) (D.images disk.old) log.old payloads.now
         → A.stands_for payloads.now ≡ Ok (t, version)
-        → IsSafeCall K.held D.content D.images D.moment D.images_since A.answer
+        → IsSafeCall K.held D.content D.images D.moment D.images_since D.room A.answer A.is_step
         A.state_text A.stands_for A.count_of
         (HoldsPayloads payloads.now) (S.left source.old) (S.left source.new)
         sink.old disk.old sink.new disk.new payloads.now t version }
     ensures exits { (t : A.State) (version : Option (List ℕ))
         → Stands (D.content disk.old) (D.images disk.old) log.old payloads.now
         → A.stands_for payloads.now ≡ Ok (t, version)
-        → EndsCall K.held D.content D.images D.moment D.images_since A.answer
+        → EndsCall K.held D.content D.images D.moment D.images_since D.room A.answer A.is_step
         A.state_text A.stands_for A.count_of
         (S.left source.old) (S.left source.new) sink.old disk.old sink.new disk.new
         payloads.now t version result }

@@ -36,12 +36,12 @@ pub fn answer_journal<S: Source, A: StoredSession, K: Sink, D: Disk>(
     requires stands { (base : List (List ℕ))
         × Stands (D.content disk.old) (D.images disk.old) log.old base }
     ensures ended { IfOk result
-        (EndsJournal K.held D.content D.images D.moment D.images_since A.answer
+        (EndsJournal K.held D.content D.images D.moment D.images_since D.room A.answer A.is_step
         (S.left source.old) (S.left source.new)
         sink.old disk.old log.old sink.new disk.new log.new
         (A.state session.old) (record { number = 0; refused = false }) (A.state session.new)) }
     ensures stopped { IfErr result
-        (StopsJournal K.held D.content D.images D.moment D.images_since A.answer
+        (StopsJournal K.held D.content D.images D.moment D.images_since D.room A.answer A.is_step
         (S.left source.old) (S.left source.new)
         sink.old disk.old log.old sink.new disk.new log.new (A.state session.old) 0) }
     ensures counted { Counted K.faults K.empty_takes K.room K.held D.faults
@@ -75,12 +75,12 @@ fn answer_last<A: StoredSession, K: Sink, D: Disk>(
     requires stands { (base : List (List ℕ))
         × Stands (D.content disk.old) (D.images disk.old) log.old base }
     ensures answered { IfOk result
-        (Answers K.held D.content D.images D.moment D.images_since A.answer
+        (Answers K.held D.content D.images D.moment D.images_since D.room A.answer A.is_step
         sink.old disk.old log.old sink.new disk.new log.new
         (A.state session.old) progress (option_to_list (last_line input.lines.begun))
         (A.state session.new)) }
     ensures stopped { IfErr result
-        (StopsAmong K.held D.content D.images D.moment D.images_since A.answer
+        (StopsAmong K.held D.content D.images D.moment D.images_since D.room A.answer A.is_step
         sink.old disk.old log.old sink.new disk.new log.new
         (A.state session.old) progress.number (option_to_list (last_line input.lines.begun))) }
     ensures own { IfErr result IsOwnStop }
@@ -108,12 +108,12 @@ fn answer_stored<S: Source, A: StoredSession, K: Sink, D: Disk>(
     requires stands { (base : List (List ℕ))
         × Stands (D.content disk.old) (D.images disk.old) log.old base }
     ensures ended { IfOk result
-        (EndsStored K.held D.content D.images D.moment D.images_since A.answer
+        (EndsStored K.held D.content D.images D.moment D.images_since D.room A.answer A.is_step
         (S.left source.old) (S.left source.new)
         sink.old disk.old log.old sink.new disk.new log.new
         (option_to_list version.now) (A.state session.old) (A.state session.new)) }
     ensures stopped { IfErr result
-        (StopsStored K.held D.content D.images D.moment D.images_since A.answer
+        (StopsStored K.held D.content D.images D.moment D.images_since D.room A.answer A.is_step
         (S.left source.old) (S.left source.new)
         sink.old disk.old log.old sink.new disk.new log.new
         (option_to_list version.now) (A.state session.old)) }
@@ -146,12 +146,12 @@ pub fn continue_store<S: Source, A: StoredSession, K: Sink, D: Disk>(
 ) -> Status
     requires stands { (base : List (List ℕ))
         × Stands (D.content disk.old) (D.images disk.old) log.old base }
-    ensures exits { Exits K.held D.content D.images D.moment D.images_since A.answer
+    ensures exits { Exits K.held D.content D.images D.moment D.images_since D.room A.answer A.is_step
         (S.left source.old) (S.left source.new)
         sink.old disk.old log.old sink.new disk.new log.new
         (option_to_list version.now) A.state_text (A.state session.old)
         (A.state session.new) result }
-    ensures safe { IsSafeFrom K.held D.content D.images D.moment D.images_since A.answer
+    ensures safe { IsSafeFrom K.held D.content D.images D.moment D.images_since D.room A.answer A.is_step
         (S.left source.old) (S.left source.new)
         sink.old disk.old log.old sink.new disk.new
         (option_to_list version.now) (A.state session.old) }

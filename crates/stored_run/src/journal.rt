@@ -48,11 +48,11 @@ fn give_answer<K: Sink, D: Disk>(
     requires stands { (base : List (List ℕ))
         × Stands (D.content disk.old) (D.images disk.old) log.old base }
     ensures added { OnOk result
-        (Adds K.held D.content D.images D.moment D.images_since
+        (Adds K.held D.content D.images D.moment D.images_since D.room
         sink.old disk.old log.old sink.new disk.new log.new
         answer.now.line (option_to_list answer.now.payload)) }
     ensures stopped { IfErr result (λ stop.
-        Stops K.held D.content D.images D.moment D.images_since
+        Stops K.held D.content D.images D.moment D.images_since D.room
         sink.old disk.old log.old sink.new disk.new log.new
         stop [] answer.now.line [] (option_to_list answer.now.payload)) }
     ensures own { IfErr result IsOwnStop }
@@ -89,11 +89,11 @@ fn answer_item<A: StoredSession, K: Sink, D: Disk>(
         × Stands (D.content disk.old) (D.images disk.old) log.old base }
     requires item { is_blank line.now ≡ false }
     ensures answered { OnOk result
-        (Answers K.held D.content D.images D.moment D.images_since A.answer
+        (Answers K.held D.content D.images D.moment D.images_since D.room A.answer A.is_step
         sink.old disk.old log.old sink.new disk.new log.new
         (A.state session.old) progress.old (line.now ∷ []) (A.state session.new) progress.new) }
     ensures stopped { IfErr result
-        (StopsAmong K.held D.content D.images D.moment D.images_since A.answer
+        (StopsAmong K.held D.content D.images D.moment D.images_since D.room A.answer A.is_step
         sink.old disk.old log.old sink.new disk.new log.new
         (A.state session.old) progress.old.number (line.now ∷ [])) }
     ensures number { OnOk result (progress.new.number ≡ progress.old.number + 1) }
@@ -120,11 +120,11 @@ fn finish_item<K: Sink, D: Disk>(
     requires stands { (base : List (List ℕ))
         × Stands (D.content disk.old) (D.images disk.old) log.old base }
     ensures added { OnOk result
-        (Adds K.held D.content D.images D.moment D.images_since
+        (Adds K.held D.content D.images D.moment D.images_since D.room
         sink.old disk.old log.old sink.new disk.new log.new
         answer.now.line (option_to_list answer.now.payload)) }
     ensures stopped { IfErr result (λ stop.
-        Stops K.held D.content D.images D.moment D.images_since
+        Stops K.held D.content D.images D.moment D.images_since D.room
         sink.old disk.old log.old sink.new disk.new log.new
         stop [] answer.now.line [] (option_to_list answer.now.payload)) }
     ensures number { OnOk result (progress.new.number ≡ progress.old.number + 1) }
@@ -156,11 +156,11 @@ pub fn answer_line<A: StoredSession, K: Sink, D: Disk>(
     requires stands { (base : List (List ℕ))
         × Stands (D.content disk.old) (D.images disk.old) log.old base }
     ensures answered { OnOk result
-        (Answers K.held D.content D.images D.moment D.images_since A.answer
+        (Answers K.held D.content D.images D.moment D.images_since D.room A.answer A.is_step
         sink.old disk.old log.old sink.new disk.new log.new
         (A.state session.old) progress.old (line.now ∷ []) (A.state session.new) progress.new) }
     ensures stopped { IfErr result
-        (StopsAmong K.held D.content D.images D.moment D.images_since A.answer
+        (StopsAmong K.held D.content D.images D.moment D.images_since D.room A.answer A.is_step
         sink.old disk.old log.old sink.new disk.new log.new
         (A.state session.old) progress.old.number (line.now ∷ [])) }
     ensures number { OnOk result (progress.new.number ≤ progress.old.number + 1) }
@@ -188,12 +188,12 @@ pub fn answer_lines<A: StoredSession, K: Sink, D: Disk>(
     requires stands { (base : List (List ℕ))
         × Stands (D.content disk.old) (D.images disk.old) log.old base }
     ensures answered { OnOk result
-        (Answers K.held D.content D.images D.moment D.images_since A.answer
+        (Answers K.held D.content D.images D.moment D.images_since D.room A.answer A.is_step
         sink.old disk.old log.old sink.new disk.new log.new
         (A.state session.old) progress.old input.old.lines.ended
         (A.state session.new) progress.new) }
     ensures stopped { IfErr result
-        (StopsAmong K.held D.content D.images D.moment D.images_since A.answer
+        (StopsAmong K.held D.content D.images D.moment D.images_since D.room A.answer A.is_step
         sink.old disk.old log.old sink.new disk.new log.new
         (A.state session.old) progress.old.number input.old.lines.ended) }
     ensures rest { OnOk result
@@ -243,12 +243,12 @@ pub fn answer_pieces<S: Source, A: StoredSession, K: Sink, D: Disk>(
     requires stands { (base : List (List ℕ))
         × Stands (D.content disk.old) (D.images disk.old) log.old base }
     ensures ended { IfOk result (λ p.
-        EndsPieces K.held D.content D.images D.moment D.images_since A.answer
+        EndsPieces K.held D.content D.images D.moment D.images_since D.room A.answer A.is_step
         (S.left source.old) (S.left source.new) input.new
         sink.old disk.old log.old sink.new disk.new log.new
         (A.state session.old) (record { number = 0; refused = false }) (A.state session.new) p) }
     ensures stopped { IfErr result
-        (StopsPieces K.held D.content D.images D.moment D.images_since A.answer
+        (StopsPieces K.held D.content D.images D.moment D.images_since D.room A.answer A.is_step
         (S.left source.old) (S.left source.new)
         sink.old disk.old log.old sink.new disk.new log.new (A.state session.old) 0) }
     ensures number { IfOk result (λ p. p.number ≤ 2 ^ 30 + 1) }

@@ -7,9 +7,10 @@ ghost use Rattle.stored_run.specs.Causes.{Counted, stop_in};
 ghost use Rattle.stored_run.specs.CountLines.{packed_line};
 ghost use Rattle.stored_run.specs.Effects.{Adds, Stops};
 ghost use Rattle.stored_run.specs.Ends.{IsFinished};
-ghost use Rattle.stored_run.specs.PackCall.{PacksCall, IsSafePack, IsUnpacked};
-ghost use Rattle.stored_run.specs.Refusals.{IsUnwritten, EndsRefused, FailsEarly, refusal_in, refusal_of_payloads};
-ghost use Rattle.stored_run.specs.StoreEnds.{StoresBehind};
+ghost use Rattle.stored_run.specs.PackCall.{PacksCall, IsSafePack, IsUnpacked, EndsPack};
+ghost use Rattle.stored_run.specs.Refusals.{IsUnwritten, EndsRefused, refusal_in, refusal_of_payloads};
+ghost use Rattle.stored_run.specs.Rooms.{most_bytes, PackHasNoRoom, IsPackCause};
+ghost use Rattle.stored_run.specs.Stopping.{IsOwnStop};
 ghost use Rattle.stored_run.specs.declared.refusals.StoreRefusal.{StoreRefusal};
 
 use crate::count_lines::packed_line;
@@ -25,15 +26,18 @@ use texts::Bytes;
 
 /// Opens a store, stores a snapshot of the session for which its payloads stand, and then writes the line of `pack`.
 ///
-/// - `packs`: after `Done` the payloads are those from before, the version record if there was one to store, and the snapshot.
+/// - `packs`: after `Done` the payloads are those from before, the version record if there was one to store, and a snapshot.
 ///   They stand for the same state, and the line was written.
 /// - `safe`: whatever the status, an image that a crash leaves holds the payloads from before, or these and the version record,
-///   or these and the snapshot, and each of these lists stands for the same state. If the sync of the opening failed, nothing
+///   or these and a snapshot, and each of these lists stands for the same state. If the sync of the opening failed, nothing
 ///   has changed.
 /// - `exits`: what was written and what is stored after each status, if the payloads stand for a session.
+/// - `causes`: over such payloads `StoreRefused` comes only if the log had no room for the version record or the snapshot, and
+///   `DiskFault`, if the disk's room is known, only if the disk had none. The source is not there, and no item is refused.
+/// - `complete`: so with no fault, and if the log has room, the status is `Done` or `NoMemory`.
 /// - `refused`: if the bytes of the disk are refused, the line `store refused: REASON` is written, unless the disk failed or
 ///   memory ran out before. Nothing is written to the disk.
-/// - `sink_fault`, `disk_fault`: these statuses come only if that device failed.
+/// - `no_source`, `sink_fault`, `disk_fault`: there is no fault of a source, and these statuses come only if that device failed.
 pub fn pack<A: StoredSession + Drop, K: Sink, D: Disk>(
     alloc: Global,
     sink: &mut K,
@@ -44,32 +48,45 @@ pub fn pack<A: StoredSession + Drop, K: Sink, D: Disk>(
         → D.content disk.old ≡ Some bytes → HoldsPayloads before bytes
         → A.stands_for before ≡ Ok (t, version)
         → IsFinished result
-        → PacksCall K.held D.content D.images D.moment D.images_since
-        A.snapshot_of A.count_of A.stands_for
+        → PacksCall K.held D.content D.images D.moment D.images_since D.room
+        A.is_snapshot A.count_of A.stands_for
         sink.old sink.new disk.new before t version }
     ensures safe { (before : List (List ℕ)) (bytes : List ℕ) (t : A.State)
         (version : Option (List ℕ))
         → D.content disk.old ≡ Some bytes → HoldsPayloads before bytes
         → A.stands_for before ≡ Ok (t, version)
         → (result ≡ Status.DiskFault)
-        × IsUnpacked K.held D.content D.images D.moment D.images_since
-        A.snapshot_of A.count_of A.stands_for
+        × IsUnpacked K.held D.content D.images D.moment D.images_since D.room
+        A.is_snapshot A.count_of A.stands_for
         sink.old disk.old sink.new disk.new
-        ⊎ IsSafePack K.held D.content D.images D.moment D.images_since
-        A.snapshot_of A.count_of A.stands_for
+        ⊎ IsSafePack K.held D.content D.images D.moment D.images_since D.room
+        A.is_snapshot A.count_of A.stands_for
         (D.images disk.old) disk.old disk.new before t version }
     ensures exits { (before : List (List ℕ)) (bytes : List ℕ) (t : A.State)
         (version : Option (List ℕ))
         → D.content disk.old ≡ Some bytes → HoldsPayloads before bytes
         → A.stands_for before ≡ Ok (t, version)
-        → StoresBehind K.held D.content D.images D.moment D.images_since sink.old sink.new disk.new
-        before (packed_line (A.count_of before)) (option_to_list version) (A.snapshot_of t) result
-        ⊎ IsUnwritten D.content D.images disk.old disk.new
-        × FailsEarly (K.held sink.old) (K.held sink.new) result }
+        → EndsPack K.held D.content D.images D.moment D.images_since D.room
+        A.is_snapshot A.count_of A.stands_for
+        sink.old disk.old sink.new disk.new before t version result }
+    ensures causes { (before : List (List ℕ)) (bytes : List ℕ) (t : A.State)
+        (version : Option (List ℕ))
+        → D.content disk.old ≡ Some bytes → HoldsPayloads before bytes
+        → A.stands_for before ≡ Ok (t, version)
+        → IsPackCause A.is_snapshot result (D.room disk.old) before t version }
+    ensures complete { (before : List (List ℕ)) (bytes : List ℕ) (t : A.State)
+        (version : Option (List ℕ))
+        → D.content disk.old ≡ Some bytes → HoldsPayloads before bytes
+        → A.stands_for before ≡ Ok (t, version)
+        → (SinkFailed K.faults K.empty_takes K.room K.held sink.old sink.new → ⊥)
+        → (Increased (D.faults disk.old) (D.faults disk.new) → ⊥)
+        → (PackHasNoRoom A.is_snapshot most_bytes before t version → ⊥)
+        → (result ≡ Status.Done) ⊎ (result ≡ Status.NoMemory) }
     ensures refused { (bytes : List ℕ) (refusal : StoreRefusal)
         → D.content disk.old ≡ Some bytes → refusal_in A.stands_for bytes ≡ Some refusal
         → IsUnwritten D.content D.images disk.old disk.new
         × EndsRefused (K.held sink.old) (K.held sink.new) refusal result }
+    ensures no_source { result ≡ Status.SourceFault → ⊥ }
     ensures sink_fault { result ≡ Status.SinkFault
         → SinkFailed K.faults K.empty_takes K.room K.held sink.old sink.new }
     ensures disk_fault { result ≡ Status.DiskFault
@@ -98,32 +115,32 @@ fn pack_log<A: StoredSession + Drop, K: Sink, D: Disk>(
         → D.content disk.old ≡ Some bytes → Stands (D.content disk.old) (D.images disk.old)
         log.old before
         → A.stands_for before ≡ Ok (t, version) → IsFinished result
-        → PacksCall K.held D.content D.images D.moment D.images_since
-        A.snapshot_of A.count_of A.stands_for
+        → PacksCall K.held D.content D.images D.moment D.images_since D.room
+        A.is_snapshot A.count_of A.stands_for
         sink.old sink.new disk.new before t version }
     ensures safe { (before : List (List ℕ)) (bytes : List ℕ) (t : A.State)
         (version : Option (List ℕ))
         → D.content disk.old ≡ Some bytes → Stands (D.content disk.old) (D.images disk.old)
         log.old before
         → A.stands_for before ≡ Ok (t, version)
-        → IsSafePack K.held D.content D.images D.moment D.images_since
-        A.snapshot_of A.count_of A.stands_for
+        → IsSafePack K.held D.content D.images D.moment D.images_since D.room
+        A.is_snapshot A.count_of A.stands_for
         (HoldsPayloads before) disk.old disk.new before t version }
     ensures exits { (before : List (List ℕ)) (bytes : List ℕ) (t : A.State)
         (version : Option (List ℕ))
         → D.content disk.old ≡ Some bytes → Stands (D.content disk.old) (D.images disk.old)
         log.old before
         → A.stands_for before ≡ Ok (t, version)
-        → StoresBehind K.held D.content D.images D.moment D.images_since sink.old sink.new disk.new
-        before (packed_line (A.count_of before)) (option_to_list version) (A.snapshot_of t) result
-        ⊎ IsUnwritten D.content D.images disk.old disk.new
-        × FailsEarly (K.held sink.old) (K.held sink.new) result }
+        → EndsPack K.held D.content D.images D.moment D.images_since D.room
+        A.is_snapshot A.count_of A.stands_for
+        sink.old disk.old sink.new disk.new before t version result }
     ensures refused { (before : List (List ℕ)) (bytes : List ℕ) (refusal : StoreRefusal)
         → D.content disk.old ≡ Some bytes → Stands (D.content disk.old) (D.images disk.old)
         log.old before
         → refusal_of_payloads (A.stands_for before) ≡ Some refusal
         → IsUnwritten D.content D.images disk.old disk.new
         × EndsRefused (K.held sink.old) (K.held sink.new) refusal result }
+    ensures no_source { result ≡ Status.SourceFault → ⊥ }
     ensures sink_fault { result ≡ Status.SinkFault
         → SinkFailed K.faults K.empty_takes K.room K.held sink.old sink.new }
     ensures disk_fault { result ≡ Status.DiskFault
@@ -148,27 +165,26 @@ fn pack_payloads<A: StoredSession + Drop, K: Sink, D: Disk>(
     ensures packs { (t : A.State) (version : Option (List ℕ))
         → Stands (D.content disk.old) (D.images disk.old) log.old payloads.now
         → A.stands_for payloads.now ≡ Ok (t, version) → IsFinished result
-        → PacksCall K.held D.content D.images D.moment D.images_since
-        A.snapshot_of A.count_of A.stands_for
+        → PacksCall K.held D.content D.images D.moment D.images_since D.room
+        A.is_snapshot A.count_of A.stands_for
         sink.old sink.new disk.new payloads.now t version }
     ensures safe { (t : A.State) (version : Option (List ℕ))
         → Stands (D.content disk.old) (D.images disk.old) log.old payloads.now
         → A.stands_for payloads.now ≡ Ok (t, version)
-        → IsSafePack K.held D.content D.images D.moment D.images_since
-        A.snapshot_of A.count_of A.stands_for
+        → IsSafePack K.held D.content D.images D.moment D.images_since D.room
+        A.is_snapshot A.count_of A.stands_for
         (HoldsPayloads payloads.now) disk.old disk.new payloads.now t version }
     ensures exits { (t : A.State) (version : Option (List ℕ))
         → Stands (D.content disk.old) (D.images disk.old) log.old payloads.now
         → A.stands_for payloads.now ≡ Ok (t, version)
-        → StoresBehind K.held D.content D.images D.moment D.images_since sink.old sink.new disk.new
-        payloads.now (packed_line (A.count_of payloads.now))
-        (option_to_list version) (A.snapshot_of t) result
-        ⊎ IsUnwritten D.content D.images disk.old disk.new
-        × FailsEarly (K.held sink.old) (K.held sink.new) result }
+        → EndsPack K.held D.content D.images D.moment D.images_since D.room
+        A.is_snapshot A.count_of A.stands_for
+        sink.old disk.old sink.new disk.new payloads.now t version result }
     ensures refused { (refusal : StoreRefusal)
         → refusal_of_payloads (A.stands_for payloads.now) ≡ Some refusal
         → IsUnwritten D.content D.images disk.old disk.new
         × EndsRefused (K.held sink.old) (K.held sink.new) refusal result }
+    ensures no_source { result ≡ Status.SourceFault → ⊥ }
     ensures sink_fault { result ≡ Status.SinkFault
         → SinkFailed K.faults K.empty_takes K.room K.held sink.old sink.new }
     ensures disk_fault { result ≡ Status.DiskFault
@@ -206,22 +222,23 @@ fn pack_session<A: StoredSession, K: Sink, D: Disk>(
         → Stands (D.content disk.old) (D.images disk.old) log.old before
         → A.stands_for before ≡ Ok (A.state session.now, version.now)
         → count ≡ A.count_of before → IsFinished result
-        → PacksCall K.held D.content D.images D.moment D.images_since
-        A.snapshot_of A.count_of A.stands_for
+        → PacksCall K.held D.content D.images D.moment D.images_since D.room
+        A.is_snapshot A.count_of A.stands_for
         sink.old sink.new disk.new before (A.state session.now) version.now }
     ensures safe { (before : List (List ℕ))
         → Stands (D.content disk.old) (D.images disk.old) log.old before
         → A.stands_for before ≡ Ok (A.state session.now, version.now)
-        → IsSafePack K.held D.content D.images D.moment D.images_since
-        A.snapshot_of A.count_of A.stands_for
+        → IsSafePack K.held D.content D.images D.moment D.images_since D.room
+        A.is_snapshot A.count_of A.stands_for
         (HoldsPayloads before) disk.old disk.new before (A.state session.now) version.now }
     ensures exits { (before : List (List ℕ))
         → Stands (D.content disk.old) (D.images disk.old) log.old before
-        → StoresBehind K.held D.content D.images D.moment D.images_since sink.old sink.new disk.new
-        before (packed_line count)
-        (option_to_list version.now) (A.snapshot_of (A.state session.now)) result
-        ⊎ IsUnwritten D.content D.images disk.old disk.new
-        × FailsEarly (K.held sink.old) (K.held sink.new) result }
+        → A.stands_for before ≡ Ok (A.state session.now, version.now)
+        → count ≡ A.count_of before
+        → EndsPack K.held D.content D.images D.moment D.images_since D.room
+        A.is_snapshot A.count_of A.stands_for
+        sink.old disk.old sink.new disk.new before (A.state session.now) version.now result }
+    ensures no_source { result ≡ Status.SourceFault → ⊥ }
     ensures sink_fault { result ≡ Status.SinkFault
         → SinkFailed K.faults K.empty_takes K.room K.held sink.old sink.new }
     ensures disk_fault { result ≡ Status.DiskFault
@@ -251,7 +268,7 @@ fn packing_of<A: StoredSession>(
     session: &A,
     count: u64,
 ) -> Result<Packing, AllocError>
-    ensures snapshot { IfOk result (λ p. p.snapshot ≡ A.snapshot_of (A.state session.now)) }
+    ensures snapshot { IfOk result (λ p. A.is_snapshot (A.state session.now) p.snapshot) }
     ensures line { IfOk result (λ p. p.line ≡ packed_line count) }
 {
     let snapshot = session.snapshot(alloc)?;
@@ -274,16 +291,17 @@ pub fn pack_store<K: Sink, D: Disk>(
     requires stands { (base : List (List ℕ))
         × Stands (D.content disk.old) (D.images disk.old) log.old base }
     ensures packed { OnOk result
-        (Adds K.held D.content D.images D.moment D.images_since
+        (Adds K.held D.content D.images D.moment D.images_since D.room
         sink.old disk.old log.old sink.new disk.new log.new
         line.now (option_to_list version.now ++ snapshot.now ∷ [])) }
     ensures stopped { IfErr result (λ stop.
-        Stops K.held D.content D.images D.moment D.images_since
+        Stops K.held D.content D.images D.moment D.images_since D.room
         sink.old disk.old log.old sink.new disk.new log.new
         stop [] [] [] (option_to_list version.now)
-        ⊎ Stops K.held D.content D.images D.moment D.images_since
+        ⊎ Stops K.held D.content D.images D.moment D.images_since D.room
         sink.old disk.old log.old sink.new disk.new log.new
         stop [] line.now (option_to_list version.now) (snapshot.now ∷ [])) }
+    ensures own { IfErr result IsOwnStop }
     ensures counted { Counted K.faults K.empty_takes K.room K.held D.faults
         sink.old disk.old sink.new disk.new (stop_in result) }
 {

@@ -64,11 +64,14 @@ pub trait StoredSession: Sized {
     /// What the line with this number makes of a state: the next state, and the answer.
     ghost answer: { State → ℕ → Line → Option (State × Answer) };
 
+    /// What holds of a step that was made: its payload is one that is read back, and so on.
+    ghost is_step: { State → ℕ → Line → State × Answer → Type 0 };
+
     /// The state lines.
     ghost state_text: { State → List ℕ };
 
-    /// The payload of a snapshot.
-    ghost snapshot_of: { State → List ℕ };
+    /// The payloads of a snapshot of a state.
+    ghost is_snapshot: { State → List ℕ → Type 0 };
 
     /// How many payloads are of changes.
     ghost count_of: { List (List ℕ) → ℕ };
@@ -85,12 +88,13 @@ pub trait StoredSession: Sized {
 
     /// The payload of a snapshot. The only error is running out of memory.
     fn snapshot(&self, alloc: Global) -> Result<Bytes, AllocError>
-        ensures { IfOk result (λ payload. payload ≡ snapshot_of (state self.now)) };
+        ensures { IfOk result (λ payload. is_snapshot (state self.now) payload) };
 
     /// Answers the item with this number. The only error is running out of memory.
     fn answer(&mut self, alloc: Global, number: u64, line: &Line) -> Result<Answer, AllocError>
         ensures answer { IfOk result (λ a.
             answer (state self.old) number line.now ≡ Some (state self.new, a)) }
+        ensures step { IfOk result (λ a. is_step (state self.old) number line.now (state self.new, a)) }
         ensures is_answer { IfOk result IsAnswer };
 
     /// The state lines. The only error is running out of memory.
@@ -105,7 +109,8 @@ pub trait StoredSession: Sized {
     /// The payload of a change that was accepted stands for its step.
     ghost change_stands: { (ps : List (List ℕ)) (t t' : State)
         (n : ℕ) (line : Line) (a : Answer) (p : List ℕ)
-        → stands_for ps ≡ Ok (t, None) → answer t n line ≡ Some (t', a) → a.payload ≡ Some p
+        → stands_for ps ≡ Ok (t, None) → answer t n line ≡ Some (t', a)
+        → is_step t n line (t', a) → a.payload ≡ Some p
         → stands_for (ps ++ p ∷ []) ≡ Ok (t', None) };
 
     /// The version record is not one of a change.
@@ -115,18 +120,21 @@ pub trait StoredSession: Sized {
     /// The payload of a change that was accepted counts one.
     ghost change_counts: { (ps : List (List ℕ)) (t t' : State)
         (n : ℕ) (line : Line) (a : Answer) (p : List ℕ)
-        → stands_for ps ≡ Ok (t, None) → answer t n line ≡ Some (t', a) → a.payload ≡ Some p
+        → stands_for ps ≡ Ok (t, None) → answer t n line ≡ Some (t', a)
+        → is_step t n line (t', a) → a.payload ≡ Some p
         → count_of (ps ++ p ∷ []) ≡ count_of ps + 1 };
 
     /// A snapshot is not one of a change.
-    ghost snapshot_counts: { (ps : List (List ℕ)) (t : State)
-        → stands_for ps ≡ Ok (t, None) → count_of (ps ++ snapshot_of t ∷ []) ≡ count_of ps };
+    ghost snapshot_counts: { (ps : List (List ℕ)) (t : State) (p : List ℕ)
+        → stands_for ps ≡ Ok (t, None) → is_snapshot t p
+        → count_of (ps ++ p ∷ []) ≡ count_of ps };
 
     /// An item that is refused leaves the state.
     ghost refused_stays: { (t t' : State) (n : ℕ) (line : Line) (a : Answer)
         → answer t n line ≡ Some (t', a) → a.payload ≡ None → t' ≡ t };
 
     /// A snapshot leaves the state.
-    ghost snapshot_stands: { (ps : List (List ℕ)) (t : State)
-        → stands_for ps ≡ Ok (t, None) → stands_for (ps ++ snapshot_of t ∷ []) ≡ Ok (t, None) };
+    ghost snapshot_stands: { (ps : List (List ℕ)) (t : State) (p : List ℕ)
+        → stands_for ps ≡ Ok (t, None) → is_snapshot t p
+        → stands_for (ps ++ p ∷ []) ≡ Ok (t, None) };
 }

@@ -31,10 +31,10 @@ pub fn store_and_answer<K: Sink, D: Disk>(
     requires stands { (base : List (List ℕ))
         × Stands (D.content disk.old) (D.images disk.old) log.old base }
     ensures stored { OnOk result
-        (Adds K.held D.content D.images D.moment D.images_since
+        (Adds K.held D.content D.images D.moment D.images_since D.room
         sink.old disk.old log.old sink.new disk.new log.new line.now (payload.now ∷ [])) }
     ensures stopped { IfErr result (λ stop.
-        Stops K.held D.content D.images D.moment D.images_since
+        Stops K.held D.content D.images D.moment D.images_since D.room
         sink.old disk.old log.old sink.new disk.new log.new stop []
         line.now [] (payload.now ∷ [])) }
     ensures own { IfErr result IsOwnStop }
@@ -78,10 +78,10 @@ pub fn store_version<K: Sink, D: Disk>(
     requires stands { (base : List (List ℕ))
         × Stands (D.content disk.old) (D.images disk.old) log.old base }
     ensures stored { OnOk result
-        (Adds K.held D.content D.images D.moment D.images_since
+        (Adds K.held D.content D.images D.moment D.images_since D.room
         _sink.now disk.old log.old _sink.now disk.new log.new [] (option_to_list version.now)) }
     ensures stopped { IfErr result (λ stop.
-        Stops K.held D.content D.images D.moment D.images_since
+        Stops K.held D.content D.images D.moment D.images_since D.room
         _sink.now disk.old log.old _sink.now disk.new log.new stop [] [] []
         (option_to_list version.now)) }
     ensures own { IfErr result IsOwnStop }

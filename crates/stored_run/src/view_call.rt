@@ -1,5 +1,5 @@
 //! The commands `show` and `verify`, which only read a store.
-ghost use Rattle.std.specs.Prelude.{◌≡◌, ◌⊎◌, List, ℕ, Ok, Some, IfOk};
+ghost use Rattle.std.specs.Prelude.{◌≡◌, ◌⊎◌, List, ℕ, Ok, Some, IfOk, IsNone};
 ghost use Rattle.std.specs.declared.option.Option.{Option};
 ghost use Rattle.lens_io.specs.Causes.{Increased, SinkFailed};
 ghost use Rattle.lens_io.specs.Disks.{LeavesOnly};
@@ -32,7 +32,9 @@ enum StoreView {
 /// - `views`: if the payloads stand for a session, the text is written, unless the disk failed or memory ran out before.
 /// - `refused`: if the bytes of the disk are refused, the line `store refused: REASON` is written in its place.
 /// - `unwritten`, `moments`: nothing is written to the disk, and a crash leaves nothing new.
-/// - `sink_fault`, `disk_fault`: these statuses come only if that device failed.
+/// - `complete`: over such payloads and with no fault the status is `Done` or `NoMemory`.
+/// - `no_source`: there is no fault of a source.
+/// - `sink_fault`, `disk_fault`, `sure`: these statuses come only if that device failed; a disk whose room is known does not.
 pub fn show<A: StoredSession + Drop, K: Sink, D: Disk>(
     alloc: Global,
     sink: &mut K,
@@ -48,10 +50,19 @@ pub fn show<A: StoredSession + Drop, K: Sink, D: Disk>(
         → EndsRefused (K.held sink.old) (K.held sink.new) refusal result }
     ensures unwritten { IsUnwritten D.content D.images disk.old disk.new }
     ensures moments { LeavesOnly D.moment D.images_since disk.old disk.new (D.images disk.old) }
+    ensures complete { (before : List (List ℕ)) (bytes : List ℕ) (t : A.State)
+        (version : Option (List ℕ))
+        → D.content disk.old ≡ Some bytes → HoldsPayloads before bytes
+        → A.stands_for before ≡ Ok (t, version)
+        → (SinkFailed K.faults K.empty_takes K.room K.held sink.old sink.new → ⊥)
+        → (Increased (D.faults disk.old) (D.faults disk.new) → ⊥)
+        → (result ≡ Status.Done) ⊎ (result ≡ Status.NoMemory) }
+    ensures no_source { result ≡ Status.SourceFault → ⊥ }
     ensures sink_fault { result ≡ Status.SinkFault
         → SinkFailed K.faults K.empty_takes K.room K.held sink.old sink.new }
     ensures disk_fault { result ≡ Status.DiskFault
         → Increased (D.faults disk.old) (D.faults disk.new) }
+    ensures sure { result ≡ Status.DiskFault → IsNone (D.room disk.old) }
 {
     view_store::<A, K, D>(alloc, StoreView::State, sink, disk)
 }
@@ -61,7 +72,9 @@ pub fn show<A: StoredSession + Drop, K: Sink, D: Disk>(
 /// - `views`: if the payloads stand for a session, the text is written, unless the disk failed or memory ran out before.
 /// - `refused`: if the bytes of the disk are refused, the line `store refused: REASON` is written in its place.
 /// - `unwritten`, `moments`: nothing is written to the disk, and a crash leaves nothing new.
-/// - `sink_fault`, `disk_fault`: these statuses come only if that device failed.
+/// - `complete`: over such payloads and with no fault the status is `Done` or `NoMemory`.
+/// - `no_source`: there is no fault of a source.
+/// - `sink_fault`, `disk_fault`, `sure`: these statuses come only if that device failed; a disk whose room is known does not.
 pub fn verify<A: StoredSession + Drop, K: Sink, D: Disk>(
     alloc: Global,
     sink: &mut K,
@@ -77,10 +90,19 @@ pub fn verify<A: StoredSession + Drop, K: Sink, D: Disk>(
         → EndsRefused (K.held sink.old) (K.held sink.new) refusal result }
     ensures unwritten { IsUnwritten D.content D.images disk.old disk.new }
     ensures moments { LeavesOnly D.moment D.images_since disk.old disk.new (D.images disk.old) }
+    ensures complete { (before : List (List ℕ)) (bytes : List ℕ) (t : A.State)
+        (version : Option (List ℕ))
+        → D.content disk.old ≡ Some bytes → HoldsPayloads before bytes
+        → A.stands_for before ≡ Ok (t, version)
+        → (SinkFailed K.faults K.empty_takes K.room K.held sink.old sink.new → ⊥)
+        → (Increased (D.faults disk.old) (D.faults disk.new) → ⊥)
+        → (result ≡ Status.Done) ⊎ (result ≡ Status.NoMemory) }
+    ensures no_source { result ≡ Status.SourceFault → ⊥ }
     ensures sink_fault { result ≡ Status.SinkFault
         → SinkFailed K.faults K.empty_takes K.room K.held sink.old sink.new }
     ensures disk_fault { result ≡ Status.DiskFault
         → Increased (D.faults disk.old) (D.faults disk.new) }
+    ensures sure { result ≡ Status.DiskFault → IsNone (D.room disk.old) }
 {
     view_store::<A, K, D>(alloc, StoreView::Count, sink, disk)
 }
@@ -103,10 +125,12 @@ fn view_store<A: StoredSession + Drop, K: Sink, D: Disk>(
         → EndsRefused (K.held sink.old) (K.held sink.new) refusal result }
     ensures unwritten { IsUnwritten D.content D.images disk.old disk.new }
     ensures moments { LeavesOnly D.moment D.images_since disk.old disk.new (D.images disk.old) }
+    ensures no_source { result ≡ Status.SourceFault → ⊥ }
     ensures sink_fault { result ≡ Status.SinkFault
         → SinkFailed K.faults K.empty_takes K.room K.held sink.old sink.new }
     ensures disk_fault { result ≡ Status.DiskFault
         → Increased (D.faults disk.old) (D.faults disk.new) }
+    ensures sure { result ≡ Status.DiskFault → IsNone (D.room disk.old) }
 {
     match open_log(disk) {
         Ok(log) => view_log::<A, K, D>(alloc, view, &log, sink, disk),
@@ -138,10 +162,12 @@ fn view_log<A: StoredSession + Drop, K: Sink, D: Disk>(
         → EndsRefused (K.held sink.old) (K.held sink.new) refusal result }
     ensures unwritten { IsUnwritten D.content D.images disk.old disk.new }
     ensures moments { LeavesOnly D.moment D.images_since disk.old disk.new (D.images disk.old) }
+    ensures no_source { result ≡ Status.SourceFault → ⊥ }
     ensures sink_fault { result ≡ Status.SinkFault
         → SinkFailed K.faults K.empty_takes K.room K.held sink.old sink.new }
     ensures disk_fault { result ≡ Status.DiskFault
         → Increased (D.faults disk.old) (D.faults disk.new) }
+    ensures sure { result ≡ Status.DiskFault → IsNone (D.room disk.old) }
 {
     match log.payloads(alloc, disk) {
         Ok(payloads) => view_payloads::<A, K>(alloc, view, &payloads, sink),
@@ -163,6 +189,7 @@ fn view_payloads<A: StoredSession + Drop, K: Sink>(
     ensures refused { (refusal : StoreRefusal)
         → refusal_of_payloads (A.stands_for payloads.now) ≡ Some refusal
         → EndsRefused (K.held sink.old) (K.held sink.new) refusal result }
+    ensures no_source { result ≡ Status.SourceFault → ⊥ }
     ensures sink_fault { result ≡ Status.SinkFault
         → SinkFailed K.faults K.empty_takes K.room K.held sink.old sink.new }
     ensures no_disk { result ≡ Status.DiskFault → ⊥ }
@@ -183,6 +210,7 @@ fn give_view<A: StoredSession, K: Sink>(
 ) -> Status
     ensures views { Views (K.held sink.old) (K.held sink.new)
         (view_text A.state_text view (A.state session.now) count) result }
+    ensures no_source { result ≡ Status.SourceFault → ⊥ }
     ensures sink_fault { result ≡ Status.SinkFault
         → SinkFailed K.faults K.empty_takes K.room K.held sink.old sink.new }
     ensures no_disk { result ≡ Status.DiskFault → ⊥ }

@@ -1,11 +1,13 @@
-use Rattle.std.proofs.Common.{inl, inr, ℕ, List, Err, ap, subst, ◌∙◌, ◌≡◌, sym}
+use Rattle.std.specs.Prelude.{IsNone}
+use Rattle.std.proofs.Common.{Option, inl, inr, ℕ, List, Err, ap, subst, ◌∙◌, ◌≡◌, sym}
 use Rattle.std.proofs.KnownBytes.{Consumes-nil}
 use Rattle.gate_log.specs.LogOnDisk.{HoldsPayloads, Stands}
 use Rattle.gate_log.specs.declared.fault.LogFault.{LogFault}
+use Rattle.stored_run.proofs.Rooms.{apply_cause, apply_complete}
 use Rattle.stored_run.proofs.Causes.{increased_since}
-use Rattle.stored_run.proofs.ApplyCalls.{same_held, only_disk, synced_holds, safe_later, safe_synced, held_first}
+use Rattle.stored_run.proofs.ApplyCalls.{same_held, opened_later, only_disk, synced_holds, safe_later, safe_synced, held_first}
 use Rattle.stored_run.proofs.StoredPayloads.{images_held, reads_held}
-use Rattle.stored_run.proofs.RefusalEnds.{at_disk_fault, at_log_disk, at_log_other, at_log_unfinished}
+use Rattle.stored_run.proofs.RefusalEnds.{at_disk_fault, at_log_disk, at_log_other, at_log_sourceless, at_log_unfinished}
 use Rattle.gate_log.specs.LogBytes.{payloads, log_of}
 use Rattle.stored_run.specs.Refusals.{refusal_of_log}
 use Rattle.stored_run.proofs.Openings.{at_content, unwritten_then, log_refused}
@@ -53,7 +55,7 @@ returns-in-Ok-clause-safe g c =
     let left' = g.S.Source.left c.apply_log.new.source in
     λ before bytes t version told holds h.
     let st = subst (λ (x : List (List ℕ)). Stands (disk.content d1) (disk.images d1) l x) (same_held (disk.content d) bytes log.0 before told log.1 holds) log.2 in
-    inr (safe_later held disk.content disk.images disk.moment disk.images_since a.answer a.state_text a.stands_for a.count_of hold reads laws.version_stands laws.change_stands laws.refused_stays laws.version_counts laws.change_counts (HoldsPayloads before) (disk.images d) left left' k k' d d1 d' before version t (held_first held disk.content disk.images disk.moment disk.images_since a.answer a.state_text a.stands_for a.count_of hold reads laws.version_stands laws.change_stands laws.refused_stays laws.version_counts laws.change_counts before (disk.images d)) c.in-Ok.ensures.moments
+    inr (safe_later held disk.content disk.images disk.moment disk.images_since disk.room a.answer a.is_step a.state_text a.stands_for a.count_of hold reads laws.version_stands laws.change_stands laws.refused_stays laws.version_counts laws.change_counts (HoldsPayloads before) (disk.images d) left left' k k' d d1 d' before version t (held_first held disk.content disk.images disk.moment disk.images_since disk.room a.answer a.is_step a.state_text a.stands_for a.count_of hold reads laws.version_stands laws.change_stands laws.refused_stays laws.version_counts laws.change_counts before (disk.images d)) c.in-Ok.ensures.moments
     (c.apply_log.ensures.safe before bytes t version (c.in-Ok.ensures.content ∙ told) st h))
 
 pub returns-in-Err-clause-continues : goal.returns-in-Err-clause-continues
@@ -76,7 +78,7 @@ returns-in-Err-clause-safe g c =
     λ before bytes t version told holds h.
     let failed = at_disk_fault (g.K.Sink.held c.args.sink.now) (g.K.Sink.held c.refuse_log.new.sink) c.refuse_log.result c.in-Err.fault (only_disk c.in-Err.fault (disk.content d) bytes before told holds c.in-Err.ensures.log) c.refuse_log.ensures.ends in
     elim c.in-Err.ensures.synced [
-      | inl now ↦ inr (safe_synced held disk.content disk.images disk.moment disk.images_since a.answer a.state_text a.stands_for a.count_of hold reads laws.version_stands laws.change_stands laws.refused_stays laws.version_counts laws.change_counts (disk.images d) left left k k' d d1 before version t (Consumes-nil left) (at_log_other (g.K.Sink.held c.args.sink.now) (g.K.Sink.held c.refuse_log.new.sink) c.refuse_log.result c.in-Err.fault c.refuse_log.ensures.ends)
+      | inl now ↦ inr (safe_synced held disk.content disk.images disk.moment disk.images_since disk.room a.answer a.is_step a.state_text a.stands_for a.count_of hold reads laws.version_stands laws.change_stands laws.refused_stays laws.version_counts laws.change_counts (disk.images d) left left k k' d d1 before version t (Consumes-nil left) (at_log_other (g.K.Sink.held c.args.sink.now) (g.K.Sink.held c.refuse_log.new.sink) c.refuse_log.result c.in-Err.fault c.refuse_log.ensures.ends)
           (synced_holds (disk.content d) bytes before (disk.images d1) told holds now) c.in-Err.ensures.moments h)
       | inr unsynced ↦ inl (failed.0, record { consumes = Consumes-nil left; given = failed.1; only = c.in-Err.ensures.images; moments = c.in-Err.ensures.moments })
     ]
@@ -99,11 +101,15 @@ returns-in-Ok-clause-exits g c =
     let d' = c.apply_log.new.disk in
     let l = c.in-Ok.log in
     let log = c.in-Ok.ensures.log in
+    let left = g.S.Source.left c.args.source.now in
+    let left' = g.S.Source.left c.apply_log.new.source in
+    let k = c.args.sink.now in
+    let k' = c.apply_log.new.sink in
     λ before bytes t version told holds h.
     let st = subst (λ (x : List (List ℕ)). Stands (disk.content d1) (disk.images d1) l x) (same_held (disk.content d) bytes log.0 before told log.1 holds) log.2 in
     elim (c.apply_log.ensures.exits before bytes t version (c.in-Ok.ensures.content ∙ told) st h) [
-      | inl e ↦ inl e
-      | inr u ↦ inr (unwritten_then disk.content disk.images d d1 d' c.in-Ok.ensures.content c.in-Ok.ensures.images u.0, u.1, u.2)
+      | inl e ↦ inl (opened_later held disk.content disk.images disk.moment disk.images_since disk.room a.answer a.is_step a.state_text a.stands_for a.count_of left left' k k' d d1 d' before t version c.apply_log.result c.in-Ok.ensures.content c.in-Ok.ensures.images c.in-Ok.ensures.moments c.in-Ok.ensures.room e)
+      | inr u ↦ inr (unwritten_then disk.content disk.images d d1 d' c.in-Ok.ensures.content c.in-Ok.ensures.images u.0, u.1, (u.2.0, λ e. subst (λ (o : Option ℕ). IsNone o) c.in-Ok.ensures.room (u.2.1 e)))
     ]
 
 pub returns-in-Err-clause-exits : goal.returns-in-Err-clause-exits
@@ -117,7 +123,7 @@ returns-in-Err-clause-exits g c =
     let k' = c.refuse_log.new.sink in
     λ before bytes t version told holds h.
     let failed = at_disk_fault (held k) (held k') c.refuse_log.result c.in-Err.fault (only_disk c.in-Err.fault (disk.content d) bytes before told holds c.in-Err.ensures.log) c.refuse_log.ensures.ends in
-    inr (record { same = c.in-Err.ensures.content; only = c.in-Err.ensures.images }, Consumes-nil left, (inl failed.0, failed.1))
+    inr (record { same = c.in-Err.ensures.content; only = c.in-Err.ensures.images }, Consumes-nil left, ((inl failed.0, failed.1), λ e. c.in-Err.ensures.sure (ap (λ (x : LogFault). Err x) (at_log_disk (held k) (held k') c.refuse_log.result c.in-Err.fault c.refuse_log.ensures.ends e))))
 
 pub returns-in-Ok-clause-refused : goal.returns-in-Ok-clause-refused
 returns-in-Ok-clause-refused g c =
@@ -144,3 +150,41 @@ returns-in-Err-clause-refused g c =
     let k' = c.refuse_log.new.sink in
     λ bytes refusal told q.
     (record { same = c.in-Err.ensures.content; only = c.in-Err.ensures.images }, Consumes-nil left, log_refused a.stands_for (held k) (held k') c.refuse_log.result c.in-Err.fault (disk.content d) bytes refusal told c.in-Err.ensures.log q c.refuse_log.ensures.ends)
+
+pub returns-in-Ok-clause-causes : goal.returns-in-Ok-clause-causes
+returns-in-Ok-clause-causes g c =
+    let disk = g.D.Disk in
+    let held = g.K.Sink.held in
+    let a = g.A.StoredSession in
+    λ before bytes t version told holds h.
+    apply_cause held disk.content disk.images disk.moment disk.images_since disk.room a.answer a.is_step (g.S.Source.left c.args.source.now) (g.S.Source.left c.apply_log.new.source) before t version a.state_text a.stands_for a.count_of
+    c.args.sink.now c.apply_log.new.sink c.args.disk.now c.apply_log.new.disk bytes c.apply_log.result told (returns-in-Ok-clause-exits g c before bytes t version told holds h)
+
+pub returns-in-Ok-clause-complete : goal.returns-in-Ok-clause-complete
+returns-in-Ok-clause-complete g c =
+    let disk = g.D.Disk in
+    let held = g.K.Sink.held in
+    let a = g.A.StoredSession in
+    λ before bytes t version told holds h source sink fault many none.
+    apply_complete held disk.content disk.images disk.moment disk.images_since disk.room a.answer a.is_step (g.S.Source.left c.args.source.now) (g.S.Source.left c.apply_log.new.source) before t version
+    c.apply_log.result (disk.room c.args.disk.now) (returns-in-Ok-clause-causes g c before bytes t version told holds h)
+    (λ e. source (c.apply_log.ensures.source_fault e)) (λ e. sink (c.apply_log.ensures.sink_fault e)) (λ e. fault (returns-in-Ok-clause-disk_fault g c e)) many none
+
+pub returns-in-Err-clause-causes : goal.returns-in-Err-clause-causes
+returns-in-Err-clause-causes g c =
+    let disk = g.D.Disk in
+    let held = g.K.Sink.held in
+    let a = g.A.StoredSession in
+    λ before bytes t version told holds h.
+    apply_cause held disk.content disk.images disk.moment disk.images_since disk.room a.answer a.is_step (g.S.Source.left c.args.source.now) (g.S.Source.left c.args.source.now) before t version a.state_text a.stands_for a.count_of
+    c.args.sink.now c.refuse_log.new.sink c.args.disk.now c.open_log.new.disk bytes c.refuse_log.result told (returns-in-Err-clause-exits g c before bytes t version told holds h)
+
+pub returns-in-Err-clause-complete : goal.returns-in-Err-clause-complete
+returns-in-Err-clause-complete g c =
+    let disk = g.D.Disk in
+    let held = g.K.Sink.held in
+    let a = g.A.StoredSession in
+    λ before bytes t version told holds h source sink fault many none.
+    apply_complete held disk.content disk.images disk.moment disk.images_since disk.room a.answer a.is_step (g.S.Source.left c.args.source.now) (g.S.Source.left c.args.source.now) before t version
+    c.refuse_log.result (disk.room c.args.disk.now) (returns-in-Err-clause-causes g c before bytes t version told holds h)
+    (λ e. absurd (at_log_sourceless (held c.args.sink.now) (held c.refuse_log.new.sink) c.refuse_log.result c.in-Err.fault c.refuse_log.ensures.ends e)) (λ e. sink (c.refuse_log.ensures.sink_fault e)) (λ e. fault (returns-in-Err-clause-disk_fault g c e)) many none

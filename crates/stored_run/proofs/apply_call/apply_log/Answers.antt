@@ -1,10 +1,11 @@
-use Rattle.std.proofs.Common.{◌≡◌, ℕ, List, Err, ap, sym, subst, ◌∙◌, Ok, inl, inr}
+use Rattle.std.specs.Prelude.{IsNone}
+use Rattle.std.proofs.Common.{Option, ◌≡◌, ℕ, List, Err, ap, sym, subst, ◌∙◌, Ok, inl, inr}
 use Rattle.std.proofs.KnownBytes.{Consumes-nil}
 use Rattle.gate_log.specs.LogOnDisk.{HoldsPayloads, Stands}
 use Rattle.stored_run.specs.ApplyCall.{ContinuesCall, IsSafeCall, EndsCall}
 use Rattle.gate_log.specs.declared.fault.LogFault.{LogFault}
 use Rattle.stored_run.proofs.Causes.{increased_since}
-use Rattle.stored_run.proofs.ApplyCalls.{at_some, safe_unread, safe_later, held_first}
+use Rattle.stored_run.proofs.ApplyCalls.{at_some, opened_later, safe_unread, safe_later, held_first}
 use Rattle.stored_run.proofs.StoredPayloads.{images_held, reads_held}
 use Rattle.stored_run.proofs.RefusalEnds.{at_log_disk, at_log_other, at_log_unfinished}
 use Rattle.gate_log.specs.CallEnds.{NoBadRecord}
@@ -35,7 +36,7 @@ returns-in-Ok-clause-continues g c =
     let same : read ≡ before = at_some (disk.content d) bytes (c.in-Ok.payloads ≡ before) told (c.in-Ok.ensures.payloads before st) in
     let st1 = subst (λ (x : List (List ℕ)). Stands (disk.content d1) (disk.images d1) l x) (sym same) (c.in-Ok.ensures.stands before st) in
     let h1 = subst (λ (x : List (List ℕ)). a.stands_for x ≡ Ok (t, version)) (sym same) h in
-    subst (λ (x : List (List ℕ)). ContinuesCall held disk.content disk.images disk.moment disk.images_since a.answer a.state_text a.stands_for a.count_of left left' k k' d' x t version status) same (c.apply_payloads.ensures.continues t version st1 h1 f)
+    subst (λ (x : List (List ℕ)). ContinuesCall held disk.content disk.images disk.moment disk.images_since disk.room a.answer a.is_step a.state_text a.stands_for a.count_of left left' k k' d' x t version status) same (c.apply_payloads.ensures.continues t version st1 h1 f)
 
 pub returns-in-Ok-clause-safe : goal.returns-in-Ok-clause-safe
 returns-in-Ok-clause-safe g c =
@@ -60,8 +61,8 @@ returns-in-Ok-clause-safe g c =
     let same : read ≡ before = at_some (disk.content d) bytes (c.in-Ok.payloads ≡ before) told (c.in-Ok.ensures.payloads before st) in
     let st1 = subst (λ (x : List (List ℕ)). Stands (disk.content d1) (disk.images d1) l x) (sym same) (c.in-Ok.ensures.stands before st) in
     let h1 = subst (λ (x : List (List ℕ)). a.stands_for x ≡ Ok (t, version)) (sym same) h in
-    safe_later held disk.content disk.images disk.moment disk.images_since a.answer a.state_text a.stands_for a.count_of hold reads laws.version_stands laws.change_stands laws.refused_stays laws.version_counts laws.change_counts (HoldsPayloads before) (HoldsPayloads before) left left' k k' d d1 d' before version t (held_first held disk.content disk.images disk.moment disk.images_since a.answer a.state_text a.stands_for a.count_of hold reads laws.version_stands laws.change_stands laws.refused_stays laws.version_counts laws.change_counts before (HoldsPayloads before)) (c.in-Ok.ensures.moments before st)
-    (subst (λ (x : List (List ℕ)). IsSafeCall held disk.content disk.images disk.moment disk.images_since a.answer a.state_text a.stands_for a.count_of (HoldsPayloads x) left left' k d1 k' d' x t version) same (c.apply_payloads.ensures.safe t version st1 h1))
+    safe_later held disk.content disk.images disk.moment disk.images_since disk.room a.answer a.is_step a.state_text a.stands_for a.count_of hold reads laws.version_stands laws.change_stands laws.refused_stays laws.version_counts laws.change_counts (HoldsPayloads before) (HoldsPayloads before) left left' k k' d d1 d' before version t (held_first held disk.content disk.images disk.moment disk.images_since disk.room a.answer a.is_step a.state_text a.stands_for a.count_of hold reads laws.version_stands laws.change_stands laws.refused_stays laws.version_counts laws.change_counts before (HoldsPayloads before)) (c.in-Ok.ensures.moments before st)
+    (subst (λ (x : List (List ℕ)). IsSafeCall held disk.content disk.images disk.moment disk.images_since disk.room a.answer a.is_step a.state_text a.stands_for a.count_of (HoldsPayloads x) left left' k d1 k' d' x t version) same (c.apply_payloads.ensures.safe t version st1 h1))
 
 pub returns-in-Err-clause-continues : goal.returns-in-Err-clause-continues
 returns-in-Err-clause-continues g c = λ before bytes t version told st h f. absurd (at_log_unfinished (g.K.Sink.held c.args.sink.now) (g.K.Sink.held c.refuse_log.new.sink) c.refuse_log.result c.in-Err.fault c.refuse_log.ensures.ends f)
@@ -81,7 +82,7 @@ returns-in-Err-clause-safe g c =
     let left = g.S.Source.left c.args.source.now in
     let d1 = c.payloads.new.disk in
     λ before bytes t version told st h.
-    safe_unread held disk.content disk.images disk.moment disk.images_since a.answer a.state_text a.stands_for a.count_of hold reads laws.version_stands laws.change_stands laws.refused_stays laws.version_counts laws.change_counts left left k c.refuse_log.new.sink d d1 before version t l (Consumes-nil left) (at_log_other (g.K.Sink.held c.args.sink.now) (g.K.Sink.held c.refuse_log.new.sink) c.refuse_log.result c.in-Err.fault c.refuse_log.ensures.ends) (c.in-Err.ensures.stands before st) (c.in-Err.ensures.moments before st) h
+    safe_unread held disk.content disk.images disk.moment disk.images_since disk.room a.answer a.is_step a.state_text a.stands_for a.count_of hold reads laws.version_stands laws.change_stands laws.refused_stays laws.version_counts laws.change_counts left left k c.refuse_log.new.sink d d1 before version t l (Consumes-nil left) (at_log_other (g.K.Sink.held c.args.sink.now) (g.K.Sink.held c.refuse_log.new.sink) c.refuse_log.result c.in-Err.fault c.refuse_log.ensures.ends) (c.in-Err.ensures.stands before st) (c.in-Err.ensures.moments before st) h
 
 pub returns-in-Ok-clause-disk_fault : goal.returns-in-Ok-clause-disk_fault
 returns-in-Ok-clause-disk_fault g c =
@@ -110,9 +111,9 @@ returns-in-Ok-clause-exits g c =
     let same : read ≡ before = at_some (disk.content d) bytes (read ≡ before) told (c.in-Ok.ensures.payloads before st) in
     let st1 = subst (λ (x : List (List ℕ)). Stands (disk.content d1) (disk.images d1) l x) (sym same) (c.in-Ok.ensures.stands before st) in
     let h1 = subst (λ (x : List (List ℕ)). a.stands_for x ≡ Ok (t, version)) (sym same) h in
-    elim (subst (λ (x : List (List ℕ)). EndsCall held disk.content disk.images disk.moment disk.images_since a.answer a.state_text a.stands_for a.count_of left left' k d1 k' d' x t version c.apply_payloads.result) same (c.apply_payloads.ensures.exits t version st1 h1)) [
-      | inl e ↦ inl e
-      | inr u ↦ inr (unwritten_then disk.content disk.images d d1 d' reading.same_content (λ x now. (reading.same_images x).1 now) u.0, u.1, u.2)
+    elim (subst (λ (x : List (List ℕ)). EndsCall held disk.content disk.images disk.moment disk.images_since disk.room a.answer a.is_step a.state_text a.stands_for a.count_of left left' k d1 k' d' x t version c.apply_payloads.result) same (c.apply_payloads.ensures.exits t version st1 h1)) [
+      | inl e ↦ inl (opened_later held disk.content disk.images disk.moment disk.images_since disk.room a.answer a.is_step a.state_text a.stands_for a.count_of left left' k k' d d1 d' before t version c.apply_payloads.result reading.same_content (λ x now. (reading.same_images x).1 now) reading.crash reading.same_room e)
+      | inr u ↦ inr (unwritten_then disk.content disk.images d d1 d' reading.same_content (λ x now. (reading.same_images x).1 now) u.0, u.1, (u.2.0, λ e. subst (λ (o : Option ℕ). IsNone o) reading.same_room (u.2.1 e)))
     ]
 
 pub returns-in-Err-clause-exits : goal.returns-in-Err-clause-exits
@@ -129,7 +130,7 @@ returns-in-Err-clause-exits g c =
     inr (
       record { same = reading.same_content; only = λ x now. (reading.same_images x).1 now },
       Consumes-nil left,
-      reading_fails (held k) (held k') c.refuse_log.result c.in-Err.fault c.payloads.result c.in-Err.is (at_some (disk.content d) bytes (NoBadRecord c.payloads.result) told c.payloads.ensures.never_bad) c.in-Err.ensures.possible c.refuse_log.ensures.ends,
+      (reading_fails (held k) (held k') c.refuse_log.result c.in-Err.fault c.payloads.result c.in-Err.is (at_some (disk.content d) bytes (NoBadRecord c.payloads.result) told c.payloads.ensures.never_bad) c.in-Err.ensures.possible c.refuse_log.ensures.ends, λ e. c.in-Err.ensures.sure (ap (λ (x : LogFault). Err x) (at_log_disk (held k) (held k') c.refuse_log.result c.in-Err.fault c.refuse_log.ensures.ends e))),
     )
 
 pub returns-in-Ok-clause-refused : goal.returns-in-Ok-clause-refused

@@ -4,9 +4,9 @@ use Rattle.stored_run.proofs.Outcomes.{same_ok}
 use Rattle.gate_log.specs.LogOnDisk.{HoldsPayloads}
 use Rattle.stored_run.specs.ApplyCall.{ContinuesCall, IsSafeCall, EndsCall}
 use Rattle.stored_run.proofs.Moments.{leaves_same}
-use Rattle.stored_run.proofs.ApplyCalls.{continues_call, safe_call, safe_unread}
+use Rattle.stored_run.proofs.ApplyCalls.{continues_call, opened_here, safe_call, safe_unread}
 use Rattle.stored_run.proofs.StoredPayloads.{images_held, reads_held}
-use Rattle.stored_run.proofs.RefusalEnds.{at_payloads_other, at_payloads_unfinished}
+use Rattle.stored_run.proofs.RefusalEnds.{at_payloads_other, at_payloads_unfinished, at_payloads_deviceless}
 use Rattle.stored_run.proofs.Openings.{unwritten_none, payloads_refused, never_refused, payloads_stand}
 use Rattle.stored_run.proofs.apply_call.apply_payloads.Goals as goal
 
@@ -35,8 +35,8 @@ returns-in-Ok-clause-continues g c =
     let one : a.State × Option (List ℕ) = (t0, opened.version) in
     λ t version st h f.
     let other : a.State × Option (List ℕ) = (t, version) in
-    subst (λ (x : a.State × Option (List ℕ)). ContinuesCall held disk.content disk.images disk.moment disk.images_since a.answer a.state_text a.stands_for a.count_of left left' k k' d' before x.0 x.1 status) (same_ok one other (a.stands_for before) c.in-Ok.ensures.stands h)
-    (continues_call held disk.content disk.images disk.moment disk.images_since a.answer a.state_text a.stands_for a.count_of hold reads laws.version_stands laws.change_stands laws.refused_stays laws.version_counts laws.change_counts left left' k k' d d' l l' before opened.version t0 t' status c.continue_store.ensures.exits f st c.in-Ok.ensures.stands)
+    subst (λ (x : a.State × Option (List ℕ)). ContinuesCall held disk.content disk.images disk.moment disk.images_since disk.room a.answer a.is_step a.state_text a.stands_for a.count_of left left' k k' d' before x.0 x.1 status) (same_ok one other (a.stands_for before) c.in-Ok.ensures.stands h)
+    (continues_call held disk.content disk.images disk.moment disk.images_since disk.room a.answer a.is_step a.state_text a.stands_for a.count_of hold reads laws.version_stands laws.change_stands laws.refused_stays laws.version_counts laws.change_counts left left' k k' d d' l l' before opened.version t0 t' status c.continue_store.ensures.exits f st c.in-Ok.ensures.stands)
 
 pub returns-in-Ok-clause-safe : goal.returns-in-Ok-clause-safe
 returns-in-Ok-clause-safe g c =
@@ -63,8 +63,8 @@ returns-in-Ok-clause-safe g c =
     let one : a.State × Option (List ℕ) = (t0, opened.version) in
     λ t version st h.
     let other : a.State × Option (List ℕ) = (t, version) in
-    subst (λ (x : a.State × Option (List ℕ)). IsSafeCall held disk.content disk.images disk.moment disk.images_since a.answer a.state_text a.stands_for a.count_of (HoldsPayloads before) left left' k d k' d' before x.0 x.1) (same_ok one other (a.stands_for before) c.in-Ok.ensures.stands h)
-    (safe_call held disk.content disk.images disk.moment disk.images_since a.answer a.state_text a.stands_for a.count_of hold reads laws.version_stands laws.change_stands laws.refused_stays laws.version_counts laws.change_counts left left' k k' d d' before opened.version t0 l c.continue_store.ensures.safe st c.in-Ok.ensures.stands)
+    subst (λ (x : a.State × Option (List ℕ)). IsSafeCall held disk.content disk.images disk.moment disk.images_since disk.room a.answer a.is_step a.state_text a.stands_for a.count_of (HoldsPayloads before) left left' k d k' d' before x.0 x.1) (same_ok one other (a.stands_for before) c.in-Ok.ensures.stands h)
+    (safe_call held disk.content disk.images disk.moment disk.images_since disk.room a.answer a.is_step a.state_text a.stands_for a.count_of hold reads laws.version_stands laws.change_stands laws.refused_stays laws.version_counts laws.change_counts left left' k k' d d' before opened.version t0 l c.continue_store.ensures.safe st c.in-Ok.ensures.stands)
 
 pub returns-in-Err-clause-continues : goal.returns-in-Err-clause-continues
 returns-in-Err-clause-continues g c = λ t version st h f. absurd (at_payloads_unfinished (g.K.Sink.held c.args.sink.now) (g.K.Sink.held c.refuse_payloads.new.sink) c.refuse_payloads.result c.in-Err.fault c.refuse_payloads.ensures.ends f)
@@ -84,7 +84,7 @@ returns-in-Err-clause-safe g c =
     let left = g.S.Source.left c.args.source.now in
     let before = c.args.payloads.now in
     λ t version st h.
-    safe_unread held disk.content disk.images disk.moment disk.images_since a.answer a.state_text a.stands_for a.count_of hold reads laws.version_stands laws.change_stands laws.refused_stays laws.version_counts laws.change_counts left left k c.refuse_payloads.new.sink d d before version t l (Consumes-nil left) (at_payloads_other (g.K.Sink.held c.args.sink.now) (g.K.Sink.held c.refuse_payloads.new.sink) c.refuse_payloads.result c.in-Err.fault c.refuse_payloads.ensures.ends) st
+    safe_unread held disk.content disk.images disk.moment disk.images_since disk.room a.answer a.is_step a.state_text a.stands_for a.count_of hold reads laws.version_stands laws.change_stands laws.refused_stays laws.version_counts laws.change_counts left left k c.refuse_payloads.new.sink d d before version t l (Consumes-nil left) (at_payloads_other (g.K.Sink.held c.args.sink.now) (g.K.Sink.held c.refuse_payloads.new.sink) c.refuse_payloads.result c.in-Err.fault c.refuse_payloads.ensures.ends) st
     (leaves_same disk.moment disk.images_since d (HoldsPayloads before) (λ x was. hold l d before x st (only d x was))) h
 
 pub returns-in-Ok-clause-exits : goal.returns-in-Ok-clause-exits
@@ -95,6 +95,9 @@ returns-in-Ok-clause-exits g c =
     let d = c.args.disk.now in
     let left = g.S.Source.left c.args.source.now in
     let left' = g.S.Source.left c.continue_store.new.source in
+    let hold = images_held disk.content disk.images g.met.D.Disk.content_is_image in
+    let reads = reads_held disk.content disk.images in
+    let laws = g.met.A.StoredSession in
     let k = c.args.sink.now in
     let k' = c.continue_store.new.sink in
     let d' = c.continue_store.new.disk in
@@ -103,9 +106,9 @@ returns-in-Ok-clause-exits g c =
     let one : a.State × Option (List ℕ) = (a.state opened.session, opened.version) in
     λ t version st h.
     let other : a.State × Option (List ℕ) = (t, version) in
-    subst (λ (x : a.State × Option (List ℕ)). EndsCall held disk.content disk.images disk.moment disk.images_since a.answer a.state_text a.stands_for a.count_of left left' k d k' d' before x.0 x.1 c.continue_store.result)
+    subst (λ (x : a.State × Option (List ℕ)). EndsCall held disk.content disk.images disk.moment disk.images_since disk.room a.answer a.is_step a.state_text a.stands_for a.count_of left left' k d k' d' before x.0 x.1 c.continue_store.result)
     (same_ok one other (a.stands_for before) c.in-Ok.ensures.stands h)
-    (inl (record { d1 = d; log = c.args.log.now; log' = c.continue_store.new.log; t' = a.state c.continue_store.new.session; stands = st; exits = c.continue_store.ensures.exits }))
+    (inl (opened_here held disk.content disk.images disk.moment disk.images_since disk.room a.answer a.is_step a.state_text a.stands_for a.count_of hold reads laws.version_stands laws.change_stands laws.refused_stays laws.version_counts laws.change_counts g.met.D.Disk.only_now left left' k k' d d' c.args.log.now c.continue_store.new.log before opened.version (a.state opened.session) (a.state c.continue_store.new.session) c.continue_store.result c.continue_store.ensures.exits st c.in-Ok.ensures.stands))
 
 pub returns-in-Err-clause-exits : goal.returns-in-Err-clause-exits
 returns-in-Err-clause-exits g c =
@@ -117,7 +120,7 @@ returns-in-Err-clause-exits g c =
     let k = c.args.sink.now in
     let k' = c.refuse_payloads.new.sink in
     λ t version st h.
-    inr (unwritten_none disk.content disk.images d, Consumes-nil left, payloads_stand (a.stands_for c.args.payloads.now) (t, version) (held k) (held k') c.refuse_payloads.result c.in-Err.fault h c.in-Err.ensures.stands c.refuse_payloads.ensures.ends)
+    inr (unwritten_none disk.content disk.images d, Consumes-nil left, (payloads_stand (a.stands_for c.args.payloads.now) (t, version) (held k) (held k') c.refuse_payloads.result c.in-Err.fault h c.in-Err.ensures.stands c.refuse_payloads.ensures.ends, λ e. absurd (at_payloads_deviceless (held k) (held k') c.refuse_payloads.result c.in-Err.fault c.refuse_payloads.ensures.ends (inr e))))
 
 pub returns-in-Ok-clause-refused : goal.returns-in-Ok-clause-refused
 returns-in-Ok-clause-refused g c =

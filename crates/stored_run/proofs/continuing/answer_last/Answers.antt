@@ -14,6 +14,7 @@ returns-in_default-clause-answered g c =
     let only = g.met.D.Disk.only_now in
     let hold = images_held disk.content disk.images g.met.D.Disk.content_is_image in
     let answer = g.A.StoredSession.answer in
+    let is_step = g.A.StoredSession.is_step in
     let state = g.A.StoredSession.state in
     let k = c.args.sink.now in
     let d = c.args.disk.now in
@@ -21,4 +22,4 @@ returns-in_default-clause-answered g c =
     let t = state c.args.session.now in
     let p = c.args.progress in
     let none : last_line c.args.input.lines.begun ≡ None = sym c.last.ensures ∙ c.in_default.is in
-    subst (λ (o : Option Line). Answers held disk.content disk.images disk.moment disk.images_since answer k d l k d l t p (option_to_list o) t p) (sym none) (answers_none held disk.content disk.images disk.moment disk.images_since answer only hold k d l t p)
+    subst (λ (o : Option Line). Answers held disk.content disk.images disk.moment disk.images_since disk.room answer is_step k d l k d l t p (option_to_list o) t p) (sym none) (answers_none held disk.content disk.images disk.moment disk.images_since disk.room answer is_step only hold k d l t p)

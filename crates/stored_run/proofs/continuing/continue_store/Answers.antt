@@ -13,6 +13,7 @@ returns-in-Ok-clause-exits g c =
     let only = g.met.D.Disk.only_now in
     let hold = images_held disk.content disk.images g.met.D.Disk.content_is_image in
     let answer = g.A.StoredSession.answer in
+    let is_step = g.A.StoredSession.is_step in
     let state = g.A.StoredSession.state in
     let k = c.args.sink.now in
     let d = c.args.disk.now in
@@ -25,7 +26,7 @@ returns-in-Ok-clause-exits g c =
     let left = g.S.Source.left c.args.source.now in
     let left' = g.S.Source.left c.answer_stored.new.source in
     let version = option_to_list c.args.version.now in
-    exits_end held disk.content disk.images disk.moment disk.images_since answer only hold g.A.StoredSession.state_text left left' k k1 c.give_state.new.sink d d' l l' version t t' c.in-Ok.progress c.give_state.result c.in-Ok.ensures.ended c.give_state.ensures.gives
+    exits_end held disk.content disk.images disk.moment disk.images_since disk.room answer is_step only hold g.A.StoredSession.state_text left left' k k1 c.give_state.new.sink d d' l l' version t t' c.in-Ok.progress c.give_state.result c.in-Ok.ensures.ended c.give_state.ensures.gives
 
 pub returns-in-Ok-clause-safe : goal.returns-in-Ok-clause-safe
 returns-in-Ok-clause-safe g c =
@@ -34,6 +35,7 @@ returns-in-Ok-clause-safe g c =
     let only = g.met.D.Disk.only_now in
     let hold = images_held disk.content disk.images g.met.D.Disk.content_is_image in
     let answer = g.A.StoredSession.answer in
+    let is_step = g.A.StoredSession.is_step in
     let state = g.A.StoredSession.state in
     let k = c.args.sink.now in
     let d = c.args.disk.now in
@@ -46,7 +48,7 @@ returns-in-Ok-clause-safe g c =
     let left = g.S.Source.left c.args.source.now in
     let left' = g.S.Source.left c.answer_stored.new.source in
     let version = option_to_list c.args.version.now in
-    safe_at_end held disk.content disk.images disk.moment disk.images_since answer only hold left left' k k1 c.give_state.new.sink d d' l l' version t g.A.StoredSession.state_text t' c.in-Ok.progress c.give_state.result c.in-Ok.ensures.ended c.give_state.ensures.gives
+    safe_at_end held disk.content disk.images disk.moment disk.images_since disk.room answer is_step only hold left left' k k1 c.give_state.new.sink d d' l l' version t g.A.StoredSession.state_text t' c.in-Ok.progress c.give_state.result c.in-Ok.ensures.ended c.give_state.ensures.gives
 
 pub returns-in-Err-clause-safe : goal.returns-in-Err-clause-safe
 returns-in-Err-clause-safe g c =
@@ -55,6 +57,7 @@ returns-in-Err-clause-safe g c =
     let only = g.met.D.Disk.only_now in
     let hold = images_held disk.content disk.images g.met.D.Disk.content_is_image in
     let answer = g.A.StoredSession.answer in
+    let is_step = g.A.StoredSession.is_step in
     let state = g.A.StoredSession.state in
     let k = c.args.sink.now in
     let d = c.args.disk.now in
@@ -67,7 +70,7 @@ returns-in-Err-clause-safe g c =
     let left = g.S.Source.left c.args.source.now in
     let left' = g.S.Source.left c.answer_stored.new.source in
     let version = option_to_list c.args.version.now in
-    safe_at_stop held disk.content disk.images disk.moment disk.images_since answer only hold left left' k k1 c.give_stop.new.sink d d' l l' version t c.in-Err.stop c.give_stop.result c.in-Err.ensures.stopped c.give_stop.ensures.gives
+    safe_at_stop held disk.content disk.images disk.moment disk.images_since disk.room answer is_step only hold left left' k k1 c.give_stop.new.sink d d' l l' version t c.in-Err.stop c.give_stop.result c.in-Err.ensures.stopped c.give_stop.ensures.gives
 
 pub returns-in-Ok-clause-sink_fault : goal.returns-in-Ok-clause-sink_fault
 returns-in-Ok-clause-sink_fault g c =

@@ -11,7 +11,7 @@ invariant-lines g l =
     let a = g.A.StoredSession in
     record {
       answers : (lines : List Line) × (l.fn.input.lines.ended ≡ lines ++ l.input.lines.ended)
-          × Answers g.K.Sink.held disk.content disk.images disk.moment disk.images_since a.answer l.fn.sink l.fn.disk l.fn.log l.sink l.disk l.log (a.state l.fn.session) l.fn.progress lines (a.state l.session) l.progress;
+          × Answers g.K.Sink.held disk.content disk.images disk.moment disk.images_since disk.room a.answer a.is_step l.fn.sink l.fn.disk l.fn.log l.sink l.disk l.log (a.state l.fn.session) l.fn.progress lines (a.state l.session) l.progress;
       counted : Counted g.K.Sink.faults g.K.Sink.empty_takes g.K.Sink.room g.K.Sink.held disk.faults l.fn.sink l.fn.disk l.sink l.disk None;
       begun : l.input.lines.begun ≡ l.fn.input.lines.begun;
       count : l.input.taken ≡ l.fn.input.taken;

@@ -17,10 +17,11 @@ pieces-init g c =
     let only = g.met.D.Disk.only_now in
     let hold = images_held disk.content disk.images g.met.D.Disk.content_is_image in
     let answer = g.A.StoredSession.answer in
+    let is_step = g.A.StoredSession.is_step in
     let state = g.A.StoredSession.state in
     let none = ap (λ (f : FedLines). length f.ended) c.requires.lines in
     record {
-      comes = comes_first held disk.content disk.images disk.moment disk.images_since answer only hold (g.S.Source.left c.args.source.now) c.args.input.now c.args.sink.now c.args.disk.now c.args.log.now (state c.args.session.now) (progress_at 0 false) c.requires.lines c.requires.taken;
+      comes = comes_first held disk.content disk.images disk.moment disk.images_since disk.room answer is_step only hold (g.S.Source.left c.args.source.now) c.args.input.now c.args.sink.now c.args.disk.now c.args.log.now (state c.args.session.now) (progress_at 0 false) c.requires.lines c.requires.taken;
       counted = counted_none g.K.Sink.faults g.K.Sink.empty_takes g.K.Sink.room held disk.faults c.args.sink.now c.args.disk.now;
       source_later = omega arith;
       number = omega (arith, none);
@@ -35,6 +36,7 @@ returns-in_err-answer_lines-clause-stopped g c =
     let only = g.met.D.Disk.only_now in
     let hold = images_held disk.content disk.images g.met.D.Disk.content_is_image in
     let answer = g.A.StoredSession.answer in
+    let is_step = g.A.StoredSession.is_step in
     let state = g.A.StoredSession.state in
     let k = c.args.sink.now in
     let d = c.args.disk.now in
@@ -54,8 +56,8 @@ returns-in_err-answer_lines-clause-stopped g c =
     let left = g.S.Source.left c.args.source.now in
     let left' = g.S.Source.left c.pieces.source in
     let stop = c.in_err-answer_lines.field-0.0 in
-    passed_on c.from_residual.result (StopsPieces held disk.content disk.images disk.moment disk.images_since answer left left' k d l k'' d'' l'' t 0) stop
-    (stops_lines held disk.content disk.images disk.moment disk.images_since answer only hold left left' c.pieces.input k k' d d' l l' t t' p p' c.pieces.invariant.comes k'' d'' l'' stop c.pieces.invariant.at_most c.in_err-answer_lines.ensures.own c.in_err-answer_lines.ensures.stopped)
+    passed_on c.from_residual.result (StopsPieces held disk.content disk.images disk.moment disk.images_since disk.room answer is_step left left' k d l k'' d'' l'' t 0) stop
+    (stops_lines held disk.content disk.images disk.moment disk.images_since disk.room answer is_step only hold left left' c.pieces.input k k' d d' l l' t t' p p' c.pieces.invariant.comes k'' d'' l'' stop c.pieces.invariant.at_most c.in_err-answer_lines.ensures.own c.in_err-answer_lines.ensures.stopped)
     c.from_residual.ensures.1
 
 pub pieces-preserved : goal.pieces-preserved
@@ -65,6 +67,7 @@ pieces-preserved g c =
     let only = g.met.D.Disk.only_now in
     let hold = images_held disk.content disk.images g.met.D.Disk.content_is_image in
     let answer = g.A.StoredSession.answer in
+    let is_step = g.A.StoredSession.is_step in
     let state = g.A.StoredSession.state in
     let k = c.args.sink.now in
     let d = c.args.disk.now in
@@ -85,14 +88,14 @@ pieces-preserved g c =
     let left' = g.S.Source.left c.pieces.source in
     let rest = c.in_ok-answer_lines.ensures.rest in
     let next = c.answer_lines.new.input in
-    let over = comes_over held disk.content disk.images disk.moment disk.images_since answer only hold left left' c.pieces.input k k' d d' l l' t t' p p' c.pieces.invariant.comes k'' d'' l'' t'' p'' next c.in_ok-answer_lines.ensures.answered rest c.in_ok-answer_lines.ensures.count in
+    let over = comes_over held disk.content disk.images disk.moment disk.images_since disk.room answer is_step only hold left left' c.pieces.input k k' d d' l l' t t' p p' c.pieces.invariant.comes k'' d'' l'' t'' p'' next c.in_ok-answer_lines.ensures.answered rest c.in_ok-answer_lines.ensures.count in
     let none = ap (λ (f : FedLines). f.ended) rest in
     let taken = c.take_piece.new.self in
     let left'' = g.S.Source.left c.take_piece.new.source in
     let room = length c.pieces.piece in
     let takes = subst (λ more. TakesMore left' left'' next taken room (Ok more)) c.in-Ok-true.field-0-test c.in-Ok-true.ensures.takes in
     record {
-      comes = comes_more held disk.content disk.images disk.moment disk.images_since answer only hold left left' next k k'' d d'' l l'' t t'' p p'' over left'' taken room takes;
+      comes = comes_more held disk.content disk.images disk.moment disk.images_since disk.room answer is_step only hold left left' next k k'' d d'' l l'' t t'' p p'' over left'' taken room takes;
       counted = counted_then g.K.Sink.faults g.K.Sink.empty_takes g.K.Sink.room held disk.faults k k' k'' d d' d'' None c.pieces.invariant.counted c.in_ok-answer_lines.ensures.counted;
       source_later = omega (arith, c.pieces.invariant.source_later, c.in-Ok-true.ensures.faults);
       number = omega (arith, c.in_ok-answer_lines.ensures.number, c.pieces.invariant.number, c.in_ok-answer_lines.ensures.count, takes.taken, ap count takes.grows.lines, few_ended next.lines takes.bytes, ap length none);
@@ -107,6 +110,7 @@ returns-in-Ok-false-clause-ended g c =
     let only = g.met.D.Disk.only_now in
     let hold = images_held disk.content disk.images g.met.D.Disk.content_is_image in
     let answer = g.A.StoredSession.answer in
+    let is_step = g.A.StoredSession.is_step in
     let state = g.A.StoredSession.state in
     let k = c.args.sink.now in
     let d = c.args.disk.now in
@@ -127,13 +131,13 @@ returns-in-Ok-false-clause-ended g c =
     let left' = g.S.Source.left c.pieces.source in
     let rest = c.in_ok-answer_lines.ensures.rest in
     let next = c.answer_lines.new.input in
-    let over = comes_over held disk.content disk.images disk.moment disk.images_since answer only hold left left' c.pieces.input k k' d d' l l' t t' p p' c.pieces.invariant.comes k'' d'' l'' t'' p'' next c.in_ok-answer_lines.ensures.answered rest c.in_ok-answer_lines.ensures.count in
+    let over = comes_over held disk.content disk.images disk.moment disk.images_since disk.room answer is_step only hold left left' c.pieces.input k k' d d' l l' t t' p p' c.pieces.invariant.comes k'' d'' l'' t'' p'' next c.in_ok-answer_lines.ensures.answered rest c.in_ok-answer_lines.ensures.count in
     let none = ap (λ (f : FedLines). f.ended) rest in
     let taken = c.take_piece.new.self in
     let left'' = g.S.Source.left c.take_piece.new.source in
     let room = length c.pieces.piece in
     let takes = subst (λ more. TakesMore left' left'' next taken room (Ok more)) c.in-Ok-false.field-0-test c.in-Ok-false.ensures.takes in
-    ends held disk.content disk.images disk.moment disk.images_since answer only hold left left' next k k'' d d'' l l'' t t'' p p'' over left'' taken room takes none
+    ends held disk.content disk.images disk.moment disk.images_since disk.room answer is_step only hold left left' next k k'' d d'' l l'' t t'' p p'' over left'' taken room takes none
 
 pub returns-in-Err-clause-stopped : goal.returns-in-Err-clause-stopped
 returns-in-Err-clause-stopped g c =
@@ -142,6 +146,7 @@ returns-in-Err-clause-stopped g c =
     let only = g.met.D.Disk.only_now in
     let hold = images_held disk.content disk.images g.met.D.Disk.content_is_image in
     let answer = g.A.StoredSession.answer in
+    let is_step = g.A.StoredSession.is_step in
     let state = g.A.StoredSession.state in
     let k = c.args.sink.now in
     let d = c.args.disk.now in
@@ -162,13 +167,13 @@ returns-in-Err-clause-stopped g c =
     let left' = g.S.Source.left c.pieces.source in
     let rest = c.in_ok-answer_lines.ensures.rest in
     let next = c.answer_lines.new.input in
-    let over = comes_over held disk.content disk.images disk.moment disk.images_since answer only hold left left' c.pieces.input k k' d d' l l' t t' p p' c.pieces.invariant.comes k'' d'' l'' t'' p'' next c.in_ok-answer_lines.ensures.answered rest c.in_ok-answer_lines.ensures.count in
+    let over = comes_over held disk.content disk.images disk.moment disk.images_since disk.room answer is_step only hold left left' c.pieces.input k k' d d' l l' t t' p p' c.pieces.invariant.comes k'' d'' l'' t'' p'' next c.in_ok-answer_lines.ensures.answered rest c.in_ok-answer_lines.ensures.count in
     let none = ap (λ (f : FedLines). f.ended) rest in
     let taken = c.take_piece.new.self in
     let left'' = g.S.Source.left c.take_piece.new.source in
     let room = length c.pieces.piece in
-    subst (λ (stop : Stop). StopsPieces held disk.content disk.images disk.moment disk.images_since answer left left'' k d l k'' d'' l'' t 0 stop) (sym c.at_piece.ensures)
-    (stops_piece held disk.content disk.images disk.moment disk.images_since answer only hold left left' next k k'' d d'' l l'' t t'' p p'' over left'' taken room c.in-Err.fault c.in-Err.ensures.takes none)
+    subst (λ (stop : Stop). StopsPieces held disk.content disk.images disk.moment disk.images_since disk.room answer is_step left left'' k d l k'' d'' l'' t 0 stop) (sym c.at_piece.ensures)
+    (stops_piece held disk.content disk.images disk.moment disk.images_since disk.room answer is_step only hold left left' next k k'' d d'' l l'' t t'' p p'' over left'' taken room c.in-Err.fault c.in-Err.ensures.takes none)
 
 pub returns-in_err-answer_lines-clause-counted : goal.returns-in_err-answer_lines-clause-counted
 returns-in_err-answer_lines-clause-counted g c =

@@ -11,7 +11,7 @@ invariant-pieces g l =
     let a = g.A.StoredSession in
     let source = g.S.Source in
     record {
-      comes : ComesOn g.K.Sink.held disk.content disk.images disk.moment disk.images_since a.answer (source.left l.fn.source) (source.left l.source) l.input l.fn.sink l.fn.disk l.fn.log l.sink l.disk l.log
+      comes : ComesOn g.K.Sink.held disk.content disk.images disk.moment disk.images_since disk.room a.answer a.is_step (source.left l.fn.source) (source.left l.source) l.input l.fn.sink l.fn.disk l.fn.log l.sink l.disk l.log
           (a.state l.fn.session) (progress_at 0 false) (a.state l.session) l.progress;
       counted : Counted g.K.Sink.faults g.K.Sink.empty_takes g.K.Sink.room g.K.Sink.held disk.faults l.fn.sink l.fn.disk l.sink l.disk None;
       source_later : source.faults l.fn.source ≤ source.faults l.source;

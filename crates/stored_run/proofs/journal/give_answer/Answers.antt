@@ -16,7 +16,7 @@ returns-in-None-clause-stopped g c =
     let k = c.args.sink.now in
     let k' = c.give_line.new.sink in
     let r = c.give_line.result in
-    line_refused held disk.content disk.images disk.moment disk.images_since only hold r k k' c.args.disk.now c.args.log.now c.args.answer.now.line c.args.answer.now.payload c.in-None.is
+    line_refused held disk.content disk.images disk.moment disk.images_since disk.room only hold r k k' c.args.disk.now c.args.log.now c.args.answer.now.line c.args.answer.now.payload c.in-None.is
     (subst (λ line. IfErr r (λ stop. (stop ≡ SinkFault) × AppendsFront (held k) (held k') line)) c.as_slice-in-None.ensures c.give_line.ensures.front)
 
 pub returns-in-None-clause-added : goal.returns-in-None-clause-added
@@ -28,5 +28,5 @@ returns-in-None-clause-added g c =
     let k = c.args.sink.now in
     let k' = c.give_line.new.sink in
     let r = c.give_line.result in
-    line_answered held disk.content disk.images disk.moment disk.images_since only hold r k k' c.args.disk.now c.args.log.now c.args.answer.now.line c.args.answer.now.payload c.in-None.is
+    line_answered held disk.content disk.images disk.moment disk.images_since disk.room only hold r k k' c.args.disk.now c.args.log.now c.args.answer.now.line c.args.answer.now.payload c.in-None.is
     (subst (λ line. OnOk r (Appends (held k) (held k') line)) c.as_slice-in-None.ensures c.give_line.ensures.given)

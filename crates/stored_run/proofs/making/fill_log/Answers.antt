@@ -7,7 +7,7 @@ pub returns-in-Ok-clause-ends : goal.returns-in-Ok-clause-ends
 returns-in-Ok-clause-ends g c = inl (refl, c.in-Ok.ensures.stored)
 
 pub returns-in-Err-clause-ends : goal.returns-in-Err-clause-ends
-returns-in-Err-clause-ends g c = inr (record { k1 = c.store_and_answer.new.sink; stop = c.in-Err.stop; stops = inr c.in-Err.ensures.stopped; status_is = c.give_stop.ensures.gives })
+returns-in-Err-clause-ends g c = inr (record { k1 = c.store_and_answer.new.sink; stop = c.in-Err.stop; own = c.in-Err.ensures.own; stops = inr c.in-Err.ensures.stopped; status_is = c.give_stop.ensures.gives })
 
 pub returns-in-Err-clause-sink_fault : goal.returns-in-Err-clause-sink_fault
 returns-in-Err-clause-sink_fault g c =

@@ -1,13 +1,14 @@
-use Rattle.std.proofs.Common.{inl, inr, ℕ, List, Err, ap, ◌∷◌, [], ◌++◌, subst, ◌∙◌, ◌≡◌, sym}
-use Rattle.std.specs.Prelude.{option_to_list}
+use Rattle.std.specs.Prelude.{IsNone}
+use Rattle.std.proofs.Common.{Option, inl, inr, ℕ, List, Err, ap, subst, ◌∙◌, ◌≡◌, sym}
 use Rattle.gate_log.specs.LogOnDisk.{HoldsPayloads, Stands}
+use Rattle.stored_run.proofs.Rooms.{pack_cause, pack_complete}
 use Rattle.stored_run.proofs.Effects.{first_none}
 use Rattle.gate_log.specs.declared.fault.LogFault.{LogFault}
 use Rattle.stored_run.proofs.Causes.{increased_since}
 use Rattle.stored_run.proofs.ApplyCalls.{same_held, only_disk, synced_holds}
-use Rattle.stored_run.proofs.PackCalls.{safe_kept, safe_after}
+use Rattle.stored_run.proofs.PackCalls.{safe_kept, safe_after, packed_later}
 use Rattle.stored_run.proofs.StoredPayloads.{images_held, reads_held}
-use Rattle.stored_run.proofs.RefusalEnds.{at_disk_fault, at_log_disk, at_log_unfinished}
+use Rattle.stored_run.proofs.RefusalEnds.{at_disk_fault, at_log_disk, at_log_sourceless, at_log_unfinished}
 use Rattle.gate_log.specs.LogBytes.{payloads, log_of}
 use Rattle.stored_run.specs.Refusals.{refusal_of_log}
 use Rattle.stored_run.proofs.Openings.{at_content, unwritten_then, log_refused}
@@ -51,7 +52,7 @@ returns-in-Ok-clause-safe g c =
     let d' = c.pack_log.new.disk in
     λ before bytes t version told holds h.
     let st = subst (λ (x : List (List ℕ)). Stands (disk.content d1) (disk.images d1) l x) (same_held (disk.content d) bytes log.0 before told log.1 holds) log.2 in
-    inr (safe_after held disk.content disk.images disk.moment disk.images_since hold a.snapshot_of a.count_of a.stands_for reads laws.version_stands laws.snapshot_stands laws.version_counts laws.snapshot_counts d d' before t version h (HoldsPayloads before) (disk.images d) d1 (λ x p. inr (first_none before (option_to_list version ++ a.snapshot_of t ∷ []) x p)) c.in-Ok.ensures.moments
+    inr (safe_after held disk.content disk.images disk.moment disk.images_since disk.room hold a.is_snapshot a.count_of a.stands_for reads laws.version_stands laws.snapshot_stands laws.version_counts laws.snapshot_counts d d' before t version h (HoldsPayloads before) (disk.images d) d1 (λ kept x p. inr (first_none before kept x p)) c.in-Ok.ensures.moments
     (c.pack_log.ensures.safe before bytes t version (c.in-Ok.ensures.content ∙ told) st h))
 
 pub returns-in-Err-clause-packs : goal.returns-in-Err-clause-packs
@@ -72,7 +73,7 @@ returns-in-Err-clause-safe g c =
     λ before bytes t version told holds h.
     let failed = at_disk_fault (g.K.Sink.held c.args.sink.now) (g.K.Sink.held c.refuse_log.new.sink) c.refuse_log.result c.in-Err.fault (only_disk c.in-Err.fault (disk.content d) bytes before told holds c.in-Err.ensures.log) c.refuse_log.ensures.ends in
     elim c.in-Err.ensures.synced [
-      | inl now ↦ inr (safe_kept held disk.content disk.images disk.moment disk.images_since hold a.snapshot_of a.count_of a.stands_for reads laws.version_stands laws.snapshot_stands laws.version_counts laws.snapshot_counts d d1 before t version h (disk.images d) (synced_holds (disk.content d) bytes before (disk.images d1) told holds now) c.in-Err.ensures.moments)
+      | inl now ↦ inr (safe_kept held disk.content disk.images disk.moment disk.images_since disk.room hold a.is_snapshot a.count_of a.stands_for reads laws.version_stands laws.snapshot_stands laws.version_counts laws.snapshot_counts d d1 before t version h (disk.images d) (synced_holds (disk.content d) bytes before (disk.images d1) told holds now) c.in-Err.ensures.moments)
       | inr unsynced ↦ inl (failed.0, record { given = failed.1; only = c.in-Err.ensures.images; moments = c.in-Err.ensures.moments })
     ]
 
@@ -120,11 +121,12 @@ returns-in-Ok-clause-exits g c =
     let d' = c.pack_log.new.disk in
     let l = c.in-Ok.log in
     let log = c.in-Ok.ensures.log in
+    let k' = c.pack_log.new.sink in
     λ before bytes t version told holds h.
     let st = subst (λ (x : List (List ℕ)). Stands (disk.content d1) (disk.images d1) l x) (same_held (disk.content d) bytes log.0 before told log.1 holds) log.2 in
     elim (c.pack_log.ensures.exits before bytes t version (c.in-Ok.ensures.content ∙ told) st h) [
-      | inl e ↦ inl e
-      | inr u ↦ inr (unwritten_then disk.content disk.images d d1 d' c.in-Ok.ensures.content c.in-Ok.ensures.images u.0, u.1)
+      | inl e ↦ inl (packed_later held disk.content disk.images disk.moment disk.images_since disk.room a.is_snapshot a.count_of a.stands_for k k' d d1 d' before t version c.pack_log.result c.in-Ok.ensures.content c.in-Ok.ensures.images c.in-Ok.ensures.moments c.in-Ok.ensures.room e)
+      | inr u ↦ inr (unwritten_then disk.content disk.images d d1 d' c.in-Ok.ensures.content c.in-Ok.ensures.images u.0, (u.1.0, λ e. subst (λ (o : Option ℕ). IsNone o) c.in-Ok.ensures.room (u.1.1 e)))
     ]
 
 pub returns-in-Err-clause-exits : goal.returns-in-Err-clause-exits
@@ -137,4 +139,39 @@ returns-in-Err-clause-exits g c =
     let k' = c.refuse_log.new.sink in
     λ before bytes t version told holds h.
     let failed = at_disk_fault (held k) (held k') c.refuse_log.result c.in-Err.fault (only_disk c.in-Err.fault (disk.content d) bytes before told holds c.in-Err.ensures.log) c.refuse_log.ensures.ends in
-    inr (record { same = c.in-Err.ensures.content; only = c.in-Err.ensures.images }, (inl failed.0, failed.1))
+    inr (record { same = c.in-Err.ensures.content; only = c.in-Err.ensures.images }, ((inl failed.0, failed.1), λ e. c.in-Err.ensures.sure (ap (λ (x : LogFault). Err x) (at_log_disk (held k) (held k') c.refuse_log.result c.in-Err.fault c.refuse_log.ensures.ends e))))
+
+pub returns-in-Err-clause-no_source : goal.returns-in-Err-clause-no_source
+returns-in-Err-clause-no_source g c = λ e. at_log_sourceless (g.K.Sink.held c.args.sink.now) (g.K.Sink.held c.refuse_log.new.sink) c.refuse_log.result c.in-Err.fault c.refuse_log.ensures.ends e
+
+pub returns-in-Ok-clause-causes : goal.returns-in-Ok-clause-causes
+returns-in-Ok-clause-causes g c =
+    let disk = g.D.Disk in
+    let held = g.K.Sink.held in
+    let a = g.A.StoredSession in
+    λ before bytes t version told holds h.
+    pack_cause held disk.content disk.images disk.moment disk.images_since disk.room a.is_snapshot before t version a.count_of a.stands_for c.args.sink.now c.pack_log.new.sink c.args.disk.now c.pack_log.new.disk bytes c.pack_log.result told
+    (returns-in-Ok-clause-exits g c before bytes t version told holds h)
+
+pub returns-in-Ok-clause-complete : goal.returns-in-Ok-clause-complete
+returns-in-Ok-clause-complete g c =
+    let a = g.A.StoredSession in
+    λ before bytes t version told holds h sink fault none.
+    pack_complete a.is_snapshot c.pack_log.result (g.D.Disk.room c.args.disk.now) before t version (returns-in-Ok-clause-causes g c before bytes t version told holds h)
+    (λ e. sink (c.pack_log.ensures.sink_fault e)) (λ e. fault (returns-in-Ok-clause-disk_fault g c e)) none
+
+pub returns-in-Err-clause-causes : goal.returns-in-Err-clause-causes
+returns-in-Err-clause-causes g c =
+    let disk = g.D.Disk in
+    let held = g.K.Sink.held in
+    let a = g.A.StoredSession in
+    λ before bytes t version told holds h.
+    pack_cause held disk.content disk.images disk.moment disk.images_since disk.room a.is_snapshot before t version a.count_of a.stands_for c.args.sink.now c.refuse_log.new.sink c.args.disk.now c.open_log.new.disk bytes c.refuse_log.result told
+    (returns-in-Err-clause-exits g c before bytes t version told holds h)
+
+pub returns-in-Err-clause-complete : goal.returns-in-Err-clause-complete
+returns-in-Err-clause-complete g c =
+    let a = g.A.StoredSession in
+    λ before bytes t version told holds h sink fault none.
+    pack_complete a.is_snapshot c.refuse_log.result (g.D.Disk.room c.args.disk.now) before t version (returns-in-Err-clause-causes g c before bytes t version told holds h)
+    (λ e. sink (c.refuse_log.ensures.sink_fault e)) (λ e. fault (returns-in-Err-clause-disk_fault g c e)) none

@@ -1,18 +1,16 @@
-use Rattle.std.proofs.Common.{◌≡◌, inl, ℕ, List, Err, ap, sym, subst, ◌∙◌, Ok, inr}
+use Rattle.std.specs.Prelude.{IsNone}
+use Rattle.std.proofs.Common.{Option, ◌≡◌, inl, ℕ, List, Err, ap, sym, subst, ◌∙◌, Ok, inr}
 use Rattle.gate_log.specs.LogOnDisk.{HoldsPayloads, Stands}
-use Rattle.stored_run.specs.PackCall.{PacksCall, IsSafePack}
+use Rattle.stored_run.specs.PackCall.{PacksCall, IsSafePack, EndsPacked}
 use Rattle.gate_log.specs.declared.fault.LogFault.{LogFault}
 use Rattle.stored_run.proofs.Causes.{increased_since}
 use Rattle.stored_run.proofs.ApplyCalls.{at_some}
-use Rattle.stored_run.proofs.PackCalls.{safe_kept, safe_after}
+use Rattle.stored_run.proofs.PackCalls.{safe_kept, safe_after, packed_later}
 use Rattle.stored_run.proofs.StoredPayloads.{images_held, reads_held}
-use Rattle.stored_run.proofs.RefusalEnds.{at_log_disk, at_log_unfinished}
+use Rattle.stored_run.proofs.RefusalEnds.{at_log_disk, at_log_sourceless, at_log_unfinished}
 use Rattle.gate_log.specs.CallEnds.{NoBadRecord}
 use Rattle.stored_run.specs.Refusals.{refusal_of_payloads}
 use Rattle.stored_run.proofs.Openings.{unwritten_then, reading_fails}
-use Rattle.stored_run.specs.StoreEnds.{StoresBehind}
-use Rattle.std.specs.Prelude.{option_to_list}
-use Rattle.stored_run.specs.CountLines.{packed_line}
 use Rattle.stored_run.proofs.pack_call.pack_log.Goals as goal
 
 pub returns-in-Ok-clause-packs : goal.returns-in-Ok-clause-packs
@@ -35,7 +33,7 @@ returns-in-Ok-clause-packs g c =
     let same : read ≡ before = at_some (disk.content d) bytes (c.in-Ok.payloads ≡ before) told (c.in-Ok.ensures.payloads before st) in
     let st1 = subst (λ (x : List (List ℕ)). Stands (disk.content d1) (disk.images d1) l x) (sym same) (c.in-Ok.ensures.stands before st) in
     let h1 = subst (λ (x : List (List ℕ)). a.stands_for x ≡ Ok (t, version)) (sym same) h in
-    subst (λ (x : List (List ℕ)). PacksCall held disk.content disk.images disk.moment disk.images_since a.snapshot_of a.count_of a.stands_for k k' d' x t version) same (c.pack_payloads.ensures.packs t version st1 h1 f)
+    subst (λ (x : List (List ℕ)). PacksCall held disk.content disk.images disk.moment disk.images_since disk.room a.is_snapshot a.count_of a.stands_for k k' d' x t version) same (c.pack_payloads.ensures.packs t version st1 h1 f)
 
 pub returns-in-Ok-clause-safe : goal.returns-in-Ok-clause-safe
 returns-in-Ok-clause-safe g c =
@@ -57,8 +55,8 @@ returns-in-Ok-clause-safe g c =
     let same : read ≡ before = at_some (disk.content d) bytes (c.in-Ok.payloads ≡ before) told (c.in-Ok.ensures.payloads before st) in
     let st1 = subst (λ (x : List (List ℕ)). Stands (disk.content d1) (disk.images d1) l x) (sym same) (c.in-Ok.ensures.stands before st) in
     let h1 = subst (λ (x : List (List ℕ)). a.stands_for x ≡ Ok (t, version)) (sym same) h in
-    safe_after held disk.content disk.images disk.moment disk.images_since hold a.snapshot_of a.count_of a.stands_for reads laws.version_stands laws.snapshot_stands laws.version_counts laws.snapshot_counts d d' before t version h (HoldsPayloads before) (HoldsPayloads before) d1 (λ x p. inl p) (c.in-Ok.ensures.moments before st)
-    (subst (λ (x : List (List ℕ)). IsSafePack held disk.content disk.images disk.moment disk.images_since a.snapshot_of a.count_of a.stands_for (HoldsPayloads x) d1 d' x t version) same (c.pack_payloads.ensures.safe t version st1 h1))
+    safe_after held disk.content disk.images disk.moment disk.images_since disk.room hold a.is_snapshot a.count_of a.stands_for reads laws.version_stands laws.snapshot_stands laws.version_counts laws.snapshot_counts d d' before t version h (HoldsPayloads before) (HoldsPayloads before) d1 (λ kept x p. inl p) (c.in-Ok.ensures.moments before st)
+    (subst (λ (x : List (List ℕ)). IsSafePack held disk.content disk.images disk.moment disk.images_since disk.room a.is_snapshot a.count_of a.stands_for (HoldsPayloads x) d1 d' x t version) same (c.pack_payloads.ensures.safe t version st1 h1))
 
 pub returns-in-Err-clause-packs : goal.returns-in-Err-clause-packs
 returns-in-Err-clause-packs g c = λ before bytes t version told st h f. absurd (at_log_unfinished (g.K.Sink.held c.args.sink.now) (g.K.Sink.held c.refuse_log.new.sink) c.refuse_log.result c.in-Err.fault c.refuse_log.ensures.ends f)
@@ -77,7 +75,7 @@ returns-in-Err-clause-safe g c =
     let l = c.args.log.now in
     let d1 = c.payloads.new.disk in
     λ before bytes t version told st h.
-    safe_kept held disk.content disk.images disk.moment disk.images_since hold a.snapshot_of a.count_of a.stands_for reads laws.version_stands laws.snapshot_stands laws.version_counts laws.snapshot_counts d d1 before t version h (HoldsPayloads before) (λ x now. hold l d1 before x (c.in-Err.ensures.stands before st) now) (c.in-Err.ensures.moments before st)
+    safe_kept held disk.content disk.images disk.moment disk.images_since disk.room hold a.is_snapshot a.count_of a.stands_for reads laws.version_stands laws.snapshot_stands laws.version_counts laws.snapshot_counts d d1 before t version h (HoldsPayloads before) (λ x now. hold l d1 before x (c.in-Err.ensures.stands before st) now) (c.in-Err.ensures.moments before st)
 
 pub returns-in-Ok-clause-disk_fault : goal.returns-in-Ok-clause-disk_fault
 returns-in-Ok-clause-disk_fault g c =
@@ -136,8 +134,9 @@ returns-in-Ok-clause-exits g c =
     let st1 = subst (λ (x : List (List ℕ)). Stands (disk.content d1) (disk.images d1) l x) (sym same) (c.in-Ok.ensures.stands before st) in
     let h1 = subst (λ (x : List (List ℕ)). a.stands_for x ≡ Ok (t, version)) (sym same) h in
     elim (c.pack_payloads.ensures.exits t version st1 h1) [
-      | inl e ↦ inl (subst (λ (x : List (List ℕ)). StoresBehind held disk.content disk.images disk.moment disk.images_since k k' d' x (packed_line (a.count_of x)) (option_to_list version) (a.snapshot_of t) status) same e)
-      | inr u ↦ inr (unwritten_then disk.content disk.images d d1 d' reading.same_content (λ x now. (reading.same_images x).1 now) u.0, u.1)
+      | inl e ↦ inl (packed_later held disk.content disk.images disk.moment disk.images_since disk.room a.is_snapshot a.count_of a.stands_for k k' d d1 d' before t version status reading.same_content (λ x now. (reading.same_images x).1 now) reading.crash reading.same_room
+          (subst (λ (x : List (List ℕ)). EndsPacked held disk.content disk.images disk.moment disk.images_since disk.room a.is_snapshot a.count_of a.stands_for k d1 k' d' x t version status) same e))
+      | inr u ↦ inr (unwritten_then disk.content disk.images d d1 d' reading.same_content (λ x now. (reading.same_images x).1 now) u.0, (u.1.0, λ e. subst (λ (o : Option ℕ). IsNone o) reading.same_room (u.1.1 e)))
     ]
 
 pub returns-in-Err-clause-exits : goal.returns-in-Err-clause-exits
@@ -152,5 +151,8 @@ returns-in-Err-clause-exits g c =
     λ before bytes t version told st h.
     inr (
       record { same = reading.same_content; only = λ x now. (reading.same_images x).1 now },
-      reading_fails (held k) (held k') c.refuse_log.result c.in-Err.fault c.payloads.result c.in-Err.is (at_some (disk.content d) bytes (NoBadRecord c.payloads.result) told c.payloads.ensures.never_bad) c.in-Err.ensures.possible c.refuse_log.ensures.ends,
+      (reading_fails (held k) (held k') c.refuse_log.result c.in-Err.fault c.payloads.result c.in-Err.is (at_some (disk.content d) bytes (NoBadRecord c.payloads.result) told c.payloads.ensures.never_bad) c.in-Err.ensures.possible c.refuse_log.ensures.ends, λ e. c.in-Err.ensures.sure (ap (λ (x : LogFault). Err x) (at_log_disk (held k) (held k') c.refuse_log.result c.in-Err.fault c.refuse_log.ensures.ends e))),
     )
+
+pub returns-in-Err-clause-no_source : goal.returns-in-Err-clause-no_source
+returns-in-Err-clause-no_source g c = λ e. at_log_sourceless (g.K.Sink.held c.args.sink.now) (g.K.Sink.held c.refuse_log.new.sink) c.refuse_log.result c.in-Err.fault c.refuse_log.ensures.ends e

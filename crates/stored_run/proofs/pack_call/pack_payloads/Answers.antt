@@ -1,16 +1,12 @@
-use Rattle.std.proofs.Common.{ℕ, List, Option, subst, inr, ◌⊎◌}
+use Rattle.std.proofs.Common.{inl, ℕ, List, Option, subst, inr}
 use Rattle.stored_run.proofs.Outcomes.{same_ok}
 use Rattle.gate_log.specs.LogOnDisk.{HoldsPayloads}
-use Rattle.stored_run.specs.PackCall.{PacksCall, IsSafePack}
+use Rattle.stored_run.specs.PackCall.{PacksCall, IsSafePack, EndsPack}
 use Rattle.stored_run.proofs.Moments.{leaves_same}
 use Rattle.stored_run.proofs.PackCalls.{safe_kept}
 use Rattle.stored_run.proofs.StoredPayloads.{images_held, reads_held}
-use Rattle.stored_run.proofs.RefusalEnds.{at_payloads_unfinished}
+use Rattle.stored_run.proofs.RefusalEnds.{at_payloads_unfinished, at_payloads_deviceless}
 use Rattle.stored_run.proofs.Openings.{unwritten_none, payloads_refused, never_refused, payloads_stand}
-use Rattle.stored_run.specs.StoreEnds.{StoresBehind}
-use Rattle.stored_run.specs.Refusals.{IsUnwritten, FailsEarly}
-use Rattle.std.specs.Prelude.{option_to_list}
-use Rattle.stored_run.specs.CountLines.{packed_line}
 use Rattle.stored_run.proofs.pack_call.pack_payloads.Goals as goal
 
 pub returns-in-Ok-clause-packs : goal.returns-in-Ok-clause-packs
@@ -32,7 +28,7 @@ returns-in-Ok-clause-packs g c =
     let one : a.State × Option (List ℕ) = (a.state opened.session, opened.version) in
     λ t version st h f.
     let other : a.State × Option (List ℕ) = (t, version) in
-    subst (λ (x : a.State × Option (List ℕ)). PacksCall held disk.content disk.images disk.moment disk.images_since a.snapshot_of a.count_of a.stands_for k k' d' before x.0 x.1) (same_ok one other (a.stands_for before) c.in-Ok.ensures.stands h)
+    subst (λ (x : a.State × Option (List ℕ)). PacksCall held disk.content disk.images disk.moment disk.images_since disk.room a.is_snapshot a.count_of a.stands_for k k' d' before x.0 x.1) (same_ok one other (a.stands_for before) c.in-Ok.ensures.stands h)
     (c.pack_session.ensures.packs before st c.in-Ok.ensures.stands c.in-Ok.ensures.count f)
 
 pub returns-in-Ok-clause-safe : goal.returns-in-Ok-clause-safe
@@ -54,7 +50,7 @@ returns-in-Ok-clause-safe g c =
     let one : a.State × Option (List ℕ) = (a.state opened.session, opened.version) in
     λ t version st h.
     let other : a.State × Option (List ℕ) = (t, version) in
-    subst (λ (x : a.State × Option (List ℕ)). IsSafePack held disk.content disk.images disk.moment disk.images_since a.snapshot_of a.count_of a.stands_for (HoldsPayloads before) d d' before x.0 x.1) (same_ok one other (a.stands_for before) c.in-Ok.ensures.stands h)
+    subst (λ (x : a.State × Option (List ℕ)). IsSafePack held disk.content disk.images disk.moment disk.images_since disk.room a.is_snapshot a.count_of a.stands_for (HoldsPayloads before) d d' before x.0 x.1) (same_ok one other (a.stands_for before) c.in-Ok.ensures.stands h)
     (c.pack_session.ensures.safe before st c.in-Ok.ensures.stands)
 
 pub returns-in-Err-clause-packs : goal.returns-in-Err-clause-packs
@@ -74,7 +70,7 @@ returns-in-Err-clause-safe g c =
     let l = c.args.log.now in
     let before = c.args.payloads.now in
     λ t version st h.
-    safe_kept held disk.content disk.images disk.moment disk.images_since hold a.snapshot_of a.count_of a.stands_for reads laws.version_stands laws.snapshot_stands laws.version_counts laws.snapshot_counts d d before t version h (HoldsPayloads before) (λ x now. hold l d before x st now)
+    safe_kept held disk.content disk.images disk.moment disk.images_since disk.room hold a.is_snapshot a.count_of a.stands_for reads laws.version_stands laws.snapshot_stands laws.version_counts laws.snapshot_counts d d before t version h (HoldsPayloads before) (λ x now. hold l d before x st now)
     (leaves_same disk.moment disk.images_since d (HoldsPayloads before) (λ x was. hold l d before x st (only d x was)))
 
 pub returns-in-Ok-clause-refused : goal.returns-in-Ok-clause-refused
@@ -110,10 +106,9 @@ returns-in-Ok-clause-exits g c =
     let status = c.pack_session.result in
     λ t version st h.
     let other : a.State × Option (List ℕ) = (t, version) in
-    subst (λ (x : a.State × Option (List ℕ)). StoresBehind held disk.content disk.images disk.moment disk.images_since k k' d' before (packed_line (a.count_of before)) (option_to_list x.1) (a.snapshot_of x.0) status
-    ⊎ IsUnwritten disk.content disk.images d d' × FailsEarly (held k) (held k') status) (same_ok one other (a.stands_for before) c.in-Ok.ensures.stands h)
-    (subst (λ (n : ℕ). StoresBehind held disk.content disk.images disk.moment disk.images_since k k' d' before (packed_line n) (option_to_list opened.version) (a.snapshot_of (a.state opened.session)) status
-    ⊎ IsUnwritten disk.content disk.images d d' × FailsEarly (held k) (held k') status) c.in-Ok.ensures.count (c.pack_session.ensures.exits before st))
+    subst (λ (x : a.State × Option (List ℕ)). EndsPack held disk.content disk.images disk.moment disk.images_since disk.room a.is_snapshot a.count_of a.stands_for k d k' d' before x.0 x.1 status)
+    (same_ok one other (a.stands_for before) c.in-Ok.ensures.stands h)
+    (c.pack_session.ensures.exits before st c.in-Ok.ensures.stands c.in-Ok.ensures.count)
 
 pub returns-in-Err-clause-exits : goal.returns-in-Err-clause-exits
 returns-in-Err-clause-exits g c =
@@ -124,4 +119,7 @@ returns-in-Err-clause-exits g c =
     let d = c.args.disk.now in
     let k' = c.refuse_payloads.new.sink in
     λ t version st h.
-    inr (unwritten_none disk.content disk.images d, payloads_stand (a.stands_for c.args.payloads.now) (t, version) (held k) (held k') c.refuse_payloads.result c.in-Err.fault h c.in-Err.ensures.stands c.refuse_payloads.ensures.ends)
+    inr (unwritten_none disk.content disk.images d, (payloads_stand (a.stands_for c.args.payloads.now) (t, version) (held k) (held k') c.refuse_payloads.result c.in-Err.fault h c.in-Err.ensures.stands c.refuse_payloads.ensures.ends, λ e. absurd (at_payloads_deviceless (held k) (held k') c.refuse_payloads.result c.in-Err.fault c.refuse_payloads.ensures.ends (inr e))))
+
+pub returns-in-Err-clause-no_source : goal.returns-in-Err-clause-no_source
+returns-in-Err-clause-no_source g c = λ e. at_payloads_deviceless (g.K.Sink.held c.args.sink.now) (g.K.Sink.held c.refuse_payloads.new.sink) c.refuse_payloads.result c.in-Err.fault c.refuse_payloads.ensures.ends (inl e)

@@ -1,14 +1,15 @@
-use Rattle.std.proofs.Common.{◌⊎◌, inl, inr, Some, ap, ℕ, List, [], ◌∷◌, ◌++◌, subst, ◌∙◌, refl}
+use Rattle.std.proofs.Common.{◌≡◌, ◌⊎◌, inl, inr, Some, ap, ℕ, List, [], ◌∷◌, ◌++◌, sym, subst, ◌∙◌, refl}
 use Rattle.std.specs.Prelude.{option_to_list}
 use Rattle.gate_log.specs.LogOnDisk.{HoldsPayloads}
 use Rattle.stored_run.specs.Effects.{Adds, Stops}
 use Rattle.stored_run.specs.declared.stop.Stop.{Stop}
+use Rattle.stored_run.specs.Stopping.{IsOwnStop}
 use Rattle.stored_run.proofs.Causes.{caused_sink, caused_disk}
 use Rattle.stored_run.proofs.Moments.{leaves_same}
-use Rattle.stored_run.proofs.PackCalls.{safe_kept, safe_packed, safe_short, packs_call}
+use Rattle.stored_run.proofs.PackCalls.{each_stands, safe_kept, safe_packed, safe_short, packs_call}
 use Rattle.stored_run.proofs.StoredPayloads.{images_held, reads_held}
 use Rattle.std.proofs.KnownBytes.{Appends-nil}
-use Rattle.stored_run.proofs.Openings.{unwritten_none}
+use Rattle.stored_run.proofs.Openings.{unwritten_none, opening_none}
 use Rattle.stored_run.specs.CountLines.{packed_line}
 use Rattle.stored_run.proofs.pack_call.pack_session.Goals as goal
 
@@ -27,7 +28,7 @@ returns-in_default-clause-safe g c =
     let t = a.state c.args.session.now in
     let version = c.args.version.now in
     λ before st h.
-    safe_kept held disk.content disk.images disk.moment disk.images_since hold a.snapshot_of a.count_of a.stands_for reads laws.version_stands laws.snapshot_stands laws.version_counts laws.snapshot_counts d d before t version h (HoldsPayloads before) (λ x now. hold l d before x st now)
+    safe_kept held disk.content disk.images disk.moment disk.images_since disk.room hold a.is_snapshot a.count_of a.stands_for reads laws.version_stands laws.snapshot_stands laws.version_counts laws.snapshot_counts d d before t version h (HoldsPayloads before) (λ x now. hold l d before x st now)
     (leaves_same disk.moment disk.images_since d (HoldsPayloads before) (λ x was. hold l d before x st (only d x was)))
 
 pub returns-in-Ok-pack_store-clause-safe : goal.returns-in-Ok-pack_store-clause-safe
@@ -48,10 +49,11 @@ returns-in-Ok-pack_store-clause-safe g c =
     let d' = c.pack_store.new.disk in
     let l' = c.pack_store.new.log in
     let line = c.as_slice-line.result.now in
-    let snap = c.as_slice-snapshot.ensures ∙ c.in-Ok.ensures.snapshot in
+    let snap = c.as_slice-snapshot.result.now in
+    let made = subst (λ (x : List ℕ). a.is_snapshot t x) (sym c.as_slice-snapshot.ensures) c.in-Ok.ensures.snapshot in
     λ before st h.
-    safe_packed held disk.content disk.images disk.moment disk.images_since hold a.snapshot_of a.count_of a.stands_for reads laws.version_stands laws.snapshot_stands laws.version_counts laws.snapshot_counts d d' before t version h (HoldsPayloads before) k k' l l' line
-    (subst (λ (x : List ℕ). Adds held disk.content disk.images disk.moment disk.images_since k d l k' d' l' line (option_to_list version ++ x ∷ [])) snap c.in-Ok-pack_store.ensures.packed) st
+    safe_packed held disk.content disk.images disk.moment disk.images_since disk.room hold a.is_snapshot a.count_of a.stands_for reads laws.version_stands laws.snapshot_stands laws.version_counts laws.snapshot_counts t snap made d d' before version h (HoldsPayloads before) k k' l l' line
+    c.in-Ok-pack_store.ensures.packed st
 
 pub returns-in-Ok-pack_store-clause-packs : goal.returns-in-Ok-pack_store-clause-packs
 returns-in-Ok-pack_store-clause-packs g c =
@@ -70,11 +72,12 @@ returns-in-Ok-pack_store-clause-packs g c =
     let d' = c.pack_store.new.disk in
     let l' = c.pack_store.new.log in
     let line = c.as_slice-line.result.now in
-    let snap = c.as_slice-snapshot.ensures ∙ c.in-Ok.ensures.snapshot in
+    let snap = c.as_slice-snapshot.result.now in
+    let made = subst (λ (x : List ℕ). a.is_snapshot t x) (sym c.as_slice-snapshot.ensures) c.in-Ok.ensures.snapshot in
     λ before st h n f.
-    packs_call held disk.content disk.images disk.moment disk.images_since hold a.snapshot_of a.count_of a.stands_for reads laws.version_stands laws.snapshot_stands laws.version_counts laws.snapshot_counts d d' before t version h k k' l l' line
+    packs_call held disk.content disk.images disk.moment disk.images_since disk.room hold a.is_snapshot a.count_of a.stands_for reads laws.version_stands laws.snapshot_stands laws.version_counts laws.snapshot_counts t snap made d d' before version h k k' l l' line
     (c.as_slice-line.ensures ∙ c.in-Ok.ensures.line ∙ ap packed_line n)
-    (subst (λ (x : List ℕ). Adds held disk.content disk.images disk.moment disk.images_since k d l k' d' l' line (option_to_list version ++ x ∷ [])) snap c.in-Ok-pack_store.ensures.packed) st
+    c.in-Ok-pack_store.ensures.packed st
 
 pub returns-clause-safe : goal.returns-clause-safe
 returns-clause-safe g c =
@@ -94,11 +97,12 @@ returns-clause-safe g c =
     let d' = c.pack_store.new.disk in
     let l' = c.pack_store.new.log in
     let line = c.as_slice-line.result.now in
-    let snap = c.as_slice-snapshot.ensures ∙ c.in-Ok.ensures.snapshot in
+    let snap = c.as_slice-snapshot.result.now in
+    let made = subst (λ (x : List ℕ). a.is_snapshot t x) (sym c.as_slice-snapshot.ensures) c.in-Ok.ensures.snapshot in
     λ before st h.
     let stop = c.in-Err.stop in
-    safe_short held disk.content disk.images disk.moment disk.images_since hold a.snapshot_of a.count_of a.stands_for reads laws.version_stands laws.snapshot_stands laws.version_counts laws.snapshot_counts d d' before t version h (HoldsPayloads before) k k' l l' stop line
-    (subst (λ (x : List ℕ). Stops held disk.content disk.images disk.moment disk.images_since k d l k' d' l' stop [] [] [] (option_to_list version) ⊎ Stops held disk.content disk.images disk.moment disk.images_since k d l k' d' l' stop [] line (option_to_list version) (x ∷ [])) snap c.in-Err.ensures.stopped) st
+    safe_short held disk.content disk.images disk.moment disk.images_since disk.room hold a.is_snapshot a.count_of a.stands_for reads laws.version_stands laws.snapshot_stands laws.version_counts laws.snapshot_counts t snap made d d' before version h (HoldsPayloads before) k k' l l' stop line
+    c.in-Err.ensures.stopped st
 
 pub returns-clause-sink_fault : goal.returns-clause-sink_fault
 returns-clause-sink_fault g c =
@@ -126,35 +130,44 @@ returns-in_default-clause-exits g c =
     let disk = g.D.Disk in
     let k = c.args.sink.now in
     let d = c.args.disk.now in
-    λ before st. inr (unwritten_none disk.content disk.images d, (inr refl, Appends-nil (g.K.Sink.held k)))
+    λ before st h n. inr (unwritten_none disk.content disk.images d, ((inr refl, Appends-nil (g.K.Sink.held k)), λ e. cc))
 
 pub returns-in-Ok-pack_store-clause-exits : goal.returns-in-Ok-pack_store-clause-exits
 returns-in-Ok-pack_store-clause-exits g c =
     let disk = g.D.Disk in
     let held = g.K.Sink.held in
     let a = g.A.StoredSession in
+    let hold = images_held disk.content disk.images g.met.D.Disk.content_is_image in
+    let reads = reads_held disk.content disk.images in
+    let laws = g.met.A.StoredSession in
     let k = c.args.sink.now in
     let d = c.args.disk.now in
     let l = c.args.log.now in
     let t = a.state c.args.session.now in
-    let version = option_to_list c.args.version.now in
+    let version = c.args.version.now in
     let k' = c.pack_store.new.sink in
     let d' = c.pack_store.new.disk in
     let l' = c.pack_store.new.log in
     let line = c.as_slice-line.result.now in
-    let snap = c.as_slice-snapshot.ensures ∙ c.in-Ok.ensures.snapshot in
-    let says = c.as_slice-line.ensures ∙ c.in-Ok.ensures.line in
-    λ before st.
+    let snap = c.as_slice-snapshot.result.now in
+    let made = subst (λ (x : List ℕ). a.is_snapshot t x) (sym c.as_slice-snapshot.ensures) c.in-Ok.ensures.snapshot in
+    λ before st h n.
+    let says : line ≡ packed_line (a.count_of before) = c.as_slice-line.ensures ∙ c.in-Ok.ensures.line ∙ ap packed_line n in
     inl (record {
-      d1 = d;
-      log = l;
-      log' = l';
-      stands = st;
-      ends = inl (
-        refl,
-        subst (λ (y : List ℕ). Adds held disk.content disk.images disk.moment disk.images_since k d l k' d' l' y (version ++ a.snapshot_of t ∷ [])) says
-            (subst (λ (x : List ℕ). Adds held disk.content disk.images disk.moment disk.images_since k d l k' d' l' line (version ++ x ∷ [])) snap c.in-Ok-pack_store.ensures.packed),
-      );
+      snapshot = snap;
+      is = made;
+      ends = record {
+        d1 = d;
+        log = l;
+        log' = l';
+        opens = opening_none disk.content disk.images disk.moment disk.images_since disk.room g.met.D.Disk.only_now d;
+        stands = st;
+        ends = inl (
+          refl,
+          subst (λ (y : List ℕ). Adds held disk.content disk.images disk.moment disk.images_since disk.room k d l k' d' l' y (option_to_list version ++ snap ∷ [])) says c.in-Ok-pack_store.ensures.packed,
+        );
+      };
+      stand = each_stands held disk.content disk.images disk.moment disk.images_since disk.room hold a.is_snapshot a.count_of a.stands_for reads laws.version_stands laws.snapshot_stands laws.version_counts laws.snapshot_counts t snap made before version h;
     })
 
 pub returns-clause-exits : goal.returns-clause-exits
@@ -162,30 +175,44 @@ returns-clause-exits g c =
     let disk = g.D.Disk in
     let held = g.K.Sink.held in
     let a = g.A.StoredSession in
+    let hold = images_held disk.content disk.images g.met.D.Disk.content_is_image in
+    let reads = reads_held disk.content disk.images in
+    let laws = g.met.A.StoredSession in
     let k = c.args.sink.now in
     let d = c.args.disk.now in
     let l = c.args.log.now in
     let t = a.state c.args.session.now in
-    let version = option_to_list c.args.version.now in
+    let version = c.args.version.now in
     let k1 = c.pack_store.new.sink in
     let d' = c.pack_store.new.disk in
     let l' = c.pack_store.new.log in
     let stop = c.in-Err.stop in
     let line = c.as_slice-line.result.now in
-    let snap = c.as_slice-snapshot.ensures ∙ c.in-Ok.ensures.snapshot in
-    let says = c.as_slice-line.ensures ∙ c.in-Ok.ensures.line in
-    λ before st.
+    let snap = c.as_slice-snapshot.result.now in
+    let made = subst (λ (x : List ℕ). a.is_snapshot t x) (sym c.as_slice-snapshot.ensures) c.in-Ok.ensures.snapshot in
+    λ before st h n.
+    let says : line ≡ packed_line (a.count_of before) = c.as_slice-line.ensures ∙ c.in-Ok.ensures.line ∙ ap packed_line n in
     inl (record {
-      d1 = d;
-      log = l;
-      log' = l';
-      stands = st;
-      ends = inr (record {
-        k1 = k1;
-        stop = stop;
-        stops =
-            subst (λ (y : List ℕ). Stops held disk.content disk.images disk.moment disk.images_since k d l k1 d' l' stop [] [] [] version ⊎ Stops held disk.content disk.images disk.moment disk.images_since k d l k1 d' l' stop [] y version (a.snapshot_of t ∷ [])) says
-            (subst (λ (x : List ℕ). Stops held disk.content disk.images disk.moment disk.images_since k d l k1 d' l' stop [] [] [] version ⊎ Stops held disk.content disk.images disk.moment disk.images_since k d l k1 d' l' stop [] line version (x ∷ [])) snap c.in-Err.ensures.stopped);
-        status_is = c.give_stop.ensures.gives;
-      });
+      snapshot = snap;
+      is = made;
+      ends = record {
+        d1 = d;
+        log = l;
+        log' = l';
+        opens = opening_none disk.content disk.images disk.moment disk.images_since disk.room g.met.D.Disk.only_now d;
+        stands = st;
+        ends = inr (record {
+          k1 = k1;
+          stop = stop;
+          own = c.in-Err.ensures.own;
+          stops =
+              subst (λ (y : List ℕ). Stops held disk.content disk.images disk.moment disk.images_since disk.room k d l k1 d' l' stop [] [] [] (option_to_list version) ⊎ Stops held disk.content disk.images disk.moment disk.images_since disk.room k d l k1 d' l' stop [] y (option_to_list version) (snap ∷ [])) says
+              c.in-Err.ensures.stopped;
+          status_is = c.give_stop.ensures.gives;
+        });
+      };
+      stand = each_stands held disk.content disk.images disk.moment disk.images_since disk.room hold a.is_snapshot a.count_of a.stands_for reads laws.version_stands laws.snapshot_stands laws.version_counts laws.snapshot_counts t snap made before version h;
     })
+
+pub returns-clause-no_source : goal.returns-clause-no_source
+returns-clause-no_source g c = λ e. subst IsOwnStop (c.give_stop.ensures.source e) c.in-Err.ensures.own

@@ -1,4 +1,6 @@
-use Rattle.std.proofs.Common.{◌∷◌, [], sym, subst}
+use Rattle.std.proofs.Common.{◌∷◌, [], Err, ap, sym, subst}
+use Rattle.gate_log.specs.LogOnDisk.{LogState}
+use Rattle.gate_log.specs.declared.fault.LogFault.{LogFault}
 use Rattle.stored_run.specs.Effects.{Stops}
 use Rattle.stored_run.specs.declared.stop.Stop.{Stop}
 use Rattle.stored_run.proofs.Effects.{append_adds, append_stops, line_added, line_stopped}
@@ -13,8 +15,8 @@ returns-in-Ok-clause-stored g c =
     let only = g.met.D.Disk.only_now in
     let hold = images_held disk.content disk.images g.met.D.Disk.content_is_image in
     let payload = c.args.payload.now in
-    line_added g.K.Sink.held disk.content disk.images disk.moment disk.images_since only hold c.give_line.result c.args.sink.now c.give_line.new.sink c.args.disk.now c.append.new.disk c.args.log.now c.append.new.self c.args.line.now (payload ∷ [])
-    (append_adds g.K.Sink.held disk.content disk.images disk.moment disk.images_since only hold c.args.sink.now c.args.disk.now c.append.new.disk c.args.log.now c.append.new.self payload c.in-Ok.ensures.ends c.in-Ok.ensures.moments)
+    line_added g.K.Sink.held disk.content disk.images disk.moment disk.images_since disk.room only hold c.give_line.result c.args.sink.now c.give_line.new.sink c.args.disk.now c.append.new.disk c.args.log.now c.append.new.self c.args.line.now (payload ∷ [])
+    (append_adds g.K.Sink.held disk.content disk.images disk.moment disk.images_since disk.room only hold c.args.sink.now c.args.disk.now c.append.new.disk c.args.log.now c.append.new.self payload c.in-Ok.ensures.ends c.in-Ok.ensures.moments (ap (λ (x : LogState). x.gate) c.in-Ok.ensures.log) c.in-Ok.ensures.room)
     c.give_line.ensures.given
 
 pub returns-in-Ok-clause-stopped : goal.returns-in-Ok-clause-stopped
@@ -23,8 +25,8 @@ returns-in-Ok-clause-stopped g c =
     let only = g.met.D.Disk.only_now in
     let hold = images_held disk.content disk.images g.met.D.Disk.content_is_image in
     let payload = c.args.payload.now in
-    line_stopped g.K.Sink.held disk.content disk.images disk.moment disk.images_since only hold c.give_line.result c.args.sink.now c.give_line.new.sink c.args.disk.now c.append.new.disk c.args.log.now c.append.new.self c.args.line.now (payload ∷ [])
-    (append_adds g.K.Sink.held disk.content disk.images disk.moment disk.images_since only hold c.args.sink.now c.args.disk.now c.append.new.disk c.args.log.now c.append.new.self payload c.in-Ok.ensures.ends c.in-Ok.ensures.moments)
+    line_stopped g.K.Sink.held disk.content disk.images disk.moment disk.images_since disk.room only hold c.give_line.result c.args.sink.now c.give_line.new.sink c.args.disk.now c.append.new.disk c.args.log.now c.append.new.self c.args.line.now (payload ∷ [])
+    (append_adds g.K.Sink.held disk.content disk.images disk.moment disk.images_since disk.room only hold c.args.sink.now c.args.disk.now c.append.new.disk c.args.log.now c.append.new.self payload c.in-Ok.ensures.ends c.in-Ok.ensures.moments (ap (λ (x : LogState). x.gate) c.in-Ok.ensures.log) c.in-Ok.ensures.room)
     c.give_line.ensures.front
 
 pub returns-in-Ok-clause-counted : goal.returns-in-Ok-clause-counted
@@ -47,5 +49,6 @@ returns-in-Err-clause-stopped g c =
     let l' = c.append.new.self in
     let payload = c.args.payload.now in
     let line = c.args.line.now in
-    subst (λ (s : Stop). Stops held disk.content disk.images disk.moment disk.images_since k d l k d' l' s [] line [] (payload ∷ [])) (sym c.at_append.ensures.stop)
-    (append_stops held disk.content disk.images disk.moment disk.images_since only hold k d d' l l' payload line c.in-Err.fault c.requires.stands c.in-Err.ensures.ends c.in-Err.ensures.moments)
+    subst (λ (s : Stop). Stops held disk.content disk.images disk.moment disk.images_since disk.room k d l k d' l' s [] line [] (payload ∷ [])) (sym c.at_append.ensures.stop)
+    (append_stops held disk.content disk.images disk.moment disk.images_since disk.room only hold k d d' l l' payload line c.in-Err.fault c.requires.stands c.in-Err.ensures.ends c.in-Err.ensures.moments
+    (λ e. c.in-Err.ensures.full.0 (ap (λ (x : LogFault). Err x) e)) (λ e. c.in-Err.ensures.sure (ap (λ (x : LogFault). Err x) e)))

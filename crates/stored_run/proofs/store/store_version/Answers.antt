@@ -1,4 +1,6 @@
-use Rattle.std.proofs.Common.{◌≡◌, ◌∷◌, [], List, ℕ, Option, Some, sym, subst, ap, ◌∙◌}
+use Rattle.std.proofs.Common.{◌≡◌, ◌∷◌, [], List, ℕ, Option, Some, Err, sym, subst, ap, ◌∙◌}
+use Rattle.gate_log.specs.LogOnDisk.{LogState}
+use Rattle.gate_log.specs.declared.fault.LogFault.{LogFault}
 use Rattle.std.specs.Prelude.{option_to_list}
 use Rattle.stored_run.specs.Effects.{Adds, Stops}
 use Rattle.stored_run.specs.declared.stop.Stop.{Stop}
@@ -19,8 +21,8 @@ returns-in-Ok-clause-stored g c =
     let l' = c.append.new.self in
     let payload = c.as_slice.result.now in
     let is : c.args.version.now ≡ Some payload = c.in-Some.is ∙ ap (λ (x : List ℕ). Some x) (sym c.as_slice.ensures) in
-    subst (λ (o : Option (List ℕ)). Adds held disk.content disk.images disk.moment disk.images_since k d l k d' l' [] (option_to_list o)) (sym is)
-    (append_adds held disk.content disk.images disk.moment disk.images_since only hold k d d' l l' payload c.in-Ok.ensures.ends c.in-Ok.ensures.moments)
+    subst (λ (o : Option (List ℕ)). Adds held disk.content disk.images disk.moment disk.images_since disk.room k d l k d' l' [] (option_to_list o)) (sym is)
+    (append_adds held disk.content disk.images disk.moment disk.images_since disk.room only hold k d d' l l' payload c.in-Ok.ensures.ends c.in-Ok.ensures.moments (ap (λ (x : LogState). x.gate) c.in-Ok.ensures.log) c.in-Ok.ensures.room)
 
 pub returns-in-Err-clause-stopped : goal.returns-in-Err-clause-stopped
 returns-in-Err-clause-stopped g c =
@@ -35,9 +37,10 @@ returns-in-Err-clause-stopped g c =
     let l' = c.append.new.self in
     let payload = c.as_slice.result.now in
     let is : c.args.version.now ≡ Some payload = c.in-Some.is ∙ ap (λ (x : List ℕ). Some x) (sym c.as_slice.ensures) in
-    subst (λ (o : Option (List ℕ)). Stops held disk.content disk.images disk.moment disk.images_since k d l k d' l' c.at_append.result [] [] [] (option_to_list o)) (sym is)
-    (subst (λ (s : Stop). Stops held disk.content disk.images disk.moment disk.images_since k d l k d' l' s [] [] [] (payload ∷ [])) (sym c.at_append.ensures.stop)
-    (append_stops held disk.content disk.images disk.moment disk.images_since only hold k d d' l l' payload [] c.in-Err.fault c.requires.stands c.in-Err.ensures.ends c.in-Err.ensures.moments))
+    subst (λ (o : Option (List ℕ)). Stops held disk.content disk.images disk.moment disk.images_since disk.room k d l k d' l' c.at_append.result [] [] [] (option_to_list o)) (sym is)
+    (subst (λ (s : Stop). Stops held disk.content disk.images disk.moment disk.images_since disk.room k d l k d' l' s [] [] [] (payload ∷ [])) (sym c.at_append.ensures.stop)
+    (append_stops held disk.content disk.images disk.moment disk.images_since disk.room only hold k d d' l l' payload [] c.in-Err.fault c.requires.stands c.in-Err.ensures.ends c.in-Err.ensures.moments
+    (λ e. c.in-Err.ensures.full.0 (ap (λ (x : LogFault). Err x) e)) (λ e. c.in-Err.ensures.sure (ap (λ (x : LogFault). Err x) e))))
 
 pub returns-in-None-clause-stored : goal.returns-in-None-clause-stored
 returns-in-None-clause-stored g c =
@@ -48,5 +51,5 @@ returns-in-None-clause-stored g c =
     let k = c.args._sink.now in
     let d = c.args.disk.now in
     let l = c.args.log.now in
-    subst (λ (o : Option (List ℕ)). Adds held disk.content disk.images disk.moment disk.images_since k d l k d l [] (option_to_list o)) (sym c.in-None.is)
-    (adds_none held disk.content disk.images disk.moment disk.images_since only hold k d l)
+    subst (λ (o : Option (List ℕ)). Adds held disk.content disk.images disk.moment disk.images_since disk.room k d l k d l [] (option_to_list o)) (sym c.in-None.is)
+    (adds_none held disk.content disk.images disk.moment disk.images_since disk.room only hold k d l)

@@ -1,4 +1,4 @@
-use Rattle.std.proofs.Common.{inr, ℕ, List, Option, subst}
+use Rattle.std.proofs.Common.{inl, inr, ℕ, List, Option, subst}
 use Rattle.stored_run.specs.ViewCall.{Views, view_text}
 use Rattle.stored_run.proofs.Openings.{payloads_refused, payloads_stand, never_refused}
 use Rattle.stored_run.proofs.Outcomes.{same_ok}
@@ -46,3 +46,6 @@ returns-in-Err-clause-refused g c =
 
 pub returns-in-Err-clause-no_disk : goal.returns-in-Err-clause-no_disk
 returns-in-Err-clause-no_disk g c = λ e. at_payloads_deviceless (g.K.Sink.held c.args.sink.now) (g.K.Sink.held c.refuse_payloads.new.sink) c.refuse_payloads.result c.in-Err.fault c.refuse_payloads.ensures.ends (inr e)
+
+pub returns-in-Err-clause-no_source : goal.returns-in-Err-clause-no_source
+returns-in-Err-clause-no_source g c = λ e. at_payloads_deviceless (g.K.Sink.held c.args.sink.now) (g.K.Sink.held c.refuse_payloads.new.sink) c.refuse_payloads.result c.in-Err.fault c.refuse_payloads.ensures.ends (inl e)

@@ -3,11 +3,12 @@ use Rattle.gate_log.specs.LogBytes.{payloads, log_of}
 use Rattle.gate_log.specs.LogOnDisk.{HoldsPayloads, Stands}
 use Rattle.gate_log.specs.declared.fault.LogFault.{LogFault}
 use Rattle.stored_run.specs.Refusals.{refusal_of_log}
+use Rattle.std.specs.Prelude.{Option, IsNone}
 use Rattle.stored_run.proofs.ApplyCalls.{same_held, only_disk}
 use Rattle.stored_run.proofs.Causes.{increased_since}
 use Rattle.stored_run.proofs.Moments.{leaves_then}
 use Rattle.stored_run.proofs.Openings.{at_content, unwritten_then, log_refused}
-use Rattle.stored_run.proofs.RefusalEnds.{at_disk_fault, at_log_disk}
+use Rattle.stored_run.proofs.RefusalEnds.{at_disk_fault, at_log_disk, at_log_sourceless}
 use Rattle.stored_run.proofs.view_call.view_store.Goals as goal
 
 pub returns-in-Ok-clause-views : goal.returns-in-Ok-clause-views
@@ -80,3 +81,12 @@ returns-in-Ok-clause-disk_fault g c =
 
 pub returns-in-Err-clause-disk_fault : goal.returns-in-Err-clause-disk_fault
 returns-in-Err-clause-disk_fault g c = λ e. c.in-Err.ensures.cause (ap (λ (x : LogFault). Err x) (at_log_disk (g.K.Sink.held c.args.sink.now) (g.K.Sink.held c.refuse_log.new.sink) c.refuse_log.result c.in-Err.fault c.refuse_log.ensures.ends e))
+
+pub returns-in-Err-clause-no_source : goal.returns-in-Err-clause-no_source
+returns-in-Err-clause-no_source g c = λ e. at_log_sourceless (g.K.Sink.held c.args.sink.now) (g.K.Sink.held c.refuse_log.new.sink) c.refuse_log.result c.in-Err.fault c.refuse_log.ensures.ends e
+
+pub returns-in-Ok-clause-sure : goal.returns-in-Ok-clause-sure
+returns-in-Ok-clause-sure g c = λ e. subst (λ (o : Option ℕ). IsNone o) c.in-Ok.ensures.room (c.view_log.ensures.sure e)
+
+pub returns-in-Err-clause-sure : goal.returns-in-Err-clause-sure
+returns-in-Err-clause-sure g c = λ e. c.in-Err.ensures.sure (ap (λ (x : LogFault). Err x) (at_log_disk (g.K.Sink.held c.args.sink.now) (g.K.Sink.held c.refuse_log.new.sink) c.refuse_log.result c.in-Err.fault c.refuse_log.ensures.ends e))
