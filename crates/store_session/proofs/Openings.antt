@@ -1,0 +1,55 @@
+-- What was opened, in the words of a store.
+use Rattle.std.proofs.Common.{◌≡◌, ℕ, List, [], ◌∷◌, Option, Some, None, option_map, Result, Ok, Err, refl, sym, ap, subst, ◌∙◌}
+use Rattle.std.specs.Prelude.{IfOk, MatchResult}
+use Rattle.lens_forms.specs.Forms.{FormTree}
+use Rattle.edit_session.specs.Step.{TripleTree}
+use Rattle.stored_records.specs.Outcomes.{IsBadFirst}
+use Rattle.stored_records.specs.StoredLens.{lens_and_version, stored_form}
+use Rattle.stored_records.specs.declared.fault.ReopenFault.{ReopenFault as RecordFault}
+use Rattle.stored_records.specs.declared.fault.ReopenFault.TheVariants as of_records
+use Rattle.stored_run.specs.Reopening.{IsReopenFault}
+use Rattle.stored_run.specs.declared.session.ReopenFault.{ReopenFault}
+use Rattle.stored_run.specs.declared.session.ReopenFault.TheVariants as of_stores
+use Rattle.stored_sessions.specs.Outcomes.{IsReopenFault as IsRecordFault}
+use Rattle.stored_sessions.specs.Stands.{Standing, from_opening, stands}
+use Rattle.stored_sessions.specs.Views.{standing}
+use Rattle.store_session.specs.StoredStates.{StoredState, state_with, version_for, fault_of, opened_as, stands_for, counted, count_of}
+
+no_opening : (ps : List (List ℕ)) (o : Option (FormTree × ℕ)) → option_map {U = FormTree} (λ (x : FormTree × ℕ). x.0) o ≡ None
+    → from_opening ps o ≡ Err (of_records.BadRecord 1)
+no_opening ps (Some x) h = cc
+no_opening ps None h = refl
+
+no_lens : (ps : List (List ℕ)) → stored_form ps ≡ None → stands ps ≡ Err (of_records.BadRecord 1)
+no_lens [] h = refl
+no_lens (p ∷ ps) h = no_opening ps (lens_and_version p) h
+
+-- a store without a lens stands for nothing
+pub bad_first : (ps : List (List ℕ)) (fault : RecordFault) → IsBadFirst (stored_form ps) fault → IsRecordFault (stands ps) fault
+bad_first ps (of_records.BadRecord number) h = no_lens ps h.1 ∙ ap (λ n. Err (of_records.BadRecord n)) (sym h.0)
+bad_first ps (of_records.NotConsistent number) h = absurd h
+bad_first ps of_records.NoMemory h = tt
+
+-- the fault of the records is that of the store
+pub fault_stands : (ps : List (List ℕ)) (fault : RecordFault) (x : ReopenFault) → IsRecordFault (stands ps) fault → x ≡ fault_of fault → IsReopenFault (stands_for ps) x
+fault_stands ps (of_records.BadRecord number) x h e = subst (IsReopenFault (stands_for ps)) (sym e) (ap opened_as h)
+fault_stands ps (of_records.NotConsistent number) x h e = subst (IsReopenFault (stands_for ps)) (sym e) (ap opened_as h)
+fault_stands ps of_records.NoMemory x h e = subst (IsReopenFault (stands_for ps)) (sym e) tt
+
+-- and so is what was opened
+abbrev opened_to : FormTree → TripleTree → Option (List ℕ) → Result (StoredState × Option (List ℕ)) ReopenFault
+opened_to l t v = Ok (state_with l t, v)
+
+pub opened_stands : (ps : List (List ℕ)) (l : FormTree) (t : TripleTree) (count number : ℕ) (version : Option (List ℕ)) → stands ps ≡ Ok (standing l t count number)
+    → version ≡ version_for number → stands_for ps ≡ Ok (state_with l t, version)
+opened_stands ps l t count number version h e =
+    ap opened_as h ∙ ap (λ (v : Option (List ℕ)). opened_to l t v) (sym e)
+
+pub opened_counts : (ps : List (List ℕ)) (l : FormTree) (t : TripleTree) (count number : ℕ) → stands ps ≡ Ok (standing l t count number) → count ≡ count_of ps
+opened_counts ps l t count number h = sym (ap counted h)
+
+-- what holds with the form of a lens holds with that of the lens that was compiled
+pub with_own_form : {O E : Type 0} (r : Result O E) (P : O → FormTree → Type 0) (Q : E → Type 0) (form : O → FormTree) (l : FormTree)
+    → MatchResult r (λ o. P o l) Q → IfOk r (λ o. form o ≡ l) → MatchResult r (λ o. P o (form o)) Q
+with_own_form (Ok o) P Q form l h e = subst (P o) (sym e) h
+with_own_form (Err fault) P Q form l h e = h

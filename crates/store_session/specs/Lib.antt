@@ -1,0 +1,9 @@
+pub mod StoredStates
+pub mod Views
+pub mod Journals
+pub mod AnswerSteps
+pub mod StoodInduction
+pub mod TypedStores
+pub mod VersionsOfStores
+pub mod VersionRecords
+pub mod PayloadLaws

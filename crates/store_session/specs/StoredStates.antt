@@ -1,0 +1,115 @@
+-- A session of the program as a store has it: its state, what payloads stand for, and the answer to a line.
+-- In order: `StoredState`, `stands_for` and `count_of`, `answer` with `IsStep`, and `state_text` with `IsSnapshot`.
+use Rattle.std.specs.Prelude.{◌≡◌, ℕ, List, true, Option, Some, None, option_map, Result, Ok, Err, if◌then◌else◌, nat_eq, IfSome}
+use Rattle.serde_json.specs.Written.{compact_text}
+use Rattle.value_json.specs.DocumentJson.{holds_i64s}
+use Rattle.edit_module.specs.Changes.{ChangeTree}
+use Rattle.edit_journal.specs.EntryJson.{change_of_line, tree_of_text}
+use Rattle.edit_journal.specs.declared.line.Line.{Line}
+use Rattle.edit_session.specs.Step.{TripleTree}
+use Rattle.edit_session.specs.Run.{is_refused, take_item}
+use Rattle.journal_answers.specs.Answers as lines
+use Rattle.journal_answers.specs.Runs.{JournalItem, JournalAnswer, IsInStepFor}
+use Rattle.lens_core.specs.Translation.{translate}
+use Rattle.lens_forms.specs.Forms.{FormTree, left_type, right_type}
+use Rattle.stored_records.specs.RecordJson.{tree_of_version, tree_of_change_record, tree_of_snapshot}
+use Rattle.stored_records.specs.declared.fault.ReopenFault.{ReopenFault as RecordFault}
+use Rattle.stored_records.specs.declared.fault.ReopenFault.TheVariants as of_records
+use Rattle.stored_run.specs.declared.session.Answer.{Answer}
+use Rattle.stored_run.specs.declared.session.ReopenFault.{ReopenFault}
+use Rattle.stored_run.specs.declared.session.ReopenFault.TheVariants as of_stores
+use Rattle.stored_sessions.specs.Stands.{Standing, stands}
+
+-- the form of the lens, and the triple
+pub record StoredState : Type 0 where
+  pub form : FormTree
+  pub triple : TripleTree
+
+-- the state of a form with a triple, and the state of what stands
+abbrev pub state_with : FormTree → TripleTree → StoredState
+state_with l t = record { form = l; triple = t }
+
+abbrev pub state_of : Standing → StoredState
+state_of s = state_with s.form s.triple
+
+-- ---- what payloads stand for
+
+-- the record that makes a store one of version 2
+abbrev pub version_text : List ℕ
+version_text = compact_text tree_of_version
+
+-- a store of version 1 has still to get that record
+abbrev pub version_for : ℕ → Option (List ℕ)
+version_for version = if nat_eq version 1 then Some version_text else None
+
+-- the fault in the words of a store
+abbrev pub fault_of : RecordFault → ReopenFault
+fault_of (of_records.BadRecord number) = of_stores.BadRecord number
+fault_of (of_records.NotConsistent number) = of_stores.NotConsistent number
+fault_of of_records.NoMemory = of_stores.NoMemory
+
+abbrev pub opened_as : Result Standing RecordFault → Result (StoredState × Option (List ℕ)) ReopenFault
+opened_as (Ok s) = Ok (state_of s, version_for s.version)
+opened_as (Err fault) = Err (fault_of fault)
+
+-- the state for which payloads stand, with the version record if it is not among them
+abbrev pub stands_for : List (List ℕ) → Result (StoredState × Option (List ℕ)) ReopenFault
+stands_for payloads = opened_as (stands payloads)
+
+abbrev pub counted : Result Standing RecordFault → ℕ
+counted (Ok s) = s.count
+counted (Err fault) = 0
+
+-- how many payloads are of changes
+abbrev pub count_of : List (List ℕ) → ℕ
+count_of payloads = counted (stands payloads)
+
+-- ---- the answer to a line
+
+-- the payload of a change
+abbrev pub change_text : ChangeTree → List ℕ
+change_text change = compact_text (tree_of_change_record change)
+
+-- a change that was accepted has a payload; an item that was refused has none
+abbrev pub payload_of : JournalItem → JournalAnswer → Option (List ℕ)
+payload_of (Ok change) answer = if is_refused answer then None else Some (change_text change)
+payload_of (Err fault) answer = None
+
+-- the step of the session's lens by an item, with the answer to it
+abbrev pub taken : StoredState → JournalItem → Option (TripleTree × JournalAnswer)
+taken s item = take_item (left_type s.form) (right_type s.form) (translate s.form) s.triple item
+
+-- the answer to the item with this number, as a store has it
+abbrev pub stored_answer : ℕ → JournalItem → JournalAnswer → Answer
+stored_answer n item answer = record { line = lines.answer_line n answer; payload = payload_of item answer }
+
+-- what the item with this number makes of a state: the next state, and the answer
+abbrev pub answer_item : StoredState → ℕ → JournalItem → Option (StoredState × Answer)
+answer_item s n item = option_map (λ step. (state_with s.form step.0, stored_answer n item step.1)) (taken s item)
+
+-- the same of the line with this number
+abbrev pub answer : StoredState → ℕ → Line → Option (StoredState × Answer)
+answer s n line = answer_item s n (change_of_line line)
+
+-- the payload is read back as the record of the change that the item is
+abbrev pub ReadsAsChange : JournalItem → List ℕ → Type 0
+ReadsAsChange (Ok change) payload = tree_of_text payload ≡ Some (tree_of_change_record change)
+ReadsAsChange (Err fault) payload = ⊥
+
+-- what is known of the step by this line: if it has a payload, that is read back as the record of its change
+abbrev pub IsStep : StoredState → ℕ → Line → StoredState × Answer → Type 0
+IsStep s n line made = IfSome made.1.payload (ReadsAsChange (change_of_line line))
+
+-- ---- the other texts
+
+-- the state lines
+abbrev pub state_text : StoredState → List ℕ
+state_text s = lines.state_lines s.form s.triple
+
+-- The payload is a snapshot of the state: it is read back as the record of the state's triple. The triple is consistent, and its
+-- ints are i64, as all ints of the program.
+pub record IsSnapshot (s : StoredState) (payload : List ℕ) : Type 0 where
+  pub reads : tree_of_text payload ≡ Some (tree_of_snapshot s.form s.triple.left s.triple.comp s.triple.right)
+  pub consistent : IsInStepFor s.form s.triple
+  pub left_whole : holds_i64s s.triple.left ≡ true
+  pub right_whole : holds_i64s s.triple.right ≡ true
