@@ -1,5 +1,5 @@
 //! The program part of a script that is read in pieces.
-ghost use Rattle.std.specs.Prelude.{◌≡◌, ◌<◌, ◌≤◌, ◌++◌, true, [], length, List, ℕ, IfOk, IfErr, IsErrOf, MatchResult, Ok};
+ghost use Rattle.std.specs.Prelude.{◌≡◌, ◌<◌, ◌≤◌, ◌++◌, true, [], length, List, ℕ, IfOk, IfErr, IfSome, IsErrOf, MatchResult, Ok};
 ghost use Rattle.lens_forms.specs.Forms.{form_tree};
 ghost use Rattle.lens_io.specs.Causes.{Increased};
 ghost use Rattle.edit_journal.specs.Lines.{line_of};
@@ -64,6 +64,16 @@ impl ProgramText {
         self.text.extend_from_slice(end)?;
         self.is_long = self.text.len() > LONGEST;
         Ok(())
+    }
+
+    /// The text of the program part, unless that is too long. Does not allocate.
+    pub fn text(&self) -> Option<&[u8]>
+        ensures { (part : List ℕ) → HoldsPart self.now part → IfSome result (λ text. text.now ≡ part) }
+    {
+        if self.is_long {
+            return None;
+        }
+        Some(&self.text)
     }
 
     /// The lens of the program part, or why it is refused: by `ProgramTooLong` if and only if it has more than 65,536 bytes,

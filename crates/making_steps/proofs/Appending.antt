@@ -1,0 +1,76 @@
+-- The storing of payloads in an empty log, and how it stops.
+use Rattle.std.proofs.Common.{◌≡◌, ◌⊎◌, inl, inr, ℕ, suc, ◌+◌, ◌-◌, ◌^◌, ◌<◌, List, [], ◌∷◌, ◌++◌, length, drop, get_or, drop-cons, add-one, Option, Some, Err, IfSome, refl, sym, ap, subst, ◌∙◌, append_assoc, append-nil, arith}
+use Rattle.gate_log.specs.CallEnds.{AppendEnds}
+use Rattle.gate_log.specs.LogBytes.{closed_gate, records_length}
+use Rattle.gate_log.specs.LogOnDisk.{LogState, Stands}
+use Rattle.gate_log.specs.declared.fault.LogFault.{LogFault}
+use Rattle.gate_log.specs.declared.fault.LogFault.TheVariants as log
+use Rattle.stored_run.proofs.StoredPayloads.{images_held}
+use Rattle.making_steps.specs.Making.{StopsAppending}
+use Rattle.making_steps.specs.Stores.{IsTooLong, HoldsStore, HoldsFirst}
+
+pub records_joined : (front rest : List (List ℕ)) → records_length (front ++ rest) ≡ records_length front + records_length rest
+records_joined [] rest = omega arith
+records_joined (payload ∷ front) rest = omega (arith, records_joined front rest)
+
+-- there is no room for one more payload
+pub too_long : (front rest : List (List ℕ)) (payload : List ℕ) (gate : ℕ) → gate ≡ closed_gate front → 2 ^ 63 - 1 < gate + 10 + length payload → IsTooLong (front ++ payload ∷ rest)
+too_long front rest payload gate at full = omega (arith, at, full, records_joined front (payload ∷ rest))
+
+module _ {D : Type 0} (content : D → Option (List ℕ)) (images : D → List ℕ → Type 0) where
+  -- the first of the payloads are stored, and these are left
+  pub record Stored (d : D) (l : LogState) (payloads rest : List (List ℕ)) : Type 0 where
+    pub front : List (List ℕ)
+    pub parts : payloads ≡ front ++ rest
+    pub stands : Stands (content d) (images d) l front
+    pub gate : l.gate ≡ closed_gate front
+
+  pub none_stored : (d : D) (l : LogState) (payloads rest : List (List ℕ)) → rest ≡ payloads → Stands (content d) (images d) l [] → l.gate ≡ 8 → Stored d l payloads rest
+  none_stored d l payloads rest same stands gate = record { front = []; parts = sym same; stands = stands; gate = gate }
+
+  pub all_stored : (d : D) (l : LogState) (payloads rest : List (List ℕ)) → Stored d l payloads rest → rest ≡ [] → Stands (content d) (images d) l payloads
+  all_stored d l payloads rest s none = subst (Stands (content d) (images d) l) (sym (s.parts ∙ ap (λ r. s.front ++ r) none ∙ append-nil s.front)) s.stands
+
+  -- one more payload is stored
+  pub one_more : (d d' : D) (l l' : LogState) (payloads records : List (List ℕ)) (i : ℕ) (payload : List ℕ) → i < length records → payload ≡ get_or records i payload
+      → (s : Stored d l payloads (drop i records))
+      → ((held : List (List ℕ)) → Stands (content d) (images d) l held → Stands (content d') (images d') l' (held ++ payload ∷ []))
+      → l'.gate ≡ l.gate + 9 + length payload
+      → Stored d' l' payloads (drop (i + 1) records)
+  one_more d d' l l' payloads records i payload some is s stands gate =
+      let next : drop i records ≡ payload ∷ drop (i + 1) records = drop-cons records i payload some ∙ ap (λ p. p ∷ drop (suc i) records) (sym is) ∙ ap (λ n. payload ∷ drop n records) (sym (add-one i)) in
+      record {
+        front = s.front ++ payload ∷ [];
+        parts = s.parts ∙ ap (λ r. s.front ++ r) next ∙ sym (append_assoc s.front (payload ∷ []) (drop (i + 1) records));
+        stands = stands s.front s.stands;
+        gate = omega (arith, gate, s.gate, records_joined s.front (payload ∷ []));
+      }
+
+  module _ (known : (d : D) (c : List ℕ) → images d c → (bytes : List ℕ) × (content d ≡ Some bytes) × images d bytes) where
+    pub holds : (d : D) (l : LogState) (held : List (List ℕ)) → Stands (content d) (images d) l held → HoldsStore content images d held
+    holds d l held s = record { read = s.read; crash = λ c now. images_held content images known l d held c s now }
+
+    first_held : (d : D) (l : LogState) (front rest : List (List ℕ)) (payload : List ℕ) → Stands (content d) (images d) l front → HoldsFirst content images d (front ++ payload ∷ rest)
+    first_held d l front rest payload s = record { front = front; rest = payload ∷ rest; parts = refl; some = omega arith; holds = holds d l front s }
+
+    stops_behind : (d : D) (l : LogState) (gate : ℕ) (front rest : List (List ℕ)) (payload : List ℕ) (fault : LogFault)
+        → AppendEnds (Stands (content d) (images d) l) (images d) front payload (Err fault) → gate ≡ closed_gate front
+        → (fault ≡ log.LogFull → 2 ^ 63 - 1 < gate + 10 + length payload)
+        → StopsAppending content images d (front ++ payload ∷ rest) fault
+    stops_behind d l gate front rest payload log.LogFull ends at full = (too_long front rest payload gate at (full refl), first_held d l front rest payload ends)
+    stops_behind d l gate front rest payload log.NoMemory ends at full = first_held d l front rest payload ends
+    stops_behind d l gate front rest payload log.DiskFault ends at full = tt
+    stops_behind d l gate front rest payload log.NotALog ends at full = ends
+    stops_behind d l gate front rest payload (log.BadRecord number) ends at full = ends
+    stops_behind d l gate front rest payload log.LogExists ends at full = ends
+
+    -- the storing stopped at this payload
+    pub stopped : (d d' : D) (l l' : LogState) (payloads records : List (List ℕ)) (i : ℕ) (payload : List ℕ) (fault : LogFault) → i < length records → payload ≡ get_or records i payload
+        → (s : Stored d l payloads (drop i records))
+        → ((held : List (List ℕ)) → Stands (content d) (images d) l held → AppendEnds (Stands (content d') (images d') l') (images d') held payload (Err fault))
+        → (fault ≡ log.LogFull → 2 ^ 63 - 1 < l.gate + 10 + length payload)
+        → StopsAppending content images d' payloads fault
+    stopped d d' l l' payloads records i payload fault some is s ends full =
+        let next : drop i records ≡ payload ∷ drop (suc i) records = drop-cons records i payload some ∙ ap (λ p. p ∷ drop (suc i) records) (sym is) in
+        let parts : payloads ≡ s.front ++ payload ∷ drop (suc i) records = s.parts ∙ ap (λ r. s.front ++ r) next in
+        subst (λ (ps : List (List ℕ)). StopsAppending content images d' ps fault) (sym parts) (stops_behind d' l' l.gate s.front (drop (suc i) records) payload fault (ends s.front s.stands) s.gate full)

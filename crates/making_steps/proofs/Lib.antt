@@ -1,0 +1,4 @@
+pub mod Appending
+pub mod Commands
+pub mod MakingEnds
+pub mod Reading

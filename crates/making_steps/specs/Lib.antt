@@ -1,0 +1,6 @@
+pub mod Ends
+pub mod Helpers
+pub mod Making
+pub mod Reading
+pub mod Scripts
+pub mod Stores

@@ -1,0 +1,2 @@
+pub mod FormLenses
+pub mod InitEnds

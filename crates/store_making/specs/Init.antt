@@ -1,0 +1,51 @@
+-- What the command `init` makes of a script. Read it from the end: `Starts`, then `Begins`.
+use Rattle.std.specs.Prelude.{◌≡◌, ℕ, ◌≤◌, List, [], ◌∷◌, length, IfSome, Ok}
+use Rattle.std.specs.declared.option.Option.{Option}
+use Rattle.std.specs.Io.KnownBytes.{Appends, Consumes, IsAtEnd}
+use Rattle.serde_json.specs.Written.{compact_text}
+use Rattle.lens_forms.specs.Forms.{FormTree}
+use Rattle.journal_answers.specs.Answers.{state_lines}
+use Rattle.journal_answers.specs.Runs.{first_of}
+use Rattle.journal_input.specs.declared.limits.TheConstants.{MOST_BYTES}
+use Rattle.program_terms.specs.Terms.{ProgramTree}
+use Rattle.program_writing.specs.Canonical.{canonical}
+use Rattle.script_parts.specs.Lines.{program_part}
+use Rattle.stored_records.specs.RecordJson.{tree_of_program}
+use Rattle.stored_sessions.specs.Stands.{at_start, stands}
+use Rattle.making_steps.specs.Scripts.{IsAccepted, RefusesPart}
+use Rattle.making_steps.specs.Stores.{HoldsStore}
+use Rattle.making_steps.specs.declared.status.MakingStatus.{MakingStatus}
+use Rattle.making_steps.specs.declared.status.MakingStatus.TheVariants.{ProgramRefused}
+
+-- the payload of a program: its canonical text, in a store of version 2
+abbrev pub program_payload : ProgramTree → List ℕ
+program_payload program = compact_text (tree_of_program (canonical program))
+
+-- `init` refuses a script only for its program part
+abbrev pub Refuses : Option (List ℕ) → List ℕ → MakingStatus → List ℕ → Type 0
+Refuses left' bytes refusing line = (refusing ≡ ProgramRefused) × RefusesPart left' bytes line
+
+-- The store of a script whose program part is accepted: the payload of its program alone, of version 2. The lines are the state lines
+-- of the first triple of its lens, and the payload stands for that triple.
+pub record Begins (bytes : List ℕ) (payloads : List (List ℕ)) (lines : List ℕ) : Type 0 where
+  pub program : ProgramTree
+  pub form : FormTree
+  pub accepted : IsAccepted (program_part bytes) program form
+  pub are : payloads ≡ program_payload program ∷ []
+  pub written : lines ≡ state_lines form (first_of form)
+  pub stand : stands payloads ≡ Ok (at_start (form, 2))
+
+-- The source was read to its end, and gave these bytes. The disk was empty, and holds the payload of the program alone. The state lines
+-- of the first triple were written, for which the payload stands.
+pub record Starts {D : Type 0} (content : D → Option (List ℕ)) (images : D → List ℕ → Type 0) (left left' held held' : Option (List ℕ)) (d d' : D) : Type 0 where
+  pub bytes : List ℕ
+  pub consumes : Consumes left left' bytes
+  pub at_end : IsAtEnd left'
+  pub within : length bytes ≤ MOST_BYTES
+  pub was_empty : IfSome (content d) (λ before. length before ≡ 0)
+  pub program : ProgramTree
+  pub form : FormTree
+  pub accepted : IsAccepted (program_part bytes) program form
+  pub stored : HoldsStore content images d' (program_payload program ∷ [])
+  pub given : Appends held held' (state_lines form (first_of form))
+  pub stand : stands (program_payload program ∷ []) ≡ Ok (at_start (form, 2))
