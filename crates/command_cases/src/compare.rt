@@ -5,20 +5,23 @@ ghost use Rattle.std.specs.Prelude.{◌≡◌, ◌↔◌, ◌<◌, All, IsTrue};
 use crate::step::Step;
 use anyhow::{Result, bail};
 use editlens_main::editlens;
-use lens_io::{Bytes, MemSink, MemSource};
+use lens_io::{Bytes, MemDisk, MemSink, MemSource};
 use std::alloc::{AllocError, Global};
 
-/// What a command wrote, and its exit code.
+/// What a command wrote, its exit code, and what the store has after it.
 #[derive(Drop)]
 pub struct Outcome {
     pub status: u8,
     pub output: Vec<u8>,
+    pub store: Vec<u8>,
 }
 
 impl Outcome {
-    /// Whether the status and the output are those that the step wants.
+    /// Whether the status, the output and the store are those that the step wants.
     pub fn agrees(&self, step: &Step) -> bool {
-        self.status as u64 == step.head.status && self.output.as_slice() == step.output.as_slice()
+        self.status as u64 == step.head.status
+            && self.output.as_slice() == step.output.as_slice()
+            && self.store.as_slice() == step.store_after.as_slice()
     }
 }
 
@@ -44,13 +47,16 @@ fn run_in_pieces(alloc: Global, step: &Step, pieces: Vec<u64>) -> Result<Outcome
         step.head.takes.clone()?,
         step.head.sink_fails.clone()?,
     );
-    let status = editlens(alloc, &step.head.words, &mut source, &mut sink);
-    if sink.memory_faults() > 0 {
-        bail!("the output does not fit in memory");
+    let store = Bytes::from_vec(step.store_before.clone()?);
+    let mut disk = MemDisk::new(alloc, store, Vec::new(alloc))?;
+    let status = editlens(alloc, &step.head.words, &mut source, &mut sink, &mut disk);
+    if sink.memory_faults() > 0 || disk.memory_faults() > 0 {
+        bail!("the output or the store does not fit in memory");
     }
     Ok(Outcome {
         status: status.code(),
         output: sink.bytes().to_vec(alloc)?,
+        store: disk.bytes().to_vec(alloc)?,
     })
 }
 
@@ -73,7 +79,26 @@ pub fn write_difference(
     let heading = format!(in alloc; "case {case}, step {number}, words {words:?}\n")?;
     into.extend_from_slice(heading.as_bytes())?;
     write_outcome(alloc, into, "wanted", step.head.status, &step.output)?;
-    write_outcome(alloc, into, "came", outcome.status as u64, &outcome.output)
+    write_outcome(alloc, into, "came", outcome.status as u64, &outcome.output)?;
+    if outcome.store.as_slice() == step.store_after.as_slice() {
+        return Ok(());
+    }
+    write_store(alloc, into, "wanted", &step.store_after)?;
+    write_store(alloc, into, "came", &outcome.store)
+}
+
+// A store, under a label.
+fn write_store(
+    alloc: Global,
+    into: &mut Vec<u8>,
+    label: &str,
+    store: &[u8],
+) -> Result<(), AllocError> {
+    let count = store.len();
+    let heading = format!(in alloc; "{label} a store of {count} bytes:\n")?;
+    into.extend_from_slice(heading.as_bytes())?;
+    into.extend_from_slice(store)?;
+    into.extend_from_slice(b"\n".as_slice())
 }
 
 // A status and an output, under a label.

@@ -2,7 +2,7 @@
 //!
 //! Words: the files, which lie in the folder where the program runs. Each gives one line, as `commands: 90 cases, 0 differ`.
 //! Above it is what was wanted and what came for the first steps that differ. docs/CASES.md has the form of a file.
-//! The program fails where a case differs or cannot be run yet, and where a file is not readable or has no case.
+//! The program fails where a case differs, and where a file is not readable or has no case.
 #![tactic(auto)]
 
 mod compare;

@@ -11,13 +11,10 @@ pub struct Step {
     pub input: Vec<u8>,
     /// What the command is to write.
     pub output: Vec<u8>,
-}
-
-impl Step {
-    /// Whether the step speaks of a store. Such a step is not run yet.
-    pub fn has_store(&self) -> bool {
-        self.head.lengths.store_before.is_some() || self.head.lengths.store_after.is_some()
-    }
+    /// What the store has before the command, and what it is to have after it. A step that says nothing of its store has none, and
+    /// the command is to make none.
+    pub store_before: Vec<u8>,
+    pub store_after: Vec<u8>,
 }
 
 /// Reads the first step, and returns it with the number of its bytes.
@@ -32,13 +29,15 @@ pub fn read_step(alloc: Global, bytes: &[u8]) -> Result<(Step, usize)> {
     let Some((output, behind)) = next_part(behind, head.lengths.output) else {
         bail!("the output of a step is cut off");
     };
-    let Some(rest) = after_stores(behind, head.lengths) else {
+    let Some((before, after, rest)) = next_stores(behind, head.lengths) else {
         bail!("a step is cut off, or does not end with a line feed");
     };
     let step = Step {
         head,
         input: input.to_vec(alloc)?,
         output: output.to_vec(alloc)?,
+        store_before: before.to_vec(alloc)?,
+        store_after: after.to_vec(alloc)?,
     };
     Ok((step, bytes.len().saturating_sub(rest.len())))
 }
@@ -57,12 +56,16 @@ fn next_part(bytes: &[u8], length: u64) -> Option<(&[u8], &[u8])> {
     Some(bytes.split_at(length as usize))
 }
 
-// What follows the stores and the line feed at the end of a step.
-fn after_stores(bytes: &[u8], lengths: Lengths) -> Option<&[u8]> {
-    let (_, behind) = next_part(bytes, lengths.store_before.unwrap_or(0))?;
-    let (_, behind) = next_part(behind, lengths.store_after.unwrap_or(0))?;
+// The stores before and after, and what follows them and the line feed at the end of a step. A store that is not said to change
+// stays as it was.
+fn next_stores(bytes: &[u8], lengths: Lengths) -> Option<(&[u8], &[u8], &[u8])> {
+    let (before, behind) = next_part(bytes, lengths.store_before.unwrap_or(0))?;
+    let (after, behind) = match lengths.store_after {
+        Some(length) => next_part(behind, length)?,
+        None => (before, behind),
+    };
     match behind {
-        [b'\n', rest @ ..] => Some(rest),
+        [b'\n', rest @ ..] => Some((before, after, rest)),
         _ => None,
     }
 }

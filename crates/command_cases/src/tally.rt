@@ -18,13 +18,10 @@ pub struct Tally {
     cases: u64,
     /// How many cases have a step that differs.
     differ: u64,
-    /// How many cases have a step that cannot be run yet.
-    not_run: u64,
     /// The number of the next step of the last case.
     next_step: u64,
-    /// Whether the last case has a step that differs, or one that cannot be run yet.
+    /// Whether the last case has a step that differs.
     last_differs: bool,
-    last_is_not_run: bool,
     /// What was wanted and what came, for the first steps that differ.
     text: Vec<u8>,
 }
@@ -34,10 +31,8 @@ impl Tally {
         Tally {
             cases: 0,
             differ: 0,
-            not_run: 0,
             next_step: 0,
             last_differs: false,
-            last_is_not_run: false,
             text: Vec::new(alloc),
         }
     }
@@ -47,17 +42,14 @@ impl Tally {
         &self.text
     }
 
-    /// Whether there are cases, each was run, and each agrees.
+    /// Whether there are cases, and each agrees.
     pub fn is_passed(&self) -> bool {
-        self.cases > 0 && self.differ == 0 && self.not_run == 0
+        self.cases > 0 && self.differ == 0
     }
 
-    /// How many cases there are and how many differ, and how many could not be run, if any.
+    /// How many cases there are and how many differ.
     pub fn line(&self, alloc: Global, name: &str) -> Result<String, AllocError> {
-        let (cases, differ, not_run) = (self.cases, self.differ, self.not_run);
-        if not_run > 0 {
-            return format!(in alloc; "{name}: {cases} cases, {differ} differ, {not_run} not run");
-        }
+        let (cases, differ) = (self.cases, self.differ);
         format!(in alloc; "{name}: {cases} cases, {differ} differ")
     }
 
@@ -66,7 +58,6 @@ impl Tally {
         if number == 0 {
             self.cases = self.cases.saturating_add(1);
             self.last_differs = false;
-            self.last_is_not_run = false;
         } else if number != self.next_step {
             bail!("a step of case {} is missing", self.cases);
         }
@@ -82,20 +73,8 @@ impl Tally {
         self.last_differs = true;
     }
 
-    // Counts the last case among those that cannot be run yet, once.
-    fn count_not_run(&mut self) {
-        if !self.last_is_not_run {
-            self.not_run = self.not_run.saturating_add(1);
-        }
-        self.last_is_not_run = true;
-    }
-
     // Runs a step of the last case.
     fn take_step(&mut self, alloc: Global, step: &Step) -> Result<()> {
-        if step.has_store() {
-            self.count_not_run();
-            return Ok(());
-        }
         self.take_outcome(alloc, step, &run_step(alloc, step)?)?;
         if step.head.says_source() {
             return Ok(());

@@ -1,5 +1,5 @@
 -- What clap stores of a subcommand, as order_of_match reads it.
-use Rattle.std.proofs.Common.{◌≡◌, ℕ, List, Bool, true, false, not, true≢false, Option, Some, None, codes, option_map, bytes_eq, refl, sym, ne_eqb}
+use Rattle.std.proofs.Common.{◌≡◌, ℕ, List, Bool, true, false, not, true≢false, Option, Some, None, codes, option_map, cond, bytes_eq, refl, sym, ne_eqb}
 use Rattle.std.specs.Prelude.{Box}
 use Rattle.std.specs.Box.{box_value}
 use Rattle.clap.specs.Walk.{Text, Row, rows_of}
@@ -9,7 +9,7 @@ use Rattle.clap.specs.declared.parser.matches.Found.{Found}
 use Rattle.clap.specs.declared.parser.matches.ArgMatches.TheViews.{out-SubCommand}
 use Rattle.clap.specs.declared.parser.matches.SubCommand.{SubCommand}
 use Rattle.clap.proofs.WalkLemmas.{first_value-rows}
-use Rattle.command_words.specs.Matches.{gen_of_values, order_of_match}
+use Rattle.command_words.specs.Matches.{gen_of_values, undo_of_value, order_of_rows, order_of_match}
 
 pub name_of_rows : {Z : Type 0} (o : Option (Box SubCommand Z)) → option_map (λ b. (out-SubCommand (box_value b)).name.now) o ≡ option_map (λ p. p.0) (subcommand_rows o)
 name_of_rows None = refl
@@ -23,7 +23,16 @@ true_of : (b : Bool) → false ≡ not b → b ≡ true
 true_of true h = refl
 true_of false h = absurd (true≢false (sym h))
 
-pub gen_matches : (n : ℕ) (word name : Text) (o : Option (Text × List Row)) (f : Found) → Some name ≡ option_map (λ p. p.0) o → Some (rows_of f) ≡ option_map (λ p. p.1) o → false ≡ not (bytes_eq name word) → (n ≡ 2 → ⊥) → false ≡ not (bytes_eq name (codes "gen"))
-    → gen_of_values (first_value f (codes "count")) (first_value f (codes "seed")) ≡ order_of_match n word o
-gen_matches n word name o f plain_order rows same more is_gen =
-    rw (pair_of o name (rows_of f) plain_order rows, true_of (bytes_eq name word) same, ne_eqb n 2 more, true_of (bytes_eq name (codes "gen")) is_gen, first_value-rows f (codes "count"), first_value-rows f (codes "seed")) refl
+-- the rows of the command with this name, where it is the second of n words
+pub matches_of : (n : ℕ) (word name : Text) (o : Option (Text × List Row)) (f : Found) → Some name ≡ option_map (λ p. p.0) o → Some (rows_of f) ≡ option_map (λ p. p.1) o → false ≡ not (bytes_eq name word)
+    → order_of_rows n name (rows_of f) ≡ order_of_match n word o
+matches_of n word name o f named rows same =
+    rw (pair_of o name (rows_of f) named rows, true_of (bytes_eq name word) same) refl
+
+pub gen_matches : (n : ℕ) (name : Text) (f : Found) → (n ≡ 2 → ⊥) → (n ≡ 3 → ⊥)
+    → cond (bytes_eq name (codes "gen")) (gen_of_values (first_value f (codes "count")) (first_value f (codes "seed"))) None ≡ order_of_rows n name (rows_of f)
+gen_matches n name f two three = rw (ne_eqb n 2 two, ne_eqb n 3 three, first_value-rows f (codes "count"), first_value-rows f (codes "seed")) refl
+
+pub undo_matches : (n : ℕ) (name : Text) (f : Found) → n ≡ 3
+    → cond (bytes_eq name (codes "undo")) (undo_of_value (first_value f (codes "count"))) None ≡ order_of_rows n name (rows_of f)
+undo_matches n name f three = rw (three, first_value-rows f (codes "count")) refl

@@ -1,25 +1,26 @@
 // Reads the words.
-ghost use Rattle.std.specs.Prelude.{◌≡◌, Some, None, IfOk, IsErrOf, map, string_bytes, codes, length, true};
+ghost use Rattle.std.specs.Prelude.{◌≡◌, Some, None, IfOk, IsErrOf, map, string_bytes, bytes_eq, codes, length, true, if◌then◌else◌};
 ghost use Rattle.clap.specs.Matches.{found_of, first_value};
 ghost use Rattle.clap.specs.Simple.{subcommand_of, subcommand_rows_of};
 ghost use Rattle.clap.specs.Takes.{takes};
 ghost use Rattle.command_words.specs.CommandLine.{editlens_app};
-ghost use Rattle.command_words.specs.Matches.{gen_of_values, order_of_match, begins_with_hyphen};
+ghost use Rattle.command_words.specs.Matches.{gen_of_values, undo_of_value, order_of_match, begins_with_hyphen};
 ghost use Rattle.command_words.specs.Orders.{HasFewEntries, order_of};
 
 use crate::command_line::command_line;
-use crate::orders::{Order, WordsFault, gen_order, plain_order};
+use crate::orders::{Order, WordsFault, gen_order, plain_order, undo_order};
 use clap::ArgMatches;
 use clap::error::ErrorKind;
 use std::alloc::Global;
 
 /// The command that the words name, the program's own name first.
 ///
-/// The words of a command are any name and one of `run` and `check`, or any name, `gen`, N and SEED.
-/// N and SEED are one to twenty ASCII digits, N from 1 to 10,000 and SEED at most 2^64 - 1.
+/// The words of a command are any name and one of `run`, `check`, `init`, `apply`, `show`, `verify`,
+/// `pack`, `hub`, `link` and `import`, or any name, `undo` and K, or any name, `gen`, N and SEED.
+/// K, N and SEED are one to twenty ASCII digits, K and N from 1 to 10,000 and SEED at most 2^64 - 1.
 ///
 /// - `order`: what is returned is the command that the words name.
-/// - `few`: the number of entries of `gen` is from 1 to 10,000.
+/// - `few`: the numbers K and N are from 1 to 10,000.
 /// - `usage`: `Usage` is returned only if the words name no command.
 ///
 /// So words that name no command are `Usage`, unless memory runs out. `NoMemory` is returned only
@@ -31,6 +32,7 @@ pub fn read_words(alloc: Global, words: &[String]) -> Result<Order, WordsFault>
 {
     match words.len() {
         2 => read_two(alloc, words),
+        3 => read_three(alloc, words),
         4 => read_four(alloc, words),
         _ => Err(WordsFault::Usage),
     }
@@ -42,6 +44,22 @@ fn read_two(alloc: Global, words: &[String]) -> Result<Order, WordsFault>
     ensures order { IfOk result (λ order. order_of (map string_bytes words.now) ≡ Some order) }
     ensures usage { IsErrOf result WordsFault.Usage → order_of (map string_bytes words.now) ≡ None }
 {
+    match read_by_clap(alloc, words, words[1].as_str()) {
+        Ok(Some(order)) => Ok(order),
+        Ok(None) => Err(WordsFault::Usage),
+        Err(fault) => Err(fault),
+    }
+}
+
+// Three words name `undo` with its number, or nothing. clap would read a word with a hyphen as a flag.
+fn read_three(alloc: Global, words: &[String]) -> Result<Order, WordsFault>
+    requires { length words.now ≡ 3 }
+    ensures order { IfOk result (λ order. order_of (map string_bytes words.now) ≡ Some order) }
+    ensures usage { IsErrOf result WordsFault.Usage → order_of (map string_bytes words.now) ≡ None }
+{
+    if begins_with_hyphen(&words[2]) {
+        return Err(WordsFault::Usage);
+    }
     match read_by_clap(alloc, words, words[1].as_str()) {
         Ok(Some(order)) => Ok(order),
         Ok(None) => Err(WordsFault::Usage),
@@ -105,16 +123,29 @@ fn order_of_match(matches: &ArgMatches<'_>, word: &str, words: usize) -> Option<
     if words == 2 {
         return plain_order(name);
     }
+    if words == 3 {
+        return undo_of_match(name, inner);
+    }
+    gen_of_match(name, inner)
+}
+
+fn gen_of_match(name: &str, inner: &ArgMatches<'_>) -> Option<Order>
+    ensures { result ≡ (if bytes_eq name.now (codes "gen") then gen_of_values (first_value (found_of inner.now) (codes "count")) (first_value (found_of inner.now) (codes "seed")) else None) }
+{
     if name != "gen" {
         return None;
     }
-    gen_of_matches(inner)
-}
-
-fn gen_of_matches(inner: &ArgMatches<'_>) -> Option<Order>
-    ensures { result ≡ gen_of_values (first_value (found_of inner.now) (codes "count")) (first_value (found_of inner.now) (codes "seed")) }
-{
     let count = inner.get_str("count")?;
     let seed = inner.get_str("seed")?;
     gen_order(count, seed)
+}
+
+fn undo_of_match(name: &str, inner: &ArgMatches<'_>) -> Option<Order>
+    ensures { result ≡ (if bytes_eq name.now (codes "undo") then undo_of_value (first_value (found_of inner.now) (codes "count")) else None) }
+{
+    if name != "undo" {
+        return None;
+    }
+    let count = inner.get_str("count")?;
+    undo_order(count)
 }

@@ -1,6 +1,9 @@
 mod Examples
 pub mod FormLenses
+pub mod OrderClauses
 pub mod RefusalReports
 pub mod RunEnds
 pub mod RunInStep
 pub mod ScriptEnds
+pub mod ScriptStatuses
+pub mod StoreStatuses

@@ -34,7 +34,7 @@ use Rattle.editlens_main.specs.declared.report.Report.{Report}
 use Rattle.editlens_main.specs.declared.commands.Command.{Command}
 use Rattle.editlens_main.specs.declared.commands.Command.TheVariants.{Run, Check}
 use Rattle.editlens_main.specs.declared.status.Status.{Status}
-use Rattle.editlens_main.specs.declared.status.Status.TheVariants.{Done, SomeRefused, Usage, ProgramRefused, SourceFault, SinkFault, InputTooLong, NoMemory}
+use Rattle.editlens_main.specs.declared.status.Status.TheVariants.{Done, SomeRefused, Usage, ProgramRefused, StoreRefused, SourceFault, SinkFault, DiskFault, InputTooLong, NoMemory}
 
 finished : (b : Bool) → IsFinished (ending b)
 finished true = inr refl
@@ -339,6 +339,8 @@ complete command (Some bytes) left' held held' Done R F s r source sink =
 complete command (Some bytes) left' held held' SomeRefused R F s r source sink =
     λ few no_source no_sink. ((λ form is. inl (inr refl)), λ x none. let e = r (inr refl) in let same = ap (λ b. lens_of (program_part b)) (all_taken bytes left' e.bytes e.consumes e.at_end) in let some = e.has_lens in cc)
 complete command (Some bytes) left' held held' Usage R F s r source sink = λ few no_source no_sink. absurd s.clean
+complete command (Some bytes) left' held held' StoreRefused R F s r source sink = λ few no_source no_sink. absurd s.clean
+complete command (Some bytes) left' held held' DiskFault R F s r source sink = λ few no_source no_sink. absurd s.clean
 complete command (Some bytes) left' held held' ProgramRefused R F s r source sink =
     λ few no_source no_sink. ((λ form is. let same = ap lens_of (part_of_all bytes left' s.bytes s.consumes s.clean.1.whole) in let none = s.clean.1.refused in cc), λ x none. inl refl)
 complete command (Some bytes) left' held held' SourceFault R F s r source sink = λ few no_source no_sink. absurd (no_source (source refl))

@@ -2,5 +2,12 @@ pub mod Commands
 pub mod Ending
 pub mod Ends
 pub mod Generated
+pub mod MakingEnds
+pub mod OrderEnds
 pub mod Report
+pub mod ScriptEnds
+pub mod ScriptStatus
 pub mod Status
+pub mod StoreClauses
+pub mod StoreEnds
+pub mod StoreStatus

@@ -3,15 +3,17 @@ use Rattle.std.specs.Prelude.{ℕ}
 use Rattle.journal_stream.specs.declared.stopped.Stopped.{Stopped}
 use Rattle.journal_stream.specs.declared.stopped.Stopped.TheVariants as stop
 use Rattle.editlens_main.specs.declared.status.Status.{Status}
-use Rattle.editlens_main.specs.declared.status.Status.TheVariants.{Done, SomeRefused, Usage, ProgramRefused, SourceFault, SinkFault, InputTooLong, NoMemory}
+use Rattle.editlens_main.specs.declared.status.Status.TheVariants.{Done, SomeRefused, Usage, ProgramRefused, StoreRefused, SourceFault, SinkFault, DiskFault, InputTooLong, NoMemory}
 
 abbrev pub code_of : Status → ℕ
 code_of Done = 0
 code_of SomeRefused = 1
 code_of Usage = 2
 code_of ProgramRefused = 3
+code_of StoreRefused = 4
 code_of SourceFault = 5
 code_of SinkFault = 6
+code_of DiskFault = 7
 code_of InputTooLong = 8
 code_of NoMemory = 9
 

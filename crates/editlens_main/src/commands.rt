@@ -1,7 +1,8 @@
 // The commands that read a script, and the usage line.
 
 /// The line that is written if the words name no command.
-pub const USAGE: &str = "usage: editlens run|check|init|apply|show|verify|pack|gen N SEED\n";
+pub const USAGE: &str =
+    "usage: editlens run|check|init|apply|show|verify|pack|gen N SEED|hub|link\n";
 
 /// A command that reads a script.
 #[derive(Clone, Copy, Debug, PartialEq, Eq)]

@@ -1,9 +1,14 @@
 //! Laws of runs. Each function here does nothing: its clause is the law.
 ghost use Rattle.std.specs.Prelude.{◌≡◌, ℕ, List, Ok};
+ghost use Rattle.std.specs.declared.option.Option.{Option};
 ghost use Rattle.lens_forms.specs.Forms.{FormTree};
 ghost use Rattle.accepted_programs.specs.Program.{lens_of};
 ghost use Rattle.journal_answers.specs.Runs.{JournalItem};
+ghost use Rattle.store_session.specs.Journals.{IsStateInStep};
+ghost use Rattle.store_session.specs.StoredStates.{StoredState, stands_for};
 ghost use Rattle.editlens_main.specs.Ends.{RunStaysInStep};
+
+use store_session::laws::stored_is_in_step;
 
 /// Every run of an accepted program stays in step: for any items of a journal the run goes on to its end, and every triple
 /// of it, the first one and those after refused items included, is in the lens's consistency relation.
@@ -13,3 +18,13 @@ ghost use Rattle.editlens_main.specs.Ends.{RunStaysInStep};
 pub fn every_run_stays_in_step()
     ensures { (text : List ℕ) (form : FormTree) (items : List JournalItem) → lens_of text ≡ Ok form → RunStaysInStep form items }
 {}
+
+/// Every store stays in step: whatever its payloads are, the state for which they stand is in the consistency relation of its
+/// lens.
+///
+/// So a store of any bytes is refused, or the commands over it go on from a consistent triple.
+pub fn every_store_stays_in_step()
+    ensures { (payloads : List (List ℕ)) (state : StoredState) (version : Option (List ℕ)) → stands_for payloads ≡ Ok (state, version) → IsStateInStep state }
+{
+    stored_is_in_step()
+}

@@ -1,13 +1,17 @@
-//! The top call over the real streams.
+//! The top call over the real streams and the file of the store.
 use crate::{Status, editlens};
-use lens_io::{RealSink, RealSource};
+use lens_io::{RealDisk, RealSink, RealSource};
 use std::alloc::AllocError;
 use std::env;
 use std::io::{self, ErrorKind};
 
-/// The program: the top call with the words of the command line, over standard input and standard output.
+/// The file of the store, in the current folder.
+const STORE: &str = "editlens.store";
+
+/// The program: the top call with the words of the command line, over standard input, standard output and
+/// the file `editlens.store` of the current folder. The file is opened at the first call of the disk, and made by the first write.
 ///
-/// The status is that of [`editlens`], or `NoMemory` if memory ran out at the words. What the real streams give and take is
+/// The status is that of [`editlens`], or `NoMemory` if memory ran out at the words. What the streams and the file give and take is
 /// not known to the prover, so no clause speaks of it; nothing is written to standard error.
 pub fn run_program(rt: &HostRuntime) -> Status {
     let Ok(words) = given_words(rt) else {
@@ -15,7 +19,8 @@ pub fn run_program(rt: &HostRuntime) -> Status {
     };
     let mut source = RealSource::new(rt.stdin());
     let mut sink = RealSink::new(io::writer(rt));
-    editlens(rt.alloc(), &words, &mut source, &mut sink)
+    let mut disk = RealDisk::new(rt, STORE);
+    editlens(rt.alloc(), &words, &mut source, &mut sink, &mut disk)
 }
 
 // The words of the command line, the program's name first. Words that are not text are given as no words, which name no

@@ -1,8 +1,13 @@
 // How a run ends.
 ghost use Rattle.std.specs.Prelude.{◌≡◌};
+ghost use Rattle.editlens_main.specs.ScriptStatus.{status_of_script};
 ghost use Rattle.editlens_main.specs.Status.{code_of, status_of};
+ghost use Rattle.editlens_main.specs.StoreStatus.{status_of_store, status_of_making};
 
 use journal_stream::Stopped;
+use making_steps::MakingStatus;
+use script_run::ScriptStatus;
+use stored_run::Status as StoreStatus;
 
 /// How a call of the program ended. The number of each is its exit code.
 #[derive(Clone, Copy, Debug, PartialEq, Eq)]
@@ -15,10 +20,14 @@ pub enum Status {
     Usage = 2,
     /// The program part is refused.
     ProgramRefused = 3,
+    /// The store is refused.
+    StoreRefused = 4,
     /// The source failed.
     SourceFault = 5,
     /// The sink failed, or took nothing of a piece that is not empty.
     SinkFault = 6,
+    /// The disk failed.
+    DiskFault = 7,
     /// The source has more than 2^30 bytes.
     InputTooLong = 8,
     /// Memory ran out.
@@ -42,6 +51,66 @@ impl Status {
             Stopped::TooLong => Status::InputTooLong,
             Stopped::SinkFault => Status::SinkFault,
             Stopped::NoMemory => Status::NoMemory,
+        }
+    }
+
+    /// The status of a command over a store that ended so.
+    pub fn of_store(ended: StoreStatus) -> Status
+        ensures is { result ≡ status_of_store ended }
+        ensures source { result ≡ Status.SourceFault → ended ≡ StoreStatus.SourceFault }
+        ensures sink { result ≡ Status.SinkFault → ended ≡ StoreStatus.SinkFault }
+        ensures disk { result ≡ Status.DiskFault → ended ≡ StoreStatus.DiskFault }
+        ensures no_usage { result ≡ Status.Usage → ⊥ }
+    {
+        match ended {
+            StoreStatus::Done => Status::Done,
+            StoreStatus::SomeRefused => Status::SomeRefused,
+            StoreStatus::StoreRefused => Status::StoreRefused,
+            StoreStatus::SourceFault => Status::SourceFault,
+            StoreStatus::SinkFault => Status::SinkFault,
+            StoreStatus::DiskFault => Status::DiskFault,
+            StoreStatus::InputTooLong => Status::InputTooLong,
+            StoreStatus::NoMemory => Status::NoMemory,
+        }
+    }
+
+    /// The status of a command that makes a store and ended so.
+    pub fn of_making(ended: MakingStatus) -> Status
+        ensures is { result ≡ status_of_making ended }
+        ensures done { result ≡ Status.Done → ended ≡ MakingStatus.Done }
+        ensures source { result ≡ Status.SourceFault → ended ≡ MakingStatus.SourceFault }
+        ensures sink { result ≡ Status.SinkFault → ended ≡ MakingStatus.SinkFault }
+        ensures disk { result ≡ Status.DiskFault → ended ≡ MakingStatus.DiskFault }
+        ensures no_usage { result ≡ Status.Usage → ⊥ }
+    {
+        match ended {
+            MakingStatus::Done => Status::Done,
+            MakingStatus::SomeRefused => Status::SomeRefused,
+            MakingStatus::ProgramRefused => Status::ProgramRefused,
+            MakingStatus::StoreRefused => Status::StoreRefused,
+            MakingStatus::SourceFault => Status::SourceFault,
+            MakingStatus::SinkFault => Status::SinkFault,
+            MakingStatus::DiskFault => Status::DiskFault,
+            MakingStatus::InputTooLong => Status::InputTooLong,
+            MakingStatus::NoMemory => Status::NoMemory,
+        }
+    }
+    /// The status of a command over a script that ended so.
+    pub fn of_script(ended: ScriptStatus) -> Status
+        ensures is { result ≡ status_of_script ended }
+        ensures source { result ≡ Status.SourceFault → ended ≡ ScriptStatus.SourceFault }
+        ensures sink { result ≡ Status.SinkFault → ended ≡ ScriptStatus.SinkFault }
+        ensures no_disk { result ≡ Status.DiskFault → ⊥ }
+        ensures no_usage { result ≡ Status.Usage → ⊥ }
+    {
+        match ended {
+            ScriptStatus::Done => Status::Done,
+            ScriptStatus::SomeRefused => Status::SomeRefused,
+            ScriptStatus::ProgramRefused => Status::ProgramRefused,
+            ScriptStatus::SourceFault => Status::SourceFault,
+            ScriptStatus::SinkFault => Status::SinkFault,
+            ScriptStatus::InputTooLong => Status::InputTooLong,
+            ScriptStatus::NoMemory => Status::NoMemory,
         }
     }
 }

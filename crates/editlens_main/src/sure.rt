@@ -8,7 +8,7 @@ ghost use Rattle.editlens_main.specs.declared.commands.Command.{Command};
 ghost use Rattle.editlens_main.specs.declared.commands.Command.TheVariants.{Run, Check};
 
 use crate::{Status, editlens};
-use lens_io::{SureSink, SureSource};
+use lens_io::{SureDisk, SureSink, SureSource};
 use std::alloc::Global;
 
 /// The top call over devices that do not fail: a command is complete, unless the sink's room is full.
@@ -25,6 +25,7 @@ pub fn run_sure(
     words: &[String],
     source: &mut SureSource,
     sink: &mut SureSink,
+    disk: &mut SureDisk,
 ) -> Status
     ensures no_source_fault { result ≡ Status.SourceFault → ⊥ }
     ensures sink_fault { result ≡ Status.SinkFault → length sink.new.held ≡ sink.new.room }
@@ -37,5 +38,5 @@ pub fn run_sure(
     ensures gen_sure { (count seed : ℕ) → order_named words.now ≡ Some (Gen count seed) → (result ≡ Status.Done) ⊎ (result ≡ Status.NoMemory)
         ⊎ ((result ≡ Status.SinkFault) × (length sink.new.held ≡ sink.new.room)) }
 {
-    editlens(alloc, words, source, sink)
+    editlens(alloc, words, source, sink, disk)
 }

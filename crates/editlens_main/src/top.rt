@@ -1,43 +1,60 @@
 //! The top call.
-ghost use Rattle.std.specs.Prelude.{◌≡◌, ◌⊎◌, ◌<◌, ◌≤◌, List, ℕ, IfOk, IfSome, Some, None, Ok, length};
+ghost use Rattle.std.specs.Prelude.{◌≡◌, ◌⊎◌, ◌<◌, ◌≤◌, [], List, ℕ, IfOk, IfSome, Some, None, Ok, false, length};
 ghost use Rattle.std.specs.declared.option.Option.{Option};
-ghost use Rattle.command_words.specs.declared.orders.Order.TheVariants.{Gen};
+ghost use Rattle.std.specs.Io.KnownBytes.{Consumes};
+ghost use Rattle.command_words.specs.Orders.{HasFewEntries};
+ghost use Rattle.command_words.specs.declared.orders.Order.TheVariants.{Gen, Init, Apply, Show, Verify, Pack, Hub, Link};
 ghost use Rattle.edit_session.specs.Views.{triple_tree};
 ghost use Rattle.lens_forms.specs.Forms.{FormTree, form_tree};
 ghost use Rattle.lens_io.specs.Causes.{Increased, SinkFailed};
+ghost use Rattle.lens_io.specs.Disks.{LeavesOnly};
 ghost use Rattle.accepted_programs.specs.Program.{lens_of};
 ghost use Rattle.journal_input.specs.Taking.{IsWithin};
 ghost use Rattle.journal_input.specs.declared.limits.TheConstants.{MOST_BYTES, PIECE_BYTES};
 ghost use Rattle.script_parts.specs.Parts.{IsTaken, IsHead};
 ghost use Rattle.lens_core.specs.LensOf.{IsLensOf};
 ghost use Rattle.journal_answers.specs.Runs.{first_of};
-ghost use Rattle.editlens_main.specs.Commands.{command_of, order_named};
+ghost use Rattle.stored_run.specs.Refusals.{IsUnwritten};
+ghost use Rattle.stored_run.specs.declared.refusals.StoreRefusal.{StoreRefusal};
+ghost use Rattle.making_steps.specs.Ends.{Ends};
+ghost use Rattle.store_making.specs.Init.{Starts, Begins, Refuses};
+ghost use Rattle.editlens_main.specs.Commands.{command_of, order_named, served, reads_source, uses_disk};
 ghost use Rattle.editlens_main.specs.Ending.{Ended, Gives, HasEnd};
 ghost use Rattle.editlens_main.specs.Ends.{IsFinished, Reports, Stops, GivesUsage, IsComplete};
 ghost use Rattle.editlens_main.specs.Generated.{WritesSummary};
+ghost use Rattle.editlens_main.specs.MakingEnds.{CompletesStore};
+ghost use Rattle.editlens_main.specs.OrderEnds.{EndsOrder};
 ghost use Rattle.editlens_main.specs.Report.{type_lines};
+ghost use Rattle.editlens_main.specs.ScriptEnds.{ReportsHub, ReportsLink, StopsHub, StopsLink, CompletesHub, CompletesLink};
+ghost use Rattle.editlens_main.specs.StoreClauses.{IsRefusedStore, RefusesStore, ContinuesStore, KeepsAnswered, EndsApplying, CausesApplying, CompletesApplying, PacksStore, KeepsState, EndsPacking, CausesPacking, CompletesPacking, ShowsStore, CompletesView, shown, verified};
+ghost use Rattle.editlens_main.specs.StoreStatus.{MakesAs};
 ghost use Rattle.editlens_main.specs.declared.commands.Command.TheVariants.{Run, Check};
 
 use crate::Status;
 use crate::commands::{Command, USAGE};
 use crate::generated::run_generated;
+use crate::makings::run_init;
 use crate::report::{Report, first_session, last_report, refusal, report_alone, types_of};
+use crate::scripts::{run_hub_script, run_link_script};
+use crate::stores::{run_apply, run_pack, run_show, run_verify};
 use command_words::{Order, WordsFault, read_words};
 use edit_session::Session;
 use journal_input::{Input, piece_buffer, skip_rest};
 use journal_stream::{Stopped, answer_pieces};
 use lens_core::EditLens;
-use lens_io::{Sink, Source, give_all};
+use lens_io::{Disk, Sink, Source, give_all};
 use lens_types::Typed;
 use script_parts::{Head, read_head};
 use std::alloc::{AllocError, Global};
 
-/// Does what the program's words say, with its input and its output.
+/// Does what the program's words say, with its input, its output and its store.
 ///
 /// For the words `NAME run` and `NAME check` the source is read in pieces, to its end unless something stops the call before
 /// it, and the report of what was read is written to the sink as it comes. For `NAME gen N SEED` the summary of a generated
-/// run is written, and for all other words the usage line. docs/FORMATS.md says what the words and a script are, and
-/// docs/MEANING.md what a report says. The status says how the call ended, and the clauses say what holds then:
+/// run is written. `NAME init` makes a store on the disk, and `NAME apply`, `NAME show`, `NAME verify` and `NAME pack` go on
+/// with it. `NAME hub` and `NAME link` read scripts of their own kinds in the same way as `run`. For all other words the usage line
+/// is written. docs/FORMATS.md says what the words, a script and a store are, and docs/MEANING.md what a report says. The status
+/// says how the call ended, and the clauses say what holds then:
 ///
 /// - `run_reports`: after `Done` and `SomeRefused` the complete report of the input was written, and every triple of the run
 ///   is in the lens's consistency relation.
@@ -51,21 +68,44 @@ use std::alloc::{AllocError, Global};
 ///   nor the sink nor memory stopped the call first.
 /// - `gen_summarizes`: the status is `Done`, `SinkFault` or `NoMemory`. After `Done` the summary of the generated run was
 ///   written, in which every entry is accepted; after `SinkFault` a prefix of it; after `NoMemory` nothing.
-/// - `unread`: `gen`, and words that name no command, leave the source as it was.
+/// - `init_starts`: after `Done` the disk was empty, and holds the program of the script alone. The state lines of the first
+///   triple of its lens were written, for which the store stands.
+/// - `apply_continues`: after `Done` and `SomeRefused` the run went on from the state of the store. Its answer lines and then
+///   the state lines were written, each accepted change is stored, and the store stands for the last state.
+/// - `show_tells`, `verify_counts`: the state lines of the state of the store, or the number of its changes, were written.
+/// - `pack_keeps`: after `Done` a snapshot is stored, and the store stands for the same state with the same number of changes.
+/// - `init_stops`, `apply_stops`, `pack_stops`: what was taken, written and stored at every other status.
+/// - `apply_survives`, `pack_survives`: what a crash leaves, at the end of the call whatever its status, and at each moment of it.
+///   After a crash the store has each change whose `ok` line was written, and at most one more.
+/// - `apply_causes`, `pack_causes`: why such a status came. `StoreRefused` over a store comes only if the log has no room.
+/// - `apply_refuses`, `pack_refuses`, `views_refuse`: if the disk holds no store, the line `store refused: REASON` was written in
+///   place of all else, and nothing to the disk.
+/// - `views_write_nothing`: `show` and `verify` write nothing to the disk.
+/// - `hub_reports`: after `Done` and `SomeRefused` the source was read to its end, and the report of the hub was written. In every
+///   state of the run each view is in its lens's consistency relation with the hub.
+/// - `link_reports`: the same for a link, whose states are all in turns.
+/// - `hub_stops`, `link_stops`: what was taken and written for every other status, as `stops_are_clean` says it of `run`.
+/// - `unread`: `gen`, `show`, `verify`, `pack`, and words that name no command, leave the source as it was.
+/// - `disk_untouched`: `run`, `check`, `gen`, `hub`, `link`, and words that name no command, leave the disk as it was.
 /// - `usage`, `no_usage`: the words name no command if and only if the status is `Usage`, or the sink failed or memory ran
 ///   out at the usage line.
-/// - `source_fault`, `sink_fault`: these statuses come only if the source, or the sink, failed.
-/// - `complete`, `gen_complete`: if neither device failed, the command comes to its end, or the program part is refused, or
-///   memory ran out.
+/// - `source_fault`, `sink_fault`, `disk_fault`: these statuses come only if the source, the sink or the disk failed.
+/// - `complete`, `gen_complete`, `init_complete`, `apply_completes`, `pack_completes`, `views_complete`, `hub_complete`,
+///   `link_complete`: if no device failed, the command comes to its end, or the program part is refused, or memory ran out. The log
+///   must have room for what is stored.
+///
+/// Whatever bytes a disk holds, the state of a store on it is in its lens's consistency relation: the law
+/// `laws::every_store_stays_in_step`.
 ///
 /// `NoMemory` comes only if memory ran out, which no clause can say. Whether a program part is accepted is said by a
 /// definition that follows the reader (`bounded` of lens_syntax). It is the grammar's: the law
 /// `lens_syntax::laws::reading_follows_the_grammar`.
-pub fn editlens<S: Source, K: Sink>(
+pub fn editlens<S: Source, K: Sink, D: Disk>(
     alloc: Global,
     words: &[String],
     source: &mut S,
     sink: &mut K,
+    disk: &mut D,
 ) -> Status
     ensures run_reports { command_of words.now ≡ Some Run → IsFinished result
         → Reports Run (S.left source.old) (S.left source.new) (K.held sink.old) (K.held sink.new) result }
@@ -76,14 +116,66 @@ pub fn editlens<S: Source, K: Sink>(
     ensures gen_summarizes { (count seed : ℕ) → order_named words.now ≡ Some (Gen count seed)
         → WritesSummary count seed (K.held sink.old) (K.held sink.new) result }
 
-    // The words name `gen` or no command.
-    ensures unread { command_of words.now ≡ None → source.new ≡ source.old }
+    // The commands over a store.
+    ensures init_starts { order_named words.now ≡ Some Init → result ≡ Status.Done
+        → Starts D.content D.images (S.left source.old) (S.left source.new) (K.held sink.old) (K.held sink.new) disk.old disk.new }
+    ensures apply_continues { order_named words.now ≡ Some Apply
+        → ContinuesStore K.held D.content D.images D.moment D.images_since D.room
+        (S.left source.old) (S.left source.new) sink.old disk.old sink.new disk.new result }
+    ensures show_tells { order_named words.now ≡ Some Show
+        → ShowsStore K.held D.content D.images D.moment D.images_since D.room shown sink.old disk.old sink.new result }
+    ensures verify_counts { order_named words.now ≡ Some Verify
+        → ShowsStore K.held D.content D.images D.moment D.images_since D.room verified sink.old disk.old sink.new result }
+    ensures pack_keeps { order_named words.now ≡ Some Pack
+        → PacksStore K.held D.content D.images D.moment D.images_since D.room sink.old disk.old sink.new disk.new result }
+    ensures init_stops { order_named words.now ≡ Some Init
+        → MakesAs (Ends D.content D.images Refuses Begins
+        (S.left source.old) (S.left source.new) (K.held sink.old) (K.held sink.new) disk.old disk.new) result }
+    ensures apply_stops { order_named words.now ≡ Some Apply
+        → EndsApplying K.held D.content D.images D.moment D.images_since D.room
+        (S.left source.old) (S.left source.new) sink.old disk.old sink.new disk.new result }
+    ensures pack_stops { order_named words.now ≡ Some Pack
+        → EndsPacking K.held D.content D.images D.moment D.images_since D.room sink.old disk.old sink.new disk.new result }
+    ensures apply_survives { order_named words.now ≡ Some Apply
+        → KeepsAnswered K.held D.content D.images D.moment D.images_since D.room
+        (S.left source.old) (S.left source.new) sink.old disk.old sink.new disk.new result }
+    ensures pack_survives { order_named words.now ≡ Some Pack
+        → KeepsState K.held D.content D.images D.moment D.images_since D.room sink.old disk.old sink.new disk.new result }
+    ensures apply_causes { order_named words.now ≡ Some Apply
+        → CausesApplying K.held D.content D.images D.moment D.images_since D.room (S.left source.old) (S.left source.new) disk.old result }
+    ensures pack_causes { order_named words.now ≡ Some Pack → CausesPacking K.held D.content D.images D.moment D.images_since D.room disk.old result }
+    ensures apply_refuses { order_named words.now ≡ Some Apply
+        → RefusesStore K.held D.content D.images D.moment D.images_since D.room sink.old disk.old sink.new disk.new result
+        × ((refusal : StoreRefusal) → IsRefusedStore D.content disk.old refusal
+        → Consumes (S.left source.old) (S.left source.new) []) }
+    ensures pack_refuses { order_named words.now ≡ Some Pack
+        → RefusesStore K.held D.content D.images D.moment D.images_since D.room sink.old disk.old sink.new disk.new result }
+    ensures views_refuse { (order_named words.now ≡ Some Show) ⊎ (order_named words.now ≡ Some Verify)
+        → RefusesStore K.held D.content D.images D.moment D.images_since D.room sink.old disk.old sink.new disk.new result }
+    ensures views_write_nothing { (order_named words.now ≡ Some Show) ⊎ (order_named words.now ≡ Some Verify)
+        → IsUnwritten D.content D.images disk.old disk.new
+        × LeavesOnly D.moment D.images_since disk.old disk.new (D.images disk.old) }
+
+    // A hub, and a link.
+    ensures hub_reports { order_named words.now ≡ Some Hub → IsFinished result
+        → ReportsHub (S.left source.old) (S.left source.new) (K.held sink.old) (K.held sink.new) result }
+    ensures link_reports { order_named words.now ≡ Some Link → IsFinished result
+        → ReportsLink (S.left source.old) (S.left source.new) (K.held sink.old) (K.held sink.new) result }
+    ensures hub_stops { order_named words.now ≡ Some Hub
+        → StopsHub (S.left source.old) (S.left source.new) (K.held sink.old) (K.held sink.new) result }
+    ensures link_stops { order_named words.now ≡ Some Link
+        → StopsLink (S.left source.old) (S.left source.new) (K.held sink.old) (K.held sink.new) result }
+
+    // What a command leaves as it was.
+    ensures unread { reads_source (order_named words.now) ≡ false → source.new ≡ source.old }
+    ensures disk_untouched { uses_disk (order_named words.now) ≡ false → disk.new ≡ disk.old }
 
     ensures usage { order_named words.now ≡ None → GivesUsage (K.held sink.old) (K.held sink.new) result }
     ensures no_usage { result ≡ Status.Usage → order_named words.now ≡ None }
 
     ensures source_fault { result ≡ Status.SourceFault → Increased (S.faults source.old) (S.faults source.new) }
     ensures sink_fault { result ≡ Status.SinkFault → SinkFailed K.faults K.empty_takes K.room K.held sink.old sink.new }
+    ensures disk_fault { result ≡ Status.DiskFault → Increased (D.faults disk.old) (D.faults disk.new) }
 
     ensures complete { (command : Command) → command_of words.now ≡ Some command → IfSome (S.left source.old) (λ bytes. length bytes ≤ MOST_BYTES
         → (Increased (S.faults source.old) (S.faults source.new) → ⊥)
@@ -92,19 +184,79 @@ pub fn editlens<S: Source, K: Sink>(
     ensures gen_complete { (count seed : ℕ) → order_named words.now ≡ Some (Gen count seed)
         → (SinkFailed K.faults K.empty_takes K.room K.held sink.old sink.new → ⊥)
         → (result ≡ Status.Done) ⊎ (result ≡ Status.NoMemory) }
+    ensures init_complete { order_named words.now ≡ Some Init
+        → CompletesStore D.content D.images (S.left source.old) (S.left source.new) (K.held sink.old) (K.held sink.new) disk.old disk.new
+        (Increased (S.faults source.old) (S.faults source.new))
+        (SinkFailed K.faults K.empty_takes K.room K.held sink.old sink.new)
+        (Increased (D.faults disk.old) (D.faults disk.new)) result }
+    ensures apply_completes { order_named words.now ≡ Some Apply
+        → CompletesApplying K.held D.content D.images D.moment D.images_since D.room (S.left source.old) (S.left source.new) disk.old
+        (Increased (S.faults source.old) (S.faults source.new))
+        (SinkFailed K.faults K.empty_takes K.room K.held sink.old sink.new)
+        (Increased (D.faults disk.old) (D.faults disk.new)) result }
+    ensures pack_completes { order_named words.now ≡ Some Pack → CompletesPacking K.held D.content D.images D.moment D.images_since D.room disk.old
+        (SinkFailed K.faults K.empty_takes K.room K.held sink.old sink.new)
+        (Increased (D.faults disk.old) (D.faults disk.new)) result }
+    ensures views_complete { (order_named words.now ≡ Some Show) ⊎ (order_named words.now ≡ Some Verify)
+        → CompletesView K.held D.content D.images D.moment D.images_since D.room disk.old
+        (SinkFailed K.faults K.empty_takes K.room K.held sink.old sink.new)
+        (Increased (D.faults disk.old) (D.faults disk.new)) result }
+    ensures hub_complete { order_named words.now ≡ Some Hub → CompletesHub (S.left source.old)
+        (Increased (S.faults source.old) (S.faults source.new))
+        (SinkFailed K.faults K.empty_takes K.room K.held sink.old sink.new) result }
+    ensures link_complete { order_named words.now ≡ Some Link → CompletesLink (S.left source.old)
+        (Increased (S.faults source.old) (S.faults source.new))
+        (SinkFailed K.faults K.empty_takes K.room K.held sink.old sink.new) result }
 {
     match read_words(alloc, words) {
-        Ok(Order::Run) => run(alloc, Command::Run, source, sink),
-        Ok(Order::Check) => run(alloc, Command::Check, source, sink),
-        Ok(Order::Gen { count, seed }) => run_generated(alloc, count, seed, sink),
+        Ok(order) => run_order(alloc, order, source, sink, disk),
         Err(WordsFault::Usage) => give_usage(sink),
         Err(WordsFault::NoMemory) => Status::NoMemory,
+    }
+}
+
+// Does what an order says. The words of an order that the program does not have yet name no command.
+fn run_order<S: Source, K: Sink, D: Disk>(
+    alloc: Global,
+    order: Order,
+    source: &mut S,
+    sink: &mut K,
+    disk: &mut D,
+) -> Status
+    requires { HasFewEntries order }
+    ensures ends { EndsOrder S.left K.held D.content D.images D.moment D.images_since D.room
+        source.old sink.old disk.old source.new sink.new disk.new
+        (Increased (S.faults source.old) (S.faults source.new))
+        (SinkFailed K.faults K.empty_takes K.room K.held sink.old sink.new)
+        (Increased (D.faults disk.old) (D.faults disk.new)) result order }
+    ensures unread { reads_source (served order) ≡ false → source.new ≡ source.old }
+    ensures untouched { uses_disk (served order) ≡ false → disk.new ≡ disk.old }
+    ensures no_usage { result ≡ Status.Usage → served order ≡ None }
+    ensures source_fault { result ≡ Status.SourceFault → Increased (S.faults source.old) (S.faults source.new) }
+    ensures sink_fault { result ≡ Status.SinkFault → SinkFailed K.faults K.empty_takes K.room K.held sink.old sink.new }
+    ensures disk_fault { result ≡ Status.DiskFault → Increased (D.faults disk.old) (D.faults disk.new) }
+{
+    match order {
+        Order::Run => run(alloc, Command::Run, source, sink),
+        Order::Check => run(alloc, Command::Check, source, sink),
+        Order::Gen { count, seed } => run_generated(alloc, count, seed, sink),
+        Order::Init => run_init(alloc, source, sink, disk),
+        Order::Apply => run_apply(alloc, source, sink, disk),
+        Order::Show => run_show(alloc, sink, disk),
+        Order::Verify => run_verify(alloc, sink, disk),
+        Order::Pack => run_pack(alloc, sink, disk),
+        Order::Hub => run_hub_script(alloc, source, sink),
+        Order::Link => run_link_script(alloc, source, sink),
+        Order::Undo { .. } => give_usage(sink),
+        Order::Import => give_usage(sink),
     }
 }
 
 // Writes the usage line.
 fn give_usage<K: Sink>(sink: &mut K) -> Status
     ensures given { GivesUsage (K.held sink.old) (K.held sink.new) result }
+    ensures no_source { result ≡ Status.SourceFault → ⊥ }
+    ensures no_disk { result ≡ Status.DiskFault → ⊥ }
     ensures sink_fault { result ≡ Status.SinkFault → SinkFailed K.faults K.empty_takes K.room K.held sink.old sink.new }
 {
     match give_all(sink, USAGE.as_bytes()) {
@@ -116,6 +268,8 @@ fn give_usage<K: Sink>(sink: &mut K) -> Status
 // Reads the input in pieces, and writes what there is to write for each before it asks for the next.
 fn run<S: Source, K: Sink>(alloc: Global, command: Command, source: &mut S, sink: &mut K) -> Status
     ensures stops_are_clean { Stops command (S.left source.old) (S.left source.new) (K.held sink.old) (K.held sink.new) result }
+    ensures no_usage { result ≡ Status.Usage → ⊥ }
+    ensures no_disk { result ≡ Status.DiskFault → ⊥ }
     ensures reports { IsFinished result → Reports command (S.left source.old) (S.left source.new) (K.held sink.old) (K.held sink.new) result }
     ensures source_fault { result ≡ Status.SourceFault → Increased (S.faults source.old) (S.faults source.new) }
     ensures sink_fault { result ≡ Status.SinkFault → SinkFailed K.faults K.empty_takes K.room K.held sink.old sink.new }

@@ -3,7 +3,7 @@
 #![tactic(auto)]
 
 use editlens_main::editlens;
-use lens_io::{MemSink, RealSource};
+use lens_io::{Bytes, MemDisk, MemSink, RealSource};
 use std::alloc::{AllocError, Global};
 use std::io::{self, Read, Write};
 
@@ -61,5 +61,6 @@ fn run(alloc: Global, head: &'static [u8], sink: &mut MemSink) -> Result<u8, All
         head,
         left_in_line: LINE,
     });
-    Ok(editlens(alloc, &words, &mut source, sink).code())
+    let mut disk = MemDisk::new(alloc, Bytes::from_vec(Vec::new(alloc)), Vec::new(alloc))?;
+    Ok(editlens(alloc, &words, &mut source, sink, &mut disk).code())
 }

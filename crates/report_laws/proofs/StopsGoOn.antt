@@ -9,7 +9,7 @@ use Rattle.editlens_main.specs.Report.{report, refusal_line}
 use Rattle.editlens_main.specs.Ends.{IsFinished, AnswersSome, RefusesPart, WouldWrite, IsCleanStop}
 use Rattle.editlens_main.specs.declared.commands.Command.{Command}
 use Rattle.editlens_main.specs.declared.status.Status.{Status}
-use Rattle.editlens_main.specs.declared.status.Status.TheVariants.{Done, SomeRefused, Usage, ProgramRefused, SourceFault, SinkFault, InputTooLong, NoMemory}
+use Rattle.editlens_main.specs.declared.status.Status.TheVariants.{Done, SomeRefused, Usage, ProgramRefused, StoreRefused, SourceFault, SinkFault, DiskFault, InputTooLong, NoMemory}
 use Rattle.report_laws.specs.Beginnings.{BeginsWith, WritesBeginning}
 use Rattle.report_laws.proofs.ReportsGoOn.{answers_first, refused, refusal_stays}
 
@@ -60,6 +60,8 @@ module _ (command : Command) (left' : Option (List ℕ)) (bytes more whole : Lis
   stop_begins Done left held held' not clean = absurd (not (inl refl))
   stop_begins SomeRefused left held held' not clean = absurd (not (inr refl))
   stop_begins Usage left held held' not clean = absurd clean
+  stop_begins StoreRefused left held held' not clean = absurd clean
+  stop_begins DiskFault left held held' not clean = absurd clean
   stop_begins ProgramRefused left held held' not clean = record { text = refusal_line clean.0; appends = clean.2; begins = refusal_begins clean.0 clean.1 }
   stop_begins SourceFault left held held' not clean = record { text = clean.1.0; appends = clean.1.2; begins = answers clean.1.0 ([], clean.1.1) }
   stop_begins SinkFault left held held' not clean = record {

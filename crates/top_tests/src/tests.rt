@@ -9,7 +9,7 @@ use edit_module::{Cause, Word};
 use editlens_main::{Status, run_sure};
 use lens_core::{Comp, EditLens};
 use lens_flat::Flat;
-use lens_io::{Bytes, SureSink, SureSource};
+use lens_io::{Bytes, SureDisk, SureSink, SureSource};
 use lens_syntax::{ProgramFault, read_program};
 use lens_types::{TypeFault, check};
 use serde_json::Value;
@@ -107,7 +107,11 @@ fn a_run_over_sure_devices(rt: HostRuntime) -> Result<(), Fail> {
         let mut source = SureSource::new(Bytes::from_vec(SCRIPT.to_vec(alloc)?));
         assert!(rt; SCRIPT.len() < 1000);
         let mut sink = SureSink::new(alloc, room)?;
-        assert_eq!(rt; run_sure(alloc, &words, &mut source, &mut sink), status);
+        let mut disk = SureDisk::new(alloc, Bytes::from_vec(Vec::new(alloc)), 0)?;
+        assert_eq!(rt;
+            run_sure(alloc, &words, &mut source, &mut sink, &mut disk),
+            status
+        );
         assert_eq!(rt; sink.bytes().len(), room as usize);
         assert!(rt; REPORT.starts_with(sink.bytes()));
     }

@@ -1,0 +1,214 @@
+#!/usr/bin/env python3
+"""Writes rows of stores for crates/command_cases: python3 bench/store_rows.py.
+
+Each step is a command with its input, its output, its status and its store before and after, worked out by hand; nothing is taken from the
+program. The stores are put together here from their payloads, as docs/FORMATS.md says. They go to
+crates/command_cases/data/store_rows.cases, in the form of docs/CASES.md. It is run by hand.
+"""
+
+import json
+import os
+
+OUT = os.path.join(os.path.dirname(os.path.abspath(__file__)), "../crates/command_cases/data/store_rows.cases")
+
+MARK = b"EDLENS1\n"
+PLAIN = "main {a ~ b: id int}"
+SPLIT = "main part <p: text, o: int>"
+STATE = 'left {"a":%d}\nright {"b":%d}\ncomplement {"rec":[null]}\n'
+
+
+def log(*payloads):
+    """The bytes of a log of these payloads."""
+    records = b"".join(b"\1" + len(it.encode()).to_bytes(8, "little") + it.encode() for it in payloads)
+    return MARK + records + b"\0"
+
+
+def program(text, version=2):
+    return '{"program":%s,"version":2}' % json.dumps(text) if version == 2 else '{"program":%s}' % json.dumps(text)
+
+
+def entry(side, word):
+    return '{"entry":{"edit":%s,"side":"%s"}}' % (word, side)
+
+
+def line(side, word):
+    return '{"side":"%s","edit":%s}\n' % (side, word)
+
+
+def step(words, status, given, wanted, before=b"", after=None, number=0):
+    """Writes a step: a case of its own where its number is 0."""
+    after = before if after is None else after
+    given, wanted = given.encode(), wanted.encode()
+    head = {"words": words, "status": status, "step": number, "input": len(given), "output": len(wanted)}
+    head |= {"store_before": len(before), "store_after": len(after)}
+    out.write(json.dumps(head, sort_keys=True).encode() + b"\n" + given + wanted + before + after + b"\n")
+
+
+SET = '[{"at":["a",[{"set":5}]]}]'
+ADD = '[{"at":["b",[{"add":1}]]}]'
+THREE = line("left", SET) + line("right", '[{"at":["b",[{"set":"x"}]]}]') + line("right", ADD) + line("left", "[]")
+THREE_ANSWERS = (
+    'ok 1 right [{"at":["b",[{"set":5}]]}]\n'
+    "refused 2 no-apply 0 kind\n"
+    'ok 3 left [{"at":["a",[{"add":1}]]}]\n'
+    "ok 4 right []\n"
+)
+GROUP = '{"group":[{"edit":%s,"side":"left"},{"edit":%s,"side":"right"}]}' % (SET, ADD)
+GROUP_ANSWER = 'ok 1 group [{"edit":[{"at":["b",[{"set":5}]]}],"side":"right"},{"edit":[{"at":["a",[{"add":1}]]}],"side":"left"}]\n'
+SNAPSHOT = '{"snapshot":{"complement":{"rec":[null]},"left":{"a":6},"right":{"b":6}}}'
+SWITCHES = (
+    line("left", '[{"ins":3},{"mod":[1,[{"switch":["p","o",[]]}]]}]')
+    + line("left", '[{"mod":[0,[{"switch":["p","p",[{"set":"x"}]]}]]}]')
+    + line("left", '[{"del":2}]')
+)
+SWITCHES_ANSWERS = (
+    'ok 1 right [{"at":["p",[{"ins":3}]]},{"at":["p",[{"move":[1,2]},{"del":1}]]},{"at":["o",[{"ins":1}]]}]\n'
+    'ok 2 right [{"at":["p",[{"move":[0,1]},{"del":1}]]},{"at":["p",[{"ins":1},{"move":[1,0]},{"mod":[0,[{"set":"x"}]]}]]}]\n'
+    'ok 3 right [{"at":["p",[{"del":1}]]},{"at":["o",[{"del":1}]]}]\n'
+)
+SWITCHES_STATE = 'left [{"p":"x"}]\nright {"o":[],"p":["x"]}\ncomplement {"tags":["p"]}\n'
+BOOK = """type person = {name: text, phone: text};
+type firm = {name: text, vat: text};
+lens contact = <person ~ person: {name ~ name: id text, phone ~ phone: id text, left birthday: text},
+                firm ~ firm: {name ~ name: id text, vat ~ vat: id text}>;
+main then(each contact, then(part <person: person, firm: firm>,
+  {person ~ people: each {name ~ name: id text, phone ~ phone: id text, right note: text},
+   firm ~ firms: each id firm}))
+"""
+BOOK_WORDS = (
+    ("left", '[{"ins":2},{"mod":[1,[{"switch":["person","firm",[{"at":["name",[{"set":"Acme"}]]}]]}]]}]'),
+    ("right", '[{"at":["people",[{"mod":[0,[{"at":["name",[{"set":"Ida"}]]},{"at":["note",[{"set":"call"}]]}]]}]]}]'),
+    ("left", '[{"mod":[0,[{"stay":["person",[{"at":["birthday",[{"set":"2 May"}]]}]]}]]}]'),
+)
+BOOK_ANSWERS = (
+    'ok 1 right [{"at":["people",[{"ins":2}]]},{"at":["people",[{"del":1}]]},{"at":["firms",[{"ins":1},{"mod":[0,[{"at":["name",[{"set":"Acme"}]]}]]}]]}]\n'
+    'ok 2 left [{"mod":[0,[{"stay":["person",[{"at":["name",[{"set":"Ida"}]]}]]}]]}]\n'
+    "ok 3 right []\n"
+)
+BOOK_STATE = (
+    'left [{"person":{"birthday":"2 May","name":"Ida","phone":""}},{"firm":{"name":"Acme","vat":""}}]\n'
+    'right {"firms":[{"name":"Acme","vat":""}],"people":[{"name":"Ida","note":"call","phone":""}]}\n'
+    'complement {"then":[{"list":[{"alt":["person",{"rec":[null,null]}]},{"alt":["firm",{"rec":[null,null]}]}]},'
+    '{"then":[{"tags":["person","firm"]},{"rec":[{"list":[{"rec":[null,null]}]},{"list":[null]}]}]}]}\n'
+)
+
+
+def runs():
+    step(["run"], 0, PLAIN + "\n---\n" + line("left", SET), 'ok 1 right [{"at":["b",[{"set":5}]]}]\n' + STATE % (5, 5))
+    step(["run"], 1, PLAIN + "\n---\n" + THREE, THREE_ANSWERS + STATE % (6, 6))
+    step(["run"], 0, SPLIT + "\n---\n" + SWITCHES, SWITCHES_ANSWERS + SWITCHES_STATE)
+    step(["run"], 0, BOOK + "---\n" + "".join(line(*it) for it in BOOK_WORDS), BOOK_ANSWERS + BOOK_STATE)
+    step(["run"], 3, "main idd int\n---\n", "program refused: not-a-program 9\n")
+    step(["check"], 0, PLAIN, "left {a: int}\nright {b: int}\n")
+    step(["frob"], 2, "", USAGE)
+
+
+def stores():
+    begun = log(program(PLAIN))
+    changed = log(program(PLAIN), entry("left", SET), entry("right", ADD), entry("left", "[]"))
+    step(["init"], 0, PLAIN, STATE % (0, 0), b"", begun)
+    step(["init"], 4, PLAIN, "store refused: log-exists\n", begun)
+    step(["init"], 3, "main idd int", "program refused: not-a-program 9\n")
+    step(["apply"], 0, "", STATE % (0, 0), begun)
+    step(["apply"], 1, THREE, THREE_ANSWERS + STATE % (6, 6), begun, changed)
+    step(["apply"], 0, GROUP, GROUP_ANSWER + STATE % (6, 6), begun, log(program(PLAIN), GROUP))
+    first = log(program(PLAIN, 1))
+    step(["apply"], 0, "", STATE % (0, 0), first, log(program(PLAIN, 1), '{"version":2}'))
+    upgraded = log(program(PLAIN, 1), '{"version":2}', entry("left", SET), entry("right", ADD), entry("left", "[]"))
+    step(["apply"], 1, THREE, THREE_ANSWERS + STATE % (6, 6), first, upgraded)
+    step(["apply"], 4, THREE, "store refused: bad-record 1\n", begun[:-1])
+    step(["show"], 0, "", STATE % (6, 6), changed)
+    step(["verify"], 0, "", "consistent 3\n", changed)
+    step(["verify"], 0, "", "consistent 3\n", upgraded)
+    step(["verify"], 0, "", "consistent 1\n", log(program(PLAIN), GROUP))
+    packed = log(program(PLAIN), GROUP, SNAPSHOT)
+    step(["pack"], 0, "", "packed 1\n", log(program(PLAIN), GROUP), packed)
+    old = (program(PLAIN, 1), entry("left", SET), entry("right", ADD))
+    step(["pack"], 0, "", "packed 2\n", log(*old), log(*old, '{"version":2}', SNAPSHOT))
+    step(["verify"], 0, "", "consistent 1\n", packed)
+    canonical = BOOK_CANONICAL
+    book = log(program(canonical))
+    entries = [entry(*it) for it in BOOK_WORDS]
+    step(["init"], 0, BOOK, BOOK_FIRST, b"", book)
+    step(["apply"], 0, "".join(line(*it) for it in BOOK_WORDS), BOOK_ANSWERS + BOOK_STATE, book, log(program(canonical), *entries))
+    step(["verify"], 0, "", "consistent 3\n", log(program(canonical), *entries))
+
+
+USAGE = "usage: editlens run|check|init|apply|show|verify|pack|gen N SEED|hub|link\n"
+BOOK_CANONICAL = (
+    "type person = {name: text, phone: text};\n"
+    "type firm = {name: text, vat: text};\n"
+    "lens contact = <person ~ person: {name ~ name: id text, phone ~ phone: id text, left birthday: text}, "
+    "firm ~ firm: {name ~ name: id text, vat ~ vat: id text}>;\n"
+    "main then(each contact, then(part <person: person, firm: firm>, "
+    "{person ~ people: each {name ~ name: id text, phone ~ phone: id text, right note: text}, firm ~ firms: each id firm}))"
+)
+BOOK_FIRST = 'left []\nright {"firms":[],"people":[]}\ncomplement {"then":[{"list":[]},{"then":[{"tags":[]},{"rec":[{"list":[]},{"list":[]}]}]}]}\n'
+
+
+
+def sequences():
+    """Commands one after another: the store of each is that which the one before has left."""
+    begun = log(program(PLAIN))
+    assert len(begun) == 64 and begun[9:17] == bytes((0x2E, 0, 0, 0, 0, 0, 0, 0))
+    step(["init"], 0, PLAIN, STATE % (0, 0), b"", begun)
+    step(["init"], 4, PLAIN, "store refused: log-exists\n", begun, number=1)
+    step(["verify"], 0, "", "consistent 0\n", begun, number=2)
+    step(["verify"], 4, "", "store refused: bad-record 1\n", begun[:50])
+    step(["verify"], 4, "", "store refused: not-a-log\n")
+    for tags, status, wanted in (
+        (["o", "p"], 4, "store refused: not-consistent 2\n"),
+        (["p", "o"], 0, 'left [{"p":""},{"o":7}]\nright {"o":[7],"p":[""]}\ncomplement {"tags":["p","o"]}\n'),
+    ):
+        snapshot = '{"snapshot":{"complement":{"tags":%s},"left":[{"p":""},{"o":7}],"right":{"o":[7],"p":[""]}}}' % json.dumps(tags)
+        step(["show"], status, "", wanted, log(program(SPLIT), snapshot))
+    # One apply of three changes, and three of one change each, leave the same store.
+    words = (("left", SET), ("right", ADD), ("left", "[]"))
+    answers = ('ok %d right [{"at":["b",[{"set":5}]]}]\n', 'ok %d left [{"at":["a",[{"add":1}]]}]\n', "ok %d right []\n")
+    values = ((5, 5), (6, 6), (6, 6))
+    step(["init"], 0, PLAIN, STATE % (0, 0), b"", begun)
+    for place, word in enumerate(words):
+        held = [entry(*it) for it in words]
+        before, after = log(program(PLAIN), *held[:place]), log(program(PLAIN), *held[: place + 1])
+        step(["apply"], 0, line(*word), answers[place] % 1 + STATE % values[place], before, after, place + 1)
+    whole = "".join(answers[place] % (place + 1) for place in range(3)) + STATE % (6, 6)
+    step(["apply"], 0, "".join(line(*it) for it in words), whole, begun, log(program(PLAIN), *[entry(*it) for it in words]))
+    # A store of version 1 gets its version record, and a group only behind it.
+    first = log(program(PLAIN, 1))
+    assert len(first) == 52
+    version = log(program(PLAIN, 1), '{"version":2}')
+    assert len(version) == 74
+    step(["verify"], 0, "", "consistent 0\n", first)
+    step(["apply"], 0, "", STATE % (0, 0), first, version, 1)
+    step(["verify"], 0, "", "consistent 0\n", version, number=2)
+    step(["verify"], 4, "", "store refused: bad-record 2\n", log(program(PLAIN, 1), '{"group":[]}'))
+
+
+def address_book():
+    """A session that is packed and goes on."""
+    records = [program(BOOK_CANONICAL)] + [entry(*it) for it in BOOK_WORDS]
+    step(["init"], 0, BOOK, BOOK_FIRST, b"", log(records[0]))
+    step(["apply"], 0, "".join(line(*it) for it in BOOK_WORDS), BOOK_ANSWERS + BOOK_STATE, log(records[0]), log(*records), 1)
+    left, right, complement = (it.split(" ", 1)[1] for it in BOOK_STATE.rstrip("\n").split("\n"))
+    packed = records + ['{"snapshot":{"complement":%s,"left":%s,"right":%s}}' % (complement, left, right)]
+    step(["pack"], 0, "", "packed 3\n", log(*records), log(*packed), 2)
+    words = (("right", '[{"at":["people",[{"ins":1}]]}]'), ("left", '[{"move":[2,0]}]'))
+    answers = 'ok 1 left [{"ins":1}]\nok 2 right [{"at":["people",[{"move":[1,0]}]]}]\n'
+    after = packed + [entry(*it) for it in words]
+    step(["apply"], 0, "".join(line(*it) for it in words), answers + BOOK_LAST, log(*packed), log(*after), 3)
+    step(["verify"], 0, "", "consistent 5\n", log(*after), number=4)
+
+
+BOOK_LAST = (
+    'left [{"person":{"birthday":"","name":"","phone":""}},{"person":{"birthday":"2 May","name":"Ida","phone":""}},{"firm":{"name":"Acme","vat":""}}]\n'
+    'right {"firms":[{"name":"Acme","vat":""}],"people":[{"name":"","note":"","phone":""},{"name":"Ida","note":"call","phone":""}]}\n'
+    'complement {"then":[{"list":[{"alt":["person",{"rec":[null,null]}]},{"alt":["person",{"rec":[null,null]}]},{"alt":["firm",{"rec":[null,null]}]}]},'
+    '{"then":[{"tags":["person","person","firm"]},{"rec":[{"list":[{"rec":[null,null]},{"rec":[null,null]}]},{"list":[null]}]}]}]}\n'
+)
+
+if __name__ == "__main__":
+    with open(OUT, "wb") as out:
+        runs()
+        stores()
+        sequences()
+        address_book()
