@@ -1,6 +1,7 @@
 """Tools around editlens, in Python's standard library alone. They are tested (tools/check) and not proved.
 
 Session     a client: the program as a co-process, one edit in and one answer out
+Store       a client over the commands of a store, each a run of the program
 types       the types that `check` prints, and what a token of a lens program is
 documents   a JSON document held against a type
 edits       what an edit does to a document, and why it is refused
@@ -15,5 +16,18 @@ No tool computes an edit from two versions of a document.
 from .answers import Accepted, Refused, ProgramRefused, RunEnded, read_answer
 from .program import NoProgram, find_program
 from .session import Session, check
+from .store import Store, StoreRefused
 
-__all__ = ["Accepted", "NoProgram", "ProgramRefused", "Refused", "RunEnded", "Session", "check", "find_program", "read_answer"]
+__all__ = [
+    "Accepted",
+    "NoProgram",
+    "ProgramRefused",
+    "Refused",
+    "RunEnded",
+    "Session",
+    "Store",
+    "StoreRefused",
+    "check",
+    "find_program",
+    "read_answer",
+]

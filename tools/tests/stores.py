@@ -1,0 +1,49 @@
+"""The client over the commands of a store."""
+
+import os
+import tempfile
+
+from editlens.answers import ProgramRefused, Refused
+from editlens.store import Store, StoreRefused
+
+PROGRAM = "main {a ~ b: id int, left hours: int}\n"
+
+
+def raised(kind, call):
+    try:
+        call()
+    except kind as why:
+        return why
+    raise AssertionError(f"{kind.__name__} did not come")
+
+
+def test_a_stored_session():
+    with tempfile.TemporaryDirectory() as folder:
+        store = Store.init(folder, PROGRAM)
+        answer = store.left([{"at": ["a", [{"set": 5}]]}])
+        assert (answer.number, answer.side, answer.word) == (1, "right", [{"at": ["b", [{"set": 5}]]}])
+        why = raised(Refused, lambda: store.right([{"at": ["b", [{"set": "x"}]]}]))
+        assert (why.cause, why.at) == ("kind", 0)
+        answer = store.group(("left", [{"at": ["hours", [{"set": 2}]]}]), ("right", [{"at": ["b", [{"add": 1}]]}]))
+        assert [side for side, _ in answer.words] == ["right", "left"]
+        assert Store(folder).show() == ({"a": 6, "hours": 2}, {"b": 6}, {"rec": [None]})
+        assert store.verify() == 2 and store.pack() == 2 and store.verify() == 2
+        assert raised(StoreRefused, lambda: Store.init(folder, PROGRAM)).reason == "log-exists"
+
+
+def test_stores_that_are_refused():
+    with tempfile.TemporaryDirectory() as folder:
+        assert raised(ProgramRefused, lambda: Store.init(folder, "main idd int")).reason.startswith("not-a-program")
+        assert raised(StoreRefused, Store(folder).show).reason == "not-a-log"
+        store = Store.init(folder, PROGRAM)
+        os.truncate(store.file, os.path.getsize(store.file) - 1)
+        assert raised(StoreRefused, store.verify).reason == "bad-record 1"
+
+
+def test_many_lines_in_one_run():
+    with tempfile.TemporaryDirectory() as folder:
+        store = Store.init(folder, PROGRAM)
+        lines = ['{"side":"left","edit":[{"at":["a",[{"add":1}]]}]}'] * 20 + ["", "{", '{"group":[]}']
+        answers = store.apply(lines)
+        assert len(answers) == 22 and isinstance(answers[20], Refused) and answers[20].cause == "not-json"
+        assert store.show()[0] == {"a": 20, "hours": 0} and store.verify() == 21
