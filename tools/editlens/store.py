@@ -18,10 +18,18 @@ class StoreRefused(Exception):
         self.reason = reason
 
 
+class ImportRefused(Exception):
+    """The document that a store was to begin with is refused. `reason` is what stands behind `import refused:`."""
+
+    def __init__(self, reason):
+        super().__init__(f"import refused: {reason}")
+        self.reason = reason
+
+
 class Store:
     """A stored session: the file `editlens.store` in a folder.
 
-    `Store.init` makes one. `left`, `right` and `group` send an edit and return the answer, an Accepted; a refused one
+    `Store.init` and `Store.begin` make one. `left`, `right` and `group` send an edit and return the answer, an Accepted; a refused one
     is raised as Refused, and nothing has changed then. Each is a run of `apply`, so what was accepted is on the disk when the call
     returns. `apply` sends many lines in one run. Two programs must not write one store at once.
     """
@@ -35,6 +43,13 @@ class Store:
         """Makes a store that begins with the initial documents of a lens program."""
         store = cls(folder, path)
         store._run(["init"], program_text)
+        return store
+
+    @classmethod
+    def begin(cls, folder, program_text, left, path=None):
+        """Makes a store that begins with this left document, by the command `import`."""
+        store = cls(folder, path)
+        store._run(["import"], program_text.rstrip("\n") + "\n---\n" + write_json(left) + "\n")
         return store
 
     def left(self, edit):
@@ -86,6 +101,11 @@ class Store:
         """Stores a snapshot, and returns how many changes were accepted."""
         return int(self._run(["pack"])[0].removeprefix("packed "))
 
+    def undo(self, count=1):
+        """Takes the last changes back. Returns the edits that took the left and the right document back."""
+        said = dict(line.split(" ", 2)[1:] for line in self._run(["undo", str(count)]) if line.startswith("undo "))
+        return read_json(said["left"]), read_json(said["right"])
+
     @property
     def file(self):
         """The path of the store."""
@@ -110,5 +130,7 @@ class Store:
             raise ProgramRefused(last.removeprefix("program refused: "))
         if status == 4:
             raise StoreRefused(last.removeprefix("store refused: "))
+        if status == 1 and last.startswith("import refused: "):
+            raise ImportRefused(last.removeprefix("import refused: "))
         if status not in (0, 1):
             raise RunEnded(status)

@@ -4,7 +4,7 @@ import os
 import tempfile
 
 from editlens.answers import ProgramRefused, Refused
-from editlens.store import Store, StoreRefused
+from editlens.store import ImportRefused, Store, StoreRefused
 
 PROGRAM = "main {a ~ b: id int, left hours: int}\n"
 
@@ -47,3 +47,15 @@ def test_many_lines_in_one_run():
         answers = store.apply(lines)
         assert len(answers) == 22 and isinstance(answers[20], Refused) and answers[20].cause == "not-json"
         assert store.show()[0] == {"a": 20, "hours": 0} and store.verify() == 21
+
+
+def test_a_document_that_one_has_and_undo():
+    with tempfile.TemporaryDirectory() as folder:
+        assert raised(ImportRefused, lambda: Store.begin(folder, PROGRAM, {"a": 1})).reason == "not-of-type"
+        store = Store.begin(folder, PROGRAM, {"a": 41, "hours": 7})
+        assert store.show()[:2] == ({"a": 41, "hours": 7}, {"b": 41}) and store.verify() == 1
+        store.right([{"at": ["b", [{"add": 1}]]}])
+        left, right = store.undo()
+        assert store.show()[:2] == ({"a": 41, "hours": 7}, {"b": 41})
+        assert (left, right) == ([{"at": ["a", [{"set": 41}]]}], [{"at": ["b", [{"set": 41}]]}])
+        assert raised(StoreRefused, store.undo).reason == "nothing-to-undo"

@@ -1,0 +1,5 @@
+pub mod Undoing
+pub mod UndoRecords
+pub mod UndoCall
+pub mod Making
+pub mod UndoEnds
