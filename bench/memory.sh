@@ -1,5 +1,5 @@
 #!/usr/bin/env bash
-# Refuses memory one request at a time: bash bench/memory.sh. For run, init, apply, pack and undo, over scripts of ten lines, the program is
+# Refuses memory one request at a time: bash bench/memory.sh. For run, init, apply and pack, over scripts of ten lines, the program is
 # run once for each request that it makes, and that one request is refused. It is to end as it does with ample memory, or with status 9:
 # then with whole lines from the front of what it writes with ample memory, and with a store as docs/FORMATS.md says. It is run by hand, over
 # the proved program; it needs a C compiler for the library that refuses.
@@ -144,7 +144,7 @@ def is_allowed(words, before, ample, refused):
         return held == stored[:len(had) + answered(output)]
     if words[0] == 'init':
         return not after or held == []
-    if words[0] == 'pack' or words[0] == 'undo':
+    if words[0] == 'pack':
         return held == had
     return after == before
 
@@ -162,7 +162,6 @@ with tempfile.TemporaryDirectory() as room:
         (['init'], PROGRAM, None),
         (['apply'], JOURNAL, made),
         (['pack'], '', filled),
-        (['undo', '3'], '', filled),
     ):
         ample = run(words, text, store, counted=counted)
         with open(counted, encoding='ascii') as file:
