@@ -45,7 +45,7 @@ module _ {K D : Type 0} (held : K → Option (List ℕ)) (content : D → Option
     (moment : D → ℕ) (images_since : D → ℕ → List ℕ → Type 0) (room : D → Option ℕ)
     (images_hold : (l : LogState) (d : D) (base : Payloads) (c : List ℕ) → Stands (content d) (images d) l base → images d c → HoldsPayloads base c) where
   -- what each image holds after a stop
-  now_at : (stop : Stop) (k k' : K) (d d' : D) (l l' : LogState) (base whole : Payloads) (text begun_text : List ℕ) (kept begun more : Payloads) → (kept ++ begun) ++ more ≡ whole
+  pub now_at : (stop : Stop) (k k' : K) (d d' : D) (l l' : LogState) (base whole : Payloads) (text begun_text : List ℕ) (kept begun more : Payloads) → (kept ++ begun) ++ more ≡ whole
       → Stops held content images moment images_since room k d l k' d' l' stop text begun_text kept begun → Stands (content d) (images d) l base → (c : List ℕ) → images d' c → HoldsFirst base whole c
   now_at SinkFault k k' d d' l l' base whole text begun_text kept begun more e s st c now = front_holds base (kept ++ begun) more whole c e (images_hold l' d' (base ++ (kept ++ begun)) c (s.stored base st) now)
   now_at DiskFault k k' d d' l l' base whole text begun_text kept begun more e s st c now = elim (s.stored base st c now) [
@@ -65,7 +65,7 @@ module _ {K D : Type 0} (held : K → Option (List ℕ)) (content : D → Option
   begun_parts TooLong kept begun more = (begun ++ more, ap (λ (x : Payloads). x ++ (begun ++ more)) (append-nil kept) ∙ sym (append_assoc kept begun more))
   begun_parts NoMemory kept begun more = (begun ++ more, ap (λ (x : Payloads). x ++ (begun ++ more)) (append-nil kept) ∙ sym (append_assoc kept begun more))
 
-  moments_at : (stop : Stop) (k k' : K) (d d' : D) (l l' : LogState) (base whole : Payloads) (text begun_text : List ℕ) (kept begun more : Payloads) → (kept ++ begun) ++ more ≡ whole
+  pub moments_at : (stop : Stop) (k k' : K) (d d' : D) (l l' : LogState) (base whole : Payloads) (text begun_text : List ℕ) (kept begun more : Payloads) → (kept ++ begun) ++ more ≡ whole
       → Stops held content images moment images_since room k d l k' d' l' stop text begun_text kept begun → Stands (content d) (images d) l base → LeavesOnly moment images_since d d' (HoldsFirst base whole)
   moments_at stop k k' d d' l l' base whole text begun_text kept begun more e s st =
       let parts = begun_parts stop kept begun more in

@@ -9,7 +9,7 @@ use Rattle.stored_run.specs.Ends.{IsFinished}
 use Rattle.stored_run.specs.OkLines.{ok_lines, AreOtherLines}
 use Rattle.stored_run.specs.Refusals.{refusal_line, Refuses, EndsAtLog, EndsAtPayloads}
 use Rattle.stored_run.specs.declared.refusals.StoreRefusal.{StoreRefusal}
-use Rattle.stored_run.specs.declared.refusals.StoreRefusal.TheVariants.{NotALog, LogExists, LogFull, BadRecord, NotConsistent}
+use Rattle.stored_run.specs.declared.refusals.StoreRefusal.TheVariants.{NotALog, LogExists, LogFull, BadRecord, NotConsistent, NothingToUndo}
 use Rattle.stored_run.specs.declared.session.ReopenFault.{ReopenFault}
 use Rattle.stored_run.specs.declared.session.ReopenFault.TheVariants as reopening
 use Rattle.stored_run.specs.declared.status.Status.{Status}
@@ -23,6 +23,7 @@ refusal_other : (r : StoreRefusal) → AreOtherLines (refusal_line r)
 refusal_other NotALog = (refusal_line NotALog ∷ [], refl, (record { is_line = record { text = codes "store refused: not-a-log"; whole = refl; plain = refl }; other = refl }, tt))
 refusal_other LogExists = (refusal_line LogExists ∷ [], refl, (record { is_line = record { text = codes "store refused: log-exists"; whole = refl; plain = refl }; other = refl }, tt))
 refusal_other LogFull = (refusal_line LogFull ∷ [], refl, (record { is_line = record { text = codes "store refused: log-full"; whole = refl; plain = refl }; other = refl }, tt))
+refusal_other NothingToUndo = (refusal_line NothingToUndo ∷ [], refl, (record { is_line = record { text = codes "store refused: nothing-to-undo"; whole = refl; plain = refl }; other = refl }, tt))
 refusal_other (BadRecord n) =
     (refusal_line (BadRecord n) ∷ [], sym (append-nil (refusal_line (BadRecord n))), (record { is_line = record { text = codes "store refused: bad-record " ++ decimal n; whole = refl; plain = decimal_plain n }; other = refl }, tt))
 refusal_other (NotConsistent n) =

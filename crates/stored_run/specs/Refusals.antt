@@ -8,7 +8,7 @@ use Rattle.gate_log.specs.LogBytes.{LogContent, payloads, not_a_log, bad_record,
 use Rattle.gate_log.specs.declared.fault.LogFault.{LogFault}
 use Rattle.gate_log.specs.declared.fault.LogFault.TheVariants as log
 use Rattle.stored_run.specs.declared.refusals.StoreRefusal.{StoreRefusal}
-use Rattle.stored_run.specs.declared.refusals.StoreRefusal.TheVariants.{NotALog, LogExists, LogFull, BadRecord, NotConsistent}
+use Rattle.stored_run.specs.declared.refusals.StoreRefusal.TheVariants.{NotALog, LogExists, LogFull, BadRecord, NotConsistent, NothingToUndo}
 use Rattle.stored_run.specs.declared.session.ReopenFault.{ReopenFault}
 use Rattle.stored_run.specs.declared.session.ReopenFault.TheVariants as reopening
 use Rattle.stored_run.specs.declared.status.Status.{Status}
@@ -23,6 +23,7 @@ refusal_text LogExists = codes "log-exists"
 refusal_text LogFull = codes "log-full"
 refusal_text (BadRecord number) = codes "bad-record " ++ decimal number
 refusal_text (NotConsistent number) = codes "not-consistent " ++ decimal number
+refusal_text NothingToUndo = codes "nothing-to-undo"
 
 -- `store refused: REASON`
 abbrev pub refusal_line : StoreRefusal → List ℕ

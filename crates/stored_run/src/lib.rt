@@ -28,7 +28,7 @@ pub use continuing::{answer_journal, continue_store};
 pub use journal::{Progress, answer_line, answer_lines, answer_pieces};
 pub use making::begin_store;
 pub use pack_call::{pack, pack_store};
-pub use refusals::StoreRefusal;
+pub use refusals::{StoreRefusal, give_stop, refuse, refuse_log};
 pub use session::{Answer, Opened, ReopenFault, StoredSession};
 pub use status::Status;
 pub use stop::Stop;

@@ -28,11 +28,13 @@ pub enum StoreRefusal {
     BadRecord { number: u64 },
     /// The record is a snapshot whose triple is not consistent.
     NotConsistent { number: u64 },
+    /// The last records are not so many changes as are to be undone.
+    NothingToUndo,
 }
 
 /// Ends a command at a fault of the log. A fault of the disk, and running out of memory, write no line; of any other the line
 /// `store refused: REASON` is written.
-pub(crate) fn refuse_log<K: Sink>(alloc: Global, fault: LogFault, sink: &mut K) -> Status
+pub fn refuse_log<K: Sink>(alloc: Global, fault: LogFault, sink: &mut K) -> Status
     ensures ends { EndsAtLog (K.held sink.old) (K.held sink.new) fault result }
     ensures sink_fault { result ≡ Status.SinkFault
         → SinkFailed K.faults K.empty_takes K.room K.held sink.old sink.new }
@@ -64,8 +66,8 @@ pub(crate) fn refuse_payloads<K: Sink>(alloc: Global, fault: ReopenFault, sink: 
     }
 }
 
-// Writes the line of a refusal. Only a line with the number of a record allocates.
-fn refuse<K: Sink>(alloc: Global, refusal: StoreRefusal, sink: &mut K) -> Status
+/// Ends a command by a refusal: its line `store refused: REASON` is written. Only a line with the number of a record allocates.
+pub fn refuse<K: Sink>(alloc: Global, refusal: StoreRefusal, sink: &mut K) -> Status
     ensures refuses { Refuses (K.held sink.old) (K.held sink.new) refusal result }
     ensures sink_fault { result ≡ Status.SinkFault
         → SinkFailed K.faults K.empty_takes K.room K.held sink.old sink.new }
@@ -78,6 +80,7 @@ fn refuse<K: Sink>(alloc: Global, refusal: StoreRefusal, sink: &mut K) -> Status
         StoreRefusal::NotConsistent { number } => {
             give_made(sink, not_consistent_line(alloc, number))
         }
+        StoreRefusal::NothingToUndo => give_refusal(sink, b"store refused: nothing-to-undo\n"),
     }
 }
 
@@ -123,7 +126,7 @@ fn give_refusal<K: Sink>(sink: &mut K, line: &[u8]) -> Status
 }
 
 /// Ends a command that was stopped. If the log is full, the line that says so is written.
-pub(crate) fn give_stop<K: Sink>(stop: Stop, sink: &mut K) -> Status
+pub fn give_stop<K: Sink>(stop: Stop, sink: &mut K) -> Status
     ensures gives { (result ≡ status_of stop) × Appends
         (K.held sink.old) (K.held sink.new) (said_at stop)
         ⊎ (stop ≡ Stop.LogFull) × (result ≡ Status.SinkFault)

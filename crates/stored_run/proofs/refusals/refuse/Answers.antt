@@ -1,7 +1,7 @@
 use Rattle.std.proofs.Common.{refl, sym, subst}
 use Rattle.stored_run.specs.Refusals.{Refuses}
 use Rattle.stored_run.specs.declared.refusals.StoreRefusal.{StoreRefusal}
-use Rattle.stored_run.specs.declared.refusals.StoreRefusal.TheVariants.{NotALog, LogExists, LogFull, BadRecord, NotConsistent}
+use Rattle.stored_run.specs.declared.refusals.StoreRefusal.TheVariants.{NotALog, LogExists, LogFull, BadRecord, NotConsistent, NothingToUndo}
 use Rattle.stored_run.proofs.RefusalEnds.{refuses_given}
 use Rattle.stored_run.proofs.refusals.refuse.Goals as goal
 
@@ -25,3 +25,6 @@ returns-in-NotConsistent-clause-refuses g c =
     let held = g.K.Sink.held in
     subst (λ (r : StoreRefusal). Refuses (held c.args.sink.now) (held c.give_made-in-NotConsistent.new.sink) r c.give_made-in-NotConsistent.result) (sym c.in-NotConsistent.is)
     (c.give_made-in-NotConsistent.ensures.refuses (NotConsistent c.in-NotConsistent.number) c.not_consistent_line.ensures)
+
+pub returns-in-NothingToUndo-clause-refuses : goal.returns-in-NothingToUndo-clause-refuses
+returns-in-NothingToUndo-clause-refuses g c = refuses_given _ _ _ NothingToUndo _ _ refl c.in-NothingToUndo.is c.give_refusal-in-NothingToUndo.ensures.gives
