@@ -5,6 +5,8 @@ use Rattle.gate_log.specs.LogBytes.{closed_gate, records_length}
 use Rattle.gate_log.specs.LogOnDisk.{LogState, Stands}
 use Rattle.gate_log.specs.declared.fault.LogFault.{LogFault}
 use Rattle.gate_log.specs.declared.fault.LogFault.TheVariants as log
+use Rattle.stored_run.specs.Rooms.{HasNoRoom}
+use Rattle.stored_run.proofs.Effects.{room_over}
 use Rattle.stored_run.proofs.StoredPayloads.{images_held}
 use Rattle.making_steps.specs.Making.{StopsAppending}
 use Rattle.making_steps.specs.Stores.{IsTooLong, HoldsStore, HoldsFirst}
@@ -45,6 +47,20 @@ module _ {D : Type 0} (content : D → Option (List ℕ)) (images : D → List �
         stands = stands s.front s.stands;
         gate = omega (arith, gate, s.gate, records_joined s.front (payload ∷ []));
       }
+
+  -- there is no room for the next payload
+  pub no_room_for_next : (o : Option ℕ) (d : D) (l : LogState) (payloads records : List (List ℕ)) (i : ℕ) (payload : List ℕ) → i < length records → payload ≡ get_or records i payload
+      → Stored d l payloads (drop i records) → IfSome o (λ most. most < l.gate + 10 + length payload) → IfSome o (λ most. HasNoRoom most [] payloads)
+  no_room_for_next o d l payloads records i payload some is s h =
+      let next : drop i records ≡ payload ∷ drop (suc i) records = drop-cons records i payload some ∙ ap (λ p. p ∷ drop (suc i) records) (sym is) in
+      room_over o (λ most. most < l.gate + 10 + length payload) (λ most. HasNoRoom most [] payloads)
+      (λ most over. record {
+        front = s.front;
+        payload = payload;
+        rest = drop (suc i) records;
+        parts = s.parts ∙ ap (λ r. s.front ++ r) next;
+        over = omega (arith, over, s.gate);
+      }) h
 
   module _ (known : (d : D) (c : List ℕ) → images d c → (bytes : List ℕ) × (content d ≡ Some bytes) × images d bytes) where
     pub holds : (d : D) (l : LogState) (held : List (List ℕ)) → Stands (content d) (images d) l held → HoldsStore content images d held

@@ -4,7 +4,9 @@ ghost use Rattle.std.specs.declared.option.Option.{Option};
 ghost use Rattle.std.specs.Io.KnownBytes.{Appends};
 ghost use Rattle.lens_io.specs.Causes.{Increased, SinkFailed};
 ghost use Rattle.gate_log.specs.LogOnDisk.{Stands};
+ghost use Rattle.stored_run.specs.Rooms.{HasNoRoom};
 ghost use Rattle.making_steps.specs.Making.{EndsStore, EndsStopped, StopsAppending};
+ghost use Rattle.making_steps.specs.Rooms.{HasNoRoomToMake};
 ghost use Rattle.making_steps.specs.Stores.{EndsMaking};
 
 use crate::giving::give_line;
@@ -27,6 +29,9 @@ pub struct StoreText {
 }
 
 /// Makes an empty log on an empty disk, stores the payloads one after another, and then writes the lines.
+///
+/// - `room`: over a disk whose room is known, `DiskFault` comes only if it has no room for the mark and its gate, or for the
+///   log of the first of the payloads up to one of them, and the gate behind it.
 pub fn make_store<K: Sink, D: Disk>(
     alloc: Global,
     payloads: &Payloads,
@@ -40,6 +45,8 @@ pub fn make_store<K: Sink, D: Disk>(
     ensures disk_fault { result ≡ MakingStatus.DiskFault
         → Increased (D.faults disk.old) (D.faults disk.new) }
     ensures faults { D.faults disk.old ≤ D.faults disk.new }
+    ensures room { result ≡ MakingStatus.DiskFault
+        → IfSome (D.room disk.old) (λ most. HasNoRoomToMake most payloads.now) }
 {
     match create_log(disk) {
         Ok(log) => {
@@ -68,6 +75,8 @@ fn fill_log<K: Sink, D: Disk>(
     ensures disk_fault { result ≡ MakingStatus.DiskFault
         → Increased (D.faults disk.old) (D.faults disk.new) }
     ensures faults { D.faults disk.old ≤ D.faults disk.new }
+    ensures room { result ≡ MakingStatus.DiskFault
+        → IfSome (D.room disk.old) (λ most. HasNoRoom most [] payloads.now) }
 {
     match append_all(alloc, log, payloads, disk) {
         Ok(()) => give_line(sink, lines, MakingStatus::Done),
@@ -102,6 +111,8 @@ fn append_all<D: Disk>(
     ensures faults { D.faults disk.old ≤ D.faults disk.new }
     ensures cause { IsErrOf result LogFault.DiskFault
         → Increased (D.faults disk.old) (D.faults disk.new) }
+    ensures room { IsErrOf result LogFault.DiskFault
+        → IfSome (D.room disk.old) (λ most. HasNoRoom most [] payloads.now) }
 {
     let records = payloads.as_slice();
     for next in 0..records.len() {

@@ -18,12 +18,14 @@ use Rattle.making_steps.specs.Ends.{GivesLine, StopsAfter, Ends}
 use Rattle.making_steps.specs.Helpers.{ReadsScript, RefusesWith}
 use Rattle.store_making.specs.Init.{program_payload, Refuses, Begins, Starts}
 use Rattle.making_steps.specs.Making.{EndsPlan}
+use Rattle.making_steps.specs.Rooms.{PlanHasNoRoom, ScriptHasNoRoom}
 use Rattle.store_making.specs.Plans.{IsFirstStore}
 use Rattle.making_steps.specs.Scripts.{IsAccepted}
 use Rattle.making_steps.specs.Stores.{HoldsStore, EndsMaking}
 use Rattle.making_steps.specs.declared.status.MakingStatus.{MakingStatus}
 use Rattle.making_steps.specs.declared.status.MakingStatus.TheVariants.{Done, SomeRefused, ProgramRefused, StoreRefused, SourceFault, DiskFault}
 use Rattle.making_steps.proofs.Commands.{IsPart, IsOwn, done, ends_plan}
+use Rattle.making_steps.proofs.Rooms.{no_room_for_script}
 
 -- a text that is read within the limit is read without it
 without_limit : (text : List ℕ) (program : ProgramTree) → bounded text ≡ Ok program → unbounded text ≡ Ok program
@@ -54,6 +56,12 @@ kinds left' bytes refusing line h = inl h
 
 pub accepts : (bytes : List ℕ) (payloads : List (List ℕ)) (lines : List ℕ) → Begins bytes payloads lines → (form : FormTree) × (lens_of (program_part bytes) ≡ Ok form)
 accepts bytes payloads lines b = (b.form, b.accepted.has_lens)
+
+-- the script was read, and the disk has no room for its store
+pub begins_no_room : (o : Option ℕ) (left left' : Option (List ℕ)) (program : ProgramTree) (form : FormTree) → ReadsScript left left' program form → IfSome o (λ most. PlanHasNoRoom most (IsFirstStore program form))
+    → IfSome o (λ most. ScriptHasNoRoom Begins most left left')
+begins_no_room o left left' program form r h =
+    no_room_for_script o Begins left left' r.bytes (IsFirstStore program form) r.consumes r.at_end r.within (λ payloads lines s. begins r.bytes program form payloads lines r.accepted s) h
 
 -- the refusal of a program part never ends with a fault of the source or of the disk
 pub never_device : (outcome : Result FormTree Refusal) (held held' : Option (List ℕ)) (status : MakingStatus) → RefusesWith outcome held held' status → (status ≡ SourceFault) ⊎ (status ≡ DiskFault) → ⊥

@@ -17,6 +17,7 @@ ghost use Rattle.stored_run.specs.declared.refusals.StoreRefusal.TheVariants.{Lo
 ghost use Rattle.making_steps.specs.Ends.{Ends, GivesLine, IsComplete};
 ghost use Rattle.store_making.specs.Init.{Begins, Refuses, Starts};
 ghost use Rattle.making_steps.specs.Making.{EndsPlan};
+ghost use Rattle.making_steps.specs.Rooms.{PlanHasNoRoom, ScriptHasNoRoom};
 ghost use Rattle.store_making.specs.Plans.{IsFirstStore};
 
 use edit_session::Session;
@@ -45,6 +46,8 @@ use stored_records::program_payload;
 ///   `store refused: log-exists` is written, unless the disk or the sink fails.
 /// - `document`: the status is never `SomeRefused`.
 /// - `source_fault`, `sink_fault`, `disk_fault`: these statuses come only if that device failed.
+/// - `room`: over a disk whose room is known, `DiskFault` comes only if the script was read to its end, and the disk has no room
+///   for the mark of a log and its gate, or for the log of the payload of the program, and the gate behind it.
 /// - `complete`: if no device failed, and the disk is empty and the script has at most 2^30 bytes, the store is made if the
 ///   program part is accepted, and the program part is refused if it is not. Or memory ran out.
 pub fn init<S: Source, K: Sink, D: Disk>(
@@ -68,6 +71,8 @@ pub fn init<S: Source, K: Sink, D: Disk>(
         → SinkFailed K.faults K.empty_takes K.room K.held sink.old sink.new }
     ensures disk_fault { result ≡ MakingStatus.DiskFault
         → Increased (D.faults disk.old) (D.faults disk.new) }
+    ensures room { result ≡ MakingStatus.DiskFault → IfSome (D.room disk.old)
+        (λ most. ScriptHasNoRoom Begins most (S.left source.old) (S.left source.new)) }
     ensures complete { D.content disk.old ≡ Some [] → IfSome (S.left source.old) (λ bytes. length bytes ≤ MOST_BYTES
         → (Increased (S.faults source.old) (S.faults source.new) → ⊥)
         → (SinkFailed K.faults K.empty_takes K.room K.held sink.old sink.new → ⊥)
@@ -97,6 +102,8 @@ fn init_empty<S: Source, K: Sink, D: Disk>(
         → SinkFailed K.faults K.empty_takes K.room K.held sink.old sink.new }
     ensures disk_fault { result ≡ MakingStatus.DiskFault
         → Increased (D.faults disk.old) (D.faults disk.new) }
+    ensures room { result ≡ MakingStatus.DiskFault → IfSome (D.room disk.old)
+        (λ most. ScriptHasNoRoom Begins most (S.left source.old) (S.left source.new)) }
 {
     match read_script(alloc, source) {
         Ok(accepted) => begin(alloc, &accepted, sink, disk),
@@ -118,6 +125,8 @@ fn begin<K: Sink, D: Disk>(
         → SinkFailed K.faults K.empty_takes K.room K.held sink.old sink.new }
     ensures disk_fault { result ≡ MakingStatus.DiskFault
         → Increased (D.faults disk.old) (D.faults disk.new) }
+    ensures room { result ≡ MakingStatus.DiskFault → IfSome (D.room disk.old)
+        (λ most. PlanHasNoRoom most (IsFirstStore (program_tree accepted.now.program) (form_tree accepted.now.lens))) }
 {
     let Ok(store) = first_store(alloc, accepted) else {
         return MakingStatus::NoMemory;

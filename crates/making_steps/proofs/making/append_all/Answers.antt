@@ -1,4 +1,4 @@
-use Rattle.std.proofs.Common.{◌≡◌, Err, get_or, sym, ap, subst, arith}
+use Rattle.std.proofs.Common.{◌≡◌, ◌∙◌, Err, get_or, sym, ap, subst, arith}
 use Rattle.gate_log.specs.LogOnDisk.{LogState}
 use Rattle.gate_log.specs.declared.fault.LogFault.{LogFault}
 use Rattle.stored_run.proofs.Outcomes.{passed_on}
@@ -30,4 +30,5 @@ loop-next-preserved g c =
       stored = one_more disk.content disk.images l.disk c.append.new.disk l.log c.append.new.self c.args.payloads.now records l.next payload c.loop-next-test.true is l.invariant.stored
           c.in_ok-append.ensures.ends (ap (λ (x : LogState). x.gate) c.in_ok-append.ensures.log);
       faults = omega (arith, l.invariant.faults, c.in_ok-append.ensures.faults);
+      room = c.append.ensures.room ∙ l.invariant.room;
     }

@@ -1,4 +1,4 @@
-use Rattle.std.proofs.Common.{◌≤◌, drop}
+use Rattle.std.proofs.Common.{◌≡◌, ◌≤◌, drop}
 use Rattle.making_steps.proofs.Appending.{Stored}
 use Rattle.making_steps.proofs.making.append_all.Given as goal
 
@@ -9,4 +9,5 @@ invariant-loop-next g l =
     record {
       stored : Stored disk.content disk.images l.disk l.log l.payloads (drop l.next l.records);
       faults : disk.faults l.fn.disk ≤ disk.faults l.disk;
+      room : disk.room l.disk ≡ disk.room l.fn.disk;
     }

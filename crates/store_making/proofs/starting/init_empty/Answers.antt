@@ -6,7 +6,7 @@ use Rattle.script_parts.specs.Lines.{program_part}
 use Rattle.making_steps.specs.Ends.{Ends}
 use Rattle.making_steps.proofs.Commands.{ends_front, ends_refused}
 use Rattle.store_making.specs.Init.{Refuses, Begins}
-use Rattle.store_making.proofs.InitEnds.{begun, never_device}
+use Rattle.store_making.proofs.InitEnds.{begins_no_room, begun, never_device}
 use Rattle.store_making.proofs.starting.init_empty.Goals as goal
 
 pub returns-in-Ok-clause-ends : goal.returns-in-Ok-clause-ends
@@ -49,6 +49,19 @@ returns-in-Err-Refused-clause-source_fault g c =
 
 pub returns-in-Err-Refused-clause-disk_fault : goal.returns-in-Err-Refused-clause-disk_fault
 returns-in-Err-Refused-clause-disk_fault g c =
+    let held = g.K.Sink.held in
+    let r = rw c.in-Err-Refused.field-0-is at c.in-Err-Refused.ensures.script in
+    let outcome = lens_of (program_part r.bytes) in
+    λ e. absurd (never_device outcome (held c.args.sink.now) (held c.refuse_program.new.sink) c.refuse_program.result (c.refuse_program.ensures.refuses outcome r.is) (inr e))
+
+pub returns-in-Ok-clause-room : goal.returns-in-Ok-clause-room
+returns-in-Ok-clause-room g c =
+    let left = g.S.Source.left in
+    let accepted = c.in-Ok.accepted in
+    λ e. begins_no_room (g.D.Disk.room c.args.disk.now) (left c.args.source.now) (left c.read_script.new.source) (program_tree accepted.program) (form_tree accepted.lens) c.in-Ok.ensures.script (c.begin.ensures.room e)
+
+pub returns-in-Err-Refused-clause-room : goal.returns-in-Err-Refused-clause-room
+returns-in-Err-Refused-clause-room g c =
     let held = g.K.Sink.held in
     let r = rw c.in-Err-Refused.field-0-is at c.in-Err-Refused.ensures.script in
     let outcome = lens_of (program_part r.bytes) in
