@@ -1,0 +1,5 @@
+pub mod FirstSteps
+pub mod FoundLines
+pub mod FoundPieces
+pub mod ImportEnds
+pub mod ScriptsRead

@@ -1,0 +1,21 @@
+-- For the helpers of `import`: what was read of a script.
+use Rattle.std.specs.Prelude.{◌≡◌, ℕ, ◌≤◌, List, length}
+use Rattle.std.specs.declared.option.Option.{Option}
+use Rattle.std.specs.Io.KnownBytes.{Consumes, IsAtEnd}
+use Rattle.lens_forms.specs.Forms.{FormTree}
+use Rattle.journal_input.specs.declared.limits.TheConstants.{MOST_BYTES}
+use Rattle.program_terms.specs.Terms.{ProgramTree}
+use Rattle.script_parts.specs.Lines.{program_part, journal}
+use Rattle.making_steps.specs.Scripts.{IsAccepted}
+use Rattle.store_import.specs.Found.{added_all}
+use Rattle.store_import.specs.declared.document.Found.{Found}
+use Rattle.store_import.specs.declared.document.Found.TheVariants.{Nothing}
+
+-- The source was read to its end, and the program part is accepted. These are the lines of the journal part that are not blank.
+pub record ReadsImport (left left' : Option (List ℕ)) (program : ProgramTree) (form : FormTree) (found : Found) : Type 0 where
+  pub bytes : List ℕ
+  pub consumes : Consumes left left' bytes
+  pub at_end : IsAtEnd left'
+  pub within : length bytes ≤ MOST_BYTES
+  pub accepted : IsAccepted (program_part bytes) program form
+  pub is : found ≡ added_all Nothing (journal bytes)

@@ -1,0 +1,4 @@
+pub mod Found
+pub mod Helpers
+pub mod Import
+pub mod Plans

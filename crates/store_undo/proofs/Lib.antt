@@ -1,0 +1,10 @@
+pub mod Splitting
+pub mod ChangeRecords
+pub mod Earlier
+pub mod Lenses
+pub mod VersionRecords
+pub mod UndoCalls
+pub mod UndoCauses
+pub mod UndoRefusals
+pub mod Makings
+pub mod Decided

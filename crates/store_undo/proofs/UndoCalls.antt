@@ -1,0 +1,180 @@
+-- The whole call of `undo`, from how it ends over a log that stands.
+use Rattle.std.proofs.Common.{◌≡◌, ◌⊎◌, inl, inr, ℕ, List, [], ◌∷◌, ◌++◌, Option, Some, None, Result, Ok, Err, refl, sym, ap, subst, ◌∙◌, append-nil}
+use Rattle.std.specs.Prelude.{option_to_list, option_map, option_and_then, IfSome, IsNone}
+use Rattle.lens_io.specs.Disks.{LeavesOnly}
+use Rattle.gate_log.specs.LogOnDisk.{LogState, HoldsPayloads, Stands}
+use Rattle.edit_module.specs.Changes.{ChangeTree}
+use Rattle.edit_session.specs.Step.{TripleTree}
+use Rattle.stored_records.specs.declared.fault.ReopenFault.{ReopenFault}
+use Rattle.stored_run.specs.Effects.{HoldsFirst, Stops}
+use Rattle.stored_run.specs.Refusals.{IsUnwritten, IsOpening, FailsUnopened}
+use Rattle.stored_run.specs.StoreEnds.{StoreEnds, StoresBehind}
+use Rattle.stored_run.specs.declared.status.Status.{Status}
+use Rattle.stored_run.specs.declared.status.Status.TheVariants as ending
+use Rattle.stored_run.specs.declared.stop.Stop.{Stop}
+use Rattle.stored_run.proofs.Effects.{first_all}
+use Rattle.stored_run.proofs.Moments.{leaves_more, leaves_then}
+use Rattle.stored_run.proofs.Openings.{opening_then}
+use Rattle.stored_run.proofs.PackCalls.{never_finished, now_at, moments_at}
+use Rattle.stored_sessions.specs.Stands.{Standing, stands}
+use Rattle.store_undo.specs.UndoCall.{IsImage, UndoesCall, IsSafeUndo}
+use Rattle.store_undo.specs.UndoEnds.{UndoEnds}
+use Rattle.store_undo.specs.UndoRecords.{version_due, snapshot_text, undo_text, TakesBack}
+use Rattle.store_undo.specs.Undoing.{Undoing, undoing_from, undoing_of, undoing, last_changes, payloads_before}
+use Rattle.store_undo.proofs.VersionRecords.{front_stands}
+use Rattle.undo_words.specs.Undone.{BothTrees}
+
+-- ---- what undoing says of the payloads
+
+made_from : (now : Standing) (t : TripleTree) (o : Option (TripleTree × BothTrees)) (u : Undoing)
+    → option_map {U = Undoing} (λ (r : TripleTree × BothTrees). record { now = now; before = t; words = r.1 }) o ≡ Some u → now ≡ u.now
+made_from now t (Some r) u h =
+    let same : record { now = now; before = t; words = r.1 } ≡ u = cc in
+    ap (λ (x : Undoing). x.now) same
+made_from now t None u h = cc
+
+from_now : (now : Standing) (cs : List ChangeTree) (r : Result Standing ReopenFault) (u : Undoing) → undoing_from now cs r ≡ Some u → now ≡ u.now
+from_now now cs (Ok was) u h = made_from now was.triple _ u h
+from_now now cs (Err fault) u h = cc
+
+of_changes : (now : Standing) (r : Result Standing ReopenFault) (o : Option (List ChangeTree)) (u : Undoing) → option_and_then (λ (cs : List ChangeTree). undoing_from now cs r) o ≡ Some u → now ≡ u.now
+of_changes now r (Some cs) u h = from_now now cs r u h
+of_changes now r None u h = cc
+
+of_standing : (count : ℕ) (held : List (List ℕ)) (r : Result Standing ReopenFault) (u : Undoing) → stands held ≡ r → undoing_of count held r ≡ Some u → stands held ≡ Ok u.now
+of_standing count held (Ok now) u is h = is ∙ ap Ok (of_changes now (stands (payloads_before count held)) (last_changes count held) u h)
+of_standing count held (Err fault) u is h = cc
+
+-- the payloads stand for what there is now
+pub stood_now : (count : ℕ) (held : List (List ℕ)) (u : Undoing) → undoing count held ≡ Some u → stands held ≡ Ok u.now
+stood_now count held u h = of_standing count held (stands held) u refl h
+
+-- ---- images
+
+first_parts : (vs : List (List ℕ)) (s : List ℕ) (front rest : List (List ℕ)) → vs ++ s ∷ [] ≡ front ++ rest
+    → ((more : List (List ℕ)) × (vs ≡ front ++ more)) ⊎ (front ≡ vs ++ s ∷ [])
+first_parts vs s [] rest e = inl (vs, refl)
+first_parts [] s (p ∷ []) rest e = let same : s ≡ p = cc in inr (ap (λ (x : List ℕ). x ∷ []) (sym same))
+first_parts [] s (p ∷ q ∷ front) rest e = let never : [] ≡ q ∷ (front ++ rest) = cc in cc
+first_parts (v ∷ vs) s (p ∷ front) rest e =
+    let same : v ≡ p = cc in
+    let tail : vs ++ s ∷ [] ≡ front ++ rest = cc in
+    elim (first_parts vs s front rest tail) [
+      | inl h ↦ inl (h.0, ap (λ (x : List (List ℕ)). v ∷ x) h.1 ∙ ap (λ (x : List ℕ). x ∷ (front ++ h.0)) same)
+      | inr h ↦ inr (ap (λ (x : List (List ℕ)). p ∷ x) h ∙ ap (λ (x : List ℕ). x ∷ (vs ++ s ∷ [])) (sym same))
+    ]
+
+-- the first of the new records behind the payloads
+pub image_of : (held : List (List ℕ)) (u : Undoing) (c : List ℕ) → stands held ≡ Ok u.now → TakesBack held u
+    → HoldsFirst held (option_to_list (version_due u.now.version) ++ snapshot_text u ∷ []) c → IsImage held u c
+image_of held u c h back first =
+    elim (first_parts (option_to_list (version_due u.now.version)) (snapshot_text u) first.front first.rest first.parts) [
+      | inl e ↦
+          let now = front_stands held first.front e.0 u.now h e.1 in
+          inl (record { front = first.front; rest = e.0; parts = e.1; holds = first.holds; version = now.0; stand = now.1 })
+      | inr e ↦ inr (record { holds = subst (λ (x : List (List ℕ)). HoldsPayloads (held ++ x) c) e first.holds; takes_back = back })
+    ]
+
+-- the payloads alone
+pub image_before : (held : List (List ℕ)) (u : Undoing) (c : List ℕ) → stands held ≡ Ok u.now → HoldsPayloads held c → IsImage held u c
+image_before held u c h holds =
+    inl (record {
+      front = [];
+      rest = option_to_list (version_due u.now.version);
+      parts = refl;
+      holds = subst (λ (x : List (List ℕ)). HoldsPayloads x c) (sym (append-nil held)) holds;
+      version = u.now.version;
+      stand = ap stands (append-nil held) ∙ h;
+    })
+
+-- ---- the call
+
+module _ {K D : Type 0} (held : K → Option (List ℕ)) (content : D → Option (List ℕ)) (images : D → List ℕ → Type 0)
+    (moment : D → ℕ) (images_since : D → ℕ → List ℕ → Type 0) (room : D → Option ℕ)
+    (images_hold : (l : LogState) (d : D) (base : List (List ℕ)) (c : List ℕ) → Stands (content d) (images d) l base → images d c → HoldsPayloads base c)
+    (read_holds : (l : LogState) (d : D) (base : List (List ℕ)) → Stands (content d) (images d) l base → IfSome (content d) (HoldsPayloads base))
+    (k k' : K) (d d' : D) (before : List (List ℕ)) (u : Undoing) where
+  abbrev version : List (List ℕ)
+  version = option_to_list (version_due u.now.version)
+
+  abbrev records : List (List ℕ)
+  records = version ++ snapshot_text u ∷ []
+
+  stored_done : (d1 : D) (l l' : LogState) (status : Status) → status ≡ ending.Done → TakesBack before u → Stands (content d1) (images d1) l before
+      → StoreEnds held content images moment images_since room k d1 l k' d' l' (undo_text u) version (snapshot_text u) status
+      → UndoesCall held content images moment images_since k k' d' before u
+  stored_done d1 l l' status is back st (inl e) = record { given = e.1.given; kept = read_holds l' d' (before ++ records) (e.1.stored before st); takes_back = back }
+  stored_done d1 l l' status is back st (inr s) = elim s.status_is [ inl e ↦ absurd (never_finished s.stop status e.0 (inl is)) | inr e ↦ cc ]
+
+  -- after Done the records are stored and the lines written
+  pub undoes_call : (status : Status) → status ≡ ending.Done → UndoEnds held content images moment images_since room k d k' d' before u status
+      → UndoesCall held content images moment images_since k k' d' before u
+  undoes_call status is (inl e) = stored_done e.d1 e.log e.log' status is e.takes_back e.stands e.ends
+  undoes_call status is (inr e) = elim e.fails.0.0 [ inl f ↦ cc | inr f ↦ cc ]
+
+  -- how it ends, with no word of what the records are worth
+  pub exits_of : (status : Status) → UndoEnds held content images moment images_since room k d k' d' before u status
+      → StoresBehind held content images moment images_since room (λ d1 _. IsOpening content images moment images_since room d d1) k k' d' before (undo_text u) version (snapshot_text u) status
+      ⊎ IsUnwritten content images d d' × FailsUnopened (room d) (held k) (held k') status
+  exits_of status (inl e) = inl (record { d1 = e.d1; log = e.log; log' = e.log'; opens = e.opens; stands = e.stands; ends = e.ends })
+  exits_of status (inr e) = inr (e.opens.unwritten, e.fails)
+
+  -- ---- images
+
+  module _ (h : stands before ≡ Ok u.now) where
+    safe_of : (d1 : D) → LeavesOnly moment images_since d d1 (images d) → TakesBack before u → ((c : List ℕ) → images d' c → HoldsFirst before records c)
+        → LeavesOnly moment images_since d1 d' (HoldsFirst before records) → IsSafeUndo held content images moment images_since (images d) d d' before u
+    safe_of d1 reached back now moments = record {
+      now = λ c is. image_of before u c h back (now c is);
+      moments = leaves_then moment images_since d d1 d' (images d) (HoldsFirst before records) (λ c. images d c ⊎ IsImage before u c)
+          (λ c p. inl p) (λ c f. inr (image_of before u c h back f)) reached moments;
+    }
+
+    stopped_safe : (d1 : D) (l l' : LogState) (k1 : K) (stop : Stop) → LeavesOnly moment images_since d d1 (images d) → TakesBack before u → Stands (content d1) (images d1) l before
+        → Stops held content images moment images_since room k d1 l k1 d' l' stop [] [] [] version
+        ⊎ Stops held content images moment images_since room k d1 l k1 d' l' stop [] (undo_text u) version (snapshot_text u ∷ [])
+        → IsSafeUndo held content images moment images_since (images d) d d' before u
+    stopped_safe d1 l l' k1 stop reached back st (inl s) =
+        safe_of d1 reached back
+        (now_at held content images moment images_since room images_hold stop k k1 d1 d' l l' before records [] [] [] version (snapshot_text u ∷ []) refl s st)
+        (moments_at held content images moment images_since room images_hold stop k k1 d1 d' l l' before records [] [] [] version (snapshot_text u ∷ []) refl s st)
+    stopped_safe d1 l l' k1 stop reached back st (inr s) =
+        safe_of d1 reached back
+        (now_at held content images moment images_since room images_hold stop k k1 d1 d' l l' before records [] (undo_text u) version (snapshot_text u ∷ []) [] (append-nil records) s st)
+        (moments_at held content images moment images_since room images_hold stop k k1 d1 d' l l' before records [] (undo_text u) version (snapshot_text u ∷ []) [] (append-nil records) s st)
+
+    stored_safe : (d1 : D) (l l' : LogState) (status : Status) → LeavesOnly moment images_since d d1 (images d) → TakesBack before u → Stands (content d1) (images d1) l before
+        → StoreEnds held content images moment images_since room k d1 l k' d' l' (undo_text u) version (snapshot_text u) status
+        → IsSafeUndo held content images moment images_since (images d) d d' before u
+    stored_safe d1 l l' status reached back st (inl e) =
+        safe_of d1 reached back (λ c is. first_all before records c (images_hold l' d' (before ++ records) c (e.1.stored before st) is)) (e.1.moments before st)
+    stored_safe d1 l l' status reached back st (inr s) = stopped_safe d1 l l' s.k1 s.stop reached back st s.stops
+
+    -- the store is as it was
+    pub safe_kept : ((c : List ℕ) → images d' c → HoldsPayloads before c) → LeavesOnly moment images_since d d' (images d) → IsSafeUndo held content images moment images_since (images d) d d' before u
+    safe_kept holds moments = record {
+      now = λ c is. image_before before u c h (holds c is);
+      moments = leaves_more moment images_since d d' (images d) (λ c. images d c ⊎ IsImage before u c) (λ c p. inl p) moments;
+    }
+
+    pub safe_of_ends : (status : Status) → UndoEnds held content images moment images_since room k d k' d' before u status → IsSafeUndo held content images moment images_since (images d) d d' before u
+    safe_of_ends status (inl e) = stored_safe e.d1 e.log e.log' status e.opens.moments e.takes_back e.stands e.ends
+    safe_of_ends status (inr e) = safe_kept e.holds e.opens.moments
+
+  -- behind calls of the disk that only read
+  pub ends_behind : (d0 : D) (status : Status) → content d ≡ content d0 → ((c : List ℕ) → images d c → images d0 c) → LeavesOnly moment images_since d0 d (images d0) → room d ≡ room d0
+      → UndoEnds held content images moment images_since room k d k' d' before u status → UndoEnds held content images moment images_since room k d0 k' d' before u status
+  ends_behind d0 status same only moments roomy (inl e) = inl (record {
+    d1 = e.d1;
+    log = e.log;
+    log' = e.log';
+    opens = opening_then content images moment images_since room d0 d e.d1 same only moments roomy e.opens;
+    stands = e.stands;
+    takes_back = e.takes_back;
+    ends = e.ends;
+  })
+  ends_behind d0 status same only moments roomy (inr e) = inr (record {
+    opens = opening_then content images moment images_since room d0 d d' same only moments roomy e.opens;
+    holds = e.holds;
+    fails = (e.fails.0, λ x. subst (λ (o : Option ℕ). IsNone o) roomy (e.fails.1 x));
+  })

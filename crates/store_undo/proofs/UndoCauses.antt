@@ -1,0 +1,171 @@
+-- Why `undo` ended so, and that after some statuses the snapshot is not stored.
+use Rattle.std.proofs.Common.{◌≡◌, ◌⊎◌, inl, inr, ℕ, ◌+◌, ◌<◌, List, [], ◌∷◌, ◌++◌, length, Option, Some, None, Ok, refl, sym, ap, subst, ◌∙◌, append-nil, arith}
+use Rattle.std.specs.Prelude.{option_to_list, IfSome, IsNone}
+use Rattle.gate_log.specs.LogBytes.{records_length, closed_gate}
+use Rattle.gate_log.specs.LogOnDisk.{LogState, HoldsPayloads, Stands}
+use Rattle.stored_run.specs.Effects.{IsOver, Stops}
+use Rattle.stored_run.specs.Ends.{status_of}
+use Rattle.stored_run.specs.Refusals.{Refuses, IsUnwritten, IsOpening, FailsUnopened}
+use Rattle.stored_run.specs.Rooms.{most_bytes, HasNoRoom}
+use Rattle.stored_run.specs.StoreEnds.{StoreEnds, StoresBehind}
+use Rattle.stored_run.specs.Stopping.{IsOwnStop}
+use Rattle.stored_run.specs.declared.refusals.StoreRefusal.{StoreRefusal}
+use Rattle.stored_run.specs.declared.status.Status.{Status}
+use Rattle.stored_run.specs.declared.status.Status.TheVariants as ending
+use Rattle.stored_run.specs.declared.stop.Stop.{Stop}
+use Rattle.stored_run.specs.declared.stop.Stop.TheVariants.{LogFull, SourceFault, SinkFault, DiskFault, TooLong, NoMemory}
+use Rattle.stored_run.proofs.Effects.{records_append, room_over}
+use Rattle.stored_run.proofs.Rooms.{gate_of}
+use Rattle.stored_sessions.specs.Stands.{stands}
+use Rattle.store_undo.specs.UndoCall.{HoldsNow}
+use Rattle.store_undo.specs.UndoCauses.{UndoHasNoRoom, IsUndoCause}
+use Rattle.store_undo.specs.UndoEnds.{UndoEnds}
+use Rattle.store_undo.specs.UndoRecords.{version_due, snapshot_text, undo_text}
+use Rattle.store_undo.specs.Undoing.{Undoing}
+use Rattle.store_undo.proofs.VersionRecords.{front_stands}
+
+-- a refusal is no fault of a source
+pub refuses_sourceless : (old new : Option (List ℕ)) (refusal : StoreRefusal) (status : Status) → Refuses old new refusal status → status ≡ ending.SourceFault → ⊥
+refuses_sourceless old new refusal status (inl h) e = cc
+refuses_sourceless old new refusal status (inr (inl h)) e = cc
+refuses_sourceless old new refusal status (inr (inr h)) e = cc
+
+-- ---- no room
+
+-- the gate behind these payloads, in a log whose closed gate is known
+gate_behind : (gate : ℕ) (before front : List (List ℕ)) → gate ≡ closed_gate before → gate + records_length front ≡ closed_gate (before ++ front)
+gate_behind gate before front g =
+    let e : gate ≡ 8 + records_length before = g in
+    let is : gate + records_length front ≡ 8 + records_length (before ++ front) = omega (arith, e, records_append before front) in
+    is
+
+no_room_of : (most gate : ℕ) (before front begun whole : List (List ℕ)) → gate ≡ closed_gate (before ++ front) → whole ≡ front ++ begun → IsOver most gate begun → HasNoRoom most before whole
+no_room_of most gate before front [] whole g e h = absurd h
+no_room_of most gate before front (p ∷ rest) whole g e h =
+    let is : most < gate + 10 + length p = h in
+    record { front = front; payload = p; rest = rest; parts = e; over = omega (arith, is, g) }
+
+over_more : (most gate : ℕ) (begun more : List (List ℕ)) → IsOver most gate begun → IsOver most gate (begun ++ more)
+over_more most gate [] more h = absurd h
+over_more most gate (p ∷ rest) more h = h
+
+none_some : (o : Option ℕ) (P : ℕ → Type 0) → IsNone o → IfSome o P
+none_some None P h = tt
+none_some (Some n) P h = cc
+
+cause_at : (status other : Status) (o : Option ℕ) (before : List (List ℕ)) (u : Undoing) → status ≡ other → IsUndoCause other o before u → IsUndoCause status o before u
+cause_at status other o before u e h = subst (λ (s : Status). IsUndoCause s o before u) (sym e) h
+
+-- a status that has no cause does not come
+pub undo_complete : (status : Status) (o : Option ℕ) (before : List (List ℕ)) (u : Undoing) → IsUndoCause status o before u
+    → (status ≡ ending.SinkFault → ⊥) → (status ≡ ending.DiskFault → ⊥) → (UndoHasNoRoom most_bytes before u → ⊥) → (status ≡ ending.Done) ⊎ (status ≡ ending.NoMemory)
+undo_complete ending.Done o before u h sink disk none = inl refl
+undo_complete ending.NoMemory o before u h sink disk none = inr refl
+undo_complete ending.StoreRefused o before u h sink disk none = absurd (none h)
+undo_complete ending.SinkFault o before u h sink disk none = absurd (sink refl)
+undo_complete ending.DiskFault o before u h sink disk none = absurd (disk refl)
+undo_complete ending.SomeRefused o before u h sink disk none = absurd h
+undo_complete ending.SourceFault o before u h sink disk none = absurd h
+undo_complete ending.InputTooLong o before u h sink disk none = absurd h
+
+-- ---- statuses
+
+-- after these statuses the snapshot is not stored
+abbrev pub StoresNone : Status → Type 0
+StoresNone status = (status ≡ ending.NoMemory) ⊎ (status ≡ ending.StoreRefused)
+
+pub other_status : (status : Status) (A : Type 0) → StoresNone status → (status ≡ ending.Done) ⊎ (status ≡ ending.SinkFault) ⊎ (status ≡ ending.DiskFault) → A
+other_status status A (inl e) (inl f) = cc
+other_status status A (inl e) (inr (inl f)) = cc
+other_status status A (inl e) (inr (inr f)) = cc
+other_status status A (inr e) (inl f) = cc
+other_status status A (inr e) (inr (inl f)) = cc
+other_status status A (inr e) (inr (inr f)) = cc
+
+module _ {K D : Type 0} (held : K → Option (List ℕ)) (content : D → Option (List ℕ)) (images : D → List ℕ → Type 0)
+    (moment : D → ℕ) (images_since : D → ℕ → List ℕ → Type 0) (room : D → Option ℕ) (before : List (List ℕ)) (u : Undoing) where
+  abbrev version : List (List ℕ)
+  version = option_to_list (version_due u.now.version)
+
+  abbrev last : List (List ℕ)
+  last = snapshot_text u ∷ []
+
+  -- the call was stopped at the version record, or at the snapshot
+  abbrev StopsAt : K → D → LogState → K → D → LogState → Stop → Type 0
+  StopsAt k d l k' d' l' stop =
+      Stops held content images moment images_since room k d l k' d' l' stop [] [] [] version
+      ⊎ Stops held content images moment images_since room k d l k' d' l' stop [] (undo_text u) version last
+
+  -- ---- causes
+
+  module _ (k k1 : K) (d d' : D) (l l' : LogState) (g : l.gate ≡ closed_gate before) where
+    over_version : (most : ℕ) → IsOver most (l.gate + records_length []) version → UndoHasNoRoom most before u
+    over_version most h = no_room_of most (l.gate + records_length []) before [] (version ++ last) (version ++ last) (gate_behind l.gate before [] g) refl (over_more most (l.gate + records_length []) version last h)
+
+    over_snapshot : (most : ℕ) → IsOver most (l.gate + records_length version) last → UndoHasNoRoom most before u
+    over_snapshot most h = no_room_of most (l.gate + records_length version) before version last (version ++ last) (gate_behind l.gate before version g) refl h
+
+    stop_cause : (stop : Stop) → IsOwnStop stop → StopsAt k d l k1 d' l' stop → IsUndoCause (status_of stop) (room d) before u
+    stop_cause LogFull own (inl s) = over_version most_bytes s.full
+    stop_cause LogFull own (inr s) = over_snapshot most_bytes s.full
+    stop_cause DiskFault own (inl s) = room_over (room d) (λ most. IsOver most (l.gate + records_length []) version) (λ most. UndoHasNoRoom most before u) over_version s.full
+    stop_cause DiskFault own (inr s) = room_over (room d) (λ most. IsOver most (l.gate + records_length version) last) (λ most. UndoHasNoRoom most before u) over_snapshot s.full
+    stop_cause SinkFault own s = tt
+    stop_cause NoMemory own s = tt
+    stop_cause SourceFault own s = absurd own
+    stop_cause TooLong own s = absurd own
+
+  ends_cause : (k k' : K) (d d' : D) (l l' : LogState) (status : Status) → l.gate ≡ closed_gate before
+      → StoreEnds held content images moment images_since room k d l k' d' l' (undo_text u) version (snapshot_text u) status → IsUndoCause status (room d) before u
+  ends_cause k k' d d' l l' status g (inl h) = cause_at status ending.Done (room d) before u h.0 tt
+  ends_cause k k' d d' l l' status g (inr s) = elim s.status_is [
+    | inl e ↦ cause_at status (status_of s.stop) (room d) before u e.0 (stop_cause k s.k1 d d' l l' g s.stop s.own s.stops)
+    | inr e ↦ cause_at status ending.SinkFault (room d) before u e.1 tt
+  ]
+
+  pub undo_cause : (k k' : K) (d d' : D) (bytes : List ℕ) (status : Status) → content d ≡ Some bytes
+      → StoresBehind held content images moment images_since room (λ d1 _. IsOpening content images moment images_since room d d1) k k' d' before (undo_text u) version (snapshot_text u) status
+      ⊎ IsUnwritten content images d d' × FailsUnopened (room d) (held k) (held k') status
+      → IsUndoCause status (room d) before u
+  undo_cause k k' d d' bytes status told (inl e) =
+      let g = gate_of (content e.d1) (images e.d1) e.log before bytes (e.opens.unwritten.same ∙ told) e.stands in
+      subst (λ (o : Option ℕ). IsUndoCause status o before u) e.opens.same_room (ends_cause k k' e.d1 d' e.log e.log' status g e.ends)
+  undo_cause k k' d d' bytes status told (inr e) = elim e.1.0.0 [
+    | inl f ↦ cause_at status ending.DiskFault (room d) before u f (none_some (room d) (λ most. UndoHasNoRoom most before u) (e.1.1 f))
+    | inr f ↦ cause_at status ending.NoMemory (room d) before u f tt
+  ]
+
+  -- ---- the snapshot is not stored
+
+  module _ (images_hold : (l : LogState) (d : D) (base : List (List ℕ)) (c : List ℕ) → Stands (content d) (images d) l base → images d c → HoldsPayloads base c)
+      (h : stands before ≡ Ok u.now) where
+    holds_now : (front rest : List (List ℕ)) (c : List ℕ) → version ≡ front ++ rest → HoldsPayloads (before ++ front) c → HoldsNow before u c
+    holds_now front rest c e holds =
+        let now = front_stands before front rest u.now h e in
+        record { front = front; rest = rest; parts = e; holds = holds; version = now.0; stand = now.1 }
+
+    holds_before : (c : List ℕ) → HoldsPayloads before c → HoldsNow before u c
+    holds_before c holds = holds_now [] version c refl (subst (λ (x : List (List ℕ)). HoldsPayloads x c) (sym (append-nil before)) holds)
+
+    stop_unstored : (k k1 : K) (d d' : D) (l l' : LogState) (stop : Stop) → StoresNone (status_of stop) → Stands (content d) (images d) l before → StopsAt k d l k1 d' l' stop
+        → (c : List ℕ) → images d' c → HoldsNow before u c
+    stop_unstored k k1 d d' l l' LogFull is st (inl s) c now = holds_now [] version c refl (images_hold l' d' (before ++ []) c (s.stored before st) now)
+    stop_unstored k k1 d d' l l' LogFull is st (inr s) c now = holds_now version [] c (sym (append-nil version)) (images_hold l' d' (before ++ version) c (s.stored before st) now)
+    stop_unstored k k1 d d' l l' NoMemory is st (inl s) c now = holds_now [] version c refl (images_hold l' d' (before ++ []) c (s.stored before st) now)
+    stop_unstored k k1 d d' l l' NoMemory is st (inr s) c now = holds_now version [] c (sym (append-nil version)) (images_hold l' d' (before ++ version) c (s.stored before st) now)
+    stop_unstored k k1 d d' l l' SinkFault is st s c now = other_status ending.SinkFault (HoldsNow before u c) is (inr (inl refl))
+    stop_unstored k k1 d d' l l' DiskFault is st s c now = other_status ending.DiskFault (HoldsNow before u c) is (inr (inr refl))
+    stop_unstored k k1 d d' l l' SourceFault is st s c now = elim is [ inl e ↦ cc | inr e ↦ cc ]
+    stop_unstored k k1 d d' l l' TooLong is st s c now = elim is [ inl e ↦ cc | inr e ↦ cc ]
+
+    ends_unstored : (k k' : K) (d d' : D) (l l' : LogState) (status : Status) → StoresNone status → Stands (content d) (images d) l before
+        → StoreEnds held content images moment images_since room k d l k' d' l' (undo_text u) version (snapshot_text u) status → (c : List ℕ) → images d' c → HoldsNow before u c
+    ends_unstored k k' d d' l l' status is st (inl e) c now = other_status status (HoldsNow before u c) is (inl e.0)
+    ends_unstored k k' d d' l l' status is st (inr s) c now = elim s.status_is [
+      | inl e ↦ stop_unstored k s.k1 d d' l l' s.stop (subst StoresNone e.0 is) st s.stops c now
+      | inr e ↦ other_status status (HoldsNow before u c) is (inr (inl e.1))
+    ]
+
+    pub unstored_of : (k k' : K) (d d' : D) (status : Status) → StoresNone status → UndoEnds held content images moment images_since room k d k' d' before u status → (c : List ℕ) → images d' c → HoldsNow before u c
+    unstored_of k k' d d' status is (inl e) c now = ends_unstored k k' e.d1 d' e.log e.log' status is e.stands e.ends c now
+    unstored_of k k' d d' status is (inr e) c now = holds_before c (e.holds c now)

@@ -1,0 +1,86 @@
+use Rattle.std.proofs.Common.{inl, inr, ℕ, List, Option, subst, refl}
+use Rattle.std.specs.Prelude.{option_to_list}
+use Rattle.std.proofs.KnownBytes.{Appends-nil}
+use Rattle.stored_run.specs.StoreEnds.{StoreEnds}
+use Rattle.stored_run.proofs.Openings.{unwritten_none, opening_none}
+use Rattle.stored_run.proofs.StoredPayloads.{images_held}
+use Rattle.store_undo.specs.Making.{IsMakingFault}
+use Rattle.store_undo.specs.UndoEnds.{UndoEnds}
+use Rattle.store_undo.specs.UndoRecords.{version_due, snapshot_text}
+use Rattle.store_undo.specs.Undoing.{Undoing, undoing, undo_refusal}
+use Rattle.store_undo.proofs.UndoCauses.{refuses_sourceless}
+use Rattle.store_undo.proofs.UndoRefusals.{same_refusal, never_refused, same_undoing}
+use Rattle.store_undo.proofs.undo_call.undo_payloads.Goals as goal
+
+pub returns-in-Ok-clause-ends : goal.returns-in-Ok-clause-ends
+returns-in-Ok-clause-ends g c =
+    let disk = g.D.Disk in
+    let held = g.K.Sink.held in
+    let only = g.met.D.Disk.only_now in
+    let hold = images_held disk.content disk.images g.met.D.Disk.content_is_image in
+    let k = c.args.sink.now in
+    let k' = c.store_making.new.sink in
+    let d = c.args.disk.now in
+    let d' = c.store_making.new.disk in
+    let l = c.args.log.now in
+    let l' = c.store_making.new.log in
+    let before = c.args.payloads in
+    let made = c.in-Ok.ensures in
+    let making = c.in-Ok.making in
+    let status = c.store_making.result in
+    λ u st h.
+    let same = same_undoing (undoing c.args.count before) made.u u made.is h in
+    subst (λ (x : Undoing). UndoEnds held disk.content disk.images disk.moment disk.images_since disk.room k d k' d' before x status) same
+    (inl (record {
+      d1 = d;
+      log = l;
+      log' = l';
+      stands = st;
+      opens = opening_none disk.content disk.images disk.moment disk.images_since disk.room only d;
+      takes_back = made.takes_back;
+      ends =
+          subst (λ (y : List ℕ). StoreEnds held disk.content disk.images disk.moment disk.images_since disk.room k d l k' d' l' y (option_to_list (version_due made.u.now.version)) (snapshot_text made.u) status) made.lines
+          (subst (λ (v : Option (List ℕ)). StoreEnds held disk.content disk.images disk.moment disk.images_since disk.room k d l k' d' l' making.texts.lines (option_to_list v) (snapshot_text made.u) status) made.version
+          (subst (λ (x : List ℕ). StoreEnds held disk.content disk.images disk.moment disk.images_since disk.room k d l k' d' l' making.texts.lines (option_to_list making.version) x status) made.snapshot
+          c.store_making.ensures.ends));
+    }))
+
+pub returns-in-Ok-clause-refused : goal.returns-in-Ok-clause-refused
+returns-in-Ok-clause-refused g c = λ refusal q. absurd (never_refused c.args.count c.args.payloads c.in-Ok.ensures.u refusal c.in-Ok.ensures.is q)
+
+pub returns-in-Err-Refused-clause-ends : goal.returns-in-Err-Refused-clause-ends
+returns-in-Err-Refused-clause-ends g c = λ u st h. absurd (never_refused c.args.count c.args.payloads u c.in-Err-Refused.refusal h (subst (IsMakingFault (undo_refusal c.args.count c.args.payloads)) c.in-Err-Refused.field-0-is c.in-Err-Refused.ensures))
+
+pub returns-in-Err-Refused-clause-refused : goal.returns-in-Err-Refused-clause-refused
+returns-in-Err-Refused-clause-refused g c =
+    let disk = g.D.Disk in
+    let held = g.K.Sink.held in
+    λ refusal q. (
+      unwritten_none disk.content disk.images c.args.disk.now,
+      same_refusal c.in-Err-Refused.refusal refusal (undo_refusal c.args.count c.args.payloads) (held c.args.sink.now) (held c.refuse.new.sink) c.refuse.result
+          (subst (IsMakingFault (undo_refusal c.args.count c.args.payloads)) c.in-Err-Refused.field-0-is c.in-Err-Refused.ensures) q c.refuse.ensures.refuses,
+    )
+
+pub returns-in-Err-NoMemory-clause-ends : goal.returns-in-Err-NoMemory-clause-ends
+returns-in-Err-NoMemory-clause-ends g c =
+    let disk = g.D.Disk in
+    let held = g.K.Sink.held in
+    let only = g.met.D.Disk.only_now in
+    let hold = images_held disk.content disk.images g.met.D.Disk.content_is_image in
+    let d = c.args.disk.now in
+    let l = c.args.log.now in
+    let before = c.args.payloads in
+    λ u st h.
+    inr (record {
+      opens = opening_none disk.content disk.images disk.moment disk.images_since disk.room only d;
+      holds = λ x now. hold l d before x st now;
+      fails = ((inr refl, Appends-nil (held c.args.sink.now)), λ e. cc);
+    })
+
+pub returns-in-Err-NoMemory-clause-refused : goal.returns-in-Err-NoMemory-clause-refused
+returns-in-Err-NoMemory-clause-refused g c =
+    let disk = g.D.Disk in
+    λ refusal q. (unwritten_none disk.content disk.images c.args.disk.now, inr (inr refl, Appends-nil (g.K.Sink.held c.args.sink.now)))
+
+pub returns-in-Err-Refused-clause-no_source : goal.returns-in-Err-Refused-clause-no_source
+returns-in-Err-Refused-clause-no_source g c = λ e. refuses_sourceless (g.K.Sink.held c.args.sink.now) (g.K.Sink.held c.refuse.new.sink) c.in-Err-Refused.refusal c.refuse.result c.refuse.ensures.refuses e

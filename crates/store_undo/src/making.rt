@@ -1,0 +1,151 @@
+//! What `undo` stores and writes, which is made before anything is stored.
+
+ghost use Rattle.std.specs.Prelude.{◌≡◌, Ok, Some, IfOk, MatchResult};
+ghost use Rattle.edit_session.specs.Step.{TripleTree, IsInStep};
+ghost use Rattle.lens_core.specs.Consistency.{IsConsistent};
+ghost use Rattle.edit_session.specs.Views.{triple_tree};
+ghost use Rattle.lens_core.specs.Translation.{translate};
+ghost use Rattle.lens_forms.specs.Forms.{form_tree, left_type, right_type};
+ghost use Rattle.stored_sessions.specs.Stands.{Standing, stands};
+ghost use Rattle.store_undo.specs.Making.{AreTexts, IsMade, IsMakingFault, fault_of};
+ghost use Rattle.store_undo.specs.Undoing.{undo_refusal};
+ghost use Rattle.undo_words.specs.Undone.{BothTrees, BringsBack, undone};
+ghost use Rattle.undo_words.specs.Views.{both_tree, change_trees};
+
+use crate::last_changes::{last_changes, payloads_before};
+use crate::opening::{open, open_again, version_record};
+use crate::undo_texts::{Texts, texts_of};
+use edit_module::Change;
+use edit_session::{Session, Triple};
+use lens_flat::Flat;
+use lens_io::Payloads;
+use std::alloc::{AllocError, Global};
+use stored_records::ReopenFault;
+use stored_run::StoreRefusal;
+use texts::{Bytes, Twin};
+use undo_words::{BothWords, undo_changes};
+
+// What is stored and written: the version record, if there is one to store, the snapshot and the lines.
+#[derive(Drop)]
+pub(crate) struct Making {
+    pub(crate) version: Option<Bytes>,
+    pub(crate) texts: Texts,
+}
+
+// Why nothing is made.
+#[derive(Clone, Copy)]
+pub(crate) enum MakingFault {
+    // The payloads are refused.
+    Refused(StoreRefusal),
+    // Memory ran out.
+    NoMemory,
+}
+
+impl From<AllocError> for MakingFault {
+    ghost use Rattle.std.specs.Prelude.{◌≡◌};
+    ghost use Rattle.store_undo.specs.declared.making.MakingFault.TheVariants.{NoMemory};
+
+    ghost from_gives = { λ _ fault. fault ≡ NoMemory };
+
+    fn from(_: AllocError) -> MakingFault {
+        MakingFault::NoMemory
+    }
+}
+
+// What `undo` stores and writes over these payloads, or why they are refused.
+pub(crate) fn make(alloc: Global, count: u64, payloads: Payloads) -> Result<Making, MakingFault>
+    ensures { MatchResult result (IsMade count payloads) (IsMakingFault (undo_refusal count payloads)) }
+{
+    match open(alloc, &payloads) {
+        Ok(opened) => make_opened(alloc, count, payloads, opened.version),
+        Err(fault) => Err(refused(fault)),
+    }
+}
+
+// The same over payloads that represent a session, in a store of this version.
+fn make_opened(
+    alloc: Global,
+    count: u64,
+    payloads: Payloads,
+    version: u64,
+) -> Result<Making, MakingFault>
+    requires stood { (now : Standing) × (stands payloads ≡ Ok now) }
+    ensures { (now : Standing) → stands payloads ≡ Ok now → version ≡ now.version
+        → MatchResult result (IsMade count payloads) (IsMakingFault (undo_refusal count payloads)) }
+{
+    let Some(changes) = last_changes(alloc, &payloads, count)? else {
+        return Err(MakingFault::Refused(StoreRefusal::NothingToUndo));
+    };
+    let before = payloads_before(payloads, count);
+    let listed = changes.as_slice();
+    let texts = make_texts(alloc, &before, listed)?;
+    let version = version_record(alloc, version)?;
+    Ok(Making { version, texts })
+}
+
+// The fault in the words of a store.
+fn refused(fault: ReopenFault) -> MakingFault
+    ensures { result ≡ fault_of fault }
+{
+    match fault {
+        ReopenFault::BadRecord { number } => {
+            MakingFault::Refused(StoreRefusal::BadRecord { number })
+        }
+        ReopenFault::NotConsistent { number } => {
+            MakingFault::Refused(StoreRefusal::NotConsistent { number })
+        }
+        ReopenFault::NoMemory => MakingFault::NoMemory,
+    }
+}
+
+// The snapshot of what these payloads represent, and the lines of the words that take the changes behind them back.
+fn make_texts(alloc: Global, before: &Payloads, changes: &[Change]) -> Result<Texts, AllocError>
+    requires accepted { (was : Standing) × (r : TripleTree × BothTrees) × (stands before.now ≡ Ok was)
+        × (undone (left_type was.form) (right_type was.form) (translate was.form) was.triple (change_trees changes.now) ≡ Some r) }
+    ensures { IfOk result (λ made. (was : Standing) (r : TripleTree × BothTrees) → stands before.now ≡ Ok was
+        → undone (left_type was.form) (right_type was.form) (translate was.form) was.triple (change_trees changes.now) ≡ Some r
+        → AreTexts was.form was.triple r.1 made
+        × BringsBack (left_type was.form) (right_type was.form) r.1 r.0 was.triple) }
+{
+    let mut session = open_again(alloc, before)?;
+    let words = words_of(alloc, &mut session, changes)?;
+    let texts = texts_of(alloc, &session, &words)?;
+    Ok(texts)
+}
+
+// The words that take the changes of a session back. The session is as it was before them.
+fn words_of(
+    alloc: Global,
+    session: &mut Session<Flat>,
+    changes: &[Change],
+) -> Result<BothWords, AllocError>
+    requires accepted { (r : TripleTree × BothTrees)
+        × (undone (left_type (form_tree session.old.lens.typed)) (right_type (form_tree session.old.lens.typed))
+        (translate (form_tree session.old.lens.typed)) (triple_tree session.old.triple) (change_trees changes.now) ≡ Some r) }
+    ensures words { IfOk result (λ words. (r : TripleTree × BothTrees)
+        → undone (left_type (form_tree session.old.lens.typed)) (right_type (form_tree session.old.lens.typed))
+        (translate (form_tree session.old.lens.typed)) (triple_tree session.old.triple) (change_trees changes.now) ≡ Some r
+        → (both_tree words ≡ r.1)
+        × BringsBack (left_type (form_tree session.old.lens.typed)) (right_type (form_tree session.old.lens.typed))
+        r.1 r.0 (triple_tree session.old.triple)) }
+    ensures lens { session.new.lens ≡ session.old.lens }
+    ensures triple { IfOk result (λ words. triple_tree session.new.triple ≡ triple_tree session.old.triple) }
+{
+    let earlier = triple_of(alloc, session)?;
+    let Some(words) = undo_changes(alloc, session, changes)? else {
+        unreachable!()
+    };
+    session.replace(earlier);
+    Ok(words)
+}
+
+// A copy of the triple of a session.
+fn triple_of(alloc: Global, session: &Session<Flat>) -> Result<Triple, AllocError>
+    ensures is { IfOk result (λ t. triple_tree t ≡ triple_tree session.now.triple) }
+    ensures consistent { IfOk result (λ t. IsInStep (IsConsistent (form_tree session.now.lens.typed)) (triple_tree t)) }
+{
+    let left = session.left().twin(alloc)?;
+    let comp = session.comp().twin(alloc)?;
+    let right = session.right().twin(alloc)?;
+    Ok(Triple { left, comp, right })
+}

@@ -1,0 +1,185 @@
+//! The command `undo`, from its first call of the disk on.
+ghost use Rattle.std.specs.Prelude.{◌≡◌, ◌⊎◌, List, ℕ, Some, option_to_list};
+ghost use Rattle.lens_io.specs.Causes.{Increased, SinkFailed};
+ghost use Rattle.gate_log.specs.LogOnDisk.{HoldsPayloads, Stands};
+ghost use Rattle.stored_run.specs.Refusals.{IsUnwritten, IsOpening, EndsRefused, FailsUnopened};
+ghost use Rattle.stored_run.specs.Rooms.{most_bytes};
+ghost use Rattle.stored_run.specs.StoreEnds.{StoresBehind, StoreEnds};
+ghost use Rattle.stored_run.specs.declared.refusals.StoreRefusal.{StoreRefusal};
+ghost use Rattle.store_undo.specs.UndoCall.{HoldsNow, UndoesCall, IsSafeUndo, IsUntouched};
+ghost use Rattle.store_undo.specs.UndoCauses.{UndoHasNoRoom, IsUndoCause};
+ghost use Rattle.store_undo.specs.UndoEnds.{UndoEnds};
+ghost use Rattle.store_undo.specs.Undoing.{Undoing, undoing, undo_refusal, refusal_in};
+ghost use Rattle.store_undo.specs.UndoRecords.{version_due, snapshot_text, undo_text};
+
+use crate::making::{Making, MakingFault, make};
+use gate_log::{Log, open_log};
+use lens_io::{Disk, Payloads, Sink};
+use std::alloc::Global;
+use stored_run::{Status, give_stop, pack_store, refuse, refuse_log};
+
+/// Opens a store, and takes its documents and its complement back to what they were before the last `count` changes.
+///
+/// It stores a snapshot of that triple behind the payloads, in a store of version 1 the version record before it, and then writes
+/// the lines `undo left WORD` and `undo right WORD` and the state lines. Each word takes the document of its side back. The payloads
+/// and the lines are made before anything is stored.
+///
+/// - `undoes`: after `Done` the payloads are those from before, the version record if there was one to store, and the snapshot.
+///   They represent the triple before the last changes, which is consistent. The lines were written, and the word of each line
+///   acts on the document of its side from before the call and gives that of the snapshot.
+/// - `safe`: whatever the status, an image that a crash leaves holds the payloads from before, or these and the version record,
+///   which represent the triple from before the call; or these and the snapshot, which represent the triple before the last
+///   changes. If the sync of the opening failed, nothing has changed.
+/// - `exits`: what was written and what is stored after each status, if the last `count` payloads are of changes.
+/// - `unstored`: after `NoMemory` and `StoreRefused` the snapshot is not stored, whatever a crash leaves.
+/// - `causes`: over such payloads `StoreRefused` comes only if the log had no room for the version record or the snapshot, and
+///   `DiskFault`, if the disk's room is known, only if the disk had none. The source is not there, and no item is refused.
+/// - `complete`: so with no fault, and if the log has room, the status is `Done` or `NoMemory`.
+/// - `refused`: the line `store refused: REASON` is written, unless the disk failed or memory ran out before. Nothing is written
+///   to the disk. The reasons are `not-a-log`, `bad-record N`, `not-consistent N`, and `nothing-to-undo` if and only if the
+///   payloads represent a session, and their last `count` records are not all of changes or there are not so many.
+/// - `no_source`, `sink_fault`, `disk_fault`: there is no fault of a source, and these statuses come only if that device failed.
+pub fn undo<K: Sink, D: Disk>(alloc: Global, count: u64, sink: &mut K, disk: &mut D) -> Status
+    ensures undoes { (before : List (List ℕ)) (bytes : List ℕ) (u : Undoing)
+        → D.content disk.old ≡ Some bytes → HoldsPayloads before bytes
+        → undoing count before ≡ Some u → result ≡ Status.Done
+        → UndoesCall K.held D.content D.images D.moment D.images_since
+        sink.old sink.new disk.new before u }
+    ensures safe { (before : List (List ℕ)) (bytes : List ℕ) (u : Undoing)
+        → D.content disk.old ≡ Some bytes → HoldsPayloads before bytes
+        → undoing count before ≡ Some u
+        → (result ≡ Status.DiskFault)
+        × IsUntouched K.held D.content D.images D.moment D.images_since
+        sink.old disk.old sink.new disk.new
+        ⊎ IsSafeUndo K.held D.content D.images D.moment D.images_since
+        (D.images disk.old) disk.old disk.new before u }
+    ensures exits { (before : List (List ℕ)) (bytes : List ℕ) (u : Undoing)
+        → D.content disk.old ≡ Some bytes → HoldsPayloads before bytes
+        → undoing count before ≡ Some u
+        → StoresBehind K.held D.content D.images D.moment D.images_since D.room
+        (λ d1 _. IsOpening D.content D.images D.moment D.images_since D.room disk.old d1)
+        sink.old sink.new disk.new
+        before (undo_text u) (option_to_list (version_due u.now.version)) (snapshot_text u) result
+        ⊎ IsUnwritten D.content D.images disk.old disk.new
+        × FailsUnopened (D.room disk.old) (K.held sink.old) (K.held sink.new) result }
+    ensures unstored { (before : List (List ℕ)) (bytes : List ℕ) (u : Undoing)
+        → D.content disk.old ≡ Some bytes → HoldsPayloads before bytes
+        → undoing count before ≡ Some u
+        → (result ≡ Status.NoMemory) ⊎ (result ≡ Status.StoreRefused)
+        → (image : List ℕ) → D.images disk.new image → HoldsNow before u image }
+    ensures causes { (before : List (List ℕ)) (bytes : List ℕ) (u : Undoing)
+        → D.content disk.old ≡ Some bytes → HoldsPayloads before bytes
+        → undoing count before ≡ Some u
+        → IsUndoCause result (D.room disk.old) before u }
+    ensures complete { (before : List (List ℕ)) (bytes : List ℕ) (u : Undoing)
+        → D.content disk.old ≡ Some bytes → HoldsPayloads before bytes
+        → undoing count before ≡ Some u
+        → (SinkFailed K.faults K.empty_takes K.room K.held sink.old sink.new → ⊥)
+        → (Increased (D.faults disk.old) (D.faults disk.new) → ⊥)
+        → (UndoHasNoRoom most_bytes before u → ⊥)
+        → (result ≡ Status.Done) ⊎ (result ≡ Status.NoMemory) }
+    ensures refused { (bytes : List ℕ) (refusal : StoreRefusal)
+        → D.content disk.old ≡ Some bytes → refusal_in count bytes ≡ Some refusal
+        → IsUnwritten D.content D.images disk.old disk.new
+        × EndsRefused (K.held sink.old) (K.held sink.new) refusal result }
+    ensures no_source { result ≡ Status.SourceFault → ⊥ }
+    ensures sink_fault { result ≡ Status.SinkFault
+        → SinkFailed K.faults K.empty_takes K.room K.held sink.old sink.new }
+    ensures disk_fault { result ≡ Status.DiskFault
+        → Increased (D.faults disk.old) (D.faults disk.new) }
+{
+    match open_log(disk) {
+        Ok(log) => {
+            let mut log = log;
+            undo_log(alloc, count, &mut log, sink, disk)
+        }
+        Err(fault) => refuse_log(alloc, fault, sink),
+    }
+}
+
+// Undoes the last changes of a store whose log was opened.
+fn undo_log<K: Sink, D: Disk>(
+    alloc: Global,
+    count: u64,
+    log: &mut Log,
+    sink: &mut K,
+    disk: &mut D,
+) -> Status
+    requires stands { (base : List (List ℕ)) × Stands (D.content disk.old) (D.images disk.old) log.old base }
+    ensures ends { (before : List (List ℕ)) (bytes : List ℕ) (u : Undoing)
+        → D.content disk.old ≡ Some bytes → Stands (D.content disk.old) (D.images disk.old) log.old before
+        → undoing count before ≡ Some u
+        → UndoEnds K.held D.content D.images D.moment D.images_since D.room
+        sink.old disk.old sink.new disk.new before u result }
+    ensures refused { (before : List (List ℕ)) (bytes : List ℕ) (refusal : StoreRefusal)
+        → D.content disk.old ≡ Some bytes → Stands (D.content disk.old) (D.images disk.old) log.old before
+        → undo_refusal count before ≡ Some refusal
+        → IsUnwritten D.content D.images disk.old disk.new
+        × EndsRefused (K.held sink.old) (K.held sink.new) refusal result }
+    ensures no_source { result ≡ Status.SourceFault → ⊥ }
+    ensures sink_fault { result ≡ Status.SinkFault
+        → SinkFailed K.faults K.empty_takes K.room K.held sink.old sink.new }
+    ensures disk_fault { result ≡ Status.DiskFault
+        → Increased (D.faults disk.old) (D.faults disk.new) }
+{
+    match log.payloads(alloc, disk) {
+        Ok(payloads) => undo_payloads(alloc, count, payloads, log, sink, disk),
+        Err(fault) => refuse_log(alloc, fault, sink),
+    }
+}
+
+// Undoes the last changes of a store of these payloads.
+fn undo_payloads<K: Sink, D: Disk>(
+    alloc: Global,
+    count: u64,
+    payloads: Payloads,
+    log: &mut Log,
+    sink: &mut K,
+    disk: &mut D,
+) -> Status
+    requires stands { (base : List (List ℕ)) × Stands (D.content disk.old) (D.images disk.old) log.old base }
+    ensures ends { (u : Undoing) → Stands (D.content disk.old) (D.images disk.old) log.old payloads
+        → undoing count payloads ≡ Some u
+        → UndoEnds K.held D.content D.images D.moment D.images_since D.room
+        sink.old disk.old sink.new disk.new payloads u result }
+    ensures refused { (refusal : StoreRefusal) → undo_refusal count payloads ≡ Some refusal
+        → IsUnwritten D.content D.images disk.old disk.new
+        × EndsRefused (K.held sink.old) (K.held sink.new) refusal result }
+    ensures no_source { result ≡ Status.SourceFault → ⊥ }
+    ensures sink_fault { result ≡ Status.SinkFault
+        → SinkFailed K.faults K.empty_takes K.room K.held sink.old sink.new }
+    ensures disk_fault { result ≡ Status.DiskFault
+        → Increased (D.faults disk.old) (D.faults disk.new) }
+{
+    match make(alloc, count, payloads) {
+        Ok(making) => store_making(alloc, &making, log, sink, disk),
+        Err(MakingFault::Refused(refusal)) => refuse(alloc, refusal, sink),
+        Err(MakingFault::NoMemory) => Status::NoMemory,
+    }
+}
+
+// Stores what was made, and writes its lines.
+fn store_making<K: Sink, D: Disk>(
+    alloc: Global,
+    making: &Making,
+    log: &mut Log,
+    sink: &mut K,
+    disk: &mut D,
+) -> Status
+    requires stands { (base : List (List ℕ)) × Stands (D.content disk.old) (D.images disk.old) log.old base }
+    ensures ends { StoreEnds K.held D.content D.images D.moment D.images_since D.room
+        sink.old disk.old log.old sink.new disk.new log.new
+        making.now.texts.lines (option_to_list making.now.version) making.now.texts.snapshot result }
+    ensures no_source { result ≡ Status.SourceFault → ⊥ }
+    ensures sink_fault { result ≡ Status.SinkFault
+        → SinkFailed K.faults K.empty_takes K.room K.held sink.old sink.new }
+    ensures disk_fault { result ≡ Status.DiskFault
+        → Increased (D.faults disk.old) (D.faults disk.new) }
+{
+    let snapshot = making.texts.snapshot.as_slice();
+    let lines = making.texts.lines.as_slice();
+    match pack_store(alloc, log, disk, sink, &making.version, snapshot, lines) {
+        Ok(()) => Status::Done,
+        Err(stop) => give_stop(stop, sink),
+    }
+}

@@ -1,0 +1,98 @@
+//! What `undo` stores and writes, of a session and two words.
+
+ghost use Rattle.std.specs.Prelude.{◌≡◌, ◌++◌, true, codes, IfOk, OnOk, IsTrue};
+ghost use Rattle.serde_json.specs.Written.{compact_text};
+ghost use Rattle.doc_values.specs.Documents.{doc_tree};
+ghost use Rattle.doc_values.specs.Types.{ty_tree, is_well_formed};
+ghost use Rattle.doc_values.specs.Typing.{has};
+ghost use Rattle.value_json.specs.DocumentJson.{holds_i64s};
+ghost use Rattle.edit_json.specs.WordJson.{tree_of_word};
+ghost use Rattle.edit_module.specs.Views.{word_tree};
+ghost use Rattle.edit_session.specs.Views.{triple_tree};
+ghost use Rattle.answer_text.specs.Lines.{tree_line};
+ghost use Rattle.journal_answers.specs.Answers.{state_lines};
+ghost use Rattle.lens_forms.specs.Forms.{form_tree};
+ghost use Rattle.store_undo.specs.Making.{IsSnapshot, AreTexts};
+ghost use Rattle.undo_words.specs.Views.{both_tree};
+
+use doc_values::{Doc, Ty};
+use edit_json::append_word;
+use edit_module::Word;
+use edit_session::Session;
+use journal_answers::state_lines;
+use lens_flat::Flat;
+use std::alloc::{AllocError, Global};
+use stored_records::snapshot_payload;
+use texts::Bytes;
+use undo_words::BothWords;
+use value_json::write_doc;
+
+// The payload of a snapshot, and the lines of `undo`.
+#[derive(Drop)]
+pub(crate) struct Texts {
+    pub(crate) snapshot: Bytes,
+    pub(crate) lines: Bytes,
+}
+
+// The snapshot of a session, and the lines of these words with its state lines.
+pub(crate) fn texts_of(
+    alloc: Global,
+    session: &Session<Flat>,
+    words: &BothWords,
+) -> Result<Texts, AllocError>
+    ensures { IfOk result (AreTexts (form_tree session.now.lens.typed) (triple_tree session.now.triple) (both_tree words.now)) }
+{
+    let snapshot = snapshot_of(alloc, session)?;
+    let lines = lines_of(alloc, session, words)?;
+    Ok(Texts { snapshot, lines })
+}
+
+// The payload of a snapshot of the session's triple.
+fn snapshot_of(alloc: Global, session: &Session<Flat>) -> Result<Bytes, AllocError>
+    ensures { IfOk result (IsSnapshot (form_tree session.now.lens.typed) (triple_tree session.now.triple)) }
+{
+    let typed = session.lens().typed();
+    let (left, comp, right) = (session.left(), session.comp(), session.right());
+    // The proof needs that the form is typed, and that the ints of the documents are i64, which these calls say.
+    let _form = typed.form();
+    read_ints(alloc, typed.left(), left)?;
+    read_ints(alloc, typed.right(), right)?;
+    let payload = snapshot_payload(alloc, typed, left, comp, right)?;
+    Ok(payload)
+}
+
+// Writes a document as a tree, which is not kept: the tree reads back as the document, so its ints are i64.
+fn read_ints(alloc: Global, ty: &Ty, doc: &Doc) -> Result<(), AllocError>
+    requires well_formed { IsTrue (is_well_formed (ty_tree ty.now)) }
+    requires typed { IsTrue (has (ty_tree ty.now) (doc_tree doc.now)) }
+    ensures { OnOk result (holds_i64s (doc_tree doc.now) ≡ true) }
+{
+    let _tree = write_doc(alloc, ty, doc)?;
+    Ok(())
+}
+
+// The lines `undo left WORD` and `undo right WORD`, and the state lines of the session.
+#[tactic(auto, using(crate::proofs::Lenses::own_lens))]
+fn lines_of(alloc: Global, session: &Session<Flat>, words: &BothWords) -> Result<Bytes, AllocError>
+    ensures { IfOk result (λ lines. lines ≡ tree_line (codes "undo left") (tree_of_word (word_tree words.now.left))
+        ++ (tree_line (codes "undo right") (tree_of_word (word_tree words.now.right))
+        ++ state_lines (form_tree session.now.lens.typed) (triple_tree session.now.triple))) }
+{
+    let left = with_word(Vec::new(alloc), b"undo left ", &words.left)?;
+    let mut text = with_word(left, b"undo right ", &words.right)?;
+    let state = state_lines(alloc, session.lens().typed(), session)?;
+    text.extend_from_slice(&state)?;
+    Ok(Bytes::from_vec(text))
+}
+
+// These bytes, and behind them a label, the compact text of a word and a line feed.
+fn with_word(bytes: Vec<u8>, label: &[u8], word: &Word) -> Result<Vec<u8>, AllocError>
+    ensures { IfOk result (λ all. all.items
+        ≡ bytes.items ++ (label.now ++ (compact_text (tree_of_word (word_tree word.now)) ++ codes "\n"))) }
+{
+    let mut bytes = bytes;
+    bytes.extend_from_slice(label)?;
+    let mut bytes = append_word(bytes, word)?;
+    bytes.extend_from_slice(b"\n")?;
+    Ok(bytes)
+}

@@ -1,0 +1,5 @@
+pub mod Parts
+pub mod Steps
+pub mod Entries
+pub mod Accepted
+pub mod OneEntry
