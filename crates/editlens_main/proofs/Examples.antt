@@ -8,15 +8,14 @@ use Rattle.edit_module.specs.declared.atom.Atom.TheVariants.{Number}
 use Rattle.texts.specs.declared.side.Side.TheVariants.{Left, Right}
 use Rattle.edit_module.specs.declared.fault.Cause.TheVariants.{Place}
 use Rattle.doc_values.specs.Types.{ty_int}
-use Rattle.lens_forms.specs.Forms.{FormTree, form_id, form_rec, form_each, both, no_rows, left_type, right_type}
+use Rattle.lens_forms.specs.Forms.{FormTree, form_id, form_rec, form_each, both, no_rows}
 use Rattle.lens_core.specs.Complements.{nil, rec_comp, hold_comp, more_comps, no_comps}
-use Rattle.lens_core.specs.Translation.{translate}
 use Rattle.std.specs.Fmt.{digits}
 use Rattle.serde_json.proofs.OnLiterals.{serde_json_on_literals}
 use Rattle.edit_module.specs.Changes.{one}
 use Rattle.edit_journal.specs.EntryJson.{not_an_edit}
 use Rattle.editlens_main.specs.Generated.{summary_lines}
-use Rattle.edit_session.specs.Step.{TripleTree, step}
+use Rattle.edit_session.specs.Step.{TripleTree}
 use Rattle.edit_session.specs.Run.{carried, no_apply, no_entry}
 use Rattle.journal_answers.specs.Answers.{answer_line, state_lines}
 use Rattle.journal_answers.specs.Runs.{first_of, run_of}

@@ -6,4 +6,6 @@ pub mod RunEnds
 pub mod RunInStep
 pub mod ScriptEnds
 pub mod ScriptStatuses
+pub mod StoreRefusals
 pub mod StoreStatuses
+pub mod SureEnds

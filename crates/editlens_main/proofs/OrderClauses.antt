@@ -1,7 +1,8 @@
 -- What holds of each command, from what holds of the order that was read. And nothing was done: memory ran out at the words.
-use Rattle.std.proofs.Common.{◌≡◌, ◌⊎◌, inl, inr, ℕ, ◌+◌, ◌≤◌, List, [], length, Bool, true, false, true≢false, Option, Some, None, IfSome, refl, sym, ap, subst, ◌∙◌, arith}
+use Rattle.std.proofs.Common.{◌≡◌, ◌⊎◌, inl, inr, ℕ, ◌<◌, ◌≤◌, List, [], length, true, false, true≢false, Option, Some, None, IfSome, refl, sym, ap, subst, ◌∙◌, arith}
 use Rattle.std.specs.Prelude.{option_and_then}
 use Rattle.std.proofs.KnownBytes.{Appends-nil, Consumes-nil}
+use Rattle.std.proofs.lemmas.Option.{same_Some}
 use Rattle.command_words.specs.declared.orders.Order.{Order}
 use Rattle.command_words.specs.declared.orders.Order.TheVariants as order
 use Rattle.journal_input.specs.declared.limits.TheConstants.{MOST_BYTES}
@@ -18,19 +19,22 @@ use Rattle.script_run.proofs.Ends.{ended_never as script_ended_never}
 use Rattle.script_run.specs.declared.status.ScriptStatus.TheVariants as script
 use Rattle.stored_run.proofs.Moments.{leaves_same}
 use Rattle.stored_run.proofs.Openings.{unwritten_none}
-use Rattle.stored_run.specs.declared.refusals.StoreRefusal.{StoreRefusal}
+use Rattle.stored_run.specs.Refusals.{IsUnwritten, refusal_line}
+use Rattle.stored_run.specs.declared.refusals.StoreRefusal.TheVariants.{LogExists}
 use Rattle.stored_run.specs.declared.status.Status.TheVariants as store
-use Rattle.making_steps.specs.Ends.{IsComplete}
-use Rattle.store_making.specs.Init.{Begins}
+use Rattle.making_steps.specs.Ends.{Ends, GivesLine, IsComplete}
+use Rattle.making_steps.specs.declared.status.MakingStatus.{MakingStatus}
 use Rattle.making_steps.specs.declared.status.MakingStatus.TheVariants as making
+use Rattle.store_import.specs.Import as importing
+use Rattle.store_import.specs.Import.{Brings}
+use Rattle.store_making.specs.Init.{Begins, Refuses}
 use Rattle.store_session.specs.StoredStates.{StoredState}
-use Rattle.editlens_main.specs.Commands.{served, script_command, reads_source, uses_disk}
-use Rattle.editlens_main.specs.Ends.{IsFinished, GivesUsage}
-use Rattle.editlens_main.specs.MakingEnds.{InitEnds}
+use Rattle.editlens_main.specs.Commands.{script_command, reads_source, uses_disk}
+use Rattle.editlens_main.specs.Ends.{IsFinished}
+use Rattle.editlens_main.specs.MakingEnds.{FindsLog, InitEnds, ImportEnds}
 use Rattle.editlens_main.specs.OrderEnds.{ScriptEnds, GenEnds, EndsOrder}
 use Rattle.editlens_main.specs.ScriptEnds.{HubEnds, LinkEnds}
-use Rattle.editlens_main.specs.StoreClauses.{shown, verified}
-use Rattle.editlens_main.specs.StoreEnds.{ApplyEnds, PackEnds, ViewEnds}
+use Rattle.editlens_main.specs.StoreEnds.{ApplyEnds, PackEnds, UndoingEnds, ViewEnds}
 use Rattle.editlens_main.specs.StoreStatus.{MakesAs}
 use Rattle.editlens_main.specs.declared.commands.Command.{Command}
 use Rattle.editlens_main.specs.declared.commands.Command.TheVariants.{Run, Check}
@@ -42,25 +46,14 @@ use Rattle.editlens_main.proofs.ScriptStatuses.{script_never}
 
 -- ---- the order that was read
 
-is_served : (o p : Order) → served o ≡ Some p → o ≡ p
-is_served order.Run p e = cc
-is_served order.Check p e = cc
-is_served (order.Gen count seed) p e = cc
-is_served order.Init p e = cc
-is_served order.Apply p e = cc
-is_served order.Show p e = cc
-is_served order.Verify p e = cc
-is_served order.Pack p e = cc
-is_served order.Hub p e = cc
-is_served order.Link p e = cc
-is_served (order.Undo count) p e = cc
-is_served order.Import p e = cc
+pub not_reading : (o p : Order) → o ≡ p → reads_source (Some p) ≡ true → reads_source (Some o) ≡ false → ⊥
+not_reading o p e reads not = true≢false (sym (ap (λ x. reads_source (Some x)) e ∙ reads) ∙ not)
 
-pub not_reading : (o p : Order) → o ≡ p → reads_source (served p) ≡ true → reads_source (served o) ≡ false → ⊥
-not_reading o p e reads not = true≢false (sym (ap (λ x. reads_source (served x)) e ∙ reads) ∙ not)
+pub not_diskless : (o p : Order) → o ≡ p → uses_disk (Some p) ≡ true → uses_disk (Some o) ≡ false → ⊥
+not_diskless o p e uses not = true≢false (sym (ap (λ x. uses_disk (Some x)) e ∙ uses) ∙ not)
 
-pub not_diskless : (o p : Order) → o ≡ p → uses_disk (served p) ≡ true → uses_disk (served o) ≡ false → ⊥
-not_diskless o p e uses not = true≢false (sym (ap (λ x. uses_disk (served x)) e ∙ uses) ∙ not)
+pub not_none : (o : Order) (q : Option Order) → q ≡ Some o → q ≡ None → ⊥
+not_none o q named e = let never : Some o ≡ None = sym named ∙ e in cc
 
 -- ---- what a command comes to
 
@@ -69,44 +62,26 @@ module _ {S K D : Type 0}
     (moment : D → ℕ) (images_since : D → ℕ → List ℕ → Type 0) (room : D → Option ℕ)
     (s : S) (k : K) (d : D) (s' : S) (k' : K) (d' : D) (R F W : Type 0) (status : Status) where
   -- the order that the words give is the one that was read
-  pub at_order : (o p : Order) (q : Option Order) → q ≡ served o → EndsOrder left held content images moment images_since room s k d s' k' d' R F W status o → q ≡ Some p → EndsOrder left held content images moment images_since room s k d s' k' d' R F W status p
-  at_order o p q named ends e = subst (λ x. EndsOrder left held content images moment images_since room s k d s' k' d' R F W status x) (is_served o p (sym named ∙ e)) ends
+  pub at_order : (o p : Order) (q : Option Order) → q ≡ Some o → EndsOrder left held content images moment images_since room s k d s' k' d' R F W status o → q ≡ Some p → EndsOrder left held content images moment images_since room s k d s' k' d' R F W status p
+  at_order o p q named ends e = subst (λ x. EndsOrder left held content images moment images_since room s k d s' k' d' R F W status x) (same_Some o p (sym named ∙ e)) ends
 
-  script_read : (o : Order) (command : Command) → option_and_then script_command (served o) ≡ Some command → EndsOrder left held content images moment images_since room s k d s' k' d' R F W status o → ScriptEnds command (left s) (left s') (held k) (held k') R F status
+  script_read : (o : Order) (command : Command) → script_command o ≡ Some command → EndsOrder left held content images moment images_since room s k d s' k' d' R F W status o → ScriptEnds command (left s) (left s') (held k) (held k') R F status
   script_read order.Run command e ends = let same : Run ≡ command = cc in subst (λ c. ScriptEnds c (left s) (left s') (held k) (held k') R F status) same ends
   script_read order.Check command e ends = let same : Check ≡ command = cc in subst (λ c. ScriptEnds c (left s) (left s') (held k) (held k') R F status) same ends
   script_read (order.Gen count seed) command e ends = cc
   script_read order.Init command e ends = cc
+  script_read order.Import command e ends = cc
   script_read order.Apply command e ends = cc
   script_read order.Show command e ends = cc
   script_read order.Verify command e ends = cc
   script_read order.Pack command e ends = cc
+  script_read (order.Undo count) command e ends = cc
   script_read order.Hub command e ends = cc
   script_read order.Link command e ends = cc
-  script_read (order.Undo count) command e ends = cc
-  script_read order.Import command e ends = cc
 
   -- the same for a command over a script
-  pub at_script : (o : Order) (command : Command) (q : Option Order) → q ≡ served o → EndsOrder left held content images moment images_since room s k d s' k' d' R F W status o → option_and_then script_command q ≡ Some command → ScriptEnds command (left s) (left s') (held k) (held k') R F status
+  pub at_script : (o : Order) (command : Command) (q : Option Order) → q ≡ Some o → EndsOrder left held content images moment images_since room s k d s' k' d' R F W status o → option_and_then script_command q ≡ Some command → ScriptEnds command (left s) (left s') (held k) (held k') R F status
   at_script o command q named ends e = script_read o command (ap (option_and_then script_command) (sym named) ∙ e) ends
-
-  usage_read : (o : Order) → served o ≡ None → EndsOrder left held content images moment images_since room s k d s' k' d' R F W status o → GivesUsage (held k) (held k') status
-  usage_read order.Run e ends = cc
-  usage_read order.Check e ends = cc
-  usage_read (order.Gen count seed) e ends = cc
-  usage_read order.Init e ends = cc
-  usage_read order.Apply e ends = cc
-  usage_read order.Show e ends = cc
-  usage_read order.Verify e ends = cc
-  usage_read order.Pack e ends = cc
-  usage_read order.Hub e ends = cc
-  usage_read order.Link e ends = cc
-  usage_read (order.Undo count) e ends = ends
-  usage_read order.Import e ends = ends
-
-  -- the same if the words name none
-  pub at_none : (o : Order) (q : Option Order) → q ≡ served o → EndsOrder left held content images moment images_since room s k d s' k' d' R F W status o → q ≡ None → GivesUsage (held k) (held k') status
-  at_none o q named ends e = usage_read o (sym named ∙ e) ends
 
 -- ---- memory ran out at the words
 
@@ -114,9 +89,10 @@ not_memory : IsFinished NoMemory → ⊥
 not_memory (inl e) = cc
 not_memory (inr e) = cc
 
-never_complete : (left : Option (List ℕ)) (R F W : Type 0) → IfSome left (λ bytes. length bytes ≤ MOST_BYTES → (R → ⊥) → (F → ⊥) → (W → ⊥) → MakesAs (IsComplete Begins bytes) NoMemory)
-never_complete None R F W = tt
-never_complete (Some bytes) R F W = λ few r f w. (making.NoMemory, refl, record { accepted = λ form is fits. tt; refused = λ refusal is. tt })
+never_complete : (makes : List ℕ → List (List ℕ) → List ℕ → Type 0) (left : Option (List ℕ)) (R F W : Type 0)
+    → IfSome left (λ bytes. length bytes ≤ MOST_BYTES → (R → ⊥) → (F → ⊥) → (W → ⊥) → MakesAs (IsComplete makes bytes) NoMemory)
+never_complete makes None R F W = tt
+never_complete makes (Some bytes) R F W = λ few r f w. (making.NoMemory, refl, record { accepted = λ form is fits. tt; refused = λ refusal is. tt })
 
 module _ {S K D : Type 0}
     (left : S → Option (List ℕ)) (held : K → Option (List ℕ)) (content : D → Option (List ℕ)) (images : D → List ℕ → Type 0)
@@ -130,23 +106,48 @@ module _ {S K D : Type 0}
   pub never_gen : (count seed : ℕ) → GenEnds count seed (held k) (held k) F NoMemory
   never_gen count seed = record { writes = Appends-nil (held k); complete = λ f. inr refl }
 
-  pub never_init : InitEnds content images (left s) (left s) (held k) (held k) d d R F W NoMemory
-  never_init = record {
-    starts = λ e. cc;
-    ends = (
-      making.NoMemory,
-      refl,
-      inr (inl (record {
-        bytes = [];
-        consumes = Consumes-nil (left s);
-        at_most = omega arith;
-        stops = tt;
-        unwritten = unwritten_none content images d;
-        given = Appends-nil (held k);
-      })),
-    );
-    complete = λ empty. never_complete (left s) R F W;
-  }
+  never_finds : FindsLog held content images s k d s k d NoMemory
+  never_finds = by_content (content d) where
+    by_content : (o : Option (List ℕ)) → IfSome o (λ bytes. 0 < length bytes
+        → (s ≡ s) × IsUnwritten content images d d
+        × MakesAs (λ ended. GivesLine (held k) (held k) (refusal_line LogExists) making.StoreRefused ended
+        ⊎ ((ended ≡ making.DiskFault) ⊎ (ended ≡ making.NoMemory)) × (k ≡ k)) NoMemory)
+    by_content None = tt
+    by_content (Some bytes) = λ some. (refl, unwritten_none content images d, (making.NoMemory, refl, inr (inr refl, refl)))
+
+  -- nothing was taken, and nothing was written
+  never_ends : (refuses : Option (List ℕ) → List ℕ → MakingStatus → List ℕ → Type 0) (makes : List ℕ → List (List ℕ) → List ℕ → Type 0)
+      → MakesAs (Ends content images refuses makes (left s) (left s) (held k) (held k) d d) NoMemory
+  never_ends refuses makes = (
+    making.NoMemory,
+    refl,
+    inr (inl (record {
+      bytes = [];
+      consumes = Consumes-nil (left s);
+      at_most = omega arith;
+      stops = tt;
+      unwritten = unwritten_none content images d;
+      given = Appends-nil (held k);
+    })),
+  )
+
+  pub never_init : InitEnds content images room (left s) (left s) (held k) (held k) d d R F W NoMemory × FindsLog held content images s k d s k d NoMemory
+  never_init = (
+    record { starts = λ e. cc; ends = never_ends Refuses Begins; cause = λ e. cc; complete = λ empty. never_complete Begins (left s) R F W },
+    never_finds,
+  )
+
+  pub never_import : ImportEnds content images room (left s) (left s) (held k) (held k) d d R F W NoMemory × FindsLog held content images s k d s k d NoMemory
+  never_import = (
+    record {
+      brings = λ e. cc;
+      refuses = λ e. cc;
+      ends = never_ends importing.Refuses Brings;
+      cause = λ e. cc;
+      complete = λ empty. never_complete Brings (left s) R F W;
+    },
+    never_finds,
+  )
 
   pub never_apply : ApplyEnds held content images moment images_since room F W R (left s) (left s) k d k d NoMemory
   never_apply = record {
@@ -184,6 +185,24 @@ module _ {S K D : Type 0}
     refused = λ refusal stood. (unwritten_none content images d, (store.NoMemory, refl, inr (inr refl, Appends-nil (held k))));
   }
 
+  pub never_undo : (count : ℕ) → UndoingEnds held content images moment images_since room F W count k d k d NoMemory
+  never_undo count = record {
+    undoes = λ before u stood e. cc;
+    crash = λ before u stood. inl (
+      inr refl,
+      record {
+        given = Appends-nil (held k);
+        only = λ c now. now;
+        moments = leaves_same moment images_since d (images d) (only d);
+      },
+    );
+    exits = λ before u stood. (store.NoMemory, refl, inr (unwritten_none content images d, ((inr refl, Appends-nil (held k)), λ e. cc)));
+    unstored = λ before u stood e image now. inl now;
+    causes = λ before u stood. (store.NoMemory, refl, tt);
+    complete = λ before u stood f w full. inr refl;
+    refused = λ refusal stood. (unwritten_none content images d, (store.NoMemory, refl, inr (inr refl, Appends-nil (held k))));
+  }
+
   pub never_view : (text : StoredState → List (List ℕ) → List ℕ) → ViewEnds held content images moment images_since room F W text k d k d NoMemory
   never_view text = record {
     shows = λ before t version stood. (store.NoMemory, refl, inr (inr (inr refl, Appends-nil (held k))));
@@ -191,6 +210,7 @@ module _ {S K D : Type 0}
     refused = λ refusal stood. (unwritten_none content images d, (store.NoMemory, refl, inr (inr refl, Appends-nil (held k))));
     unwritten = unwritten_none content images d;
     moments = leaves_same moment images_since d (images d) (only d);
+    sure = λ e. cc;
   }
 
   pub never_hub : HubEnds (left s) (left s) (held k) (held k) R F NoMemory

@@ -1,5 +1,5 @@
 -- The ends of a call behind the separator, where the program part is accepted.
-use Rattle.std.proofs.Common.{◌≡◌, inl, inr, ℕ, ◌+◌, ◌^◌, ◌≤◌, List, [], ◌++◌, length, Bool, Option, Some, None, option_map, Result, Ok, Err, map, refl, sym, ap, ap₂, subst, ◌∙◌, append-nil, append_assoc, length-append, arith}
+use Rattle.std.proofs.Common.{◌≡◌, inl, inr, ℕ, ◌+◌, ◌≤◌, List, [], ◌++◌, length, Bool, Option, Some, None, option_map, Result, Ok, Err, refl, sym, ap, ap₂, subst, ◌∙◌, append-nil, append_assoc, length-append, arith}
 use Rattle.std.specs.Prelude.{IfOk, option_to_list}
 use Rattle.std.specs.declared.alloc.AllocError.{AllocError}
 use Rattle.std.specs.Io.KnownBytes.{Consumes}
@@ -10,7 +10,7 @@ use Rattle.edit_journal.specs.Pieces.{FedLines, nothing_fed, fed, last_line}
 use Rattle.edit_journal.specs.declared.line.Line.{Line}
 use Rattle.edit_journal.proofs.Feeding.{joins, all_lines_given}
 use Rattle.edit_session.specs.Step.{TripleTree}
-use Rattle.edit_session.specs.Run.{any_refused, last}
+use Rattle.edit_session.specs.Run.{any_refused}
 use Rattle.lens_forms.specs.Forms.{FormTree, left_type, right_type}
 use Rattle.lens_core.specs.Translation.{translate}
 use Rattle.journal_input.specs.declared.limits.TheConstants.{MOST_BYTES}
@@ -24,7 +24,7 @@ use Rattle.script_parts.specs.Coming.{journal_lines, HasPart}
 use Rattle.script_parts.specs.Lines.{program_part, journal}
 use Rattle.script_parts.specs.Parts.{HoldsPart, IsHead, IsTaken, ReadsPart, ReadsAll}
 use Rattle.script_parts.specs.declared.script.ProgramText.{ProgramText}
-use Rattle.journal_answers.specs.Answers.{answer_lines, state_lines, text_from}
+use Rattle.journal_answers.specs.Answers.{state_lines, text_from}
 use Rattle.journal_answers.specs.Running.{come, written, written_after}
 use Rattle.journal_answers.specs.Runs.{JournalItem, JournalAnswer, first_of, run_of, items_of}
 use Rattle.journal_answers.specs.declared.journal.Progress.{Progress}
@@ -35,7 +35,7 @@ use Rattle.journal_stream.specs.declared.stopped.Stopped.{Stopped}
 use Rattle.journal_stream.specs.declared.stopped.Stopped.TheVariants as stop
 use Rattle.editlens_main.specs.Ending.{Ended, Gives, EndsReport}
 use Rattle.editlens_main.specs.Ends.{answers_with, AnswersBut, AnswersAll, AnswersFirst, GoesOn}
-use Rattle.editlens_main.specs.Report.{ending, type_lines, run_report, report_with, report}
+use Rattle.editlens_main.specs.Report.{ending, type_lines, report_with, report}
 use Rattle.editlens_main.specs.Status.{status_of}
 use Rattle.editlens_main.specs.declared.commands.Command.{Command}
 use Rattle.editlens_main.specs.declared.commands.Command.TheVariants.{Run, Check}

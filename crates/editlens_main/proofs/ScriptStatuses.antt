@@ -1,5 +1,5 @@
 -- Ends of the commands `hub` and `link`, as the program has them.
-use Rattle.std.proofs.Common.{◌≡◌, ◌⊎◌, inl, inr, ◌≤◌, ℕ, List, length, Option, Some, None, IfSome, Result, refl}
+use Rattle.std.proofs.Common.{◌≡◌, inl, inr, ◌≤◌, ℕ, List, length, Option, Some, None, IfSome, Result, refl}
 use Rattle.journal_input.specs.declared.limits.TheConstants.{MOST_BYTES}
 use Rattle.script_run.specs.Ends.{IsComplete, IsFinished as IsScriptFinished}
 use Rattle.script_run.specs.declared.status.ScriptStatus.{ScriptStatus}

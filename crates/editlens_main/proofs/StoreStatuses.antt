@@ -1,16 +1,18 @@
 -- Ends of commands over a store, as the program has them.
-use Rattle.std.proofs.Common.{◌≡◌, ◌⊎◌, inl, inr, ap, ◌∙◌, ◌≤◌, ℕ, List, length, Option, Some, None, IfSome, refl}
+use Rattle.std.proofs.Common.{◌≡◌, ◌⊎◌, inl, inr, ap, ◌∙◌, ◌<◌, ◌≤◌, ℕ, List, length, Option, Some, None, IfSome, refl}
 use Rattle.journal_input.specs.declared.limits.TheConstants.{MOST_BYTES}
-use Rattle.making_steps.specs.Ends.{IsComplete}
-use Rattle.store_making.specs.Init.{Begins}
+use Rattle.making_steps.specs.Ends.{GivesLine, IsComplete}
 use Rattle.making_steps.specs.declared.status.MakingStatus.{MakingStatus}
+use Rattle.making_steps.specs.declared.status.MakingStatus.TheVariants as making
+use Rattle.stored_run.specs.Refusals.{IsUnwritten, refusal_line}
+use Rattle.stored_run.specs.declared.refusals.StoreRefusal.TheVariants.{LogExists}
 use Rattle.stored_run.specs.Ends.{IsFinished as IsStoreFinished}
 use Rattle.stored_run.specs.declared.status.Status.{Status as StoreStatus}
 use Rattle.stored_run.specs.declared.status.Status.TheVariants as store
 use Rattle.editlens_main.specs.Ends.{IsFinished}
 use Rattle.editlens_main.specs.StoreStatus.{status_of_store, status_of_making, MakesAs}
 use Rattle.editlens_main.specs.declared.status.Status.{Status}
-use Rattle.editlens_main.specs.declared.status.Status.TheVariants.{Done, NoMemory}
+use Rattle.editlens_main.specs.declared.status.Status.TheVariants.{Done, StoreRefused, NoMemory}
 
 -- a command that came to its end did so as a command over a store
 pub finished_store : (status : Status) (ended : StoreStatus) → status ≡ status_of_store ended → IsFinished status → IsStoreFinished ended
@@ -39,9 +41,43 @@ pub ends_done : (status : Status) (ended : StoreStatus) → status ≡ status_of
 ends_done status ended is (inl e) = inl (is ∙ ap status_of_store e)
 ends_done status ended is (inr e) = inr (is ∙ ap status_of_store e)
 
--- the completeness of a command that makes a store, for its status
-pub made_complete : (left : Option (List ℕ)) (R F W : Type 0) (ended : MakingStatus) (status : Status) → status ≡ status_of_making ended
-    → IfSome left (λ bytes. length bytes ≤ MOST_BYTES → (R → ⊥) → (F → ⊥) → (W → ⊥) → IsComplete Begins bytes ended)
-    → IfSome left (λ bytes. length bytes ≤ MOST_BYTES → (R → ⊥) → (F → ⊥) → (W → ⊥) → MakesAs (IsComplete Begins bytes) status)
-made_complete None R F W ended status is h = tt
-made_complete (Some bytes) R F W ended status is h = λ few r f w. (ended, is, h few r f w)
+-- a command that memory or the log stopped did so as a command over a store
+pub unfinished : (status : Status) (ended : StoreStatus) → status ≡ status_of_store ended → (status ≡ NoMemory) ⊎ (status ≡ StoreRefused) → (ended ≡ store.NoMemory) ⊎ (ended ≡ store.StoreRefused)
+unfinished status store.NoMemory is h = inl refl
+unfinished status store.StoreRefused is h = inr refl
+unfinished status store.Done is (inl e) = cc
+unfinished status store.Done is (inr e) = cc
+unfinished status store.SomeRefused is (inl e) = cc
+unfinished status store.SomeRefused is (inr e) = cc
+unfinished status store.SourceFault is (inl e) = cc
+unfinished status store.SourceFault is (inr e) = cc
+unfinished status store.SinkFault is (inl e) = cc
+unfinished status store.SinkFault is (inr e) = cc
+unfinished status store.DiskFault is (inl e) = cc
+unfinished status store.DiskFault is (inr e) = cc
+unfinished status store.InputTooLong is (inl e) = cc
+unfinished status store.InputTooLong is (inr e) = cc
+
+module _ (makes : List ℕ → List (List ℕ) → List ℕ → Type 0) (R F W : Type 0) (ended : MakingStatus) (status : Status) (is : status ≡ status_of_making ended) where
+  -- the completeness of a command that makes a store, for its status
+  pub made_complete : (left : Option (List ℕ)) → IfSome left (λ bytes. length bytes ≤ MOST_BYTES → (R → ⊥) → (F → ⊥) → (W → ⊥) → IsComplete makes bytes ended)
+      → IfSome left (λ bytes. length bytes ≤ MOST_BYTES → (R → ⊥) → (F → ⊥) → (W → ⊥) → MakesAs (IsComplete makes bytes) status)
+  made_complete None h = tt
+  made_complete (Some bytes) h = λ few r f w. (ended, is, h few r f w)
+
+module _ {S K D : Type 0} (held : K → Option (List ℕ)) (content : D → Option (List ℕ)) (images : D → List ℕ → Type 0)
+    (s : S) (k : K) (d : D) (s' : S) (k' : K) (d' : D) (ended : MakingStatus) (status : Status) (is : status ≡ status_of_making ended) where
+  -- what such a command does over a disk that is not empty, for its status
+  pub finds_log : (o : Option (List ℕ)) → IfSome o (λ bytes. 0 < length bytes
+      → (s' ≡ s) × IsUnwritten content images d d'
+      × (GivesLine (held k) (held k') (refusal_line LogExists) making.StoreRefused ended ⊎ (ended ≡ making.DiskFault) × (k' ≡ k)))
+      → IfSome o (λ bytes. 0 < length bytes
+      → (s' ≡ s) × IsUnwritten content images d d'
+      × MakesAs (λ e. GivesLine (held k) (held k') (refusal_line LogExists) making.StoreRefused e
+      ⊎ ((e ≡ making.DiskFault) ⊎ (e ≡ making.NoMemory)) × (k' ≡ k)) status)
+  finds_log None h = tt
+  finds_log (Some bytes) h = λ some. let x = h some in (x.0, x.1, (ended, is, given x.2)) where
+    given : GivesLine (held k) (held k') (refusal_line LogExists) making.StoreRefused ended ⊎ (ended ≡ making.DiskFault) × (k' ≡ k)
+        → GivesLine (held k) (held k') (refusal_line LogExists) making.StoreRefused ended ⊎ ((ended ≡ making.DiskFault) ⊎ (ended ≡ making.NoMemory)) × (k' ≡ k)
+    given (inl x) = inl x
+    given (inr x) = inr (inl x.0, x.1)

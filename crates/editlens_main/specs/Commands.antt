@@ -7,15 +7,9 @@ use Rattle.command_words.specs.declared.orders.Order.TheVariants as order
 use Rattle.editlens_main.specs.declared.commands.Command.{Command}
 use Rattle.editlens_main.specs.declared.commands.Command.TheVariants.{Run, Check}
 
--- The commands that the program has so far. The words of the others name no command yet.
-abbrev pub served : Order → Option Order
-served (order.Undo count) = None
-served order.Import = None
-served other = Some other
-
 -- the order that the words give
 abbrev pub order_named : List (String Global) → Option Order
-order_named words = option_and_then served (order_of (map string_bytes words))
+order_named words = order_of (map string_bytes words)
 
 -- the commands that are said by the report of a script
 abbrev pub script_command : Order → Option Command
@@ -32,6 +26,7 @@ abbrev pub reads_source : Option Order → Bool
 reads_source (Some order.Run) = true
 reads_source (Some order.Check) = true
 reads_source (Some order.Init) = true
+reads_source (Some order.Import) = true
 reads_source (Some order.Apply) = true
 reads_source (Some order.Hub) = true
 reads_source (Some order.Link) = true
@@ -40,12 +35,14 @@ reads_source other = false
 -- whether a command calls the disk; words that name none do not
 abbrev pub uses_disk : Option Order → Bool
 uses_disk (Some order.Init) = true
+uses_disk (Some order.Import) = true
 uses_disk (Some order.Apply) = true
 uses_disk (Some order.Show) = true
 uses_disk (Some order.Verify) = true
 uses_disk (Some order.Pack) = true
+uses_disk (Some (order.Undo count)) = true
 uses_disk other = false
 
 -- the line that is written if the words name no command
 abbrev pub usage_line : List ℕ
-usage_line = codes "usage: editlens run|check|init|apply|show|verify|pack|gen N SEED|hub|link" ++ 10 ∷ []
+usage_line = codes "usage: editlens run|check|init|apply|show|verify|pack|gen N SEED|hub|link|undo K|import" ++ 10 ∷ []

@@ -8,6 +8,9 @@ pub mod Report
 pub mod ScriptEnds
 pub mod ScriptStatus
 pub mod Status
+pub mod StoreBytes
 pub mod StoreClauses
 pub mod StoreEnds
 pub mod StoreStatus
+pub mod SureEnds
+pub mod UndoClauses

@@ -4,12 +4,12 @@ use Rattle.std.specs.declared.option.Option.{Option}
 use Rattle.command_words.specs.declared.orders.Order.{Order}
 use Rattle.command_words.specs.declared.orders.Order.TheVariants as order
 use Rattle.journal_input.specs.declared.limits.TheConstants.{MOST_BYTES}
-use Rattle.editlens_main.specs.Ends.{IsFinished, Reports, Stops, GivesUsage, IsComplete}
+use Rattle.editlens_main.specs.Ends.{IsFinished, Reports, Stops, IsComplete}
 use Rattle.editlens_main.specs.Generated.{WritesSummary}
-use Rattle.editlens_main.specs.MakingEnds.{InitEnds}
+use Rattle.editlens_main.specs.MakingEnds.{FindsLog, InitEnds, ImportEnds}
 use Rattle.editlens_main.specs.ScriptEnds.{HubEnds, LinkEnds}
 use Rattle.editlens_main.specs.StoreClauses.{shown, verified}
-use Rattle.editlens_main.specs.StoreEnds.{ApplyEnds, PackEnds, ViewEnds}
+use Rattle.editlens_main.specs.StoreEnds.{ApplyEnds, PackEnds, UndoingEnds, ViewEnds}
 use Rattle.editlens_main.specs.declared.commands.Command.{Command}
 use Rattle.editlens_main.specs.declared.commands.Command.TheVariants.{Run, Check}
 use Rattle.editlens_main.specs.declared.status.Status.{Status}
@@ -34,12 +34,12 @@ module _ {S K D : Type 0} (left : S → Option (List ℕ)) (held : K → Option 
   EndsOrder order.Run = ScriptEnds Run (left s) (left s') (held k) (held k') R F status
   EndsOrder order.Check = ScriptEnds Check (left s) (left s') (held k) (held k') R F status
   EndsOrder (order.Gen count seed) = GenEnds count seed (held k) (held k') F status
-  EndsOrder order.Init = InitEnds content images (left s) (left s') (held k) (held k') d d' R F W status
+  EndsOrder order.Init = InitEnds content images room (left s) (left s') (held k) (held k') d d' R F W status × FindsLog held content images s k d s' k' d' status
+  EndsOrder order.Import = ImportEnds content images room (left s) (left s') (held k) (held k') d d' R F W status × FindsLog held content images s k d s' k' d' status
   EndsOrder order.Apply = ApplyEnds held content images moment images_since room F W R (left s) (left s') k d k' d' status
   EndsOrder order.Show = ViewEnds held content images moment images_since room F W shown k d k' d' status
   EndsOrder order.Verify = ViewEnds held content images moment images_since room F W verified k d k' d' status
   EndsOrder order.Pack = PackEnds held content images moment images_since room F W k d k' d' status
+  EndsOrder (order.Undo count) = UndoingEnds held content images moment images_since room F W count k d k' d' status
   EndsOrder order.Hub = HubEnds (left s) (left s') (held k) (held k') R F status
   EndsOrder order.Link = LinkEnds (left s) (left s') (held k) (held k') R F status
-  EndsOrder (order.Undo count) = GivesUsage (held k) (held k') status
-  EndsOrder order.Import = GivesUsage (held k) (held k') status

@@ -1,9 +1,7 @@
 -- What the top call says of `apply`, `show`, `verify` and `pack`: the clauses of stored_run, for the sessions of store_session.
 -- A store is said by `IsStore`. Then come the clauses of each command.
-use Rattle.std.specs.Prelude.{◌≡◌, ◌⊎◌, ℕ, List, [], Some, Ok}
+use Rattle.std.specs.Prelude.{◌≡◌, ◌⊎◌, ℕ, List, Some, Ok}
 use Rattle.std.specs.declared.option.Option.{Option}
-use Rattle.std.specs.Io.KnownBytes.{Consumes}
-use Rattle.lens_io.specs.Disks.{LeavesOnly}
 use Rattle.gate_log.specs.LogOnDisk.{HoldsPayloads}
 use Rattle.stored_run.specs.ApplyCall.{ContinuesCall, IsUnopened, IsSafeCall, EndsCall}
 use Rattle.stored_run.specs.CountLines.{consistent_line}

@@ -2,7 +2,7 @@
 
 /// The line that is written if the words name no command.
 pub const USAGE: &str =
-    "usage: editlens run|check|init|apply|show|verify|pack|gen N SEED|hub|link\n";
+    "usage: editlens run|check|init|apply|show|verify|pack|gen N SEED|hub|link|undo K|import\n";
 
 /// A command that reads a script.
 #[derive(Clone, Copy, Debug, PartialEq, Eq)]

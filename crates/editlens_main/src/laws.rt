@@ -1,12 +1,15 @@
-//! Laws of runs. Each function here does nothing: its clause is the law.
-ghost use Rattle.std.specs.Prelude.{◌≡◌, ℕ, List, Ok};
+//! Laws of runs and of stores. Each function here does nothing: its clauses are the law.
+ghost use Rattle.std.specs.Prelude.{◌≡◌, ℕ, List, Some, Ok};
 ghost use Rattle.std.specs.declared.option.Option.{Option};
 ghost use Rattle.lens_forms.specs.Forms.{FormTree};
 ghost use Rattle.accepted_programs.specs.Program.{lens_of};
 ghost use Rattle.journal_answers.specs.Runs.{JournalItem};
 ghost use Rattle.store_session.specs.Journals.{IsStateInStep};
 ghost use Rattle.store_session.specs.StoredStates.{StoredState, stands_for};
+ghost use Rattle.stored_run.specs.Refusals.{refusal_in};
+ghost use Rattle.stored_run.specs.declared.refusals.StoreRefusal.{StoreRefusal};
 ghost use Rattle.editlens_main.specs.Ends.{RunStaysInStep};
+ghost use Rattle.editlens_main.specs.StoreBytes.{HoldsState, IsRefusedOrInStep};
 
 use store_session::laws::stored_is_in_step;
 
@@ -19,12 +22,19 @@ pub fn every_run_stays_in_step()
     ensures { (text : List ℕ) (form : FormTree) (items : List JournalItem) → lens_of text ≡ Ok form → RunStaysInStep form items }
 {}
 
-/// Every store stays in step: whatever its payloads are, the state for which they stand is in the consistency relation of its
+/// Every store stays in step: whatever its payloads are, the state that they represent is in the consistency relation of its
 /// lens.
-///
-/// So a store of any bytes is refused, or the commands over it go on from a consistent triple.
 pub fn every_store_stays_in_step()
     ensures { (payloads : List (List ℕ)) (state : StoredState) (version : Option (List ℕ)) → stands_for payloads ≡ Ok (state, version) → IsStateInStep state }
 {
     stored_is_in_step()
 }
+
+/// Whatever bytes a disk holds, they are refused as a store, or they are a log whose payloads represent a state that is in step.
+///
+/// - `either`: one of the two is so for all bytes, so the commands over a store refuse them or go on from a consistent triple.
+/// - `one`: both are never so.
+pub fn every_disk_is_refused_or_in_step()
+    ensures either { (bytes : List ℕ) → IsRefusedOrInStep bytes }
+    ensures one { (bytes : List ℕ) (refusal : StoreRefusal) → refusal_in stands_for bytes ≡ Some refusal → HoldsState bytes → ⊥ }
+{}

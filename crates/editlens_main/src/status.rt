@@ -14,7 +14,7 @@ use stored_run::Status as StoreStatus;
 pub enum Status {
     /// Every entry was accepted.
     Done = 0,
-    /// At least one entry was refused, and nothing stopped the run.
+    /// At least one entry was refused, or `import` refused its document, and nothing stopped the call.
     SomeRefused = 1,
     /// The words name no command.
     Usage = 2,
@@ -57,6 +57,7 @@ impl Status {
     /// The status of a command over a store that ended so.
     pub fn of_store(ended: StoreStatus) -> Status
         ensures is { result ≡ status_of_store ended }
+        ensures done { result ≡ Status.Done → ended ≡ StoreStatus.Done }
         ensures source { result ≡ Status.SourceFault → ended ≡ StoreStatus.SourceFault }
         ensures sink { result ≡ Status.SinkFault → ended ≡ StoreStatus.SinkFault }
         ensures disk { result ≡ Status.DiskFault → ended ≡ StoreStatus.DiskFault }
@@ -78,6 +79,7 @@ impl Status {
     pub fn of_making(ended: MakingStatus) -> Status
         ensures is { result ≡ status_of_making ended }
         ensures done { result ≡ Status.Done → ended ≡ MakingStatus.Done }
+        ensures refused { result ≡ Status.SomeRefused → ended ≡ MakingStatus.SomeRefused }
         ensures source { result ≡ Status.SourceFault → ended ≡ MakingStatus.SourceFault }
         ensures sink { result ≡ Status.SinkFault → ended ≡ MakingStatus.SinkFault }
         ensures disk { result ≡ Status.DiskFault → ended ≡ MakingStatus.DiskFault }
@@ -95,6 +97,7 @@ impl Status {
             MakingStatus::NoMemory => Status::NoMemory,
         }
     }
+
     /// The status of a command over a script that ended so.
     pub fn of_script(ended: ScriptStatus) -> Status
         ensures is { result ≡ status_of_script ended }

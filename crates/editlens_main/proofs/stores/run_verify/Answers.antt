@@ -12,6 +12,7 @@ returns-clause-ends g c =
       refused = λ refusal r. (e.unwritten, (ended, is, e.refused r.bytes refusal r.read r.refused));
       unwritten = e.unwritten;
       moments = e.moments;
+      sure = λ h. e.sure (c.of_store.ensures.disk h);
     }
 
 pub returns-clause-no_source : goal.returns-clause-no_source

@@ -1,5 +1,4 @@
-use Rattle.std.proofs.Common.{◌≡◌, ◌≤◌, ℕ, Ok, Err, length, sym, subst, ap, ◌∙◌, arith}
-use Rattle.std.specs.Prelude.{IfOk}
+use Rattle.std.proofs.Common.{Ok, Err, length, sym, subst, arith}
 use Rattle.lens_io.specs.Content.{IsFull}
 use Rattle.lens_forms.specs.Forms.{form_tree}
 use Rattle.edit_session.specs.Views.{triple_tree}
