@@ -1,8 +1,8 @@
 #!/usr/bin/env bash
-# Refuses memory one request at a time: bash bench/memory.sh. For run, init, apply and pack, over scripts of ten lines, the program is
-# run once for each request that it makes, and that one request is refused. It is to end as it does with ample memory, or with status 9:
-# then with whole lines from the front of what it writes with ample memory, and with a store as docs/FORMATS.md says. It is run by hand, over
-# the proved program; it needs a C compiler for the library that refuses.
+# Refuses memory one request at a time: bash bench/memory.sh. For run, init, apply, pack, undo and import, over scripts of ten lines and one
+# document, the program is run once for each request that it makes, and that one request is refused. It is to end as it does with ample
+# memory, or with status 9: then with whole lines from the front of what it writes with ample memory, and with a store as docs/FORMATS.md
+# says. It is run by hand, over the proved program; it needs a C compiler for the library that refuses.
 set -eu
 
 here=$(cd "$(dirname "${BASH_SOURCE[0]}")/.." && pwd)
@@ -93,6 +93,7 @@ LINES = [
     '{"side":"left","edit":[{"at":["plan",[{"reorder":[1,0,2]}]]}]}',
 ]
 JOURNAL = ''.join(line + '\n' for line in LINES)
+DOCUMENT = '{"hours":8,"plan":[{"todo":"Paint"},{"done":"Lock"}]}\n'
 
 
 def run(words, text, store, refused=0, counted=None):
@@ -144,7 +145,9 @@ def is_allowed(words, before, ample, refused):
         return held == stored[:len(had) + answered(output)]
     if words[0] == 'init':
         return not after or held == []
-    if words[0] == 'pack':
+    if words[0] == 'import':
+        return not after or held in ([], payloads(ample[2])[:1])
+    if words[0] == 'pack' or words[0] == 'undo':
         return held == had
     return after == before
 
@@ -162,8 +165,12 @@ with tempfile.TemporaryDirectory() as room:
         (['init'], PROGRAM, None),
         (['apply'], JOURNAL, made),
         (['pack'], '', filled),
+        (['undo', '3'], '', filled),
+        (['import'], PROGRAM + '---\n' + DOCUMENT, None),
     ):
         ample = run(words, text, store, counted=counted)
+        if ample[0] > 1:
+            sys.exit(f'{" ".join(words)}: status {ample[0]} with ample memory: {ample[1][-200:]!r}')
         with open(counted, encoding='ascii') as file:
             requests = int(file.read())
         wrong, out_of_memory = 0, 0

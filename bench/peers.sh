@@ -1,6 +1,6 @@
 #!/usr/bin/env bash
-# Times one change in a list of records by four programs, in one run: bash bench/peers.sh [SMALL LARGE], 1,000 and 100,000 records where none
-# are given. For jq the view is computed again from the changed document; augtool loads its own format (a hosts file), sets one name and
+# Times one change in a list of records by four programs, in one run: bash bench/peers.sh [SMALL LARGE [ENTRIES]], 1,000 and 100,000 records
+# and 2,000 timed entries of editlens where none are given. For jq the view is computed again from the changed document; augtool loads its own format (a hosts file), sets one name and
 # saves; jsonpatch replaces one value of a document in memory; editlens answers one entry. A program that is missing is left out. Each line
 # says what the program does not do. It is run by hand, and the least of five runs counts.
 set -eu
@@ -9,12 +9,12 @@ here=$(cd "$(dirname "${BASH_SOURCE[0]}")/.." && pwd)
 program=${EDITLENS:-$here/crates/editlens/out/editlens}
 [ -x "$program" ] || { echo "run ./build first" >&2; exit 1; }
 
-PYTHONDONTWRITEBYTECODE=1 PYTHONPATH=$here/bench exec python3 - "$program" "${1:-1000}" "${2:-100000}" <<'PYTHON'
+PYTHONDONTWRITEBYTECODE=1 PYTHONPATH=$here/bench exec python3 - "$program" "${1:-1000}" "${2:-100000}" "${3:-2000}" <<'PYTHON'
 import json, os, resource, shutil, subprocess, sys, tempfile, time
 
 import entries
 
-program, counts, runs, most = sys.argv[1], [int(it) for it in sys.argv[2:4]], 5, 300
+program, counts, timed_entries, runs, most = sys.argv[1], [int(it) for it in sys.argv[2:4]], int(sys.argv[4]), 5, 300
 LENS = 'main each {name ~ label: id text, left age: int, right note: text}'
 VIEW = '[.[] | {label: .name, note: ""}]'
 
@@ -73,7 +73,7 @@ def by_editlens(count, folder):
     for begin in range(0, count, piece):
         some = min(piece, count - begin)
         built.append(entry % ('{"ins":%d}' % some))
-    timed = [entry % ('{"mod":[%d,[{"at":["name",[{"set":"n%d"}]]}]]}' % (k * 7919 % count, k)) for k in range(2000)]
+    timed = [entry % ('{"mod":[%d,[{"at":["name",[{"set":"n%d"}]]}]]}' % (k * 7919 % count, k)) for k in range(timed_entries)]
     return entries.seconds(program, LENS, built, timed) / len(timed)
 
 
@@ -88,16 +88,16 @@ def has(name):
 
 
 for name, measure, lacks in (
-    ('jq', by_jq, 'one way alone, and the whole view each time'),
-    ('augtool', by_augtool, 'one file and its tree: the file is read and written as a whole, and no second file follows'),
-    ('jsonpatch', by_jsonpatch, 'one document: nothing is translated, and no type is checked'),
-    ('editlens', by_editlens, 'keeps nothing on disk, and computes no edit from two versions'),
+    ('jq', by_jq, 'It works one way alone, and makes the whole view each time.'),
+    ('augtool', by_augtool, 'It has one file and its tree: the file is read and written as a whole, and no second file follows.'),
+    ('jsonpatch', by_jsonpatch, 'It changes one document in memory: nothing is translated, and no type is checked.'),
+    ('editlens', by_editlens, 'A run keeps nothing on disk, and computes no edit from two versions.'),
 ):
     if not has(name):
-        print('%s: not installed' % name)
+        print('%s: missing, not timed. %s' % (name, lacks))
         continue
     with tempfile.TemporaryDirectory() as folder:
         taken = [measure(count, folder) for count in counts]
     shown = ', '.join('%s at %d records' % ('more than %d s' % most if it is None else '%.0f microseconds' % (it * 1e6), n) for it, n in zip(taken, counts))
-    print('%s: %s; it does not do: %s' % (name, shown, lacks), flush=True)
+    print('%s: %s. %s' % (name, shown, lacks), flush=True)
 PYTHON

@@ -3,7 +3,7 @@
 
 Each step is a command with its input, its output, its status and its store before and after, worked out by hand; nothing is taken from the
 program. The stores are put together here from their payloads, as docs/FORMATS.md says. They go to
-crates/command_cases/data/store_rows.cases, in the form of docs/CASES.md. It is run by hand.
+crates/command_cases/data/store_rows.cases, in the form of docs/CASES.md. It is run by hand. bench/fault_rows.py takes some of them.
 """
 
 import json
@@ -98,7 +98,9 @@ def runs():
     step(["run"], 1, PLAIN + "\n---\n" + THREE, THREE_ANSWERS + STATE % (6, 6))
     step(["run"], 0, SPLIT + "\n---\n" + SWITCHES, SWITCHES_ANSWERS + SWITCHES_STATE)
     step(["run"], 0, BOOK + "---\n" + "".join(line(*it) for it in BOOK_WORDS), BOOK_ANSWERS + BOOK_STATE)
+    step(["run"], 0, PLAIN + "\n---\n" + GROUP + "\n", GROUP_ANSWER + STATE % (6, 6))
     step(["run"], 3, "main idd int\n---\n", "program refused: not-a-program 9\n")
+    step(["check"], 3, "main bij[\"x\"=\"y\",\"z\"=\"y\"]", "program refused: repeated-member y\n")
     step(["check"], 0, PLAIN, "left {a: int}\nright {b: int}\n")
     step(["frob"], 2, "", USAGE)
 
@@ -134,7 +136,7 @@ def stores():
     step(["verify"], 0, "", "consistent 3\n", log(program(canonical), *entries))
 
 
-USAGE = "usage: editlens run|check|init|apply|show|verify|pack|gen N SEED|hub|link\n"
+USAGE = "usage: editlens run|check|init|apply|show|verify|pack|gen N SEED|hub|link|undo K|import\n"
 BOOK_CANONICAL = (
     "type person = {name: text, phone: text};\n"
     "type firm = {name: text, vat: text};\n"
@@ -206,9 +208,81 @@ BOOK_LAST = (
     '{"then":[{"tags":["person","person","firm"]},{"rec":[{"list":[{"rec":[null,null]},{"rec":[null,null]}]},{"list":[null]}]}]}]}\n'
 )
 
+HUB = """main {a ~ x: id int, left b: int}
++++
+main {a ~ p: id int, b ~ q: id int}
+---
+{"at":0,"edit":[{"at":["x",[{"set":3}]]}]}
+{"at":1,"edit":[{"at":["q",[{"add":2}]]}]}
+{"at":2,"edit":[]}
+"""
+HUB_ANSWERS = """ok 1 [{"at":["a",[{"set":3}]]}] [[{"at":["x",[{"set":3}]]}],[{"at":["p",[{"set":3}]]}]]
+ok 2 [{"at":["b",[{"add":2}]]}] [[],[{"at":["q",[{"add":2}]]}]]
+refused 3 no-view
+hub {"a":3,"b":2}
+view 0 {"x":3}
+complement 0 {"rec":[null]}
+view 1 {"p":3,"q":2}
+complement 1 {"rec":[null,null]}
+"""
+LINK = """{"edit":["left",[{"at":["a",[{"set":5}]]}]]}
+{"seal":"left"}
+{"send":"left"}
+{"edit":["right",[]]}
+
+{"deliver":0}
+{"deliver":0}
+{"restart":"right"}
+"""
+LINK_ANSWERS = """ok 1 draft
+ok 2 batch 1 [{"at":["b",[{"set":5}]]}]
+ok 3 packet 0
+refused 4 not-turn 0
+ok 5 taken 1
+ok 6 stale 1
+ok 7 restart
+left {"a":5}
+right {"b":5}
+complement {"rec":[null]}
+numbers 1 1
+"""
+
+
+def scripts():
+    """A hub and a link, which no store belongs to."""
+    step(["hub"], 1, HUB, HUB_ANSWERS)
+    step(["hub"], 3, "main id int\n+++\nmain id text\n", "program refused: views-differ 1\n")
+    step(["link"], 1, PLAIN + "\n---\n" + LINK, LINK_ANSWERS)
+
+
+def forged():
+    """Stores of one record that are cut, changed or followed by something else: of both versions."""
+    for version in (1, 2):
+        whole = log(program(PLAIN, version))
+        for size in range(len(whole)):
+            told = "not-a-log" if size < len(MARK) + 1 else "bad-record 1"
+            step(["verify"], 4, "", "store refused: %s\n" % told, whole[:size])
+        other_mark = b"EDLENS2\n" + whole[len(MARK) :]
+        step(["verify"], 4, "", "store refused: not-a-log\n", other_mark)
+        step(["verify"], 4, "", "store refused: bad-record 1\n", whole[:8] + b"\2" + whole[9:])
+        step(["verify"], 4, "", "store refused: bad-record 1\n", whole[:9] + b"\xff" * 8 + whole[17:])
+        step(["verify"], 0, "", "consistent 0\n", whole + b"\1" * 1000)
+        step(["verify"], 4, "", "store refused: bad-record 1\n", log(program("main id t", version)))
+        snapshot = '{"snapshot":{"complement":%s,"left":{"a":1},"right":{"b":%d}}}'
+        for second, told in (
+            (entry("left", '[{"at":["zz",[]]}]'), "bad-record 2"),
+            (program("main id int", version), "bad-record 2"),
+            (snapshot % ('{"rec":[null]}', 2), "not-consistent 2"),
+            (snapshot % ("null", 1), "bad-record 2"),
+            ('{"version":2}' if version == 2 else '{"group":[]}', "bad-record 2"),
+        ):
+            step(["verify"], 4, "", "store refused: %s\n" % told, log(program(PLAIN, version), second))
+
+
 if __name__ == "__main__":
     with open(OUT, "wb") as out:
         runs()
         stores()
         sequences()
         address_book()
+        forged()

@@ -2,7 +2,7 @@
 
 ghost use Rattle.std.specs.Prelude.{◌≡◌, ◌↔◌, ◌<◌, All, IsTrue};
 
-use crate::step::Step;
+use case_steps::Step;
 use anyhow::{Result, bail};
 use editlens_main::editlens;
 use lens_io::{Bytes, MemDisk, MemSink, MemSource};

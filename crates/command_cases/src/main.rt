@@ -6,8 +6,6 @@
 #![tactic(auto)]
 
 mod compare;
-mod head;
-mod step;
 mod tally;
 
 use crate::tally::run_file;

@@ -1,7 +1,7 @@
 //! All cases of a file, and how many of them differ.
 
 use crate::compare::{Outcome, run_cut, run_step, write_difference};
-use crate::step::{Step, read_step};
+use case_steps::{Step, read_step};
 use anyhow::{Result, bail};
 use std::alloc::{AllocError, Global};
 

@@ -1,0 +1,8 @@
+//! The steps of files of cases, for the programs that run them. docs/CASES.md has the form of a file.
+#![tactic(auto)]
+
+mod head;
+mod step;
+
+pub use crate::head::{Head, Lengths};
+pub use crate::step::{Step, read_step};
