@@ -3,8 +3,9 @@
 from .answers import Refused
 from .edits import NoApply, act, form_fault
 from .grammar import wanted_at
+from .hub import HUB, Hub, views_of
 from .json_text import NotJson, pointer, read_json, shown
-from .session import Session, journal_of, program_of
+from .session import Session, check, journal_of, program_of
 from .types import differences, read_types, token_at, tokens, write_type
 
 MOST_LINE = 1_048_576
@@ -25,6 +26,7 @@ CAUSES = {
 REASONS = {
     "program-too-long": "the program part has more than 65,536 bytes",
     "too-large": "a definition has more than 4,096 parts, with every name expanded",
+    "too-many-views": "there are more than 64 views",
     "too-deep": "a lens or a type has a height of more than 32",
     "unknown-name": "no earlier definition of the sort that is wanted here, type or lens, has this name",
     "repeated-name": "an earlier definition has this name already",
@@ -61,6 +63,12 @@ def explain_program(text, reason):
     """The lines that explain why a program is refused. `reason` is what stands behind `program refused:`."""
     data, words = text.encode(), reason.split(" ", 1)
     said = [f"program refused: {reason}"]
+    if words[0] == "view":
+        number, inner = words[1].split(" ", 1)
+        return said + explain_program(views_of(text)[int(number)], inner)[1:]
+    if words[0] == "views-differ":
+        first, second = (check(views_of(text)[it])[0] for it in (0, int(words[1])))
+        return [*said, f"the left type of view {words[1]} is not that of view 0:", *_type_differences(second, first)]
     if words[0] in OFFSETS:
         at = int(words[1])
         token = token_at(data, at)
@@ -71,10 +79,7 @@ def explain_program(text, reason):
     if words[0] == "middle-differs":
         first, second = read_types(words[1])
         said.append("the right type of the first lens of a `then` is not the left type of the second:")
-        for path, one, other in differences(first, second):
-            shown_types = (write_type(it) if it else "no such field" for it in (one, other))
-            said.append("  at {}: {} against {}".format(pointer(path) or "(the document)", *shown_types))
-        return said
+        return said + _type_differences(first, second)
     if words[0] in REASONS:
         return [*said, REASONS[words[0]]]
     name = words[1].strip('"')
@@ -82,6 +87,14 @@ def explain_program(text, reason):
     said.append(f"{words[1]} {what}; it stands at")
     places = [place_of(data, it.at)[:2] for it in tokens(data) if it.text.strip('"') == name and it.sort in ("name", "string")]
     return said + [f"  line {line}, column {column}" for line, column in places]
+
+
+def _type_differences(first, second):
+    said = []
+    for path, one, other in differences(first, second):
+        shown_types = (write_type(it) if it else "no such field" for it in (one, other))
+        said.append("  at {}: {} against {}".format(pointer(path) or "(the document)", *shown_types))
+    return said
 
 
 def _unexpected(data, token):
@@ -99,8 +112,14 @@ def _unexpected(data, token):
     return said
 
 
+ENTRIES = {
+    "run": '  an entry is an object with exactly the members "side", "left" or "right", and "edit"',
+    "hub": '  an edit of a hub is an object with exactly the members "at", "hub" or the number of a view, and "edit"',
+}
+
+
 def explain_refusal(session, line, answer):
-    """The lines that explain why a line of a journal is refused. The session has the documents before the line."""
+    """The lines that explain why a line of a journal is refused. The session, or the hub, has the documents before the line."""
     at = f" {answer.at}" if answer.at is not None else ""
     part = f"group {answer.part} " if answer.part is not None else ""
     said = [f"refused {answer.number} {part}{'no-apply' if at else answer.cause}{at}{' ' + answer.cause if at else ''}"]
@@ -111,9 +130,11 @@ def explain_refusal(session, line, answer):
     except NotJson as why:
         return [*said, f"  the line is not JSON: {why}"]
     if answer.cause == "not-an-entry":
-        return [*said, '  an entry is an object with exactly the members "side", "left" or "right", and "edit"', f"  found: {shown(tree)}"]
+        return [*said, ENTRIES["hub" if isinstance(session, Hub) else "run"], f"  found: {shown(tree)}"]
     if answer.cause == "not-an-edit":
         return [*said, f"  {_edit_fault(tree)}"]
+    if answer.cause == "no-view":
+        return [*said, f"  the views are numbered from 0 to {len(session.types) - 2}, and {tree['at']} was named"]
     return said + _no_apply(session, tree, answer)
 
 
@@ -126,18 +147,23 @@ def _edit_fault(tree):
 
 
 def _no_apply(session, tree, answer):
-    entries = tree["group"] if "group" in tree else [tree]
-    if answer.part:
-        return [f"  entry {answer.part} of the group does not apply: {CAUSES[answer.cause]}"]
-    entry = entries[0]
-    side, edit = entry["side"], entry["edit"]
+    entries, part = tree.get("group", [tree]), answer.part or 0
+    edit, at = entries[part]["edit"], entries[part].get("side", entries[part].get("at"))
+    name = f"view {at}" if isinstance(at, int) else "the hub" if at == HUB else f"the {at} document"
+    said = [f"  entry {part} of the group does not apply"] if part else []
+    if any(it["side"] != at for it in entries[:part]):
+        return [*said, f"  {answer.cause}: {CAUSES[answer.cause]}; entries of the other side are before it"]
+    document = session.documents[at]
+    for before in entries[:part]:
+        document = act(session.types[at], document, before["edit"])
     try:
-        act(session.types[side], session.documents[side], edit)
+        act(session.types[at], document, edit)
     except NoApply as why:
         if (why.cause, why.at) != (answer.cause, answer.at):
             raise AssertionError(f"the program said {answer}, and here it is {why}") from None
         return [
-            f"  primitive {why.at} of the edit of the {side} document: {shown(edit[why.at], 100)}",
+            *said,
+            f"  primitive {why.at} of the edit of {name}: {shown(edit[why.at], 100)}",
             f"  at {pointer(why.path) or '(the document)'}, which is {shown(why.value, 100)}",
             f"  {why.cause}: {CAUSES[why.cause]}",
             f"  allowed here: {why.allowed}",
@@ -146,8 +172,9 @@ def _no_apply(session, tree, answer):
 
 
 def explain_script(script, path=None):
-    """The lines that explain every refusal of a script. Raises ProgramRefused."""
-    with Session(program_of(script), path) as session:
+    """The lines that explain every refusal of a script, of `run` or of a hub. Raises ProgramRefused."""
+    views = views_of(program_of(script))
+    with Session(views[0], path) if len(views) == 1 else Hub(views, path) as session:
         for line in journal_of(script):
             before = dict(session.documents)
             answer = session.line(line)

@@ -11,6 +11,7 @@ from .documents import misfits
 from .edits import paths_of
 from .json_text import pointer, shown, write_json
 from .session import Session
+from .store import ImportRefused, Store
 
 
 class DoesNotFit(Exception):
@@ -21,16 +22,25 @@ class DoesNotFit(Exception):
         self.side, self.places = side, places
 
 
+NOTHING = object()
+"""What a map has at a key that it does not have."""
+
+
 @dataclass(frozen=True)
 class Disagreement:
-    """A place of the right document at which it does not have what the left one makes of it."""
+    """A place of the right document at which it does not have what the left one makes of it. Either value may be NOTHING."""
 
     path: tuple
     by_left: object
     found: object
 
+    def said(self, side):
+        """The place with both values, where `side` is what the left document is called."""
+        by_left, found = ("nothing" if it is NOTHING else shown(it) for it in (self.by_left, self.found))
+        return f"{pointer(self.path) or '(the document)'}: by {side} {by_left}, here {found}"
+
     def __str__(self):
-        return f"{pointer(self.path) or '(the document)'}: by the left document {shown(self.by_left)}, here {shown(self.found)}"
+        return self.said("the left document")
 
 
 class _Loader:
@@ -42,14 +52,13 @@ class _Loader:
             wrong = list(misfits(self.session.types[side], document))
             if wrong:
                 raise DoesNotFit(side, wrong)
-        self.lines = []
-        for word in words_of(set_steps(self.session.types["left"], left)):
+        self.left = list(words_of(set_steps(self.session.types["left"], left)))
+        for word in self.left:
             self.session.left(word)
-            self.lines.append(write_json({"side": "left", "edit": word}))
         self._walk(self.session.types["right"], self.session.documents["right"], right, (), ())
-        for word in words_of(self.steps):
+        self.right = list(words_of(self.steps))
+        for word in self.right:
             self.session.right(word)
-            self.lines.append(write_json({"side": "right", "edit": word}))
         self.session.close()
 
     def _start(self):
@@ -60,8 +69,8 @@ class _Loader:
         kinds = tuple((name, place if name != "mod" else None) for name, place in path)
         if kinds not in self.is_known:
             with self._start() as trial:
-                for line in self.lines:
-                    trial.line(line)
+                for word in self.left:
+                    trial.left(word)
                 self.is_known[kinds] = trial.right(word_of([(path, _trial(ty, value))])).word == []
         return self.is_known[kinds]
 
@@ -109,11 +118,73 @@ def _trial(ty, value):
 def _disagreements(ty, now, wanted, place):
     if ty.kind != "keyed":
         return [Disagreement(place, now, wanted)]
-    only = [Disagreement((*place, key), now[key], None) for key in sorted(set(now) - set(wanted))]
-    return only + [Disagreement((*place, key), None, wanted[key]) for key in sorted(set(wanted) - set(now))]
+    only = [Disagreement((*place, key), now[key], NOTHING) for key in sorted(set(now) - set(wanted))]
+    return only + [Disagreement((*place, key), NOTHING, wanted[key]) for key in sorted(set(wanted) - set(now))]
+
+
+@dataclass(frozen=True)
+class Loaded:
+    """The edits that build two documents, side by side, and the places where the two disagree."""
+
+    left: list
+    right: list
+    disagreements: list
+
+    def lines(self):
+        """The lines of a journal: the left document first, and then what the right one has for itself."""
+        entries = [("left", word) for word in self.left] + [("right", word) for word in self.right]
+        return [write_json({"side": side, "edit": word}) for side, word in entries]
+
+    def events(self):
+        """The events of a link: the left document is the first batch, and what the right one has for itself the second."""
+        told, packet = [], 0
+        for side, words in (("left", self.left), ("right", self.right)):
+            told += [{"edit": [side, word]} for word in words]
+            if words or side == "left" and self.right:
+                told += [{"seal": side}, {"send": side}, {"deliver": packet}]
+                packet += 1
+        return [write_json(it) for it in told]
+
+
+def load_words(program_text, left, right, path=None):
+    """The edits that build the documents, as Loaded. Raises DoesNotFit and ProgramRefused."""
+    loader = _Loader(program_text, left, right, path)
+    return Loaded(loader.left, loader.right, loader.disagreements)
 
 
 def load(program_text, left, right, path=None):
     """The lines of a journal that builds the documents, and the disagreements. Raises DoesNotFit and ProgramRefused."""
-    loader = _Loader(program_text, left, right, path)
-    return loader.lines, loader.disagreements
+    loaded = load_words(program_text, left, right, path)
+    return loaded.lines(), loaded.disagreements
+
+
+def load_store(folder, program_text, left, right, path=None):
+    """Makes a store of two documents in a folder, and returns the disagreements.
+
+    The left document is imported. If it is too long for a line, the store begins with the initial documents and is built by entries.
+    Raises DoesNotFit, ProgramRefused and StoreRefused; nothing is made then.
+    """
+    loaded = load_words(program_text, left, right, path)
+    try:
+        store, lines = Store.begin(folder, program_text, left, path), loaded.lines()[len(loaded.left) :]
+    except ImportRefused as why:
+        if why.reason != "line-too-long":
+            raise
+        store, lines = Store.init(folder, program_text, path), loaded.lines()
+    store.apply(lines)
+    return loaded.disagreements
+
+
+def load_hub(hub, views, path=None):
+    """The lines of a hub's journal that build a document and its views, each a program text with a document; and the disagreements.
+
+    The hub decides what it shares with a view. The disagreements are pairs of the number of a view and a Disagreement.
+    """
+    lines, disagreements = [], []
+    for number, (program_text, view) in enumerate(views):
+        loaded = load_words(program_text, hub, view, path)
+        if not number:
+            lines += [{"at": "hub", "edit": word} for word in loaded.left]
+        lines += [{"at": number, "edit": word} for word in loaded.right]
+        disagreements += [(number, it) for it in loaded.disagreements]
+    return [write_json(it) for it in lines], disagreements

@@ -10,10 +10,11 @@ NOT_SOURCES = ("out", "must-fail")
 
 
 class NoProgram(Exception):
-    """There is no program to run."""
+    """There is no program to run, or none that is let near a store."""
 
-    def __init__(self):
-        super().__init__("there is no program: run ./build, or ./editlens run once, which builds an unproved one")
+    def __init__(self, is_stored=False):
+        stored = "a store is left to the proved program: run ./build, or name another program by EDITLENS"
+        super().__init__(stored if is_stored else "there is no program: run ./build, or ./editlens run once, which builds an unproved one")
 
 
 def newest_source():
@@ -26,16 +27,19 @@ def newest_source():
     return newest
 
 
-def find_program():
-    """The path of the program: what EDITLENS names, the proved one, the unproved one if no source is newer, or one on the PATH."""
+def find_program(is_stored=False):
+    """The path of the program: what EDITLENS names, the proved one, the unproved one if no source is newer, or one on the PATH.
+
+    If `is_stored`, it is for a store, and the unproved one is passed over.
+    """
     named = os.environ.get("EDITLENS")
     if named:
         return named
     if os.access(PROVED, os.X_OK):
         return PROVED
-    if os.access(KEPT, os.X_OK) and os.path.getmtime(KEPT) > newest_source():
+    if not is_stored and os.access(KEPT, os.X_OK) and os.path.getmtime(KEPT) > newest_source():
         return KEPT
     found = shutil.which("editlens")
     if found:
         return found
-    raise NoProgram()
+    raise NoProgram(is_stored)

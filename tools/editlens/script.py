@@ -9,11 +9,19 @@ from .json_text import NotJson
 from .program import NoProgram
 
 
+HOW = {
+    "side": {"choices": ["left", "right"]},
+    "views": {"nargs": "+", "metavar": "PROGRAM VIEW"},
+    "--store": {"metavar": "FOLDER"},
+    "--link": {"action": "store_true"},
+}
+
+
 def words(about, *arguments):
-    """The words of a command line: each argument is its name and its help."""
+    """The words of a command line: each argument is its name and its help. Some names have a form of their own."""
     parser = argparse.ArgumentParser(description=about, formatter_class=argparse.RawDescriptionHelpFormatter)
     for name, told in arguments:
-        parser.add_argument(name, help=told, **({"choices": ["left", "right"]} if name == "side" else {}))
+        parser.add_argument(name, help=told, **HOW.get(name, {}))
     return parser.parse_args()
 
 

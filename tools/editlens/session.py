@@ -41,7 +41,53 @@ def check(program_text, path=None):
     return read_type(lines[0].removeprefix("left ")), read_type(lines[1].removeprefix("right "))
 
 
-class Session:
+class Run:
+    """A run of a command over a script: its program part is sent at once, and then line after line is answered."""
+
+    def __init__(self, command, program_part, path):
+        self.child = subprocess.Popen([path, command], stdin=subprocess.PIPE, stdout=subprocess.PIPE)
+        self._send(program_part.rstrip("\n") + "\n" + SEPARATOR)
+
+    def __enter__(self):
+        return self
+
+    def __exit__(self, kind, value, trace):
+        if kind is None:
+            self.close()
+        else:
+            self.child.kill()
+            self.child.communicate()
+
+    def said(self, text):
+        """Sends a line that is not blank, and returns the line that answers it."""
+        if "\n" in text or not text.strip(" \t\r"):
+            raise ValueError("a line that is not blank, without a line feed, is wanted")
+        self._send(text)
+        said = self.child.stdout.readline().decode()
+        if not said.endswith("\n"):
+            raise RunEnded(self.child.wait())
+        return said
+
+    def _send(self, text):
+        try:
+            self.child.stdin.write(text.encode() + b"\n")
+            self.child.stdin.flush()
+        except BrokenPipeError:
+            raise RunEnded(self.child.wait()) from None
+
+    def state(self):
+        """Ends the run, and returns the lines of its state."""
+        said, _ = self.child.communicate()
+        if self.child.returncode not in (0, 1):
+            raise RunEnded(self.child.returncode)
+        return said.decode().splitlines()
+
+    def close(self):
+        """Ends the run."""
+        return self.state()
+
+
+class Session(Run):
     """A run of a lens program, from its initial documents on.
 
     `left`, `right` and `group` send an edit and return the answer, an Accepted; a refused one is raised as Refused, and nothing has
@@ -55,18 +101,7 @@ class Session:
         self.types = {"left": left, "right": right}
         self.documents = {side: initial(ty) for side, ty in self.types.items()}
         self.complement = None
-        self.child = subprocess.Popen([self.path, "run"], stdin=subprocess.PIPE, stdout=subprocess.PIPE)
-        self._send(program_of(program_text).rstrip("\n") + "\n" + SEPARATOR)
-
-    def __enter__(self):
-        return self
-
-    def __exit__(self, kind, value, trace):
-        if kind is None:
-            self.close()
-        else:
-            self.child.kill()
-            self.child.communicate()
+        super().__init__("run", program_of(program_text), self.path)
 
     def left(self, edit):
         """Sends an edit of the left document."""
@@ -92,13 +127,7 @@ class Session:
 
     def line(self, text):
         """Sends a line of a journal that is not blank, and returns its answer: an Accepted, or a Refused that is not raised."""
-        if "\n" in text or not text.strip(" \t\r"):
-            raise ValueError("a line that is not blank, without a line feed, is wanted")
-        self._send(text)
-        said = self.child.stdout.readline().decode()
-        if not said.endswith("\n"):
-            raise RunEnded(self.child.wait())
-        answer = read_answer(said)
+        answer = read_answer(self.said(text))
         if isinstance(answer, Accepted):
             self._follow(read_json(text), answer)
         return answer
@@ -108,19 +137,9 @@ class Session:
             for side, edit in ((entry["side"], entry["edit"]), (other, word)):
                 self.documents[side] = act(self.types[side], self.documents[side], edit)
 
-    def _send(self, text):
-        try:
-            self.child.stdin.write(text.encode() + b"\n")
-            self.child.stdin.flush()
-        except BrokenPipeError:
-            raise RunEnded(self.child.wait()) from None
-
     def close(self):
         """Ends the run. Returns the left document, the right document and the complement, as the program writes them."""
-        said, _ = self.child.communicate()
-        if self.child.returncode not in (0, 1):
-            raise RunEnded(self.child.returncode)
-        state = dict(line.split(" ", 1) for line in said.decode().splitlines())
+        state = dict(line.split(" ", 1) for line in self.state())
         left, right = read_json(state["left"]), read_json(state["right"])
         self.complement = read_json(state["complement"])
         if {"left": left, "right": right} != self.documents:

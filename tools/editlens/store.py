@@ -6,8 +6,10 @@ import subprocess
 from .answers import ProgramRefused, Refused, RunEnded, read_answer
 from .json_text import read_json, write_json
 from .program import find_program
+from .session import SEPARATOR, program_of
 
 NAME = "editlens.store"
+MOST_UNDONE = 10_000
 
 
 class StoreRefused(Exception):
@@ -18,24 +20,44 @@ class StoreRefused(Exception):
         self.reason = reason
 
 
+class ImportRefused(Exception):
+    """The document that a store was to begin with is refused. `reason` is what stands behind `import refused:`."""
+
+    def __init__(self, reason):
+        super().__init__(f"import refused: {reason}")
+        self.reason = reason
+
+
 class Store:
     """A stored session: the file `editlens.store` in a folder.
 
-    `Store.init` makes one. `left`, `right` and `group` send an edit and return the answer, an Accepted; a refused one
+    `Store.init` and `Store.begin` make one. `left`, `right` and `group` send an edit and return the answer, an Accepted; a refused one
     is raised as Refused, and nothing has changed then. Each is a run of `apply`, so what was accepted is on the disk when the call
     returns. `apply` sends many lines in one run. Two programs must not write one store at once.
     """
 
     def __init__(self, folder, path=None):
         self.folder = folder
-        self.path = path or find_program()
+        self.path = path or find_program(is_stored=True)
 
     @classmethod
     def init(cls, folder, program_text, path=None):
-        """Makes a store that begins with the initial documents of a lens program."""
-        store = cls(folder, path)
+        """Makes a store that begins with the initial documents of a lens program. The folder is made if it is not there."""
+        store = cls._placed(folder, path)
         store._run(["init"], program_text)
         return store
+
+    @classmethod
+    def begin(cls, folder, program_text, left, path=None):
+        """Makes a store that begins with this left document, by the command `import`. Its first change makes the document."""
+        store = cls._placed(folder, path)
+        store._run(["import"], program_of(program_text).rstrip("\n") + f"\n{SEPARATOR}\n{write_json(left)}\n")
+        return store
+
+    @classmethod
+    def _placed(cls, folder, path):
+        os.makedirs(folder, exist_ok=True)
+        return cls(folder, path)
 
     def left(self, edit):
         """Sends an edit of the left document."""
@@ -86,6 +108,16 @@ class Store:
         """Stores a snapshot, and returns how many changes were accepted."""
         return int(self._run(["pack"])[0].removeprefix("packed "))
 
+    def undo(self, count=1):
+        """Takes the last changes back, a group as one. Returns the edits that took the left and the right document back.
+
+        Changes before the last snapshot stay, and `pack` and `undo` store one. If there are too few, StoreRefused is raised.
+        """
+        if not 1 <= count <= MOST_UNDONE:
+            raise ValueError(f"from 1 to {MOST_UNDONE} changes are taken back at once")
+        said = dict(line.split(" ", 2)[1:] for line in self._run(["undo", str(count)]) if line.startswith("undo "))
+        return read_json(said["left"]), read_json(said["right"])
+
     @property
     def file(self):
         """The path of the store."""
@@ -110,5 +142,7 @@ class Store:
             raise ProgramRefused(last.removeprefix("program refused: "))
         if status == 4:
             raise StoreRefused(last.removeprefix("store refused: "))
+        if status == 1 and last.startswith("import refused: "):
+            raise ImportRefused(last.removeprefix("import refused: "))
         if status not in (0, 1):
             raise RunEnded(status)

@@ -226,3 +226,23 @@ def test_refused_entries_are_explained():
     ):
         assert wanted in said, (wanted, said)
     assert said[-2] == "refused 6 not-json"
+
+
+def test_refused_groups_are_explained():
+    """The place in the document as the entries before it make it, where these are of the same side."""
+    script = TASKS + """
+---
+{"group":[{"side":"left","edit":[{"put":"door"}]},{"side":"left","edit":[{"mod":["door",[{"at":["hours",[{"set":"3"}]]}]]}]}]}
+{"group":[{"side":"right","edit":[{"put":"door"}]},{"side":"left","edit":[{"drop":"roof"}]}]}
+"""
+    assert list(explain_script(script)) == [
+        "refused 1 group 1 no-apply 0 kind",
+        "  entry 1 of the group does not apply",
+        '  primitive 0 of the edit of the left document: {"mod":["door",[{"at":["hours",[{"set":"3"}]]}]]}',
+        "  at /door/hours, which is 0",
+        "  kind: the place holds a value that this primitive does not edit",
+        '  allowed here: {"set":NUMBER}, {"add":NUMBER}',
+        "refused 2 group 1 no-apply 0 place",
+        "  entry 1 of the group does not apply",
+        "  place: there is no such field, key, item or node; entries of the other side are before it",
+    ], list(explain_script(script))

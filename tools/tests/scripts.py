@@ -7,6 +7,7 @@ import sys
 import tempfile
 
 from editlens.program import TOP
+from editlens.store import Store
 
 TOOLS = os.path.join(TOP, "tools")
 PROGRAM = "main keyed {title ~ card: id text, left hours: int, right color: text}\n"
@@ -17,6 +18,13 @@ def called(folder, tool, *words, given=""):
     return ran.returncode, ran.stdout, ran.stderr
 
 
+def written(command, script):
+    """What the program writes for a script in which nothing is refused."""
+    said = subprocess.run([os.environ["EDITLENS"], command], input=script, capture_output=True, text=True, check=False)
+    assert said.returncode == 0, said
+    return said.stdout
+
+
 def files(folder, **texts):
     for name, text in texts.items():
         with open(os.path.join(folder, name), "w", encoding="utf-8") as file:
@@ -24,7 +32,7 @@ def files(folder, **texts):
 
 
 def test_help():
-    for tool in ("fits", "load", "explain", "patch-to-edit", "edit-to-patch", "check"):
+    for tool in ("fits", "load", "load-hub", "explain", "patch-to-edit", "edit-to-patch", "check"):
         status, out, _ = called(TOP, tool, "--help")
         assert status == 0 and out.startswith("usage: "), tool
 
@@ -51,6 +59,64 @@ def test_load_and_explain():
         assert status == 1 and again == script and '/door/card: by the left document "Paint", here "Draw"' in err
         status, out, err = called(folder, "explain", "-", given="main id\n")
         assert status == 3 and "found: the end of the program" in err
+
+
+def test_load_a_link():
+    with tempfile.TemporaryDirectory() as folder:
+        left, right = {"door": {"hours": 3, "title": "Paint"}}, {"door": {"card": "Paint", "color": "red"}}
+        for mine, theirs, numbers in ((left, right, "2 2"), (left, {"door": {"card": "Paint", "color": ""}}, "1 1"), ({}, {}, "0 0")):
+            files(folder, lens=PROGRAM, left=mine, right=theirs)
+            status, script, err = called(folder, "load", "--link", "lens", "left", "right")
+            assert (status, err) == (0, ""), err
+            said = dict(it.split(" ", 1) for it in written("link", script).splitlines()[-4:])
+            assert (json.loads(said["left"]), json.loads(said["right"]), said["numbers"]) == (mine, theirs, numbers)
+
+
+def test_load_a_hub():
+    with tempfile.TemporaryDirectory() as folder:
+        other = "main keyed {title ~ name: id text, hours ~ time: id int}\n"
+        hub = {"door": {"hours": 3, "title": "Paint"}}
+        cards, times = {"door": {"card": "Paint", "color": "red"}}, {"door": {"name": "Paint", "time": 4}}
+        files(folder, hub=hub, lens=PROGRAM, other=other, cards=cards, times=times)
+        status, script, err = called(folder, "load-hub", "hub", "lens", "cards", "other", "times")
+        assert status == 1 and err.splitlines()[1:] == ["view 1, /door/time: by the hub 3, here 4"], err
+        said = written("hub", script).splitlines()
+        state = [json.loads(it.rsplit(" ", 1)[1]) for it in said if it.startswith(("hub ", "view "))]
+        assert state == [hub, cards, {"door": {"name": "Paint", "time": 3}}], said
+        files(folder, wrong="main keyed {title ~ name: id text, left hours: text}", broken="main id", bad={"door": {}})
+        for words, status, told in (
+            (("hub", "lens", "cards", "wrong", "times"), 3, "at /*/hours: text against int"),
+            (("hub", "lens", "cards", "broken", "times"), 3, "program refused: view 1 not-a-program 8\nline 2, column 1:"),
+            (("hub", "lens", "cards", "other"), 2, "each view is a program and a document"),
+            (("hub", "lens", "bad"), 2, "the right document does not fit"),
+        ):
+            answer = called(folder, "load-hub", *words)
+            assert answer[0] == status and not answer[1] and told in answer[2], (words, answer)
+
+
+def test_load_a_store():
+    with tempfile.TemporaryDirectory() as folder:
+        left, right = {"door": {"hours": 3, "title": "Paint"}}, {"door": {"card": "Paint", "color": "red"}}
+        files(folder, lens=PROGRAM, left=left, right=right, other={"door": {"card": "Draw", "color": "blue"}}, wrong={"door": {}})
+        words = ("lens", "left", "right")
+        assert called(folder, "load", "--store", "kept", "lens", "left", "wrong")[0] == 2
+        assert called(folder, "load", "--store", "kept", *words) == (0, "", "")
+        store = Store(os.path.join(folder, "kept"))
+        assert store.show()[:2] == (left, right) and store.verify() == 2
+        assert called(folder, "load", "--store", "kept", *words) == (4, "", "store refused: log-exists\n")
+        status, out, err = called(folder, "load", "--store", "again", "lens", "left", "other")
+        assert status == 1 and not out and '/door/card: by the left document "Paint", here "Draw"' in err, err
+        assert Store(os.path.join(folder, "again")).show()[1] == {"door": {"card": "Paint", "color": "blue"}}
+
+
+def test_load_a_store_of_a_long_document():
+    """A document that is too long for a line is not imported, but built by entries."""
+    with tempfile.TemporaryDirectory() as folder:
+        left = {f"{number}": {"hours": number, "title": "x" * 2000} for number in range(600)}
+        right = {key: {"card": it["title"], "color": "red" if key == "7" else ""} for key, it in left.items()}
+        files(folder, lens=PROGRAM, left=left, right=right)
+        assert called(folder, "load", "--store", "kept", "lens", "left", "right") == (0, "", "")
+        assert Store(os.path.join(folder, "kept")).show()[:2] == (left, right)
 
 
 def test_files_that_cannot_be_used():
@@ -80,21 +146,26 @@ def test_patch_and_back():
         assert status == 0 and json.loads(patch) == [{"op": "move", "from": "/door", "path": "/gate"}]
 
 
-def test_the_example_in_python():
+def test_the_examples_in_python():
     """The Python of the page of the tools, in a folder with the lens of that page."""
     with open(os.path.join(TOOLS, "README.md"), encoding="utf-8") as file:
         page = file.read()
     lens = page.split("$ cat > book.lens <<'END'\n")[1].split("END\n")[0]
-    code = page.split("```python\n")[1].split("```")[0]
-    with tempfile.TemporaryDirectory() as folder:
-        files(folder, **{"book.lens": lens, "example.py": code})
-        how = {**os.environ, "PYTHONPATH": TOOLS, "PYTHONDONTWRITEBYTECODE": "1"}
-        ran = subprocess.run([sys.executable, "example.py"], cwd=folder, env=how, capture_output=True, text=True, check=False)
-    assert ran.returncode == 0 and ran.stdout.splitlines() == [
+    said = []
+    for code in page.split("```python\n")[1:]:
+        with tempfile.TemporaryDirectory() as folder:
+            files(folder, **{"book.lens": lens, "example.py": code.split("```")[0]})
+            how = {**os.environ, "PYTHONPATH": TOOLS, "PYTHONDONTWRITEBYTECODE": "1"}
+            ran = subprocess.run([sys.executable, "example.py"], cwd=folder, env=how, capture_output=True, text=True, check=False)
+        assert ran.returncode == 0, ran
+        said += ran.stdout.splitlines()
+    assert said == [
         "[{'at': ['people', [{'ins': 1}]]}]",
         "range 0",
         "{'firms': [], 'people': [{'name': '', 'note': ''}]}",
-    ], ran
+        "{'firms': ['Acme'], 'people': [{'name': '', 'note': ''}]} 2",
+        "([{'del': 1}], [{'at': ['people', [{'del': 1}]]}])",
+    ], said
 
 
 def test_the_picture_is_drawn_anew():

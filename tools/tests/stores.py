@@ -1,10 +1,13 @@
 """The client over the commands of a store."""
 
 import os
+import shutil
 import tempfile
+from unittest import mock
 
+from editlens import program
 from editlens.answers import ProgramRefused, Refused
-from editlens.store import Store, StoreRefused
+from editlens.store import ImportRefused, Store, StoreRefused
 
 PROGRAM = "main {a ~ b: id int, left hours: int}\n"
 
@@ -47,3 +50,46 @@ def test_many_lines_in_one_run():
         answers = store.apply(lines)
         assert len(answers) == 22 and isinstance(answers[20], Refused) and answers[20].cause == "not-json"
         assert store.show()[0] == {"a": 20, "hours": 0} and store.verify() == 21
+
+
+def test_a_document_that_one_has_and_undo():
+    with tempfile.TemporaryDirectory() as folder:
+        assert raised(ImportRefused, lambda: Store.begin(folder, PROGRAM, {"a": 1})).reason == "not-of-type"
+        store = Store.begin(folder, PROGRAM, {"a": 41, "hours": 7})
+        assert store.show()[:2] == ({"a": 41, "hours": 7}, {"b": 41}) and store.verify() == 1
+        store.right([{"at": ["b", [{"add": 1}]]}])
+        left, right = store.undo()
+        assert store.show()[:2] == ({"a": 41, "hours": 7}, {"b": 41})
+        assert (left, right) == ([{"at": ["a", [{"set": 41}]]}], [{"at": ["b", [{"set": 41}]]}])
+        assert raised(StoreRefused, store.undo).reason == "nothing-to-undo"
+        assert raised(StoreRefused, lambda: Store.begin(folder, PROGRAM, {"a": 1, "hours": 0})).reason == "log-exists"
+
+
+def test_changes_are_taken_back_from_the_end():
+    with tempfile.TemporaryDirectory() as folder:
+        store = Store.begin(folder, PROGRAM + "---\na journal is no part of the program\n", {"a": 1, "hours": 0})
+        store.left([{"at": ["a", [{"set": 2}]]}])
+        store.group(("left", [{"at": ["hours", [{"set": 9}]]}]), ("right", [{"at": ["b", [{"set": 3}]]}]))
+        store.right([{"at": ["b", [{"set": 4}]]}])
+        left, right = store.undo(2)
+        assert store.show()[:2] == ({"a": 2, "hours": 0}, {"b": 2}) and store.verify() == 4
+        assert left == [{"at": ["a", [{"set": 3}]]}, {"at": ["a", [{"set": 2}]]}, {"at": ["hours", [{"set": 0}]]}]
+        assert right == [{"at": ["b", [{"set": 3}]]}, {"at": ["b", [{"set": 2}]]}]
+        store.left([{"at": ["a", [{"set": 7}]]}])
+        assert raised(StoreRefused, lambda: store.undo(2)).reason == "nothing-to-undo"
+        assert store.undo(1) and store.show()[1] == {"b": 2}
+        for count in (0, 10_001):
+            raised(ValueError, lambda: store.undo(count))
+
+
+def test_a_store_is_left_to_the_proved_program():
+    with tempfile.TemporaryDirectory() as folder, mock.patch.dict(os.environ, {"PATH": folder}):
+        kept, proved = os.path.join(folder, "kept"), os.path.join(folder, "proved")
+        del os.environ["EDITLENS"]
+        with mock.patch.multiple(program, KEPT=kept, PROVED=proved):
+            raised(program.NoProgram, program.find_program)
+            shutil.copy("/bin/true", kept)
+            assert program.find_program() == kept
+            assert "proved" in str(raised(program.NoProgram, lambda: Store(folder)))
+            shutil.copy("/bin/true", proved)
+            assert program.find_program() == proved and Store(folder).path == proved

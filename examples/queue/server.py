@@ -1,0 +1,91 @@
+"""A Redis of its own for the time of a block, and the keeper as it is run beside it."""
+
+import os
+import shutil
+import signal
+import socket
+import subprocess
+import sys
+import tempfile
+import time
+
+from resp import Redis, RedisRefused, entries
+
+HERE = os.path.dirname(os.path.abspath(__file__))
+PROGRAM = "redis-server"
+
+
+def is_installed():
+    """Whether there is a Redis on the PATH."""
+    return shutil.which(PROGRAM) is not None
+
+
+def free_port():
+    """A port on which nothing listens."""
+    with socket.socket() as found:
+        found.bind(("127.0.0.1", 0))
+        return found.getsockname()[1]
+
+
+class Server:
+    """A Redis on a free port. If `is_lasting`, each write is on its disk before the reply, as README.md asks of a real one."""
+
+    def __init__(self, is_lasting=False):
+        self.is_lasting = is_lasting
+
+    def __enter__(self):
+        self.folder, self.port = tempfile.TemporaryDirectory(), free_port()
+        self._start()
+        return self
+
+    def _start(self):
+        words = ["--port", str(self.port), "--bind", "127.0.0.1", "--dir", self.folder.name, "--save", ""]
+        words += ["--appendonly", "yes", "--appendfsync", "always"] if self.is_lasting else ["--appendonly", "no"]
+        self.child = subprocess.Popen([PROGRAM, *words], stdout=subprocess.DEVNULL, stderr=subprocess.DEVNULL)
+        self.queue = self._connected()
+
+    def restart(self):
+        """Stops Redis by SIGKILL, and starts it again on its files."""
+        self.child.kill()
+        self.child.wait()
+        self.queue.close()
+        self._start()
+
+    def _connected(self):
+        for _ in range(200):
+            try:
+                queue = Redis(self.port)
+                queue.call("PING")
+                return queue
+            except (OSError, RedisRefused):
+                time.sleep(0.05)
+        self.child.kill()
+        raise OSError(f"{PROGRAM} does not answer on port {self.port}")
+
+    def __exit__(self, *_):
+        self.queue.close()
+        self.child.terminate()
+        self.child.wait()
+        self.folder.cleanup()
+
+    def send(self, name, lines):
+        """Adds edits to the queue."""
+        for line in lines:
+            self.queue.call("XADD", f"{name}:edits", "*", "line", line)
+
+    def answered(self, name):
+        """The answers in the queue, and how many changes each counts, without the one that begins the queue."""
+        found = entries(self.queue.call("XRANGE", f"{name}:answers", "-", "+"))
+        return [(fields[b"answer"].decode(), int(fields[b"count"])) for _, fields in found[1:]]
+
+
+def keep(port, name, folder, *options):
+    """Starts a keeper, in a group of processes of its own."""
+    words = [sys.executable, os.path.join(HERE, "keep"), str(port), name, folder, *options]
+    return subprocess.Popen(words, stderr=subprocess.PIPE, start_new_session=True)
+
+
+def kill(keeper, is_group):
+    """Stops a keeper by SIGKILL, at once: the program alone, or with the run of `apply` that it has."""
+    (os.killpg if is_group else os.kill)(keeper.pid, signal.SIGKILL)
+    keeper.communicate()
