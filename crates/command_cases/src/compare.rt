@@ -2,8 +2,8 @@
 
 ghost use Rattle.std.specs.Prelude.{◌≡◌, ◌↔◌, ◌<◌, All, IsTrue};
 
-use case_steps::Step;
 use anyhow::{Result, bail};
+use case_steps::Step;
 use editlens_main::editlens;
 use lens_io::{Bytes, MemDisk, MemSink, MemSource};
 use std::alloc::{AllocError, Global};

@@ -1,8 +1,8 @@
 //! All cases of a file, and how many of them differ.
 
 use crate::compare::{Outcome, run_cut, run_step, write_difference};
-use case_steps::{Step, read_step};
 use anyhow::{Result, bail};
+use case_steps::{Step, read_step};
 use std::alloc::{AllocError, Global};
 
 // How many differing steps of a file are shown.
