@@ -1,5 +1,4 @@
 mod Examples
-pub mod FormLenses
 pub mod OrderClauses
 pub mod RefusalReports
 pub mod RunEnds

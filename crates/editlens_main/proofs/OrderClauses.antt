@@ -164,7 +164,7 @@ module _ {S K D : Type 0}
     exits = λ before t version stood. (store.NoMemory, refl, inr (unwritten_none content images d, Consumes-nil (left s), ((inr refl, Appends-nil (held k)), λ e. cc)));
     causes = λ before t version stood. (store.NoMemory, refl, tt);
     complete = λ before t version stood r f w many full. inr refl;
-    refused = λ refusal stood. (unwritten_none content images d, (store.NoMemory, refl, inr (inr refl, Appends-nil (held k))));
+    refused = λ refusal stood. (unwritten_none content images d, (store.NoMemory, refl, inr ((inr refl, Appends-nil (held k)), λ e. cc)));
     untaken = λ refusal stood. Consumes-nil (left s);
   }
 
@@ -182,7 +182,7 @@ module _ {S K D : Type 0}
     exits = λ before t version stood. (store.NoMemory, refl, inr (unwritten_none content images d, ((inr refl, Appends-nil (held k)), λ e. cc)));
     causes = λ before t version stood. (store.NoMemory, refl, tt);
     complete = λ before t version stood f w full. inr refl;
-    refused = λ refusal stood. (unwritten_none content images d, (store.NoMemory, refl, inr (inr refl, Appends-nil (held k))));
+    refused = λ refusal stood. (unwritten_none content images d, (store.NoMemory, refl, inr ((inr refl, Appends-nil (held k)), λ e. cc)));
   }
 
   pub never_undo : (count : ℕ) → UndoingEnds held content images moment images_since room F W count k d k d NoMemory
@@ -200,14 +200,14 @@ module _ {S K D : Type 0}
     unstored = λ before u stood e image now. inl now;
     causes = λ before u stood. (store.NoMemory, refl, tt);
     complete = λ before u stood f w full. inr refl;
-    refused = λ refusal stood. (unwritten_none content images d, (store.NoMemory, refl, inr (inr refl, Appends-nil (held k))));
+    refused = λ refusal stood. (unwritten_none content images d, (store.NoMemory, refl, inr ((inr refl, Appends-nil (held k)), λ e. cc)));
   }
 
   pub never_view : (text : StoredState → List (List ℕ) → List ℕ) → ViewEnds held content images moment images_since room F W text k d k d NoMemory
   never_view text = record {
     shows = λ before t version stood. (store.NoMemory, refl, inr (inr (inr refl, Appends-nil (held k))));
     complete = λ before t version stood f w. inr refl;
-    refused = λ refusal stood. (unwritten_none content images d, (store.NoMemory, refl, inr (inr refl, Appends-nil (held k))));
+    refused = λ refusal stood. (unwritten_none content images d, (store.NoMemory, refl, inr ((inr refl, Appends-nil (held k)), λ e. cc)));
     unwritten = unwritten_none content images d;
     moments = leaves_same moment images_since d (images d) (only d);
     sure = λ e. cc;

@@ -1,5 +1,5 @@
 -- How commands end over devices that do not fail.
-use Rattle.std.proofs.Common.{◌≡◌, ◌⊎◌, inl, inr, ℕ, ◌+◌, ◌≤◌, List, [], length, Option, Some, None, Result, Ok, refl, sym, ap, subst, ◌∙◌, length-append, arith}
+use Rattle.std.proofs.Common.{◌≡◌, ◌⊎◌, inl, inr, ℕ, ◌+◌, ◌≤◌, List, [], length, true≢false, Option, Some, None, Result, Ok, refl, sym, ap, subst, ◌∙◌, length-append, arith}
 use Rattle.std.specs.Io.KnownBytes.{Consumes}
 use Rattle.std.proofs.lemmas.Option.{same_Some}
 use Rattle.accepted_programs.specs.Program.{lens_of}
@@ -19,15 +19,17 @@ use Rattle.script_run.proofs.Complete.{complete as script_completes}
 use Rattle.store_session.specs.StoredStates.{StoredState, answer, IsSnapshot}
 use Rattle.store_undo.specs.UndoCauses.{UndoHasNoRoom, IsUndoCause}
 use Rattle.store_undo.specs.Undoing.{Undoing}
+use Rattle.stored_run.specs.Refusals.{EndsRefused}
 use Rattle.stored_run.specs.Rooms.{RunHasNoRoom, IsApplyCause, PackHasNoRoom, IsPackCause}
 use Rattle.stored_run.specs.ViewCall.{Views}
+use Rattle.stored_run.specs.declared.refusals.StoreRefusal.{StoreRefusal}
 use Rattle.stored_run.specs.declared.status.Status.TheVariants as store
 use Rattle.editlens_main.specs.Ends.{IsFinished}
 use Rattle.editlens_main.specs.ScriptStatus.{status_of_script, ScriptAs}
 use Rattle.editlens_main.specs.StoreStatus.{status_of_store, status_of_making, EndsAs, MakesAs}
 use Rattle.editlens_main.specs.SureEnds.{EndsInRoom, StoredInRoom, MadeInRoom}
 use Rattle.editlens_main.specs.declared.status.Status.{Status}
-use Rattle.editlens_main.specs.declared.status.Status.TheVariants.{Done, SomeRefused, ProgramRefused, SourceFault, SinkFault, DiskFault, InputTooLong, NoMemory}
+use Rattle.editlens_main.specs.declared.status.Status.TheVariants.{Done, SomeRefused, ProgramRefused, StoreRefused, SourceFault, SinkFault, DiskFault, InputTooLong, NoMemory}
 
 few_taken : (bytes : List ℕ) (left' : Option (List ℕ)) (taken : List ℕ) → Consumes (Some bytes) left' taken → length taken ≤ length bytes
 few_taken bytes None taken h = absurd h
@@ -102,6 +104,15 @@ module _ (status : Status) (is_full : Type 0) (source : status ≡ SourceFault �
   view_in_room old new text no_disk (ended, is, inr (inl (e, given))) = let failed : status ≡ SinkFault = is ∙ ap status_of_store e in inr (failed, sink failed)
   view_in_room old new text no_disk (ended, is, inr (inr (inl e, given))) = absurd (no_disk (is ∙ ap status_of_store e))
   view_in_room old new text no_disk (ended, is, inr (inr (inr e, given))) = inl (inr (is ∙ ap status_of_store e))
+
+  -- a command over bytes that are no store
+  pub refused_in_room : (old new : Option (List ℕ)) (room : ℕ) (refusal : StoreRefusal) → EndsAs (EndsRefused (Some room) old new refusal) status
+      → EndsInRoom status is_full ((status ≡ StoreRefused) ⊎ (status ≡ NoMemory))
+  refused_in_room old new room refusal (ended, is, inl (inl (e, given))) = inl (inl (is ∙ ap status_of_store e))
+  refused_in_room old new room refusal (ended, is, inl (inr (inl (e, given)))) = let failed : status ≡ SinkFault = is ∙ ap status_of_store e in inr (failed, sink failed)
+  refused_in_room old new room refusal (ended, is, inl (inr (inr (e, given)))) = inl (inr (is ∙ ap status_of_store e))
+  refused_in_room old new room refusal (ended, is, inr ((inl e, given), sure)) = absurd (true≢false (sure e))
+  refused_in_room old new room refusal (ended, is, inr ((inr e, given), sure)) = inl (inr (is ∙ ap status_of_store e))
 
   -- a command that makes a store on an empty disk
   module _ {D : Type 0} (content : D → Option (List ℕ)) (images : D → List ℕ → Type 0)

@@ -39,7 +39,7 @@ module _ {K D : Type 0} (held : K → Option (List ℕ)) (content : D → Option
   -- what a call wrote to the sink if the disk holds no store, and that it wrote nothing to the disk
   abbrev pub RefusesStore : K → D → K → D → Status → Type 0
   RefusesStore k d k' d' status = (refusal : StoreRefusal) → IsRefusedStore content d refusal
-      → IsUnwritten content images d d' × EndsAs (EndsRefused (held k) (held k') refusal) status
+      → IsUnwritten content images d d' × EndsAs (EndsRefused (room d) (held k) (held k') refusal) status
 
   -- `apply` came to its end, and went on from the state of the store
   abbrev pub ContinuesStore : Option (List ℕ) → Option (List ℕ) → K → D → K → D → Status → Type 0

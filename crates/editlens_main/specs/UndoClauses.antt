@@ -58,7 +58,7 @@ module _ {K D : Type 0} (held : K → Option (List ℕ)) (content : D → Option
   -- what `undo` wrote to the sink if it refused the store, and that it wrote nothing to the disk
   abbrev pub RefusesUndo : K → D → K → D → Status → Type 0
   RefusesUndo k d k' d' status = (refusal : StoreRefusal) → IsRefusedUndo content d count refusal
-      → IsUnwritten content images d d' × EndsAs (EndsRefused (held k) (held k') refusal) status
+      → IsUnwritten content images d d' × EndsAs (EndsRefused (room d) (held k) (held k') refusal) status
 
   -- After `NoMemory` and `StoreRefused` the snapshot is not stored: an image that a crash now may leave represents the triple from before
   -- the call, or was possible before it.

@@ -12,8 +12,10 @@ ghost use Rattle.store_import.specs.Import.{Brings};
 ghost use Rattle.store_making.specs.Init.{Begins};
 ghost use Rattle.store_session.specs.StoredStates.{StoredState, stands_for, answer, IsSnapshot};
 ghost use Rattle.store_undo.specs.UndoCauses.{UndoHasNoRoom};
-ghost use Rattle.store_undo.specs.Undoing.{Undoing, undoing};
+ghost use Rattle.store_undo.specs.Undoing.{Undoing, undoing, refusal_in as refusal_to_undo};
+ghost use Rattle.stored_run.specs.Refusals.{refusal_in};
 ghost use Rattle.stored_run.specs.Rooms.{RunHasNoRoom, PackHasNoRoom};
+ghost use Rattle.stored_run.specs.declared.refusals.StoreRefusal.{StoreRefusal};
 ghost use Rattle.editlens_main.specs.Ends.{IsFinished, Reports, IsComplete};
 ghost use Rattle.editlens_main.specs.Commands.{command_of, order_named, uses_disk};
 ghost use Rattle.editlens_main.specs.ScriptStatus.{ScriptAs};
@@ -39,6 +41,8 @@ use std::alloc::Global;
 /// - `init_sure`, `import_sure`: the same on an empty disk. The status is `DiskFault` instead only if the disk has no room for the
 ///   store.
 /// - `views_sure`: over a store `show` and `verify` end with `Done`, or with `NoMemory` or `SinkFault` as above.
+/// - `refused_sure`, `undo_refused_sure`: over bytes that are refused, a command over a store ends with `StoreRefused`, or with
+///   `NoMemory` or `SinkFault` as above.
 /// - `apply_sure`, `pack_sure`, `undo_sure`: over a store, and for `apply` with at most 2^30 bytes, the command comes to its end, or
 ///   ends with `NoMemory` or `SinkFault` as above. It ends with `DiskFault` only if the log with the record that was to be stored next
 ///   and the gate behind it would end past the disk's room. It ends with `StoreRefused` only if they would end past 2^63 - 1 bytes.
@@ -74,6 +78,13 @@ pub fn run_sure(
     ensures views_sure { (order_named words.now ≡ Some Show) ⊎ (order_named words.now ≡ Some Verify)
         → (before : List (List ℕ)) (t : StoredState) (version : Option (List ℕ)) → HoldsPayloads before disk.old.bytes → stands_for before ≡ Ok (t, version)
         → EndsInRoom result (length sink.new.held ≡ sink.new.room) ((result ≡ Status.Done) ⊎ (result ≡ Status.NoMemory)) }
+    ensures refused_sure { (order_named words.now ≡ Some Apply) ⊎ (order_named words.now ≡ Some Pack)
+        ⊎ (order_named words.now ≡ Some Show) ⊎ (order_named words.now ≡ Some Verify)
+        → (refusal : StoreRefusal) → refusal_in stands_for disk.old.bytes ≡ Some refusal
+        → EndsInRoom result (length sink.new.held ≡ sink.new.room) ((result ≡ Status.StoreRefused) ⊎ (result ≡ Status.NoMemory)) }
+    ensures undo_refused_sure { (count : ℕ) → order_named words.now ≡ Some (Undo count)
+        → (refusal : StoreRefusal) → refusal_to_undo count disk.old.bytes ≡ Some refusal
+        → EndsInRoom result (length sink.new.held ≡ sink.new.room) ((result ≡ Status.StoreRefused) ⊎ (result ≡ Status.NoMemory)) }
     ensures apply_sure { order_named words.now ≡ Some Apply → length source.old ≤ MOST_BYTES
         → (before : List (List ℕ)) (t : StoredState) (version : Option (List ℕ)) → HoldsPayloads before disk.old.bytes → stands_for before ≡ Ok (t, version)
         → StoredInRoom result (length sink.new.held ≡ sink.new.room) (IsFinished result ⊎ (result ≡ Status.NoMemory))

@@ -92,7 +92,8 @@ use std::alloc::{AllocError, Global};
 /// - `apply_causes`, `pack_causes`, `undo_causes`, `init_causes`, `import_causes`: why such a status came. `StoreRefused` over a store
 ///   comes only if the log has no room, and `DiskFault`, if the disk's room is known, only if the disk has none.
 /// - `apply_refuses`, `pack_refuses`, `undo_refuses`, `views_refuse`: if the disk holds no store, the line `store refused: REASON`
-///   was written in place of all else, and nothing to the disk. For `undo` the reason is `nothing-to-undo` if and only if the disk
+///   was written in place of all else, and nothing to the disk. Only a disk whose room is not known may fail before, and memory may
+///   run out. For `undo` the reason is `nothing-to-undo` if and only if the disk
 ///   holds a store, and its last K records are not all of changes or there are not so many.
 /// - `making_refuses`: `init` and `import` write `store refused: log-exists` if the disk is not empty, and read nothing.
 /// - `views_write_nothing`, `views_disk_fault`: `show` and `verify` write nothing to the disk. They never end with `DiskFault` over a

@@ -273,9 +273,9 @@ impl Log {
 
     /// Reads all the payloads, in order. It writes nothing.
     ///
-    /// - `BadRecord`: only if this record's gate or length, as it was read in this call, does not lead to the log's end, or
-    ///   the disk's length, as it was read in this call, ends before the record does. It never comes if the disk's content
-    ///   is known.
+    /// - `BadRecord`: only for one of the log's records, and never if the disk's content is known. Else this record's gate or
+    ///   length, as it was read in this call, does not lead to the log's end, or the disk's length, as it was read in this
+    ///   call, ends before the record does.
     /// - `DiskFault`: only if the disk's count of faults increased.
     /// - `NoMemory`: only if memory ran out.
     pub fn payloads<D: Disk>(&self, alloc: Global, disk: &mut D) -> Result<Payloads, LogFault>
@@ -303,6 +303,8 @@ impl Log {
         ensures faults { D.faults disk.old ≤ D.faults disk.new }
         ensures possible { IfErr result IsPayloadsFault }
         ensures never_bad { IfSome (D.content disk.old) (λ _. NoBadRecord result) }
+        ensures numbers { (number : ℕ) → IsErrOf result (LogFault.BadRecord number)
+            → (1 ≤ number) × (number ≤ self.now.count) }
         ensures cause { IsErrOf result LogFault.DiskFault
             → Increased (D.faults disk.old) (D.faults disk.new) }
         ensures sure { IsErrOf result LogFault.DiskFault → IsNone (D.room disk.old) }
@@ -322,6 +324,8 @@ impl Log {
             disk.old disk.new }
         ensures possible { IfErr result IsPayloadsFault }
         ensures never_bad { IfSome (D.content disk.old) (λ _. NoBadRecord result) }
+        ensures numbers { (number : ℕ) → IsErrOf result (LogFault.BadRecord number)
+            → (1 ≤ number) × (number ≤ self.now.count) }
         ensures cause { IsErrOf result LogFault.DiskFault
             → Increased (D.faults disk.old) (D.faults disk.new) }
         ensures sure { IsErrOf result LogFault.DiskFault → IsNone (D.room disk.old) }

@@ -1,3 +1,4 @@
+pub mod FormLenses
 pub mod FormsOfTables
 pub mod Growth
 pub mod InsideNodes

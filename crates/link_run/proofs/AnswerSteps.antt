@@ -1,11 +1,7 @@
--- The answer line of an item is that of the answer, and the lens of a link is that of its own form.
-use Rattle.std.proofs.Common.{◌≡◌, ℕ, List, Bool, Option, None, Some, option_map, refl, sym, ap, ap₂, subst, ◌∙◌}
+-- The answer line of an item is that of the answer.
+use Rattle.std.proofs.Common.{◌≡◌, ℕ, List, Bool, Option, None, Some, option_map, sym, ap, ap₂, ◌∙◌}
 use Rattle.std.specs.Prelude.{IfSome}
-use Rattle.lens_forms.specs.Forms.{FormTree, left_type, right_type}
-use Rattle.lens_core.specs.Complements.{missing}
-use Rattle.lens_core.specs.Consistency.{IsConsistent}
-use Rattle.lens_core.specs.LensOf.{IsLensOf}
-use Rattle.lens_core.specs.Translation.{translate}
+use Rattle.lens_forms.specs.Forms.{FormTree}
 use Rattle.line_stream.specs.declared.state.Answer as stream
 use Rattle.turn_link.specs.Links.{LinkTree}
 use Rattle.turn_link.specs.Views.{link_refusal}
@@ -16,11 +12,6 @@ use Rattle.link_run.specs.Runs.{numbered}
 use Rattle.link_run.specs.Views.{answer_tree, step_with, HasAnswerLine, IsSome}
 use Rattle.link_run.specs.declared.answers.Answer.{Answer}
 use Rattle.link_run.specs.declared.answers.Answer.TheVariants.{Told, Refused, NoEvent}
-
-pub own_form : (f form : FormTree) → f ≡ form → IsLensOf (left_type f) (right_type f) (missing f) (IsConsistent f) (translate f) form
-own_form f form same =
-    subst (IsLensOf (left_type f) (right_type f) (missing f) (IsConsistent f) (translate f)) same
-    (record { left_is = refl; right_is = refl; starts = refl; relates = λ x c y. ((λ h. h), (λ h. h)); translates = refl })
 
 still_some : {A B : Type 0} (f : A → B) (o : Option A) → IsSome o → IsSome (option_map f o)
 still_some f None some = some

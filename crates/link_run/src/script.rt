@@ -63,7 +63,7 @@ impl ScriptState for LinkRun {
 }
 
 // The state lines of a link of a compiled lens.
-#[tactic(auto, using(crate::proofs::AnswerSteps::own_form))]
+#[tactic(auto, using(lens_flat::proofs::FormLenses::is_lens_of))]
 fn text_of_state(alloc: Global, link: &Link<Flat>) -> Result<Bytes, AllocError>
     ensures { IfOk result (λ text. text ≡ state_text (state_of link.now)) }
 {

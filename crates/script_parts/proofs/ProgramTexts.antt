@@ -18,10 +18,14 @@ pub still_long : (b : Bool) (text part bytes end : List ℕ) → b ≡ true → 
 still_long true text part bytes end is h = omega (arith, h, length-append (part ++ bytes) end, length-append part bytes)
 still_long false text part bytes end is h = cc
 
-pub added : (b long : Bool) (text new part bytes end : List ℕ) → b ≡ false → HoldsText b text part → new ≡ (text ++ bytes) ++ end → (long ≡ true → LONGEST < length new) → HoldsText long new ((part ++ bytes) ++ end)
-added true long text new part bytes end is h e test = cc
-added false true text new part bytes end is h e test = omega (arith, test refl, ap length e, ap length h, length-append (text ++ bytes) end, length-append (part ++ bytes) end, length-append text bytes, length-append part bytes)
-added false false text new part bytes end is h e test = e ∙ ap (λ t. (t ++ bytes) ++ end) h
+pub added : (b long : Bool) (text new part bytes end : List ℕ) → b ≡ false → HoldsText b text part → new ≡ (text ++ bytes) ++ end
+    → (long ≡ true → LONGEST < length new) → (long ≡ false → length new ≤ LONGEST) → HoldsText long new ((part ++ bytes) ++ end)
+added true long text new part bytes end is h e over within = cc
+added false true text new part bytes end is h e over within =
+    omega (arith, over refl, ap length e, ap length h.0, length-append (text ++ bytes) end, length-append (part ++ bytes) end, length-append text bytes, length-append part bytes)
+added false false text new part bytes end is h e over within =
+    let same : new ≡ (part ++ bytes) ++ end = e ∙ ap (λ t. (t ++ bytes) ++ end) h.0 in
+    (same, subst (λ t. length t ≤ LONGEST) same (within refl))
 
 -- a line that is too long has more bytes than a program part may have
 pub long_line : (text : List ℕ) → TooLong ≡ line_of text → 1048576 < length text

@@ -16,10 +16,10 @@ use Rattle.script_parts.specs.declared.script.TheConstants.{LONGEST}
 
 -- ---- a program part
 
--- this text is the program part, unless that is too long
+-- this text is the program part, unless that has more than `LONGEST` bytes
 abbrev pub HoldsText : Bool → List ℕ → List ℕ → Type 0
 HoldsText true text part = LONGEST < length part
-HoldsText false text part = text ≡ part
+HoldsText false text part = (text ≡ part) × (length part ≤ LONGEST)
 
 abbrev pub HoldsPart : ProgramText → List ℕ → Type 0
 HoldsPart program part = HoldsText program.is_long program.text.items part

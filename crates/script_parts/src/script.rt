@@ -1,5 +1,5 @@
 //! The program part of a script that is read in pieces.
-ghost use Rattle.std.specs.Prelude.{◌≡◌, ◌<◌, ◌≤◌, ◌++◌, true, [], length, List, ℕ, IfOk, IfErr, IfSome, IsErrOf, MatchResult, Ok};
+ghost use Rattle.std.specs.Prelude.{◌≡◌, ◌<◌, ◌≤◌, ◌++◌, true, [], length, List, ℕ, IfOk, IfErr, IsErrOf, MatchOption, MatchResult, Ok};
 ghost use Rattle.lens_forms.specs.Forms.{form_tree};
 ghost use Rattle.lens_io.specs.Causes.{Increased};
 ghost use Rattle.edit_journal.specs.Lines.{line_of};
@@ -8,6 +8,7 @@ ghost use Rattle.script_parts.specs.Lines.{is_separator, is_separator_line, prog
 ghost use Rattle.script_parts.specs.Parts.{HoldsPart, ReadsHead, StopsHead};
 ghost use Rattle.script_parts.specs.PartSteps.{IsProgramFront, MovesOn, AddsLines};
 ghost use Rattle.journal_input.specs.declared.limits.TheConstants.{PIECE_BYTES};
+ghost use Rattle.script_parts.specs.declared.script.TheConstants.{LONGEST};
 ghost use Rattle.accepted_programs.specs.Program.{lens_of};
 ghost use Rattle.accepted_programs.specs.Refused.{IsKnown, IsRefusal};
 
@@ -66,9 +67,11 @@ impl ProgramText {
         Ok(())
     }
 
-    /// The text of the program part, unless that is too long. Does not allocate.
+    /// The text of the program part. None if and only if the part has more than 65,536 bytes. Does not allocate.
     pub fn text(&self) -> Option<&[u8]>
-        ensures { (part : List ℕ) → HoldsPart self.now part → IfSome result (λ text. text.now ≡ part) }
+        ensures { (part : List ℕ) → HoldsPart self.now part
+            → MatchOption result (LONGEST < length part)
+            (λ text. (text.now ≡ part) × (length part ≤ LONGEST)) }
     {
         if self.is_long {
             return None;

@@ -1,2 +1,1 @@
-pub mod FormLenses
 pub mod InitEnds

@@ -158,7 +158,7 @@ fn first_lines(alloc: Global, lens: &Typed) -> Result<Vec<u8>, AllocError>
 }
 
 /// A session of a form at its first triple. The only error is running out of memory.
-#[tactic(auto, using(crate::proofs::FormLenses::is_lens_of))]
+#[tactic(auto, using(lens_flat::proofs::FormLenses::is_lens_of))]
 pub fn first_session(alloc: Global, lens: &Typed) -> Result<Session<Flat>, AllocError>
     ensures of_form { IfOk result (λ s. IsLensOf (left_type (form_tree s.lens.typed)) (right_type (form_tree s.lens.typed))
         (missing (form_tree s.lens.typed)) (IsConsistent (form_tree s.lens.typed)) (translate (form_tree s.lens.typed))

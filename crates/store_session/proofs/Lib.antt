@@ -1,7 +1,6 @@
 pub mod NoLineEnd
 pub mod AnswerLines
 pub mod AnswersMade
-pub mod Lenses
 pub mod Openings
 pub mod StatesInStep
 pub mod JournalRuns

@@ -95,7 +95,7 @@ fn open_records(alloc: Global, payloads: &Payloads) -> Result<OpenedRecords<Flat
     }
 }
 
-#[tactic(auto, using(crate::proofs::Lenses::is_lens_of))]
+#[tactic(auto, using(lens_flat::proofs::FormLenses::is_lens_of))]
 fn open_with(
     alloc: Global,
     typed: &Typed,

@@ -12,7 +12,7 @@ use std::alloc::{AllocError, Global};
 use texts::Bytes;
 
 // The state lines of a session.
-#[tactic(auto, using(crate::proofs::Lenses::is_lens_of))]
+#[tactic(auto, using(lens_flat::proofs::FormLenses::is_lens_of))]
 pub(crate) fn shown(alloc: Global, session: &Session<Flat>) -> Result<Bytes, AllocError>
     ensures text { IfOk result (λ text. text ≡ state_text (session_state session.now)) }
     ensures lines { IfOk result AreOtherLines }

@@ -1,7 +1,6 @@
 pub mod Splitting
 pub mod ChangeRecords
 pub mod Earlier
-pub mod Lenses
 pub mod VersionRecords
 pub mod UndoCalls
 pub mod UndoCauses

@@ -1,7 +1,7 @@
 -- Payloads and logs that are refused.
 use Rattle.std.proofs.Common.{◌≡◌, inl, inr, ℕ, List, Option, Some, None, Result, Ok, Err, refl, sym, ap, subst, ◌∙◌}
 use Rattle.std.proofs.lemmas.Option.{same_Some}
-use Rattle.std.specs.Prelude.{option_and_then}
+use Rattle.std.specs.Prelude.{option_and_then, IsNone}
 use Rattle.gate_log.specs.CallEnds.{IsLogRefusal}
 use Rattle.gate_log.specs.LogBytes.{not_a_log, bad_record, log_of}
 use Rattle.gate_log.specs.declared.fault.LogFault.{LogFault}
@@ -16,25 +16,27 @@ use Rattle.stored_run.proofs.Openings.{at_content}
 use Rattle.stored_sessions.specs.Stands.{Standing, stands}
 use Rattle.store_undo.specs.Undoing.{Undoing, undoing_from, undoing_of, undoing, last_changes, payloads_before, refusal_of, refusal_of_log, refusal_in, undo_refusal}
 
--- the line of a refusal that is the one that there is
-pub same_refusal : (r r' : StoreRefusal) (o : Option StoreRefusal) (old new : Option (List ℕ)) (status : Status) → o ≡ Some r → o ≡ Some r' → Refuses old new r status → EndsRefused old new r' status
-same_refusal r r' o old new status is q ends =
-    let same : r ≡ r' = same_Some r r' (sym is ∙ q) in
-    inl (subst (λ (x : StoreRefusal). Refuses old new x status) same ends)
+module _ (room : Option ℕ) (old new : Option (List ℕ)) (status : Status) where
+  -- the line of a refusal that is the one that there is
+  pub same_refusal : (r r' : StoreRefusal) (o : Option StoreRefusal) → o ≡ Some r → o ≡ Some r' → Refuses old new r status → EndsRefused room old new r' status
+  same_refusal r r' o is q ends =
+      let same : r ≡ r' = same_Some r r' (sym is ∙ q) in
+      inl (subst (λ (x : StoreRefusal). Refuses old new x status) same ends)
 
--- the opening of bytes that are refused
-pub log_refused : (count : ℕ) (old new : Option (List ℕ)) (status : Status) (fault : LogFault) (o : Option (List ℕ)) (bytes : List ℕ) (refusal : StoreRefusal)
-    → o ≡ Some bytes → IsLogRefusal o fault → refusal_in count bytes ≡ Some refusal → EndsAtLog old new fault status → EndsRefused old new refusal status
-log_refused count old new status log.NotALog o bytes refusal e r q ends =
-    let is = at_content o bytes (λ b. log_of b ≡ not_a_log) e r in
-    same_refusal NotALog refusal (refusal_in count bytes) old new status (ap (refusal_of_log count) is) q ends
-log_refused count old new status (log.BadRecord n) o bytes refusal e r q ends =
-    let is = at_content o bytes (λ b. log_of b ≡ bad_record n) e r in
-    same_refusal (BadRecord n) refusal (refusal_in count bytes) old new status (ap (refusal_of_log count) is) q ends
-log_refused count old new status log.DiskFault o bytes refusal e r q ends = inr (inl ends.0, ends.1)
-log_refused count old new status log.LogExists o bytes refusal e r q ends = absurd r
-log_refused count old new status log.LogFull o bytes refusal e r q ends = absurd r
-log_refused count old new status log.NoMemory o bytes refusal e r q ends = absurd r
+  -- the opening of bytes that are refused
+  pub log_refused : (count : ℕ) (fault : LogFault) (o : Option (List ℕ)) (bytes : List ℕ) (refusal : StoreRefusal)
+      → o ≡ Some bytes → IsLogRefusal o fault → refusal_in count bytes ≡ Some refusal → (fault ≡ log.DiskFault → IsNone room) → EndsAtLog old new fault status
+      → EndsRefused room old new refusal status
+  log_refused count log.NotALog o bytes refusal e r q sure ends =
+      let is = at_content o bytes (λ b. log_of b ≡ not_a_log) e r in
+      same_refusal NotALog refusal (refusal_in count bytes) (ap (refusal_of_log count) is) q ends
+  log_refused count (log.BadRecord n) o bytes refusal e r q sure ends =
+      let is = at_content o bytes (λ b. log_of b ≡ bad_record n) e r in
+      same_refusal (BadRecord n) refusal (refusal_in count bytes) (ap (refusal_of_log count) is) q ends
+  log_refused count log.DiskFault o bytes refusal e r q sure ends = inr ((inl ends.0, ends.1), λ x. sure refl)
+  log_refused count log.LogExists o bytes refusal e r q sure ends = absurd r
+  log_refused count log.LogFull o bytes refusal e r q sure ends = absurd r
+  log_refused count log.NoMemory o bytes refusal e r q sure ends = absurd r
 
 -- ---- what undoing comes to is no refusal
 

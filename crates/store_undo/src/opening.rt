@@ -34,7 +34,7 @@ pub(crate) fn open(alloc: Global, payloads: &Payloads) -> Result<Opened<Flat>, R
     }
 }
 
-#[tactic(auto, using(crate::proofs::Lenses::is_lens_of))]
+#[tactic(auto, using(lens_flat::proofs::FormLenses::is_lens_of))]
 fn open_with(alloc: Global, typed: &Typed, payloads: &Payloads) -> Result<Opened<Flat>, ReopenFault>
     requires stored { stored_form payloads.now ≡ Some (form_tree typed.now) }
     ensures stands { MatchResult result

@@ -35,8 +35,8 @@ use stored_run::{Status, give_stop, pack_store, refuse, refuse_log};
 /// - `causes`: over such payloads `StoreRefused` comes only if the log had no room for the version record or the snapshot, and
 ///   `DiskFault`, if the disk's room is known, only if the disk had none. The source is not there, and no item is refused.
 /// - `complete`: so with no fault, and if the log has room, the status is `Done` or `NoMemory`.
-/// - `refused`: the line `store refused: REASON` is written, unless the disk failed or memory ran out before. Nothing is written
-///   to the disk. The reasons are `not-a-log`, `bad-record N`, `not-consistent N`, and `nothing-to-undo` if and only if the
+/// - `refused`: the line `store refused: REASON` is written, unless the disk failed, whose room is not known then, or memory ran
+///   out before. Nothing is written to the disk. The reasons are `not-a-log`, `bad-record N`, `not-consistent N`, and `nothing-to-undo` if and only if the
 ///   payloads represent a session, and their last `count` records are not all of changes or there are not so many.
 /// - `no_source`, `sink_fault`, `disk_fault`: there is no fault of a source, and these statuses come only if that device failed.
 pub fn undo<K: Sink, D: Disk>(alloc: Global, count: u64, sink: &mut K, disk: &mut D) -> Status
@@ -81,7 +81,7 @@ pub fn undo<K: Sink, D: Disk>(alloc: Global, count: u64, sink: &mut K, disk: &mu
     ensures refused { (bytes : List ℕ) (refusal : StoreRefusal)
         → D.content disk.old ≡ Some bytes → refusal_in count bytes ≡ Some refusal
         → IsUnwritten D.content D.images disk.old disk.new
-        × EndsRefused (K.held sink.old) (K.held sink.new) refusal result }
+        × EndsRefused (D.room disk.old) (K.held sink.old) (K.held sink.new) refusal result }
     ensures no_source { result ≡ Status.SourceFault → ⊥ }
     ensures sink_fault { result ≡ Status.SinkFault
         → SinkFailed K.faults K.empty_takes K.room K.held sink.old sink.new }
@@ -115,7 +115,7 @@ fn undo_log<K: Sink, D: Disk>(
         → D.content disk.old ≡ Some bytes → Stands (D.content disk.old) (D.images disk.old) log.old before
         → undo_refusal count before ≡ Some refusal
         → IsUnwritten D.content D.images disk.old disk.new
-        × EndsRefused (K.held sink.old) (K.held sink.new) refusal result }
+        × EndsRefused (D.room disk.old) (K.held sink.old) (K.held sink.new) refusal result }
     ensures no_source { result ≡ Status.SourceFault → ⊥ }
     ensures sink_fault { result ≡ Status.SinkFault
         → SinkFailed K.faults K.empty_takes K.room K.held sink.old sink.new }
@@ -144,7 +144,7 @@ fn undo_payloads<K: Sink, D: Disk>(
         sink.old disk.old sink.new disk.new payloads u result }
     ensures refused { (refusal : StoreRefusal) → undo_refusal count payloads ≡ Some refusal
         → IsUnwritten D.content D.images disk.old disk.new
-        × EndsRefused (K.held sink.old) (K.held sink.new) refusal result }
+        × EndsRefused (D.room disk.old) (K.held sink.old) (K.held sink.new) refusal result }
     ensures no_source { result ≡ Status.SourceFault → ⊥ }
     ensures sink_fault { result ≡ Status.SinkFault
         → SinkFailed K.faults K.empty_takes K.room K.held sink.old sink.new }

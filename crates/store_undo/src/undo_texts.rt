@@ -72,7 +72,7 @@ fn read_ints(alloc: Global, ty: &Ty, doc: &Doc) -> Result<(), AllocError>
 }
 
 // The lines `undo left WORD` and `undo right WORD`, and the state lines of the session.
-#[tactic(auto, using(crate::proofs::Lenses::own_lens))]
+#[tactic(auto, using(lens_flat::proofs::FormLenses::own_lens))]
 fn lines_of(alloc: Global, session: &Session<Flat>, words: &BothWords) -> Result<Bytes, AllocError>
     ensures { IfOk result (λ lines. lines ≡ tree_line (codes "undo left") (tree_of_word (word_tree words.now.left))
         ++ (tree_line (codes "undo right") (tree_of_word (word_tree words.now.right))

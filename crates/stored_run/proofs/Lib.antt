@@ -14,6 +14,5 @@ pub mod RefusalEnds
 pub mod Openings
 pub mod ApplyCalls
 pub mod PackCalls
-pub mod StoreEnding
 pub mod Causes
 pub mod Rooms

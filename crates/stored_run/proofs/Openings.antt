@@ -1,19 +1,21 @@
 -- Openings that are refused, or fail.
-use Rattle.std.proofs.Common.{◌≡◌, inl, inr, ℕ, List, Option, Some, None, Result, Ok, Err, refl, sym, ap, subst, ◌∙◌}
+use Rattle.std.proofs.Common.{◌≡◌, inl, inr, ℕ, List, [], Option, Some, None, Result, Ok, Err, refl, sym, ap, subst, ◌∙◌}
 use Rattle.std.proofs.lemmas.Option.{same_Some}
-use Rattle.std.specs.Prelude.{IfSome}
+use Rattle.std.specs.Prelude.{IfSome, IsNone}
+use Rattle.std.specs.Io.KnownBytes.{Appends}
 use Rattle.lens_io.specs.Disks.{LeavesOnly}
 use Rattle.gate_log.specs.CallEnds.{IsLogRefusal, IsPayloadsFault, NoBadRecord}
 use Rattle.gate_log.specs.LogBytes.{not_a_log, bad_record, log_of}
 use Rattle.gate_log.specs.declared.fault.LogFault.{LogFault}
 use Rattle.gate_log.specs.declared.fault.LogFault.TheVariants as log
-use Rattle.stored_run.specs.Refusals.{Refuses, EndsAtLog, EndsAtPayloads, IsUnwritten, IsOpening, FailsEarly, EndsRefused, refusal_of_payloads, refusal_of_log, refusal_in}
+use Rattle.stored_run.specs.Refusals.{Refuses, EndsAtLog, EndsAtPayloads, IsUnwritten, IsOpening, FailsEarly, FailsUnopened, EndsRefused, refusal_of_payloads, refusal_of_log, refusal_in}
 use Rattle.stored_run.specs.Reopening.{IsReopenFault}
 use Rattle.stored_run.specs.declared.refusals.StoreRefusal.{StoreRefusal}
 use Rattle.stored_run.specs.declared.refusals.StoreRefusal.TheVariants.{NotALog, BadRecord, NotConsistent}
 use Rattle.stored_run.specs.declared.session.ReopenFault.{ReopenFault}
 use Rattle.stored_run.specs.declared.session.ReopenFault.TheVariants as reopening
 use Rattle.stored_run.specs.declared.status.Status.{Status}
+use Rattle.stored_run.specs.declared.status.Status.TheVariants as ending
 use Rattle.stored_run.proofs.Moments.{leaves_same, leaves_then}
 
 -- what holds of a known content
@@ -43,42 +45,54 @@ opening_then content images moment images_since room d d1 d' e f moments same o 
   same_room = o.same_room ∙ same;
 }
 
--- the opening of bytes that are refused
-pub log_refused : {T : Type 0} (stands_for : List (List ℕ) → Result T ReopenFault) (old new : Option (List ℕ)) (status : Status) (fault : LogFault) (o : Option (List ℕ)) (bytes : List ℕ) (refusal : StoreRefusal)
-    → o ≡ Some bytes → IsLogRefusal o fault → refusal_in stands_for bytes ≡ Some refusal → EndsAtLog old new fault status → EndsRefused old new refusal status
-log_refused stands_for old new status log.NotALog o bytes refusal e r q ends =
-    let is = at_content o bytes (λ b. log_of b ≡ not_a_log) e r in
-    let same : NotALog ≡ refusal = same_Some NotALog refusal (ap (refusal_of_log stands_for) (sym is) ∙ q) in
-    inl (subst (λ (x : StoreRefusal). Refuses old new x status) same ends)
-log_refused stands_for old new status (log.BadRecord n) o bytes refusal e r q ends =
-    let is = at_content o bytes (λ b. log_of b ≡ bad_record n) e r in
-    let same : BadRecord n ≡ refusal = same_Some (BadRecord n) refusal (ap (refusal_of_log stands_for) (sym is) ∙ q) in
-    inl (subst (λ (x : StoreRefusal). Refuses old new x status) same ends)
-log_refused stands_for old new status log.DiskFault o bytes refusal e r q ends = inr (inl ends.0, ends.1)
-log_refused stands_for old new status log.LogExists o bytes refusal e r q ends = absurd r
-log_refused stands_for old new status log.LogFull o bytes refusal e r q ends = absurd r
-log_refused stands_for old new status log.NoMemory o bytes refusal e r q ends = absurd r
+-- the end at bytes that are refused, of a disk with the same room
+pub same_room : (room room' : Option ℕ) (old new : Option (List ℕ)) (refusal : StoreRefusal) (status : Status) → room ≡ room' → EndsRefused room old new refusal status → EndsRefused room' old new refusal status
+same_room room room' old new refusal status e h = subst (λ (o : Option ℕ). EndsRefused o old new refusal status) e h
 
--- the reading of payloads fails
-pub reading_fails : {T : Type 0} (old new : Option (List ℕ)) (status : Status) (fault : LogFault) (r : Result T LogFault) → r ≡ Err fault → NoBadRecord r → IsPayloadsFault fault → EndsAtLog old new fault status
-    → FailsEarly old new status
-reading_fails old new status (log.BadRecord n) r e never possible ends = absurd (subst NoBadRecord e never)
-reading_fails old new status log.DiskFault r e never possible ends = (inl ends.0, ends.1)
-reading_fails old new status log.NoMemory r e never possible ends = (inr ends.0, ends.1)
-reading_fails old new status log.NotALog r e never possible ends = absurd possible
-reading_fails old new status log.LogExists r e never possible ends = absurd possible
-reading_fails old new status log.LogFull r e never possible ends = absurd possible
+module _ (room : Option ℕ) (old new : Option (List ℕ)) (status : Status) where
+  disk_fails : (status ≡ ending.DiskFault) × Appends old new [] → IsNone room → FailsUnopened room old new status
+  disk_fails ends none = ((inl ends.0, ends.1), λ e. none)
 
--- payloads that are refused
-pub payloads_refused : {T : Type 0} (r : Result T ReopenFault) (old new : Option (List ℕ)) (status : Status) (fault : ReopenFault) (refusal : StoreRefusal)
-    → IsReopenFault r fault → refusal_of_payloads r ≡ Some refusal → EndsAtPayloads old new fault status → EndsRefused old new refusal status
-payloads_refused r old new status (reopening.BadRecord n) refusal is q ends =
-    let same : BadRecord n ≡ refusal = same_Some (BadRecord n) refusal (ap refusal_of_payloads (sym is) ∙ q) in
-    inl (subst (λ (x : StoreRefusal). Refuses old new x status) same ends)
-payloads_refused r old new status (reopening.NotConsistent n) refusal is q ends =
-    let same : NotConsistent n ≡ refusal = same_Some (NotConsistent n) refusal (ap refusal_of_payloads (sym is) ∙ q) in
-    inl (subst (λ (x : StoreRefusal). Refuses old new x status) same ends)
-payloads_refused r old new status reopening.NoMemory refusal is q ends = inr (inr ends.0, ends.1)
+  pub memory_fails : (status ≡ ending.NoMemory) × Appends old new [] → FailsUnopened room old new status
+  memory_fails ends = ((inr ends.0, ends.1), λ e. let never : ending.NoMemory ≡ ending.DiskFault = sym ends.0 ∙ e in cc)
+
+  -- the opening of bytes that are refused
+  pub log_refused : {T : Type 0} (stands_for : List (List ℕ) → Result T ReopenFault) (fault : LogFault) (o : Option (List ℕ)) (bytes : List ℕ) (refusal : StoreRefusal)
+      → o ≡ Some bytes → IsLogRefusal o fault → refusal_in stands_for bytes ≡ Some refusal → (fault ≡ log.DiskFault → IsNone room) → EndsAtLog old new fault status
+      → EndsRefused room old new refusal status
+  log_refused stands_for log.NotALog o bytes refusal e r q sure ends =
+      let is = at_content o bytes (λ b. log_of b ≡ not_a_log) e r in
+      let same : NotALog ≡ refusal = same_Some NotALog refusal (ap (refusal_of_log stands_for) (sym is) ∙ q) in
+      inl (subst (λ (x : StoreRefusal). Refuses old new x status) same ends)
+  log_refused stands_for (log.BadRecord n) o bytes refusal e r q sure ends =
+      let is = at_content o bytes (λ b. log_of b ≡ bad_record n) e r in
+      let same : BadRecord n ≡ refusal = same_Some (BadRecord n) refusal (ap (refusal_of_log stands_for) (sym is) ∙ q) in
+      inl (subst (λ (x : StoreRefusal). Refuses old new x status) same ends)
+  log_refused stands_for log.DiskFault o bytes refusal e r q sure ends = inr (disk_fails ends (sure refl))
+  log_refused stands_for log.LogExists o bytes refusal e r q sure ends = absurd r
+  log_refused stands_for log.LogFull o bytes refusal e r q sure ends = absurd r
+  log_refused stands_for log.NoMemory o bytes refusal e r q sure ends = absurd r
+
+  -- the reading of payloads fails
+  pub reading_fails : {T : Type 0} (fault : LogFault) (r : Result T LogFault) → r ≡ Err fault → NoBadRecord r → IsPayloadsFault fault → (fault ≡ log.DiskFault → IsNone room) → EndsAtLog old new fault status
+      → FailsUnopened room old new status
+  reading_fails (log.BadRecord n) r e never possible sure ends = absurd (subst NoBadRecord e never)
+  reading_fails log.DiskFault r e never possible sure ends = disk_fails ends (sure refl)
+  reading_fails log.NoMemory r e never possible sure ends = memory_fails ends
+  reading_fails log.NotALog r e never possible sure ends = absurd possible
+  reading_fails log.LogExists r e never possible sure ends = absurd possible
+  reading_fails log.LogFull r e never possible sure ends = absurd possible
+
+  -- payloads that are refused
+  pub payloads_refused : {T : Type 0} (r : Result T ReopenFault) (fault : ReopenFault) (refusal : StoreRefusal)
+      → IsReopenFault r fault → refusal_of_payloads r ≡ Some refusal → EndsAtPayloads old new fault status → EndsRefused room old new refusal status
+  payloads_refused r (reopening.BadRecord n) refusal is q ends =
+      let same : BadRecord n ≡ refusal = same_Some (BadRecord n) refusal (ap refusal_of_payloads (sym is) ∙ q) in
+      inl (subst (λ (x : StoreRefusal). Refuses old new x status) same ends)
+  payloads_refused r (reopening.NotConsistent n) refusal is q ends =
+      let same : NotConsistent n ≡ refusal = same_Some (NotConsistent n) refusal (ap refusal_of_payloads (sym is) ∙ q) in
+      inl (subst (λ (x : StoreRefusal). Refuses old new x status) same ends)
+  payloads_refused r reopening.NoMemory refusal is q ends = inr (memory_fails ends)
 
 -- payloads that stand for a session are not refused
 pub payloads_stand : {T : Type 0} (r : Result T ReopenFault) (x : T) (old new : Option (List ℕ)) (status : Status) (fault : ReopenFault)

@@ -5,11 +5,8 @@ use Rattle.std.specs.Io.KnownBytes.{Consumes}
 use Rattle.edit_journal.specs.Pieces.{nothing_fed, fed, last_line, lines_of}
 use Rattle.edit_journal.specs.declared.line.Line.{Line}
 use Rattle.edit_journal.proofs.Feeding.{all_lines_given}
-use Rattle.gate_log.specs.CallEnds.{IsCreateFault}
 use Rattle.gate_log.specs.LogBytes.{payloads, records_length, closed_gate}
 use Rattle.gate_log.specs.LogOnDisk.{LogState, Stands}
-use Rattle.gate_log.specs.declared.fault.LogFault.{LogFault}
-use Rattle.gate_log.specs.declared.fault.LogFault.TheVariants as log
 use Rattle.stored_run.specs.Answered.{ended_lines, StopsAmong}
 use Rattle.stored_run.specs.ApplyCall.{EndsCall}
 use Rattle.stored_run.specs.CountLines.{packed_line}
@@ -17,13 +14,11 @@ use Rattle.stored_run.specs.Effects.{IsOver, IsFullAt, Stops}
 use Rattle.stored_run.specs.Ends.{IsFinished, end_of, status_of, StopsStored, Exits}
 use Rattle.stored_run.specs.Journal.{StopsJournal}
 use Rattle.stored_run.specs.PackCall.{EndsPack}
-use Rattle.stored_run.specs.Refusals.{Refuses, EndsAtLog}
-use Rattle.stored_run.specs.Rooms.{most_bytes, HasNoRoom, TakesWithin, TakesTooMany, RunHasNoRoom, IsApplyCause, PackHasNoRoom, IsPackCause, IsBeginCause}
+use Rattle.stored_run.specs.Rooms.{most_bytes, HasNoRoom, TakesWithin, TakesTooMany, RunHasNoRoom, IsApplyCause, PackHasNoRoom, IsPackCause}
 use Rattle.stored_run.specs.Runs.{any_refused, kept_of}
 use Rattle.stored_run.specs.StoreEnds.{StoreEnds}
 use Rattle.stored_run.specs.Stopping.{IsOwnStop}
 use Rattle.stored_run.specs.ViewCall.{Views}
-use Rattle.stored_run.specs.declared.refusals.StoreRefusal.TheVariants.{LogExists}
 use Rattle.stored_run.specs.declared.session.Answer.{Answer}
 use Rattle.stored_run.specs.declared.session.ReopenFault.{ReopenFault}
 use Rattle.stored_run.specs.declared.status.Status.{Status}
@@ -276,38 +271,6 @@ module _ {K D : Type 0} (held : K → Option (List ℕ)) (content : D → Option
       | inr e ↦ subst (λ (s : Status). IsPackCause is_snapshot s (room d) before t version) (sym e) tt
     ]
 
-  -- ---- the making of a store
-
-  begin_of : (s : Status) (o : Option ℕ) (known : Option (List ℕ)) (payload : List ℕ) → IsStoreCause s (HasNoRoom most_bytes [] (payload ∷ [])) (IfSome o (λ most. HasNoRoom most [] (payload ∷ []))) → IsBeginCause s o known payload
-  begin_of ending.StoreRefused o known payload h = inr h
-  begin_of ending.DiskFault o known payload h = h
-  begin_of ending.SourceFault o known payload h = h
-  begin_of ending.InputTooLong o known payload h = h
-  begin_of ending.SomeRefused o known payload h = h
-  begin_of ending.Done o known payload h = tt
-  begin_of ending.SinkFault o known payload h = tt
-  begin_of ending.NoMemory o known payload h = tt
-
-  pub begin_cause : (k k' : K) (d d1 d' : D) (l l' : LogState) (payload line : List ℕ) (status : Status) → l.gate ≡ 8 → room d1 ≡ room d
-      → StoreEnds held content images moment images_since room k d1 l k' d' l' line [] payload status → IsBeginCause status (room d) (content d) payload
-  begin_cause k k' d d1 d' l l' payload line status g same e =
-      begin_of status (room d) (content d) payload
-      (subst (λ (o : Option ℕ). IsStoreCause status (HasNoRoom most_bytes [] (payload ∷ [])) (IfSome o (λ most. HasNoRoom most [] (payload ∷ [])))) same (store_cause k k' d1 d' l l' [] [] payload line status g e))
-
-begin_exists : (old new content : Option (List ℕ)) (o : Option ℕ) (payload : List ℕ) (status : Status) → Refuses old new LogExists status → IfSome content (λ bytes. 0 < length bytes) → IsBeginCause status o content payload
-begin_exists old new content o payload status (inl h) some = subst (λ (s : Status). IsBeginCause s o content payload) (sym h.0) (inl some)
-begin_exists old new content o payload status (inr (inl h)) some = subst (λ (s : Status). IsBeginCause s o content payload) (sym h.0) tt
-begin_exists old new content o payload status (inr (inr h)) some = subst (λ (s : Status). IsBeginCause s o content payload) (sym h.0) tt
-
-pub begin_refused : (old new content : Option (List ℕ)) (o : Option ℕ) (payload : List ℕ) (status : Status) (fault : LogFault) → IsCreateFault fault → EndsAtLog old new fault status
-    → (fault ≡ log.LogExists → IfSome content (λ bytes. 0 < length bytes)) → (fault ≡ log.DiskFault → IfSome o (λ most. most < 9)) → IsBeginCause status o content payload
-begin_refused old new content o payload status fault (inl e) ends exists sure =
-    begin_exists old new content o payload status (subst (λ (f : LogFault). EndsAtLog old new f status) e ends) (exists e)
-begin_refused old new content o payload status fault (inr e) ends exists sure =
-    let failed = subst (λ (f : LogFault). EndsAtLog old new f status) e ends in
-    subst (λ (s : Status). IsBeginCause s o content payload) (sym failed.0)
-    (room_over o (λ most. most < 9) (λ most. HasNoRoom most [] (payload ∷ [])) (λ most h. no_room_of most 8 [] [] (payload ∷ []) (payload ∷ []) refl refl (let is : most < 8 + 10 + length payload = omega (arith, h) in is)) (sure e))
-
 -- ---- a status that has no cause does not come
 
 pub pack_complete : {State : Type 0} (is_snapshot : State → List ℕ → Type 0) (status : Status) (o : Option ℕ) (before : Payloads) (t : State) (version : Option (List ℕ)) → IsPackCause is_snapshot status o before t version
@@ -320,17 +283,6 @@ pack_complete is_snapshot ending.DiskFault o before t version h sink disk none =
 pack_complete is_snapshot ending.SomeRefused o before t version h sink disk none = absurd h
 pack_complete is_snapshot ending.SourceFault o before t version h sink disk none = absurd h
 pack_complete is_snapshot ending.InputTooLong o before t version h sink disk none = absurd h
-
-pub begin_complete : (status : Status) (o : Option ℕ) (content : Option (List ℕ)) (payload : List ℕ) → IsBeginCause status o content payload
-    → (status ≡ ending.SinkFault → ⊥) → (status ≡ ending.DiskFault → ⊥) → (IfSome content (λ bytes. 0 < length bytes) → ⊥) → (HasNoRoom most_bytes [] (payload ∷ []) → ⊥) → (status ≡ ending.Done) ⊎ (status ≡ ending.NoMemory)
-begin_complete ending.Done o content payload h sink disk some none = inl refl
-begin_complete ending.NoMemory o content payload h sink disk some none = inr refl
-begin_complete ending.StoreRefused o content payload h sink disk some none = elim h [ inl e ↦ absurd (some e) | inr e ↦ absurd (none e) ]
-begin_complete ending.SinkFault o content payload h sink disk some none = absurd (sink refl)
-begin_complete ending.DiskFault o content payload h sink disk some none = absurd (disk refl)
-begin_complete ending.SomeRefused o content payload h sink disk some none = absurd h
-begin_complete ending.SourceFault o content payload h sink disk some none = absurd h
-begin_complete ending.InputTooLong o content payload h sink disk some none = absurd h
 
 pub views_complete : (old new : Option (List ℕ)) (text : List ℕ) (status : Status) → Views old new text status → (status ≡ ending.SinkFault → ⊥) → (status ≡ ending.DiskFault → ⊥) → (status ≡ ending.Done) ⊎ (status ≡ ending.NoMemory)
 views_complete old new text status (inl h) sink disk = inl h.0

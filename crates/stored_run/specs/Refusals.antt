@@ -76,8 +76,8 @@ abbrev pub FailsUnopened : Option ℕ → Option (List ℕ) → Option (List ℕ
 FailsUnopened room old new status = FailsEarly old new status × (status ≡ ending.DiskFault → IsNone room)
 
 -- the end over bytes that are refused for this reason, unless the command failed before it was known
-abbrev pub EndsRefused : Option (List ℕ) → Option (List ℕ) → StoreRefusal → Status → Type 0
-EndsRefused old new refusal status = Refuses old new refusal status ⊎ FailsEarly old new status
+abbrev pub EndsRefused : Option ℕ → Option (List ℕ) → Option (List ℕ) → StoreRefusal → Status → Type 0
+EndsRefused room old new refusal status = Refuses old new refusal status ⊎ FailsUnopened room old new status
 
 -- ---- the bytes of a disk
 

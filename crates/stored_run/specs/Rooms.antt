@@ -1,6 +1,6 @@
 -- Why a command over a store ended so: the payload for which there was no room, and how many bytes were taken. Read it from the end:
 -- `IsApplyCause` and `IsPackCause` by the status, then `RunHasNoRoom`, then `HasNoRoom`.
-use Rattle.std.specs.Prelude.{◌≡◌, ◌⊎◌, ℕ, ◌+◌, ◌-◌, ◌^◌, ◌<◌, ◌≤◌, List, [], ◌∷◌, ◌++◌, length, Option, Some, option_to_list, IfSome}
+use Rattle.std.specs.Prelude.{◌≡◌, ℕ, ◌+◌, ◌-◌, ◌^◌, ◌<◌, ◌≤◌, List, [], ◌∷◌, ◌++◌, length, Option, Some, option_to_list, IfSome}
 use Rattle.std.specs.Io.KnownBytes.{Consumes}
 use Rattle.edit_journal.specs.Pieces.{lines_of}
 use Rattle.edit_journal.specs.declared.line.Line.{Line}
@@ -73,13 +73,3 @@ module _ {State : Type 0} (is_snapshot : State → List ℕ → Type 0) where
   IsPackCause ending.InputTooLong room before t version = ⊥
   IsPackCause ending.SomeRefused room before t version = ⊥
   IsPackCause status room before t version = Unit {0}
-
--- What holds after each status of the making of a store: the log is refused if the disk is not empty, or if the payload has no room.
-abbrev pub IsBeginCause : Status → Option ℕ → Option (List ℕ) → List ℕ → Type 0
-IsBeginCause ending.StoreRefused room content payload =
-    IfSome content (λ bytes. 0 < length bytes) ⊎ HasNoRoom most_bytes [] (payload ∷ [])
-IsBeginCause ending.DiskFault room content payload = IfSome room (λ most. HasNoRoom most [] (payload ∷ []))
-IsBeginCause ending.SourceFault room content payload = ⊥
-IsBeginCause ending.InputTooLong room content payload = ⊥
-IsBeginCause ending.SomeRefused room content payload = ⊥
-IsBeginCause status room content payload = Unit {0}

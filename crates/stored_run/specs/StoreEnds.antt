@@ -1,4 +1,4 @@
--- How a command ends that stores a payload and writes a line: `pack`, and the making of a store.
+-- How a command ends that stores a payload and writes a line, as `pack` does.
 -- Read it from the end: `StoresBehind`, `StoreEnds`, then `StoreStops`.
 use Rattle.std.specs.Prelude.{◌≡◌, ◌⊎◌, ℕ, List, [], ◌∷◌, ◌++◌}
 use Rattle.std.specs.declared.option.Option.{Option}

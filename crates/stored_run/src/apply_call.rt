@@ -30,8 +30,8 @@ use std::alloc::Global;
 ///   the disk's room is known, only if the disk had none. After `InputTooLong` 2^30 + 1 bytes were taken, and after `Done`,
 ///   `SomeRefused` and `SourceFault` no more than 2^30.
 /// - `complete`: so with no fault, at most 2^30 bytes and a log that has room, the status is `Done`, `SomeRefused` or `NoMemory`.
-/// - `refused`: if the bytes of the disk are refused, the line `store refused: REASON` is written, unless the disk failed or
-///   memory ran out before. Nothing is taken from the source, and nothing is written to the disk.
+/// - `refused`: if the bytes of the disk are refused, the line `store refused: REASON` is written, unless the disk failed, whose
+///   room is not known then, or memory ran out before. Nothing is taken from the source, and nothing is written to the disk.
 /// - `source_fault`, `sink_fault`, `disk_fault`: these statuses come only if that device failed.
 pub fn apply<S: Source, A: StoredSession + Drop, K: Sink, D: Disk>(
     alloc: Global,
@@ -88,7 +88,7 @@ pub fn apply<S: Source, A: StoredSession + Drop, K: Sink, D: Disk>(
         → D.content disk.old ≡ Some bytes → refusal_in A.stands_for bytes ≡ Some refusal
         → IsUnwritten D.content D.images disk.old disk.new
         × Consumes (S.left source.old) (S.left source.new) []
-        × EndsRefused (K.held sink.old) (K.held sink.new) refusal result }
+        × EndsRefused (D.room disk.old) (K.held sink.old) (K.held sink.new) refusal result }
     ensures source_fault { result ≡ Status.SourceFault
         → Increased (S.faults source.old) (S.faults source.new) }
     ensures sink_fault { result ≡ Status.SinkFault
@@ -147,7 +147,7 @@ fn apply_log<S: Source, A: StoredSession + Drop, K: Sink, D: Disk>(
         → refusal_of_payloads (A.stands_for before) ≡ Some refusal
         → IsUnwritten D.content D.images disk.old disk.new
         × Consumes (S.left source.old) (S.left source.new) []
-        × EndsRefused (K.held sink.old) (K.held sink.new) refusal result }
+        × EndsRefused (D.room disk.old) (K.held sink.old) (K.held sink.new) refusal result }
     ensures source_fault { result ≡ Status.SourceFault
         → Increased (S.faults source.old) (S.faults source.new) }
     ensures sink_fault { result ≡ Status.SinkFault
@@ -197,7 +197,7 @@ fn apply_payloads<S: Source, A: StoredSession + Drop, K: Sink, D: Disk>(
         → refusal_of_payloads (A.stands_for payloads.now) ≡ Some refusal
         → IsUnwritten D.content D.images disk.old disk.new
         × Consumes (S.left source.old) (S.left source.new) []
-        × EndsRefused (K.held sink.old) (K.held sink.new) refusal result }
+        × EndsRefused (D.room disk.old) (K.held sink.old) (K.held sink.new) refusal result }
     ensures source_fault { result ≡ Status.SourceFault
         → Increased (S.faults source.old) (S.faults source.new) }
     ensures sink_fault { result ≡ Status.SinkFault

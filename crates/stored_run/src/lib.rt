@@ -1,8 +1,8 @@
-//! The commands over a store: `apply`, `pack`, `show`, `verify`, and the part of `init` that makes it.
+//! The commands over a store that is there: `apply`, `pack`, `show` and `verify`.
 //!
 //! A store is a log on a disk, and its payloads stand for a session. [`apply`] answers the lines of a journal. It stores the
 //! payload of each change that it accepts, and only then writes its answer. [`pack`] stores a snapshot of the session.
-//! [`show`] and [`verify`] only read, and [`begin_store`] makes a store.
+//! [`show`] and [`verify`] only read.
 //!
 //! A crash at any moment leaves a disk that holds the payload of each change whose `ok` line was written: `IsAcknowledged`
 //! in specs/Crash.antt, and `IsSafeCall` in specs/ApplyCall.antt for the complete call. `ContinuesCall` beside it is what a
@@ -14,7 +14,6 @@ mod apply_call;
 mod continuing;
 mod count_lines;
 mod journal;
-mod making;
 mod pack_call;
 mod refusals;
 mod session;
@@ -26,7 +25,6 @@ mod view_call;
 pub use apply_call::apply;
 pub use continuing::{answer_journal, continue_store};
 pub use journal::{Progress, answer_line, answer_lines, answer_pieces};
-pub use making::begin_store;
 pub use pack_call::{pack, pack_store};
 pub use refusals::{StoreRefusal, give_stop, refuse, refuse_log};
 pub use session::{Answer, Opened, ReopenFault, StoredSession};

@@ -35,8 +35,8 @@ use texts::Bytes;
 /// - `causes`: over such payloads `StoreRefused` comes only if the log had no room for the version record or the snapshot, and
 ///   `DiskFault`, if the disk's room is known, only if the disk had none. The source is not there, and no item is refused.
 /// - `complete`: so with no fault, and if the log has room, the status is `Done` or `NoMemory`.
-/// - `refused`: if the bytes of the disk are refused, the line `store refused: REASON` is written, unless the disk failed or
-///   memory ran out before. Nothing is written to the disk.
+/// - `refused`: if the bytes of the disk are refused, the line `store refused: REASON` is written, unless the disk failed, whose
+///   room is not known then, or memory ran out before. Nothing is written to the disk.
 /// - `no_source`, `sink_fault`, `disk_fault`: there is no fault of a source, and these statuses come only if that device failed.
 pub fn pack<A: StoredSession + Drop, K: Sink, D: Disk>(
     alloc: Global,
@@ -85,7 +85,7 @@ pub fn pack<A: StoredSession + Drop, K: Sink, D: Disk>(
     ensures refused { (bytes : List ℕ) (refusal : StoreRefusal)
         → D.content disk.old ≡ Some bytes → refusal_in A.stands_for bytes ≡ Some refusal
         → IsUnwritten D.content D.images disk.old disk.new
-        × EndsRefused (K.held sink.old) (K.held sink.new) refusal result }
+        × EndsRefused (D.room disk.old) (K.held sink.old) (K.held sink.new) refusal result }
     ensures no_source { result ≡ Status.SourceFault → ⊥ }
     ensures sink_fault { result ≡ Status.SinkFault
         → SinkFailed K.faults K.empty_takes K.room K.held sink.old sink.new }
@@ -139,7 +139,7 @@ fn pack_log<A: StoredSession + Drop, K: Sink, D: Disk>(
         log.old before
         → refusal_of_payloads (A.stands_for before) ≡ Some refusal
         → IsUnwritten D.content D.images disk.old disk.new
-        × EndsRefused (K.held sink.old) (K.held sink.new) refusal result }
+        × EndsRefused (D.room disk.old) (K.held sink.old) (K.held sink.new) refusal result }
     ensures no_source { result ≡ Status.SourceFault → ⊥ }
     ensures sink_fault { result ≡ Status.SinkFault
         → SinkFailed K.faults K.empty_takes K.room K.held sink.old sink.new }
@@ -183,7 +183,7 @@ fn pack_payloads<A: StoredSession + Drop, K: Sink, D: Disk>(
     ensures refused { (refusal : StoreRefusal)
         → refusal_of_payloads (A.stands_for payloads.now) ≡ Some refusal
         → IsUnwritten D.content D.images disk.old disk.new
-        × EndsRefused (K.held sink.old) (K.held sink.new) refusal result }
+        × EndsRefused (D.room disk.old) (K.held sink.old) (K.held sink.new) refusal result }
     ensures no_source { result ≡ Status.SourceFault → ⊥ }
     ensures sink_fault { result ≡ Status.SinkFault
         → SinkFailed K.faults K.empty_takes K.room K.held sink.old sink.new }

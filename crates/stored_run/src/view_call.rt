@@ -47,7 +47,7 @@ pub fn show<A: StoredSession + Drop, K: Sink, D: Disk>(
         → Views (K.held sink.old) (K.held sink.new) (A.state_text t) result }
     ensures refused { (bytes : List ℕ) (refusal : StoreRefusal)
         → D.content disk.old ≡ Some bytes → refusal_in A.stands_for bytes ≡ Some refusal
-        → EndsRefused (K.held sink.old) (K.held sink.new) refusal result }
+        → EndsRefused (D.room disk.old) (K.held sink.old) (K.held sink.new) refusal result }
     ensures unwritten { IsUnwritten D.content D.images disk.old disk.new }
     ensures moments { LeavesOnly D.moment D.images_since disk.old disk.new (D.images disk.old) }
     ensures complete { (before : List (List ℕ)) (bytes : List ℕ) (t : A.State)
@@ -87,7 +87,7 @@ pub fn verify<A: StoredSession + Drop, K: Sink, D: Disk>(
         → Views (K.held sink.old) (K.held sink.new) (consistent_line (A.count_of before)) result }
     ensures refused { (bytes : List ℕ) (refusal : StoreRefusal)
         → D.content disk.old ≡ Some bytes → refusal_in A.stands_for bytes ≡ Some refusal
-        → EndsRefused (K.held sink.old) (K.held sink.new) refusal result }
+        → EndsRefused (D.room disk.old) (K.held sink.old) (K.held sink.new) refusal result }
     ensures unwritten { IsUnwritten D.content D.images disk.old disk.new }
     ensures moments { LeavesOnly D.moment D.images_since disk.old disk.new (D.images disk.old) }
     ensures complete { (before : List (List ℕ)) (bytes : List ℕ) (t : A.State)
@@ -122,7 +122,7 @@ fn view_store<A: StoredSession + Drop, K: Sink, D: Disk>(
         A.state_text view t (A.count_of before)) result }
     ensures refused { (bytes : List ℕ) (refusal : StoreRefusal)
         → D.content disk.old ≡ Some bytes → refusal_in A.stands_for bytes ≡ Some refusal
-        → EndsRefused (K.held sink.old) (K.held sink.new) refusal result }
+        → EndsRefused (D.room disk.old) (K.held sink.old) (K.held sink.new) refusal result }
     ensures unwritten { IsUnwritten D.content D.images disk.old disk.new }
     ensures moments { LeavesOnly D.moment D.images_since disk.old disk.new (D.images disk.old) }
     ensures no_source { result ≡ Status.SourceFault → ⊥ }
@@ -159,7 +159,7 @@ fn view_log<A: StoredSession + Drop, K: Sink, D: Disk>(
         → D.content disk.old ≡ Some bytes
         → Stands (D.content disk.old) (D.images disk.old) log.now before
         → refusal_of_payloads (A.stands_for before) ≡ Some refusal
-        → EndsRefused (K.held sink.old) (K.held sink.new) refusal result }
+        → EndsRefused (D.room disk.old) (K.held sink.old) (K.held sink.new) refusal result }
     ensures unwritten { IsUnwritten D.content D.images disk.old disk.new }
     ensures moments { LeavesOnly D.moment D.images_since disk.old disk.new (D.images disk.old) }
     ensures no_source { result ≡ Status.SourceFault → ⊥ }
@@ -186,9 +186,9 @@ fn view_payloads<A: StoredSession + Drop, K: Sink>(
         → A.stands_for payloads.now ≡ Ok (t, version)
         → Views (K.held sink.old) (K.held sink.new) (view_text
         A.state_text view t (A.count_of payloads.now)) result }
-    ensures refused { (refusal : StoreRefusal)
+    ensures refused { (room : Option ℕ) (refusal : StoreRefusal)
         → refusal_of_payloads (A.stands_for payloads.now) ≡ Some refusal
-        → EndsRefused (K.held sink.old) (K.held sink.new) refusal result }
+        → EndsRefused room (K.held sink.old) (K.held sink.new) refusal result }
     ensures no_source { result ≡ Status.SourceFault → ⊥ }
     ensures sink_fault { result ≡ Status.SinkFault
         → SinkFailed K.faults K.empty_takes K.room K.held sink.old sink.new }

@@ -13,7 +13,7 @@ use Rattle.store_making.specs.Init.{Begins, Refuses}
 use Rattle.store_making.proofs.InitEnds.{kinds, accepts}
 use Rattle.editlens_main.specs.StoreClauses.{shown, verified}
 use Rattle.editlens_main.proofs.RunEnds.{sure, never, by_room, reports_for}
-use Rattle.editlens_main.proofs.SureEnds.{apply_in_room, pack_in_room, undo_in_room, view_in_room, made_in_room, script_in_room}
+use Rattle.editlens_main.proofs.SureEnds.{apply_in_room, pack_in_room, undo_in_room, view_in_room, refused_in_room, made_in_room, script_in_room}
 use Rattle.editlens_main.proofs.sure.run_sure.Goals as goal
 
 pub returns-clause-no_source_fault : goal.returns-clause-no_source_fault
@@ -58,6 +58,21 @@ returns-clause-views_sure c = λ h before t version holds stands. elim h [
   | inr e ↦ view_in_room c.editlens.result _ (λ f. never (c.editlens.ensures.source_fault f)) (λ f. by_room (c.editlens.ensures.sink_fault f)) (Some c.args.sink.now.held) (Some c.editlens.new.sink.held) (verified t before) (λ f. true≢false (c.editlens.ensures.views_disk_fault (inr e) f))
       (c.editlens.ensures.verify_counts e before t version (record { bytes = c.args.disk.now.bytes; read = refl; holds = holds; stands = stands }))
 ]
+
+pub returns-clause-refused_sure : goal.returns-clause-refused_sure
+returns-clause-refused_sure c = λ h refusal refused.
+    let in_room = refused_in_room c.editlens.result _ (λ f. never (c.editlens.ensures.source_fault f)) (λ f. by_room (c.editlens.ensures.sink_fault f)) (Some c.args.sink.now.held) (Some c.editlens.new.sink.held) c.args.disk.now.room refusal in
+    let bytes = c.args.disk.now.bytes in
+    elim h [
+      | inl e ↦ in_room ((c.editlens.ensures.apply_refuses e).0 refusal (record { bytes = bytes; read = refl; refused = refused })).1
+      | inr (inl e) ↦ in_room (c.editlens.ensures.pack_refuses e refusal (record { bytes = bytes; read = refl; refused = refused })).1
+      | inr (inr e) ↦ in_room (c.editlens.ensures.views_refuse e refusal (record { bytes = bytes; read = refl; refused = refused })).1
+    ]
+
+pub returns-clause-undo_refused_sure : goal.returns-clause-undo_refused_sure
+returns-clause-undo_refused_sure c = λ count e refusal refused.
+    refused_in_room c.editlens.result _ (λ f. never (c.editlens.ensures.source_fault f)) (λ f. by_room (c.editlens.ensures.sink_fault f)) (Some c.args.sink.now.held) (Some c.editlens.new.sink.held) c.args.disk.now.room refusal
+    (c.editlens.ensures.undo_refuses count e refusal (record { bytes = c.args.disk.now.bytes; read = refl; refused = refused })).1
 
 pub returns-clause-apply_sure : goal.returns-clause-apply_sure
 returns-clause-apply_sure c = λ e few before t version holds stands.

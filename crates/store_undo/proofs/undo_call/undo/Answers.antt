@@ -4,7 +4,7 @@ use Rattle.gate_log.specs.LogOnDisk.{HoldsPayloads, Stands}
 use Rattle.gate_log.specs.declared.fault.LogFault.{LogFault}
 use Rattle.stored_run.proofs.ApplyCalls.{same_held, only_disk, synced_holds}
 use Rattle.stored_run.proofs.Causes.{increased_since}
-use Rattle.stored_run.proofs.Openings.{at_content, unwritten_then}
+use Rattle.stored_run.proofs.Openings.{at_content, unwritten_then, same_room}
 use Rattle.stored_run.proofs.RefusalEnds.{at_disk_fault, at_log_disk, at_log_sourceless, at_log_unfinished}
 use Rattle.stored_run.proofs.StoredPayloads.{images_held, reads_held}
 use Rattle.store_undo.specs.UndoCall.{HoldsNow}
@@ -77,14 +77,17 @@ returns-in-Ok-clause-exits g c =
 pub returns-in-Ok-clause-refused : goal.returns-in-Ok-clause-refused
 returns-in-Ok-clause-refused g c =
     let disk = g.D.Disk in
+    let held = g.K.Sink.held in
     let d = c.args.disk.now in
     let d1 = c.open_log.new.disk in
     let d' = c.undo_log.new.disk in
     let log = c.in-Ok.ensures.log in
     λ bytes refusal told q.
     let is : log_of bytes ≡ payloads log.0 = at_content (disk.content d) bytes (HoldsPayloads log.0) told log.1 in
-    let e = c.undo_log.ensures.refused log.0 bytes refusal (c.in-Ok.ensures.content ∙ told) log.2 (ap (refusal_of_log c.args.count) (sym is) ∙ q) in
-    (unwritten_then disk.content disk.images d d1 d' c.in-Ok.ensures.content c.in-Ok.ensures.images e.0, e.1)
+    let e = c.undo_log.ensures.refused log.0 bytes refusal (c.in-Ok.ensures.content ∙ told) log.2 (ap (refusal_of_log c.args.count) (sym is) ∙ q) in (
+      unwritten_then disk.content disk.images d d1 d' c.in-Ok.ensures.content c.in-Ok.ensures.images e.0,
+      same_room (disk.room d1) (disk.room d) (held c.args.sink.now) (held c.undo_log.new.sink) refusal c.undo_log.result c.in-Ok.ensures.room e.1,
+    )
 
 pub returns-in-Ok-clause-disk_fault : goal.returns-in-Ok-clause-disk_fault
 returns-in-Ok-clause-disk_fault g c =
@@ -132,7 +135,8 @@ returns-in-Err-clause-refused g c =
     let held = g.K.Sink.held in
     λ bytes refusal told q. (
       record { same = c.in-Err.ensures.content; only = c.in-Err.ensures.images },
-      log_refused c.args.count (held c.args.sink.now) (held c.refuse_log.new.sink) c.refuse_log.result c.in-Err.fault (disk.content c.args.disk.now) bytes refusal told c.in-Err.ensures.log q c.refuse_log.ensures.ends,
+      log_refused (disk.room c.args.disk.now) (held c.args.sink.now) (held c.refuse_log.new.sink) c.refuse_log.result c.args.count c.in-Err.fault (disk.content c.args.disk.now) bytes refusal told
+          c.in-Err.ensures.log q (λ e. c.in-Err.ensures.sure (ap (λ (x : LogFault). Err x) e)) c.refuse_log.ensures.ends,
     )
 
 pub returns-in-Err-clause-disk_fault : goal.returns-in-Err-clause-disk_fault

@@ -4,7 +4,7 @@ use Rattle.gate_log.specs.LogOnDisk.{Stands}
 use Rattle.gate_log.specs.declared.fault.LogFault.{LogFault}
 use Rattle.stored_run.proofs.ApplyCalls.{at_some}
 use Rattle.stored_run.proofs.Causes.{increased_since}
-use Rattle.stored_run.proofs.Openings.{unwritten_then, reading_fails}
+use Rattle.stored_run.proofs.Openings.{unwritten_then, same_room, reading_fails}
 use Rattle.stored_run.proofs.RefusalEnds.{at_log_disk, at_log_sourceless}
 use Rattle.stored_run.proofs.StoredPayloads.{images_held, reads_held}
 use Rattle.store_undo.specs.UndoEnds.{UndoEnds}
@@ -38,6 +38,7 @@ returns-in-Ok-clause-ends g c =
 pub returns-in-Ok-clause-refused : goal.returns-in-Ok-clause-refused
 returns-in-Ok-clause-refused g c =
     let disk = g.D.Disk in
+    let held = g.K.Sink.held in
     let d = c.args.disk.now in
     let d1 = c.payloads.new.disk in
     let d' = c.undo_payloads.new.disk in
@@ -45,8 +46,10 @@ returns-in-Ok-clause-refused g c =
     let reading = c.in-Ok.ensures.reads in
     λ before bytes refusal told st q.
     let same : read ≡ before = at_some (disk.content d) bytes (read ≡ before) told (c.in-Ok.ensures.payloads before st) in
-    let e = c.undo_payloads.ensures.refused refusal (ap (undo_refusal c.args.count) same ∙ q) in
-    (unwritten_then disk.content disk.images d d1 d' reading.same_content (λ x now. (reading.same_images x).1 now) e.0, e.1)
+    let e = c.undo_payloads.ensures.refused refusal (ap (undo_refusal c.args.count) same ∙ q) in (
+      unwritten_then disk.content disk.images d d1 d' reading.same_content (λ x now. (reading.same_images x).1 now) e.0,
+      same_room (disk.room d1) (disk.room d) (held c.args.sink.now) (held c.undo_payloads.new.sink) refusal c.undo_payloads.result reading.same_room e.1,
+    )
 
 pub returns-in-Ok-clause-disk_fault : goal.returns-in-Ok-clause-disk_fault
 returns-in-Ok-clause-disk_fault g c =
@@ -63,12 +66,12 @@ returns-in-Err-clause-ends g c =
     let l = c.args.log.now in
     let reading = c.in-Err.ensures.reads in
     λ before bytes u told st h.
-    let fails = reading_fails (held c.args.sink.now) (held c.refuse_log.new.sink) c.refuse_log.result c.in-Err.fault c.payloads.result c.in-Err.is
-    (at_some (disk.content d) bytes (NoBadRecord c.payloads.result) told c.payloads.ensures.never_bad) c.in-Err.ensures.possible c.refuse_log.ensures.ends in
+    let fails = reading_fails (disk.room d) (held c.args.sink.now) (held c.refuse_log.new.sink) c.refuse_log.result c.in-Err.fault c.payloads.result c.in-Err.is
+    (at_some (disk.content d) bytes (NoBadRecord c.payloads.result) told c.payloads.ensures.never_bad) c.in-Err.ensures.possible (λ e. c.in-Err.ensures.sure (ap (λ (x : LogFault). Err x) e)) c.refuse_log.ensures.ends in
     inr (record {
       opens = record { unwritten = record { same = reading.same_content; only = λ x now. (reading.same_images x).1 now }; moments = reading.crash; same_room = reading.same_room };
       holds = λ x now. hold l d1 before x (c.in-Err.ensures.stands before st) now;
-      fails = (fails, λ e. c.in-Err.ensures.sure (ap (λ (x : LogFault). Err x) (at_log_disk (held c.args.sink.now) (held c.refuse_log.new.sink) c.refuse_log.result c.in-Err.fault c.refuse_log.ensures.ends e)));
+      fails = fails;
     })
 
 pub returns-in-Err-clause-refused : goal.returns-in-Err-clause-refused
@@ -79,8 +82,8 @@ returns-in-Err-clause-refused g c =
     let reading = c.in-Err.ensures.reads in
     λ before bytes refusal told st q. (
       record { same = reading.same_content; only = λ x now. (reading.same_images x).1 now },
-      inr (reading_fails (held c.args.sink.now) (held c.refuse_log.new.sink) c.refuse_log.result c.in-Err.fault c.payloads.result c.in-Err.is
-          (at_some (disk.content d) bytes (NoBadRecord c.payloads.result) told c.payloads.ensures.never_bad) c.in-Err.ensures.possible c.refuse_log.ensures.ends),
+      inr (reading_fails (disk.room d) (held c.args.sink.now) (held c.refuse_log.new.sink) c.refuse_log.result c.in-Err.fault c.payloads.result c.in-Err.is
+          (at_some (disk.content d) bytes (NoBadRecord c.payloads.result) told c.payloads.ensures.never_bad) c.in-Err.ensures.possible (λ e. c.in-Err.ensures.sure (ap (λ (x : LogFault). Err x) e)) c.refuse_log.ensures.ends),
     )
 
 pub returns-in-Err-clause-disk_fault : goal.returns-in-Err-clause-disk_fault

@@ -57,7 +57,7 @@ returns-in-Err-Refused-clause-refused g c =
     let held = g.K.Sink.held in
     λ refusal q. (
       unwritten_none disk.content disk.images c.args.disk.now,
-      same_refusal c.in-Err-Refused.refusal refusal (undo_refusal c.args.count c.args.payloads) (held c.args.sink.now) (held c.refuse.new.sink) c.refuse.result
+      same_refusal (disk.room c.args.disk.now) (held c.args.sink.now) (held c.refuse.new.sink) c.refuse.result c.in-Err-Refused.refusal refusal (undo_refusal c.args.count c.args.payloads)
           (subst (IsMakingFault (undo_refusal c.args.count c.args.payloads)) c.in-Err-Refused.field-0-is c.in-Err-Refused.ensures) q c.refuse.ensures.refuses,
     )
 
@@ -80,7 +80,7 @@ returns-in-Err-NoMemory-clause-ends g c =
 pub returns-in-Err-NoMemory-clause-refused : goal.returns-in-Err-NoMemory-clause-refused
 returns-in-Err-NoMemory-clause-refused g c =
     let disk = g.D.Disk in
-    λ refusal q. (unwritten_none disk.content disk.images c.args.disk.now, inr (inr refl, Appends-nil (g.K.Sink.held c.args.sink.now)))
+    λ refusal q. (unwritten_none disk.content disk.images c.args.disk.now, inr ((inr refl, Appends-nil (g.K.Sink.held c.args.sink.now)), λ e. cc))
 
 pub returns-in-Err-Refused-clause-no_source : goal.returns-in-Err-Refused-clause-no_source
 returns-in-Err-Refused-clause-no_source g c = λ e. refuses_sourceless (g.K.Sink.held c.args.sink.now) (g.K.Sink.held c.refuse.new.sink) c.in-Err-Refused.refusal c.refuse.result c.refuse.ensures.refuses e

@@ -10,7 +10,7 @@ use Rattle.stored_run.proofs.StoredPayloads.{images_held, reads_held}
 use Rattle.stored_run.proofs.RefusalEnds.{at_log_disk, at_log_other, at_log_unfinished}
 use Rattle.gate_log.specs.CallEnds.{NoBadRecord}
 use Rattle.stored_run.specs.Refusals.{refusal_of_payloads}
-use Rattle.stored_run.proofs.Openings.{unwritten_then, reading_fails}
+use Rattle.stored_run.proofs.Openings.{unwritten_then, same_room, reading_fails}
 use Rattle.stored_run.proofs.apply_call.apply_log.Goals as goal
 
 pub returns-in-Ok-clause-continues : goal.returns-in-Ok-clause-continues
@@ -130,7 +130,7 @@ returns-in-Err-clause-exits g c =
     inr (
       record { same = reading.same_content; only = λ x now. (reading.same_images x).1 now },
       Consumes-nil left,
-      (reading_fails (held k) (held k') c.refuse_log.result c.in-Err.fault c.payloads.result c.in-Err.is (at_some (disk.content d) bytes (NoBadRecord c.payloads.result) told c.payloads.ensures.never_bad) c.in-Err.ensures.possible c.refuse_log.ensures.ends, λ e. c.in-Err.ensures.sure (ap (λ (x : LogFault). Err x) (at_log_disk (held k) (held k') c.refuse_log.result c.in-Err.fault c.refuse_log.ensures.ends e))),
+      reading_fails (disk.room d) (held k) (held k') c.refuse_log.result c.in-Err.fault c.payloads.result c.in-Err.is (at_some (disk.content d) bytes (NoBadRecord c.payloads.result) told c.payloads.ensures.never_bad) c.in-Err.ensures.possible (λ e. c.in-Err.ensures.sure (ap (λ (x : LogFault). Err x) e)) c.refuse_log.ensures.ends,
     )
 
 pub returns-in-Ok-clause-refused : goal.returns-in-Ok-clause-refused
@@ -146,8 +146,11 @@ returns-in-Ok-clause-refused g c =
     let reading = c.in-Ok.ensures.reads in
     λ before bytes refusal told st q.
     let same : read ≡ before = at_some (disk.content d) bytes (read ≡ before) told (c.in-Ok.ensures.payloads before st) in
-    let e = c.apply_payloads.ensures.refused refusal (ap (λ (x : List (List ℕ)). refusal_of_payloads (a.stands_for x)) same ∙ q) in
-    (unwritten_then disk.content disk.images d d1 d' reading.same_content (λ x now. (reading.same_images x).1 now) e.0, e.1, e.2)
+    let e = c.apply_payloads.ensures.refused refusal (ap (λ (x : List (List ℕ)). refusal_of_payloads (a.stands_for x)) same ∙ q) in (
+      unwritten_then disk.content disk.images d d1 d' reading.same_content (λ x now. (reading.same_images x).1 now) e.0,
+      e.1,
+      same_room (disk.room d1) (disk.room d) (held c.args.sink.now) (held c.apply_payloads.new.sink) refusal c.apply_payloads.result reading.same_room e.2,
+    )
 
 pub returns-in-Err-clause-refused : goal.returns-in-Err-clause-refused
 returns-in-Err-clause-refused g c =
@@ -162,5 +165,5 @@ returns-in-Err-clause-refused g c =
     λ before bytes refusal told st q. (
       record { same = reading.same_content; only = λ x now. (reading.same_images x).1 now },
       Consumes-nil left,
-      inr (reading_fails (held k) (held k') c.refuse_log.result c.in-Err.fault c.payloads.result c.in-Err.is (at_some (disk.content d) bytes (NoBadRecord c.payloads.result) told c.payloads.ensures.never_bad) c.in-Err.ensures.possible c.refuse_log.ensures.ends),
+      inr (reading_fails (disk.room d) (held k) (held k') c.refuse_log.result c.in-Err.fault c.payloads.result c.in-Err.is (at_some (disk.content d) bytes (NoBadRecord c.payloads.result) told c.payloads.ensures.never_bad) c.in-Err.ensures.possible (λ e. c.in-Err.ensures.sure (ap (λ (x : LogFault). Err x) e)) c.refuse_log.ensures.ends),
     )

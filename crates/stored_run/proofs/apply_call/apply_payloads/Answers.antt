@@ -139,4 +139,4 @@ returns-in-Err-clause-refused g c =
     let k = c.args.sink.now in
     let k' = c.refuse_payloads.new.sink in
     λ refusal q.
-    (unwritten_none disk.content disk.images d, Consumes-nil left, payloads_refused (a.stands_for c.args.payloads.now) (held k) (held k') c.refuse_payloads.result c.in-Err.fault refusal c.in-Err.ensures.stands q c.refuse_payloads.ensures.ends)
+    (unwritten_none disk.content disk.images d, Consumes-nil left, payloads_refused (disk.room d) (held k) (held k') c.refuse_payloads.result (a.stands_for c.args.payloads.now) c.in-Err.fault refusal c.in-Err.ensures.stands q c.refuse_payloads.ensures.ends)

@@ -11,7 +11,7 @@ use Rattle.stored_run.proofs.StoredPayloads.{images_held, reads_held}
 use Rattle.stored_run.proofs.RefusalEnds.{at_disk_fault, at_log_disk, at_log_sourceless, at_log_unfinished}
 use Rattle.gate_log.specs.LogBytes.{payloads, log_of}
 use Rattle.stored_run.specs.Refusals.{refusal_of_log}
-use Rattle.stored_run.proofs.Openings.{at_content, unwritten_then, log_refused}
+use Rattle.stored_run.proofs.Openings.{at_content, unwritten_then, same_room, log_refused}
 use Rattle.stored_run.proofs.pack_call.pack.Goals as goal
 
 pub returns-in-Ok-clause-packs : goal.returns-in-Ok-clause-packs
@@ -96,8 +96,10 @@ returns-in-Ok-clause-refused g c =
     let log = c.in-Ok.ensures.log in
     λ bytes refusal told q.
     let is : log_of bytes ≡ payloads log.0 = at_content (disk.content d) bytes (HoldsPayloads log.0) told log.1 in
-    let e = c.pack_log.ensures.refused log.0 bytes refusal (c.in-Ok.ensures.content ∙ told) log.2 (ap (refusal_of_log a.stands_for) (sym is) ∙ q) in
-    (unwritten_then disk.content disk.images d d1 d' c.in-Ok.ensures.content c.in-Ok.ensures.images e.0, e.1)
+    let e = c.pack_log.ensures.refused log.0 bytes refusal (c.in-Ok.ensures.content ∙ told) log.2 (ap (refusal_of_log a.stands_for) (sym is) ∙ q) in (
+      unwritten_then disk.content disk.images d d1 d' c.in-Ok.ensures.content c.in-Ok.ensures.images e.0,
+      same_room (disk.room d1) (disk.room d) (held c.args.sink.now) (held c.pack_log.new.sink) refusal c.pack_log.result c.in-Ok.ensures.room e.1,
+    )
 
 pub returns-in-Err-clause-refused : goal.returns-in-Err-clause-refused
 returns-in-Err-clause-refused g c =
@@ -108,7 +110,7 @@ returns-in-Err-clause-refused g c =
     let k = c.args.sink.now in
     let k' = c.refuse_log.new.sink in
     λ bytes refusal told q.
-    (record { same = c.in-Err.ensures.content; only = c.in-Err.ensures.images }, log_refused a.stands_for (held k) (held k') c.refuse_log.result c.in-Err.fault (disk.content d) bytes refusal told c.in-Err.ensures.log q c.refuse_log.ensures.ends)
+    (record { same = c.in-Err.ensures.content; only = c.in-Err.ensures.images }, log_refused (disk.room d) (held k) (held k') c.refuse_log.result a.stands_for c.in-Err.fault (disk.content d) bytes refusal told c.in-Err.ensures.log q (λ e. c.in-Err.ensures.sure (ap (λ (x : LogFault). Err x) e)) c.refuse_log.ensures.ends)
 
 pub returns-in-Ok-clause-exits : goal.returns-in-Ok-clause-exits
 returns-in-Ok-clause-exits g c =

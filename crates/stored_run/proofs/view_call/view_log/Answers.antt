@@ -30,7 +30,7 @@ returns-in-Err-clause-views g c =
     let d = c.args.disk.now in
     let k' = c.refuse_log.new.sink in
     λ before bytes t version told st h.
-    inr (inr (reading_fails (held k) (held k') c.refuse_log.result c.in-Err.fault c.payloads.result c.in-Err.is (at_some (disk.content d) bytes (NoBadRecord c.payloads.result) told c.payloads.ensures.never_bad) c.in-Err.ensures.possible c.refuse_log.ensures.ends))
+    inr (inr (reading_fails (disk.room d) (held k) (held k') c.refuse_log.result c.in-Err.fault c.payloads.result c.in-Err.is (at_some (disk.content d) bytes (NoBadRecord c.payloads.result) told c.payloads.ensures.never_bad) c.in-Err.ensures.possible (λ e. c.in-Err.ensures.sure (ap (λ (x : LogFault). Err x) e)) c.refuse_log.ensures.ends).0)
 
 pub returns-in-Ok-clause-refused : goal.returns-in-Ok-clause-refused
 returns-in-Ok-clause-refused g c =
@@ -42,7 +42,7 @@ returns-in-Ok-clause-refused g c =
     let read = c.in-Ok.payloads in
     λ before bytes refusal told st q.
     let same : read ≡ before = at_some (disk.content d) bytes (read ≡ before) told (c.in-Ok.ensures.payloads before st) in
-    c.view_payloads.ensures.refused refusal (ap (λ (x : List (List ℕ)). refusal_of_payloads (a.stands_for x)) same ∙ q)
+    c.view_payloads.ensures.refused (disk.room d) refusal (ap (λ (x : List (List ℕ)). refusal_of_payloads (a.stands_for x)) same ∙ q)
 
 pub returns-in-Err-clause-refused : goal.returns-in-Err-clause-refused
 returns-in-Err-clause-refused g c =
@@ -53,7 +53,7 @@ returns-in-Err-clause-refused g c =
     let d = c.args.disk.now in
     let k' = c.refuse_log.new.sink in
     λ before bytes refusal told st q.
-    inr (reading_fails (held k) (held k') c.refuse_log.result c.in-Err.fault c.payloads.result c.in-Err.is (at_some (disk.content d) bytes (NoBadRecord c.payloads.result) told c.payloads.ensures.never_bad) c.in-Err.ensures.possible c.refuse_log.ensures.ends)
+    inr (reading_fails (disk.room d) (held k) (held k') c.refuse_log.result c.in-Err.fault c.payloads.result c.in-Err.is (at_some (disk.content d) bytes (NoBadRecord c.payloads.result) told c.payloads.ensures.never_bad) c.in-Err.ensures.possible (λ e. c.in-Err.ensures.sure (ap (λ (x : LogFault). Err x) e)) c.refuse_log.ensures.ends)
 
 pub returns-in-Ok-clause-unwritten : goal.returns-in-Ok-clause-unwritten
 returns-in-Ok-clause-unwritten g c = record { same = c.in-Ok.ensures.reads.same_content; only = λ x now. (c.in-Ok.ensures.reads.same_images x).1 now }

@@ -33,7 +33,7 @@ returns-in-Ok-clause-refused g c =
     let a = g.A.StoredSession in
     let opened = c.in-Ok.opened in
     let one : a.State × Option (List ℕ) = (a.state opened.session, opened.version) in
-    λ refusal q. absurd (never_refused (a.stands_for c.args.payloads.now) one refusal c.in-Ok.ensures.stands q)
+    λ room refusal q. absurd (never_refused (a.stands_for c.args.payloads.now) one refusal c.in-Ok.ensures.stands q)
 
 pub returns-in-Err-clause-refused : goal.returns-in-Err-clause-refused
 returns-in-Err-clause-refused g c =
@@ -42,7 +42,7 @@ returns-in-Err-clause-refused g c =
     let k = c.args.sink.now in
     let before = c.args.payloads.now in
     let k' = c.refuse_payloads.new.sink in
-    λ refusal q. payloads_refused (a.stands_for before) (held k) (held k') c.refuse_payloads.result c.in-Err.fault refusal c.in-Err.ensures.stands q c.refuse_payloads.ensures.ends
+    λ room refusal q. payloads_refused room (held k) (held k') c.refuse_payloads.result (a.stands_for before) c.in-Err.fault refusal c.in-Err.ensures.stands q c.refuse_payloads.ensures.ends
 
 pub returns-in-Err-clause-no_disk : goal.returns-in-Err-clause-no_disk
 returns-in-Err-clause-no_disk g c = λ e. at_payloads_deviceless (g.K.Sink.held c.args.sink.now) (g.K.Sink.held c.refuse_payloads.new.sink) c.refuse_payloads.result c.in-Err.fault c.refuse_payloads.ensures.ends (inr e)

@@ -7,7 +7,7 @@ use Rattle.std.specs.Prelude.{Option, IsNone}
 use Rattle.stored_run.proofs.ApplyCalls.{same_held, only_disk}
 use Rattle.stored_run.proofs.Causes.{increased_since}
 use Rattle.stored_run.proofs.Moments.{leaves_then}
-use Rattle.stored_run.proofs.Openings.{at_content, unwritten_then, log_refused}
+use Rattle.stored_run.proofs.Openings.{at_content, unwritten_then, same_room, log_refused}
 use Rattle.stored_run.proofs.RefusalEnds.{at_disk_fault, at_log_disk, at_log_sourceless}
 use Rattle.stored_run.proofs.view_call.view_store.Goals as goal
 
@@ -47,7 +47,8 @@ returns-in-Ok-clause-refused g c =
     let log = c.in-Ok.ensures.log in
     λ bytes refusal told q.
     let is : log_of bytes ≡ payloads log.0 = at_content (disk.content d) bytes (HoldsPayloads log.0) told log.1 in
-    c.view_log.ensures.refused log.0 bytes refusal (c.in-Ok.ensures.content ∙ told) log.2 (ap (refusal_of_log a.stands_for) (sym is) ∙ q)
+    same_room (disk.room c.open_log.new.disk) (disk.room d) (held k) (held c.view_log.new.sink) refusal c.view_log.result c.in-Ok.ensures.room
+    (c.view_log.ensures.refused log.0 bytes refusal (c.in-Ok.ensures.content ∙ told) log.2 (ap (refusal_of_log a.stands_for) (sym is) ∙ q))
 
 pub returns-in-Err-clause-refused : goal.returns-in-Err-clause-refused
 returns-in-Err-clause-refused g c =
@@ -57,7 +58,7 @@ returns-in-Err-clause-refused g c =
     let k = c.args.sink.now in
     let d = c.args.disk.now in
     let k' = c.refuse_log.new.sink in
-    λ bytes refusal told q. log_refused a.stands_for (held k) (held k') c.refuse_log.result c.in-Err.fault (disk.content d) bytes refusal told c.in-Err.ensures.log q c.refuse_log.ensures.ends
+    λ bytes refusal told q. log_refused (disk.room d) (held k) (held k') c.refuse_log.result a.stands_for c.in-Err.fault (disk.content d) bytes refusal told c.in-Err.ensures.log q (λ e. c.in-Err.ensures.sure (ap (λ (x : LogFault). Err x) e)) c.refuse_log.ensures.ends
 
 pub returns-in-Ok-clause-unwritten : goal.returns-in-Ok-clause-unwritten
 returns-in-Ok-clause-unwritten g c =

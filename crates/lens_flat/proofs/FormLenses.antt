@@ -1,4 +1,4 @@
--- A lens that was compiled from a form is that of the form.
+-- The lens of a form that was compiled is that of the form.
 use Rattle.std.proofs.Common.{◌≡◌, refl, subst}
 use Rattle.lens_core.specs.Complements.{missing}
 use Rattle.lens_core.specs.Consistency.{IsConsistent}
