@@ -1,6 +1,6 @@
 // Reading a script up to its program.
 ghost use Rattle.std.specs.Prelude.{◌≡◌, ◌≤◌, MatchResult, Ok, IfErr, IsErrOf, List, ℕ};
-ghost use Rattle.accepted_programs.specs.Program.{lens_of};
+ghost use Rattle.accepted_programs.specs.Program.{form_of_program, lens_of};
 ghost use Rattle.accepted_programs.specs.Refused.{IsKnown, IsRefusal};
 ghost use Rattle.lens_forms.specs.Forms.{form_tree};
 ghost use Rattle.lens_io.specs.Causes.{Increased};
@@ -12,8 +12,8 @@ ghost use Rattle.making_steps.specs.Scripts.{IsAccepted};
 use accepted_programs::Refused;
 use journal_input::{piece_buffer, skip_rest};
 use lens_io::{Source, TakeFault};
-use lens_syntax::{Program, read_program};
-use lens_types::Typed;
+use lens_syntax::{Program, ProgramFault, read_program};
+use lens_types::{TypeFault, Typed, check};
 use script_parts::{Head, ProgramText, read_head};
 use std::alloc::Global;
 
@@ -62,29 +62,43 @@ pub fn read_script<S: Source>(alloc: Global, source: &mut S) -> Result<Accepted,
     }
 }
 
-/// The program of a program part, and its lens. It is read again for the program, which the lens does not keep.
+/// The program of a program part, and its lens, or why the part is refused: as `lens` of `ProgramText` refuses it.
 pub fn accepted_part(alloc: Global, part: &ProgramText) -> Result<Accepted, Refused>
     ensures accepted { (bytes : List ℕ) → HoldsPart part.now bytes → MatchResult result
         (λ a. IsAccepted bytes (program_tree a.program) (form_tree a.lens)) (IsRefusal (lens_of bytes)) }
     ensures known { IfErr result IsKnown }
 {
-    match part.lens(alloc) {
-        Ok(lens) => with_program(alloc, part, lens),
-        Err(refused) => Err(refused),
+    match part.text() {
+        Some(text) => accepted_text(alloc, text),
+        None => Err(Refused::Syntax(ProgramFault::ProgramTooLong)),
     }
 }
 
-// The program of a program part whose lens is known. That was read from the same text, so that it fails only if memory runs out.
-fn with_program(alloc: Global, part: &ProgramText, lens: Typed) -> Result<Accepted, Refused>
-    ensures accepted { (bytes : List ℕ) → HoldsPart part.now bytes → lens_of bytes ≡ Ok (form_tree lens) → MatchResult result
-        (λ a. IsAccepted bytes (program_tree a.program) (form_tree a.lens)) (IsRefusal (lens_of bytes)) }
+// The program of a text, and its lens.
+#[tactic(auto, using(accepted_programs::proofs::Refusals::syntax_refused))]
+fn accepted_text(alloc: Global, text: &[u8]) -> Result<Accepted, Refused>
+    ensures accepted { MatchResult result
+        (λ a. IsAccepted text.now (program_tree a.program) (form_tree a.lens)) (IsRefusal (lens_of text.now)) }
     ensures known { IfErr result IsKnown }
 {
-    let Some(text) = part.text() else {
-        return Err(Refused::NoMemory);
-    };
     match read_program(alloc, text) {
-        Ok(program) => Ok(Accepted { program, lens }),
-        Err(_) => Err(Refused::NoMemory),
+        Ok(program) => with_lens(alloc, program),
+        Err(ProgramFault::NoMemory) => Err(Refused::NoMemory),
+        Err(fault) => Err(Refused::Syntax(fault)),
+    }
+}
+
+// A program with its lens.
+fn with_lens(alloc: Global, program: Program) -> Result<Accepted, Refused>
+    ensures accepted { MatchResult result
+        (λ a. (program_tree a.program ≡ program_tree program)
+        × (form_of_program (Ok (program_tree program)) ≡ Ok (form_tree a.lens)))
+        (IsRefusal (form_of_program (Ok (program_tree program)))) }
+    ensures known { IfErr result IsKnown }
+{
+    match check(alloc, &program) {
+        Ok(lens) => Ok(Accepted { program, lens }),
+        Err(TypeFault::NoMemory) => Err(Refused::NoMemory),
+        Err(fault) => Err(Refused::Typing(fault)),
     }
 }
