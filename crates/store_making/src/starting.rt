@@ -39,9 +39,10 @@ use stored_records::program_payload;
 ///
 /// - `starts`: after `Done` the script was read to its end, the disk was empty, it holds that payload alone, and each image
 ///   that a crash now may leave does, too. The payload stands for the first triple, whose state lines were written.
-/// - `ends`: what was taken, what was written and what the disk holds after each status. After `ProgramRefused`, and at each
-///   refusal line, the disk is as before; after `NoMemory` it is as before or holds a log without a record. After `DiskFault`
-///   it may hold any bytes. After `SinkFault` at the state lines the store is made.
+/// - `ends`: what was taken, what was written and what the disk holds after each status. After `ProgramRefused`, and at the line
+///   `store refused: log-exists`, the disk is as before. After `NoMemory` it is as before or holds a log without a record, and so at
+///   the line `store refused: log-full`, which would come at more than 2^63 - 1 bytes. After `DiskFault` it may hold any bytes. After
+///   `SinkFault` at the state lines the store is made.
 /// - `exists`: if the disk is not empty, nothing is taken from the source, and nothing is written to the disk. The line
 ///   `store refused: log-exists` is written, unless the disk or the sink fails.
 /// - `document`: the status is never `SomeRefused`.
