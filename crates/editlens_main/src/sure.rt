@@ -1,5 +1,5 @@
 //! The top call over devices that do not fail.
-ghost use Rattle.std.specs.Prelude.{◌≡◌, ◌⊎◌, ◌≤◌, [], List, ℕ, Some, Ok, false, length};
+ghost use Rattle.std.specs.Prelude.{◌≡◌, ◌⊎◌, ◌≤◌, [], List, ℕ, Some, None, Ok, false, length};
 ghost use Rattle.std.specs.declared.option.Option.{Option};
 ghost use Rattle.accepted_programs.specs.Program.{lens_of};
 ghost use Rattle.command_words.specs.declared.orders.Order.TheVariants.{Gen, Init, Import, Apply, Show, Verify, Pack, Undo, Hub, Link};
@@ -31,6 +31,7 @@ use std::alloc::Global;
 ///
 /// - `no_source_fault`, `sink_fault`: whatever the source has, the status is never `SourceFault`, and `SinkFault` only if the
 ///   sink's room is full.
+/// - `no_usage`: the status is `Usage` only if the words name no command.
 /// - `no_disk_fault`: `show`, `verify` and the commands without a store never end with `DiskFault`.
 /// - `sure`: with at most 2^30 bytes, the status is `Done` or `SomeRefused` if the program part is accepted, and
 ///   `ProgramRefused` if it is refused. It is `NoMemory` instead if memory ran out, and `SinkFault` only if the sink's room
@@ -54,6 +55,7 @@ pub fn run_sure(
     disk: &mut SureDisk,
 ) -> Status
     ensures no_source_fault { result ≡ Status.SourceFault → ⊥ }
+    ensures no_usage { result ≡ Status.Usage → order_named words.now ≡ None }
     ensures sink_fault { result ≡ Status.SinkFault → length sink.new.held ≡ sink.new.room }
     ensures no_disk_fault { (uses_disk (order_named words.now) ≡ false) ⊎ (order_named words.now ≡ Some Show) ⊎ (order_named words.now ≡ Some Verify)
         → result ≡ Status.DiskFault → ⊥ }
