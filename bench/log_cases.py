@@ -12,6 +12,7 @@ docs/MEANING.md, written here once more; nothing is taken from the program.
     sizes (COUNT SIZE)..   a log with so many payloads of each size, which is opened and read again
     far CALL COUNT LEFT    a log whose closed gate is LEFT bytes before the end of the longest disk: append of COUNT bytes (0),
                            payloads (1), payloads after the disk has lost its bytes (2)
+    pack LEFT              the same log: pack_store of a version record and a snapshot of 8 bytes each
 """
 import random
 
@@ -182,8 +183,14 @@ def fars():
     say("far 2 0 10", "record 1 of the log is bad")
 
 
+def packs():
+    for left in (10, 17, 18, 26, 34, 35, 36, 100):
+        say(f"pack {left}", "the log is full, 0 bytes written" if left < 9 + 8 + 10 + 8 else f"ok, {len('packed 0') + 1} bytes written")
+
+
 opens()
 crashes()
 stops()
 sizes()
 fars()
+packs()

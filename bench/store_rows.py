@@ -253,6 +253,7 @@ def scripts():
     step(["hub"], 1, HUB, HUB_ANSWERS)
     step(["hub"], 3, "main id int\n+++\nmain id text\n", "program refused: views-differ 1\n")
     step(["link"], 1, PLAIN + "\n---\n" + LINK, LINK_ANSWERS)
+    step(["link"], 3, "main idd int\n---\n" + LINK, "program refused: not-a-program 9\n")
 
 
 def forged():

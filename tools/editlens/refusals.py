@@ -6,8 +6,9 @@ A line of tools/refusals.table that begins at the margin names a call, as `gate_
 
 Names are separated by spaces; `StoreRefused/log-full` is one reason of a refusal. `never` before the names says that the contract rules
 them out; this may be `NoMemory`, too. A test is a path below crates/, and behind a colon what has to be there: words of one line of the
-file, joined by ` & `. `-` says that there is none. WHEN may be left out where the docstring of the call has a line for the refusal. A line
-`answers CALL | WHY` names a call whose `Option` or status is no refusal.
+file, joined by ` & `. `-` says that there is none. `cannot: WHY` in place of tests says why nothing can show the refusal. WHEN may be left
+out where the docstring of the call has a line for the refusal. A line `answers CALL | WHY` names a call whose `Option` or status is no
+refusal.
 """
 
 import os
@@ -21,13 +22,14 @@ from .program import TOP
 PAGE = os.path.join(TOP, "docs", "REFUSALS.md")
 TABLE = os.path.join(TOP, "tools", "refusals.table")
 MEMORY = ("NoMemory", "OutOfMemory")
+CANNOT = "cannot: "
 HEAD = """# Refusals
 
 Every public call of the library crates that can refuse, and the top call. `tools/refusals` writes this page from the sources, and `tools/check` says when it is out of date.
 
 Every call returns, on every argument that meets the conditions of its contract. Each refusal but running out of memory has a clause that says when it comes: where that is missing, the column says **none**. Running out of memory is the one answer that no clause rules out, so it is not in the tables. Calls that can only run out of memory are listed under each table.
 
-A line has the name of the refusal, when it comes, the clause of the contract that says so, and what shows it: cases that run, a test, or an edit that the prover must refuse. `ensures` is a clause without a name. "never" says that the contract rules out a refusal that the type of the result has. `None` is a refusal of a call that returns an `Option`. Calls of a trait are listed once, with the trait.
+A line has the name of the refusal, when it comes, the clause of the contract that says so, and what shows it: cases that run, a test, or an edit that the prover must refuse. Where no input can cause the refusal, the column says "cannot" and why. `ensures` is a clause without a name. "never" says that the contract rules out a refusal that the type of the result has. `None` is a refusal of a call that returns an `Option`. Calls of a trait are listed once, with the trait.
 
 A line of a journal that is refused is an answer, and not a refusal of the call: [FORMATS.md](FORMATS.md#what-is-written) has these.
 """
@@ -42,6 +44,7 @@ class Line:
     tests: list
     when: str
     is_never: bool
+    cannot: str = ""
 
 
 def read_table(path=TABLE):
@@ -59,13 +62,15 @@ def read_table(path=TABLE):
         else:
             names, clauses, tests, when = ([it.strip() for it in text.split(" | ")] + ["", "", ""])[:4]
             is_never = names.startswith("never ")
+            cannot = tests.removeprefix(CANNOT) if tests.startswith(CANNOT) else ""
             lines[call].append(
                 Line(
                     names.removeprefix("never ").split(),
                     [it for it in clauses.split() if it != "-"],
-                    [it.strip() for it in tests.split(" ; ") if it.strip() not in ("", "-")],
+                    [] if cannot else [it.strip() for it in tests.split(" ; ") if it.strip() not in ("", "-")],
                     when,
                     is_never,
+                    cannot,
                 )
             )
     return lines, answers
@@ -182,7 +187,7 @@ def rows_of(call, lines):
     head = f"[`{call.path}`](../{call.file})"
     for line in lines:
         clauses = ", ".join(f"[`{it}`](../{call.file})" for it in line.clauses) or "**none**"
-        tests = ", ".join(dict.fromkeys(map(shown, line.tests))) or "none"
+        tests = CANNOT + line.cannot if line.cannot else ", ".join(dict.fromkeys(map(shown, line.tests))) or "none"
         for names in [line.names] if line.is_never else [[name] for name in line.names]:
             when = f"never {line.when}".strip() if line.is_never else line.when or first_sentence(docs[names[0]])
             cells = (head, ", ".join(map(named, names)), when, clauses, "" if line.is_never else tests)
@@ -218,15 +223,23 @@ def section(crate, lines, answers, refusals, faults):
     return f"\n## {crate}\n{text}" if text else ""
 
 
+def refusals_of(lines, is_wanted):
+    """Each refusal of a line that is wanted, as a call and a name. Lines that say never are left out."""
+    some = [(call, line) for call, these in lines.items() for line in these if not line.is_never and is_wanted(line)]
+    return [(call, name) for call, line in some for name in line.names]
+
+
 def unshown(lines):
-    """Each refusal that nothing shows, as a call and a name."""
-    return [(call, name) for call, some in lines.items() for line in some if not line.is_never and not line.tests for name in line.names]
+    """Each refusal that nothing shows, though something could, as a call and a name."""
+    return refusals_of(lines, lambda line: not line.tests and not line.cannot)
 
 
 def counts(lines):
-    """How many calls refuse, by how many refusals, and how many of these nothing shows."""
-    names = [name for some in lines.values() for line in some if not line.is_never for name in line.names]
-    return f"\n{len(lines)} calls have {len(names)} refusals here, and nothing shows {len(unshown(lines))} of them but the proof.\n"
+    """How many calls refuse, by how many refusals, how many of these nothing shows, and of how many the table says why nothing can."""
+    names, hidden = refusals_of(lines, lambda line: True), refusals_of(lines, lambda line: line.cannot)
+    alone = len(hidden) + len(unshown(lines))
+    text = f"\n{len(lines)} calls have {len(names)} refusals here. Nothing but the proof shows {alone} of them; "
+    return text + f"for {len(hidden)} of these the column says why nothing can.\n"
 
 
 def page_of():

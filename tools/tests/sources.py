@@ -7,7 +7,7 @@ import tempfile
 from editlens.contracts import enums, libraries, public_calls
 from editlens.must_fail import page_with_table, table_of
 from editlens.program import TOP
-from editlens.refusals import PAGE, Line, faults_of, lacking, page_of, said
+from editlens.refusals import PAGE, Line, faults_of, lacking, page_of, read_table, rows_of, said, unshown
 
 CRATES = """# Base: one crate.
 low:
@@ -114,6 +114,20 @@ def test_what_is_wrong_is_named():
     assert "no file" in lacking("low/src/missing.rt")
     assert "no line" in lacking("gate_log/src/log.rt:create_log & no such words")
     assert lacking("gate_log/src/log.rt:fn create_log") is None
+
+
+def test_why_nothing_can_show_a_refusal():
+    table = "low Kept::take\n  Small | small | - | if it is\n  Large | small | cannot: no number is | if it is\n"
+    with tempfile.TemporaryDirectory() as folder:
+        small_crate(folder)
+        take = next(iter(public_calls("low", folder)))
+        path = os.path.join(folder, "table")
+        with open(path, "w", encoding="utf-8") as file:
+            file.write(table)
+        lines = read_table(path)[0]
+        assert unshown(lines) == [("low Kept::take", "Small")], unshown(lines)
+        none, why = rows_of(take, lines["low Kept::take"])
+        assert none.endswith("| none |") and why.endswith("| cannot: no number is |"), (none, why)
 
 
 def test_the_edits_are_counted():

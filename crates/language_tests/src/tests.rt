@@ -91,6 +91,12 @@ fn definitions_by_name(rt: HostRuntime) {
     let again = Def::OfLens(Lens::Id(TyExpr::Int(0)));
     assert_eq!(rt; all.add(t, again), Err(AddFault::Repeated));
     assert_eq!(rt; all.len(), 1);
+    let t = name(alloc, "t").expect(&rt, "memory for a name");
+    let u = name(alloc, "u").expect(&rt, "memory for a name");
+    assert!(rt; all.find(&t).is_some() && all.find(&u).is_none());
+    let program = Program::from_parts(all, Lens::Id(TyExpr::Int(0)));
+    assert!(rt; program.find(&t).is_some() && program.find(&u).is_none());
+    drop(program);
 }
 
 #[test]

@@ -1,7 +1,7 @@
 //! Lines with a question and the answer that is wanted, and what they come to.
 
 use crate::crashes::{after_append, after_way};
-use crate::far::far_call;
+use crate::far::{far_call, far_pack};
 use crate::logs::{opened, stopped_call, with_sizes};
 use anyhow::{Context, bail};
 use std::alloc::Global;
@@ -48,6 +48,7 @@ fn answer(alloc: Global, question: &str) -> anyhow::Result<String> {
         ("stop", [call, stop]) => stopped_call(alloc, *call, *stop),
         ("sizes", sizes) => with_sizes(alloc, sizes),
         ("far", [call, count, left]) => far_call(alloc, *call, *count, *left),
+        ("pack", [left]) => far_pack(alloc, *left),
         _ => bail!("no such question: {word}"),
     }
 }

@@ -2,8 +2,9 @@
 ghost use Rattle.std.specs.Prelude.{◌≡◌, ◌+◌, ◌-◌, ◌^◌, ◌<◌, ◌≤◌, ℕ, length, None, Some, IfOk, is_ok, Ok};
 
 use gate_log::open_log;
-use lens_io::{Disk, Failed};
+use lens_io::{Bytes, Disk, Failed, MemSink};
 use std::alloc::Global;
+use stored_run::{Stop, pack_store};
 
 // The longest disk.
 const MOST: u64 = (1 << 63) - 1;
@@ -81,13 +82,18 @@ impl Disk for FarDisk {
     }
 }
 
+// The disk whose closed gate is `left` bytes before the end of the longest disk.
+fn far_disk(left: u64) -> FarDisk {
+    FarDisk {
+        size: MOST.saturating_sub(left).saturating_sub(17),
+        is_lost: false,
+    }
+}
+
 /// What a call returns with the closed gate `left` bytes before the end of the longest disk: 0 is `append` of so many
 /// bytes, 1 `payloads`, whose one record fits in no memory, and 2 `payloads` after the disk has lost its bytes.
 pub fn far_call(alloc: Global, call: u64, count: u64, left: u64) -> anyhow::Result<String> {
-    let mut disk = FarDisk {
-        size: MOST.saturating_sub(left).saturating_sub(17),
-        is_lost: false,
-    };
+    let mut disk = far_disk(left);
     let mut log = open_log(&mut disk)?;
     let result = match call {
         0 => {
@@ -102,5 +108,35 @@ pub fn far_call(alloc: Global, call: u64, count: u64, left: u64) -> anyhow::Resu
     match result {
         Ok(()) => Ok(String::from_str(alloc, "ok")?),
         Err(fault) => Ok(format!(in alloc; "{fault}")?),
+    }
+}
+
+// A version record, and a snapshot.
+const RECORD: &[u8; 8] = b"8 bytes.";
+
+/// What `pack_store` returns over the same disk, for a version record and a snapshot of 8 bytes each, and how many bytes it has written.
+pub fn far_pack(alloc: Global, left: u64) -> anyhow::Result<String> {
+    let version = Some(Bytes::from_vec(RECORD.to_vec(alloc)?));
+    let mut sink = MemSink::new(alloc, Vec::new(alloc), Vec::new(alloc));
+    let mut disk = far_disk(left);
+    let mut log = open_log(&mut disk)?;
+    let ended = pack_store(
+        alloc,
+        &mut log,
+        &mut disk,
+        &mut sink,
+        &version,
+        RECORD,
+        b"packed 0\n",
+    );
+    told(alloc, ended, sink.bytes().len())
+}
+
+// How a call ended that writes.
+fn told(alloc: Global, ended: Result<(), Stop>, written: usize) -> anyhow::Result<String> {
+    match ended {
+        Ok(()) => Ok(format!(in alloc; "ok, {written} bytes written")?),
+        Err(Stop::LogFull) => Ok(format!(in alloc; "the log is full, {written} bytes written")?),
+        Err(_) => Ok(String::from_str(alloc, "another stop")?),
     }
 }
