@@ -1,8 +1,8 @@
 //! Runs commands over inputs that are too long: of more than 2^30 bytes, and with a line that is one byte too long.
 //!
 //! Most of the long inputs never end. No memory holds such an input, so a source makes its bytes. Each command that reads one is
-//! stopped behind 2^30 bytes, with the answers to the lines before. Only a program part that is refused ends it sooner: nothing behind
-//! it is read. Each command gives a line with its name, its status and the length of the store that it leaves, and then what it wrote.
+//! stopped behind 2^30 bytes, with the answers to the lines before. Only a program part that is refused ends it sooner. Each command
+//! gives a line with its name, its status and the length of the store that it leaves, and then what it wrote.
 #![tactic(auto)]
 
 mod endless;
