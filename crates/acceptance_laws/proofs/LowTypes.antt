@@ -3,19 +3,16 @@
 use Rattle.std.proofs.Common.{◌≡◌, ℕ, ◌≤◌, Bool, true, false, List, [], ◌∷◌, Option, Some, None, arith}
 use Rattle.std.specs.Prelude.{bytes_eq, nat_le, max, if◌then◌else◌}
 use Rattle.std.specs.List.{AllByRecursion}
-use Rattle.std.proofs.lemmas.Bool.Decides.{nat_tests}
 use Rattle.texts.proofs.Conjunction.{first as first_and, second as second_and}
 use Rattle.doc_values.specs.Types.{FieldTrees, no_fields, more_fields, height, highest}
 use Rattle.program_terms.specs.Terms as Term
 use Rattle.lens_forms.specs.Forms.{FormTree, form_id, form_bij, form_disc, form_then, form_rec, form_alt, form_each, form_keyed, form_ordered, form_part, form_inv, ArmTrees, no_arms, more_arms, left_type, right_type}
-use Rattle.lens_forms.specs.Measures.{greatest_height}
+use Rattle.lens_forms.specs.declared.limits.TheConstants.{GREATEST_HEIGHT}
 use Rattle.lens_types.specs.Earlier.{KnownTree, known_type, known_lens, Definitions, known, form_of_known, form_named, alternatives, partition, expanded_type, expanded_fields, expanded_form, expanded_rows, expanded_arms}
 use Rattle.lens_types.specs.Checking.{type_failure, lens_failure, rows_failure, arms_failure, written_height, rows_written, arms_written}
 use Rattle.lens_types.proofs.SoundForms.{none_both, are_sound, lens_low}
 use Rattle.acceptance_laws.specs.Acceptable.{HasLowSides, HasLowTypes, RowsHaveLowTypes, ArmsHaveLowTypes}
-
-pub within : (a b : ℕ) → nat_le a b ≡ true → a ≤ b
-within a b h = grind (arith, nat_tests)
+use Rattle.std.proofs.lemmas.Bool.{leb-true}
 
 first_max : (a b c : ℕ) → max a b ≤ c → a ≤ c
 first_max a b c h = omega arith
@@ -63,34 +60,34 @@ sides : (ds : Definitions) → are_sound ds ≡ true → (l : Term.LensTree) →
 sides ds s l h =
     let f = expanded_form ds l in
     let low = lens_low ds s l h in (
-      within (height (left_type f)) greatest_height (first_and (nat_le (height (left_type f)) greatest_height) (nat_le (height (right_type f)) greatest_height) low),
-      within (height (right_type f)) greatest_height (second_and (nat_le (height (left_type f)) greatest_height) (nat_le (height (right_type f)) greatest_height) low),
+      leb-true (height (left_type f)) GREATEST_HEIGHT (first_and (nat_le (height (left_type f)) GREATEST_HEIGHT) (nat_le (height (right_type f)) GREATEST_HEIGHT) low),
+      leb-true (height (right_type f)) GREATEST_HEIGHT (second_and (nat_le (height (left_type f)) GREATEST_HEIGHT) (nat_le (height (right_type f)) GREATEST_HEIGHT) low),
     )
 
 with_arms : (arms : ArmTrees) → HasLowSides (alternatives arms) → ArmsHaveLowTypes arms → HasLowTypes (alternatives arms)
 with_arms no_arms s low = (s, tt)
 with_arms (more_arms a b l arms) s low = (s, low)
 
-with_tags : (fs : FieldTrees) → HasLowSides (partition fs) → highest fs ≤ greatest_height → HasLowTypes (partition fs)
+with_tags : (fs : FieldTrees) → HasLowSides (partition fs) → highest fs ≤ GREATEST_HEIGHT → HasLowTypes (partition fs)
 with_tags no_fields s low = (s, tt)
 with_tags (more_fields n t fs) s low = (s, low)
 
 mutual
   pub low_types : (ds : Definitions) → are_sound ds ≡ true → AllByRecursion (λ d. HasLowMeaning d.1) ds → (l : Term.LensTree)
-      → lens_failure ds l ≡ None → written_height ds l ≤ greatest_height → HasLowTypes (expanded_form ds l)
+      → lens_failure ds l ≡ None → written_height ds l ≤ GREATEST_HEIGHT → HasLowTypes (expanded_form ds l)
   low_types ds s low (Term.id_of t) h w = (sides ds s (Term.id_of t) h, w)
   low_types ds s low (Term.bij_of ps v) h w = sides ds s (Term.bij_of ps v) h
   low_types ds s low (Term.disc_of t u) h w = (
     sides ds s (Term.disc_of t u) h,
-    first_max (height (expanded_type ds t)) (height (expanded_type ds u)) greatest_height w,
-    second_max (height (expanded_type ds t)) (height (expanded_type ds u)) greatest_height w,
+    first_max (height (expanded_type ds t)) (height (expanded_type ds u)) GREATEST_HEIGHT w,
+    second_max (height (expanded_type ds t)) (height (expanded_type ds u)) GREATEST_HEIGHT w,
   )
   low_types ds s low (Term.then_of l k) h w =
       let first = none_both (lens_failure ds l) _ h in
       let second = none_both (lens_failure ds k) _ first.1 in (
         sides ds s (Term.then_of l k) h,
-        low_types ds s low l first.0 (first_max (written_height ds l) (written_height ds k) greatest_height w),
-        low_types ds s low k second.0 (second_max (written_height ds l) (written_height ds k) greatest_height w),
+        low_types ds s low l first.0 (first_max (written_height ds l) (written_height ds k) GREATEST_HEIGHT w),
+        low_types ds s low k second.0 (second_max (written_height ds l) (written_height ds k) GREATEST_HEIGHT w),
       )
   low_types ds s low (Term.rec_lens rows) h w = (sides ds s (Term.rec_lens rows) h, low_rows ds s low rows (none_both (rows_failure ds rows) _ h).0 w)
   low_types ds s low (Term.alt_lens arms) h w =
@@ -103,34 +100,34 @@ mutual
   low_types ds s low (Term.named_lens n) h w = named_low ds n low
 
   low_rows : (ds : Definitions) → are_sound ds ≡ true → AllByRecursion (λ d. HasLowMeaning d.1) ds → (rows : Term.RowTrees)
-      → rows_failure ds rows ≡ None → rows_written ds rows ≤ greatest_height → RowsHaveLowTypes (expanded_rows ds rows)
+      → rows_failure ds rows ≡ None → rows_written ds rows ≤ GREATEST_HEIGHT → RowsHaveLowTypes (expanded_rows ds rows)
   low_rows ds s low Term.no_rows h w = tt
   low_rows ds s low (Term.both a b l rows) h w =
       let none = none_both (lens_failure ds l) (rows_failure ds rows) h in (
-        low_types ds s low l none.0 (first_max (written_height ds l) (rows_written ds rows) greatest_height w),
-        low_rows ds s low rows none.1 (second_max (written_height ds l) (rows_written ds rows) greatest_height w),
+        low_types ds s low l none.0 (first_max (written_height ds l) (rows_written ds rows) GREATEST_HEIGHT w),
+        low_rows ds s low rows none.1 (second_max (written_height ds l) (rows_written ds rows) GREATEST_HEIGHT w),
       )
   low_rows ds s low (Term.only_left a t rows) h w = (
-    first_max (height (expanded_type ds t)) (rows_written ds rows) greatest_height w,
-    low_rows ds s low rows (none_both (type_failure t) (rows_failure ds rows) h).1 (second_max (height (expanded_type ds t)) (rows_written ds rows) greatest_height w),
+    first_max (height (expanded_type ds t)) (rows_written ds rows) GREATEST_HEIGHT w,
+    low_rows ds s low rows (none_both (type_failure t) (rows_failure ds rows) h).1 (second_max (height (expanded_type ds t)) (rows_written ds rows) GREATEST_HEIGHT w),
   )
   low_rows ds s low (Term.only_right b t rows) h w = (
-    first_max (height (expanded_type ds t)) (rows_written ds rows) greatest_height w,
-    low_rows ds s low rows (none_both (type_failure t) (rows_failure ds rows) h).1 (second_max (height (expanded_type ds t)) (rows_written ds rows) greatest_height w),
+    first_max (height (expanded_type ds t)) (rows_written ds rows) GREATEST_HEIGHT w,
+    low_rows ds s low rows (none_both (type_failure t) (rows_failure ds rows) h).1 (second_max (height (expanded_type ds t)) (rows_written ds rows) GREATEST_HEIGHT w),
   )
 
   low_arms : (ds : Definitions) → are_sound ds ≡ true → AllByRecursion (λ d. HasLowMeaning d.1) ds → (arms : Term.ArmTrees)
-      → arms_failure ds arms ≡ None → arms_written ds arms ≤ greatest_height → ArmsHaveLowTypes (expanded_arms ds arms)
+      → arms_failure ds arms ≡ None → arms_written ds arms ≤ GREATEST_HEIGHT → ArmsHaveLowTypes (expanded_arms ds arms)
   low_arms ds s low Term.no_arms h w = tt
   low_arms ds s low (Term.more_arms a b l arms) h w =
       let none = none_both (lens_failure ds l) (arms_failure ds arms) h in (
-        low_types ds s low l none.0 (first_max (written_height ds l) (arms_written ds arms) greatest_height w),
-        low_arms ds s low arms none.1 (second_max (written_height ds l) (arms_written ds arms) greatest_height w),
+        low_types ds s low l none.0 (first_max (written_height ds l) (arms_written ds arms) GREATEST_HEIGHT w),
+        low_arms ds s low arms none.1 (second_max (written_height ds l) (arms_written ds arms) GREATEST_HEIGHT w),
       )
 
 -- ---- the types that are written in a lens with low types are low
 
-tags_low : (fs : FieldTrees) → HasLowTypes (partition fs) → highest fs ≤ greatest_height
+tags_low : (fs : FieldTrees) → HasLowTypes (partition fs) → highest fs ≤ GREATEST_HEIGHT
 tags_low no_fields low = omega arith
 tags_low (more_fields n t fs) low = low.1
 
@@ -139,12 +136,12 @@ arms_low no_arms low = tt
 arms_low (more_arms a b l arms) low = low.1
 
 mutual
-  pub written_low : (ds : Definitions) (l : Term.LensTree) → HasLowTypes (expanded_form ds l) → written_height ds l ≤ greatest_height
+  pub written_low : (ds : Definitions) (l : Term.LensTree) → HasLowTypes (expanded_form ds l) → written_height ds l ≤ GREATEST_HEIGHT
   written_low ds (Term.id_of t) low = low.1
   written_low ds (Term.bij_of ps v) low = omega arith
-  written_low ds (Term.disc_of t u) low = two_max (height (expanded_type ds t)) (height (expanded_type ds u)) greatest_height low.1 low.2
+  written_low ds (Term.disc_of t u) low = two_max (height (expanded_type ds t)) (height (expanded_type ds u)) GREATEST_HEIGHT low.1 low.2
   written_low ds (Term.then_of l k) low =
-      two_max (written_height ds l) (written_height ds k) greatest_height (written_low ds l low.1) (written_low ds k low.2)
+      two_max (written_height ds l) (written_height ds k) GREATEST_HEIGHT (written_low ds l low.1) (written_low ds k low.2)
   written_low ds (Term.rec_lens rows) low = rows_low ds rows low.1
   written_low ds (Term.alt_lens arms) low = written_arms_low ds arms (arms_low (expanded_arms ds arms) low)
   written_low ds (Term.each_of l) low = written_low ds l low.1
@@ -154,13 +151,13 @@ mutual
   written_low ds (Term.inv_of l) low = written_low ds l low.1
   written_low ds (Term.named_lens n) low = omega arith
 
-  rows_low : (ds : Definitions) (rows : Term.RowTrees) → RowsHaveLowTypes (expanded_rows ds rows) → rows_written ds rows ≤ greatest_height
+  rows_low : (ds : Definitions) (rows : Term.RowTrees) → RowsHaveLowTypes (expanded_rows ds rows) → rows_written ds rows ≤ GREATEST_HEIGHT
   rows_low ds Term.no_rows low = omega arith
-  rows_low ds (Term.both a b l rows) low = two_max (written_height ds l) (rows_written ds rows) greatest_height (written_low ds l low.0) (rows_low ds rows low.1)
-  rows_low ds (Term.only_left a t rows) low = two_max (height (expanded_type ds t)) (rows_written ds rows) greatest_height low.0 (rows_low ds rows low.1)
-  rows_low ds (Term.only_right b t rows) low = two_max (height (expanded_type ds t)) (rows_written ds rows) greatest_height low.0 (rows_low ds rows low.1)
+  rows_low ds (Term.both a b l rows) low = two_max (written_height ds l) (rows_written ds rows) GREATEST_HEIGHT (written_low ds l low.0) (rows_low ds rows low.1)
+  rows_low ds (Term.only_left a t rows) low = two_max (height (expanded_type ds t)) (rows_written ds rows) GREATEST_HEIGHT low.0 (rows_low ds rows low.1)
+  rows_low ds (Term.only_right b t rows) low = two_max (height (expanded_type ds t)) (rows_written ds rows) GREATEST_HEIGHT low.0 (rows_low ds rows low.1)
 
-  written_arms_low : (ds : Definitions) (arms : Term.ArmTrees) → ArmsHaveLowTypes (expanded_arms ds arms) → arms_written ds arms ≤ greatest_height
+  written_arms_low : (ds : Definitions) (arms : Term.ArmTrees) → ArmsHaveLowTypes (expanded_arms ds arms) → arms_written ds arms ≤ GREATEST_HEIGHT
   written_arms_low ds Term.no_arms low = omega arith
   written_arms_low ds (Term.more_arms a b l arms) low =
-      two_max (written_height ds l) (arms_written ds arms) greatest_height (written_low ds l low.0) (written_arms_low ds arms low.1)
+      two_max (written_height ds l) (arms_written ds arms) GREATEST_HEIGHT (written_low ds l low.0) (written_arms_low ds arms low.1)

@@ -1,5 +1,5 @@
 -- A program has no failure if and only if it is acceptable.
-use Rattle.std.proofs.Common.{◌≡◌, ℕ, ◌≤◌, Bool, true, false, List, [], ◌∷◌, ◌++◌, Some, None, refl}
+use Rattle.std.proofs.Common.{◌≡◌, ℕ, ◌≤◌, true, List, [], ◌∷◌, ◌++◌, None, refl}
 use Rattle.std.specs.Prelude.{nat_le, if◌then◌else◌}
 use Rattle.std.specs.List.{AllByRecursion}
 use Rattle.std.proofs.lemmas.List.Elements.{All-from_recursion, recursion_from_All}
@@ -8,15 +8,17 @@ use Rattle.doc_values.specs.Types.{height}
 use Rattle.program_terms.specs.Terms as Term
 use Rattle.lens_forms.specs.Forms.{FormTree, left_type, right_type}
 use Rattle.lens_forms.specs.Typing.{is_typed}
-use Rattle.lens_forms.specs.Measures.{type_parts, form_parts, form_height, most_parts, greatest_height}
+use Rattle.lens_forms.specs.Measures.{type_parts, form_parts, form_height}
 use Rattle.lens_forms.proofs.TypingLaws.{typed_is, typed_passes}
+use Rattle.lens_forms.specs.declared.limits.TheConstants.{GREATEST_HEIGHT, MOST_PARTS}
 use Rattle.lens_types.specs.Sound.{is_sound}
 use Rattle.lens_types.specs.Earlier.{KnownTree, known_type, known_lens, Definitions, expanded_type, expanded_form, known_of, all_known}
-use Rattle.lens_types.specs.Checking.{Failure, too_large, too_deep, type_failure, lens_failure, written_height, size_failure, height_failure, def_failure, failure_after, first_failure}
-use Rattle.lens_types.proofs.SoundForms.{none_both, is_sound_known, are_sound, type_formed, lens_sound}
+use Rattle.lens_types.specs.Checking.{too_large, too_deep, type_failure, lens_failure, written_height, size_failure, height_failure, def_failure, failure_after, first_failure}
+use Rattle.lens_types.proofs.SoundForms.{none_both, is_sound_known, are_sound, type_formed, lens_sound, none_if as if_none}
 use Rattle.acceptance_laws.specs.Acceptable.{IsAcceptableType, IsAcceptableLens, IsAcceptableMeaning, IsAcceptable}
-use Rattle.acceptance_laws.proofs.LowTypes.{within, HasLowMeaning, own_sides, low_types, written_low}
-use Rattle.acceptance_laws.proofs.TypedTerms.{none_or, none_if, within_test, type_none, lens_none}
+use Rattle.acceptance_laws.proofs.LowTypes.{HasLowMeaning, own_sides, low_types, written_low}
+use Rattle.acceptance_laws.proofs.TypedTerms.{none_or, none_if, type_none, lens_none}
+use Rattle.std.proofs.lemmas.Bool.{leb-true, le-leb}
 
 -- ---- definitions that are acceptable
 
@@ -44,9 +46,9 @@ lens_is_sound : (f : FormTree) → IsAcceptableLens f → is_sound f ≡ true
 lens_is_sound f a =
     let sides = own_sides f a.low_types in
     both_true _ _ (typed_passes f (left_type f) (right_type f) a.typed)
-    (both_true _ _ (within_test (form_parts f) most_parts a.small)
-    (both_true _ _ (within_test (form_height f) greatest_height a.low)
-    (both_true _ _ (within_test (height (left_type f)) greatest_height sides.0) (within_test (height (right_type f)) greatest_height sides.1))))
+    (both_true _ _ (le-leb (form_parts f) MOST_PARTS a.small)
+    (both_true _ _ (le-leb (form_height f) GREATEST_HEIGHT a.low)
+    (both_true _ _ (le-leb (height (left_type f)) GREATEST_HEIGHT sides.0) (le-leb (height (right_type f)) GREATEST_HEIGHT sides.1))))
 
 meaning_is_sound : (k : KnownTree) → IsAcceptableMeaning k → is_sound_known k ≡ true
 meaning_is_sound (known_type t) a = a.well_formed
@@ -66,15 +68,11 @@ all_low (d ∷ ds) a = (meaning_low d.1 a.0, all_low ds a.1)
 
 -- ---- a definition without a failure is acceptable
 
-if_none : (b : Bool) (f : Failure) → (if b then None else Some f) ≡ None → b ≡ true
-if_none true f h = refl
-if_none false f h = cc
+small : (n : ℕ) → size_failure n ≡ None → n ≤ MOST_PARTS
+small n h = leb-true n MOST_PARTS (if_none (nat_le n MOST_PARTS) too_large h)
 
-small : (n : ℕ) → size_failure n ≡ None → n ≤ most_parts
-small n h = within n most_parts (if_none (nat_le n most_parts) too_large h)
-
-low : (n : ℕ) → height_failure n ≡ None → n ≤ greatest_height
-low n h = within n greatest_height (if_none (nat_le n greatest_height) too_deep h)
+low : (n : ℕ) → height_failure n ≡ None → n ≤ GREATEST_HEIGHT
+low n h = leb-true n GREATEST_HEIGHT (if_none (nat_le n GREATEST_HEIGHT) too_deep h)
 
 type_acceptable : (ds : Definitions) → AreMeanings ds → (t : Term.TypeTree) → def_failure ds (Term.type_def t) ≡ None → IsAcceptableType (expanded_type ds t)
 type_acceptable ds a t h =
@@ -119,15 +117,15 @@ only_acceptable program h =
 def_none : (ds : Definitions) (d : Term.DefTree) → IsAcceptableMeaning (known_of ds d) → def_failure ds d ≡ None
 def_none ds (Term.type_def t) a =
     let u = expanded_type ds t in
-    none_or (size_failure (type_parts u)) _ (none_if (nat_le (type_parts u) most_parts) too_large (within_test (type_parts u) most_parts a.small))
-    (none_or (height_failure (height u)) (type_failure t) (none_if (nat_le (height u) greatest_height) too_deep (within_test (height u) greatest_height a.low))
+    none_or (size_failure (type_parts u)) _ (none_if (nat_le (type_parts u) MOST_PARTS) too_large (le-leb (type_parts u) MOST_PARTS a.small))
+    (none_or (height_failure (height u)) (type_failure t) (none_if (nat_le (height u) GREATEST_HEIGHT) too_deep (le-leb (height u) GREATEST_HEIGHT a.low))
     (type_none ds t a.well_formed))
 def_none ds (Term.lens_def l) a =
     let f = expanded_form ds l in
     let n = written_height ds l in
-    none_or (size_failure (form_parts f)) _ (none_if (nat_le (form_parts f) most_parts) too_large (within_test (form_parts f) most_parts a.small))
-    (none_or (height_failure (form_height f)) _ (none_if (nat_le (form_height f) greatest_height) too_deep (within_test (form_height f) greatest_height a.low))
-    (none_or (height_failure n) (lens_failure ds l) (none_if (nat_le n greatest_height) too_deep (within_test n greatest_height (written_low ds l a.low_types)))
+    none_or (size_failure (form_parts f)) _ (none_if (nat_le (form_parts f) MOST_PARTS) too_large (le-leb (form_parts f) MOST_PARTS a.small))
+    (none_or (height_failure (form_height f)) _ (none_if (nat_le (form_height f) GREATEST_HEIGHT) too_deep (le-leb (form_height f) GREATEST_HEIGHT a.low))
+    (none_or (height_failure n) (lens_failure ds l) (none_if (nat_le n GREATEST_HEIGHT) too_deep (le-leb n GREATEST_HEIGHT (written_low ds l a.low_types)))
     (lens_none ds l (typed_passes f (left_type f) (right_type f) a.typed) a.low_types)))
 
 earlier : (ds : Definitions) (rest : List (List ℕ × Term.DefTree)) → AreMeanings (all_known ds rest) → AreMeanings ds

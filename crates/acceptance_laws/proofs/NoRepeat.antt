@@ -13,31 +13,11 @@ use Rattle.lens_forms.specs.Forms.{lefts, rights}
 use Rattle.lens_forms.specs.Typing.{left_names, right_names, left_arms, right_arms}
 use Rattle.lens_types.specs.Earlier.{Definitions, expanded_fields, expanded_rows, expanded_arms}
 use Rattle.lens_types.specs.Repeats.{SidedName, is_same_side, is_same_name, is_among, repeat_after, first_repeat, member_names, field_names, pair_names, row_names, arm_names}
-use Rattle.lens_types.proofs.RepeatedNames.{on}
+use Rattle.lens_types.proofs.RepeatedNames.{on, on-left_arms, on-right_arms, on-fields, on-left_names, on-right_names, on-members, on-lefts, on-rights, same_side, side_is}
+use Rattle.std.proofs.lemmas.Bool.{not-true, false_from_ne_true}
+use Rattle.texts.proofs.Tests.{neither_second}
 
 -- ---- the sides of names
-
-same_side : (e : Side) → is_same_side e e ≡ true
-same_side Left = refl
-same_side Right = refl
-
-side_is : (e f : Side) → is_same_side e f ≡ true → e ≡ f
-side_is Left Left h = refl
-side_is Right Right h = refl
-side_is Left Right h = cc
-side_is Right Left h = cc
-
-not_true : (b : Bool) → (b ≡ true → ⊥) → b ≡ false
-not_true true f = absurd (f refl)
-not_true false f = refl
-
-not_not : (b : Bool) → not b ≡ true → b ≡ false
-not_not true h = cc
-not_not false h = refl
-
-second_false : (a b : Bool) → (a || b) ≡ false → b ≡ false
-second_false true b h = cc
-second_false false b h = h
 
 -- ---- no name before is behind
 
@@ -54,7 +34,7 @@ here : (m : SidedName) (ms : List SidedName) → on m.0 (m ∷ ms) ≡ m.1 ∷ o
 here m ms = ap (λ b. if b then m.1 ∷ on m.0 ms else on m.0 ms) (same_side m.0)
 
 rest-step : (b : Bool) (n x : List ℕ) (others : List (List ℕ)) → has_name n (if b then x ∷ others else others) ≡ false → has_name n others ≡ false
-rest-step true n x others h = second_false (bytes_eq n x) (has_name n others) h
+rest-step true n x others h = neither_second (bytes_eq n x) (has_name n others) h
 rest-step false n x others h = h
 
 distinct_rest-step : (b : Bool) (x : List ℕ) (others : List (List ℕ)) → are_distinct (if b then x ∷ others else others) ≡ true → are_distinct others ≡ true
@@ -63,7 +43,7 @@ distinct_rest-step false x others h = h
 
 new_name : (before : List SidedName) (m : SidedName) (ms : List SidedName) → Apart before (m ∷ ms) → is_among m before ≡ false
 new_name before m ms apart =
-    not_true (is_among m before)
+    false_from_ne_true (is_among m before)
     (λ (h : is_among m before ≡ true).
     let no : has_name m.1 (m.1 ∷ on m.0 ms) ≡ false = subst (λ (xs : List (List ℕ)). has_name m.1 xs ≡ false) (here m ms) (apart m.0 m.1 h) in
     let yes : has_name m.1 (m.1 ∷ on m.0 ms) ≡ true = ap (λ b. b || has_name m.1 (on m.0 ms)) (bytes_eq-refl m.1) in
@@ -86,7 +66,7 @@ among-more n (x ∷ xs) m h = go (is_same_name n x) (is_among n xs) (is_same_nam
 distinct_here : (m : SidedName) (ms : List SidedName) → AreApart (m ∷ ms) → has_name m.1 (on m.0 ms) ≡ false
 distinct_here m ms distinct =
     let both : are_distinct (m.1 ∷ on m.0 ms) ≡ true = subst (λ (xs : List (List ℕ)). are_distinct xs ≡ true) (here m ms) (distinct m.0) in
-    not_not (has_name m.1 (on m.0 ms)) (first_and (not (has_name m.1 (on m.0 ms))) (are_distinct (on m.0 ms)) both)
+    not-true (has_name m.1 (on m.0 ms)) (first_and (not (has_name m.1 (on m.0 ms))) (are_distinct (on m.0 ms)) both)
 
 -- the name itself is not behind
 itself : (e : Side) (n : List ℕ) (m : SidedName) (ms : List SidedName) → is_same_name (e, n) m ≡ true → AreApart (m ∷ ms) → has_name n (on e ms) ≡ false
@@ -119,65 +99,29 @@ no_repeat ns ls rs left right l r = no_repeat_after [] ns (λ e n h. cc) distinc
 
 -- ---- the names of each side, list by list
 
-left-members : (ms : List (List ℕ)) → on Left (member_names ms) ≡ ms
-left-members [] = refl
-left-members (m ∷ ms) = ap (λ xs. m ∷ xs) (left-members ms)
-
 right-members : (ms : List (List ℕ)) → on Right (member_names ms) ≡ []
 right-members [] = refl
 right-members (m ∷ ms) = right-members ms
-
-left-fields : (ds : Definitions) (fs : Term.FieldTrees) → on Left (field_names fs) ≡ names_of (expanded_fields ds fs)
-left-fields ds Term.no_fields = refl
-left-fields ds (Term.more_fields n t fs) = ap (λ xs. n ∷ xs) (left-fields ds fs)
 
 right-fields : (fs : Term.FieldTrees) → on Right (field_names fs) ≡ []
 right-fields Term.no_fields = refl
 right-fields (Term.more_fields n t fs) = right-fields fs
 
-left-pairs : (ps : List (List ℕ × List ℕ)) → on Left (pair_names ps) ≡ lefts ps
-left-pairs [] = refl
-left-pairs (p ∷ ps) = ap (λ xs. p.0 ∷ xs) (left-pairs ps)
-
-right-pairs : (ps : List (List ℕ × List ℕ)) → on Right (pair_names ps) ≡ rights ps
-right-pairs [] = refl
-right-pairs (p ∷ ps) = ap (λ xs. p.1 ∷ xs) (right-pairs ps)
-
-left-rows : (ds : Definitions) (rows : Term.RowTrees) → on Left (row_names rows) ≡ left_names (expanded_rows ds rows)
-left-rows ds Term.no_rows = refl
-left-rows ds (Term.both a b l rows) = ap (λ xs. a ∷ xs) (left-rows ds rows)
-left-rows ds (Term.only_left a t rows) = ap (λ xs. a ∷ xs) (left-rows ds rows)
-left-rows ds (Term.only_right b t rows) = left-rows ds rows
-
-right-rows : (ds : Definitions) (rows : Term.RowTrees) → on Right (row_names rows) ≡ right_names (expanded_rows ds rows)
-right-rows ds Term.no_rows = refl
-right-rows ds (Term.both a b l rows) = ap (λ xs. b ∷ xs) (right-rows ds rows)
-right-rows ds (Term.only_left a t rows) = right-rows ds rows
-right-rows ds (Term.only_right b t rows) = ap (λ xs. b ∷ xs) (right-rows ds rows)
-
-left-arms : (ds : Definitions) (arms : Term.ArmTrees) → on Left (arm_names arms) ≡ left_arms (expanded_arms ds arms)
-left-arms ds Term.no_arms = refl
-left-arms ds (Term.more_arms a b l arms) = ap (λ xs. a ∷ xs) (left-arms ds arms)
-
-right-arms : (ds : Definitions) (arms : Term.ArmTrees) → on Right (arm_names arms) ≡ right_arms (expanded_arms ds arms)
-right-arms ds Term.no_arms = refl
-right-arms ds (Term.more_arms a b l arms) = ap (λ xs. b ∷ xs) (right-arms ds arms)
-
 -- ---- so none is repeated
 
 pub members_new : (ms : List (List ℕ)) → are_distinct ms ≡ true → first_repeat (member_names ms) ≡ None
-members_new ms h = no_repeat (member_names ms) ms [] (left-members ms) (right-members ms) h refl
+members_new ms h = no_repeat (member_names ms) ms [] (on-members ms) (right-members ms) h refl
 
 pub fields_new : (ds : Definitions) (fs : Term.FieldTrees) → are_distinct (names_of (expanded_fields ds fs)) ≡ true → first_repeat (field_names fs) ≡ None
-fields_new ds fs h = no_repeat (field_names fs) (names_of (expanded_fields ds fs)) [] (left-fields ds fs) (right-fields fs) h refl
+fields_new ds fs h = no_repeat (field_names fs) (names_of (expanded_fields ds fs)) [] (on-fields ds fs) (right-fields fs) h refl
 
 pub pairs_new : (ps : List (List ℕ × List ℕ)) → are_distinct (lefts ps) ≡ true → are_distinct (rights ps) ≡ true → first_repeat (pair_names ps) ≡ None
-pairs_new ps l r = no_repeat (pair_names ps) (lefts ps) (rights ps) (left-pairs ps) (right-pairs ps) l r
+pairs_new ps l r = no_repeat (pair_names ps) (lefts ps) (rights ps) (on-lefts ps) (on-rights ps) l r
 
 pub rows_new : (ds : Definitions) (rows : Term.RowTrees) → are_distinct (left_names (expanded_rows ds rows)) ≡ true → are_distinct (right_names (expanded_rows ds rows)) ≡ true
     → first_repeat (row_names rows) ≡ None
-rows_new ds rows l r = no_repeat (row_names rows) (left_names (expanded_rows ds rows)) (right_names (expanded_rows ds rows)) (left-rows ds rows) (right-rows ds rows) l r
+rows_new ds rows l r = no_repeat (row_names rows) (left_names (expanded_rows ds rows)) (right_names (expanded_rows ds rows)) (on-left_names ds rows) (on-right_names ds rows) l r
 
 pub arms_new : (ds : Definitions) (arms : Term.ArmTrees) → are_distinct (left_arms (expanded_arms ds arms)) ≡ true → are_distinct (right_arms (expanded_arms ds arms)) ≡ true
     → first_repeat (arm_names arms) ≡ None
-arms_new ds arms l r = no_repeat (arm_names arms) (left_arms (expanded_arms ds arms)) (right_arms (expanded_arms ds arms)) (left-arms ds arms) (right-arms ds arms) l r
+arms_new ds arms l r = no_repeat (arm_names arms) (left_arms (expanded_arms ds arms)) (right_arms (expanded_arms ds arms)) (on-left_arms ds arms) (on-right_arms ds arms) l r

@@ -1,8 +1,7 @@
 -- What is typed with low types has no failure in its nodes.
-use Rattle.std.proofs.Common.{◌≡◌, ℕ, ◌≤◌, Bool, true, false, ◌&&◌, ◌||◌, List, [], ◌∷◌, Option, Some, None, refl, ap, ap₂, sym, ◌∙◌, arith}
+use Rattle.std.proofs.Common.{◌≡◌, ℕ, ◌≤◌, Bool, true, false, ◌&&◌, ◌||◌, List, [], ◌∷◌, Option, Some, None, refl, ap, ap₂, sym, ◌∙◌}
 use Rattle.std.specs.Prelude.{nat_le, not, if◌then◌else◌, option_map}
 use Rattle.std.specs.Option.{option_or}
-use Rattle.std.proofs.lemmas.Bool.Decides.{nat_tests}
 use Rattle.texts.specs.Keys.{is_before, all_after, is_rising, has_name}
 use Rattle.texts.proofs.Conjunction.{both as both_true, first as first_and, second as second_and}
 use Rattle.texts.proofs.KeyOrder.{after-differs, before-differs, before-trans, rising-first, rising-rest}
@@ -11,13 +10,14 @@ use Rattle.doc_values.proofs.DistinctNames.{are_choices-distinct}
 use Rattle.program_terms.specs.Terms as Term
 use Rattle.lens_forms.specs.Forms.{FormTree, ArmTrees, no_arms, more_arms, form_bij, lefts, rights, insert_field, sorted, left_type, right_type}
 use Rattle.lens_forms.specs.Typing.{is_typed, are_typed_rows, are_typed_arms, left_names, right_names, left_arms, right_arms}
-use Rattle.lens_forms.specs.Measures.{greatest_height}
-use Rattle.lens_forms.proofs.SortedFields.{inserted_names}
+use Rattle.lens_forms.proofs.SortedFields.{sorted-names}
+use Rattle.lens_forms.specs.declared.limits.TheConstants.{GREATEST_HEIGHT}
 use Rattle.lens_types.specs.Earlier.{Definitions, alternatives_type, alternatives, partition, expanded_type, expanded_fields, expanded_form, expanded_rows, expanded_arms}
 use Rattle.lens_types.specs.Checking.{Failure, repeated_field, repeated_tag, repeated_member, not_a_member, middle_differs, too_deep, value_failure, enum_failure, pairs_failure, type_failure, fields_failure, lens_failure, rows_failure, arms_failure, middle_failure, sides_failure}
 use Rattle.lens_types.specs.Repeats.{first_repeat, member_names, field_names, pair_names, row_names, arm_names}
 use Rattle.acceptance_laws.specs.Acceptable.{HasLowSides, HasLowTypes, RowsHaveLowTypes, ArmsHaveLowTypes}
 use Rattle.acceptance_laws.proofs.NoRepeat.{members_new, fields_new, pairs_new, rows_new, arms_new}
+use Rattle.std.proofs.lemmas.Bool.{le-leb}
 
 -- ---- no failure
 
@@ -30,9 +30,6 @@ none_map f x h = ap (option_map f) h
 
 pub none_if : (b : Bool) (f : Failure) → b ≡ true → (if b then None else Some f) ≡ None
 none_if b f h = ap (λ x. if x then None else Some f) h
-
-pub within_test : (a b : ℕ) → a ≤ b → nat_le a b ≡ true
-within_test a b h = grind (arith, nat_tests)
 
 -- ---- sorted fields that rise are distinct
 
@@ -74,10 +71,6 @@ put_new-step false n m t u fs e h f =
 put_new : (n : List ℕ) (t : TyTree) (fs : FieldTrees) → is_rising (names_of (insert_field n t fs)) ≡ true → PutNew n fs
 put_new n t no_fields h = (refl, refl)
 put_new n t (more_fields m u fs) h = put_new-step (is_before m n) n m t u fs refl h (λ k. put_new n t fs k)
-
-sorted-names : (fs : FieldTrees) (k : List ℕ) → has_name k (names_of (sorted fs)) ≡ has_name k (names_of fs)
-sorted-names no_fields k = refl
-sorted-names (more_fields n t fs) k = inserted_names n t (sorted fs) (names_of fs) (sorted-names fs) k
 
 sorted-distinct : (fs : FieldTrees) → is_rising (names_of (sorted fs)) ≡ true → are_distinct (names_of fs) ≡ true
 sorted-distinct no_fields h = refl
@@ -154,8 +147,8 @@ mutual
 
 sides_none : (f : FormTree) → HasLowSides f → sides_failure f ≡ None
 sides_none f low =
-    none_if (nat_le (height (left_type f)) greatest_height && nat_le (height (right_type f)) greatest_height) too_deep
-    (both_true _ _ (within_test (height (left_type f)) greatest_height low.0) (within_test (height (right_type f)) greatest_height low.1))
+    none_if (nat_le (height (left_type f)) GREATEST_HEIGHT && nat_le (height (right_type f)) GREATEST_HEIGHT) too_deep
+    (both_true _ _ (le-leb (height (left_type f)) GREATEST_HEIGHT low.0) (le-leb (height (right_type f)) GREATEST_HEIGHT low.1))
 
 pairs_none : (ps : List (List ℕ × List ℕ)) (v : List ℕ) → is_typed (form_bij ps v) ≡ true → pairs_failure ps v ≡ None
 pairs_none ps v h =

@@ -1,7 +1,7 @@
 //! Acceptance is typing, both ways.
 //!
 //! The checker stops at the first failure, in a fixed order. [`acceptance_is_typing`] says which texts it accepts, and speaks of
-//! no failure and no order. The definition is `IsAcceptedAs` in specs/Acceptable.antt; docs/TYPING.md has the rules in words.
+//! no failure and no order. The definition is `IsAcceptedAs` in specs/Acceptable.antt; docs/LANGUAGE.md has the rules in words.
 //! Each function here does nothing: its clauses are the law.
 #![tactic(auto)]
 

@@ -1,5 +1,5 @@
 -- A refusal that the code found is that of the definition, and known to be one.
-use Rattle.std.proofs.Common.{◌≡◌, Result, Ok, Err, Option, Some, IfSome, refl, ap, subst}
+use Rattle.std.proofs.Common.{◌≡◌, Result, Ok, Err, Some, refl, ap, subst}
 use Rattle.std.specs.Prelude.{IfErr, MatchResult}
 use Rattle.program_terms.specs.Terms.{ProgramTree}
 use Rattle.lens_syntax.specs.Programs.{ProgramCause, too_long, not_a_program, unknown_name, repeated_name, cause_of, IsRefusal as IsSyntaxFault}
@@ -19,10 +19,6 @@ syntax_refused wanted (reading.NotAProgram at) h known = record { cause = not_a_
 syntax_refused wanted (reading.UnknownName at) h known = record { cause = unknown_name at; is = ap form_of_program h; is_fault = refl }
 syntax_refused wanted (reading.RepeatedName at) h known = record { cause = repeated_name at; is = ap form_of_program h; is_fault = refl }
 syntax_refused wanted reading.NoMemory h known = absurd (known refl)
-
--- what is said of the cause of a fault is so of the cause that it has
-pub if_cause : (o : Option ProgramCause) (P : ProgramCause → Type 0) (cause : ProgramCause) → IfSome o P → o ≡ Some cause → P cause
-if_cause o P cause h e = subst (λ q. IfSome q P) e h
 
 known : (outcome : Result FormTree Refusal) (refused : Refused) → IsRefusal outcome refused → IsKnown refused
 known outcome (Syntax fault) h = λ e. let bad = subst (λ f. cause_of f ≡ Some h.cause) e h.is_fault in cc

@@ -27,7 +27,7 @@ pub enum Refused {
 /// - `Typing`: if and only if the text is a program and the checker has a first failure, which is the cause.
 /// - `NoMemory`: only if memory ran out.
 ///
-/// docs/LANGUAGE.md says which texts are programs, and docs/TYPING.md which programs are accepted.
+/// docs/LANGUAGE.md says which texts are programs, and which of them are accepted.
 #[tactic(auto, using(crate::proofs::Refusals::known_error))]
 pub fn read_lens(alloc: Global, text: &[u8]) -> Result<Typed, Refused>
     ensures lens { MatchResult result

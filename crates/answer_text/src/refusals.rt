@@ -1,18 +1,38 @@
 //! The refusals of programs.
-ghost use Rattle.std.specs.Prelude.{◌≡◌, ◌≢◌, ◌++◌, codes, decimal, Some, IfOk, IfSome};
+ghost use Rattle.std.specs.Prelude.{◌≡◌, ◌≢◌, ◌++◌, codes, decimal, Result, Some, IfOk, IfSome};
+ghost use Rattle.accepted_programs.specs.Program.{Refusal};
+ghost use Rattle.accepted_programs.specs.Refused.{IsKnown, IsRefusal};
 ghost use Rattle.doc_values.specs.Types.{ty_tree};
+ghost use Rattle.lens_forms.specs.Forms.{FormTree};
 ghost use Rattle.lens_syntax.specs.Programs.{cause_of};
 ghost use Rattle.lens_types.specs.Checking.{Failure, middle_differs};
 ghost use Rattle.lens_types.specs.Faults.{IsFaultOf};
 ghost use Rattle.program_writing.specs.Canonical.{canonical_name};
 ghost use Rattle.answer_text.specs.Lines.{program_refused_line, syntax_line, typing_line};
+ghost use Rattle.answer_text.specs.RefusalLines.{IsLineOf};
 
 use crate::words::bytes_of;
+use accepted_programs::Refused;
 use doc_values::Ty;
 use lens_syntax::{ProgramFault, write_name, write_type};
 use lens_types::TypeFault;
 use std::alloc::{AllocError, Global};
 use texts::{Bytes, Name};
+
+/// `program refused: REASON` and a line feed: a program part is refused, as `syntax_line` or `typing_line` says it.
+///
+/// Running out of memory is not a refusal, and the only error.
+pub fn refused_part_line(alloc: Global, refused: &Refused) -> Result<Bytes, AllocError>
+    requires has_line { IsKnown refused.now }
+    ensures line { IfOk result (λ line. (outcome : Result FormTree Refusal)
+        → IsRefusal outcome refused.now → IsLineOf outcome line) }
+{
+    match refused {
+        Refused::Syntax(fault) => syntax_line(alloc, fault),
+        Refused::Typing(fault) => typing_line(alloc, fault),
+        Refused::NoMemory => Err(AllocError),
+    }
+}
 
 /// `program refused: REASON` and a line feed: a text is not a program.
 ///

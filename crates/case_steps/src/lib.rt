@@ -1,4 +1,4 @@
-//! The steps of files of cases, for the programs that run them. docs/CASES.md has the form of a file.
+//! The steps of files of cases, for the programs that run them. reference/CASES.md has the form of a file.
 #![tactic(auto)]
 
 mod head;

@@ -8,8 +8,9 @@ use Rattle.clap.proofs.OnLiterals.{clap_on_literals}
 use Rattle.command_words.specs.CommandLine.{editlens_app}
 use Rattle.std.proofs.lemmas.Slice.Eq.{bytes_eq-Decides}
 use Rattle.command_words.specs.Orders.{plain_order, undo_order, gen_order, order_of}
-use Rattle.command_words.specs.Matches.{gen_of_values, undo_of_value, order_of_rows, order_of_match, begins_with_hyphen}
+use Rattle.command_words.specs.Matches.{gen_of_values, undo_of_value, order_of_match, begins_with_hyphen}
 use Rattle.command_words.specs.declared.orders.Order.{Order}
+use Rattle.texts.proofs.Tests.{bytes_eq-is}
 
 -- the word does not begin with a hyphen, so clap reads it as a value
 pub record IsPlainWord (w : Text) : Type 0 where
@@ -23,9 +24,6 @@ plain_word (x ∷ xs) h = record { dashes = rw h refl; long = rw h refl; short =
 
 pub simple : is_simple editlens_app ≡ true
 simple = refl
-
-same_text : (k t : List ℕ) → bytes_eq k t ≡ true → k ≡ t
-same_text k t h = (bytes_eq-Decides k t).0 h
 
 none_unless : (o : Option Order) (t : Bool) → ((x : Order) → o ≡ Some x → t ≡ true) → (t ≡ true → ⊥) → o ≡ None
 none_unless None t h never = refl
@@ -83,7 +81,7 @@ one_or_other : (P : Text → Type 0) (s w : Text) → P s → (bytes_eq w s ≡ 
 one_or_other P s w this other = by (bytes_eq w s) refl
   where
     by : (b : Bool) → bytes_eq w s ≡ b → P w
-    by true is = subst P (sym (same_text w s is)) this
+    by true is = subst P (sym (bytes_eq-is w s is)) this
     by false is = other is
 
 -- what holds of each command of one word, and of each text that is none, holds of all texts
@@ -107,7 +105,7 @@ other_two w None none = refl
 other_two w (Some p) none = by (bytes_eq p.0 w) refl
   where
     by : (b : Bool) → bytes_eq p.0 w ≡ b → cond b (plain_order p.0) None ≡ None
-    by true is = ap plain_order (same_text p.0 w is) ∙ none
+    by true is = ap plain_order (bytes_eq-is p.0 w is) ∙ none
     by false is = refl
 
 command_found : (n w : Text) → IsTaken n w → order_of_match 2 w (subcommand_of editlens_app (n ∷ w ∷ [])) ≡ plain_order w
@@ -148,7 +146,7 @@ other_three w None apart = refl
 other_three w (Some p) apart = by (bytes_eq p.0 w) refl
   where
     by : (b : Bool) → bytes_eq p.0 w ≡ b → cond b (cond (bytes_eq p.0 (codes "undo")) (undo_of_value (first_of (codes "count") p.1)) None) None ≡ None
-    by true is = ap (λ c. cond c (undo_of_value (first_of (codes "count") p.1)) None) (ap (λ v. bytes_eq v (codes "undo")) (same_text p.0 w is) ∙ apart)
+    by true is = ap (λ c. cond c (undo_of_value (first_of (codes "count") p.1)) None) (ap (λ v. bytes_eq v (codes "undo")) (bytes_eq-is p.0 w is) ∙ apart)
     by false is = refl
 
 -- a subcommand `undo` with a value gives the command of this value
@@ -161,11 +159,11 @@ undo_at (Some p) a h =
     rw (name, count) refl
 
 pub three_found : (n w a : Text) → IsPlainWord a → (r : Bool) → bytes_eq w (codes "undo") ≡ r → order_of_match 3 w (subcommand_of editlens_app (n ∷ w ∷ a ∷ [])) ≡ three_order w a
-three_found n w a p true undo = subst (λ v. order_of_match 3 v (subcommand_of editlens_app (n ∷ v ∷ a ∷ [])) ≡ three_order v a) (sym (same_text w (codes "undo") undo)) (undo_at _ a (undo_entered n a p))
+three_found n w a p true undo = subst (λ v. order_of_match 3 v (subcommand_of editlens_app (n ∷ v ∷ a ∷ [])) ≡ three_order v a) (sym (bytes_eq-is w (codes "undo") undo)) (undo_at _ a (undo_entered n a p))
 three_found n w a p false undo = other_three w _ undo ∙ rw undo refl
 
 three_taken : (n w a : Text) → IsPlainWord a → (o : Order) (r : Bool) → bytes_eq w (codes "undo") ≡ r → three_order w a ≡ Some o → takes editlens_app (n ∷ w ∷ a ∷ []) ≡ true
-three_taken n w a p o true undo h = ap (λ v. takes editlens_app (n ∷ v ∷ a ∷ [])) (same_text w (codes "undo") undo) ∙ undo_taken n a p
+three_taken n w a p o true undo h = ap (λ v. takes editlens_app (n ∷ v ∷ a ∷ [])) (bytes_eq-is w (codes "undo") undo) ∙ undo_taken n a p
 three_taken n w a p o false undo h = let none : three_order w a ≡ None = rw undo refl in cc
 
 pub three_refused : (ws : List Text) (a : Text) → length ws ≡ 3 → a ≡ get_or ws 2 a → begins_with_hyphen a ≡ false → (takes editlens_app ws ≡ true → ⊥) → order_of ws ≡ None
@@ -196,7 +194,7 @@ other_four w None apart = refl
 other_four w (Some p) apart = by (bytes_eq p.0 w) refl
   where
     by : (b : Bool) → bytes_eq p.0 w ≡ b → cond b (cond (bytes_eq p.0 (codes "gen")) (gen_of_values (first_of (codes "count") p.1) (first_of (codes "seed") p.1)) None) None ≡ None
-    by true is = ap (λ c. cond c (gen_of_values (first_of (codes "count") p.1) (first_of (codes "seed") p.1)) None) (ap (λ v. bytes_eq v (codes "gen")) (same_text p.0 w is) ∙ apart)
+    by true is = ap (λ c. cond c (gen_of_values (first_of (codes "count") p.1) (first_of (codes "seed") p.1)) None) (ap (λ v. bytes_eq v (codes "gen")) (bytes_eq-is p.0 w is) ∙ apart)
     by false is = refl
 
 -- a subcommand `gen` with two values gives the command of these values
@@ -210,11 +208,11 @@ gen_at (Some p) a b h =
     rw (name, count, seed) refl
 
 pub four_found : (n w a b : Text) → IsPlainWord a → IsPlainWord b → (r : Bool) → bytes_eq w (codes "gen") ≡ r → order_of_match 4 w (subcommand_of editlens_app (n ∷ w ∷ a ∷ b ∷ [])) ≡ four_order w a b
-four_found n w a b p q true gen = subst (λ v. order_of_match 4 v (subcommand_of editlens_app (n ∷ v ∷ a ∷ b ∷ [])) ≡ four_order v a b) (sym (same_text w (codes "gen") gen)) (gen_at _ a b (gen_entered n a b p q))
+four_found n w a b p q true gen = subst (λ v. order_of_match 4 v (subcommand_of editlens_app (n ∷ v ∷ a ∷ b ∷ [])) ≡ four_order v a b) (sym (bytes_eq-is w (codes "gen") gen)) (gen_at _ a b (gen_entered n a b p q))
 four_found n w a b p q false gen = other_four w _ gen ∙ rw gen refl
 
 four_taken : (n w a b : Text) → IsPlainWord a → IsPlainWord b → (o : Order) (r : Bool) → bytes_eq w (codes "gen") ≡ r → four_order w a b ≡ Some o → takes editlens_app (n ∷ w ∷ a ∷ b ∷ []) ≡ true
-four_taken n w a b p q o true gen h = ap (λ v. takes editlens_app (n ∷ v ∷ a ∷ b ∷ [])) (same_text w (codes "gen") gen) ∙ gen_taken n a b p q
+four_taken n w a b p q o true gen h = ap (λ v. takes editlens_app (n ∷ v ∷ a ∷ b ∷ [])) (bytes_eq-is w (codes "gen") gen) ∙ gen_taken n a b p q
 four_taken n w a b p q o false gen h = let none : four_order w a b ≡ None = rw gen refl in cc
 
 pub four_refused : (ws : List Text) (a b : Text) → length ws ≡ 4 → a ≡ get_or ws 2 a → b ≡ get_or ws 3 b → begins_with_hyphen a ≡ false → begins_with_hyphen b ≡ false → (takes editlens_app ws ≡ true → ⊥) → order_of ws ≡ None

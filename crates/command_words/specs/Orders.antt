@@ -1,6 +1,6 @@
 -- The command that the words name. A word is its bytes, and the program's name is the first word.
--- Read it from the end: `HasFewEntries` is the bound on `gen` and `undo`, and `order_of` has a line for each number of words.
-use Rattle.std.specs.Prelude.{ℕ, ◌≤◌, ◌+◌, ◌-◌, ◌*◌, ◌^◌, List, [], ◌∷◌, ◌&&◌, nat_lt, nat_le, length, Option, Some, None, codes, if◌then◌else◌, bytes_eq, option_map, option_and_then}
+-- Read it from the end: `HasFewEntries` is the bound on `gen` and `undo`, `only_reads` tells the commands apart, and `order_of` has a line for each number of words.
+use Rattle.std.specs.Prelude.{ℕ, ◌≤◌, ◌+◌, ◌-◌, ◌*◌, ◌^◌, List, [], ◌∷◌, Bool, true, false, ◌&&◌, nat_lt, nat_le, length, Option, Some, None, codes, if◌then◌else◌, bytes_eq, option_map, option_and_then}
 use Rattle.std.specs.List.{list_all}
 use Rattle.std.specs.Char.{is_ascii_digit}
 use Rattle.command_words.specs.declared.orders.Order.{Order}
@@ -53,6 +53,12 @@ order_of (name ∷ word ∷ []) = plain_order word
 order_of (name ∷ word ∷ first ∷ []) = if bytes_eq word (codes "undo") then undo_order first else None
 order_of (name ∷ word ∷ first ∷ second ∷ []) = if bytes_eq word (codes "gen") then gen_order first second else None
 order_of (name ∷ word ∷ first ∷ second ∷ third ∷ words) = None
+
+-- whether a command only reads the store; words that name none do not
+abbrev pub only_reads : Option Order → Bool
+only_reads (Some Show) = true
+only_reads (Some Verify) = true
+only_reads other = false
 
 -- a generated run has from 1 to 10,000 entries, and `undo` takes back from 1 to 10,000 changes
 abbrev pub HasFewEntries : Order → Type 0

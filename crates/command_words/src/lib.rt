@@ -2,7 +2,8 @@
 //!
 //! `read_words` returns the command that the words name: the program's name, then a command of one
 //! word, as `run` or `apply`, or `undo K`, or `gen N SEED`. The words that name a command are defined in specs/Orders.antt. They are read
-//! with `clap`, as specs/CommandLine.antt describes the command line to it.
+//! with `clap`, as specs/CommandLine.antt describes the command line to it. `only_reads` tells whether the words name a command that
+//! only reads the store.
 #![tactic(auto)]
 
 mod command_line;
@@ -11,4 +12,4 @@ mod orders;
 mod reader;
 
 pub use crate::orders::{Order, WordsFault};
-pub use crate::reader::read_words;
+pub use crate::reader::{only_reads, read_words};

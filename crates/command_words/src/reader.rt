@@ -5,7 +5,7 @@ ghost use Rattle.clap.specs.Simple.{subcommand_of, subcommand_rows_of};
 ghost use Rattle.clap.specs.Takes.{takes};
 ghost use Rattle.command_words.specs.CommandLine.{editlens_app};
 ghost use Rattle.command_words.specs.Matches.{gen_of_values, undo_of_value, order_of_match, begins_with_hyphen};
-ghost use Rattle.command_words.specs.Orders.{HasFewEntries, order_of};
+ghost use Rattle.command_words.specs.Orders.{HasFewEntries, only_reads, order_of};
 
 use crate::command_line::command_line;
 use crate::orders::{Order, WordsFault, gen_order, plain_order, undo_order};
@@ -36,6 +36,19 @@ pub fn read_words(alloc: Global, words: &[String]) -> Result<Order, WordsFault>
         4 => read_four(alloc, words),
         _ => Err(WordsFault::Usage),
     }
+}
+
+/// Whether the words name a command that only reads the store: `show` or `verify`.
+pub fn only_reads(words: &[String]) -> bool
+    ensures { result ≡ only_reads (order_of (map string_bytes words.now)) }
+{
+    if words.len() != 2 {
+        return false;
+    }
+    matches!(
+        plain_order(words[1].as_str()),
+        Some(Order::Show | Order::Verify)
+    )
 }
 
 // Two words name a command of one word, or nothing.

@@ -4,7 +4,6 @@ use Rattle.std.specs.Prelude.{bytes_eq}
 use Rattle.std.proofs.lemmas.List.{drop_all}
 use Rattle.texts.specs.Keys.{has_name}
 use Rattle.texts.proofs.Conjunction.{first, second}
-use Rattle.value_json.proofs.Facts.{equal_bytes, same_bytes}
 use Rattle.doc_values.specs.Types.{are_distinct, are_choices}
 use Rattle.doc_values.proofs.DistinctNames.{are_choices-distinct}
 use Rattle.lens_forms.specs.Forms.{FormTree, form_alt, ArmTrees, no_arms, more_arms, form_arms_of, arm_tree, form_tree}
@@ -14,6 +13,9 @@ use Rattle.lens_forms.specs.declared.form.Form.{Form}
 use Rattle.lens_core.specs.Complements.{CompTree, alt_comp, Fits, FitsArm}
 use Rattle.serde_json.specs.Data.{Data}
 use Rattle.complement_file.specs.ComplementJson.{tree_of_complement, tree_in_arm, arm_with}
+use Rattle.std.proofs.lemmas.Bool.{not-true}
+use Rattle.texts.proofs.Tests.{bytes_eq-is, or_true}
+use Rattle.texts.proofs.KeyOrder.{bytes_eq-refl}
 
 -- ---- the arms one after the other
 
@@ -36,19 +38,11 @@ pub ruleset arm_rules = (found_here, found_next, found_all)
 
 -- ---- the lens of a tag
 
-pub not_true : (q : Bool) → not q ≡ true → q ≡ false
-not_true true h = cc
-not_true false h = refl
-
-pub or_true : (q : Bool) → (q || true) ≡ true
-or_true true = refl
-or_true false = refl
-
 same : {X : Type 0} {x y : X} → Some x ≡ Some y → x ≡ y
 same e = cc
 
 is_not : (t a : List ℕ) → t ≡ a → bytes_eq a t ≡ false → ⊥
-is_not t a e h = let is : bytes_eq a t ≡ true = rw e (same_bytes a) in cc
+is_not t a e h = let is : bytes_eq a t ≡ true = rw e (bytes_eq-refl a) in cc
 
 -- an arm with the tag is found
 there_step : (t a : List ℕ) (l : FormTree) (rest : Option FormTree) (c : CompTree) (Rest : Type 0) (k : Bool) → bytes_eq a t ≡ k → cond k (Some l) rest ≡ None
@@ -64,7 +58,7 @@ there t (more_arms a b l arms) c e h = there_step t a l (arm_with arms t) c (Fit
 -- what fits an arm with the tag shows that there is one
 tag_is_there : (t : List ℕ) (arms : ArmTrees) (c : CompTree) → FitsArm arms t c → has_name t (left_arms arms) ≡ true
 tag_is_there t no_arms c h = absurd h
-tag_is_there t (more_arms a b l arms) c (inl p) = rw (p.0, same_bytes a) refl
+tag_is_there t (more_arms a b l arms) c (inl p) = rw (p.0, bytes_eq-refl a) refl
 tag_is_there t (more_arms a b l arms) c (inr p) = rw (tag_is_there t arms c p) (or_true (bytes_eq t a))
 
 -- only the first arm with the tag fits, since the tags are distinct
@@ -72,7 +66,7 @@ fits_step : (t a : List ℕ) (names : List (List ℕ)) (l m : FormTree) (rest : 
     → ((t ≡ a) × Fits m c) ⊎ Rest → has_name a names ≡ false → (Rest → has_name t names ≡ true) → (rest ≡ Some l → Rest → Fits l c) → Fits l c
 fits_step t a names l m rest c Rest true is e (inl p) apart found again = subst (λ z. Fits z c) (same e) p.1
 fits_step t a names l m rest c Rest true is e (inr p) apart found again =
-    let some : has_name a names ≡ true = subst (λ n. has_name n names ≡ true) (sym (equal_bytes a t is)) (found p) in cc
+    let some : has_name a names ≡ true = subst (λ n. has_name n names ≡ true) (sym (bytes_eq-is a t is)) (found p) in cc
 fits_step t a names l m rest c Rest false is e (inl p) apart found again = absurd (is_not t a p.0 is)
 fits_step t a names l m rest c Rest false is e (inr p) apart found again = again e p
 
@@ -80,7 +74,7 @@ fits : (t : List ℕ) (arms : ArmTrees) (c : CompTree) (l : FormTree) → are_di
 fits t no_arms c l d e h = cc
 fits t (more_arms a b m arms) c l d e h =
     fits_step t a (left_arms arms) l m (arm_with arms t) c (FitsArm arms t c) (bytes_eq a t) refl e h
-    (not_true (has_name a (left_arms arms)) (first (not (has_name a (left_arms arms))) _ d)) (λ f. tag_is_there t arms c f)
+    (not-true (has_name a (left_arms arms)) (first (not (has_name a (left_arms arms))) _ d)) (λ f. tag_is_there t arms c f)
     (λ s f. fits t arms c l (second (not (has_name a (left_arms arms))) _ d) s f)
 
 -- what holds of the lens of each arm holds of the one that is found

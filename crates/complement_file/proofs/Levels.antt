@@ -1,32 +1,21 @@
 -- One level of a form and of a complement, and what holds of the parts.
-use Rattle.std.proofs.Common.{◌≡◌, ℕ, List, length, Result, Ok, Err, IfOk, IsTrue, Box, Global, sym, ap, subst, ◌∙◌, rules}
+use Rattle.std.proofs.Common.{◌≡◌, ℕ, List, length, Result, Ok, Err, IfOk, IsTrue, Box, Global, subst, ◌∙◌, rules}
 use Rattle.std.specs.declared.alloc.AllocError.{AllocError}
 use Rattle.texts.specs.Keys.{is_rising}
 use Rattle.texts.proofs.Conjunction.{first, second}
 use Rattle.serde_json.specs.Data.{Data}
 use Rattle.serde_json.specs.View.{view}
 use Rattle.serde_json.specs.declared.value.Value.{Value}
-use Rattle.value_json.proofs.Facts.{equal}
 use Rattle.hold_shapes.specs.declared.shape.Shape.{Shape}
 use Rattle.hold_shapes.specs.declared.shape.Shape.TheVariants.{Keyed as KeyedOf}
 use Rattle.doc_values.specs.Typing.{is_keyed_of}
-use Rattle.lens_forms.specs.Forms.{FormTree, form_each, form_keyed, form_ordered, form_tree}
+use Rattle.lens_forms.specs.Forms.{FormTree, form_each, form_keyed, form_ordered}
 use Rattle.lens_forms.specs.Typing.{is_typed}
-use Rattle.lens_forms.specs.declared.form.Form.{Form, the_lemmas as form_lemmas}
-use Rattle.lens_forms.specs.declared.form.Form.TheVariants.{Each, Keyed, Tree}
 use Rattle.lens_core.specs.Complements.{CompTree, CompTrees, rec_comp, alt_comp, hold_comp, comp_tree, comps_tree, comp_count, Fits, AllFit}
 use Rattle.lens_core.specs.declared.comp.Comp.{Comp, the_lemmas as comp_lemmas}
 use Rattle.lens_core.specs.declared.comp.Comp.TheVariants.{Rec, Alt, Hold}
 use Rattle.lens_core.specs.declared.comp.Comps.{Comps}
-
-each_level : (b : Box Form Global) → form_tree (Each b) ≡ form_each (form_tree b.value)
-each_level b = search (rules, form_lemmas)
-
-keyed_level : (b : Box Form Global) → form_tree (Keyed b) ≡ form_keyed (form_tree b.value)
-keyed_level b = search (rules, form_lemmas)
-
-tree_level : (b : Box Form Global) → form_tree (Tree b) ≡ form_ordered (form_tree b.value)
-tree_level b = search (rules, form_lemmas)
+use Rattle.std.proofs.lemmas.Bool.{eqb-true}
 
 pub hold_level : (s : Shape) (cs : Comps) → comp_tree (Hold s cs) ≡ hold_comp s (comps_tree cs)
 hold_level s cs = search (rules, comp_lemmas)
@@ -36,18 +25,6 @@ rec_level cs = search (rules, comp_lemmas)
 
 pub alt_level : (n : List ℕ) (b : Box Comp Global) → comp_tree (Alt n b) ≡ alt_comp n (comp_tree b.value)
 alt_level n b = search (rules, comp_lemmas)
-
-pub each_form : (f : Form) (b : Box Form Global) (i : Form) → f ≡ Each b → i ≡ b.value → form_tree f ≡ form_each (form_tree i)
-each_form f b i is e = ap form_tree is ∙ each_level b ∙ ap (λ x. form_each (form_tree x)) (sym e)
-
-pub keyed_form : (f : Form) (b : Box Form Global) (i : Form) → f ≡ Keyed b → i ≡ b.value → form_tree f ≡ form_keyed (form_tree i)
-keyed_form f b i is e = ap form_tree is ∙ keyed_level b ∙ ap (λ x. form_keyed (form_tree x)) (sym e)
-
-pub tree_form : (f : Form) (b : Box Form Global) (i : Form) → f ≡ Tree b → i ≡ b.value → form_tree f ≡ form_ordered (form_tree i)
-tree_form f b i is e = ap form_tree is ∙ tree_level b ∙ ap (λ x. form_ordered (form_tree x)) (sym e)
-
-pub held_comp : (c : Comp) (s : Shape) (cs : Comps) → c ≡ Hold s cs → comp_tree c ≡ hold_comp s (comps_tree cs)
-held_comp c s cs is = ap comp_tree is ∙ hold_level s cs
 
 -- ---- what fits a container
 
@@ -74,7 +51,7 @@ pub keys_rising : (ks : List (List ℕ)) (s : Shape) (n : ℕ) → s ≡ KeyedOf
 keys_rising ks s n is h = first (is_rising ks) _ (subst (λ q. IsTrue (is_keyed_of q n)) is h)
 
 pub keys_many : (ks : List (List ℕ)) (s : Shape) (n : ℕ) → s ≡ KeyedOf ks → IsTrue (is_keyed_of s n) → length ks ≡ n
-keys_many ks s n is h = equal _ _ (second (is_rising ks) _ (subst (λ q. IsTrue (is_keyed_of q n)) is h))
+keys_many ks s n is h = eqb-true _ _ (second (is_rising ks) _ (subst (λ q. IsTrue (is_keyed_of q n)) is h))
 
 pub ruleset keyed_rules = (keys_rising, keys_many)
 

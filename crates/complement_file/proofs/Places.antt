@@ -1,12 +1,10 @@
 -- The complements of places, written one after the other.
-use Rattle.std.proofs.Common.{◌≡◌, ℕ, zero, suc, ◌+◌, add-one, ◌<◌, true, List, [], ◌∷◌, map, take, length, get_or, Greater, refl, sym, ap, subst, ◌∙◌, arith}
-use Rattle.std.specs.Ordering.{nat_cmp}
-use Rattle.std.specs.Cmp.Lexicographic.{slice_cmp}
+use Rattle.std.proofs.Common.{◌≡◌, ℕ, zero, suc, ◌+◌, add-one, ◌<◌, true, List, [], ◌∷◌, map, take, length, get_or, refl, sym, ap, subst, ◌∙◌, arith}
 use Rattle.texts.specs.Keys.{is_rising}
 use Rattle.texts.proofs.KeyOrder.{rising-rest}
-use Rattle.serde_json.specs.Data.{Data, item, Members, member, put}
+use Rattle.serde_json.specs.Data.{item, put}
 use Rattle.serde_json.specs.View.{items_of}
-use Rattle.value_json.proofs.Writing.{above}
+use Rattle.value_json.proofs.Writing.{above, put_at}
 use Rattle.lens_forms.specs.Forms.{FormTree}
 use Rattle.lens_core.specs.Complements.{CompTree, nil, comps_of, Fits, AllFit}
 use Rattle.complement_file.specs.ComplementJson.{tree_of_complement, place_items, place_members}
@@ -23,10 +21,6 @@ place_fits l cs i c h is k = subst (Fits l) (sym is) (fits_at (Fits l) cs i nil 
 pub items_of_places : (l : FormTree) (cs : List CompTree) → items_of (map (tree_of_complement l) cs) ≡ place_items (tree_of_complement l) (comps_of cs)
 items_of_places l [] = refl
 items_of_places l (c ∷ cs) = ap (item (tree_of_complement l c)) (items_of_places l cs)
-
--- one more member
-put_at : (k m : List ℕ) (d e : Data) (ms rest : Members) → slice_cmp nat_cmp k m ≡ Greater → put k d ms ≡ rest → put k d (member m e ms) ≡ member m e rest
-put_at k m d e ms rest later is = rw (later, is) refl
 
 put_place_at : (l : FormTree) (ks : List (List ℕ)) (cs : List CompTree) (i : ℕ) (n : List ℕ) (c : CompTree) → i < length ks → i < length cs → is_rising ks ≡ true
     → put (get_or ks i n) (tree_of_complement l (get_or cs i c)) (place_members (tree_of_complement l) (take i ks) (comps_of (take i cs))) ≡ place_members (tree_of_complement l) (take (suc i) ks) (comps_of (take (suc i) cs))

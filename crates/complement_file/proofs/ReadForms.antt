@@ -12,7 +12,6 @@ use Rattle.hold_shapes.specs.declared.shape.Shape.TheVariants.{List as ListOf, K
 use Rattle.doc_values.specs.Types.{FieldTrees}
 use Rattle.value_json.specs.Numbers.{counts_of, count_items}
 use Rattle.value_json.specs.DocumentJson.{member_names}
-use Rattle.value_json.proofs.Facts.{equal, equal_tests, equal_bytes}
 use Rattle.value_json.proofs.ReadingHasTree.{counts_take}
 use Rattle.value_json.proofs.WritingReadsBack.{counts_again}
 use Rattle.lens_forms.specs.Forms.{FormTree, form_then, form_rec, form_alt, form_each, form_keyed, form_ordered, form_part, RowTrees, ArmTrees, no_arms, more_arms}
@@ -22,6 +21,8 @@ use Rattle.complement_file.specs.ComplementJson.{tree_of_complement, tree_in_arm
 use Rattle.complement_file.specs.Reading.{IsComplement, ArePlaces, AreRows, AreTags, nodes_tree, member_contents}
 use Rattle.complement_file.proofs.Arms.{arm_is_there, arm_fits, arm_tree_is}
 use Rattle.complement_file.proofs.ReadPlaces.{names_again, contents_again, members_join, places_many}
+use Rattle.std.proofs.lemmas.Bool.{eqb-true, eq-eqb}
+use Rattle.texts.proofs.Tests.{bytes_eq-is}
 
 same_pair : (n : List ℕ) (a b c d : Data) → one n (two a b) ≡ one n (two c d) → (a ≡ c) × (b ≡ d)
 same_pair n a b c d q = let first : a ≡ c = cc in let second : b ≡ d = cc in (first, second)
@@ -70,7 +71,7 @@ rec_refused rows t ds is none c h = absurd h.0
 -- a complement of the lens that an arm's tag finds fits the alternatives
 fits_step : (t a : List ℕ) (l m : FormTree) (rest : Option FormTree) (c : CompTree) (Rest : Type 0) (k : Bool) → bytes_eq a t ≡ k → cond k (Some m) rest ≡ Some l → Fits l c
     → (rest ≡ Some l → Rest) → ((t ≡ a) × Fits m c) ⊎ Rest
-fits_step t a l m rest c Rest true is e h again = let same : m ≡ l = cc in inl (sym (equal_bytes a t is), subst (λ z. Fits z c) (sym same) h)
+fits_step t a l m rest c Rest true is e h again = let same : m ≡ l = cc in inl (sym (bytes_eq-is a t is), subst (λ z. Fits z c) (sym same) h)
 fits_step t a l m rest c Rest false is e h again = inr (again e)
 
 arm_fits_back : (arms : ArmTrees) (t : List ℕ) (l : FormTree) (c : CompTree) → arm_with arms t ≡ Some l → Fits l c → FitsArm arms t c
@@ -119,7 +120,7 @@ arm_refused arms t d e s l typed is named found none c h = absurd h.0
 
 pub list_found : (l : FormTree) (t : Data) (ds : Items) (cs : CompTrees) (n : ℕ) → one (codes "list") (array ds) ≡ t → ArePlaces l ds cs → n ≡ comp_count cs
     → IsComplement (form_each l) t (hold_comp (ListOf (record { count = n })) cs)
-list_found l t ds cs n is p many = ((equal_tests n (comp_count cs) many, p.0), ap (λ xs. one (codes "list") (array xs)) p.1 ∙ is)
+list_found l t ds cs n is p many = ((eq-eqb n (comp_count cs) many, p.0), ap (λ xs. one (codes "list") (array xs)) p.1 ∙ is)
 
 pub no_list : (l : FormTree) (t : Data) → ((ds : Items) → one (codes "list") (array ds) ≡ t → ⊥) → (c : CompTree) → IsComplement (form_each l) t c → ⊥
 no_list l t none (hold_comp (ListOf s) cs) h = none (place_items (tree_of_complement l) cs) h.1
@@ -140,7 +141,7 @@ pub keyed_found : (l : FormTree) (t : Data) (ms : Members) (keys : List (List �
 keyed_found l t ms keys cs is p rising names =
     let joined = members_join (tree_of_complement l) ms cs p.1 in
     let many : length keys ≡ comp_count cs = ap length names ∙ joined.1 in (
-      (both (is_rising keys) (nat_eq (length keys) (comp_count cs)) rising (equal_tests (length keys) (comp_count cs) many), p.0),
+      (both (is_rising keys) (nat_eq (length keys) (comp_count cs)) rising (eq-eqb (length keys) (comp_count cs) many), p.0),
       ap (λ ks. one (codes "keyed") (object (place_members (tree_of_complement l) ks cs))) names ∙ ap (λ xs. one (codes "keyed") (object xs)) joined.0 ∙ is,
     )
 
@@ -154,7 +155,7 @@ no_keyed l t none c h = absurd h.0
 keyed_parts : (l : FormTree) (ms : Members) (ks : List (List ℕ)) (cs : CompTrees) → IsTrue (is_rising ks && nat_eq (length ks) (comp_count cs)) → place_members (tree_of_complement l) ks cs ≡ ms
     → (is_rising (member_names ms) ≡ true) × (place_items (tree_of_complement l) cs ≡ member_contents ms)
 keyed_parts l ms ks cs shape is =
-    let many = equal (length ks) (comp_count cs) (second (is_rising ks) (nat_eq (length ks) (comp_count cs)) shape) in
+    let many = eqb-true (length ks) (comp_count cs) (second (is_rising ks) (nat_eq (length ks) (comp_count cs)) shape) in
     let names : ks ≡ member_names ms = sym (names_again (tree_of_complement l) ks cs many) ∙ ap member_names is in
     (subst (λ ns. is_rising ns ≡ true) names (first (is_rising ks) (nat_eq (length ks) (comp_count cs)) shape), sym (contents_again (tree_of_complement l) ks cs many) ∙ ap member_contents is)
 
@@ -181,7 +182,7 @@ pub nodes_found : (l : FormTree) (t : Data) (ns ds : Items) (depths nodes : List
 nodes_found l t ns ds depths nodes cs is numbers same valid many p =
     let many_too : length nodes ≡ comp_count cs = ap length same ∙ many in
     let written : count_items nodes ≡ ns = ap count_items same ∙ counts_take ns depths numbers in (
-      (both (is_valid nodes) (nat_eq (length nodes) (comp_count cs)) valid (equal_tests (length nodes) (comp_count cs) many_too), p.0),
+      (both (is_valid nodes) (nat_eq (length nodes) (comp_count cs)) valid (eq-eqb (length nodes) (comp_count cs) many_too), p.0),
       ap₂ nodes_tree written p.1 ∙ is,
     )
 
@@ -203,7 +204,7 @@ nodes_parts l t ns ds is (hold_comp (TreeOf depths) cs) h =
       comps = cs;
       numbers = ap counts_of (sym same.0) ∙ counts_again depths valid;
       valid = valid;
-      many = equal (length depths) (comp_count cs) (second (is_valid depths) (nat_eq (length depths) (comp_count cs)) h.0.0);
+      many = eqb-true (length depths) (comp_count cs) (second (is_valid depths) (nat_eq (length depths) (comp_count cs)) h.0.0);
       places = (h.0.1, same.1);
     }
 nodes_parts l t ns ds is (hold_comp (ListOf s) cs) h = let bad : false ≡ true = h.0.0 in cc

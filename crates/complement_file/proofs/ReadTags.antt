@@ -1,19 +1,19 @@
 -- Reading the tags of a partition's complement: the number of a name.
 use Rattle.std.proofs.Common.{◌≡◌, ℕ, zero, suc, ◌+◌, ◌<◌, Bool, true, false, cond, bytes_eq, List, [], ◌∷◌, ◌++◌, Option, Some, None, option_map, refl, sym, ap, ap₂, subst, ◌∙◌, arith}
 use Rattle.std.specs.Prelude.{nat_lt}
-use Rattle.std.proofs.lemmas.Bool.Decides.{nat_tests}
 use Rattle.texts.proofs.Conjunction.{both, first, second}
 use Rattle.serde_json.specs.Data.{Data, string, Items, no_items, item}
 use Rattle.serde_json.specs.Find.{as_str}
 use Rattle.tag_seq.specs.Tags.{are_below}
-use Rattle.value_json.proofs.Facts.{equal_bytes, same_bytes}
 use Rattle.doc_values.specs.Types.{TyTree, FieldTrees, no_fields, more_fields}
 use Rattle.doc_values.specs.Typing.{lookup_field, later_field}
 use Rattle.lens_core.specs.Tags.{tag_count, tag_name}
 use Rattle.complement_file.specs.ComplementJson.{tag_items}
 use Rattle.complement_file.specs.Reading.{IsTag, AreTags}
-use Rattle.complement_file.proofs.TagNames.{lower}
 use Rattle.complement_file.proofs.ReadSoFar.{NumbersRead, next_number, all_numbers, none_left}
+use Rattle.texts.proofs.Tests.{bytes_eq-is}
+use Rattle.std.proofs.lemmas.Bool.{lt-ltb, ltb-true}
+use Rattle.texts.proofs.KeyOrder.{bytes_eq-refl}
 
 -- ---- one more tag
 
@@ -56,7 +56,7 @@ found_step : (fs : FieldTrees) (m n : List ℕ) (t : TyTree) (rest : Option (ℕ
     → (q.0 < tag_count (more_fields m t fs)) × (tag_name (more_fields m t fs) q.0 ≡ n)
 found_step fs m n t rest q true is e again =
     let zeroth : (0, t) ≡ q = cc in
-    subst (λ (z : ℕ × TyTree). (z.0 < tag_count (more_fields m t fs)) × (tag_name (more_fields m t fs) z.0 ≡ n)) zeroth (omega arith, equal_bytes m n is)
+    subst (λ (z : ℕ × TyTree). (z.0 < tag_count (more_fields m t fs)) × (tag_name (more_fields m t fs) z.0 ≡ n)) zeroth (omega arith, bytes_eq-is m n is)
 found_step fs m n t None q false is e again = cc
 found_step fs m n t (Some p) q false is e again =
     let later : later_field 1 p ≡ q = cc in
@@ -73,7 +73,7 @@ tag_found (more_fields m t fs) n q e = found_step fs m n t (lookup_field fs n) q
 absent_step : (fs : FieldTrees) (m n : List ℕ) (t : TyTree) (rest : Option (ℕ × TyTree)) (k : Bool) → bytes_eq m n ≡ k → cond k (Some (0, t)) (option_map (later_field 1) rest) ≡ None
     → (m ≡ n → ⊥) × (rest ≡ None)
 absent_step fs m n t rest true is e = cc
-absent_step fs m n t None false is e = (λ same. let yes : bytes_eq m n ≡ true = subst (λ z. bytes_eq m z ≡ true) same (same_bytes m) in cc, refl)
+absent_step fs m n t None false is e = (λ same. let yes : bytes_eq m n ≡ true = subst (λ z. bytes_eq m z ≡ true) same (bytes_eq-refl m) in cc, refl)
 absent_step fs m n t (Some p) false is e = cc
 
 pub tag_absent : (fs : FieldTrees) (n : List ℕ) (k : ℕ) → lookup_field fs n ≡ None → k < tag_count fs → tag_name fs k ≡ n → ⊥
@@ -83,14 +83,11 @@ tag_absent (more_fields m t fs) n (suc k) e h is = tag_absent fs n k (absent_ste
 
 -- ---- the tag that a text names
 
-higher : (a b : ℕ) → a < b → nat_lt a b ≡ true
-higher a b h = grind (arith, nat_tests)
-
 pub is_tag : (fs : FieldTrees) (d : Data) (n : List ℕ) (q : ℕ × TyTree) → Some n ≡ as_str d → lookup_field fs n ≡ Some q → IsTag fs d q.0
 is_tag fs (string m) n q named found =
     let text : n ≡ m = cc in
     let p = tag_found fs n q found in
-    (higher q.0 (tag_count fs) p.0, ap string (p.1 ∙ text))
+    (lt-ltb q.0 (tag_count fs) p.0, ap string (p.1 ∙ text))
 is_tag fs d n q named found = cc
 
 pub no_text : (fs : FieldTrees) (d : Data) → None ≡ as_str d → (k : ℕ) → IsTag fs d k → ⊥
@@ -100,4 +97,4 @@ pub no_tag : (fs : FieldTrees) (d : Data) (n : List ℕ) → Some n ≡ as_str d
 no_tag fs d n named none k h =
     let same : Some n ≡ Some (tag_name fs k) = named ∙ ap as_str (sym h.1) in
     let text : n ≡ tag_name fs k = cc in
-    tag_absent fs n k none (lower k (tag_count fs) h.0) (sym text)
+    tag_absent fs n k none (ltb-true k (tag_count fs) h.0) (sym text)

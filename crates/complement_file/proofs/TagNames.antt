@@ -1,7 +1,6 @@
 -- The names of tags by their numbers, in the lists that the code reads.
 use Rattle.std.proofs.Common.{◌≡◌, ℕ, zero, suc, ◌<◌, true, List, [], ◌∷◌, length, map, refl, ap, arith}
 use Rattle.std.specs.Prelude.{nat_lt, slice_index}
-use Rattle.std.proofs.lemmas.Bool.Decides.{nat_tests}
 use Rattle.texts.proofs.Conjunction.{first, second}
 use Rattle.serde_json.specs.Data.{Data, string, item}
 use Rattle.serde_json.specs.View.{items_of}
@@ -11,13 +10,11 @@ use Rattle.doc_values.specs.declared.ty.Ty.{Ty}
 use Rattle.lens_core.specs.Tags.{tag_count, tag_name}
 use Rattle.lens_core.proofs.Tags.{tag_count-length}
 use Rattle.complement_file.specs.ComplementJson.{tag_items}
-
-pub lower : (a b : ℕ) → nat_lt a b ≡ true → a < b
-lower a b h = grind (arith, nat_tests)
+use Rattle.std.proofs.lemmas.Bool.{ltb-true}
 
 below_at : (bound : ℕ) (ks : List ℕ) (i : ℕ) → i < length ks → are_below bound ks ≡ true → slice_index ks i < bound
 below_at bound [] i h b = absurd (omega arith)
-below_at bound (k ∷ ks) zero h b = lower k bound (first (nat_lt k bound) _ b)
+below_at bound (k ∷ ks) zero h b = ltb-true k bound (first (nat_lt k bound) _ b)
 below_at bound (k ∷ ks) (suc i) h b = below_at bound ks i (omega arith) (second (nat_lt k bound) _ b)
 
 -- the number at a place is that of a tag

@@ -8,6 +8,7 @@ use Rattle.value_json.specs.Parts.{two_members}
 use Rattle.value_json.proofs.Shapes.{is_array}
 use Rattle.complement_file.specs.ComplementJson.{one}
 use Rattle.complement_file.specs.Reading.{HasContent, HasArray, HasPair, HasNodes}
+use Rattle.texts.proofs.Tests.{true_by_not}
 
 -- ---- two items
 
@@ -51,10 +52,6 @@ nodes_found_in t c k l d e ns ds is members first second depths items =
 
 -- ---- two texts
 
-not_differing : (b : Bool) → false ≡ not b → b ≡ true
-not_differing true h = refl
-not_differing false h = cc
-
 -- two texts whose `!=` answered no
 pub same_texts : (r : Bool) (x y a b : List ℕ) → r ≡ false → r ≡ not (bytes_eq x y) → x ≡ a → y ≡ b → bytes_eq a b ≡ true
-same_texts r x y a b unequal is first second = rw (← first, ← second) (not_differing (bytes_eq x y) (sym unequal ∙ is))
+same_texts r x y a b unequal is first second = rw (← first, ← second) (true_by_not (bytes_eq x y) (sym unequal ∙ is))

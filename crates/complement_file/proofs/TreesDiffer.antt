@@ -9,7 +9,6 @@ use Rattle.doc_values.specs.Types.{FieldTrees, no_fields, more_fields, names_of,
 use Rattle.doc_values.proofs.DistinctNames.{are_choices-distinct}
 use Rattle.value_json.specs.Numbers.{count_items}
 use Rattle.value_json.specs.DocumentJson.{member_names}
-use Rattle.value_json.proofs.Facts.{equal}
 use Rattle.value_json.proofs.TreesDiffer.{counts_apart}
 use Rattle.lens_forms.specs.Forms.{FormTree, form_id, form_bij, form_disc, form_then, form_rec, form_alt, form_each, form_keyed, form_ordered, form_part, form_inv, RowTrees, no_rows, both, only_left, only_right, ArmTrees, no_arms, more_arms, right_type, left_type}
 use Rattle.lens_forms.specs.Typing.{is_typed, are_typed_rows, are_typed_arms, left_names, right_names, left_arms, right_arms}
@@ -18,9 +17,9 @@ use Rattle.lens_core.specs.Complements.{CompTree, nil, then_comp, rec_comp, alt_
 use Rattle.lens_core.proofs.Tags.{tag_name-among}
 use Rattle.complement_file.specs.ComplementJson.{tree_of_complement, row_items, tree_in_arm, arm_with, place_items, place_members, tag_items}
 use Rattle.complement_file.specs.Reading.{member_contents}
-use Rattle.complement_file.proofs.Arms.{not_true, found_step, arm_is_there, arm_fits, arm_tree_is}
-use Rattle.complement_file.proofs.TagNames.{lower}
+use Rattle.complement_file.proofs.Arms.{found_step, arm_is_there, arm_fits, arm_tree_is}
 use Rattle.complement_file.proofs.ReadPlaces.{names_again, contents_again}
+use Rattle.std.proofs.lemmas.Bool.{not-true, eqb-true, ltb-true}
 
 -- complements of the form with the same tree are the same
 abbrev IsApart : FormTree → Type 0
@@ -46,15 +45,15 @@ list_apart : (l : FormTree) → IsApart l → (m n : ℕ) (cs ds : CompTrees) �
     → place_items (tree_of_complement l) cs ≡ place_items (tree_of_complement l) ds → hold_comp (ListOf (record { count = m })) cs ≡ hold_comp (ListOf (record { count = n })) ds
 list_apart l apart m n cs ds a b h k q =
     let same = places_apart l apart cs ds h k q in
-    let many : m ≡ n = equal m (comp_count cs) a ∙ ap comp_count same ∙ sym (equal n (comp_count ds) b) in
+    let many : m ≡ n = eqb-true m (comp_count cs) a ∙ ap comp_count same ∙ sym (eqb-true n (comp_count ds) b) in
     ap₂ (λ c xs. hold_comp (ListOf (record { count = c })) xs) many same
 
 keyed_apart : (l : FormTree) → IsApart l → (js ks : List (List ℕ)) (cs ds : CompTrees) → (is_rising js && nat_eq (length js) (comp_count cs)) ≡ true → (is_rising ks && nat_eq (length ks) (comp_count ds)) ≡ true
     → AllFit (Fits l) cs → AllFit (Fits l) ds → place_members (tree_of_complement l) js cs ≡ place_members (tree_of_complement l) ks ds → hold_comp (KeyedOf js) cs ≡ hold_comp (KeyedOf ks) ds
 keyed_apart l apart js ks cs ds a b h k q =
     let tree = tree_of_complement l in
-    let m = equal (length js) (comp_count cs) (right (is_rising js) (nat_eq (length js) (comp_count cs)) a) in
-    let n = equal (length ks) (comp_count ds) (right (is_rising ks) (nat_eq (length ks) (comp_count ds)) b) in
+    let m = eqb-true (length js) (comp_count cs) (right (is_rising js) (nat_eq (length js) (comp_count cs)) a) in
+    let n = eqb-true (length ks) (comp_count ds) (right (is_rising ks) (nat_eq (length ks) (comp_count ds)) b) in
     let names : js ≡ ks = sym (names_again tree js cs m) ∙ ap member_names q ∙ names_again tree ks ds n in
     let items : place_items tree cs ≡ place_items tree ds = sym (contents_again tree js cs m) ∙ ap member_contents q ∙ contents_again tree ks ds n in
     ap₂ (λ x y. hold_comp (KeyedOf x) y) names (places_apart l apart cs ds h k items)
@@ -68,9 +67,9 @@ number_apart : (fs : FieldTrees) (j k : ℕ) → are_distinct (names_of fs) ≡ 
 number_apart no_fields j k d h i q = absurd (omega arith)
 number_apart (more_fields n t fs) zero zero d h i q = refl
 number_apart (more_fields n t fs) zero (suc k) d h i q =
-    absurd (not_among n fs k (not_true (has_name n (names_of fs)) (left (not (has_name n (names_of fs))) (are_distinct (names_of fs)) d)) (omega arith) q)
+    absurd (not_among n fs k (not-true (has_name n (names_of fs)) (left (not (has_name n (names_of fs))) (are_distinct (names_of fs)) d)) (omega arith) q)
 number_apart (more_fields n t fs) (suc j) zero d h i q =
-    absurd (not_among n fs j (not_true (has_name n (names_of fs)) (left (not (has_name n (names_of fs))) (are_distinct (names_of fs)) d)) (omega arith) (sym q))
+    absurd (not_among n fs j (not-true (has_name n (names_of fs)) (left (not (has_name n (names_of fs))) (are_distinct (names_of fs)) d)) (omega arith) (sym q))
 number_apart (more_fields n t fs) (suc j) (suc k) d h i q =
     ap suc (number_apart fs j k (right (not (has_name n (names_of fs))) (are_distinct (names_of fs)) d) (omega arith) (omega arith) q)
 
@@ -82,7 +81,7 @@ tags_apart fs (j ∷ js) (k ∷ ks) d h i q =
     let this : tag_name fs j ≡ tag_name fs k = cc in
     let rest : tag_items fs js ≡ tag_items fs ks = cc in
     ap₂ (λ x xs. x ∷ xs)
-    (number_apart fs j k d (lower j (tag_count fs) (left (nat_lt j (tag_count fs)) (are_below (tag_count fs) js) h)) (lower k (tag_count fs) (left (nat_lt k (tag_count fs)) (are_below (tag_count fs) ks) i)) this)
+    (number_apart fs j k d (ltb-true j (tag_count fs) (left (nat_lt j (tag_count fs)) (are_below (tag_count fs) js) h)) (ltb-true k (tag_count fs) (left (nat_lt k (tag_count fs)) (are_below (tag_count fs) ks) i)) this)
     (tags_apart fs js ks d (right (nat_lt j (tag_count fs)) (are_below (tag_count fs) js) h) (right (nat_lt k (tag_count fs)) (are_below (tag_count fs) ks) i) rest)
 
 -- ---- alternatives

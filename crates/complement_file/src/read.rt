@@ -4,8 +4,9 @@ ghost use Rattle.std.specs.Prelude.{◌≡◌, ◌+◌, ◌≤◌, IfOk, IsErrOf
 ghost use Rattle.serde_json.specs.View.{view, items_view, members_view};
 ghost use Rattle.value_json.specs.DocumentJson.{member_names};
 ghost use Rattle.lens_forms.specs.Forms.{form_tree, rows_tree, arms_tree, form_then, form_rec, form_alt, form_each, form_keyed, form_ordered};
-ghost use Rattle.lens_forms.specs.Measures.{form_parts, rows_parts, arms_parts, most_parts};
+ghost use Rattle.lens_forms.specs.Measures.{form_parts, rows_parts, arms_parts};
 ghost use Rattle.lens_forms.specs.Typing.{is_typed, are_typed_rows};
+ghost use Rattle.lens_forms.specs.declared.limits.TheConstants.{MOST_PARTS};
 ghost use Rattle.lens_core.specs.Complements.{CompTree, comp_tree, comps_tree, Fits};
 ghost use Rattle.complement_file.specs.ComplementJson.{tree_of_complement};
 ghost use Rattle.complement_file.specs.Reading.{Finds, IsNothing, IsComplement, ArePlaces, AreRows, member_contents};
@@ -49,7 +50,7 @@ pub fn read_comp(alloc: Global, typed: &Typed, tree: &Value) -> Result<Comp, Com
 #[cycle(read)]
 fn read(alloc: Global, form: &Form, tree: &Value) -> Result<Comp, CompFault>
     requires typed { IsTrue (is_typed (form_tree form.now)) }
-    requires small { form_parts (form_tree form.now) ≤ most_parts }
+    requires small { form_parts (form_tree form.now) ≤ MOST_PARTS }
     ensures { Finds (IsComplement (form_tree form.now) (view tree.now)) comp_tree result }
 {
     match form {
@@ -81,7 +82,7 @@ fn read_nothing(tree: &Value) -> Result<Comp, CompFault>
 fn read_pair(alloc: Global, first: &Form, second: &Form, tree: &Value) -> Result<Comp, CompFault>
     requires typed { IsTrue (is_typed (form_tree first.now)) }
     requires also { IsTrue (is_typed (form_tree second.now)) }
-    requires small { form_parts (form_tree first.now) + form_parts (form_tree second.now) ≤ most_parts }
+    requires small { form_parts (form_tree first.now) + form_parts (form_tree second.now) ≤ MOST_PARTS }
     ensures { Finds (IsComplement (form_then (form_tree first.now) (form_tree second.now)) (view tree.now)) comp_tree result }
 {
     let Some((one, other)) = pair_in(tree, "then") else {
@@ -95,7 +96,7 @@ fn read_pair(alloc: Global, first: &Form, second: &Form, tree: &Value) -> Result
 #[cycle(read)]
 fn read_record(alloc: Global, rows: &FormRows, tree: &Value) -> Result<Comp, CompFault>
     requires typed { IsTrue (are_typed_rows (rows_tree rows.now)) }
-    requires small { rows_parts (rows_tree rows.now) ≤ most_parts }
+    requires small { rows_parts (rows_tree rows.now) ≤ MOST_PARTS }
     ensures { Finds (IsComplement (form_rec (rows_tree rows.now)) (view tree.now)) comp_tree result }
 {
     let Some(items) = array_in(tree, "rec") else {
@@ -108,7 +109,7 @@ fn read_record(alloc: Global, rows: &FormRows, tree: &Value) -> Result<Comp, Com
 #[cycle(read)]
 fn read_rows(alloc: Global, rows: &FormRows, items: &[Value]) -> Result<Comps, CompFault>
     requires typed { IsTrue (are_typed_rows (rows_tree rows.now)) }
-    requires small { rows_parts (rows_tree rows.now) ≤ most_parts }
+    requires small { rows_parts (rows_tree rows.now) ≤ MOST_PARTS }
     ensures { Finds (AreRows (rows_tree rows.now) (items_view items.now)) comps_tree result }
 {
     let mut comps = Vec::new(alloc);
@@ -136,7 +137,7 @@ fn read_rows(alloc: Global, rows: &FormRows, items: &[Value]) -> Result<Comps, C
 #[cycle(read)]
 fn read_tagged(alloc: Global, arms: &FormArms, tree: &Value) -> Result<Comp, CompFault>
     requires typed { IsTrue (is_typed (form_alt (arms_tree arms.now))) }
-    requires small { arms_parts (arms_tree arms.now) ≤ most_parts }
+    requires small { arms_parts (arms_tree arms.now) ≤ MOST_PARTS }
     ensures { Finds (IsComplement (form_alt (arms_tree arms.now)) (view tree.now)) comp_tree result }
 {
     let Some((tag, content)) = pair_in(tree, "alt") else {
@@ -156,7 +157,7 @@ fn read_tagged(alloc: Global, arms: &FormArms, tree: &Value) -> Result<Comp, Com
 #[cycle(read)]
 fn read_list(alloc: Global, inner: &Form, tree: &Value) -> Result<Comp, CompFault>
     requires typed { IsTrue (is_typed (form_tree inner.now)) }
-    requires small { form_parts (form_tree inner.now) ≤ most_parts }
+    requires small { form_parts (form_tree inner.now) ≤ MOST_PARTS }
     ensures { Finds (IsComplement (form_each (form_tree inner.now)) (view tree.now)) comp_tree result }
 {
     let Some(items) = array_in(tree, "list") else {
@@ -170,7 +171,7 @@ fn read_list(alloc: Global, inner: &Form, tree: &Value) -> Result<Comp, CompFaul
 #[cycle(read)]
 fn read_keyed(alloc: Global, inner: &Form, tree: &Value) -> Result<Comp, CompFault>
     requires typed { IsTrue (is_typed (form_tree inner.now)) }
-    requires small { form_parts (form_tree inner.now) ≤ most_parts }
+    requires small { form_parts (form_tree inner.now) ≤ MOST_PARTS }
     ensures { Finds (IsComplement (form_keyed (form_tree inner.now)) (view tree.now)) comp_tree result }
 {
     let Some(members) = object_in(tree, "keyed") else {
@@ -186,7 +187,7 @@ fn read_keyed(alloc: Global, inner: &Form, tree: &Value) -> Result<Comp, CompFau
 #[cycle(read)]
 fn read_nodes(alloc: Global, inner: &Form, tree: &Value) -> Result<Comp, CompFault>
     requires typed { IsTrue (is_typed (form_tree inner.now)) }
-    requires small { form_parts (form_tree inner.now) ≤ most_parts }
+    requires small { form_parts (form_tree inner.now) ≤ MOST_PARTS }
     ensures { Finds (IsComplement (form_ordered (form_tree inner.now)) (view tree.now)) comp_tree result }
 {
     let Some((depths, items)) = nodes_in(tree) else {
@@ -224,7 +225,7 @@ fn read_contents(
     members: &Map<String, Value>,
 ) -> Result<Comps, CompFault>
     requires typed { IsTrue (is_typed (form_tree inner.now)) }
-    requires small { form_parts (form_tree inner.now) ≤ most_parts }
+    requires small { form_parts (form_tree inner.now) ≤ MOST_PARTS }
     ensures { Finds (ArePlaces (form_tree inner.now) (member_contents (members_view members.now.entries))) comps_tree result }
 {
     let mut comps = Vec::new(alloc);
@@ -238,7 +239,7 @@ fn read_contents(
 #[cycle(read)]
 fn read_places(alloc: Global, inner: &Form, items: &[Value]) -> Result<Comps, CompFault>
     requires typed { IsTrue (is_typed (form_tree inner.now)) }
-    requires small { form_parts (form_tree inner.now) ≤ most_parts }
+    requires small { form_parts (form_tree inner.now) ≤ MOST_PARTS }
     ensures { Finds (ArePlaces (form_tree inner.now) (items_view items.now)) comps_tree result }
 {
     let mut comps = Vec::new(alloc);

@@ -21,7 +21,7 @@ use serde_json::{Map, Value, put};
 use shared_lists::SharedList;
 use std::alloc::{AllocError, Global};
 use texts::Name;
-use value_json::write_text;
+use value_json::{write_depths, write_text};
 
 /// The tree of a complement of a lens; the page docs/FORMATS.md says which tree this is.
 ///
@@ -210,16 +210,4 @@ fn write_nodes(
         write_places(alloc, inner, comps)?,
     )?;
     Ok(Value::Object(members))
-}
-
-// The array of these depths.
-fn write_depths(alloc: Global, depths: &SharedList<u64>) -> Result<Value, AllocError>
-    ensures { IfOk result (λ tree. view tree ≡ array (count_items depths.now)) }
-{
-    let count = depths.len();
-    let mut items = Vec::with_capacity(alloc, count)?;
-    for i in 0..count {
-        items.push(Value::from(*depths.get(i)))?;
-    }
-    Ok(Value::Array(items))
 }

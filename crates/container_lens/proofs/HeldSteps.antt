@@ -1,5 +1,5 @@
 -- The two steps of a container's translation: with the lens inside they are its row; and what a beginning says of its primitive.
-use Rattle.std.proofs.Common.{◌≡◌, ℕ, Bool, true, false, List, map, Option, None, Some, option_map, Ok, refl, sym, subst, arith}
+use Rattle.std.proofs.Common.{◌≡◌, ℕ, Bool, true, false, List, map, Option, None, Some, option_map, Ok, refl, arith}
 use Rattle.std.specs.Prelude.{option_and_then, nat_eq, if◌then◌else◌}
 use Rattle.std.proofs.lemmas.Bool.Decides.{nat_tests}
 use Rattle.texts.specs.declared.side.Side.{Side}
@@ -119,11 +119,6 @@ pub begun_is_counted : (s : Shape) (cs : CompTrees) (p : PrimitiveTree) → HasB
 begun_is_counted s cs p h =
     let e = (inside_if (nat_eq (comp_count cs) (size_of s)) (begin_row h.0 s cs p) h.1).0 in
     grind (arith, nat_tests)
-
--- the condition of the finish, from what the beginning answered
-pub begins_inside : (start : CompTree) (s : Shape) (cs : CompTrees) (p : PrimitiveTree) (i : ℕ) (c : CompTree) (w : WordTree)
-    → begin_held start s cs p ≡ Some (inside i c w) → HasBegun s cs p
-begins_inside start s cs p i c w e = (start, subst (λ o. IsInside o) (sym e) tt)
 
 pub ruleset begun_rules = (begun_is_mod, begun_has_place, begun_is_counted)
 

@@ -2,8 +2,8 @@
 ghost use Rattle.std.specs.Prelude.{◌≡◌, ◌<◌, All};
 
 use lens_io::{
-    Bytes, Disk, Failed, GiveFault, MemDisk, MemSink, MemSource, RealDisk, RealSink, RealSource,
-    Sink, SureDisk, SureSink, SureSource, TakeFault, give_all, take_all,
+    Access, Bytes, Disk, Failed, GiveFault, MemDisk, MemSink, MemSource, RealDisk, RealSink,
+    RealSource, Sink, SureDisk, SureSink, SureSource, TakeFault, give_all, take_all,
 };
 use std::alloc::{AllocError, Global};
 use std::fs;
@@ -169,21 +169,52 @@ fn a_file_is_a_disk(rt: HostRuntime) -> Result<(), Fail> {
     const FILE: &str = "devices_tests_folder/file";
     let _ = fs::remove_file(&rt, FILE);
     let _ = fs::create_dir(&rt, FOLDER);
-    let mut disk = RealDisk::new(&rt, FILE);
+    let mut disk = RealDisk::new(&rt, FILE, Access::Writing);
     let mut read = [0; 3];
     assert_eq!(rt; disk.len(), Ok(0));
     assert_eq!(rt; disk.sync(), Ok(()));
     assert_eq!(rt; disk.read_at(0, &mut read), Err(Failed));
     assert_eq!(rt; disk.write_at(2, b"cd"), Ok(()));
     assert_eq!(rt; disk.sync(), Ok(()));
-    let mut again = RealDisk::new(&rt, FILE);
+    let mut again = RealDisk::new(&rt, FILE, Access::Reading);
     assert_eq!(rt; again.len(), Ok(4));
     assert_eq!(rt; again.read_at(1, &mut read), Ok(()));
     assert_eq!(rt; read, *b"\0cd");
     assert_eq!(rt; again.read_at(2, &mut read), Err(Failed));
-    assert_eq!(rt; RealDisk::new(&rt, FOLDER).len(), Err(Failed));
+    assert_eq!(rt;
+        RealDisk::new(&rt, FOLDER, Access::Reading).len(),
+        Err(Failed)
+    );
+    drop(disk);
     fs::remove_file(&rt, FILE)?;
     fs::remove_dir(&rt, FOLDER)?;
-    assert_eq!(rt; RealDisk::new(&rt, FILE).write_at(0, b"a"), Err(Failed));
+    let mut late = RealDisk::new(&rt, FILE, Access::Writing);
+    assert_eq!(rt; late.write_at(0, b"a"), Err(Failed));
+    Ok(())
+}
+
+// A disk that writes keeps others that write out of its folder as long as it lives. One that reads is let in, and writes nothing.
+#[test]
+fn one_disk_writes(rt: HostRuntime) -> Result<(), Fail> {
+    const FOLDER: &str = "devices_tests_lock";
+    const FILE: &str = "devices_tests_lock/file";
+    let _ = fs::remove_file(&rt, FILE);
+    let _ = fs::create_dir(&rt, FOLDER);
+    let mut first = RealDisk::new(&rt, FILE, Access::Writing);
+    let mut second = RealDisk::new(&rt, FILE, Access::Writing);
+    let mut reader = RealDisk::new(&rt, FILE, Access::Reading);
+    assert_eq!(rt; reader.write_at(0, b"a"), Err(Failed));
+    assert_eq!(rt; first.len(), Ok(0));
+    assert_eq!(rt; second.len(), Err(Failed));
+    assert_eq!(rt; second.write_at(0, b"a"), Err(Failed));
+    assert_eq!(rt; first.write_at(0, b"bc"), Ok(()));
+    assert_eq!(rt; reader.len(), Ok(2));
+    assert_eq!(rt; reader.write_at(0, b"a"), Err(Failed));
+    assert_eq!(rt; reader.sync(), Ok(()));
+    drop(first);
+    assert_eq!(rt; second.len(), Ok(2));
+    drop(second);
+    fs::remove_file(&rt, FILE)?;
+    fs::remove_dir(&rt, FOLDER)?;
     Ok(())
 }

@@ -21,3 +21,4 @@ pub use crate::initial::init;
 pub use crate::iter::Iter;
 pub use crate::names::has_text;
 pub use crate::ty::{Fields, Ty};
+pub use crate::typing::{is_keyed_of, is_list_of, is_tree_of};

@@ -67,7 +67,8 @@ fn fit_each(ty: &Ty, docs: &Docs) -> bool
     true
 }
 
-fn is_list_of(shape: &Shape, count: usize) -> bool
+/// Whether the shape is that of a list with this number of items.
+pub fn is_list_of(shape: &Shape, count: usize) -> bool
     ensures { result ≡ is_list_of shape.now count }
 {
     match shape {
@@ -77,8 +78,8 @@ fn is_list_of(shape: &Shape, count: usize) -> bool
     }
 }
 
-// The names of a keyed shape are strictly rising by its type.
-fn is_keyed_of(shape: &Shape, count: usize) -> bool
+/// Whether the shape is that of a keyed map with this number of keys, which rise strictly by the type of a shape.
+pub fn is_keyed_of(shape: &Shape, count: usize) -> bool
     ensures { result ≡ is_keyed_of shape.now count }
 {
     match shape {
@@ -88,8 +89,8 @@ fn is_keyed_of(shape: &Shape, count: usize) -> bool
     }
 }
 
-// The depths of a tree shape are those of a tree by its type.
-fn is_tree_of(shape: &Shape, count: usize) -> bool
+/// Whether the shape is that of a tree with this number of nodes, whose depths are a tree's by the type of a shape.
+pub fn is_tree_of(shape: &Shape, count: usize) -> bool
     ensures { result ≡ is_tree_of shape.now count }
 {
     match shape {

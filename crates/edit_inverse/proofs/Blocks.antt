@@ -5,10 +5,12 @@ use Rattle.std.proofs.lemmas.Bool.Decides.{nat_tests}
 use Rattle.std.proofs.lemmas.List.{length-append, length-take, length-drop, drop-drop}
 use Rattle.hold_shapes.specs.Trees.{child, child_from, children_of, end_of, descendants}
 use Rattle.hold_shapes.specs.Plans.{insert_part, remove_part, move_part, place_for_child}
-use Rattle.hold_shapes.proofs.ValidDepths.{Low, HeadAtMost, PutOk, above-end, end-zero, end-suc}
+use Rattle.hold_shapes.proofs.ValidDepths.{Low, HeadAtMost, PutOk, end-zero, end-suc}
 use Rattle.hold_shapes.proofs.ChildPlaces.{child-at}
 use Rattle.shape_laws.proofs.Children.{within-descendants, before-part}
 use Rattle.shape_laws.proofs.OtherChildren.{IsSlot, slot-left, put-back-same, length-between}
+use Rattle.shape_laws.proofs.Lawful.{past}
+use Rattle.shape_laws.proofs.Parents.{next}
 
 -- ---- a part put into a list and taken out again
 
@@ -63,26 +65,10 @@ length-inserted t p xs q ys e k =
 
 -- ---- where a subtree ends
 
-past : (ds : List ℕ) (p : ℕ) → p ≤ end_of ds p
-past ds p = let a = above-end ds p in omega arith
-
--- the node behind a subtree is not deeper than its root
-after-step : (t : Bool) (d e : ℕ) (es : List ℕ) → nat_lt d e ≡ t → HeadAtMost d (drop (descendants d es) es) → HeadAtMost d (drop (if t then suc (descendants d es) else 0) (e ∷ es))
-after-step true d e es h f = f
-after-step false d e es h f = grind (arith, nat_tests)
-
-pub after-all : (d : ℕ) (es : List ℕ) → HeadAtMost d (drop (descendants d es) es)
-after-all d [] = tt
-after-all d (e ∷ es) = after-step (nat_lt d e) d e es refl (after-all d es)
-
 pub head-after : (ds : List ℕ) (c : ℕ) → c < length ds → HeadAtMost (get_or ds c 0) (drop (end_of ds c) ds)
 head-after [] c h = absurd (omega arith)
-head-after (d ∷ ds) zero h = rw (end-zero d ds) (after-all d ds)
+head-after (d ∷ ds) zero h = rw (end-zero d ds) (next d ds)
 head-after (d ∷ ds) (suc c) h = rw (end-suc d ds c) (head-after ds c (omega arith))
-
-pub low-head : (c d : ℕ) (ds : List ℕ) → c ≤ d → HeadAtMost c ds → HeadAtMost d ds
-low-head c d [] h k = tt
-low-head c d (e ∷ ds) h k = omega arith
 
 pub put-head : (c b : ℕ) (ds : List ℕ) (t : ℕ) → PutOk c b ds t → HeadAtMost c (drop t ds)
 put-head c b ds zero ok = ok.1

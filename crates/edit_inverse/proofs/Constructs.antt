@@ -4,7 +4,6 @@ use Rattle.std.specs.Prelude.{IfOk, if◌then◌else◌, not, bytes_eq}
 use Rattle.std.specs.Ordering.{int_eq}
 use Rattle.std.proofs.lemmas.List.{append-nil, append_assoc, length-append}
 use Rattle.std.proofs.lemmas.Bool.Decides.{Decides-int_eq}
-use Rattle.std.proofs.lemmas.Slice.Eq.{bytes_eq-Decides}
 use Rattle.std.proofs.Math.Seq.{get_or-append_seam}
 use Rattle.hold_shapes.specs.declared.shape.Shape.{Shape}
 use Rattle.hold_shapes.specs.declared.shape.Shape.TheVariants.{List as ListOf, Keyed as KeyedOf, Tree as TreeOf}
@@ -35,6 +34,7 @@ use Rattle.edit_inverse.specs.Construct.{construct, construct_fields, construct_
 use Rattle.edit_inverse.specs.Paths.{paths, paths_after}
 use Rattle.edit_inverse.proofs.Acts.{acts-only, acts-unless, acts-there, acts-same, set-seam}
 use Rattle.edit_inverse.proofs.Fills.{Built, fill-acts, insertions-act, put-acts, graft-acts}
+use Rattle.texts.proofs.Tests.{bytes_eq-is_back}
 
 -- ---- values
 
@@ -45,9 +45,6 @@ set-unless-acts false t a v u f h = acts-only t (set_to a) v u h
 not-true : (b : Bool) → not b ≡ true → false ≡ b
 not-true true h = cc
 not-true false h = refl
-
-same-name : (n m : List ℕ) → bytes_eq n m ≡ true → m ≡ n
-same-name n m h = sym ((bytes_eq-Decides n m).0 h)
 
 same-int : (n z : ℤ) → int_eq n z ≡ true → z ≡ n
 same-int n z h = sym ((Decides-int_eq n z).0 h)
@@ -152,7 +149,7 @@ tag-step : (b : Bool) (n a : List ℕ) (t1 t : TyTree) (fs : FieldTrees) (w : Wo
     → act (ty_alt (more_fields n t1 fs)) (if b then unless_empty (stay n) w no_primitives else only (switch n a w)) (alt n (initial t1)) ≡ Ok (alt a y)
 tag-step true n a t1 t fs w y h e acts =
     let gs = more_fields n t1 fs in
-    let same : a ≡ n = same-name n a h in
+    let same : a ≡ n = bytes_eq-is_back n a h in
     let here : lookup_type gs n ≡ Some t1 = rw (bytes_eq-refl n) refl in
     let L : List ℕ → Type 0 = λ m. lookup_type gs m ≡ Some t in
     let one : Some t1 ≡ Some t = sym here ∙ subst L same e in
@@ -233,8 +230,8 @@ mutual
   construct-acts unit ty_unit wf h = refl
   construct-acts (truth b) ty_bool wf h = set-unless-acts (not b) ty_bool (Truth b) (truth false) (truth b) (λ e. ap truth (not-true b e)) refl
   construct-acts (int n) (ty_int z) wf h = set-unless-acts (int_eq n z) (ty_int z) (Number n) (int z) (int n) (λ e. ap int (same-int n z e)) refl
-  construct-acts (text s) (ty_text z) wf h = set-unless-acts (bytes_eq s z) (ty_text z) (Letters s) (text z) (text s) (λ e. ap text (same-name s z e)) refl
-  construct-acts (pick n) (ty_enum ms z) wf h = set-unless-acts (bytes_eq n z) (ty_enum ms z) (Letters n) (pick z) (pick n) (λ e. ap pick (same-name n z e)) (rw h refl)
+  construct-acts (text s) (ty_text z) wf h = set-unless-acts (bytes_eq s z) (ty_text z) (Letters s) (text z) (text s) (λ e. ap text (bytes_eq-is_back s z e)) refl
+  construct-acts (pick n) (ty_enum ms z) wf h = set-unless-acts (bytes_eq n z) (ty_enum ms z) (Letters n) (pick z) (pick n) (λ e. ap pick (bytes_eq-is_back n z e)) (rw h refl)
   construct-acts (rec ds) (ty_rec fs) wf h =
       record-acts fs ds (construct_fields fs ds) (first (is_rising (names_of fs)) (are_well_formed fs) wf) (fields-built ds fs (second (is_rising (names_of fs)) (are_well_formed fs) wf) h)
   construct-acts (alt a v) (ty_alt fs) wf h =

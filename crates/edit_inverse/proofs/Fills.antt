@@ -16,6 +16,7 @@ use Rattle.hold_shapes.specs.Gather.{content_at}
 use Rattle.hold_shapes.specs.Shapes.{place_of}
 use Rattle.hold_shapes.specs.Plans.{list_of, is_count, old_places, put_key}
 use Rattle.hold_shapes.proofs.ValidDepths.{GoesOn, Low, HeadAtMost}
+use Rattle.hold_shapes.specs.declared.lists.TheConstants.{MOST_ITEMS}
 use Rattle.texts.specs.Keys.{is_rising, all_after, is_before, rank, key_place}
 use Rattle.texts.proofs.Conjunction.{both}
 use Rattle.texts.proofs.KeyOrder.{bytes_eq-refl, rising-first, rising-rest, after-all, key_place-past, key_place-found}
@@ -40,12 +41,6 @@ Built t [] [] = Unit {0}
 Built t [] (y ∷ ys) = ⊥
 Built t (w ∷ ws) [] = ⊥
 Built t (w ∷ ws) (y ∷ ys) = (act t w (initial t) ≡ Ok y) × Built t ws ys
-
-pub built-length : (t : TyTree) (ws : List WordTree) (ys : List DocTree) → Built t ws ys → length ws ≡ length ys
-built-length t [] [] b = refl
-built-length t [] (y ∷ ys) b = absurd b
-built-length t (w ∷ ws) [] b = absurd b
-built-length t (w ∷ ws) (y ∷ ys) b = ap suc (built-length t ws ys b.1)
 
 pub built-drop : (t : TyTree) (n : ℕ) (ws : List WordTree) (ys : List DocTree) → Built t ws ys → Built t (drop n ws) (drop n ys)
 built-drop t zero ws ys b = b
@@ -105,11 +100,11 @@ replicate-more : {X : Type 0} (m c : ℕ) (x : X) → replicate m x ++ replicate
 replicate-more zero c x = let e : 0 + c ≡ c = omega arith in rw e refl
 replicate-more (suc m) c x = let e : suc m + c ≡ suc (m + c) = omega arith in rw e (ap (λ (l : List _). x ∷ l) (replicate-more m c x))
 
-count-is : (c : ℕ) → 1 ≤ c → c ≤ 65536 → is_count c ≡ true
-count-is c h k = both (nat_le 1 c) (nat_le c 65536) (grind (arith, nat_tests)) (grind (arith, nat_tests))
+count-is : (c : ℕ) → 1 ≤ c → c ≤ MOST_ITEMS → is_count c ≡ true
+count-is c h k = both (nat_le 1 c) (nat_le c MOST_ITEMS) (grind (arith, nat_tests)) (grind (arith, nat_tests))
 
 -- m initial items and c more
-ins-acts : (t : TyTree) (m c : ℕ) (rest : WordTree) (v : DocTree) → 1 ≤ c → c ≤ 65536
+ins-acts : (t : TyTree) (m c : ℕ) (rest : WordTree) (v : DocTree) → 1 ≤ c → c ≤ MOST_ITEMS
     → act (ty_list t) rest (hold (list_of (m + c)) (docs_of (replicate (m + c) (initial t)))) ≡ Ok v
     → act (ty_list t) (reshape (Ins c) rest) (hold (list_of m) (docs_of (replicate m (initial t)))) ≡ Ok v
 ins-acts t m c rest v h k goes =
@@ -119,16 +114,16 @@ ins-acts t m c rest v h k goes =
     acts-more (ty_list t) (shape (Ins c)) rest (hold (list_of m) (docs_of (replicate m d))) (hold (list_of (m + c)) (docs_of (replicate (m + c) d))) v
     (acts-shape kinds.List t (Ins c) (list_of m) (list_of (m + c)) (replicate m d) (replicate (m + c) d) (subst P (replicate-more m c d) more)) goes
 
-full-acts : (t : TyTree) (k m n : ℕ) (rest : WordTree) (v : DocTree) → m + k * 65536 ≡ n
+full-acts : (t : TyTree) (k m n : ℕ) (rest : WordTree) (v : DocTree) → m + k * MOST_ITEMS ≡ n
     → act (ty_list t) rest (hold (list_of n) (docs_of (replicate n (initial t)))) ≡ Ok v
     → act (ty_list t) (full_insertions k rest) (hold (list_of m) (docs_of (replicate m (initial t)))) ≡ Ok v
 full-acts t zero m n rest v e goes =
     let z : n ≡ m = omega arith in
     let P : ℕ → Type 0 = λ i. act (ty_list t) rest (hold (list_of i) (docs_of (replicate i (initial t)))) ≡ Ok v in subst P z goes
 full-acts t (suc k) m n rest v e goes =
-    ins-acts t m 65536 (full_insertions k rest) v (omega arith) (omega arith) (full-acts t k (m + 65536) n rest v (omega arith) goes)
+    ins-acts t m MOST_ITEMS (full_insertions k rest) v (omega arith) (omega arith) (full-acts t k (m + MOST_ITEMS) n rest v (omega arith) goes)
 
-last-acts : (b : Bool) (t : TyTree) (c m n : ℕ) (rest : WordTree) (v : DocTree) → nat_eq c 0 ≡ b → c ≤ 65536 → m + c ≡ n
+last-acts : (b : Bool) (t : TyTree) (c m n : ℕ) (rest : WordTree) (v : DocTree) → nat_eq c 0 ≡ b → c ≤ MOST_ITEMS → m + c ≡ n
     → act (ty_list t) rest (hold (list_of n) (docs_of (replicate n (initial t)))) ≡ Ok v
     → act (ty_list t) (if b then rest else reshape (Ins c) rest) (hold (list_of m) (docs_of (replicate m (initial t)))) ≡ Ok v
 last-acts true t c m n rest v h most e goes =
@@ -144,10 +139,10 @@ last-acts false t c m n rest v h most e goes =
 pub insertions-act : (t : TyTree) (n : ℕ) (rest : WordTree) (v : DocTree) → act (ty_list t) rest (hold (list_of n) (docs_of (replicate n (initial t)))) ≡ Ok v
     → act (ty_list t) (insertions n rest) (hold (list_of 0) (docs_of [])) ≡ Ok v
 insertions-act t n rest v goes =
-    let split = div-add-mod' n 65536 in
-    let below = mod_below n 65536 (omega arith) in
-    full-acts t (n / 65536) 0 (n / 65536 * 65536) (last_insertion (n % 65536) rest) v (omega arith)
-    (last-acts (nat_eq (n % 65536) 0) t (n % 65536) (n / 65536 * 65536) n rest v refl (omega arith) split goes)
+    let split = div-add-mod' n MOST_ITEMS in
+    let below = mod_below n MOST_ITEMS (omega arith) in
+    full-acts t (n / MOST_ITEMS) 0 (n / MOST_ITEMS * MOST_ITEMS) (last_insertion (n % MOST_ITEMS) rest) v (omega arith)
+    (last-acts (nat_eq (n % MOST_ITEMS) 0) t (n % MOST_ITEMS) (n / MOST_ITEMS * MOST_ITEMS) n rest v refl (omega arith) split goes)
 
 -- ---- keyed maps
 

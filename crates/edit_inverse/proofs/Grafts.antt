@@ -18,10 +18,10 @@ use Rattle.hold_shapes.proofs.ValidDepths.{HeadAtMost, end-zero, end-suc}
 use Rattle.hold_shapes.proofs.ChildPlaces.{child-at}
 use Rattle.shape_laws.proofs.Content.{content-insert}
 use Rattle.shape_laws.proofs.Children.{not-before, next-place, children-skip}
-use Rattle.edit_inverse.proofs.Blocks.{after-all}
 use Rattle.edit_inverse.proofs.Ways.{Way, on-way, end-before, way-last, way-next, parent-next_path}
 use Rattle.edit_inverse.proofs.Moves.{Makes}
 use Rattle.edit_inverse.proofs.Returns.{at-ok, if-ok, else-ok, ok-shape, ok-origins}
+use Rattle.shape_laws.proofs.Parents.{next as after-all}
 
 -- ---- a graft
 

@@ -17,12 +17,16 @@ use Rattle.edit_inverse.specs.Paths.{parent_path, last_number}
 use Rattle.hold_shapes.proofs.ValidDepths.{GoesOn, Low, Whole, whole}
 use Rattle.hold_shapes.proofs.ChildPlaces.{length-remove_part}
 use Rattle.shape_laws.proofs.Content.{content-move_part}
-use Rattle.shape_laws.proofs.Content.{not-zero}
 use Rattle.shape_laws.proofs.SamePrefix.{node-in, node-child}
 use Rattle.shape_laws.proofs.OtherChildren.{length-between}
 use Rattle.edit_inverse.proofs.Blocks.{slice-inserted, remove-inserted, end-inserted, get-inserted, length-inserted}
-use Rattle.edit_inverse.proofs.Moves.{Makes, below_node, put-last, child-out, shift-home, still, left-still, past}
+use Rattle.edit_inverse.proofs.Moves.{Makes, below_node, put-last, child-out, shift-home, left-still}
 use Rattle.edit_inverse.proofs.Returns.{at-ok, else-ok, ok-shape, ok-origins}
+use Rattle.texts.proofs.Tests.{not_zero}
+use Rattle.shape_laws.proofs.Lawful.{past}
+use Rattle.texts.proofs.Conjunction.{both, first as head-true, second as tail-true}
+use Rattle.shape_laws.proofs.Parents.{lower}
+use Rattle.shape_laws.proofs.ChildLaws.{still-named}
 
 -- ---- depths that are counted from another node and back
 
@@ -37,34 +41,18 @@ low-moved : (a f : ℕ) (xs : List ℕ) → Low (a + 1) xs → Low (f + 2) (move
 low-moved a f [] l = tt
 low-moved a f (x ∷ xs) l = let k : a + 1 ≤ x = l.0 in (omega arith, low-moved a f xs l.1)
 
-low-less : (m n : ℕ) (xs : List ℕ) → m ≤ n → Low n xs → Low m xs
-low-less m n [] h l = tt
-low-less m n (x ∷ xs) h l = let k : n ≤ x = l.0 in (omega arith, low-less m n xs h l.1)
-
-both-true : (a b : Bool) → a ≡ true → b ≡ true → (a && b) ≡ true
-both-true true b h k = k
-both-true false b h k = cc
-
-tail-true : (a b : Bool) → (a && b) ≡ true → b ≡ true
-tail-true true b h = h
-tail-true false b h = cc
-
-head-true : (a b : Bool) → (a && b) ≡ true → a ≡ true
-head-true true b h = refl
-head-true false b h = cc
-
 goes-most : (b : ℕ) (ds : List ℕ) → GoesOn b ds → all_at_most 15 ds ≡ true
 goes-most b [] g = refl
-goes-most b (d ∷ ds) g = let k : d ≤ 15 = g.2 in both-true (nat_le d 15) (all_at_most 15 ds) (grind (arith, nat_tests)) (goes-most d ds g.3)
+goes-most b (d ∷ ds) g = let k : d ≤ 15 = g.2 in both (nat_le d 15) (all_at_most 15 ds) (grind (arith, nat_tests)) (goes-most d ds g.3)
 
 whole-most : (ds : List ℕ) → Whole ds → all_at_most 15 ds ≡ true
 whole-most [] w = absurd w
-whole-most (d ∷ ds) w = let z : d ≡ 0 = w.0 in both-true (nat_le d 15) (all_at_most 15 ds) (grind (arith, nat_tests)) (goes-most 0 ds w.1)
+whole-most (d ∷ ds) w = let z : d ≡ 0 = w.0 in both (nat_le d 15) (all_at_most 15 ds) (grind (arith, nat_tests)) (goes-most 0 ds w.1)
 
 most-take : (n m : ℕ) (ds : List ℕ) → all_at_most m ds ≡ true → all_at_most m (take n ds) ≡ true
 most-take zero m ds h = refl
 most-take (suc n) m [] h = refl
-most-take (suc n) m (d ∷ ds) h = both-true (nat_le d m) (all_at_most m (take n ds)) (head-true (nat_le d m) (all_at_most m ds) h) (most-take n m ds (tail-true (nat_le d m) (all_at_most m ds) h))
+most-take (suc n) m (d ∷ ds) h = both (nat_le d m) (all_at_most m (take n ds)) (head-true (nat_le d m) (all_at_most m ds) h) (most-take n m ds (tail-true (nat_le d m) (all_at_most m ds) h))
 
 most-drop : (n m : ℕ) (ds : List ℕ) → all_at_most m ds ≡ true → all_at_most m (drop n ds) ≡ true
 most-drop zero m ds h = h
@@ -126,7 +114,7 @@ hung ds p q s from e =
     let w = at-ok (node rest q) (hang_below ds a end rest) (s, from) y.1 in
     let r = w.0 in
     let d = hang-deep (all_at_most 15 (moved_part ds a r)) ds rest (moved_part ds a r) a end r s from w.2 in
-    (a, r, record { at = x.1; up = not-zero a y.0; below = w.1; most = d.0; made = d.1; moved = d.2 })
+    (a, r, record { at = x.1; up = not_zero a y.0; below = w.1; most = d.0; made = d.1; moved = d.2 })
 
 -- ---- the hang back, and the shift home
 
@@ -176,7 +164,7 @@ hang-home ds p q a r pp fresh xs v z size up below parent here =
     let new = insert_part t moved rest in
     let put = put-last rest ms r within low in
     let room : t ≤ length rest = put.3 in
-    let at : node new q ≡ Some r = still rest moved q r t full below put.2 room in
+    let at : node new q ≡ Some r = still-named rest moved q r t full below put.2 room in
     let named : node new (child_path q k) ≡ Some t = node-child new (Some 0) q k ∙ (ap (λ (n : Option ℕ). child_at new k n) at ∙ put.0) in
     let F = t + suc (length ms) in
     let three : f + 2 ≡ f + 1 + 1 = omega arith in
@@ -187,7 +175,7 @@ hang-home ds p q a r pp fresh xs v z size up below parent here =
     let slice : slice_range new t F ≡ moved = slice-inserted t moved rest F room e in
     let up-there : nat_eq t 0 ≡ false = let x = put.2 in grind (arith, nat_tests) in
     let back-named : node rest (parent_path p) ≡ Some pp = left-still ds (parent_path p) pp a end z parent o.up (let x = o.within in omega arith) in
-    let lows : Low (g + 1) ((g + 1) ∷ bs) = (omega arith, low-less (g + 1) (g + 2) bs (omega arith) o.low) in
+    let lows : Low (g + 1) ((g + 1) ∷ bs) = (omega arith, lower (g + 1) (g + 2) bs (omega arith) o.low) in
     let again : moved_depths (f + 1) g moved ≡ part =
     ap (λ (n : ℕ). moved_depths (f + 1) g (n ∷ ms)) (sym top) ∙ (moved-back f g ((g + 1) ∷ bs) lows ∙ sym o.part) in
     let comes : moved_depths (get_or new t 0) g (slice_range new t F) ≡ part =

@@ -3,7 +3,6 @@ use Rattle.std.proofs.Common.{◌≡◌, ℕ, ◌+◌, ◌<◌, ◌≤◌, suc, 
 use Rattle.std.specs.Prelude.{if◌then◌else◌, bytes_eq}
 use Rattle.std.specs.List.{insert, remove}
 use Rattle.std.proofs.lemmas.List.Edits.{get_or-insert_at, length-insert, length-remove}
-use Rattle.std.proofs.lemmas.Slice.Eq.{bytes_eq-Decides}
 use Rattle.hold_shapes.specs.declared.shape.Shape.{Shape}
 use Rattle.hold_shapes.specs.declared.shape.Shape.TheVariants.{Keyed as KeyedOf}
 use Rattle.hold_shapes.specs.declared.origins.Origin.{Origin}
@@ -12,44 +11,16 @@ use Rattle.hold_shapes.specs.declared.edit.ShapeEdit.TheVariants.{PutKey, DropKe
 use Rattle.hold_shapes.specs.Gather.{content_at}
 use Rattle.hold_shapes.specs.Plans.{plan, old_places, put_key, drop_key, rename_to, rename_key}
 use Rattle.texts.specs.Keys.{is_rising, all_after, is_before, rank, key_from, key_place}
-use Rattle.texts.proofs.KeyOrder.{bytes_eq-refl, before-trans, rising-first, rising-rest, rising-insert, rising-remove, after-all, after-tail, before-differs, after-differs, rank-length, key_place-found, key_place-remove}
+use Rattle.texts.proofs.KeyOrder.{bytes_eq-refl, rising-first, rising-rest, rising-insert, rising-remove, after-all, after-tail, before-differs, after-differs, rank-length, key_place-found, key_place-remove, rank-none}
 use Rattle.shape_laws.proofs.Lawful.{key-within}
-use Rattle.shape_laws.proofs.Content.{content-old_places}
+use Rattle.shape_laws.proofs.Content.{content-old_places, key-found}
 use Rattle.shape_laws.proofs.Content.{map-insert, content-remove}
 use Rattle.edit_inverse.proofs.Moves.{Makes}
 use Rattle.edit_inverse.proofs.Fills.{put-makes}
 use Rattle.edit_inverse.proofs.Items.{made-same, back-through, remove-inserted-item, insert-removed-item}
-
-same-name : (n m : List ℕ) → bytes_eq n m ≡ true → n ≡ m
-same-name n m h = (bytes_eq-Decides n m).0 h
-
-not-itself : (k : List ℕ) → is_before k k ≡ true → ⊥
-not-itself k h = let a = before-differs k k h in let b = bytes_eq-refl k in let c : false ≡ true = sym a ∙ b in cc
+use Rattle.texts.proofs.Tests.{bytes_eq-is}
 
 -- ---- a key and its place
-
-least-step : (b : Bool) (at p : ℕ) (o : Option ℕ) → (o ≡ Some p → at + 1 ≤ p) → (if b then Some at else o) ≡ Some p → at ≤ p
-least-step true at p o f h = let e : at ≡ p = cc in omega arith
-least-step false at p o f h = let x = f h in omega arith
-
-least : (at p : ℕ) (k : List ℕ) (ks : List (List ℕ)) → key_from at k ks ≡ Some p → at ≤ p
-least at p k [] h = cc
-least at p k (m ∷ ms) h = least-step (bytes_eq k m) at p (key_from (at + 1) k ms) (λ e. least (at + 1) p k ms e) h
-
-named-step : (b : Bool) (at i : ℕ) (k m : List ℕ) (ms : List (List ℕ)) → bytes_eq k m ≡ b → (if b then Some at else key_from (at + 1) k ms) ≡ Some (at + i)
-    → ((j : ℕ) → key_from (at + 1) k ms ≡ Some (at + 1 + j) → get_or ms j [] ≡ k) → get_or (m ∷ ms) i [] ≡ k
-named-step true at i k m ms e h f =
-    let same : at ≡ at + i = cc in
-    let z : i ≡ 0 = omega arith in
-    let P : ℕ → Type 0 = λ j. get_or (m ∷ ms) j [] ≡ k in subst P (sym z) (sym (same-name k m e))
-named-step false at zero k m ms e h f = let up = least (at + 1) (at + 0) k ms h in absurd (omega arith)
-named-step false at (suc i) k m ms e h f =
-    let n : at + suc i ≡ at + 1 + i = omega arith in
-    let P : ℕ → Type 0 = λ j. key_from (at + 1) k ms ≡ Some j in f i (subst P n h)
-
-named-from : (at i : ℕ) (k : List ℕ) (ks : List (List ℕ)) → key_from at k ks ≡ Some (at + i) → get_or ks i [] ≡ k
-named-from at i k [] h = cc
-named-from at i k (m ∷ ms) h = named-step (bytes_eq k m) at i k m ms refl h (λ j e. named-from (at + 1) j k ms e)
 
 -- a key is there, and has this name
 pub key-named : (k : List ℕ) (ks : List (List ℕ)) (p : ℕ) → key_place k ks ≡ Some p → (p < length ks) × (get_or ks p [] ≡ k)
@@ -57,7 +28,7 @@ key-named k ks p h =
     let within = key-within 0 p k ks h in
     let n : p ≡ 0 + p = omega arith in
     let P : ℕ → Type 0 = λ j. key_from 0 k ks ≡ Some j in
-    (omega arith, named-from 0 p k ks (subst P n h))
+    (omega arith, key-found 0 p k ks (subst P n h))
 
 -- ---- a key taken out
 
@@ -75,14 +46,6 @@ gone-from at k (m ∷ ms) (suc p) r h e =
     let P : List ℕ → Type 0 = λ n. is_before m n ≡ true in
     let less : is_before m k ≡ true = subst P e (after-all m ms p [] (rising-first m ms r) (rising-rest m ms r) within) in
     rw (after-differs k m less) (gone-from (at + 1) k ms p (rising-rest m ms r) within e)
-
-rank-first : (b : Bool) (k m : List ℕ) (ms : List (List ℕ)) → is_before m k ≡ b → is_before k m ≡ true → (if b then suc (rank k ms) else rank k ms) ≡ rank k ms
-rank-first true k m ms e h = absurd (not-itself k (before-trans k m k h e))
-rank-first false k m ms e h = refl
-
-rank-none : (k : List ℕ) (ks : List (List ℕ)) → all_after k ks ≡ true → is_rising ks ≡ true → rank k ks ≡ 0
-rank-none k [] h r = refl
-rank-none k (m ∷ ms) h r = rank-first (is_before m k) k m ms refl h ∙ rank-none k ms (after-tail k m ms h (rising-first m ms r)) (rising-rest m ms r)
 
 -- its rank among the others is the place that it had
 rank-home : (k : List ℕ) (ks : List (List ℕ)) (p : ℕ) → is_rising ks ≡ true → p < length ks → get_or ks p [] ≡ k → rank k (remove ks p) ≡ p
@@ -227,7 +190,7 @@ absent-ok ks m p None r e = refl
 differs-too : (k m : List ℕ) (b : Bool) → bytes_eq k m ≡ false → bytes_eq m k ≡ b → b ≡ false
 differs-too k m true h e =
     let P : List ℕ → Type 0 = λ n. bytes_eq n m ≡ false in
-    let x : bytes_eq m m ≡ false = subst P (sym (same-name m k e)) h in
+    let x : bytes_eq m m ≡ false = subst P (sym (bytes_eq-is m k e)) h in
     let y = bytes_eq-refl m in
     let z : true ≡ false = sym y ∙ x in z
 differs-too k m false h e = refl
@@ -275,7 +238,7 @@ rename-back-key ks k m s from fresh xs r e h =
     go : (b : Bool) → bytes_eq k m ≡ b → (p : ℕ) → key_place k ks ≡ Some p → (if b then Ok (KeyedOf ks, old_places (length ks)) else rename_to ks m p (key_place m ks)) ≡ Ok (s, from)
         → Makes s (RenameKey m k) fresh (map (content_at xs fresh) from) (KeyedOf ks) xs
     go true n p at q =
-        let one : k ≡ m = same-name k m n in
+        let one : k ≡ m = bytes_eq-is k m n in
         let P : List ℕ → Type 0 = λ l. key_place l ks ≡ Some p in
         let turn : bytes_eq m k ≡ true = let R : List ℕ → Type 0 = λ l. bytes_eq l k ≡ true in subst R one (bytes_eq-refl k) in
         back-through (KeyedOf ks) (RenameKey k m) (RenameKey m k) (KeyedOf ks) s from fresh xs xs (same-makes ks k m p fresh xs at n e) h (same-makes ks m k p fresh xs (subst P one at) turn e)

@@ -1,5 +1,5 @@
 -- Edits of trees that take one another back.
-use Rattle.std.proofs.Common.{◌≡◌, ℕ, ◌+◌, ◌-◌, ◌<◌, ◌≤◌, suc, Bool, true, false, ◌&&◌, List, [], ◌∷◌, ◌++◌, length, map, take, drop, get_or, Option, Some, None, Ok, Err, refl, sym, ap, ◌∙◌, subst, arith}
+use Rattle.std.proofs.Common.{◌≡◌, ℕ, ◌+◌, ◌-◌, ◌<◌, ◌≤◌, suc, Bool, true, false, ◌&&◌, List, [], ◌∷◌, ◌++◌, length, map, take, drop, get_or, Option, Some, None, Ok, Err, sym, ap, ◌∙◌, subst, arith}
 use Rattle.std.specs.Prelude.{if◌then◌else◌, nat_lt, is_some, slice_range}
 use Rattle.std.proofs.lemmas.Bool.Decides.{nat_tests}
 use Rattle.hold_shapes.specs.declared.origins.Origin.{Origin}
@@ -20,29 +20,18 @@ use Rattle.shape_laws.proofs.SamePrefix.{node-same, node-in, prefix-less, prefix
 use Rattle.shape_laws.proofs.Children.{before-part, children-more, child-at_end, child-at_place, children-less, child-descendant}
 use Rattle.shape_laws.proofs.OtherChildren.{length-between}
 use Rattle.edit_inverse.proofs.Blocks.{remove-inserted, move-back, put-head, end-inserted, home, length-inserted}
+use Rattle.shape_laws.proofs.Lawful.{past}
+use Rattle.texts.proofs.Conjunction.{both}
+use Rattle.shape_laws.proofs.Parents.{deeper}
+use Rattle.shape_laws.proofs.ChildLaws.{still-named}
 
 -- the plan of an edit makes this shape, and these contents from those, the fresh ones being one that is given
 abbrev pub Makes : {A : Type 0} → Shape → ShapeEdit → A → List A → Shape → List A → Type 0
 Makes s e fresh xs t ys = (from : List Origin) × (plan s e ≡ Ok (t, from)) × (map (content_at xs fresh) from ≡ ys)
 
-pub past : (ds : List ℕ) (p : ℕ) → p ≤ end_of ds p
-past ds p = let a = above-end ds p in omega arith
-
-deeper-step : (t : Bool) (d e : ℕ) (es : List ℕ) → nat_lt d e ≡ t → Low (d + 1) (take (descendants d es) es) → Low (d + 1) (take (if t then suc (descendants d es) else 0) (e ∷ es))
-deeper-step true d e es h l = (grind (arith, nat_tests), l)
-deeper-step false d e es h l = tt
-
-deeper : (d : ℕ) (es : List ℕ) → Low (d + 1) (take (descendants d es) es)
-deeper d [] = tt
-deeper d (e ∷ es) = deeper-step (nat_lt d e) d e es refl (deeper d es)
-
 -- what is below a node
 abbrev pub below_node : List ℕ → ℕ → List ℕ
 below_node ds c = take (descendants (get_or ds c 0) (drop (c + 1) ds)) (drop (c + 1) ds)
-
-pub still : (ds part q : List ℕ) (p t : ℕ) → 0 < length ds → node ds q ≡ Some p → p < t → t ≤ length ds → node (insert_part t part ds) q ≡ Some p
-still ds part q p t z is h k =
-    node-same ds (insert_part t part ds) q p z is (prefix-less (p + 1) t ds (insert_part t part ds) (omega arith) (prefix-take t ds (part ++ drop t ds) k))
 
 pub left-still : (ds q : List ℕ) (p c e : ℕ) → 0 < length ds → node ds q ≡ Some p → p < c → c ≤ length ds → node (remove_part c e ds) q ≡ Some p
 left-still ds q p c e z is h k =
@@ -137,14 +126,10 @@ child-out ds p i c h is =
 
 -- ---- shift
 
-both-true : (a b : Bool) → a ≡ true → b ≡ true → (a && b) ≡ true
-both-true true b h k = k
-both-true false b h k = cc
-
 shift-plan : (ds : List ℕ) (i j p c : ℕ) → nat_lt i (children ds p) ≡ true → nat_lt j (children ds p) ≡ true → child ds p i ≡ Some c
     → shift ds i j p ≡ move_subtree ds c (end_of ds c) (place_for_child (remove_part c (end_of ds c) ds) p (child (remove_part c (end_of ds c) ds) p j))
 shift-plan ds i j p c h k is =
-    ap (λ (b : Bool). if b then shift_child ds p j (child ds p i) else Err Range) (both-true (nat_lt i (children ds p)) (nat_lt j (children ds p)) h k)
+    ap (λ (b : Bool). if b then shift_child ds p j (child ds p i) else Err Range) (both (nat_lt i (children ds p)) (nat_lt j (children ds p)) h k)
     ∙ ap (λ (o : Option ℕ). shift_child ds p j o) is
 
 -- a block that stands as child j of the node p at the place t goes home to the place c, as the child i that it was
@@ -167,7 +152,7 @@ shift-home ds q p i j c t fresh xs z is here size put =
     let k : B part = subst B (sym o.part) (put.0, put.1, end-inserted rest bs t d room (let N : ℕ → Type 0 = λ n. Low n bs in let e : get_or rest p 0 + 2 ≡ d + 1 = omega arith in subst N e o.low) put.4) in
     let named : node rest q ≡ Some p = left-still ds q p c end z is o.up (omega (arith, o.within)) in
     let full : 0 < length rest = let a = o.there in omega arith in
-    let at : node new q ≡ Some p = still rest part q p t full named up room in
+    let at : node new q ≡ Some p = still-named rest part q p t full named up room in
     let count : children new p ≡ children ds p = k.1 ∙ sym o.less in
     let f = t + suc (length bs) in
     let ends : end_of new t ≡ f = k.2 in

@@ -16,8 +16,9 @@ use Rattle.edit_module.specs.Views.{primitive_tree}
 use Rattle.edit_inverse.specs.Paths.{parent_path, last_number, next_path, paths_after, paths}
 use Rattle.edit_inverse.specs.Construct.{construct, construct_each, only, unless_empty, reshape, modify_each, graft_each}
 use Rattle.edit_inverse.specs.Inverse.{for_found, inverse_shape, restore_key, regrow, regrow_last}
-use Rattle.edit_inverse.proofs.Building.{item-next, joined-none}
+use Rattle.edit_inverse.proofs.Building.{item-next}
 use Rattle.edit_inverse.proofs.Ways.{take-paths_after}
+use Rattle.edit_module.proofs.JoinedWords.{joined_nothing}
 
 -- ---- parts of lists
 
@@ -94,7 +95,7 @@ pub unhung-made : (start one two : List Primitive) (child parent again p q : Lis
     → word_of (map primitive_tree two) ≡ reshape (Hang (child_path q number) (parent_path p)) (only (shape (Shift (parent_path p) last (last_number p))))
 unhung-made start one two child parent again p q number last i none first second a b d e =
     let rest = reshape (Shift again last i) no_primitives in
-    sym (joined-none (word_of (map primitive_tree two)))
+    sym (joined_nothing (word_of (map primitive_tree two)))
     ∙ (second no_primitives
     ∙ (first rest
     ∙ (ap (λ (l : List Primitive). joined (word_of (map primitive_tree l)) (reshape (Hang child parent) rest)) none
@@ -122,7 +123,7 @@ pub key-made : (ws : List WordTree) (start one : List Primitive) (k : List ℕ) 
     → ((rest : WordTree) → joined (word_of (map primitive_tree one)) rest ≡ joined (word_of (map primitive_tree start)) (reshape (PutKey k) (unless_empty (modify (Key k)) w rest)))
     → place_of s (Key k) ≡ Some i → get_or ws i no_primitives ≡ w → word_of (map primitive_tree one) ≡ inverse_shape (DropKey k) s ws
 key-made ws start one k s i w none first there made =
-    sym (joined-none (word_of (map primitive_tree one)))
+    sym (joined_nothing (word_of (map primitive_tree one)))
     ∙ (first no_primitives
     ∙ (ap (λ (l : List Primitive). joined (word_of (map primitive_tree l)) (reshape (PutKey k) (unless_empty (modify (Key k)) w no_primitives))) none
     ∙ (ap (λ (x : WordTree). reshape (PutKey k) (unless_empty (modify (Key k)) x no_primitives)) (sym made)

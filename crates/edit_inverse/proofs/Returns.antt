@@ -14,7 +14,8 @@ use Rattle.hold_shapes.specs.Plans.{Planned, plan, at_place, old_places, insert_
 use Rattle.shape_laws.proofs.Content.{content-remove_part, content-move_part}
 use Rattle.shape_laws.proofs.SamePrefix.{node-in}
 use Rattle.edit_inverse.proofs.Blocks.{remove-inserted, end-inserted, length-inserted}
-use Rattle.edit_inverse.proofs.Moves.{Makes, below_node, put-child, put-last, child-out, shift-home, still}
+use Rattle.edit_inverse.proofs.Moves.{Makes, below_node, put-child, put-last, child-out, shift-home}
+use Rattle.shape_laws.proofs.ChildLaws.{still-named}
 
 -- ---- what a plan that is there says
 
@@ -38,9 +39,6 @@ ok-shape s u f g x e k = ap (λ (z : Shape × List Origin). z.0) (ok-same (s, f)
 
 pub ok-origins : (s u : Shape) (f g : List Origin) (x : Planned) → x ≡ Ok (s, f) → x ≡ Ok (u, g) → f ≡ g
 ok-origins s u f g x e k = ap (λ (z : Shape × List Origin). z.1) (ok-same (s, f) (u, g) x e k)
-
-pub insert-is : {X : Type 0} (xs : List X) (t : ℕ) (x : X) → insert xs t x ≡ insert_part t (x ∷ []) xs
-insert-is xs t x = refl
 
 -- ---- prune, and a graft taken back
 
@@ -69,7 +67,7 @@ graft-back ds q p fresh x xs z is size =
     let ys = insert_part t (x ∷ []) xs in
     let put = put-last ds [] p inside tt in
     let room : t ≤ length ds = put.3 in
-    let at : node new q ≡ Some p = still ds (d ∷ []) q p t z is put.2 room in
+    let at : node new q ≡ Some p = still-named ds (d ∷ []) q p t z is put.2 room in
     let ends : end_of new t ≡ t + suc 0 = end-inserted ds [] t d room tt put.4 in
     let same : length ys ≡ length new = length-inserted t (x ∷ []) xs (d ∷ []) ds refl size in
     let k = prune-makes new q p (children ds p) t fresh ys at put.1 put.0 same in

@@ -18,6 +18,7 @@ use Rattle.edit_inverse.specs.Construct.{construct_each, only}
 use Rattle.edit_inverse.specs.Inverse.{for_found, inverse, inverse_primitive, inverse_shape}
 use Rattle.edit_inverse.specs.Steps.{contents_of, contents_at}
 use Rattle.edit_inverse.specs.Texts.{IfFound, MeetsTexts, PrimitiveMeets}
+use Rattle.std.proofs.lemmas.Option.{same_Some}
 
 -- ---- the content at a place
 
@@ -29,19 +30,16 @@ pub record AtContent (t i : TyTree) (p : Place) (w : WordTree) (s : Shape) (ds :
   pub held : has t (hold s ds) ≡ true → IsHeld i s ds
   pub well : is_well_formed t ≡ true → is_well_formed i ≡ true
 
-some-is : {A : Type 0} (x y : A) → Some x ≡ Some y → x ≡ y
-some-is x y e = cc
-
 pub at-content : (t i : TyTree) (p : Place) (w : WordTree) (s : Shape) (ds : DocTrees) → contents_at t p ≡ Some i → AtContent t i p w s ds
 at-content (ty_list t) i (Index p) w s ds e =
     let P : TyTree → Type 0 = λ j. AtContent (ty_list t) j (Index p) w s ds in
-    subst P (some-is t i e) (record { acts = refl; back = refl; meets = λ m. m; held = list-held t s ds; well = λ h. h })
+    subst P (same_Some t i e) (record { acts = refl; back = refl; meets = λ m. m; held = list-held t s ds; well = λ h. h })
 at-content (ty_keyed t) i (Key p) w s ds e =
     let P : TyTree → Type 0 = λ j. AtContent (ty_keyed t) j (Key p) w s ds in
-    subst P (some-is t i e) (record { acts = refl; back = refl; meets = λ m. m; held = keyed-held t s ds; well = λ h. h })
+    subst P (same_Some t i e) (record { acts = refl; back = refl; meets = λ m. m; held = keyed-held t s ds; well = λ h. h })
 at-content (ty_ordered t) i (Node p) w s ds e =
     let P : TyTree → Type 0 = λ j. AtContent (ty_ordered t) j (Node p) w s ds in
-    subst P (some-is t i e) (record { acts = refl; back = refl; meets = λ m. m; held = tree-held t s ds; well = λ h. h })
+    subst P (same_Some t i e) (record { acts = refl; back = refl; meets = λ m. m; held = tree-held t s ds; well = λ h. h })
 at-content _ i _ w s ds e = cc
 
 -- ---- edits of shapes
@@ -52,7 +50,7 @@ pub record Reshapes (t i : TyTree) (e : ShapeEdit) (s : Shape) (ds : DocTrees) :
   pub held : has t (hold s ds) ≡ true → IsHeld i s ds
 
 pub reshapes : (t i : TyTree) (e : ShapeEdit) (s : Shape) (ds : DocTrees) → contents_of t ≡ Some i → Reshapes t i e s ds
-reshapes (ty_list t) i e s ds k = let P : TyTree → Type 0 = λ j. Reshapes (ty_list t) j e s ds in subst P (some-is t i k) (record { acts = refl; back = refl; held = list-held t s ds })
-reshapes (ty_keyed t) i e s ds k = let P : TyTree → Type 0 = λ j. Reshapes (ty_keyed t) j e s ds in subst P (some-is t i k) (record { acts = refl; back = refl; held = keyed-held t s ds })
-reshapes (ty_ordered t) i e s ds k = let P : TyTree → Type 0 = λ j. Reshapes (ty_ordered t) j e s ds in subst P (some-is t i k) (record { acts = refl; back = refl; held = tree-held t s ds })
+reshapes (ty_list t) i e s ds k = let P : TyTree → Type 0 = λ j. Reshapes (ty_list t) j e s ds in subst P (same_Some t i k) (record { acts = refl; back = refl; held = list-held t s ds })
+reshapes (ty_keyed t) i e s ds k = let P : TyTree → Type 0 = λ j. Reshapes (ty_keyed t) j e s ds in subst P (same_Some t i k) (record { acts = refl; back = refl; held = keyed-held t s ds })
+reshapes (ty_ordered t) i e s ds k = let P : TyTree → Type 0 = λ j. Reshapes (ty_ordered t) j e s ds in subst P (same_Some t i k) (record { acts = refl; back = refl; held = tree-held t s ds })
 reshapes _ i e s ds k = cc

@@ -1,6 +1,6 @@
 -- The walk over a word, and its inverses from the last to the first.
 use Rattle.std.proofs.Common.{◌≡◌, ℕ, zero, suc, ◌+◌, ◌<◌, ◌≤◌, List, [], ◌∷◌, ◌++◌, length, map, drop, get_or, Result, Ok, refl, sym, ap, subst, ◌∙◌, arith}
-use Rattle.std.proofs.lemmas.List.{drop_more, drop_all, map-append}
+use Rattle.std.proofs.lemmas.List.{drop_all, map-append}
 use Rattle.doc_values.specs.Documents.{DocTree}
 use Rattle.doc_values.specs.Types.{TyTree}
 use Rattle.edit_module.specs.declared.fault.Cause.{Cause}
@@ -10,17 +10,17 @@ use Rattle.edit_module.specs.Words.{WordTree, no_primitives, word_of, joined}
 use Rattle.edit_module.specs.Depths.{primitive_depth, word_depth}
 use Rattle.edit_module.specs.Views.{primitive_tree, word_tree}
 use Rattle.edit_module.specs.Action.{act_primitive}
-use Rattle.edit_module.proofs.Words.{joined_assoc, joined-maps}
+use Rattle.edit_module.proofs.Words.{joined_assoc, joined-maps, left_primitives}
 use Rattle.edit_module.proofs.WordSteps.{later-none, later-more}
 use Rattle.edit_inverse.specs.Inverse.{inverse, inverse_primitive, in_reverse}
 use Rattle.edit_inverse.specs.Steps.{backwards}
 use Rattle.edit_inverse.specs.Texts.{IfValue, MeetsTexts, PrimitiveMeets}
-use Rattle.edit_inverse.proofs.Building.{joined-none}
+use Rattle.edit_module.proofs.JoinedWords.{joined_nothing}
 
 -- ---- words from the last to the first
 
 pub backwards-end : (ws : List WordTree) (w : WordTree) → backwards (ws ++ w ∷ []) ≡ joined w (backwards ws)
-backwards-end [] w = sym (joined-none w)
+backwards-end [] w = sym (joined_nothing w)
 backwards-end (x ∷ ws) w = ap (λ (y : WordTree). joined y x) (backwards-end ws w) ∙ joined_assoc w (backwards ws) x
 
 pub backwards-pushed : (parts more : List Word) (w : Word) → more ≡ parts ++ w ∷ [] → backwards (map word_tree more) ≡ joined (word_tree w) (backwards (map word_tree parts))
@@ -44,14 +44,11 @@ appended out new ps w rest is made =
 
 -- ---- the loop
 
-next-is : (ps : List Primitive) (i : ℕ) (p : Primitive) → i < length ps → p ≡ get_or ps i p → drop i ps ≡ p ∷ drop (i + 1) ps
-next-is ps i p h is = let P : Primitive → Type 0 = λ q. drop i ps ≡ q ∷ drop (i + 1) ps in subst P (sym is) (drop_more ps i p h)
-
 pub inverse-more : (t : TyTree) (ps : List Primitive) (i : ℕ) (p : Primitive) (v u : DocTree) → i < length ps → p ≡ get_or ps i p → act_primitive t (primitive_tree p) v ≡ Ok u
     → inverse t (word_of (map primitive_tree (drop i ps))) v ≡ joined (inverse t (word_of (map primitive_tree (drop (i + 1) ps))) u) (inverse_primitive t (primitive_tree p) v)
 inverse-more t ps i p v u h is e =
     let rest = word_of (map primitive_tree (drop (i + 1) ps)) in
-    ap (λ (l : List Primitive). inverse t (word_of (map primitive_tree l)) v) (next-is ps i p h is)
+    ap (λ (l : List Primitive). inverse t (word_of (map primitive_tree l)) v) (left_primitives ps i p h is)
     ∙ ap (λ (r : Result DocTree Cause). in_reverse r (λ x. inverse t rest x) (inverse_primitive t (primitive_tree p) v)) e
 
 -- one more primitive, with its inverse among the parts
@@ -75,7 +72,7 @@ pub meets-more : (t : TyTree) (ps : List Primitive) (i : ℕ) (p : Primitive) (v
 meets-more t ps i p v u h is e m rest =
     let R : Result DocTree Cause → Type 0 = λ r. IfValue r (λ x. MeetsTexts t (word_of (map primitive_tree (drop (i + 1) ps))) x) in
     let P : List Primitive → Type 0 = λ l. MeetsTexts t (word_of (map primitive_tree l)) v in
-    subst P (sym (next-is ps i p h is)) (m, subst R (sym e) rest)
+    subst P (sym (left_primitives ps i p h is)) (m, subst R (sym e) rest)
 
 pub meets-done : (t : TyTree) (ps : List Primitive) (i : ℕ) (v : DocTree) → length ps ≤ i → MeetsTexts t (word_of (map primitive_tree (drop i ps))) v
 meets-done t ps i v h = let P : List Primitive → Type 0 = λ l. MeetsTexts t (word_of (map primitive_tree l)) v in subst P (sym (drop_all i ps h)) tt

@@ -10,7 +10,8 @@ use Rattle.edit_inverse.specs.Paths.{next_number, next_path, paths_after, parent
 use Rattle.hold_shapes.proofs.ValidDepths.{GoesOn, HeadAtMost, above-end}
 use Rattle.hold_shapes.proofs.ChildPlaces.{child-at}
 use Rattle.shape_laws.proofs.SamePrefix.{SamePrefix, prefix-less, child-same}
-use Rattle.shape_laws.proofs.Children.{deeper-test, no_child-test, children-more, child-at_end}
+use Rattle.shape_laws.proofs.Children.{no_child-test, children-more, child-at_end}
+use Rattle.std.proofs.lemmas.Bool.{lt-ltb}
 
 -- ---- lists with more behind them
 
@@ -73,7 +74,7 @@ pub end-more : (ds : List ℕ) (d p : ℕ) → p < length ds → end_of ds p ≡
 end-more ds d p h e lt =
     let on = end-append ds (d ∷ []) p h e in
     let l = length-append ds (d ∷ []) in
-    let one : descendants (get_or ds p 0) (d ∷ []) ≡ 1 = rw (deeper-test (get_or ds p 0) d lt) refl in omega arith
+    let one : descendants (get_or ds p 0) (d ∷ []) ≡ 1 = rw (lt-ltb (get_or ds p 0) d lt) refl in omega arith
 
 -- a node that is deeper than a child is no child
 children-on-step : (t u : Bool) (m n : ℕ) → m ≡ n → (if t then (if u then suc m else m) else 0) ≡ (if t then (if u then suc n else n) else 0)
@@ -82,7 +83,7 @@ children-on-step true false m n h = h
 children-on-step false u m n h = refl
 
 children-on : (d e : ℕ) (es : List ℕ) → d + 2 ≤ e → children_of d (es ++ e ∷ []) ≡ children_of d es
-children-on d e [] h = rw (deeper-test d e (omega arith), no_child-test d e h) refl
+children-on d e [] h = rw (lt-ltb d e (omega arith), no_child-test d e h) refl
 children-on d e (x ∷ es) h = children-on-step (nat_lt d x) (nat_eq x (d + 1)) (children_of d (es ++ e ∷ [])) (children_of d es) (children-on d e es h)
 
 children-append : (ds : List ℕ) (e p : ℕ) → p < length ds → get_or ds p 0 + 2 ≤ e → children (ds ++ e ∷ []) p ≡ children ds p
@@ -174,9 +175,6 @@ way-last ds tail p (i ∷ path) k w e =
     ap (λ (o : Option ℕ). node_from (ds ++ tail) o path) there ∙ way-last ds tail w.0 path k w.4 e
 
 -- ---- from the root on
-
-root-depth : (ds : List ℕ) → get_or (0 ∷ ds) 0 0 ≡ 0
-root-depth ds = refl
 
 pub length-next_path : (path : List ℕ) (d : ℕ) → 1 ≤ d → d ≤ length path + 1 → length (next_path path d) ≡ d
 length-next_path path d h k =

@@ -3,7 +3,7 @@ use Rattle.std.proofs.Common.{◌≡◌, ℕ, ◌+◌, ◌*◌, ◌≤◌, Bool,
 use Rattle.serde_json.specs.Data.{Data, string, object, no_members, member, depth}
 use Rattle.serde_json.specs.Written.{has_float}
 use Rattle.texts.proofs.Conjunction.{first as left, second as right}
-use Rattle.value_json.proofs.Facts.{equal_bytes, if_then}
+use Rattle.value_json.proofs.Facts.{if_then}
 use Rattle.edit_module.specs.Words.{WordTree}
 use Rattle.texts.specs.declared.side.Side.{Side}
 use Rattle.texts.specs.declared.side.Side.TheVariants.{Left, Right}
@@ -13,6 +13,7 @@ use Rattle.edit_json.proofs.WritingReadsBack.{again as word_reads}
 use Rattle.edit_json.proofs.ReadingHasTree.{takes as word_writes_back}
 use Rattle.edit_json.proofs.TreeDepths.{whole as word_whole, shallow as word_shallow}
 use Rattle.edit_journal.specs.EntryJson.{side_text, side_of, tree_of_entry, parts_of, entry_with, entry_of_parts, entry_of_tree}
+use Rattle.texts.proofs.Tests.{bytes_eq-is}
 
 -- ---- sides
 
@@ -20,11 +21,11 @@ side_reads_back : (side : Side) → side_of (side_text side) ≡ Some side
 side_reads_back Left = refl
 side_reads_back Right = refl
 
-side_writes_back : (s : List ℕ) (side : Side) → side_of s ≡ Some side → side_text side ≡ s
+pub side_writes_back : (s : List ℕ) (side : Side) → side_of s ≡ Some side → side_text side ≡ s
 side_writes_back s side h = by_tests (bytes_eq s (codes "left")) (bytes_eq s (codes "right")) refl refl h where
   by_tests : (l r : Bool) → l ≡ bytes_eq s (codes "left") → r ≡ bytes_eq s (codes "right") → cond l (Some Left) (cond r (Some Right) None) ≡ Some side → side_text side ≡ s
-  by_tests true r is other h = let same : Left ≡ side = cc in ap side_text (sym same) ∙ sym (equal_bytes s (codes "left") (sym is))
-  by_tests false true is other h = let same : Right ≡ side = cc in ap side_text (sym same) ∙ sym (equal_bytes s (codes "right") (sym other))
+  by_tests true r is other h = let same : Left ≡ side = cc in ap side_text (sym same) ∙ sym (bytes_eq-is s (codes "left") (sym is))
+  by_tests false true is other h = let same : Right ≡ side = cc in ap side_text (sym same) ∙ sym (bytes_eq-is s (codes "right") (sym other))
   by_tests false false is other h = cc
 
 -- ---- the parts of a tree
@@ -46,8 +47,8 @@ side_some s d p (Some side) writes_back h =
 parts_write_back : (d : Data) (p : Side × Data) → parts_of d ≡ Some p → of_parts p ≡ d
 parts_write_back (object (member k edit (member l (string s) no_members))) p h =
     let named = if_then (bytes_eq k (codes "edit") && bytes_eq l (codes "side")) (option_map (λ side. (side, edit)) (side_of s)) p h in
-    let first = equal_bytes k (codes "edit") (left (bytes_eq k (codes "edit")) (bytes_eq l (codes "side")) named.0) in
-    let second = equal_bytes l (codes "side") (right (bytes_eq k (codes "edit")) (bytes_eq l (codes "side")) named.0) in
+    let first = bytes_eq-is k (codes "edit") (left (bytes_eq k (codes "edit")) (bytes_eq l (codes "side")) named.0) in
+    let second = bytes_eq-is l (codes "side") (right (bytes_eq k (codes "edit")) (bytes_eq l (codes "side")) named.0) in
     let inner = side_some s edit p (side_of s) (side_writes_back s) named.1 in
     rw (first, second, inner.0, inner.1) refl
 parts_write_back d p h = cc

@@ -1,23 +1,20 @@
 -- The items of a group as loops go over them.
-use Rattle.std.proofs.Common.{◌≡◌, ℕ, zero, suc, ◌+◌, add-one, ◌<◌, ◌≤◌, true, false, ◌&&◌, List, [], ◌∷◌, ◌++◌, append_assoc, map, take, drop, drop-cons, length, get_or, Result, Ok, Err, refl, sym, ap, ap₂, ◌∙◌, arith}
-use Rattle.std.specs.Prelude.{is_some}
+use Rattle.std.proofs.Common.{◌≡◌, ℕ, zero, suc, ◌+◌, add-one, ◌<◌, ◌≤◌, true, ◌&&◌, List, [], ◌∷◌, ◌++◌, map, take, drop, drop-cons, length, get_or, Result, Ok, Err, refl, sym, ap, ap₂, ◌∙◌, arith}
 use Rattle.std.specs.List.{list_all}
 use Rattle.std.proofs.Math.Seq.{take-suc}
-use Rattle.std.proofs.lemmas.List.{drop_all, take_all, append-nil, map-append}
+use Rattle.std.proofs.lemmas.List.{drop_all, take_all, map-append}
 use Rattle.serde_json.specs.Data.{Data, Items, no_items, item}
-use Rattle.serde_json.specs.View.{view, items_of, items_view}
-use Rattle.serde_json.specs.declared.value.Value.{Value}
+use Rattle.serde_json.specs.View.{items_of}
 use Rattle.texts.proofs.Conjunction.{both, first as left, second as right}
 use Rattle.texts.specs.declared.side.Side.{Side}
 use Rattle.texts.specs.Sides.{other}
-use Rattle.value_json.proofs.Counts.{left_items}
 use Rattle.edit_module.specs.declared.entry.Entry.{Entry}
 use Rattle.edit_module.specs.declared.word.Word.{Word}
 use Rattle.edit_module.specs.Words.{WordTree}
 use Rattle.edit_module.specs.Changes.{carried_to}
 use Rattle.edit_module.specs.Views.{word_tree, word_trees, entry_tree, entry_trees}
 use Rattle.edit_json.specs.WordJson.{counts_fit, numbers_fit}
-use Rattle.edit_journal.specs.EntryJson.{LineFault, tree_of_entry, items_of_entries, entries_counts_fit, entries_numbers_fit, parts_of, entry_of_tree, are_entries, in_front, entries_of_items}
+use Rattle.edit_journal.specs.EntryJson.{LineFault, tree_of_entry, items_of_entries, entries_counts_fit, entries_numbers_fit}
 
 -- ---- reading
 
@@ -26,44 +23,7 @@ abbrev pub behind : List (Side × WordTree) → Result (List (Side × WordTree))
 behind es (Ok others) = Ok (es ++ others)
 behind es (Err fault) = Err fault
 
-pub behind-none : (o : Result (List (Side × WordTree)) LineFault) → behind [] o ≡ o
-behind-none (Ok es) = refl
-behind-none (Err fault) = refl
-
-behind-more : (es : List (Side × WordTree)) (e : Side × WordTree) (o : Result (List (Side × WordTree)) LineFault) → behind es (in_front (Ok e) o) ≡ behind (es ++ e ∷ []) o
-behind-more es e (Ok others) = ap Ok (sym (append_assoc es (e ∷ []) others))
-behind-more es e (Err fault) = refl
-
-pub next_entry : (vs : List Value) (i : ℕ) (v : Value) (es : List (Side × WordTree)) (e : Side × WordTree) → i < length vs → v ≡ get_or vs i v → entry_of_tree (view v) ≡ Ok e
-    → behind es (entries_of_items (items_view (drop i vs))) ≡ behind (es ++ e ∷ []) (entries_of_items (items_view (drop (i + 1) vs)))
-next_entry vs i v es e within is h =
-    ap (λ xs. behind es (entries_of_items (items_view xs))) (left_items vs i v within is)
-    ∙ ap (λ r. behind es (in_front r (entries_of_items (items_view (drop (i + 1) vs))))) h
-    ∙ behind-more es e (entries_of_items (items_view (drop (i + 1) vs)))
-
-pub entry_refused : (vs : List Value) (i : ℕ) (v : Value) (es : List (Side × WordTree)) (fault : LineFault) → i < length vs → v ≡ get_or vs i v → entry_of_tree (view v) ≡ Err fault
-    → behind es (entries_of_items (items_view (drop i vs))) ≡ Err fault
-entry_refused vs i v es fault within is h =
-    ap (λ xs. behind es (entries_of_items (items_view xs))) (left_items vs i v within is)
-    ∙ ap (λ r. behind es (in_front r (entries_of_items (items_view (drop (i + 1) vs))))) h
-
-pub entries_done : (vs : List Value) (i : ℕ) (es : List (Side × WordTree)) → length vs ≤ i → behind es (entries_of_items (items_view (drop i vs))) ≡ Ok es
-entries_done vs i es past = ap (λ xs. behind es (entries_of_items (items_view xs))) (drop_all i vs past) ∙ ap Ok (append-nil es)
-
 -- ---- the test of the forms
-
-pub next_form : (vs : List Value) (i : ℕ) (v : Value) → i < length vs → v ≡ get_or vs i v → is_some (parts_of (view v)) ≡ true
-    → are_entries (items_view (drop i vs)) ≡ are_entries (items_view (drop (i + 1) vs))
-next_form vs i v within is h =
-    ap (λ xs. are_entries (items_view xs)) (left_items vs i v within is) ∙ ap (λ b. b && are_entries (items_view (drop (i + 1) vs))) h
-
-pub form_refused : (vs : List Value) (i : ℕ) (v : Value) → i < length vs → v ≡ get_or vs i v → is_some (parts_of (view v)) ≡ false
-    → are_entries (items_view (drop i vs)) ≡ false
-form_refused vs i v within is h =
-    ap (λ xs. are_entries (items_view xs)) (left_items vs i v within is) ∙ ap (λ b. b && are_entries (items_view (drop (i + 1) vs))) h
-
-pub forms_done : (vs : List Value) (i : ℕ) → length vs ≤ i → are_entries (items_view (drop i vs)) ≡ true
-forms_done vs i past = ap (λ xs. are_entries (items_view xs)) (drop_all i vs past)
 
 -- ---- writing a group
 
@@ -91,9 +51,6 @@ all_items (e ∷ es) = ap (item (tree_of_entry (entry_tree e))) (all_items es)
 
 pub items_written : (es : List Entry) (i : ℕ) → length es ≤ i → items_of (map (λ e. tree_of_entry (entry_tree e)) (take i es)) ≡ items_of_entries (entry_trees es)
 items_written es i past = ap (λ xs. items_of (map (λ e. tree_of_entry (entry_tree e)) xs)) (take_all i es past) ∙ all_items es
-
-pub all_fit : (es : List Entry) (i : ℕ) → length es ≤ i → entries_numbers_fit (entry_trees (take i es)) ≡ true → entries_numbers_fit (entry_trees es) ≡ true
-all_fit es i past h = ap (λ xs. entries_numbers_fit (entry_trees xs)) (sym (take_all i es past)) ∙ h
 
 -- ---- writing carried words
 

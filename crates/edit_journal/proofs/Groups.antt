@@ -7,13 +7,14 @@ use Rattle.serde_json.specs.Data.{Data, array, object, Items, no_items, item, no
 use Rattle.serde_json.specs.Written.{has_float, items_have_float}
 use Rattle.texts.proofs.Conjunction.{first as left, second as right, both}
 use Rattle.texts.specs.declared.side.Side.{Side}
-use Rattle.value_json.proofs.Facts.{equal_bytes, if_then}
+use Rattle.value_json.proofs.Facts.{if_then}
 use Rattle.edit_module.specs.Words.{WordTree}
 use Rattle.edit_module.specs.Changes.{ChangeTree, one, group, entries_of}
 use Rattle.edit_json.specs.WordJson.{counts_fit, numbers_fit}
 use Rattle.edit_json.specs.Depths.{word_depth}
 use Rattle.edit_journal.specs.EntryJson.{LineFault, not_an_entry, tree_of_entry, items_of_entries, tree_of_change, entries_counts_fit, entries_numbers_fit, change_counts_fit, change_numbers_fit, parts_of, entry_of_tree, array_items, group_items, are_entries, in_front, entries_of_items, group_of_items, as_change, change_of_parts, change_of_tree}
 use Rattle.edit_journal.proofs.Entries.{parts_read_back, reads_back, writes_back, whole, shallow}
+use Rattle.texts.proofs.Tests.{bytes_eq-is}
 
 -- ---- from a change to its tree and back
 
@@ -71,7 +72,7 @@ array_is d ds h = cc
 group_is : (d : Data) (ds : Items) → group_items d ≡ Some ds → object (member (codes "group") (array ds) no_members) ≡ d
 group_is (object (member k d no_members)) ds h =
     let named = if_then (bytes_eq k (codes "group")) (array_items d) ds h in
-    ap₂ (λ (l : List ℕ) (e : Data). object (member l e no_members)) (sym (equal_bytes k (codes "group") named.0)) (array_is d ds named.1)
+    ap₂ (λ (l : List ℕ) (e : Data). object (member l e no_members)) (sym (bytes_eq-is k (codes "group") named.0)) (array_is d ds named.1)
 group_is d ds h = cc
 
 as_change_is : {X : Type 0} (change : X → ChangeTree) (r : Result X LineFault) (c : ChangeTree) → as_change change r ≡ Ok c → (x : X) × (r ≡ Ok x) × (change x ≡ c)

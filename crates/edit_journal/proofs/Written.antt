@@ -1,5 +1,5 @@
 -- What is written, as the clauses of the writers say it.
-use Rattle.std.proofs.Common.{◌≡◌, ℕ, ◌+◌, ◌*◌, ◌≤◌, true, false, Some, Result, Ok, Err, IfOk, OnOk, ap, ◌∙◌, arith}
+use Rattle.std.proofs.Common.{◌≡◌, ℕ, ◌+◌, ◌*◌, ◌≤◌, true, false, Result, Ok, Err, IfOk, OnOk, ap, ◌∙◌, arith}
 use Rattle.std.specs.List.{All}
 use Rattle.std.specs.declared.alloc.AllocError.{AllocError}
 use Rattle.serde_json.specs.Data.{depth}
@@ -10,9 +10,8 @@ use Rattle.texts.specs.declared.side.Side.{Side}
 use Rattle.edit_module.specs.Words.{WordTree}
 use Rattle.edit_module.specs.Changes.{ChangeTree, entries_of}
 use Rattle.edit_json.specs.Depths.{word_depth}
-use Rattle.edit_json.specs.WordJson.{tree_of_word}
-use Rattle.edit_journal.specs.EntryJson.{tree_of_entry, tree_of_change, parts_of, change_counts_fit, change_numbers_fit, change_of_tree}
-use Rattle.edit_journal.proofs.Entries.{parts_read_back, whole, shallow}
+use Rattle.edit_journal.specs.EntryJson.{tree_of_entry, tree_of_change, change_counts_fit, change_numbers_fit, change_of_tree}
+use Rattle.edit_journal.proofs.Entries.{whole, shallow}
 use Rattle.edit_journal.proofs.Groups.{change_reads_back, change_whole, change_shallow}
 
 -- ---- a change
@@ -31,10 +30,6 @@ change_nests (Ok tree) change is = λ n h. let same = ap depth is in omega (arit
 change_nests (Err e) change is = tt
 
 -- ---- an entry
-
-pub entry_parts : (r : Result Value AllocError) (e : Side × WordTree) → IfOk r (λ tree. view tree ≡ tree_of_entry e) → IfOk r (λ tree. parts_of (view tree) ≡ Some (e.0, tree_of_word e.1))
-entry_parts (Ok tree) e is = ap parts_of is ∙ parts_read_back e
-entry_parts (Err x) e is = tt
 
 pub entry_no_float : (r : Result Value AllocError) (e : Side × WordTree) → IfOk r (λ tree. view tree ≡ tree_of_entry e) → IfOk r (λ tree. has_float (view tree) ≡ false)
 entry_no_float (Ok tree) e is = ap has_float is ∙ whole e

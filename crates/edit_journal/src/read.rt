@@ -64,8 +64,11 @@ fn read_text(alloc: Global, bytes: &[u8]) -> Result<Change, EntryFault>
     read_change(alloc, &tree)
 }
 
-// The tree of a text.
-fn read_tree(alloc: Global, bytes: &[u8]) -> Result<Value, EntryFault>
+/// The tree of a text.
+///
+/// Refused by `NotJson` if and only if the reader of JSON has no tree for these bytes; by `NoMemory`, which says nothing
+/// of them.
+pub fn read_tree(alloc: Global, bytes: &[u8]) -> Result<Value, EntryFault>
     ensures { Gives view result (ok_or (tree_of_text bytes.now) not_json) }
 {
     match Value::from_slice(alloc, bytes) {
@@ -193,8 +196,10 @@ fn read_side(text: &str) -> Option<Side>
     }
 }
 
-// The word of an edit.
-fn read_edit(alloc: Global, edit: &Value) -> Result<Word, EntryFault>
+/// The word of an edit.
+///
+/// Refused by `NotAnEdit` if and only if the tree is not the tree of a word; by `NoMemory`, which says nothing of it.
+pub fn read_edit(alloc: Global, edit: &Value) -> Result<Word, EntryFault>
     ensures { Gives word_tree result (ok_or (word_of_tree (view edit.now)) not_an_edit) }
 {
     match read_word(alloc, edit) {

@@ -1,15 +1,11 @@
 -- The counts of a word, primitive by primitive.
-use Rattle.std.proofs.Math.Seq.{drop-cons}
 use Rattle.std.proofs.lemmas.List.{drop_all}
-use Rattle.std.proofs.Common.{◌≡◌, ℕ, suc, ◌+◌, add-one, ◌<◌, ◌≤◌, Bool, true, false, ◌&&◌, List, ◌∷◌, map, drop, length, get_or, refl, sym, ap, ◌∙◌}
+use Rattle.std.proofs.Common.{◌≡◌, ℕ, ◌+◌, ◌<◌, ◌≤◌, Bool, true, false, ◌&&◌, List, ◌∷◌, map, drop, length, get_or, refl, ap, ◌∙◌}
 use Rattle.edit_module.specs.Words as words
 use Rattle.edit_module.specs.Views.{primitive_tree}
 use Rattle.edit_module.specs.declared.word.Primitive.{Primitive}
 use Rattle.edit_json.specs.WordJson.{primitive_counts_fit, counts_fit}
-
--- what is left begins with the primitive at the index
-pub left_primitives : (ps : List Primitive) (i : ℕ) (p : Primitive) → i < length ps → p ≡ get_or ps i p → drop i ps ≡ p ∷ drop (i + 1) ps
-left_primitives ps i p within is = rw (add-one, drop-cons ps i p within) (ap (λ x. x ∷ drop (suc i) ps) (sym is))
+use Rattle.edit_module.proofs.Words.{left_primitives}
 
 fits_first : (p b : Bool) → p ≡ true → (p && b) ≡ b
 fits_first p b h = rw h refl

@@ -13,13 +13,14 @@ use Rattle.edit_module.specs.Words.{PrimitiveTree, set, add, splice, at, stay, s
 use Rattle.doc_values.specs.Integers.{fits_i64}
 use Rattle.value_json.specs.Numbers.{int_in, int_of, count_in, count_of, counts_of, int_tree, count_tree}
 use Rattle.texts.proofs.Conjunction.{both}
-use Rattle.value_json.proofs.Facts.{equal_bytes, bind_some, map_some, if_some}
+use Rattle.value_json.proofs.Facts.{bind_some, map_some, if_some}
 use Rattle.value_json.proofs.ReadingHasTree.{int_takes, count_takes, counts_take}
 use Rattle.edit_json.specs.declared.kind.Kind.{Kind}
 use Rattle.edit_json.specs.declared.kind.Kind.TheVariants.{Set, Add, Splice, At, Stay, Switch, Mod, Ins, Del, Move, Reorder, Put, Drop, Rename, Graft, Prune, Shift, Hang}
 use Rattle.edit_json.specs.Kinds.{kind_of}
 use Rattle.edit_json.specs.Values.{tree_of_counts, tree_of_atom, tree_of_place, atom_of, numbers_of, place_of, if_count, item_count_of, fits_u64, all_fit_u64, atom_fits, place_fits}
 use Rattle.edit_json.specs.WordJson.{one, tree_of_primitive, items_of_word, tree_of_word, leaf_of, primitive_of, content_of, word_of_tree, word_of_items, primitive_counts_fit, counts_fit, primitive_numbers_fit, numbers_fit}
+use Rattle.texts.proofs.Tests.{bytes_eq-is}
 
 -- ---- values
 
@@ -102,7 +103,7 @@ name_of Hang = codes "hang"
 or_rest : (k : List ℕ) (x kind : Kind) (rest : Option Kind) → cond (bytes_eq k (name_of x)) (Some x) rest ≡ Some kind → (rest ≡ Some kind → k ≡ name_of kind) → k ≡ name_of kind
 or_rest k x kind rest h later = by_test (bytes_eq k (name_of x)) refl h where
   by_test : (b : Bool) → bytes_eq k (name_of x) ≡ b → cond b (Some x) rest ≡ Some kind → k ≡ name_of kind
-  by_test true is h = let e : x ≡ kind = cc in equal_bytes k (name_of x) is ∙ ap name_of e
+  by_test true is h = let e : x ≡ kind = cc in bytes_eq-is k (name_of x) is ∙ ap name_of e
   by_test false is h = later h
 
 kind_found : (k : List ℕ) (kind : Kind) → kind_of k ≡ Some kind → k ≡ name_of kind
@@ -128,9 +129,6 @@ pub record WordRead (ds : Items) (w : WordTree) : Type 0 where
   pub tree : items_of_word w ≡ ds
   pub counts : counts_fit w ≡ true
   pub numbers : numbers_fit w ≡ true
-
-one_read : (name : List ℕ) (d e : Data) (p : PrimitiveTree) → d ≡ e → IsRead (one name d) p → IsRead (one name e) p
-one_read name d e p same r = subst (λ x. IsRead (one name x) p) same r
 
 leaf_takes : (kind : Kind) (d : Data) (p : PrimitiveTree) → leaf_of kind d ≡ Some p → IsRead (one (name_of kind) d) p
 leaf_takes Set d p h =

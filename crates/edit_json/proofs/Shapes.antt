@@ -23,10 +23,3 @@ not_three (a ∷ []) h = refl
 not_three (a ∷ b ∷ []) h = refl
 not_three (a ∷ b ∷ c ∷ []) h = absurd (h refl)
 not_three (a ∷ b ∷ c ∷ d ∷ vs) h = refl
-
-pub all_three : (vs : List Value) (a b c : Value) → length vs ≡ 3 → Some (view (get_or vs 0 a), view (get_or vs 1 b), view (get_or vs 2 c)) ≡ three_items (array (items_view vs))
-all_three [] a b c three = absurd (omega (arith, three))
-all_three (x ∷ []) a b c three = absurd (omega (arith, three))
-all_three (x ∷ y ∷ []) a b c three = absurd (omega (arith, three))
-all_three (x ∷ y ∷ z ∷ []) a b c three = refl
-all_three (x ∷ y ∷ z ∷ v ∷ vs) a b c three = absurd (omega (arith, three))

@@ -81,7 +81,7 @@ container-other kinds.Keyed t _ d h = refl
 container-other kinds.Tree t _ d h = refl
 
 -- the row of shape edits, over the values of the code
-primitive_tree-Shape : (e : ShapeEdit) → primitive_tree (Shape e) ≡ shape e
+pub primitive_tree-Shape : (e : ShapeEdit) → primitive_tree (Shape e) ≡ shape e
 primitive_tree-Shape e = search (rules, primitive_lemmas)
 
 pub doc_tree-Hold : (s : ShapeOf) (ds : Docs) → doc_tree (Hold s ds) ≡ hold s (docs_tree ds)

@@ -11,7 +11,6 @@ use Rattle.doc_values.specs.Types.{TyTree, ty_rec, ty_alt, ty_list, ty_keyed, ty
 use Rattle.doc_values.specs.Typing.{has, lookup_field, lookup_type}
 use Rattle.doc_values.specs.Initial.{initial}
 use Rattle.doc_values.proofs.Lists.{doc_list-docs_of}
-use Rattle.doc_values.proofs.InitialTypes.{bytes_eq-refl}
 use Rattle.edit_module.specs.declared.fault.Cause.{Cause}
 use Rattle.edit_module.specs.declared.fault.Cause.TheVariants.{Place, Tag}
 use Rattle.edit_module.specs.Words.{PrimitiveTree, at, stay, switch, modify, WordTree, more_primitives, joined, word_length}
@@ -20,7 +19,9 @@ use Rattle.edit_module.specs.Containers.{IsHeld}
 use Rattle.edit_module.specs.Laws.{in_turn}
 use Rattle.edit_module.specs.Normal.{is_same_place, merge}
 use Rattle.edit_module.proofs.WordSteps.{act-joined}
-use Rattle.edit_module.proofs.ActionKeepsTypes.{count-is, has_fields-at, list-held, keyed-held, tree-held, item-typed}
+use Rattle.edit_module.proofs.ActionKeepsTypes.{has_fields-at, list-held, keyed-held, tree-held, item-typed}
+use Rattle.std.proofs.lemmas.Bool.{eqb-true}
+use Rattle.texts.proofs.KeyOrder.{bytes_eq-refl}
 
 -- ---- values and causes, one after another
 
@@ -166,7 +167,7 @@ merged_is true p r e = (refl, cc)
 merged_is false p r e = cc
 
 same_place-is : (p q : PlaceOf) → is_same_place p q ≡ true → p ≡ q
-same_place-is (Index p) (Index q) e = ap Index (count-is p q e)
+same_place-is (Index p) (Index q) e = ap Index (eqb-true p q e)
 same_place-is (Key k) (Key l) e = ap Key ((bytes_eq-Decides k l).0 e)
 same_place-is (Node p) (Node q) e = ap Node ((bytes_eq-Decides p q).0 e)
 same_place-is _ _ e = cc

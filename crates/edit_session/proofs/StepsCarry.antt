@@ -14,16 +14,12 @@ use Rattle.lens_core.specs.Complements.{CompTree}
 use Rattle.lens_core.specs.Sides.{near}
 use Rattle.lens_core.specs.Translation.{Translated}
 use Rattle.lens_core.specs.Laws.{SeenFrom, IsCarried, TypesAreWellFormed, TogetherAreTyped, WordsCarry}
-use Rattle.edit_session.specs.declared.fault.StepFault.{StepFault}
 use Rattle.edit_session.specs.declared.fault.StepFault.TheVariants.{NoApply, NoMemory}
 use Rattle.edit_session.specs.declared.fault.GroupFault.{GroupFault}
 use Rattle.edit_session.specs.declared.fault.GroupFault.TheVariants as of_groups
 use Rattle.edit_session.specs.Step.{TripleTree, IsInStep, ApplyInTurn, Stepped, AllStepped, WhyPart, with_first, after_first, document_on, triple_from, after_carrying, after_action, step, step_each}
-use Rattle.edit_session.specs.Views.{IsStepFault, IsGroupFault}
-
--- what is equal to two values has one, and a value is no refusal
-only : {X : Type 0} {o : Option X} {x y : X} → o ≡ Some x → o ≡ Some y → x ≡ y
-only p q = cc
+use Rattle.edit_session.specs.Views.{IsGroupFault}
+use Rattle.texts.proofs.Tests.{same_value}
 
 only_ok : {X Y : Type 0} {a : Result X Y} {x y : X} → a ≡ Ok x → a ≡ Ok y → x ≡ y
 only_ok p q = cc
@@ -67,7 +63,7 @@ module _ (holds : DocTree → CompTree → DocTree → Type 0) (left right : TyT
       → act (near (other side) left right) r.0 (document_on (other side) t) ≡ Err why → ⊥
   never_refused side t w x r why h is some refused =
       let k = carries side t w x h is in
-      apart (ap (λ (p : Translated). act (near (other side) left right) p.0 (document_on (other side) t)) (only k.carried some)) k.acts refused
+      apart (ap (λ (p : Translated). act (near (other side) left right) p.0 (document_on (other side) t)) (same_value k.carried some)) k.acts refused
 
   -- and the new triple is in step
   pub next_in_step : (side : Side) (t : TripleTree) (w : WordTree) (x : DocTree) (r : Translated) (y : DocTree) → IsInStep holds t
@@ -75,7 +71,7 @@ module _ (holds : DocTree → CompTree → DocTree → Type 0) (left right : TyT
       → act (near (other side) left right) r.0 (document_on (other side) t) ≡ Ok y → IsInStep holds (triple_from side x r.1 y)
   next_in_step side t w x r y h is some acts =
       let k = carries side t w x h is in
-      let same_word = only k.carried some in
+      let same_word = same_value k.carried some in
       let same_document = only_ok k.acts (subst (λ (p : Translated). act (near (other side) left right) p.0 (document_on (other side) t) ≡ Ok y) (sym same_word) acts) in
       let comp_is : k.comp ≡ r.1 = ap (λ (p : Translated). p.1) same_word in
       from_seen holds side x r.1 y (subst (λ c. SeenFrom side holds x c y) comp_is (subst (λ d. SeenFrom side holds x k.comp d) same_document k.consistent))
@@ -90,13 +86,6 @@ carried_is_no_refusal : (side : Side) (x : DocTree) (f : Translated → Result D
     → option_and_then (λ r. after_carrying side x r (f r)) o ≡ Some (Err why) → ⊥
 carried_is_no_refusal side x f None why e = cc
 carried_is_no_refusal side x f (Some r) why e = carrying_is_no_refusal side x r (f r) why e
-
-pub only_no_memory : (left right : TyTree) (carried : Side → CompTree → WordTree → Option Translated) (t : TripleTree) (e : Side × WordTree) (fault : StepFault)
-    → IsStepFault (step left right carried t e) fault → (x : DocTree) → act (near e.0 left right) e.1 (document_on e.0 t) ≡ Ok x → fault ≡ NoMemory
-only_no_memory left right carried t e (NoApply at cause) refused x is = absurd (carried_is_no_refusal e.0 x
-    (λ r. act (near (other e.0) left right) r.0 (document_on (other e.0) t)) (carried e.0 t.comp e.1) (at, cause)
-    (subst (λ a. after_action left right carried t e.0 e.1 a ≡ Some (Err (at, cause))) is refused))
-only_no_memory left right carried t e NoMemory refused x is = refl
 
 -- where each entry of a group applies in its turn, the group is not refused with numbers and a cause
 with_first_refused : (w : WordTree) (o : Option AllStepped) (why : WhyPart) → option_map (with_first w) o ≡ Some (Err why) → (first : WhyPart) × (o ≡ Some (Err first))

@@ -7,11 +7,15 @@ use Rattle.command_words.specs.declared.orders.Order.{Order}
 use Rattle.command_words.specs.declared.orders.Order.TheVariants as order
 use Rattle.journal_input.specs.declared.limits.TheConstants.{MOST_BYTES}
 use Rattle.accepted_programs.specs.Program.{lens_of}
+use Rattle.answer_text.specs.RefusalLines.{refused_part_line}
 use Rattle.hub_run.specs.Lenses as hub_parts
 use Rattle.hub_run.specs.Lenses.{lenses_of}
 use Rattle.hub_run.specs.Runs as hub
 use Rattle.hub_run.specs.Runs.{first_state, IsInStep}
 use Rattle.hub_run.proofs.FormsInStep.{accepted_in_step}
+use Rattle.lens_io.specs.declared.disk.Disk as OfDisk
+use Rattle.lens_io.specs.declared.sink.Sink as OfSink
+use Rattle.lens_io.specs.declared.source.Source as OfSource
 use Rattle.link_run.specs.Runs as link
 use Rattle.link_run.specs.Runs.{first_link, line_answer, IsInTurnsWith}
 use Rattle.link_run.proofs.RunsInTurns.{every_run}
@@ -29,13 +33,21 @@ use Rattle.store_import.specs.Import as importing
 use Rattle.store_import.specs.Import.{Brings}
 use Rattle.store_making.specs.Init.{Begins, Refuses}
 use Rattle.store_session.specs.StoredStates.{StoredState}
+use Rattle.store_session.proofs.StatesInStep.{stored_sound}
+use Rattle.editlens_main.specs.Applies.{Applies}
 use Rattle.editlens_main.specs.Commands.{script_command, reads_source, uses_disk}
 use Rattle.editlens_main.specs.Ends.{IsFinished}
-use Rattle.editlens_main.specs.MakingEnds.{FindsLog, InitEnds, ImportEnds}
-use Rattle.editlens_main.specs.OrderEnds.{ScriptEnds, GenEnds, EndsOrder}
-use Rattle.editlens_main.specs.ScriptEnds.{HubEnds, LinkEnds}
-use Rattle.editlens_main.specs.StoreEnds.{ApplyEnds, PackEnds, UndoingEnds, ViewEnds}
+use Rattle.editlens_main.specs.Generates.{Generates}
+use Rattle.editlens_main.specs.ImportsStore.{ImportsStore}
+use Rattle.editlens_main.specs.MakesStore.{MakesStore, FindsLog}
+use Rattle.editlens_main.specs.OrderEnds.{EndsOrder}
+use Rattle.editlens_main.specs.Packs.{Packs}
+use Rattle.editlens_main.specs.Runs.{RunsScript}
+use Rattle.editlens_main.specs.RunsHub.{RunsHub}
+use Rattle.editlens_main.specs.RunsLink.{RunsLink}
+use Rattle.editlens_main.specs.Shows.{ReadsStore}
 use Rattle.editlens_main.specs.StoreStatus.{MakesAs}
+use Rattle.editlens_main.specs.Undoes.{Undoes}
 use Rattle.editlens_main.specs.declared.commands.Command.{Command}
 use Rattle.editlens_main.specs.declared.commands.Command.TheVariants.{Run, Check}
 use Rattle.editlens_main.specs.declared.status.Status.{Status}
@@ -43,6 +55,7 @@ use Rattle.editlens_main.specs.declared.status.Status.TheVariants.{NoMemory}
 use Rattle.editlens_main.proofs.RunEnds.{complete}
 use Rattle.editlens_main.proofs.ScriptEnds.{ended_never}
 use Rattle.editlens_main.proofs.ScriptStatuses.{script_never}
+use Rattle.editlens_main.proofs.StoresInStep.{stays_in_step}
 
 -- ---- the order that was read
 
@@ -55,33 +68,30 @@ not_diskless o p e uses not = true≢false (sym (ap (λ x. uses_disk (Some x)) e
 pub not_none : (o : Order) (q : Option Order) → q ≡ Some o → q ≡ None → ⊥
 not_none o q named e = let never : Some o ≡ None = sym named ∙ e in cc
 
--- ---- what a command comes to
-
-module _ {S K D : Type 0}
-    (left : S → Option (List ℕ)) (held : K → Option (List ℕ)) (content : D → Option (List ℕ)) (images : D → List ℕ → Type 0)
-    (moment : D → ℕ) (images_since : D → ℕ → List ℕ → Type 0) (room : D → Option ℕ)
-    (s : S) (k : K) (d : D) (s' : S) (k' : K) (d' : D) (R F W : Type 0) (status : Status) where
+module _ {S K D : Type 0} (source : OfSource.Ghosts S) (sink : OfSink.Ghosts K) (disk : OfDisk.Ghosts D) (old new : S × K × D) (status : Status) where
   -- the order that the words give is the one that was read
-  pub at_order : (o p : Order) (q : Option Order) → q ≡ Some o → EndsOrder left held content images moment images_since room s k d s' k' d' R F W status o → q ≡ Some p → EndsOrder left held content images moment images_since room s k d s' k' d' R F W status p
-  at_order o p q named ends e = subst (λ x. EndsOrder left held content images moment images_since room s k d s' k' d' R F W status x) (same_Some o p (sym named ∙ e)) ends
+  pub at_order : (o p : Order) (q : Option Order) → q ≡ Some o → EndsOrder source sink disk old new status o → q ≡ Some p → EndsOrder source sink disk old new status p
+  at_order o p q named ends e = subst (EndsOrder source sink disk old new status) (same_Some o p (sym named ∙ e)) ends
 
-  script_read : (o : Order) (command : Command) → script_command o ≡ Some command → EndsOrder left held content images moment images_since room s k d s' k' d' R F W status o → ScriptEnds command (left s) (left s') (held k) (held k') R F status
-  script_read order.Run command e ends = let same : Run ≡ command = cc in subst (λ c. ScriptEnds c (left s) (left s') (held k) (held k') R F status) same ends
-  script_read order.Check command e ends = let same : Check ≡ command = cc in subst (λ c. ScriptEnds c (left s) (left s') (held k) (held k') R F status) same ends
-  script_read (order.Gen count seed) command e ends = cc
-  script_read order.Init command e ends = cc
-  script_read order.Import command e ends = cc
-  script_read order.Apply command e ends = cc
-  script_read order.Show command e ends = cc
-  script_read order.Verify command e ends = cc
-  script_read order.Pack command e ends = cc
-  script_read (order.Undo count) command e ends = cc
-  script_read order.Hub command e ends = cc
-  script_read order.Link command e ends = cc
+-- what holds of `run` and of `check` holds of the command over a script that was read
+module _ (P : Command → Type 0) where
+  at_command : (o : Order) (command : Command) → script_command o ≡ Some command → (o ≡ order.Run → P Run) → (o ≡ order.Check → P Check) → P command
+  at_command order.Run command e run check = let same : Run ≡ command = cc in subst P same (run refl)
+  at_command order.Check command e run check = let same : Check ≡ command = cc in subst P same (check refl)
+  at_command (order.Gen count seed) command e run check = cc
+  at_command order.Init command e run check = cc
+  at_command order.Import command e run check = cc
+  at_command order.Apply command e run check = cc
+  at_command order.Show command e run check = cc
+  at_command order.Verify command e run check = cc
+  at_command order.Pack command e run check = cc
+  at_command (order.Undo count) command e run check = cc
+  at_command order.Hub command e run check = cc
+  at_command order.Link command e run check = cc
 
-  -- the same for a command over a script
-  pub at_script : (o : Order) (command : Command) (q : Option Order) → q ≡ Some o → EndsOrder left held content images moment images_since room s k d s' k' d' R F W status o → option_and_then script_command q ≡ Some command → ScriptEnds command (left s) (left s') (held k) (held k') R F status
-  at_script o command q named ends e = script_read o command (ap (option_and_then script_command) (sym named) ∙ e) ends
+  pub by_command : (q : Option Order) (command : Command) → option_and_then script_command q ≡ Some command → (q ≡ Some order.Run → P Run) → (q ≡ Some order.Check → P Check) → P command
+  by_command None command e run check = cc
+  by_command (Some o) command e run check = at_command o command e (λ is. run (ap Some is)) (λ is. check (ap Some is))
 
 -- ---- memory ran out at the words
 
@@ -94,143 +104,156 @@ never_complete : (makes : List ℕ → List (List ℕ) → List ℕ → Type 0) 
 never_complete makes None R F W = tt
 never_complete makes (Some bytes) R F W = λ few r f w. (making.NoMemory, refl, record { accepted = λ form is fits. tt; refused = λ refusal is. tt })
 
-module _ {S K D : Type 0}
-    (left : S → Option (List ℕ)) (held : K → Option (List ℕ)) (content : D → Option (List ℕ)) (images : D → List ℕ → Type 0)
-    (moment : D → ℕ) (images_since : D → ℕ → List ℕ → Type 0) (room : D → Option ℕ)
-    (only : (d : D) (c : List ℕ) → images_since d (moment d) c → images d c) (s : S) (k : K) (d : D) (R F W : Type 0) where
-  pub never_script : (command : Command) → ScriptEnds command (left s) (left s) (held k) (held k) R F NoMemory
+module _ {S K : Type 0} (source : OfSource.Ghosts S) (sink : OfSink.Ghosts K) (old : S × K) where
+  pub never_script : (command : Command) → RunsScript source sink old old NoMemory command
   never_script command =
-      let e = ended_never command (left s) (held k) in
-      record { stops = e.stops; reports = e.reports; complete = complete command (left s) (left s) (held k) (held k) NoMemory R F e.stops e.reports (λ h. cc) (λ h. cc) }
-
-  pub never_gen : (count seed : ℕ) → GenEnds count seed (held k) (held k) F NoMemory
-  never_gen count seed = record { writes = Appends-nil (held k); complete = λ f. inr refl }
-
-  never_finds : FindsLog held content images s k d s k d NoMemory
-  never_finds = by_content (content d) where
-    by_content : (o : Option (List ℕ)) → IfSome o (λ bytes. 0 < length bytes
-        → (s ≡ s) × IsUnwritten content images d d
-        × MakesAs (λ ended. GivesLine (held k) (held k) (refusal_line LogExists) making.StoreRefused ended
-        ⊎ ((ended ≡ making.DiskFault) ⊎ (ended ≡ making.NoMemory)) × (k ≡ k)) NoMemory)
-    by_content None = tt
-    by_content (Some bytes) = λ some. (refl, unwritten_none content images d, (making.NoMemory, refl, inr (inr refl, refl)))
-
-  -- nothing was taken, and nothing was written
-  never_ends : (refuses : Option (List ℕ) → List ℕ → MakingStatus → List ℕ → Type 0) (makes : List ℕ → List (List ℕ) → List ℕ → Type 0)
-      → MakesAs (Ends content images refuses makes (left s) (left s) (held k) (held k) d d) NoMemory
-  never_ends refuses makes = (
-    making.NoMemory,
-    refl,
-    inr (inl (record {
-      bytes = [];
-      consumes = Consumes-nil (left s);
-      at_most = omega arith;
-      stops = tt;
-      unwritten = unwritten_none content images d;
-      given = Appends-nil (held k);
-    })),
-  )
-
-  pub never_init : InitEnds content images room (left s) (left s) (held k) (held k) d d R F W NoMemory × FindsLog held content images s k d s k d NoMemory
-  never_init = (
-    record { starts = λ e. cc; ends = never_ends Refuses Begins; cause = λ e. cc; complete = λ empty. never_complete Begins (left s) R F W },
-    never_finds,
-  )
-
-  pub never_import : ImportEnds content images room (left s) (left s) (held k) (held k) d d R F W NoMemory × FindsLog held content images s k d s k d NoMemory
-  never_import = (
-    record {
-      brings = λ e. cc;
-      refuses = λ e. cc;
-      ends = never_ends importing.Refuses Brings;
-      cause = λ e. cc;
-      complete = λ empty. never_complete Brings (left s) R F W;
-    },
-    never_finds,
-  )
-
-  pub never_apply : ApplyEnds held content images moment images_since room F W R (left s) (left s) k d k d NoMemory
-  never_apply = record {
-    continues = λ before t version stood f. absurd (not_memory f);
-    crash = λ before t version stood. inl (
-      inr refl,
+      let e = ended_never command (source.left old.0) (sink.held old.1) in
       record {
-        consumes = Consumes-nil (left s);
-        given = Appends-nil (held k);
-        only = λ c now. now;
-        moments = leaves_same moment images_since d (images d) (only d);
-      },
-    );
-    exits = λ before t version stood. (store.NoMemory, refl, inr (unwritten_none content images d, Consumes-nil (left s), ((inr refl, Appends-nil (held k)), λ e. cc)));
-    causes = λ before t version stood. (store.NoMemory, refl, tt);
-    complete = λ before t version stood r f w many full. inr refl;
-    refused = λ refusal stood. (unwritten_none content images d, (store.NoMemory, refl, inr ((inr refl, Appends-nil (held k)), λ e. cc)));
-    untaken = λ refusal stood. Consumes-nil (left s);
-  }
+        reports = e.reports;
+        stops = e.stops;
+        completes = complete command (source.left old.0) (source.left old.0) (sink.held old.1) (sink.held old.1) NoMemory _ _ e.stops e.reports (λ h. cc) (λ h. cc);
+      }
 
-  pub never_pack : PackEnds held content images moment images_since room F W k d k d NoMemory
-  never_pack = record {
-    packs = λ before t version stood f. absurd (not_memory f);
-    crash = λ before t version stood. inl (
-      inr refl,
-      record {
-        given = Appends-nil (held k);
-        only = λ c now. now;
-        moments = leaves_same moment images_since d (images d) (only d);
-      },
-    );
-    exits = λ before t version stood. (store.NoMemory, refl, inr (unwritten_none content images d, ((inr refl, Appends-nil (held k)), λ e. cc)));
-    causes = λ before t version stood. (store.NoMemory, refl, tt);
-    complete = λ before t version stood f w full. inr refl;
-    refused = λ refusal stood. (unwritten_none content images d, (store.NoMemory, refl, inr ((inr refl, Appends-nil (held k)), λ e. cc)));
-  }
-
-  pub never_undo : (count : ℕ) → UndoingEnds held content images moment images_since room F W count k d k d NoMemory
-  never_undo count = record {
-    undoes = λ before u stood e. cc;
-    crash = λ before u stood. inl (
-      inr refl,
-      record {
-        given = Appends-nil (held k);
-        only = λ c now. now;
-        moments = leaves_same moment images_since d (images d) (only d);
-      },
-    );
-    exits = λ before u stood. (store.NoMemory, refl, inr (unwritten_none content images d, ((inr refl, Appends-nil (held k)), λ e. cc)));
-    unstored = λ before u stood e image now. inl now;
-    causes = λ before u stood. (store.NoMemory, refl, tt);
-    complete = λ before u stood f w full. inr refl;
-    refused = λ refusal stood. (unwritten_none content images d, (store.NoMemory, refl, inr ((inr refl, Appends-nil (held k)), λ e. cc)));
-  }
-
-  pub never_view : (text : StoredState → List (List ℕ) → List ℕ) → ViewEnds held content images moment images_since room F W text k d k d NoMemory
-  never_view text = record {
-    shows = λ before t version stood. (store.NoMemory, refl, inr (inr (inr refl, Appends-nil (held k))));
-    complete = λ before t version stood f w. inr refl;
-    refused = λ refusal stood. (unwritten_none content images d, (store.NoMemory, refl, inr ((inr refl, Appends-nil (held k)), λ e. cc)));
-    unwritten = unwritten_none content images d;
-    moments = leaves_same moment images_since d (images d) (only d);
-    sure = λ e. cc;
-  }
-
-  pub never_hub : HubEnds (left s) (left s) (held k) (held k) R F NoMemory
+  pub never_hub : RunsHub source sink old old NoMemory
   never_hub = record {
     reports = λ f. absurd (not_memory f);
     stops = (
       script.NoMemory,
       refl,
-      (script_ended_never lenses_of hub_parts.refusal_line first_state hub.answer hub.state_text IsInStep accepted_in_step (left s) (held k)).stops,
+      (script_ended_never lenses_of hub_parts.refusal_line first_state hub.answer hub.state_text IsInStep accepted_in_step (source.left old.0) (sink.held old.1)).stops,
     );
-    complete = script_never lenses_of (left s) R F;
+    completes = script_never lenses_of (source.left old.0) _ _;
   }
 
-  pub never_link : LinkEnds (left s) (left s) (held k) (held k) R F NoMemory
+  pub never_link : RunsLink source sink old old NoMemory
   never_link = record {
     reports = λ f. absurd (not_memory f);
     stops = (
       script.NoMemory,
       refl,
-      (script_ended_never lens_of link.refusal_line first_link line_answer link.state_text IsInTurnsWith every_run (left s) (held k)).stops,
+      (script_ended_never lens_of refused_part_line first_link line_answer link.state_text IsInTurnsWith every_run (source.left old.0) (sink.held old.1)).stops,
     );
-    complete = script_never lens_of (left s) R F;
+    completes = script_never lens_of (source.left old.0) _ _;
+  }
+
+pub never_gen : {K : Type 0} (sink : OfSink.Ghosts K) (old : K) (count seed : ℕ) → Generates count seed sink old old NoMemory
+never_gen sink old count seed = record { reports = Appends-nil (sink.held old); completes = λ f. inr refl }
+
+module _ {S K D : Type 0} (source : OfSource.Ghosts S) (sink : OfSink.Ghosts K) (disk : OfDisk.Ghosts D) (old : S × K × D) where
+  never_finds : FindsLog source sink disk old old NoMemory
+  never_finds = by_content (disk.content old.2) where
+    by_content : (o : Option (List ℕ)) → IfSome o (λ bytes. 0 < length bytes
+        → (old.0 ≡ old.0) × IsUnwritten disk.content disk.images old.2 old.2
+        × MakesAs (λ ended. GivesLine (sink.held old.1) (sink.held old.1) (refusal_line LogExists) making.StoreRefused ended
+        ⊎ ((ended ≡ making.DiskFault) ⊎ (ended ≡ making.NoMemory)) × (old.1 ≡ old.1)) NoMemory)
+    by_content None = tt
+    by_content (Some bytes) = λ some. (refl, unwritten_none disk.content disk.images old.2, (making.NoMemory, refl, inr (inr refl, refl)))
+
+  -- nothing was taken, and nothing was written
+  never_ends : (refuses : Option (List ℕ) → List ℕ → MakingStatus → List ℕ → Type 0) (makes : List ℕ → List (List ℕ) → List ℕ → Type 0)
+      → MakesAs (Ends disk.content disk.images refuses makes (source.left old.0) (source.left old.0) (sink.held old.1) (sink.held old.1) old.2 old.2) NoMemory
+  never_ends refuses makes = (
+    making.NoMemory,
+    refl,
+    inr (inl (record {
+      bytes = [];
+      consumes = Consumes-nil (source.left old.0);
+      at_most = omega arith;
+      stops = tt;
+      unwritten = unwritten_none disk.content disk.images old.2;
+      given = Appends-nil (sink.held old.1);
+    })),
+  )
+
+  pub never_init : MakesStore source sink disk old old NoMemory
+  never_init = record {
+    starts = λ e. cc;
+    stops = never_ends Refuses Begins;
+    caused = λ e. cc;
+    completes = λ empty. never_complete Begins (source.left old.0) _ _ _;
+    refuses = never_finds;
+  }
+
+  pub never_import : ImportsStore source sink disk old old NoMemory
+  never_import = record {
+    brings = λ e. cc;
+    declines = λ e. cc;
+    stops = never_ends importing.Refuses Brings;
+    caused = λ e. cc;
+    completes = λ empty. never_complete Brings (source.left old.0) _ _ _;
+    refuses = never_finds;
+  }
+
+  pub never_apply : ((d : D) (c : List ℕ) → disk.images_since d (disk.moment d) c → disk.images d c) → Applies source sink disk old old NoMemory
+  never_apply only = record {
+    of_store = λ s. record {
+      continues = λ f. absurd (not_memory f);
+      in_step = stays_in_step s.payloads s.state s.version s.stands;
+      stops = (store.NoMemory, refl, inr (unwritten_none disk.content disk.images old.2, Consumes-nil (source.left old.0), ((inr refl, Appends-nil (sink.held old.1)), λ e. cc)));
+      survives = inl (
+        inr refl,
+        record {
+          consumes = Consumes-nil (source.left old.0);
+          given = Appends-nil (sink.held old.1);
+          only = λ c now. now;
+          moments = leaves_same disk.moment disk.images_since old.2 (disk.images old.2) (only old.2);
+        },
+      );
+      caused = (store.NoMemory, refl, tt);
+      completes = λ r f w many full. inr refl;
+    };
+    refuses = λ other.
+        ((unwritten_none disk.content disk.images old.2, (store.NoMemory, refl, inr ((inr refl, Appends-nil (sink.held old.1)), λ e. cc))), Consumes-nil (source.left old.0));
+  }
+
+module _ {K D : Type 0} (sink : OfSink.Ghosts K) (disk : OfDisk.Ghosts D) (old : K × D) (only : (d : D) (c : List ℕ) → disk.images_since d (disk.moment d) c → disk.images d c) where
+  pub never_pack : Packs sink disk old old NoMemory
+  never_pack = record {
+    of_store = λ s. record {
+      continues = λ f. absurd (not_memory f);
+      in_step = (stored_sound s.payloads s.state s.version s.stands).1;
+      stops = (store.NoMemory, refl, inr (unwritten_none disk.content disk.images old.1, ((inr refl, Appends-nil (sink.held old.0)), λ e. cc)));
+      survives = inl (
+        inr refl,
+        record {
+          given = Appends-nil (sink.held old.0);
+          only = λ c now. now;
+          moments = leaves_same disk.moment disk.images_since old.1 (disk.images old.1) (only old.1);
+        },
+      );
+      caused = (store.NoMemory, refl, tt);
+      completes = λ f w full. inr refl;
+    };
+    refuses = λ other. (unwritten_none disk.content disk.images old.1, (store.NoMemory, refl, inr ((inr refl, Appends-nil (sink.held old.0)), λ e. cc)));
+  }
+
+  pub never_undo : (count : ℕ) → Undoes count sink disk old old NoMemory
+  never_undo count = record {
+    of_store = λ s. record {
+      continues = λ e. cc;
+      stops = (store.NoMemory, refl, inr (unwritten_none disk.content disk.images old.1, ((inr refl, Appends-nil (sink.held old.0)), λ e. cc)));
+      survives = inl (
+        inr refl,
+        record {
+          given = Appends-nil (sink.held old.0);
+          only = λ c now. now;
+          moments = leaves_same disk.moment disk.images_since old.1 (disk.images old.1) (only old.1);
+        },
+      );
+      unstored = λ e image now. inl now;
+      caused = (store.NoMemory, refl, tt);
+      completes = λ f w full. inr refl;
+    };
+    refuses = λ other. (unwritten_none disk.content disk.images old.1, (store.NoMemory, refl, inr ((inr refl, Appends-nil (sink.held old.0)), λ e. cc)));
+  }
+
+  pub never_view : (text : StoredState → List (List ℕ) → List ℕ) → ReadsStore sink disk old old NoMemory text
+  never_view text = record {
+    reports = λ s. (store.NoMemory, refl, inr (inr (inr refl, Appends-nil (sink.held old.0))));
+    in_step = λ s. (stored_sound s.payloads s.state s.version s.stands).1;
+    completes = λ s f w. inr refl;
+    refuses = λ other. (unwritten_none disk.content disk.images old.1, (store.NoMemory, refl, inr ((inr refl, Appends-nil (sink.held old.0)), λ e. cc)));
+    unwritten = unwritten_none disk.content disk.images old.1;
+    survives = leaves_same disk.moment disk.images_since old.1 (disk.images old.1) (only old.1);
+    caused = λ e. cc;
   }

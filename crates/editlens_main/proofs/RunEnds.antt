@@ -1,7 +1,6 @@
 -- What stands at each end of a run.
-use Rattle.std.proofs.Common.{◌≡◌, ◌⊎◌, inl, inr, ℕ, ◌+◌, ◌<◌, ◌≤◌, List, [], ◌∷◌, ◌++◌, length, Bool, true, false, cond, Option, Some, None, Result, Ok, Err, IfSome, refl, sym, ap, subst, ◌∙◌, append-nil, length-append, arith}
+use Rattle.std.proofs.Common.{◌≡◌, ◌⊎◌, inl, inr, ℕ, ◌+◌, ◌<◌, ◌≤◌, List, [], ◌∷◌, ◌++◌, length, Bool, true, false, Option, Some, None, Result, Ok, Err, IfSome, refl, sym, ap, subst, ◌∙◌, append-nil, arith}
 use Rattle.std.specs.Io.KnownBytes.{Appends, Consumes, IsAtEnd}
-use Rattle.std.specs.List.{list_any}
 use Rattle.std.specs.Prelude.{◌||◌, IfOk}
 use Rattle.std.specs.declared.alloc.AllocError.{AllocError}
 use Rattle.std.proofs.KnownBytes.{Appends-nil, Appends-trans}
@@ -13,7 +12,7 @@ use Rattle.value_json.proofs.Facts.{map_some}
 use Rattle.lens_forms.specs.Forms.{FormTree}
 use Rattle.edit_journal.specs.declared.line.Line.{Line}
 use Rattle.script_parts.specs.Coming.{ended_lines, has_separator, journal_lines, HasPart}
-use Rattle.script_parts.specs.Lines.{is_separator_line, behind_separator, program_part, journal}
+use Rattle.script_parts.specs.Lines.{program_part, journal}
 use Rattle.accepted_programs.specs.Program.{Refusal, lens_of}
 use Rattle.edit_session.specs.Step.{TripleTree}
 use Rattle.edit_session.specs.Run.{any_refused}
@@ -24,7 +23,8 @@ use Rattle.journal_stream.specs.Stopping.{stop_of}
 use Rattle.journal_stream.specs.Answered.{WritesStopped}
 use Rattle.journal_stream.specs.declared.stopped.Stopped.TheVariants as stop
 use Rattle.journal_stream.proofs.Prefixes.{stopped_behind}
-use Rattle.editlens_main.specs.Report.{type_lines, ending, report_with, report, refusal_line}
+use Rattle.answer_text.specs.RefusalLines.{refused_part_line}
+use Rattle.editlens_main.specs.Report.{type_lines, ending, report_with, report}
 use Rattle.editlens_main.specs.Ends.{IsFinished, StaysInStep, Reports, answers_with, answers_to, LinesStayInStep, AnswersAll, AnswersSome, AnswersFirst, GoesOn, RefusesPart, WouldWrite, IsCleanStop, Stops, IsComplete}
 use Rattle.editlens_main.specs.Ending.{Ended, Gives}
 use Rattle.script_parts.specs.Parts.{HasLastPiece, StopsHead}
@@ -35,6 +35,8 @@ use Rattle.editlens_main.specs.declared.commands.Command.{Command}
 use Rattle.editlens_main.specs.declared.commands.Command.TheVariants.{Run, Check}
 use Rattle.editlens_main.specs.declared.status.Status.{Status}
 use Rattle.editlens_main.specs.declared.status.Status.TheVariants.{Done, SomeRefused, Usage, ProgramRefused, StoreRefused, SourceFault, SinkFault, DiskFault, InputTooLong, NoMemory}
+use Rattle.script_parts.proofs.TakenParts.{few_taken, none_behind, part_of_all, all_taken}
+use Rattle.script_run.proofs.Ends.{last_of}
 
 finished : (b : Bool) → IsFinished (ending b)
 finished true = inr refl
@@ -45,7 +47,7 @@ abbrev pub Accepted : Result FormTree Refusal → Status → Type 0
 Accepted outcome status = (f : FormTree) × (outcome ≡ Ok f) × IsFinished status
 
 abbrev pub Refuses : Result FormTree Refusal → List ℕ → Status → Type 0
-Refuses outcome text status = (r : Refusal) × (outcome ≡ Err r) × (text ≡ refusal_line r) × (status ≡ ProgramRefused)
+Refuses outcome text status = (r : Refusal) × (outcome ≡ Err r) × (text ≡ refused_part_line r) × (status ≡ ProgramRefused)
 
 pub ended : (command : Command) (outcome : Result FormTree Refusal) (items : List JournalItem) (text : List ℕ) (status : Status) → report_with command outcome items ≡ Some (text, status)
     → Accepted outcome status ⊎ Refuses outcome text status
@@ -57,7 +59,7 @@ ended Check (Ok form) items text status h =
     let same : (type_lines form, Done) ≡ (text, status) = cc in
     inl (form, refl, inl (sym (ap (λ (r : List ℕ × Status). r.1) same)))
 ended command (Err refusal) items text status h =
-    let same : (refusal_line refusal, ProgramRefused) ≡ (text, status) = cc in
+    let same : (refused_part_line refusal, ProgramRefused) ≡ (text, status) = cc in
     inr (refusal, refl, sym (ap (λ (r : List ℕ × Status). r.0) same), sym (ap (λ (r : List ℕ × Status). r.1) same))
 
 -- no report ends with a fault of a device
@@ -68,15 +70,6 @@ no_fault command bytes text status h = by_end (ended command (lens_of (program_p
   by_end (inl (f, some, inl done)) = ((λ e. cc), (λ e. cc))
   by_end (inl (f, some, inr refused)) = ((λ e. cc), (λ e. cc))
   by_end (inr (r, none, line, refused)) = ((λ e. cc), (λ e. cc))
-
--- all that the source had was taken
-all_taken : (bytes : List ℕ) (left' : Option (List ℕ)) (taken : List ℕ) → Consumes (Some bytes) left' taken → IsAtEnd left' → bytes ≡ taken
-all_taken bytes None taken h end = absurd h
-all_taken bytes (Some rest) taken h end = h ∙ ap (λ r. taken ++ r) end ∙ append-nil taken
-
-few_taken : (bytes : List ℕ) (left' : Option (List ℕ)) (taken : List ℕ) → Consumes (Some bytes) left' taken → length taken ≤ length bytes
-few_taken bytes None taken h = absurd h
-few_taken bytes (Some rest) taken h = omega (arith, ap length h, length-append taken rest)
 
 -- every triple of a run stays in step
 stays : (command : Command) (text : List ℕ) (f : FormTree) (items : List JournalItem) → lens_of text ≡ Ok f → StaysInStep command f items
@@ -122,14 +115,6 @@ no_answers Run bytes = by_outcome (lens_of (program_part bytes)) where
 
 pub none_answered : (command : Command) (bytes : List ℕ) → AnswersSome command bytes []
 none_answered command bytes = (journal_lines bytes, record { lines = []; ended = refl; are = no_answers command bytes; in_step = lines_stay command (program_part bytes) [] })
-
--- before a separator no line of a journal has come
-none_behind : (lines : List Line) → list_any is_separator_line lines ≡ false → behind_separator lines ≡ []
-none_behind [] h = refl
-none_behind (line ∷ lines) h = by_test (is_separator_line line) (λ e. none_behind lines e) h where
-  by_test : (b : Bool) → (list_any is_separator_line lines ≡ false → behind_separator lines ≡ []) → (b || list_any is_separator_line lines) ≡ false → cond b lines (behind_separator lines) ≡ []
-  by_test true f e = cc
-  by_test false f e = f e
 
 pub no_journal : (command : Command) (bytes : List ℕ) → has_separator bytes ≡ false → GoesOn bytes × AnswersAll command bytes []
 no_journal command bytes h =
@@ -218,7 +203,7 @@ module _ (command : Command) (left left' held held' : Option (List ℕ)) (bytes 
     reports = λ f. absurd (not_sink f);
   }
 
-  pub ended_refused : length bytes ≤ MOST_BYTES + 1 → (refusal : Refusal) → RefusesPart left' bytes refusal → Appends held held' (refusal_line refusal) → Ended command left left' held held' ProgramRefused
+  pub ended_refused : length bytes ≤ MOST_BYTES + 1 → (refusal : Refusal) → RefusesPart left' bytes refusal → Appends held held' (refused_part_line refusal) → Ended command left left' held held' ProgramRefused
   ended_refused few refusal refuses given = record {
     stops = record {
       bytes = bytes;
@@ -291,10 +276,6 @@ ended_report command left left' held mid held' bytes (Err e) status consumes end
     (ended_memory command left left' held held' bytes consumes (omega (arith, few)) given ([], are) (first_of_all command bytes given (length given) are (omega arith))
     (subst (Appends held held') (append-nil given) (Appends-trans held mid held' given [] appends all)))
 
--- the piece with which the separator came
-pub last_of : {bytes : List ℕ} → HasPart bytes → HasLastPiece bytes
-last_of p = record { before = p.before; piece = p.piece; pieces = p.pieces; few = p.few; not_before = p.not_before }
-
 -- The refusal of a program part that is known whole is given.
 pub ended_refusal : (command : Command) (left left' held held' : Option (List ℕ)) (bytes : List ℕ) (r : Result Report AllocError) (status : Status) → Consumes left left' bytes → length bytes ≤ MOST_BYTES + 1 → HasPart bytes
     → IfOk r (λ q. report_with command (lens_of (program_part bytes)) [] ≡ Some (q.text.items, q.status)) → IfOk r (λ q. q.status ≡ ProgramRefused) → Gives r held held' status
@@ -322,12 +303,6 @@ ended_head command left left' held taking.TooLong s =
 ended_head command left left' held taking.NoMemory s = ended_memory command left left' held held s.bytes s.consumes s.at_most [] (none_answered command s.bytes) (first_at_part command s.bytes 0 s.last) (Appends-nil held)
 
 -- ---- completeness
-
--- if the separator has come, the program part of all bytes is that of those taken
-part_of_all : (bytes : List ℕ) (left' : Option (List ℕ)) (taken : List ℕ) → Consumes (Some bytes) left' taken → HasPart taken ⊎ IsAtEnd left' → program_part bytes ≡ program_part taken
-part_of_all bytes None taken h whole = absurd h
-part_of_all bytes (Some rest) taken h (inl part) = ap program_part h ∙ part.stays rest
-part_of_all bytes (Some rest) taken h (inr end) = ap program_part (all_taken bytes (Some rest) taken h end)
 
 -- A command that met no fault is complete. R says that the source failed, F that the sink did.
 pub complete : (command : Command) (left left' held held' : Option (List ℕ)) (status : Status) (R F : Type 0) → Stops command left left' held held' status
@@ -363,14 +338,3 @@ never h = omega (arith, h)
 pub by_room : {A F : Type 0} → Increased 0 0 ⊎ A × F → F
 by_room (inl h) = absurd (never h)
 by_room (inr p) = p.1
-
--- the sink's fault shows that the sink failed
-pub complete_sink : (left : Option (List ℕ)) (A B : Type 0) (D : List ℕ → Type 0) → B → IfSome left (λ bytes. length bytes ≤ MOST_BYTES → (A → ⊥) → (B → ⊥) → D bytes)
-complete_sink None A B D b = tt
-complete_sink (Some bytes) A B D b = λ few a no. absurd (no b)
-
-pub reports_for : (left left' held held' : Option (List ℕ)) (status : Status) (o : Option Command) (command : Command) → o ≡ Some command
-    → (o ≡ Some Run → IsFinished status → Reports Run left left' held held' status) → (o ≡ Some Check → IsFinished status → Reports Check left left' held held' status)
-    → IsFinished status → Reports command left left' held held' status
-reports_for left left' held held' status o Run e of_run of_check = of_run e
-reports_for left left' held held' status o Check e of_run of_check = of_check e

@@ -1,6 +1,5 @@
 -- How commands end over devices that do not fail.
-use Rattle.std.proofs.Common.{◌≡◌, ◌⊎◌, inl, inr, ℕ, ◌+◌, ◌≤◌, List, [], length, true≢false, Option, Some, None, Result, Ok, refl, sym, ap, subst, ◌∙◌, length-append, arith}
-use Rattle.std.specs.Io.KnownBytes.{Consumes}
+use Rattle.std.proofs.Common.{◌≡◌, ◌⊎◌, inl, inr, ℕ, ◌+◌, ◌≤◌, List, [], length, true≢false, Option, Some, None, Result, Ok, refl, sym, ap, subst, ◌∙◌, arith}
 use Rattle.std.proofs.lemmas.Option.{same_Some}
 use Rattle.accepted_programs.specs.Program.{lens_of}
 use Rattle.edit_journal.specs.declared.line.Line.{Line}
@@ -30,10 +29,7 @@ use Rattle.editlens_main.specs.StoreStatus.{status_of_store, status_of_making, E
 use Rattle.editlens_main.specs.SureEnds.{EndsInRoom, StoredInRoom, MadeInRoom}
 use Rattle.editlens_main.specs.declared.status.Status.{Status}
 use Rattle.editlens_main.specs.declared.status.Status.TheVariants.{Done, SomeRefused, ProgramRefused, StoreRefused, SourceFault, SinkFault, DiskFault, InputTooLong, NoMemory}
-
-few_taken : (bytes : List ℕ) (left' : Option (List ℕ)) (taken : List ℕ) → Consumes (Some bytes) left' taken → length taken ≤ length bytes
-few_taken bytes None taken h = absurd h
-few_taken bytes (Some rest) taken h = omega (arith, ap length h, length-append taken rest)
+use Rattle.script_parts.proofs.TakenParts.{few_taken}
 
 -- ---- the status of a script
 

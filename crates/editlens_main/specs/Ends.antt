@@ -13,12 +13,12 @@ use Rattle.journal_input.specs.declared.limits.TheConstants.{MOST_BYTES, PIECE_B
 use Rattle.edit_session.specs.Step.{TripleTree}
 use Rattle.journal_answers.specs.Answers.{answer_lines}
 use Rattle.journal_answers.specs.Runs.{JournalItem, IsInStepFor, items_of, run_of, triples_of}
-use Rattle.editlens_main.specs.Commands.{usage_line}
-use Rattle.editlens_main.specs.Report.{report, refusal_line}
+use Rattle.answer_text.specs.RefusalLines.{refused_part_line}
+use Rattle.editlens_main.specs.Report.{report}
 use Rattle.editlens_main.specs.declared.commands.Command.{Command}
 use Rattle.editlens_main.specs.declared.commands.Command.TheVariants.{Run, Check}
 use Rattle.editlens_main.specs.declared.status.Status.{Status}
-use Rattle.editlens_main.specs.declared.status.Status.TheVariants.{Done, SomeRefused, Usage, ProgramRefused, SourceFault, SinkFault, InputTooLong, NoMemory}
+use Rattle.editlens_main.specs.declared.status.Status.TheVariants.{Done, SomeRefused, ProgramRefused, SourceFault, SinkFault, InputTooLong, NoMemory}
 
 -- the command came to its end: nothing stopped it
 abbrev pub IsFinished : Status → Type 0
@@ -105,7 +105,7 @@ pub record RefusesPart (left' : Option (List ℕ)) (bytes : List ℕ) (refusal :
 abbrev pub WouldWrite : Command → Option (List ℕ) → List ℕ → List ℕ → Type 0
 WouldWrite command left' bytes text =
     GoesOn bytes × AnswersSome command bytes text
-    ⊎ ((refusal : Refusal) × RefusesPart left' bytes refusal × (text ≡ refusal_line refusal))
+    ⊎ ((refusal : Refusal) × RefusesPart left' bytes refusal × (text ≡ refused_part_line refusal))
     ⊎ IsAtEnd left' × ((status : Status) × (report command bytes ≡ Some (text, status)))
 
 -- What holds after each status of a call that is not finished. The source gave these bytes.
@@ -117,7 +117,7 @@ WouldWrite command left' bytes text =
 abbrev pub IsCleanStop : Command → Option (List ℕ) → Option (List ℕ) → Option (List ℕ) → Option (List ℕ) → List ℕ → Status → Type 0
 IsCleanStop command left left' held held' bytes Done = Unit {0}
 IsCleanStop command left left' held held' bytes SomeRefused = Unit {0}
-IsCleanStop command left left' held held' bytes ProgramRefused = (refusal : Refusal) × RefusesPart left' bytes refusal × Appends held held' (refusal_line refusal)
+IsCleanStop command left left' held held' bytes ProgramRefused = (refusal : Refusal) × RefusesPart left' bytes refusal × Appends held held' (refused_part_line refusal)
 IsCleanStop command left left' held held' bytes SourceFault = GoesOn bytes × ((text : List ℕ) × AnswersAll command bytes text × Appends held held' text)
 IsCleanStop command left left' held held' bytes SinkFault =
     (text : List ℕ) × WouldWrite command left' bytes text × ((front : AppendsFront held held' text) × AnswersFirst command bytes front.0)
@@ -142,13 +142,6 @@ pub record Stops (command : Command) (left left' held held' : Option (List ℕ))
   pub only_too_long : status ≡ InputTooLong → MOST_BYTES < length bytes
   pub if_too_long : MOST_BYTES < length bytes → (status ≡ InputTooLong) ⊎ ComesFirst status
   pub clean : IsCleanStop command left left' held held' bytes status
-
--- the usage line was written to the sink, or a prefix of it and the sink failed; or memory ran out, and nothing was written
-abbrev pub GivesUsage : Option (List ℕ) → Option (List ℕ) → Status → Type 0
-GivesUsage held held' status =
-    (status ≡ Usage) × Appends held held' usage_line
-    ⊎ (status ≡ SinkFault) × AppendsFront held held' usage_line
-    ⊎ (status ≡ NoMemory) × Appends held held' []
 
 -- A command over these bytes came to its end if the program part is accepted, and refused it if it is refused; or memory ran out.
 abbrev pub IsComplete : Command → List ℕ → Status → Type 0

@@ -4,8 +4,9 @@ use Rattle.std.specs.Prelude.{ℕ, List, ◌++◌, Bool, true, false, Option, So
 use Rattle.texts.specs.declared.side.Side.TheVariants.{Left, Right}
 use Rattle.lens_forms.specs.Forms.{FormTree, left_type, right_type}
 use Rattle.edit_session.specs.Run.{any_refused}
-use Rattle.answer_text.specs.Lines.{syntax_line, typing_line, type_line}
-use Rattle.accepted_programs.specs.Program.{Refusal, syntax, typing, lens_of}
+use Rattle.answer_text.specs.Lines.{type_line}
+use Rattle.answer_text.specs.RefusalLines.{refused_part_line}
+use Rattle.accepted_programs.specs.Program.{Refusal, lens_of}
 use Rattle.script_parts.specs.Lines.{program_part, journal}
 use Rattle.journal_answers.specs.Answers.{text_from}
 use Rattle.journal_answers.specs.Runs.{JournalItem, first_of, run_of, items_of}
@@ -27,16 +28,11 @@ run_report form items = option_map (λ steps. (text_from form (first_of form) st
 abbrev pub type_lines : FormTree → List ℕ
 type_lines form = type_line Left (left_type form) ++ type_line Right (right_type form)
 
--- the line that is written if the program part is refused
-abbrev pub refusal_line : Refusal → List ℕ
-refusal_line (syntax fault) = syntax_line fault
-refusal_line (typing failure) = typing_line failure
-
 -- what is written and the status, from the lens or the refusal, and the items
 abbrev pub report_with : Command → Result FormTree Refusal → List JournalItem → Option (List ℕ × Status)
 report_with Run (Ok form) items = run_report form items
 report_with Check (Ok form) items = Some (type_lines form, Done)
-report_with command (Err refusal) items = Some (refusal_line refusal, ProgramRefused)
+report_with command (Err refusal) items = Some (refused_part_line refusal, ProgramRefused)
 
 -- what a command writes for these bytes, and the status; the items are those of the journal's lines that are not blank
 abbrev pub report : Command → List ℕ → Option (List ℕ × Status)

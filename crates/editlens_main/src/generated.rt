@@ -1,7 +1,8 @@
 //! The command `gen`: the generated run, and its summary.
 ghost use Rattle.std.specs.Prelude.{◌≡◌, ◌⊎◌, ◌≤◌, IfOk, string_bytes};
-ghost use Rattle.lens_io.specs.Causes.{SinkFailed};
+ghost use Rattle.lens_io.specs.Calls.{SinkFailed};
 ghost use Rattle.editlens_main.specs.Generated.{WritesSummary, count_lines, list_lines, summary_lines};
+ghost use Rattle.editlens_main.specs.Statuses.{IsAmong, gen_statuses};
 
 use crate::Status;
 use generated_run::{Summary, generate};
@@ -15,12 +16,10 @@ pub fn run_generated<K: Sink>(alloc: Global, count: u64, seed: u64, sink: &mut K
     requires positive { 1 ≤ count }
     requires bounded { count ≤ 10000 }
     ensures written { WritesSummary count seed (K.held sink.old) (K.held sink.new) result }
-    ensures no_source { result ≡ Status.SourceFault → ⊥ }
-    ensures no_disk { result ≡ Status.DiskFault → ⊥ }
-    ensures no_usage { result ≡ Status.Usage → ⊥ }
-    ensures complete { (SinkFailed K.faults K.empty_takes K.room K.held sink.old sink.new → ⊥)
+    ensures complete { (SinkFailed K.Sink sink.old sink.new → ⊥)
         → (result ≡ Status.Done) ⊎ (result ≡ Status.NoMemory) }
-    ensures sink_fault { result ≡ Status.SinkFault → SinkFailed K.faults K.empty_takes K.room K.held sink.old sink.new }
+    ensures statuses { IsAmong gen_statuses result }
+    ensures sink_fault { result ≡ Status.SinkFault → SinkFailed K.Sink sink.old sink.new }
 {
     let Ok(summary) = generate(alloc, count, seed) else {
         return Status::NoMemory;

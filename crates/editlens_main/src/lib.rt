@@ -1,12 +1,9 @@
 //! The top call: what the program does with its words, its input and its output.
 //!
-//! [`editlens`] is the complete program apart from its real streams. Its contract is the main theorem: the output is the
-//! command's report of the input, and every triple of a run is in the lens's consistency relation. specs/Ends.antt says what
-//! holds after each status, and specs/Report.antt what is written for a whole input. The parts below it are crates of their
-//! own: accepted_programs, journal_input, script_parts, journal_answers and journal_stream.
-//!
-//! The commands over a store are calls of stored_run and of store_making; specs/StoreClauses.antt and specs/StoreEnds.antt say what
-//! holds of them. The commands `hub` and `link` are calls of hub_run and of link_run, by specs/ScriptEnds.antt.
+//! [`editlens`] is the complete program apart from its real streams. Its contract is the main theorem: a clause for each command, which
+//! names the record of what the command promises, in a file of specs/ with the record's name (`Runs`, `Applies`, `Undoes`). What the report
+//! of a script is, is in specs/Report.antt, and what holds after each status in specs/Ends.antt. The commands over a store are calls of
+//! stored_run, store_making, store_import and store_undo; `hub` and `link` are calls of hub_run and of link_run.
 //!
 //! [`run_program`] is the same over the real streams and the file of the store, and [`run_sure`] over devices that never fail.
 #![tactic(auto)]

@@ -1,6 +1,7 @@
 //! The top call over the real streams and the file of the store.
 use crate::{Status, editlens};
-use lens_io::{RealDisk, RealSink, RealSource};
+use command_words::only_reads;
+use lens_io::{Access, RealDisk, RealSink, RealSource};
 use std::alloc::AllocError;
 use std::env;
 use std::io::{self, ErrorKind};
@@ -11,6 +12,9 @@ const STORE: &str = "editlens.store";
 /// The program: the top call with the words of the command line, over standard input, standard output and
 /// the file `editlens.store` of the current folder. The file is opened at the first call of the disk, and made by the first write.
 ///
+/// `show` and `verify` open the file for reading. The commands that write it hold a lock on the folder from before their first look
+/// at the file to their end, and end with `DiskFault` if another program holds it.
+///
 /// The status is that of [`editlens`], or `NoMemory` if memory ran out at the words. What the streams and the file give and take is
 /// not known to the prover, so no clause speaks of it; nothing is written to standard error.
 pub fn run_program(rt: &HostRuntime) -> Status {
@@ -19,7 +23,12 @@ pub fn run_program(rt: &HostRuntime) -> Status {
     };
     let mut source = RealSource::new(rt.stdin());
     let mut sink = RealSink::new(io::writer(rt));
-    let mut disk = RealDisk::new(rt, STORE);
+    let access = if only_reads(&words) {
+        Access::Reading
+    } else {
+        Access::Writing
+    };
+    let mut disk = RealDisk::new(rt, STORE, access);
     editlens(rt.alloc(), &words, &mut source, &mut sink, &mut disk)
 }
 

@@ -17,7 +17,7 @@ ghost use Rattle.editlens_main.specs.Report.{ending, report_with, run_report, ty
 use crate::Status;
 use crate::commands::Command;
 use accepted_programs::Refused;
-use answer_text::{syntax_line, type_line, typing_line};
+use answer_text::{refused_part_line, type_line};
 use edit_session::Session;
 use journal_answers::{Progress, state_lines};
 use journal_input::Input;
@@ -143,11 +143,8 @@ fn refusal_report(alloc: Global, refused: &Refused) -> Result<Report, AllocError
     ensures status { IfOk result (λ r. r.status ≡ Status.ProgramRefused) }
     ensures end { HasEnd result }
 {
-    match refused {
-        Refused::Syntax(fault) => Ok(refused_with(syntax_line(alloc, fault)?)),
-        Refused::Typing(fault) => Ok(refused_with(typing_line(alloc, fault)?)),
-        Refused::NoMemory => Err(AllocError),
-    }
+    let line = refused_part_line(alloc, refused)?;
+    Ok(refused_with(line))
 }
 
 // The report that is a line of refusal alone.

@@ -1,7 +1,9 @@
 //! The commands `hub` and `link`, which run a script of their own kind. Each is the call of hub_run or of link_run.
 ghost use Rattle.std.specs.Prelude.{◌≡◌};
-ghost use Rattle.lens_io.specs.Causes.{Increased, SinkFailed};
-ghost use Rattle.editlens_main.specs.ScriptEnds.{HubEnds, LinkEnds};
+ghost use Rattle.lens_io.specs.Calls.{SourceFailed, SinkFailed};
+ghost use Rattle.editlens_main.specs.RunsHub.{RunsHub};
+ghost use Rattle.editlens_main.specs.RunsLink.{RunsLink};
+ghost use Rattle.editlens_main.specs.Statuses.{IsAmong, script_statuses};
 
 use crate::Status;
 use hub_run::run_hub;
@@ -11,13 +13,10 @@ use std::alloc::Global;
 
 /// Keeps one document in step with many views, by the edits of a script.
 pub fn run_hub_script<S: Source, K: Sink>(alloc: Global, source: &mut S, sink: &mut K) -> Status
-    ensures ends { HubEnds (S.left source.old) (S.left source.new) (K.held sink.old) (K.held sink.new)
-        (Increased (S.faults source.old) (S.faults source.new))
-        (SinkFailed K.faults K.empty_takes K.room K.held sink.old sink.new) result }
-    ensures source_fault { result ≡ Status.SourceFault → Increased (S.faults source.old) (S.faults source.new) }
-    ensures sink_fault { result ≡ Status.SinkFault → SinkFailed K.faults K.empty_takes K.room K.held sink.old sink.new }
-    ensures no_disk { result ≡ Status.DiskFault → ⊥ }
-    ensures no_usage { result ≡ Status.Usage → ⊥ }
+    ensures runs { RunsHub S.Source K.Sink (source.old, sink.old) (source.new, sink.new) result }
+    ensures statuses { IsAmong script_statuses result }
+    ensures source_fault { result ≡ Status.SourceFault → SourceFailed S.Source source.old source.new }
+    ensures sink_fault { result ≡ Status.SinkFault → SinkFailed K.Sink sink.old sink.new }
 {
     let ended = run_hub(alloc, source, sink);
     Status::of_script(ended)
@@ -25,13 +24,10 @@ pub fn run_hub_script<S: Source, K: Sink>(alloc: Global, source: &mut S, sink: &
 
 /// Keeps two documents in step over two sites that take turns, by the events of a script.
 pub fn run_link_script<S: Source, K: Sink>(alloc: Global, source: &mut S, sink: &mut K) -> Status
-    ensures ends { LinkEnds (S.left source.old) (S.left source.new) (K.held sink.old) (K.held sink.new)
-        (Increased (S.faults source.old) (S.faults source.new))
-        (SinkFailed K.faults K.empty_takes K.room K.held sink.old sink.new) result }
-    ensures source_fault { result ≡ Status.SourceFault → Increased (S.faults source.old) (S.faults source.new) }
-    ensures sink_fault { result ≡ Status.SinkFault → SinkFailed K.faults K.empty_takes K.room K.held sink.old sink.new }
-    ensures no_disk { result ≡ Status.DiskFault → ⊥ }
-    ensures no_usage { result ≡ Status.Usage → ⊥ }
+    ensures runs { RunsLink S.Source K.Sink (source.old, sink.old) (source.new, sink.new) result }
+    ensures statuses { IsAmong script_statuses result }
+    ensures source_fault { result ≡ Status.SourceFault → SourceFailed S.Source source.old source.new }
+    ensures sink_fault { result ≡ Status.SinkFault → SinkFailed K.Sink sink.old sink.new }
 {
     let ended = run_link(alloc, source, sink);
     Status::of_script(ended)

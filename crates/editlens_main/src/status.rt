@@ -2,12 +2,15 @@
 ghost use Rattle.std.specs.Prelude.{◌≡◌};
 ghost use Rattle.editlens_main.specs.ScriptStatus.{status_of_script};
 ghost use Rattle.editlens_main.specs.Status.{code_of, status_of};
+ghost use Rattle.editlens_main.specs.Statuses.{IsAmong, making_statuses, script_statuses, store_statuses};
 ghost use Rattle.editlens_main.specs.StoreStatus.{status_of_store, status_of_making};
 
 use journal_stream::Stopped;
 use making_steps::MakingStatus;
 use script_run::ScriptStatus;
+use std::alloc::{AllocError, Global};
 use stored_run::Status as StoreStatus;
+use texts::Twin;
 
 /// How a call of the program ended. The number of each is its exit code.
 #[derive(Clone, Copy, Debug, PartialEq, Eq)]
@@ -61,7 +64,7 @@ impl Status {
         ensures source { result ≡ Status.SourceFault → ended ≡ StoreStatus.SourceFault }
         ensures sink { result ≡ Status.SinkFault → ended ≡ StoreStatus.SinkFault }
         ensures disk { result ≡ Status.DiskFault → ended ≡ StoreStatus.DiskFault }
-        ensures no_usage { result ≡ Status.Usage → ⊥ }
+        ensures among { IsAmong store_statuses result }
     {
         match ended {
             StoreStatus::Done => Status::Done,
@@ -83,7 +86,7 @@ impl Status {
         ensures source { result ≡ Status.SourceFault → ended ≡ MakingStatus.SourceFault }
         ensures sink { result ≡ Status.SinkFault → ended ≡ MakingStatus.SinkFault }
         ensures disk { result ≡ Status.DiskFault → ended ≡ MakingStatus.DiskFault }
-        ensures no_usage { result ≡ Status.Usage → ⊥ }
+        ensures among { IsAmong making_statuses result }
     {
         match ended {
             MakingStatus::Done => Status::Done,
@@ -103,8 +106,7 @@ impl Status {
         ensures is { result ≡ status_of_script ended }
         ensures source { result ≡ Status.SourceFault → ended ≡ ScriptStatus.SourceFault }
         ensures sink { result ≡ Status.SinkFault → ended ≡ ScriptStatus.SinkFault }
-        ensures no_disk { result ≡ Status.DiskFault → ⊥ }
-        ensures no_usage { result ≡ Status.Usage → ⊥ }
+        ensures among { IsAmong script_statuses result }
     {
         match ended {
             ScriptStatus::Done => Status::Done,
@@ -115,5 +117,17 @@ impl Status {
             ScriptStatus::InputTooLong => Status::InputTooLong,
             ScriptStatus::NoMemory => Status::NoMemory,
         }
+    }
+}
+
+impl Twin for Status {
+    ghost use Rattle.editlens_main.specs.declared.status.Status.{Status};
+
+    ghost Meaning = { Status };
+
+    ghost meaning = { λ status. status };
+
+    fn twin(&self, _alloc: Global) -> Result<Self, AllocError> {
+        Ok(*self)
     }
 }

@@ -1,9 +1,12 @@
 //! The commands over a store that is there: `apply`, `show`, `verify`, `pack` and `undo`. The last is the call of store_undo. Each other
 //! one is the call of stored_run with the sessions of store_session.
 ghost use Rattle.std.specs.Prelude.{◌≡◌};
-ghost use Rattle.lens_io.specs.Causes.{Increased, SinkFailed};
-ghost use Rattle.editlens_main.specs.StoreClauses.{shown, verified};
-ghost use Rattle.editlens_main.specs.StoreEnds.{ApplyEnds, PackEnds, UndoingEnds, ViewEnds};
+ghost use Rattle.lens_io.specs.Calls.{SourceFailed, SinkFailed, DiskFailed};
+ghost use Rattle.editlens_main.specs.Applies.{Applies};
+ghost use Rattle.editlens_main.specs.Packs.{Packs};
+ghost use Rattle.editlens_main.specs.Shows.{Shows, Verifies};
+ghost use Rattle.editlens_main.specs.Statuses.{IsAmong, quiet_statuses, store_statuses};
+ghost use Rattle.editlens_main.specs.Undoes.{Undoes};
 
 use crate::Status;
 use lens_io::{Disk, Sink, Source};
@@ -19,15 +22,12 @@ pub fn run_apply<S: Source, K: Sink, D: Disk>(
     sink: &mut K,
     disk: &mut D,
 ) -> Status
-    ensures ends { ApplyEnds K.held D.content D.images D.moment D.images_since D.room
-        (SinkFailed K.faults K.empty_takes K.room K.held sink.old sink.new)
-        (Increased (D.faults disk.old) (D.faults disk.new))
-        (Increased (S.faults source.old) (S.faults source.new))
-        (S.left source.old) (S.left source.new) sink.old disk.old sink.new disk.new result }
-    ensures source_fault { result ≡ Status.SourceFault → Increased (S.faults source.old) (S.faults source.new) }
-    ensures sink_fault { result ≡ Status.SinkFault → SinkFailed K.faults K.empty_takes K.room K.held sink.old sink.new }
-    ensures disk_fault { result ≡ Status.DiskFault → Increased (D.faults disk.old) (D.faults disk.new) }
-    ensures no_usage { result ≡ Status.Usage → ⊥ }
+    ensures applies { Applies S.Source K.Sink D.Disk
+        (source.old, sink.old, disk.old) (source.new, sink.new, disk.new) result }
+    ensures statuses { IsAmong store_statuses result }
+    ensures source_fault { result ≡ Status.SourceFault → SourceFailed S.Source source.old source.new }
+    ensures sink_fault { result ≡ Status.SinkFault → SinkFailed K.Sink sink.old sink.new }
+    ensures disk_fault { result ≡ Status.DiskFault → DiskFailed D.Disk disk.old disk.new }
 {
     let ended = apply::<S, StoreSession, K, D>(alloc, source, sink, disk);
     Status::of_store(ended)
@@ -35,14 +35,10 @@ pub fn run_apply<S: Source, K: Sink, D: Disk>(
 
 /// Shows the state of the store.
 pub fn run_show<K: Sink, D: Disk>(alloc: Global, sink: &mut K, disk: &mut D) -> Status
-    ensures ends { ViewEnds K.held D.content D.images D.moment D.images_since D.room
-        (SinkFailed K.faults K.empty_takes K.room K.held sink.old sink.new)
-        (Increased (D.faults disk.old) (D.faults disk.new))
-        shown sink.old disk.old sink.new disk.new result }
-    ensures no_source { result ≡ Status.SourceFault → ⊥ }
-    ensures sink_fault { result ≡ Status.SinkFault → SinkFailed K.faults K.empty_takes K.room K.held sink.old sink.new }
-    ensures disk_fault { result ≡ Status.DiskFault → Increased (D.faults disk.old) (D.faults disk.new) }
-    ensures no_usage { result ≡ Status.Usage → ⊥ }
+    ensures shows { Shows K.Sink D.Disk (sink.old, disk.old) (sink.new, disk.new) result }
+    ensures statuses { IsAmong quiet_statuses result }
+    ensures sink_fault { result ≡ Status.SinkFault → SinkFailed K.Sink sink.old sink.new }
+    ensures disk_fault { result ≡ Status.DiskFault → DiskFailed D.Disk disk.old disk.new }
 {
     let ended = show::<StoreSession, K, D>(alloc, sink, disk);
     Status::of_store(ended)
@@ -50,14 +46,10 @@ pub fn run_show<K: Sink, D: Disk>(alloc: Global, sink: &mut K, disk: &mut D) -> 
 
 /// Counts the changes of the store.
 pub fn run_verify<K: Sink, D: Disk>(alloc: Global, sink: &mut K, disk: &mut D) -> Status
-    ensures ends { ViewEnds K.held D.content D.images D.moment D.images_since D.room
-        (SinkFailed K.faults K.empty_takes K.room K.held sink.old sink.new)
-        (Increased (D.faults disk.old) (D.faults disk.new))
-        verified sink.old disk.old sink.new disk.new result }
-    ensures no_source { result ≡ Status.SourceFault → ⊥ }
-    ensures sink_fault { result ≡ Status.SinkFault → SinkFailed K.faults K.empty_takes K.room K.held sink.old sink.new }
-    ensures disk_fault { result ≡ Status.DiskFault → Increased (D.faults disk.old) (D.faults disk.new) }
-    ensures no_usage { result ≡ Status.Usage → ⊥ }
+    ensures verifies { Verifies K.Sink D.Disk (sink.old, disk.old) (sink.new, disk.new) result }
+    ensures statuses { IsAmong quiet_statuses result }
+    ensures sink_fault { result ≡ Status.SinkFault → SinkFailed K.Sink sink.old sink.new }
+    ensures disk_fault { result ≡ Status.DiskFault → DiskFailed D.Disk disk.old disk.new }
 {
     let ended = verify::<StoreSession, K, D>(alloc, sink, disk);
     Status::of_store(ended)
@@ -65,14 +57,10 @@ pub fn run_verify<K: Sink, D: Disk>(alloc: Global, sink: &mut K, disk: &mut D) -
 
 /// Adds a snapshot to the store.
 pub fn run_pack<K: Sink, D: Disk>(alloc: Global, sink: &mut K, disk: &mut D) -> Status
-    ensures ends { PackEnds K.held D.content D.images D.moment D.images_since D.room
-        (SinkFailed K.faults K.empty_takes K.room K.held sink.old sink.new)
-        (Increased (D.faults disk.old) (D.faults disk.new))
-        sink.old disk.old sink.new disk.new result }
-    ensures no_source { result ≡ Status.SourceFault → ⊥ }
-    ensures sink_fault { result ≡ Status.SinkFault → SinkFailed K.faults K.empty_takes K.room K.held sink.old sink.new }
-    ensures disk_fault { result ≡ Status.DiskFault → Increased (D.faults disk.old) (D.faults disk.new) }
-    ensures no_usage { result ≡ Status.Usage → ⊥ }
+    ensures packs { Packs K.Sink D.Disk (sink.old, disk.old) (sink.new, disk.new) result }
+    ensures statuses { IsAmong quiet_statuses result }
+    ensures sink_fault { result ≡ Status.SinkFault → SinkFailed K.Sink sink.old sink.new }
+    ensures disk_fault { result ≡ Status.DiskFault → DiskFailed D.Disk disk.old disk.new }
 {
     let ended = pack::<StoreSession, K, D>(alloc, sink, disk);
     Status::of_store(ended)
@@ -80,14 +68,10 @@ pub fn run_pack<K: Sink, D: Disk>(alloc: Global, sink: &mut K, disk: &mut D) -> 
 
 /// Takes the store back to what it was before its last changes.
 pub fn run_undo<K: Sink, D: Disk>(alloc: Global, count: u64, sink: &mut K, disk: &mut D) -> Status
-    ensures ends { UndoingEnds K.held D.content D.images D.moment D.images_since D.room
-        (SinkFailed K.faults K.empty_takes K.room K.held sink.old sink.new)
-        (Increased (D.faults disk.old) (D.faults disk.new))
-        count sink.old disk.old sink.new disk.new result }
-    ensures no_source { result ≡ Status.SourceFault → ⊥ }
-    ensures sink_fault { result ≡ Status.SinkFault → SinkFailed K.faults K.empty_takes K.room K.held sink.old sink.new }
-    ensures disk_fault { result ≡ Status.DiskFault → Increased (D.faults disk.old) (D.faults disk.new) }
-    ensures no_usage { result ≡ Status.Usage → ⊥ }
+    ensures undoes { Undoes count K.Sink D.Disk (sink.old, disk.old) (sink.new, disk.new) result }
+    ensures statuses { IsAmong quiet_statuses result }
+    ensures sink_fault { result ≡ Status.SinkFault → SinkFailed K.Sink sink.old sink.new }
+    ensures disk_fault { result ≡ Status.DiskFault → DiskFailed D.Disk disk.old disk.new }
 {
     let ended = undo(alloc, count, sink, disk);
     Status::of_store(ended)

@@ -3,6 +3,7 @@ ghost use Rattle.std.specs.Prelude.{◌≡◌, ◌⊎◌, ◌≤◌, [], List, �
 ghost use Rattle.std.specs.declared.option.Option.{Option};
 ghost use Rattle.accepted_programs.specs.Program.{lens_of};
 ghost use Rattle.command_words.specs.declared.orders.Order.TheVariants.{Gen, Init, Import, Apply, Show, Verify, Pack, Undo, Hub, Link};
+ghost use Rattle.command_words.specs.declared.orders.Order.TheVariants as order;
 ghost use Rattle.gate_log.specs.LogOnDisk.{HoldsPayloads};
 ghost use Rattle.hub_run.specs.Lenses.{lenses_of};
 ghost use Rattle.journal_input.specs.declared.limits.TheConstants.{MOST_BYTES};
@@ -61,9 +62,9 @@ pub fn run_sure(
         → result ≡ Status.DiskFault → ⊥ }
     ensures sure { (command : Command) → command_of words.now ≡ Some command → length source.old ≤ MOST_BYTES
         → IsComplete command source.old result ⊎ ((result ≡ Status.SinkFault) × (length sink.new.held ≡ sink.new.room)) }
-    ensures run_reports { command_of words.now ≡ Some Run → IsFinished result
+    ensures run_reports { order_named words.now ≡ Some order.Run → IsFinished result
         → Reports Run (Some source.old) (Some source.new) (Some sink.old.held) (Some sink.new.held) result }
-    ensures check_types { command_of words.now ≡ Some Check → IsFinished result
+    ensures check_types { order_named words.now ≡ Some order.Check → IsFinished result
         → Reports Check (Some source.old) (Some source.new) (Some sink.old.held) (Some sink.new.held) result }
     ensures gen_sure { (count seed : ℕ) → order_named words.now ≡ Some (Gen count seed) → (result ≡ Status.Done) ⊎ (result ≡ Status.NoMemory)
         ⊎ ((result ≡ Status.SinkFault) × (length sink.new.held ≡ sink.new.room)) }

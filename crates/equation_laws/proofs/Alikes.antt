@@ -61,10 +61,6 @@ pub in_order-same : {C D : Type 0} → (o p : Option (WordTree × C)) (k l : C �
     → in_normal_form (in_order o k) ≡ in_normal_form (in_order p l)
 in_order-same o p k l e h = in_order-given o p k l e (λ r f. h r.1)
 
-pub joined-none : (w : WordTree) → joined w no_primitives ≡ w
-joined-none no_primitives = refl
-joined-none (more_primitives p w) = ap (more_primitives p) (joined-none w)
-
 behind-behind : {C : Type 0} → (u v : WordTree) (o : Option (WordTree × C)) → option_map (behind u) (option_map (behind v) o) ≡ option_map (behind (joined u v)) o
 behind-behind u v None = refl
 behind-behind u v (Some r) = ap (λ z. Some (z, r.1)) (sym (joined_assoc u v r.0))

@@ -1,12 +1,12 @@
 -- What translation emits for equal inner words is equal.
 use Rattle.std.proofs.Common.{◌≡◌, refl, sym, ap, Bool, true, false, List, ℕ, ◌∙◌}
 use Rattle.hold_shapes.specs.declared.edit.Place.{Place}
-use Rattle.doc_values.proofs.InitialTypes.{bytes_eq-refl}
 use Rattle.edit_module.specs.Words.{PrimitiveTree, at, stay, switch, modify, WordTree, no_primitives, more_primitives, joined}
 use Rattle.lens_core.specs.Emitted.{one, at_word, stay_word, mod_word, switch_word}
 use Rattle.equation_laws.proofs.Glue.{put_on, normalized, normalized_one, normalized_joined, same_place_same}
-use Rattle.equation_laws.proofs.Alikes.{joined-none}
 use Rattle.equation_laws.proofs.Normals.{comes_first}
+use Rattle.texts.proofs.KeyOrder.{bytes_eq-refl}
+use Rattle.edit_module.proofs.JoinedWords.{joined_nothing}
 
 -- a word with a primitive has one in its normal form
 abbrev is_empty : WordTree → Bool
@@ -31,7 +31,7 @@ at_word-normalized f (more_primitives p u) (more_primitives q w) e = ap (λ z. o
 
 pub at_word-joined : (f : List ℕ) (u w : WordTree) → normalized (at_word f (joined u w)) ≡ normalized (joined (at_word f u) (at_word f w))
 at_word-joined f no_primitives w = refl
-at_word-joined f (more_primitives p u) no_primitives = ap (λ z. normalized (at_word f z)) (joined-none (more_primitives p u))
+at_word-joined f (more_primitives p u) no_primitives = ap (λ z. normalized (at_word f z)) (joined_nothing (more_primitives p u))
 at_word-joined f (more_primitives p u) (more_primitives q w) = rw (bytes_eq-refl f) (ap (λ z. one (at f z)) (normalized_joined (more_primitives p u) (more_primitives q w)))
 
 pub stay_word-normalized : (f : List ℕ) (u w : WordTree) → normalized u ≡ normalized w → normalized (stay_word f u) ≡ normalized (stay_word f w)
@@ -42,7 +42,7 @@ stay_word-normalized f (more_primitives p u) (more_primitives q w) e = ap (λ z.
 
 pub stay_word-joined : (f : List ℕ) (u w : WordTree) → normalized (stay_word f (joined u w)) ≡ normalized (joined (stay_word f u) (stay_word f w))
 stay_word-joined f no_primitives w = refl
-stay_word-joined f (more_primitives p u) no_primitives = ap (λ z. normalized (stay_word f z)) (joined-none (more_primitives p u))
+stay_word-joined f (more_primitives p u) no_primitives = ap (λ z. normalized (stay_word f z)) (joined_nothing (more_primitives p u))
 stay_word-joined f (more_primitives p u) (more_primitives q w) = rw (bytes_eq-refl f) (ap (λ z. one (stay f z)) (normalized_joined (more_primitives p u) (more_primitives q w)))
 
 pub mod_word-normalized : (x : Place) (u w : WordTree) → normalized u ≡ normalized w → normalized (mod_word x u) ≡ normalized (mod_word x w)
@@ -53,12 +53,12 @@ mod_word-normalized x (more_primitives p u) (more_primitives q w) e = ap (λ z. 
 
 pub mod_word-joined : (x : Place) (u w : WordTree) → normalized (mod_word x (joined u w)) ≡ normalized (joined (mod_word x u) (mod_word x w))
 mod_word-joined x no_primitives w = refl
-mod_word-joined x (more_primitives p u) no_primitives = ap (λ z. normalized (mod_word x z)) (joined-none (more_primitives p u))
+mod_word-joined x (more_primitives p u) no_primitives = ap (λ z. normalized (mod_word x z)) (joined_nothing (more_primitives p u))
 mod_word-joined x (more_primitives p u) (more_primitives q w) = rw (same_place_same x) (ap (λ z. one (modify x z)) (normalized_joined (more_primitives p u) (more_primitives q w)))
 
 pub switch_word-normalized : (a b : List ℕ) (u w : WordTree) → normalized u ≡ normalized w → normalized (switch_word a b u) ≡ normalized (switch_word a b w)
 switch_word-normalized a b u w e = ap (λ z. one (switch a b z)) e
 
 pub switch_word-joined : (a b : List ℕ) (u w : WordTree) → normalized (switch_word a b (joined u w)) ≡ normalized (joined (switch_word a b u) (stay_word b w))
-switch_word-joined a b u no_primitives = ap (λ z. normalized (switch_word a b z)) (joined-none u)
+switch_word-joined a b u no_primitives = ap (λ z. normalized (switch_word a b z)) (joined_nothing u)
 switch_word-joined a b u (more_primitives q w) = rw (bytes_eq-refl b) (ap (λ z. one (switch a b z)) (normalized_joined u (more_primitives q w)))

@@ -1,12 +1,13 @@
 -- A second form of normal words, by recursion on the word alone: each primitive is glued before the glued rest.
-use Rattle.std.proofs.Common.{◌≡◌, refl, sym, ap, subst, Bool, true, false, cond, ℕ, List, bytes_eq, nat_eq, arith, ◌∙◌}
-use Rattle.std.proofs.lemmas.Bool.Decides.{nat_tests}
+use Rattle.std.proofs.Common.{◌≡◌, refl, sym, ap, subst, Bool, true, false, cond, ℕ, List, bytes_eq, ◌∙◌}
 use Rattle.std.proofs.lemmas.Slice.Eq.{bytes_eq-Decides}
 use Rattle.hold_shapes.specs.declared.edit.Place.{Place}
 use Rattle.hold_shapes.specs.declared.edit.Place.TheVariants.{Index, Key, Node}
-use Rattle.doc_values.proofs.InitialTypes.{bytes_eq-refl}
 use Rattle.edit_module.specs.Words.{PrimitiveTree, set, add, splice, at, stay, switch, modify, shape, WordTree, no_primitives, more_primitives, joined}
 use Rattle.edit_module.specs.Normal.{is_same_place}
+use Rattle.std.proofs.lemmas.Bool.{eqb-true}
+use Rattle.texts.proofs.KeyOrder.{bytes_eq-refl}
+use Rattle.texts.proofs.Tests.{nat_eq-refl}
 
 -- in front of a word, merged into its first primitive where that fits; `glued` puts the inner word before another
 abbrev pub at_on : List ℕ → WordTree → (WordTree → WordTree) → WordTree → WordTree
@@ -56,20 +57,14 @@ abbrev mutual
   normalized_one (modify p u) = modify p (normalized u)
   normalized_one (shape e) = shape e
 
-nat_eq-is : (m n : ℕ) → nat_eq m n ≡ true → m ≡ n
-nat_eq-is m n e = grind (arith, nat_tests)
-
-pub nat_eq-same : (n : ℕ) → nat_eq n n ≡ true
-nat_eq-same n = grind (arith, nat_tests)
-
 pub same_place-is : (p q : Place) → is_same_place p q ≡ true → p ≡ q
-same_place-is (Index p) (Index q) e = ap Index (nat_eq-is p q e)
+same_place-is (Index p) (Index q) e = ap Index (eqb-true p q e)
 same_place-is (Key k) (Key l) e = ap Key ((bytes_eq-Decides k l).0 e)
 same_place-is (Node p) (Node q) e = ap Node ((bytes_eq-Decides p q).0 e)
 same_place-is _ _ e = cc
 
 pub same_place_same : (p : Place) → is_same_place p p ≡ true
-same_place_same (Index i) = nat_eq-same i
+same_place_same (Index i) = nat_eq-refl i
 same_place_same (Key k) = bytes_eq-refl k
 same_place_same (Node k) = bytes_eq-refl k
 

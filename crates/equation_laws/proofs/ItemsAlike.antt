@@ -1,24 +1,25 @@
 -- Equal words of an item of a partition, and of one of its lists, are translated alike.
-use Rattle.std.proofs.Common.{◌≡◌, refl, sym, ap, subst, Bool, true, false, cond, Option, None, Some, option_map, List, [], ◌∷◌, length, ℕ, zero, suc, ◌+◌, ◌-◌, ◌<◌, nat_eq, nat_lt, arith, ◌∙◌}
-use Rattle.std.specs.Prelude.{option_and_then, slice_index, slice_set, bytes_eq}
-use Rattle.std.proofs.lemmas.Bool.Decides.{nat_tests}
+use Rattle.std.proofs.Common.{◌≡◌, refl, sym, ap, subst, Bool, true, false, cond, Option, None, Some, option_map, List, [], ◌∷◌, length, ℕ, zero, suc, ◌+◌, ◌-◌, ◌<◌, nat_eq, nat_lt, ◌∙◌}
+use Rattle.std.specs.Prelude.{option_and_then, slice_index, slice_set}
 use Rattle.std.proofs.lemmas.List.{length-set, get_or-set_same}
 use Rattle.texts.proofs.Conjunction.{both, first, second}
 use Rattle.hold_shapes.specs.declared.edit.Place.{Place}
 use Rattle.hold_shapes.specs.declared.edit.Place.TheVariants.{Index, Key, Node}
 use Rattle.hold_shapes.specs.declared.edit.ShapeEdit.TheVariants.{Ins, Del}
-use Rattle.doc_values.specs.Types.{TyTree, FieldTrees, no_fields, more_fields}
-use Rattle.doc_values.specs.Typing.{lookup_field, later_field}
+use Rattle.doc_values.specs.Types.{FieldTrees}
 use Rattle.edit_module.specs.Words.{PrimitiveTree, set, add, splice, at, stay, switch, modify, shape, WordTree, no_primitives, more_primitives, joined}
 use Rattle.edit_module.proofs.Words.{joined_assoc}
 use Rattle.tag_seq.specs.Tags.{one_if_same, count, rank, are_below}
 use Rattle.lens_core.specs.Tags.{tag_count, tag_number}
 use Rattle.lens_core.specs.Emitted.{at_word, stay_word, mod_word, shape_word, behind, one_by_one}
 use Rattle.lens_core.specs.Partition.{Parted, mv, place_in, where_holds, stay_item, switch_item, part_item, mod_occurrence, part_occurrence}
-use Rattle.equation_laws.proofs.Glue.{normalized, normalized_one, nat_eq-same}
+use Rattle.equation_laws.proofs.Glue.{normalized, normalized_one}
 use Rattle.equation_laws.proofs.Normals.{merge-cases, normalized-again}
 use Rattle.equation_laws.proofs.EmittedAlike.{at_word-normalized, at_word-joined, stay_word-normalized, stay_word-joined, mod_word-normalized, mod_word-joined}
 use Rattle.equation_laws.proofs.Alikes.{in_normal_form, in_order, normalized_joined-same, Owed, owed-keeps}
+use Rattle.std.proofs.lemmas.Bool.{lt-ltb, ltb-true}
+use Rattle.lens_core.proofs.TagNumbers.{tag-below}
+use Rattle.texts.proofs.Tests.{nat_eq-refl}
 
 -- ---- what each primitive of a word keeps, the word keeps
 
@@ -37,32 +38,6 @@ word-kept {C = C} rule Kept h (more_primitives p w) c r k e = first_one (rule c 
     first_one (Some q) g i e = rest q (one_by_one rule q.1 w) (λ s j. i q.1 s (g q refl) j) e
 
 -- ---- tags
-
-pub is_below : (i n : ℕ) → i < n → nat_lt i n ≡ true
-is_below i n h = grind (arith, nat_tests)
-
-pub below : (i n : ℕ) → nat_lt i n ≡ true → i < n
-below i n h = grind (arith, nat_tests)
-
-field-below : (fs : FieldTrees) (n : List ℕ) (f : ℕ × TyTree) → lookup_field fs n ≡ Some f → f.0 < tag_count fs
-field-below no_fields n f e = cc
-field-below (more_fields m t fs) n f e = go (bytes_eq m n) (lookup_field fs n) (λ g i. field-below fs n g i) e
-  where
-    go : (b : Bool) (o : Option (ℕ × TyTree)) → ((g : ℕ × TyTree) → o ≡ Some g → g.0 < tag_count fs) → cond b (Some (0, t)) (option_map (later_field 1) o) ≡ Some f → f.0 < tag_count fs + 1
-    go true o h e = let same : (0, t) ≡ f = cc in let number = ap (λ (x : ℕ × TyTree). x.0) same in omega (arith, number)
-    go false None h e = cc
-    go false (Some g) h e =
-        let same : later_field 1 g ≡ f = cc in
-        let number = ap (λ (x : ℕ × TyTree). x.0) same in
-        let less = h g refl in
-        omega (arith, number, less)
-
-pub tag-below : (fs : FieldTrees) (n : List ℕ) (j : ℕ) → tag_number fs n ≡ Some j → j < tag_count fs
-tag-below fs n j e = go (lookup_field fs n) refl e
-  where
-    go : (o : Option (ℕ × TyTree)) → lookup_field fs n ≡ o → option_map (λ (f : ℕ × TyTree). f.0) o ≡ Some j → j < tag_count fs
-    go None f e = cc
-    go (Some g) f e = let same : g.0 ≡ j = cc in subst (λ z. z < tag_count fs) same (field-below fs n g f)
 
 set-below : (n : ℕ) (ts : List ℕ) (p j : ℕ) → are_below n ts ≡ true → nat_lt j n ≡ true → are_below n (slice_set ts p j) ≡ true
 set-below n [] p j h k = h
@@ -111,7 +86,7 @@ pub item-long : (fs : FieldTrees) (p : ℕ) (ts : List ℕ) (q : PrimitiveTree) 
 item-long fs p ts q r k e = item-tags fs p ts q r e (λ us. nat_lt p (length us) ≡ true) k (λ j h. ap (λ n. nat_lt p n) (length-set ts p j) ∙ k)
 
 pub item-below : (fs : FieldTrees) (p : ℕ) (ts : List ℕ) (q : PrimitiveTree) (r : Parted) → are_below (tag_count fs) ts ≡ true → part_item fs p ts q ≡ Some r → are_below (tag_count fs) r.1 ≡ true
-item-below fs p ts q r k e = item-tags fs p ts q r e (λ us. are_below (tag_count fs) us ≡ true) k (λ j h. set-below (tag_count fs) ts p j k (is_below j (tag_count fs) h))
+item-below fs p ts q r k e = item-tags fs p ts q r e (λ us. are_below (tag_count fs) us ≡ true) k (λ j h. set-below (tag_count fs) ts p j k (lt-ltb j (tag_count fs) h))
 
 -- ---- a primitive of the item at a place, where there is one
 
@@ -230,7 +205,7 @@ stay_after : (fs : FieldTrees) (p : ℕ) (ts : List ℕ) (n : List ℕ) (j : ℕ
     → item_rule fs p (slice_set ts p j) (stay n v) ≡ Some (at_word n (mod_word (Index (rank j p ts)) v), slice_set ts p j)
 stay_after fs p ts n j v e f =
     stay_there fs p (slice_set ts p j) n j v (ap (λ n. nat_lt p n) (length-set ts p j) ∙ e) f
-    (ap (λ x. nat_eq j x) (get_or-set_same ts p j 0 (below p (length ts) e)) ∙ nat_eq-same j)
+    (ap (λ x. nat_eq j x) (get_or-set_same ts p j 0 (ltb-true p (length ts) e)) ∙ nat_eq-refl j)
     ∙ ap (λ q. Some (at_word n (mod_word (Index q) v), slice_set ts p j)) (set-rank j ts p j)
 
 item-switch : (fs : FieldTrees) (p : ℕ) (ts : List ℕ) (a b : List ℕ) (u v : WordTree)

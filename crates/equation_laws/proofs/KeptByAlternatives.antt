@@ -6,7 +6,6 @@ use Rattle.hold_shapes.specs.declared.edit.Place.{Place}
 use Rattle.texts.specs.declared.side.Side.{Side}
 use Rattle.texts.specs.Keys.{has_name}
 use Rattle.doc_values.specs.Types.{are_distinct}
-use Rattle.doc_values.proofs.InitialTypes.{bytes_eq-refl}
 use Rattle.edit_module.specs.Words.{PrimitiveTree, set, add, splice, at, stay, switch, modify, shape, WordTree, joined}
 use Rattle.lens_forms.specs.Forms.{form_alt, ArmTrees, no_arms, more_arms}
 use Rattle.lens_forms.specs.Typing.{left_arms}
@@ -19,6 +18,8 @@ use Rattle.equation_laws.proofs.Glue.{normalized, normalized_one}
 use Rattle.equation_laws.proofs.Normals.{merge-cases, normalized-again}
 use Rattle.equation_laws.proofs.EmittedAlike.{stay_word-normalized, stay_word-joined, switch_word-normalized, switch_word-joined}
 use Rattle.equation_laws.proofs.Alikes.{in_normal_form, same-parts, in_order, in_order-same, in_order-given, in_parts, form-keeps, owed-form}
+use Rattle.texts.proofs.Tests.{or_second}
+use Rattle.texts.proofs.KeyOrder.{bytes_eq-refl}
 
 -- ---- a word in an arm
 
@@ -122,10 +123,6 @@ switch-same (more_arms a b l arms) h side from n u w e = go (bytes_eq (near side
     go true i = to_arm-same from a (far side a b) (one_by_one (translate_one l side) (missing l) u) (one_by_one (translate_one l side) (missing l) w) (form-keeps l h.0 side (missing l) u w e)
     go false i = i
 
-or-right : (x y : Bool) → y ≡ true → (x || y) ≡ true
-or-right true y e = refl
-or-right false y e = e
-
 -- the tag is that of an arm
 switch-tag : (arms : ArmTrees) (side : Side) (from n : List ℕ) (u : WordTree) (r : Translated) → translate_switch arms side from n u ≡ Some r
     → (t : List ℕ) × (d : CompTree) × (r.1 ≡ alt_comp t d) × (has_name t (left_arms arms) ≡ true)
@@ -139,7 +136,7 @@ switch-tag (more_arms a b l arms) side from n u r e = go (bytes_eq (near side a 
     go true (Some q) h e =
         let same : to_arm from a (far side a b) q ≡ r = cc in
         (a, q.1, sym (ap (λ z. z.1) same), ap (λ z. z || has_name a (left_arms arms)) (bytes_eq-refl a))
-    go false o h e = let s = h e in (s.0, s.1, s.2, or-right (bytes_eq s.0 a) (has_name s.0 (left_arms arms)) s.3)
+    go false o h e = let s = h e in (s.0, s.1, s.2, or_second (bytes_eq s.0 a) (has_name s.0 (left_arms arms)) s.3)
 
 -- a tag of the arms is not one that they do not have
 other-tag : (a t : List ℕ) (ns : List (List ℕ)) → has_name a ns ≡ false → has_name t ns ≡ true → bytes_eq a t ≡ false

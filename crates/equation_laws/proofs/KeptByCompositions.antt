@@ -12,7 +12,8 @@ use Rattle.lens_core.specs.Emitted.{one, behind, one_by_one}
 use Rattle.lens_core.specs.Translation.{Translated, onward, translate_one, translate}
 use Rattle.equation_laws.specs.Alike.{AreAlike, KeepsEquations}
 use Rattle.equation_laws.proofs.Glue.{normalized, normalized_one}
-use Rattle.equation_laws.proofs.Alikes.{joined-none, in_normal_form, same-parts, in_order, in_order-same, in_parts, Keeps, form-keeps, owed-form, normalized-one, normalized-two}
+use Rattle.equation_laws.proofs.Alikes.{in_normal_form, same-parts, in_order, in_order-same, in_parts, Keeps, form-keeps, owed-form, normalized-one, normalized-two}
+use Rattle.edit_module.proofs.JoinedWords.{joined_nothing}
 
 -- ---- an inverse
 
@@ -80,7 +81,7 @@ through-order rule d pack (Some r) k next h = second (k r.1) (λ x. h r.1 x)
 -- what is kept for words is kept for one primitive and for two
 alone : (o : Option Translated) → in_normal_form (in_order o (λ d. Some (no_primitives, d))) ≡ in_normal_form o
 alone None = refl
-alone (Some r) = ap (λ w. Some (normalized w, r.1)) (joined-none r.0)
+alone (Some r) = ap (λ w. Some (normalized w, r.1)) (joined_nothing r.0)
 
 keeps-one : (rule : Rule) → Keeps rule → (c : CompTree) (p q : PrimitiveTree) → normalized (one p) ≡ normalized (one q) → in_normal_form (rule c p) ≡ in_normal_form (rule c q)
 keeps-one rule h c p q e = sym (alone (rule c p)) ∙ h c (one p) (one q) e ∙ alone (rule c q)

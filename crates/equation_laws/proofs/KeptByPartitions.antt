@@ -22,7 +22,8 @@ use Rattle.equation_laws.specs.Alike.{KeepsEquations}
 use Rattle.equation_laws.proofs.Glue.{normalized, normalized_one}
 use Rattle.equation_laws.proofs.Normals.{merge-cases, normalized-again}
 use Rattle.equation_laws.proofs.Alikes.{in_normal_form, same-parts, in_order, in_order-same, in_order-given, in_parts, Owed, owed-keeps, owed-form}
-use Rattle.equation_laws.proofs.ItemsAlike.{word-kept, tag-below, item-long, item-below, items-keep, occurrences-owed}
+use Rattle.equation_laws.proofs.ItemsAlike.{word-kept, item-long, item-below, items-keep, occurrences-owed}
+use Rattle.lens_core.proofs.TagNumbers.{tag-below}
 
 -- ---- from the left
 

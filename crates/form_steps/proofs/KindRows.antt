@@ -5,7 +5,7 @@ use Rattle.hold_shapes.specs.declared.shape.Shape.TheVariants.{List as ListOf, K
 use Rattle.texts.specs.declared.side.Side.{Side}
 use Rattle.edit_module.specs.Words.{PrimitiveTree}
 use Rattle.lens_forms.specs.Forms.{FormTree}
-use Rattle.lens_core.specs.Complements.{CompTree, CompTrees, nil, then_comp, rec_comp, alt_comp, hold_comp, tags_comp, missing}
+use Rattle.lens_core.specs.Complements.{CompTree, CompTrees, hold_comp, missing}
 use Rattle.lens_core.specs.Translation.{translate, translate_one, translate_held}
 use Rattle.form_steps.specs.Kinds.{mapped, is_of_kind}
 use Rattle.form_steps.specs.declared.kinds.Kind.{Kind}
@@ -41,25 +41,5 @@ other_shape Tree (TreeOf s) cs c l side p e is = cc
 abbrev pub IsHeld : CompTree → Type 0
 IsHeld (hold_comp s cs) = Unit {0}
 IsHeld _ = ⊥
-
-pub not_held : (kind : Kind) (c : CompTree) (l : FormTree) (side : Side) (p : PrimitiveTree) → (IsHeld c → ⊥) → translate_one (mapped kind l) side c p ≡ None
-not_held List nil l side p h = refl
-not_held List (then_comp c d) l side p h = refl
-not_held List (rec_comp cs) l side p h = refl
-not_held List (alt_comp t c) l side p h = refl
-not_held List (hold_comp s cs) l side p h = absurd (h tt)
-not_held List (tags_comp ts) l side p h = refl
-not_held Keyed nil l side p h = refl
-not_held Keyed (then_comp c d) l side p h = refl
-not_held Keyed (rec_comp cs) l side p h = refl
-not_held Keyed (alt_comp t c) l side p h = refl
-not_held Keyed (hold_comp s cs) l side p h = absurd (h tt)
-not_held Keyed (tags_comp ts) l side p h = refl
-not_held Tree nil l side p h = refl
-not_held Tree (then_comp c d) l side p h = refl
-not_held Tree (rec_comp cs) l side p h = refl
-not_held Tree (alt_comp t c) l side p h = refl
-not_held Tree (hold_comp s cs) l side p h = absurd (h tt)
-not_held Tree (tags_comp ts) l side p h = refl
 
 pub ruleset kind_rules = (held_row, other_shape)

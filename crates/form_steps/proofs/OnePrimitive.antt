@@ -11,7 +11,7 @@ use Rattle.lens_core.specs.Emitted.{behind}
 use Rattle.lens_core.specs.Translation.{Translated, translate_one, translate, carried_tree, IsCarryFault}
 use Rattle.lens_core.specs.declared.carry.Carried.{Carried}
 use Rattle.lens_core.specs.declared.carry.CarryFault.{CarryFault}
-use Rattle.lens_core.proofs.JoinedWords.{joined_nothing}
+use Rattle.edit_module.proofs.JoinedWords.{joined_nothing}
 
 nothing_behind : (o : Option Translated) → o ≡ option_and_then (λ r. option_map (behind r.0) (Some (no_primitives, r.1))) o
 nothing_behind None = refl

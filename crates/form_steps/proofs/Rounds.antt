@@ -81,10 +81,6 @@ round_of : (arms : ArmTrees) (side : Side) (t : List ℕ) (c : CompTree) (p : Pr
     → GoesRound (arm_translation arms side) (finish_alternatives arms side p) (translate_one (form_alt arms) side (alt_comp t c) p) (begin_alternatives arms side t c p)
 round_of arms side t c p h = alternatives_go_round arms side (left_apart arms h) (right_apart arms h) t c p
 
-pub alternative_done : (arms : ArmTrees) (side : Side) (e : CompTree) (t : List ℕ) (c : CompTree) (p : PrimitiveTree) (r : Translated) → IsReady (form_alt arms) → e ≡ alt_comp t c
-    → begin_alternatives arms side t c p ≡ Some (finished r) → translate_one (form_alt arms) side e p ≡ Some r
-alternative_done arms side e t c p r h is b = rw is (round_done _ _ _ _ r (round_of arms side t c p h) b)
-
 pub alternative_inside : (arms : ArmTrees) (side : Side) (e : CompTree) (t : List ℕ) (c : CompTree) (p : PrimitiveTree) (i : ℕ) (d : CompTree) (w : WordTree) (r q : Translated)
     → IsReady (form_alt arms) → e ≡ alt_comp t c
     → begin_alternatives arms side t c p ≡ Some (inside i d w) → arm_translation arms side i d w ≡ Some r → q ≡ finish_alternatives arms side p r → translate_one (form_alt arms) side e p ≡ Some q

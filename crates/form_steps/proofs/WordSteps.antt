@@ -1,18 +1,19 @@
 -- A word primitive by primitive: what was translated, and what is left to do.
-use Rattle.std.proofs.Common.{◌≡◌, ℕ, suc, ◌+◌, ◌<◌, ◌≤◌, Option, None, Some, option_map, List, length, map, drop, drop-cons, get_or, add-one, refl, sym, ap, ◌∙◌}
+use Rattle.std.proofs.Common.{◌≡◌, ℕ, suc, ◌+◌, ◌<◌, ◌≤◌, Option, None, Some, option_map, List, length, map, drop, drop-cons, get_or, add-one, sym, ap, ◌∙◌}
 use Rattle.std.specs.Prelude.{option_and_then}
 use Rattle.std.proofs.lemmas.List.{drop_all}
 use Rattle.texts.specs.declared.side.Side.{Side}
-use Rattle.edit_module.specs.Words.{PrimitiveTree, WordTree, no_primitives, more_primitives, word_of, joined}
+use Rattle.edit_module.specs.Words.{PrimitiveTree, WordTree, more_primitives, word_of, joined}
 use Rattle.edit_module.specs.Views.{primitive_tree}
 use Rattle.edit_module.specs.declared.word.Primitive.{Primitive}
 use Rattle.lens_forms.specs.Forms.{FormTree}
 use Rattle.lens_core.specs.Complements.{CompTree}
 use Rattle.lens_core.specs.Emitted.{behind}
-use Rattle.lens_core.proofs.JoinedWords.{joined_nothing, behind_nothing, behind_behind}
+use Rattle.lens_core.proofs.JoinedWords.{behind_behind}
 use Rattle.lens_core.specs.Translation.{Translated, translate_one, translate, IsCarryFault}
 use Rattle.lens_core.specs.declared.carry.CarryFault.{CarryFault}
 use Rattle.lens_core.specs.declared.carry.CarryFault.TheVariants.{Unfit, NoMemory}
+use Rattle.edit_module.proofs.JoinedWords.{joined_nothing}
 
 -- what is left to do from a place of a word on, with the complement there, behind what was translated
 abbrev pub left_to_do : FormTree → Side → CompTree → WordTree → List Primitive → ℕ → Option Translated

@@ -29,6 +29,9 @@ const FIRST: u64 = 8;
 // How many bytes the opening of a log reads at most by one call of the disk.
 const PIECE: usize = 1 << 16;
 
+// How often the gates are read at most where another program adds records meanwhile.
+const MOST_READINGS: u32 = 1000;
+
 /// A log on a disk. It keeps the place of its closed gate and how many records it has, and no payload.
 #[derive(Drop)]
 pub struct Log {
@@ -116,6 +119,9 @@ pub fn open_log<D: Disk>(disk: &mut D) -> Result<Log, LogFault>
 }
 
 // Reads the mark and the gates.
+//
+// Another program may add records meanwhile, and a gate that it has opened leads past the length that was asked for before. So
+// where a record passes the end, and the disk has grown, the reading begins anew.
 fn opened<D: Disk>(disk: &mut D) -> Result<Log, LogFault>
     ensures opens { IfSome (D.content disk.old) (λ bytes. Opens bytes result) }
     ensures sound { IfOk result (λ log. log.sound ≡ true) }
@@ -126,7 +132,35 @@ fn opened<D: Disk>(disk: &mut D) -> Result<Log, LogFault>
         → Increased (D.faults disk.old) (D.faults disk.new) }
     ensures sure { IsErrOf result LogFault.DiskFault → IsNone (D.room disk.old) }
 {
-    let end = disk.len()?;
+    let mut end = disk.len()?;
+    'readings: for _ in 0..MOST_READINGS {
+        match opened_at(disk, end) {
+            Err(LogFault::BadRecord { number }) => {
+                let now = disk.len()?;
+                if now == end {
+                    return Err(LogFault::BadRecord { number });
+                }
+                end = now;
+            }
+            found => return found,
+        }
+    }
+    opened_at(disk, end)
+}
+
+// Reads the mark and the gates of a disk of this length.
+fn opened_at<D: Disk>(disk: &mut D, end: u64) -> Result<Log, LogFault>
+    requires bound { end < 2 ^ 63 }
+    requires end { IfSome (D.content disk.old) (λ bytes. end ≡ length bytes) }
+    ensures opens { IfSome (D.content disk.old) (λ bytes. Opens bytes result) }
+    ensures sound { IfOk result (λ log. log.sound ≡ true) }
+    ensures reads { OnlyReads D.content D.images D.moment D.images_since D.faults D.room
+        disk.old disk.new }
+    ensures possible { IfErr result IsOpenFault }
+    ensures cause { IsErrOf result LogFault.DiskFault
+        → Increased (D.faults disk.old) (D.faults disk.new) }
+    ensures sure { IsErrOf result LogFault.DiskFault → IsNone (D.room disk.old) }
+{
     if end < EMPTY.len() as u64 {
         return Err(LogFault::NotALog);
     }

@@ -1,12 +1,12 @@
 -- Each entry applies to the document of its side, and what holds after the entries before holds after it.
-use Rattle.std.proofs.Common.{◌≡◌, mul-le-mul_left, ℕ, zero, suc, ◌+◌, ◌*◌, ◌<◌, ◌≤◌, ◌^◌, ℤ, pos, Bool, true, false, ◌&&◌, List, [], ◌∷◌, ◌++◌, length, codes, get_or, Option, Some, None, Result, Ok, Err, refl, ap, sym, ◌∙◌, subst, arith, length-append}
+use Rattle.std.proofs.Common.{◌≡◌, mul-le-mul_left, ℕ, ◌+◌, ◌*◌, ◌<◌, ◌≤◌, ◌^◌, ℤ, pos, ◌&&◌, List, [], ◌∷◌, ◌++◌, length, codes, get_or, Ok, refl, ap, sym, ◌∙◌, subst, arith, length-append}
 use Rattle.std.specs.Prelude.{◌+ℤ◌}
 use Rattle.std.specs.List.{insert, remove}
 use Rattle.texts.proofs.Conjunction.{both as both_true}
 use Rattle.hold_shapes.specs.declared.edit.Place.TheVariants.{Index}
 use Rattle.hold_shapes.specs.declared.edit.ShapeEdit.TheVariants.{Ins, MoveItem as MoveEdit}
-use Rattle.doc_values.specs.Documents.{DocTree, int, text, rec, alt, hold, no_docs, more_docs, docs_of, doc_list}
-use Rattle.doc_values.specs.Types.{TyTree, ty_int, ty_alt, ty_list}
+use Rattle.doc_values.specs.Documents.{DocTree, int, text, alt}
+use Rattle.doc_values.specs.Types.{ty_int, ty_alt}
 use Rattle.edit_module.specs.Words.{WordTree, add, at, modify, no_primitives, more_primitives}
 use Rattle.edit_module.specs.Action.{act}
 use Rattle.lens_forms.specs.Forms.{left_type, right_type}
@@ -17,12 +17,14 @@ use Rattle.generated_run.specs.declared.choice.Choice.{Choice}
 use Rattle.generated_run.specs.declared.choice.Choice.TheVariants.{InsertItem, InsertNumber, MoveItem, AddToNumber}
 use Rattle.generated_run.specs.Program.{item_tags, generated_form}
 use Rattle.generated_run.specs.Journal.{entry_of, insertion, texts_after, numbers_after}
-use Rattle.generated_run.specs.Invariant.{absolute, weight, texts_of, numbers_of, AreInts, AreItems, two_lists, HasItems, IsGenerated, IsPossible}
-use Rattle.generated_run.proofs.Measures.{IsAdditive, moved_keeps}
+use Rattle.generated_run.specs.Invariant.{absolute, weight, texts_of, numbers_of, AreInts, two_lists, IsGenerated, IsPossible}
+use Rattle.generated_run.proofs.Measures.{moved_keeps}
 use Rattle.generated_run.proofs.Lists.{text_count, number_count, number_weight, text_count-append, number_count-append, number_weight-append, weight-append, sum_fits, heavier}
 use Rattle.generated_run.proofs.Related.{has_items, lists_equal, two_lists_equal}
-use Rattle.partition_lens.proofs.ItemLists.{IsSplit, split_at}
-use Rattle.partition_lens.proofs.ListEdits.{Turns, edit_turns, mod_turns, is_below}
+use Rattle.lens_core.proofs.ItemLists.{split_at}
+use Rattle.partition_lens.proofs.ListEdits.{edit_turns, mod_turns}
+use Rattle.std.proofs.lemmas.Bool.{lt-ltb}
+use Rattle.lens_core.proofs.RightLists.{Turns}
 
 -- the entry applies, and what holds after the entries before holds of every triple that is in step and has its result
 pub record Applies (c : Choice) (k : ℕ) (p : ℕ) (o : ℕ) (t : TripleTree) : Type 0 where
@@ -109,7 +111,7 @@ move_item i j k p o t below_i below_j h =
     let w_same = moved_keeps number_weight number_weight-append items i j d i_in in
     record {
       document = list_doc (insert (remove items i) j (get_or items i d));
-      acts = rw (h.documents.left_is) (edit_turns (ty_alt item_tags) (MoveEdit i j) items (both_true _ _ (is_below i (length items) i_in) (is_below j (length items) j_in)));
+      acts = rw (h.documents.left_is) (edit_turns (ty_alt item_tags) (MoveEdit i j) items (both_true _ _ (lt-ltb i (length items) i_in) (lt-ltb j (length items) j_in)));
       next = λ t' step is. from_left (k + 1) p o t' step (insert (remove items i) j (get_or items i d)) is (omega arith) (omega arith) (omega arith) (omega arith);
     }
 

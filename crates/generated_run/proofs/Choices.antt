@@ -1,5 +1,5 @@
 -- Each choice is possible, and what a step of a session with its entry comes to.
-use Rattle.std.proofs.Common.{◌≡◌, ℕ, zero, suc, ◌+◌, ◌<◌, ◌≤◌, ◌/◌, ◌%◌, Bool, true, false, List, [], ◌∷◌, Option, Some, None, Ok, Err, refl, ap, sym, ◌∙◌, subst, arith}
+use Rattle.std.proofs.Common.{◌≡◌, ℕ, ◌+◌, ◌<◌, ◌≤◌, ◌/◌, ◌%◌, Bool, true, false, List, [], ◌∷◌, Some, Ok, refl, sym, ◌∙◌, subst, arith}
 use Rattle.std.specs.Prelude.{cond, nat_eq, nat_lt}
 use Rattle.std.proofs.lemmas.Bool.Decides.{nat_tests}
 use Rattle.texts.specs.declared.side.Side.{Side}
@@ -16,19 +16,17 @@ use Rattle.edit_session.specs.Step.{TripleTree, IsInStep, document_on, step}
 use Rattle.generated_run.specs.declared.choice.Choice.{Choice}
 use Rattle.generated_run.specs.declared.choice.Choice.TheVariants.{InsertItem, InsertNumber, MoveItem, AddToNumber}
 use Rattle.generated_run.specs.Program.{generated_form}
-use Rattle.generated_run.specs.Journal.{choice, entry_of, entries, next_seed, drawn_from, texts_after, numbers_after, run_from}
-use Rattle.generated_run.specs.Invariant.{IsGenerated, IsPossible, AddsAtMost, counted}
+use Rattle.generated_run.specs.Journal.{choice, entry_of, texts_after, numbers_after, run_from}
+use Rattle.generated_run.specs.Invariant.{IsGenerated, IsPossible, counted}
 use Rattle.generated_run.proofs.Applied.{applies}
 use Rattle.generated_run.proofs.Counted.{stepped, counted_step}
+use Rattle.texts.proofs.Tests.{not_zero}
 
 -- ---- choices
 
 either : (b : Bool) (x y : Choice) (k p o : ℕ) → (b ≡ true → IsPossible x k p o) → (b ≡ false → IsPossible y k p o) → IsPossible (cond b x y) k p o
 either true x y k p o f g = f refl
 either false x y k p o f g = g refl
-
-not_zero : (n : ℕ) → nat_eq n 0 ≡ false → 0 < n
-not_zero n h = grind (arith, nat_tests)
 
 above_zero : (n : ℕ) → nat_lt 0 n ≡ true → 0 < n
 above_zero n h = grind (arith, nat_tests)
@@ -49,13 +47,6 @@ choice_possible k p o d =
     either (nat_eq (d % 4) 2) moves third k p o
     (λ _. (rest_below (d / 4) (p + o) (not_zero (p + o) some), rest_below k (p + o) (not_zero (p + o) some)))
     (λ _. either (nat_lt 0 o) adds InsertItem k p o (λ h. (rest_below (d / 4) o (above_zero o h), refl)) (λ _. tt)))))
-
--- the number that is added is that of the entry
-pub adds_at_most : (c : Choice) (k p o : ℕ) → k < 10001 → IsPossible c k p o → AddsAtMost c
-adds_at_most InsertItem k p o h possible = tt
-adds_at_most InsertNumber k p o h possible = tt
-adds_at_most (MoveItem i j) k p o h possible = tt
-adds_at_most (AddToNumber i n) k p o h possible = let same = possible.1 in omega arith
 
 -- ---- steps
 
@@ -88,11 +79,3 @@ taken form is c k p o seed t t' e w small possible h entry steps consistent =
       generated = a.next t' (subst R is consistent) made;
       counts = λ rest. counted_step k t t' (entry_of c) w rest s;
     }
-
--- the rest of a journal after it
-pub counts_on : (c : Choice) (k p o s s' p' o' : ℕ) (t t' : TripleTree) → c ≡ choice (k + 1) p o (drawn_from s') → s' ≡ next_seed s
-    → p' ≡ texts_after c p → o' ≡ numbers_after c o → IsTaken c k p o s t t' → (rest : ℕ)
-    → counted k t (run_from t (entries (suc rest) (k + 1) s p o)) ≡ counted (k + 1) t' (run_from t' (entries rest (k + 1 + 1) s' p' o'))
-counts_on c k p o s s' p' o' t t' is_c is_s is_p is_o h rest =
-    let same : entries (suc rest) (k + 1) s p o ≡ entry_of c ∷ entries rest (k + 1 + 1) s' p' o' = rw (is_p, is_o, is_c, is_s) refl in
-    ap (λ (es : List (Side × WordTree)). counted k t (run_from t es)) same ∙ h.counts (entries rest (k + 1 + 1) s' p' o')

@@ -1,14 +1,12 @@
 -- How a generated journal begins and ends, and the sum of its numbers.
-use Rattle.std.proofs.Common.{◌≡◌, mul-le-mul_left, drop-cons, ℕ, zero, suc, ◌+◌, ◌*◌, ◌<◌, ◌≤◌, ◌^◌, ℤ, pos, negsuc, List, [], ◌∷◌, length, drop, get_or, Option, Some, None, refl, ap, sym, ◌∙◌, subst, arith}
+use Rattle.std.proofs.Common.{◌≡◌, mul-le-mul_left, drop-cons, ℕ, suc, ◌+◌, ◌*◌, ◌<◌, ◌≤◌, ◌^◌, ℤ, pos, negsuc, List, [], ◌∷◌, length, drop, get_or, Some, refl, ap, ◌∙◌, arith}
 use Rattle.std.specs.Prelude.{◌+ℤ◌}
 use Rattle.std.proofs.lemmas.Int.{ints}
-use Rattle.std.proofs.Math.Seq.{drop-length}
-use Rattle.doc_values.specs.Documents.{DocTree, unit, doc_list, docs_of}
+use Rattle.doc_values.specs.Documents.{DocTree, unit}
 use Rattle.edit_session.specs.Step.{TripleTree}
-use Rattle.generated_run.specs.declared.summary.Summary.{Summary}
-use Rattle.generated_run.specs.Journal.{number_in, sum_of, names_in, nums_in, first_triple, summarized}
-use Rattle.generated_run.specs.Invariant.{absolute, weight, texts_of, numbers_of, two_lists, IsGenerated, HasLists, counted}
-use Rattle.generated_run.proofs.Related.{list_again}
+use Rattle.generated_run.specs.Journal.{number_in, sum_of, names_in, nums_in, first_triple}
+use Rattle.generated_run.specs.Invariant.{absolute, weight, texts_of, numbers_of, IsGenerated, counted}
+use Rattle.doc_values.proofs.Lists.{doc_list-docs_of}
 
 pub starts : IsGenerated 0 0 0 first_triple
 starts = record {
@@ -19,15 +17,11 @@ starts = record {
   light = omega arith;
 }
 
--- the right document has two lists
-pub has_lists : (k p o : ℕ) (t : TripleTree) → IsGenerated k p o t → HasLists t.right
-has_lists k p o t h = (texts_of h.documents.items, numbers_of h.documents.items, h.documents.right_is)
-
 nums_are : (k p o : ℕ) (t : TripleTree) (h : IsGenerated k p o t) → nums_in t.right ≡ numbers_of h.documents.items
-nums_are k p o t h = ap nums_in h.documents.right_is ∙ list_again (numbers_of h.documents.items)
+nums_are k p o t h = ap nums_in h.documents.right_is ∙ doc_list-docs_of (numbers_of h.documents.items)
 
 names_are : (k p o : ℕ) (t : TripleTree) (h : IsGenerated k p o t) → names_in t.right ≡ texts_of h.documents.items
-names_are k p o t h = ap names_in h.documents.right_is ∙ list_again (texts_of h.documents.items)
+names_are k p o t h = ap names_in h.documents.right_is ∙ doc_list-docs_of (texts_of h.documents.items)
 
 -- twice the numbers together are at most k times k + 1
 pub light : (k p o : ℕ) (t : TripleTree) → IsGenerated k p o t → 2 * weight (nums_in t.right) ≤ k * (k + 1)
@@ -70,9 +64,6 @@ absolute_at (negsuc a) (negsuc b) (negsuc c) e = omega (arith, ints)
 pub absolute_sum : (s z : ℤ) → absolute (s +ℤ z) ≤ absolute s + absolute z
 absolute_sum s z = absolute_at (s +ℤ z) s z refl
 
-pub sum_begins : (ds : List DocTree) → IsSummed ds 0 (pos 0)
-sum_begins ds = record { sum = omega (arith, ints); small = omega arith }
-
 module _ (ds : List DocTree) (i : ℕ) (s : ℤ) (below : i < length ds) (h : IsSummed ds i s) where
   here : drop i ds ≡ get_or ds i unit ∷ drop (suc i) ds
   here = drop-cons ds i unit below
@@ -88,12 +79,6 @@ module _ (ds : List DocTree) (i : ℕ) (s : ℤ) (below : i < length ds) (h : Is
 
   pub sum_below : absolute (s +ℤ number_in (get_or ds i unit)) ≤ weight ds
   sum_below = let more = sum_more in let small = more.small in omega arith
-
-pub sum_ends : (ds : List DocTree) (s : ℤ) → IsSummed ds (length ds) s → s ≡ sum_of ds
-sum_ends ds s h =
-    let none = ap sum_of (drop-length ds) in
-    let sum = h.sum in
-    omega (arith, ints)
 
 -- a sum is at most what the numbers are together
 pub sum_within : (ds : List DocTree) → absolute (sum_of ds) ≤ weight ds

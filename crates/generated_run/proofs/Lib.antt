@@ -8,4 +8,3 @@ mod Lists
 mod Measures
 pub mod Progress
 mod Related
-pub mod Seeds

@@ -1,14 +1,13 @@
 -- The three numbers of a list of items: how many texts, how many numbers, and how much the numbers are together.
-use Rattle.std.proofs.Common.{◌≡◌, ℕ, zero, suc, ◌+◌, ◌<◌, ◌≤◌, ◌^◌, ℤ, pos, negsuc, Bool, true, false, List, [], ◌∷◌, ◌++◌, length, codes, refl, ap, sym, ◌∙◌, arith, length-append}
+use Rattle.std.proofs.Common.{◌≡◌, ℕ, ◌+◌, ◌<◌, ◌≤◌, ◌^◌, ℤ, pos, negsuc, Bool, true, false, List, [], ◌∷◌, ◌++◌, length, codes, refl, ap, ◌∙◌, arith, length-append}
 use Rattle.std.specs.Prelude.{bytes_eq, cond, ◌+ℤ◌}
 use Rattle.std.proofs.lemmas.Int.{ints}
-use Rattle.std.proofs.lemmas.Bool.Decides.{nat_tests}
-use Rattle.std.specs.Prelude.{nat_lt}
-use Rattle.doc_values.specs.Documents.{DocTree, unit, truth, int, text, pick, rec, alt, hold}
+use Rattle.doc_values.specs.Documents.{DocTree, alt}
 use Rattle.doc_values.specs.Integers.{fits_i64}
 use Rattle.lens_core.specs.Consistency.{contents_with}
 use Rattle.generated_run.specs.Invariant.{absolute, weight, texts_of, numbers_of}
 use Rattle.generated_run.proofs.Measures.{IsAdditive}
+use Rattle.std.proofs.lemmas.Bool.{lt-ltb}
 
 before_both : (b : Bool) (v : DocTree) (xs ys : List DocTree) → cond b (v ∷ (xs ++ ys)) (xs ++ ys) ≡ cond b (v ∷ xs) xs ++ ys
 before_both true v xs ys = refl
@@ -44,14 +43,11 @@ number_weight-append xs ys = ap weight (contents-append (codes "o") xs ys) ∙ w
 
 -- ---- sums
 
-below_true : (i n : ℕ) → i < n → nat_lt i n ≡ true
-below_true i n h = grind (arith, nat_tests)
-
 fits_at : (s z : ℤ) (k : ℕ) → s ≡ z +ℤ pos k → absolute z + k < 2 ^ 63 → fits_i64 s ≡ true
-fits_at (pos m) (pos n) k e h = below_true m (2 ^ 63) (omega (arith, ints))
-fits_at (pos m) (negsuc n) k e h = below_true m (2 ^ 63) (omega (arith, ints))
-fits_at (negsuc m) (pos n) k e h = below_true m (2 ^ 63) (omega (arith, ints))
-fits_at (negsuc m) (negsuc n) k e h = below_true m (2 ^ 63) (omega (arith, ints))
+fits_at (pos m) (pos n) k e h = lt-ltb m (2 ^ 63) (omega (arith, ints))
+fits_at (pos m) (negsuc n) k e h = lt-ltb m (2 ^ 63) (omega (arith, ints))
+fits_at (negsuc m) (pos n) k e h = lt-ltb m (2 ^ 63) (omega (arith, ints))
+fits_at (negsuc m) (negsuc n) k e h = lt-ltb m (2 ^ 63) (omega (arith, ints))
 
 -- the sum fits
 pub sum_fits : (z : ℤ) (k : ℕ) → absolute z + k < 2 ^ 63 → fits_i64 (z +ℤ pos k) ≡ true

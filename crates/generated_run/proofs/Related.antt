@@ -1,27 +1,23 @@
 -- What the relation says of the documents of a generated journal: the left document is a list of texts and numbers, and the right
 -- document has the list of its texts and that of its numbers.
-use Rattle.std.proofs.Common.{◌≡◌, ℕ, zero, suc, ◌+◌, ℤ, pos, Bool, true, false, ◌&&◌, List, [], ◌∷◌, ◌++◌, length, codes, map, Option, Some, None, IsTrue, refl, ap, sym, ◌∙◌, subst, arith}
-use Rattle.std.specs.Prelude.{bytes_eq, cond}
-use Rattle.std.proofs.lemmas.Slice.Eq.{bytes_eq-Decides}
+use Rattle.std.proofs.Common.{◌≡◌, ℕ, ◌+◌, ℤ, pos, Bool, true, false, ◌&&◌, List, [], ◌∷◌, ◌++◌, length, codes, Some, refl, ap, sym, ◌∙◌, subst, arith}
+use Rattle.std.specs.Prelude.{bytes_eq}
 use Rattle.std.proofs.lemmas.Bool.{eqb-true}
 use Rattle.texts.proofs.Conjunction.{first, second, split}
 use Rattle.hold_shapes.specs.declared.shape.Shape.{Shape}
 use Rattle.hold_shapes.specs.declared.shape.Shape.TheVariants.{List as ListOf, Keyed as KeyedOf, Tree as TreeOf}
-use Rattle.doc_values.specs.Documents.{DocTree, unit, truth, int, text, pick, rec, alt, hold, DocTrees, no_docs, more_docs, docs_of, doc_list}
+use Rattle.doc_values.specs.Documents.{DocTree, int, rec, alt, hold, DocTrees, no_docs, more_docs, docs_of, doc_list}
 use Rattle.doc_values.specs.Types.{TyTree, ty_int, ty_text, ty_list, ty_alt, no_fields, more_fields}
 use Rattle.doc_values.specs.Typing.{has, has_each, has_fields, is_list_of}
 use Rattle.lens_forms.specs.Forms.{form_id, form_each, form_part, form_rec, left_fields, right_fields, sorted, lists_of}
-use Rattle.lens_core.specs.Complements.{CompTree, nil, then_comp, rec_comp, alt_comp, hold_comp, tags_comp, CompTrees, no_comps, more_comps}
-use Rattle.lens_core.specs.Consistency.{IsConsistent, AtEachPlace, content, contents_with, list_doc}
-use Rattle.edit_session.specs.Step.{TripleTree, IsInStep}
+use Rattle.lens_core.specs.Complements.{CompTree, then_comp, rec_comp, hold_comp, tags_comp, CompTrees, no_comps, more_comps}
+use Rattle.lens_core.specs.Consistency.{IsConsistent, AtEachPlace, content, list_doc}
 use Rattle.generated_run.specs.Program.{item_tags, list_rows, generated_form}
 use Rattle.generated_run.specs.Invariant.{texts_of, numbers_of, AreInts, AreItems, two_lists, HasItems}
+use Rattle.texts.proofs.Tests.{bytes_eq-is_back}
+use Rattle.doc_values.proofs.Lists.{docs_of-doc_list, doc_list-docs_of}
 
 -- ---- lists
-
-docs_again : (ds : DocTrees) → docs_of (doc_list ds) ≡ ds
-docs_again no_docs = refl
-docs_again (more_docs d ds) = ap (λ z. more_docs d z) (docs_again ds)
 
 -- the contents of a list of equals are equal
 places_same : (t : TyTree) (xs : DocTrees) (cs : CompTrees) (ys : DocTrees) → AtEachPlace (IsConsistent (form_id t)) xs cs ys → ys ≡ xs
@@ -46,9 +42,6 @@ number_before : (v : DocTree) (ds : List DocTree) → has (ty_int (pos 0)) v ≡
 number_before (int z) ds h ints = ints
 number_before _ ds h ints = cc
 
-same_name : (m n : List ℕ) → bytes_eq m n ≡ true → n ≡ m
-same_name m n h = sym ((bytes_eq-Decides m n).0 h)
-
 no_tag : (n : List ℕ) (v : DocTree) → bytes_eq (codes "p") n ≡ false → bytes_eq (codes "o") n ≡ false → has (ty_alt item_tags) (alt n v) ≡ true → ⊥
 no_tag n v is_p is_o typed = let e : false ≡ true = rw (is_p, is_o) at typed in cc
 
@@ -57,11 +50,11 @@ item_before : (n : List ℕ) (v : DocTree) (items : List DocTree) (p o : Bool) �
 item_before n v items true o is_p is_o typed h =
     let P : List ℕ → Type 0 = λ m. AreItems (alt m v ∷ items) in
     let all = h.all in
-    subst P (sym (same_name (codes "p") n is_p)) (record { all = omega arith; ints = h.ints })
+    subst P (sym (bytes_eq-is_back (codes "p") n is_p)) (record { all = omega arith; ints = h.ints })
 item_before n v items false true is_p is_o typed h =
     let P : List ℕ → Type 0 = λ m. has (ty_alt item_tags) (alt m v) ≡ true → AreItems (alt m v ∷ items) in
     let all = h.all in
-    subst P (sym (same_name (codes "o") n is_o))
+    subst P (sym (bytes_eq-is_back (codes "o") n is_o))
     (λ is. record { all = omega arith; ints = number_before v (numbers_of items) is h.ints }) typed
 item_before n v items false false is_p is_o typed h = absurd (no_tag n v is_p is_o typed)
 
@@ -78,7 +71,7 @@ list_is : (s : Shape) (xs : DocTrees) → has (ty_list (ty_alt item_tags)) (hold
 list_is (ListOf r) xs h =
     let typed = split (is_list_of (ListOf r) (length (doc_list xs))) (has_each (ty_alt item_tags) xs) h in
     let long : r.count ≡ length (doc_list xs) = eqb-true r.count (length (doc_list xs)) typed.0 in
-    let back = docs_again xs in (
+    let back = docs_of-doc_list xs in (
       ap (λ k. hold (ListOf (record { count = k })) xs) long ∙ ap (λ z. hold (ListOf (record { count = length (doc_list xs) })) z) (sym back),
       items_are xs typed.1,
     )
@@ -158,12 +151,8 @@ has_items x _ y h = absurd h.1
 
 -- ---- documents that are lists of the same items
 
-pub list_again : (ds : List DocTree) → doc_list (docs_of ds) ≡ ds
-list_again [] = refl
-list_again (d ∷ ds) = ap (λ z. d ∷ z) (list_again ds)
-
 pub lists_equal : (xs ys : List DocTree) → list_doc xs ≡ list_doc ys → xs ≡ ys
-lists_equal xs ys e = let same : docs_of xs ≡ docs_of ys = cc in sym (list_again xs) ∙ (ap doc_list same ∙ list_again ys)
+lists_equal xs ys e = let same : docs_of xs ≡ docs_of ys = cc in sym (doc_list-docs_of xs) ∙ (ap doc_list same ∙ doc_list-docs_of ys)
 
 pub two_lists_equal : (us vs xs ys : List DocTree) → two_lists us xs ≡ two_lists vs ys → (us ≡ vs) × (xs ≡ ys)
 two_lists_equal us vs xs ys e =

@@ -4,7 +4,7 @@ use Rattle.std.specs.Prelude.{slice_get}
 use Rattle.std.specs.List.{range_with_len}
 use Rattle.std.proofs.Math.Seq.{drop-cons, drop-append-add}
 use Rattle.std.proofs.lemmas.Option.{slice_get_within}
-use Rattle.shared_lists.proofs.SplicedLists.{drop-at}
+use Rattle.shared_lists.proofs.SplicedLists.{drop-at, one_more}
 use mathlib.Core.Path.{subst}
 use Rattle.std.proofs.lemmas.List.{drop_all, take_more, length-append, length-replicate, append_assoc}
 use Rattle.std.proofs.lemmas.List.FromFn.{length-map-range_with_len}
@@ -44,9 +44,6 @@ fresh-on (suc n) m = let z : suc n + m ≡ suc (n + m) = omega arith in rw z (ap
 pub ruleset run_rules = (length-kept, length-fresh, kept-at, fresh-at, kept-on, fresh-on)
 
 -- ---- lists of runs
-
-one_more : (i : ℕ) → suc i ≡ i + 1
-one_more i = omega arith
 
 pub drop_more : {X : Type 0} (xs : List X) (i : ℕ) (d : X) → i < length xs → drop i xs ≡ get_or xs i d ∷ drop (i + 1) xs
 drop_more xs i d p = drop-cons xs i d p ∙ ap (λ k. get_or xs i d ∷ drop k xs) (one_more i)

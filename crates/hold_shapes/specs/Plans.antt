@@ -11,6 +11,7 @@ use Rattle.hold_shapes.specs.declared.edit.ShapeEdit.TheVariants.{Ins, Del, Move
 use Rattle.hold_shapes.specs.Causes.{PlanCause, Kind, Place, Range, Present, Length, Deep}
 use Rattle.texts.specs.Keys.{key_place, rank}
 use Rattle.hold_shapes.specs.Trees.{node, children, child, end_of}
+use Rattle.hold_shapes.specs.declared.lists.TheConstants.{MOST_ITEMS}
 
 -- a new shape with an origin for each of its places, or the cause for which there is none
 abbrev pub Planned : Type 0
@@ -26,7 +27,7 @@ list_of n = ListOf (record { count = n })
 
 -- a number of items that one edit may add or take away
 abbrev pub is_count : ℕ → Bool
-is_count c = nat_le 1 c && nat_le c 65536
+is_count c = nat_le 1 c && nat_le c MOST_ITEMS
 
 -- whether a number is among the numbers
 abbrev pub has_number : ℕ → List ℕ → Bool

@@ -4,7 +4,7 @@ use Rattle.std.specs.Prelude.{IfErr, ◌≢◌}
 use Rattle.serde_json.specs.Data.{Data, string, object, no_members, member}
 use Rattle.texts.proofs.Conjunction.{first as left, second as right}
 use Rattle.value_json.specs.Numbers.{count_of, count_tree}
-use Rattle.value_json.proofs.Facts.{equal_bytes, if_then}
+use Rattle.value_json.proofs.Facts.{if_then}
 use Rattle.value_json.proofs.ReadingHasTree.{count_takes}
 use Rattle.edit_module.specs.Words.{WordTree}
 use Rattle.edit_module.specs.Views.{word_tree}
@@ -22,6 +22,7 @@ use Rattle.view_hub.specs.Hubs.{Place, at_hub, at_view}
 use Rattle.view_hub.specs.declared.side.HubSide.{HubSide}
 use Rattle.hub_run.specs.EditJson.{tree_of_place, tree_of_edit, place_fits, is_hub, place_of_tree, parts_of, edit_with, edit_of_parts, edit_of_tree, edit_if_json, edit_of_line}
 use Rattle.hub_run.specs.Views.{edit_tree}
+use Rattle.texts.proofs.Tests.{bytes_eq-is}
 
 -- ---- places
 
@@ -30,7 +31,7 @@ place_reads_back at_hub fits = refl
 place_reads_back (at_view k) fits = rw fits refl
 
 hub_is : (d : Data) → is_hub d ≡ true → string (codes "hub") ≡ d
-hub_is (string s) h = ap string (sym (equal_bytes s (codes "hub") h))
+hub_is (string s) h = ap string (sym (bytes_eq-is s (codes "hub") h))
 hub_is d h = cc
 
 view_is : (d : Data) (o : Option ℕ) (p : Place) → ((k : ℕ) → o ≡ Some k → count_tree k ≡ d) → option_map at_view o ≡ Some p → tree_of_place p ≡ d
@@ -62,8 +63,8 @@ place_some at d p (Some place) writes_back h =
 parts_write_back : (d : Data) (p : Place × Data) → parts_of d ≡ Some p → of_parts p ≡ d
 parts_write_back (object (member k at (member l edit no_members))) p h =
     let named = if_then (bytes_eq k (codes "at") && bytes_eq l (codes "edit")) (option_map (λ place. (place, edit)) (place_of_tree at)) p h in
-    let first = equal_bytes k (codes "at") (left (bytes_eq k (codes "at")) (bytes_eq l (codes "edit")) named.0) in
-    let second = equal_bytes l (codes "edit") (right (bytes_eq k (codes "at")) (bytes_eq l (codes "edit")) named.0) in
+    let first = bytes_eq-is k (codes "at") (left (bytes_eq k (codes "at")) (bytes_eq l (codes "edit")) named.0) in
+    let second = bytes_eq-is l (codes "edit") (right (bytes_eq k (codes "at")) (bytes_eq l (codes "edit")) named.0) in
     let inner = place_some at edit p (place_of_tree at) (place_writes_back at) named.1 in
     rw (first, second, inner.0, inner.1) refl
 parts_write_back d p h = cc

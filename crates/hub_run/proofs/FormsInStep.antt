@@ -1,18 +1,14 @@
 -- Every run of the forms of an accepted program part goes on to its end and keeps all views in step.
-use Rattle.std.proofs.Common.{◌≡◌, ℕ, List, [], ◌∷◌, map, Option, Some, option_map, IsTrue, false, refl, sym, ap, subst, ◌∙◌}
-use Rattle.texts.specs.declared.side.Side.{Side}
+use Rattle.std.proofs.Common.{◌≡◌, ℕ, List, [], ◌∷◌, map, Some, option_map, IsTrue, false, refl, sym, ap, subst, ◌∙◌}
 use Rattle.texts.specs.declared.side.Side.TheVariants.{Left, Right}
 use Rattle.doc_values.specs.Documents.{DocTree}
 use Rattle.doc_values.specs.Initial.{initial}
 use Rattle.doc_values.specs.Types.{TyTree}
-use Rattle.edit_module.specs.Words.{WordTree}
 use Rattle.edit_journal.specs.Lines.{is_blank}
 use Rattle.edit_journal.specs.declared.line.Line.{Line}
-use Rattle.lens_forms.specs.Forms.{FormTree, left_type, right_type}
+use Rattle.lens_forms.specs.Forms.{FormTree, left_type}
 use Rattle.lens_forms.specs.Typing.{is_typed}
-use Rattle.lens_core.specs.Complements.{CompTree, missing}
-use Rattle.lens_core.specs.Consistency.{IsConsistent}
-use Rattle.lens_core.specs.Translation.{Translated, translate}
+use Rattle.lens_core.specs.declared.lens.EditLens as OfLens
 use Rattle.form_steps.specs.LawsOfForms.{form_starts, form_edits}
 use Rattle.line_stream.specs.declared.state.Answer.{Answer}
 use Rattle.script_run.specs.Ends.{EveryRunStaysInStep}
@@ -22,6 +18,7 @@ use Rattle.view_hub.specs.Laws.{AllInStep, SameLeft, HaveOneLeftType, IsHub}
 use Rattle.view_hub.proofs.HubSteps.{starts}
 use Rattle.hub_run.specs.Answers.{HubAnswerTree}
 use Rattle.hub_run.specs.EditJson.{edit_of_line}
+use Rattle.hub_run.specs.FormLenses.{form_lens, lens_by}
 use Rattle.hub_run.specs.Lenses.{lenses_of}
 use Rattle.hub_run.specs.Runs.{HubItem, take_item, HubState, answered, answer, hub_of, first_state, IsInStep}
 use Rattle.hub_run.proofs.FoundForms.{AllTyped, accepted_forms}
@@ -45,40 +42,26 @@ forms_back (form ∷ forms) all = ap (λ fs. form ∷ fs) (forms_back forms all.
 
 -- ---- the same of lenses and of their forms
 
-abbrev left_of : TypedForm → TyTree
-left_of l = left_type l.0
-
-abbrev right_of : TypedForm → TyTree
-right_of l = right_type l.0
-
-abbrev start_of : TypedForm → CompTree
-start_of l = missing l.0
-
-abbrev holds_of : TypedForm → DocTree → CompTree → DocTree → Type 0
-holds_of l = IsConsistent l.0
-
-abbrev translation_of : TypedForm → Side → CompTree → WordTree → Option Translated
-translation_of l = translate l.0
+abbrev typed_lens : OfLens.Ghosts TypedForm
+typed_lens = lens_by form_of form_lens
 
 abbrev TypedHub : List TypedForm → HubTree → Type 0
-TypedHub = IsHub left_of right_of start_of holds_of translation_of
+TypedHub = IsHub typed_lens
 
 abbrev FormHub : List FormTree → HubTree → Type 0
-FormHub = IsHub left_type right_type missing IsConsistent translate
+FormHub = IsHub form_lens
 
-same_typed : (ty : TyTree) (ls : List TypedForm) → SameLeft left_type right_type missing IsConsistent translate ty (map form_of ls) → SameLeft left_of right_of start_of holds_of translation_of ty ls
+same_typed : (ty : TyTree) (ls : List TypedForm) → SameLeft form_lens ty (map form_of ls) → SameLeft typed_lens ty ls
 same_typed ty [] h = tt
 same_typed ty (l ∷ ls) h = (h.0, same_typed ty ls h.1)
 
-all_in : (ty : TyTree) (ls : List TypedForm) (x : DocTree) (vs : List ViewTree) → AllInStep left_of right_of start_of holds_of translation_of ty ls x vs
-    → AllInStep left_type right_type missing IsConsistent translate ty (map form_of ls) x vs
+all_in : (ty : TyTree) (ls : List TypedForm) (x : DocTree) (vs : List ViewTree) → AllInStep typed_lens ty ls x vs → AllInStep form_lens ty (map form_of ls) x vs
 all_in ty [] x [] h = tt
 all_in ty [] x (v ∷ vs) h = absurd h
 all_in ty (l ∷ ls) x [] h = absurd h
 all_in ty (l ∷ ls) x (v ∷ vs) h = (h.0, h.1, all_in ty ls x vs h.2)
 
-all_back : (ty : TyTree) (ls : List TypedForm) (x : DocTree) (vs : List ViewTree) → AllInStep left_type right_type missing IsConsistent translate ty (map form_of ls) x vs
-    → AllInStep left_of right_of start_of holds_of translation_of ty ls x vs
+all_back : (ty : TyTree) (ls : List TypedForm) (x : DocTree) (vs : List ViewTree) → AllInStep form_lens ty (map form_of ls) x vs → AllInStep typed_lens ty ls x vs
 all_back ty [] x [] h = tt
 all_back ty [] x (v ∷ vs) h = absurd h
 all_back ty (l ∷ ls) x [] h = absurd h
@@ -95,12 +78,12 @@ hub_back (l ∷ ls) h all = all_back (left_type l.0) (l ∷ ls) h.hub h.views al
 -- ---- one item
 
 abbrev ItemStays : List FormTree → Type 0
-ItemStays forms = (h : HubTree) (item : HubItem) → FormHub forms h → (s : HubTree × HubAnswerTree) × (take_item left_type right_type translate forms h item ≡ Some s) × FormHub forms s.0
+ItemStays forms = (h : HubTree) (item : HubItem) → FormHub forms h → (s : HubTree × HubAnswerTree) × (take_item form_lens forms h item ≡ Some s) × FormHub forms s.0
 
 typed_stays : (ls : List TypedForm) → ItemStays (map form_of ls)
 typed_stays ls h item all =
-    let s = item_stays left_of right_of start_of holds_of translation_of (λ l. form_edits l.0 l.1 Left) (λ l. form_edits l.0 l.1 Right) ls h item (hub_back ls h all) in
-    (s.0, sym (items_are form_of left_type right_type missing translate ls h item) ∙ s.1, is_hub ls s.0.0 s.2)
+    let s = item_stays typed_lens (λ l. form_edits l.0 l.1 Left) (λ l. form_edits l.0 l.1 Right) ls h item (hub_back ls h all) in
+    (s.0, sym (items_are form_of form_lens ls h item) ∙ s.1, is_hub ls s.0.0 s.2)
 
 forms_stay : (forms : List FormTree) → AllTyped forms → ItemStays forms
 forms_stay forms all = subst ItemStays (forms_back forms all) (typed_stays (with_types forms all))
@@ -108,25 +91,25 @@ forms_stay forms all = subst ItemStays (forms_back forms all) (typed_stays (with
 state_stays : (forms : List FormTree) → AllTyped forms → (t : HubState) (n : ℕ) (line : Line) → is_blank line ≡ false → IsInStep forms t
     → (s : HubState × Answer) × (answer t n line ≡ Some s) × IsInStep forms s.0
 state_stays forms all t n line not_blank kept =
-    let s = subst (λ fs. (s : HubTree × HubAnswerTree) × (take_item left_type right_type translate fs t.hub (edit_of_line line) ≡ Some s) × FormHub forms s.0) (sym kept.0)
+    let s = subst (λ fs. (s : HubTree × HubAnswerTree) × (take_item form_lens fs t.hub (edit_of_line line) ≡ Some s) × FormHub forms s.0) (sym kept.0)
     (forms_stay forms all t.hub (edit_of_line line) kept.1) in
     (answered t.forms n s.0, ap (option_map (answered t.forms n)) s.1, (kept.0, s.2))
 
 -- ---- the start
 
-typed_starts : (ls : List TypedForm) → HaveOneLeftType left_type right_type missing IsConsistent translate (map form_of ls) → FormHub (map form_of ls) (hub_of (map form_of ls))
+typed_starts : (ls : List TypedForm) → HaveOneLeftType form_lens (map form_of ls) → FormHub (map form_of ls) (hub_of (map form_of ls))
 typed_starts [] one = absurd one
 typed_starts (l ∷ ls) one =
     let x = initial (left_type l.0) in
-    let views = starts left_of right_of start_of holds_of translation_of (λ l. form_edits l.0 l.1 Left) (λ l. form_edits l.0 l.1 Right) (λ l. form_starts l.0 l.1)
+    let views = starts typed_lens (λ l. form_edits l.0 l.1 Left) (λ l. form_edits l.0 l.1 Right) (λ l. form_starts l.0 l.1)
     (left_type l.0) x (λ m is. ap initial (sym is)) (l ∷ ls) (refl, same_typed (left_type l.0) ls one) in
-    all_in (left_type l.0) (l ∷ ls) x (map (first_view left_type right_type missing) (l.0 ∷ map form_of ls))
-    (subst (AllInStep left_of right_of start_of holds_of translation_of (left_type l.0) (l ∷ ls) x) (first_views form_of left_type right_type missing translate (l ∷ ls)) views)
+    all_in (left_type l.0) (l ∷ ls) x (map (first_view form_lens) (l.0 ∷ map form_of ls))
+    (subst (AllInStep typed_lens (left_type l.0) (l ∷ ls) x) (first_views form_of form_lens (l ∷ ls)) views)
 
-forms_start : (forms : List FormTree) → AllTyped forms → HaveOneLeftType left_type right_type missing IsConsistent translate forms → FormHub forms (hub_of forms)
+forms_start : (forms : List FormTree) → AllTyped forms → HaveOneLeftType form_lens forms → FormHub forms (hub_of forms)
 forms_start forms all one =
     subst (λ fs. FormHub fs (hub_of fs)) (forms_back forms all)
-    (typed_starts (with_types forms all) (subst (HaveOneLeftType left_type right_type missing IsConsistent translate) (sym (forms_back forms all)) one))
+    (typed_starts (with_types forms all) (subst (HaveOneLeftType form_lens) (sym (forms_back forms all)) one))
 
 -- ---- all items
 

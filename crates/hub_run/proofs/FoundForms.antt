@@ -3,24 +3,22 @@ use Rattle.std.proofs.Common.{◌≡◌, ℕ, List, [], ◌∷◌, ◌++◌, len
 use Rattle.std.specs.Prelude.{nat_lt}
 use Rattle.doc_values.specs.Types.{TyTree, is_same_ty}
 use Rattle.doc_values.proofs.SameTypes.{is_same_ty-equal}
-use Rattle.lens_forms.specs.Forms.{FormTree, left_type, right_type}
+use Rattle.lens_forms.specs.Forms.{FormTree, left_type}
 use Rattle.lens_forms.specs.Typing.{is_typed}
-use Rattle.lens_core.specs.Complements.{missing}
-use Rattle.lens_core.specs.Consistency.{IsConsistent}
-use Rattle.lens_core.specs.Translation.{translate}
 use Rattle.accepted_programs.specs.Program.{Refusal, lens_of}
 use Rattle.accepted_programs.proofs.AcceptedForms.{accepted_typed}
 use Rattle.view_hub.specs.Laws.{SameLeft, HaveOneLeftType}
+use Rattle.hub_run.specs.FormLenses.{form_lens}
 use Rattle.hub_run.specs.FoundLenses.{HasLeft}
 use Rattle.hub_run.specs.Lenses.{HubRefusal, too_many_views, views_differ, with_left, view_with, form_of_view, first_left, then_forms, forms_from, forms_of, lenses_of}
 use Rattle.hub_run.specs.Pieces.{is_cut, pieces, pieces_from}
 use Rattle.script_parts.specs.Lines.{cut, up_to_line_end}
 
 abbrev Same : TyTree → List FormTree → Type 0
-Same = SameLeft left_type right_type missing IsConsistent translate
+Same = SameLeft form_lens
 
 abbrev HaveOne : List FormTree → Type 0
-HaveOne = HaveOneLeftType left_type right_type missing IsConsistent translate
+HaveOne = HaveOneLeftType form_lens
 
 -- all forms are typed
 abbrev pub AllTyped : List FormTree → Type 0

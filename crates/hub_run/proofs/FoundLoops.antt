@@ -3,15 +3,13 @@ use Rattle.std.proofs.Common.{◌≡◌, ℕ, zero, suc, ◌+◌, ◌<◌, ◌�
 use Rattle.std.specs.Prelude.{nat_lt}
 use borrow.Author.Tests.{ltb-true}
 use Rattle.std.proofs.lemmas.List.{drop_all, length-map, map-append}
-use Rattle.lens_forms.specs.Forms.{FormTree, form_tree, left_type, right_type}
-use Rattle.lens_core.specs.Complements.{missing}
-use Rattle.lens_core.specs.Consistency.{IsConsistent}
-use Rattle.lens_core.specs.Translation.{translate}
+use Rattle.lens_forms.specs.Forms.{FormTree, form_tree}
 use Rattle.view_hub.specs.Laws.{HaveOneLeftType}
 use Rattle.lens_types.specs.declared.typed.Typed.{Typed}
 use Rattle.script_parts.specs.Parts.{HoldsPart}
 use Rattle.hub_run.specs.HeldPieces.{HoldsEach, HoldsUnless}
 use Rattle.hub_run.specs.Lenses.{too_many_views, form_of_view, first_left, then_forms, forms_from, forms_of}
+use Rattle.hub_run.specs.FormLenses.{form_lens}
 use Rattle.hub_run.specs.FoundLenses.{HasLeft, IsRefused}
 use Rattle.script_parts.specs.declared.script.ProgramText.{ProgramText}
 use Rattle.hub_run.specs.declared.pieces.TheConstants.{MOST_VIEWS}
@@ -125,7 +123,7 @@ view_joins before after lens more one same =
     subst OneLeft (sym (ap (map form_tree) more ∙ map-append form_tree before (lens ∷ []))) (one_more (map form_tree before) (form_tree lens) one same)
 
 pub last_joins : (before after : List Typed) (lens : Typed) → after ≡ before ++ lens ∷ [] → OneLeft (map form_tree before) → HasLeft (first_left (map form_tree before)) (form_tree lens)
-    → HaveOneLeftType left_type right_type missing IsConsistent translate (map form_tree after)
+    → HaveOneLeftType form_lens (map form_tree after)
 last_joins before after lens more one same =
-    subst (HaveOneLeftType left_type right_type missing IsConsistent translate) (sym (ap (map form_tree) more ∙ map-append form_tree before (lens ∷ [])))
+    subst (HaveOneLeftType form_lens) (sym (ap (map form_tree) more ∙ map-append form_tree before (lens ∷ [])))
     (some_left (map form_tree before) (form_tree lens) (one_more (map form_tree before) (form_tree lens) one same))

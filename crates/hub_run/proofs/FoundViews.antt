@@ -1,21 +1,16 @@
 -- What is found of the views of a program part, and the lines of its refusals.
 use Rattle.std.proofs.Common.{◌≡◌, ℕ, List, Result, Ok, Err, Option, IfOk, refl, sym, ap, subst, ◌∙◌}
-use Rattle.std.specs.Prelude.{IfSome, Some}
 use Rattle.doc_values.specs.Types.{TyTree}
 use Rattle.lens_forms.specs.Forms.{FormTree}
-use Rattle.lens_syntax.specs.Programs.{cause_of}
 use Rattle.lens_syntax.specs.declared.fault.ProgramFault.{ProgramFault}
-use Rattle.lens_types.specs.Checking.{Failure}
-use Rattle.lens_types.specs.Faults.{IsFaultOf}
 use Rattle.lens_types.specs.declared.fault.TypeFault.{TypeFault}
-use Rattle.answer_text.specs.Lines.{program_refused_line, syntax_line, typing_line}
-use Rattle.answer_text.specs.Reasons.{syntax_reason, typing_reason}
+use Rattle.answer_text.specs.Lines.{program_refused_line}
+use Rattle.answer_text.specs.RefusalLines.{IsLineOf, reason}
 use Rattle.accepted_programs.specs.Program.{Refusal, syntax, typing}
 use Rattle.accepted_programs.specs.Refused.{IsRefusal}
 use Rattle.accepted_programs.specs.declared.program.Refused.{Refused}
 use Rattle.accepted_programs.specs.declared.program.Refused.TheVariants.{Syntax, Typing}
-use Rattle.accepted_programs.proofs.Refusals.{if_cause}
-use Rattle.hub_run.specs.Lenses.{HubRefusal, in_view, view_with, reason, view_reason, refusal_line}
+use Rattle.hub_run.specs.Lenses.{HubRefusal, in_view, view_with, view_reason, refusal_line}
 use Rattle.hub_run.specs.FoundLenses.{IsRefusalOf}
 use Rattle.hub_run.specs.declared.views.HubRefused.{HubRefused}
 use Rattle.hub_run.specs.declared.views.HubRefused.TheVariants.{InView}
@@ -31,27 +26,16 @@ pub view_typing : (ty : Option TyTree) (v : ℕ) (outcome : Result FormTree Refu
 view_typing ty v outcome fault h =
     (in_view v (typing h.failure), ap (view_with ty v) h.is, (typing h.failure, refl, record { failure = h.failure; is = refl; is_fault = h.is_fault; known = h.known }))
 
--- the line of a view whose text is not a program
-pub syntax_in_view : {E : Type 0} (r : Result (List ℕ) E) (line : List ℕ) (v : ℕ) (refused : Refused) (fault : ProgramFault) → refused ≡ Syntax fault
-    → IfSome (cause_of fault) (λ cause. line ≡ syntax_line cause)
+-- the line of a view whose part is refused
+pub part_in_view : {E : Type 0} (r : Result (List ℕ) E) (line : List ℕ) (v : ℕ) (refused : Refused)
+    → ((outcome : Result FormTree Refusal) → IsRefusal outcome refused → IsLineOf outcome line)
     → IfOk r (λ longer. (why : List ℕ) → line ≡ program_refused_line why → longer ≡ program_refused_line (view_reason v why))
     → IfOk r (λ longer. (why : Refusal) → IsRefusal (Err why) refused → longer ≡ program_refused_line (view_reason v (reason why)))
-syntax_in_view (Err e) line v refused fault is line_is h = tt
-syntax_in_view (Ok longer) line v refused fault is line_is h = λ why refusal.
-    let s = subst (IsRefusal (Err why)) is refusal in
-    let same : why ≡ syntax s.cause = let e = s.is in cc in
-    h (syntax_reason s.cause) (if_cause (cause_of fault) (λ cause. line ≡ syntax_line cause) s.cause line_is s.is_fault) ∙ ap (λ w. program_refused_line (view_reason v (reason w))) (sym same)
-
--- the line of a view whose program has no type
-pub typing_in_view : {E : Type 0} (r : Result (List ℕ) E) (line : List ℕ) (v : ℕ) (refused : Refused) (fault : TypeFault) → refused ≡ Typing fault
-    → ((failure : Failure) → IsFaultOf (Some failure) fault → line ≡ typing_line failure)
-    → IfOk r (λ longer. (why : List ℕ) → line ≡ program_refused_line why → longer ≡ program_refused_line (view_reason v why))
-    → IfOk r (λ longer. (why : Refusal) → IsRefusal (Err why) refused → longer ≡ program_refused_line (view_reason v (reason why)))
-typing_in_view (Err e) line v refused fault is line_is h = tt
-typing_in_view (Ok longer) line v refused fault is line_is h = λ why refusal.
-    let s = subst (IsRefusal (Err why)) is refusal in
-    let same : why ≡ typing s.failure = let e = s.is in cc in
-    h (typing_reason s.failure) (line_is s.failure s.is_fault) ∙ ap (λ w. program_refused_line (view_reason v (reason w))) (sym same)
+part_in_view (Err e) line v refused is_line h = tt
+part_in_view (Ok longer) line v refused is_line h = λ why refusal.
+    let l = is_line (Err why) refusal in
+    let same : why ≡ l.refusal = let e = l.is in cc in
+    h (reason l.refusal) l.is_line ∙ ap (λ w. program_refused_line (view_reason v (reason w))) (sym same)
 
 pub in_view_line_is : {E : Type 0} (r : Result (List ℕ) E) (v : ℕ) (refused : Refused) (whole : HubRefused) → whole ≡ InView v refused
     → IfOk r (λ line. (why : Refusal) → IsRefusal (Err why) refused → line ≡ program_refused_line (view_reason v (reason why)))

@@ -1,10 +1,8 @@
 -- The pieces of the front of a program part: none, one line more, and the last line.
-use Rattle.std.proofs.Common.{◌≡◌, ℕ, List, [], ◌∷◌, ◌++◌, Bool, true, false, cond, Some, None, refl, sym, ap, subst, ◌∙◌, append-nil, append_assoc, length}
-use Rattle.std.specs.Prelude.{nat_le}
+use Rattle.std.proofs.Common.{◌≡◌, ℕ, List, [], ◌∷◌, ◌++◌, Bool, true, false, cond, Some, None, refl, sym, ap, subst, ◌∙◌, append-nil, append_assoc}
 use Rattle.edit_journal.specs.Lines.{line_of}
 use Rattle.edit_journal.specs.Pieces.{last_line, has_no_end}
 use Rattle.edit_journal.specs.declared.line.Line.{Line}
-use Rattle.edit_journal.specs.declared.line.Line.TheVariants.{Text, TooLong}
 use Rattle.script_parts.specs.Lines.{cut, program_part, is_separator_line}
 use Rattle.script_parts.specs.PartSteps.{IsProgramFront}
 use Rattle.script_parts.proofs.Fronts.{cut_last, up_to_last, separator_line, last_separator, last_in_part}
@@ -13,6 +11,8 @@ use Rattle.hub_run.specs.HubHeads.{HoldsFront, HasPieces}
 use Rattle.hub_run.specs.Pieces.{is_cut, pieces, pieces_from}
 use Rattle.hub_run.specs.declared.pieces.Pieces.{Pieces}
 use Rattle.hub_run.proofs.PieceLines.{line_more}
+use Rattle.script_parts.proofs.AddedLines.{joined}
+use Rattle.script_parts.proofs.ProgramTexts.{no_line, same_line}
 
 -- ---- the front
 
@@ -21,9 +21,6 @@ front_nothing kept h = record { ended = []; begun = []; holds = h; goes = λ mor
 
 pub front_part : (kept : Pieces) (front : List ℕ) → HoldsFront kept front → HasPieces kept front
 front_part kept front h = record { ended = h.ended; begun = h.begun; holds = h.holds; are = ap pieces (sym (append-nil front)) ∙ h.goes [] }
-
-joined : (front text behind : List ℕ) → front ++ (text ++ 10 ∷ behind) ≡ (front ++ (text ++ 10 ∷ [])) ++ behind
-joined front text behind = ap (λ l. front ++ l) (sym (append_assoc text (10 ∷ []) behind)) ∙ sym (append_assoc front (text ++ 10 ∷ []) behind)
 
 -- one line more, with its LF
 pub front_line : (old new : Pieces) (front text : List ℕ) → HoldsFront old front → has_no_end text ≡ true
@@ -49,18 +46,6 @@ front_line old new front text h plain adds = by_test (is_cut text) refl (adds h.
   }
 
 -- ---- the last line
-
-same_line : (line next : Line) → Some line ≡ last_line next → line ≡ next
-same_line line (Text []) e = cc
-same_line line (Text (byte ∷ bytes)) e = cc
-same_line line TooLong e = cc
-
-no_line : (text : List ℕ) → None ≡ last_line (line_of text) → text ≡ []
-no_line [] e = refl
-no_line (byte ∷ text) e = by_test (nat_le (length (byte ∷ text)) 1048576) e where
-  by_test : (b : Bool) → None ≡ last_line (cond b (Text (byte ∷ text)) TooLong) → byte ∷ text ≡ []
-  by_test true e = cc
-  by_test false e = cc
 
 -- the last line of a program part, which no LF ends, behind a piece that has begun
 last_pieces : (begun text : List ℕ) (line : Line) → Some line ≡ last_line (line_of text) → has_no_end text ≡ true

@@ -3,15 +3,14 @@ use Rattle.std.proofs.Common.{◌≡◌, ℕ, List, Bool, Some, option_map, refl
 use Rattle.std.specs.Prelude.{IfSome}
 use Rattle.edit_journal.specs.declared.line.Line.{Line}
 use Rattle.lens_flat.specs.declared.flat.ReadyForm.{ReadyForm}
-use Rattle.lens_forms.specs.Forms.{FormTree, form_tree, left_type, right_type}
-use Rattle.lens_core.specs.Complements.{missing}
-use Rattle.lens_core.specs.Translation.{translate}
+use Rattle.lens_forms.specs.Forms.{FormTree, form_tree}
 use Rattle.view_hub.specs.Hubs.{HubTree}
 use Rattle.view_hub.specs.Views.{HubOf, hub_tree}
 use Rattle.hub_run.specs.AnswerLines.{HasAnswerLine}
 use Rattle.hub_run.specs.Answers.{HubAnswerTree, answer_line, is_refused}
 use Rattle.hub_run.specs.EditJson.{edit_of_line}
-use Rattle.hub_run.specs.RunStates.{forms_of_lenses, state_of}
+use Rattle.hub_run.specs.FormLenses.{form_lens}
+use Rattle.hub_run.specs.RunStates.{forms_of_lenses, ready_lens, state_of}
 use Rattle.hub_run.specs.Runs.{take_item, answered, answer}
 use Rattle.hub_run.specs.Views.{answer_tree, step_with}
 use Rattle.hub_run.specs.declared.answers.HubAnswer.{HubAnswer}
@@ -23,15 +22,15 @@ same_answer : (forms forms' : List FormTree) (h : HubTree) (n : ℕ) (a : HubAns
 same_answer forms forms' h n a text refused same line is = rw (same, line, is) refl
 
 pub answer_is : (old new : HubOf ReadyForm) (line : Line) (n : ℕ) (ans : HubAnswer) (text : List ℕ) (refused : Bool) → HasAnswerLine ans → new.lenses ≡ old.lenses
-    → take_item (λ (l : ReadyForm). left_type (form_tree l.typed)) (λ (l : ReadyForm). right_type (form_tree l.typed)) (λ (l : ReadyForm). translate (form_tree l.typed)) old.lenses (hub_tree old.parts) (edit_of_line line)
+    → take_item ready_lens old.lenses (hub_tree old.parts) (edit_of_line line)
     ≡ step_with (hub_tree new.parts) ans
     → IfSome (answer_tree ans) (λ a. text ≡ answer_line n a) → IfSome (answer_tree ans) (λ a. refused ≡ is_refused a)
     → answer (state_of old) n line ≡ Some (state_of new, record { line = text; refused = refused })
 answer_is old new line n ans text refused has same is line_is refused_is =
     let t = has_tree ans has in
     let h = hub_tree new.parts in
-    let item : take_item left_type right_type translate (forms_of_lenses old.lenses) (hub_tree old.parts) (edit_of_line line) ≡ Some (h, t.0) =
-    sym (items_are (λ (l : ReadyForm). form_tree l.typed) left_type right_type missing translate old.lenses (hub_tree old.parts) (edit_of_line line)) ∙ is ∙ ap (option_map (λ (a : HubAnswerTree). (h, a))) t.1 in
+    let item : take_item form_lens (forms_of_lenses old.lenses) (hub_tree old.parts) (edit_of_line line) ≡ Some (h, t.0) =
+    sym (items_are (λ (l : ReadyForm). form_tree l.typed) form_lens old.lenses (hub_tree old.parts) (edit_of_line line)) ∙ is ∙ ap (option_map (λ (a : HubAnswerTree). (h, a))) t.1 in
     ap (option_map (answered (forms_of_lenses old.lenses) n)) item
     ∙ same_answer (forms_of_lenses old.lenses) (forms_of_lenses new.lenses) h n t.0 text refused (ap forms_of_lenses same)
     (is_so (λ a. text ≡ answer_line n a) (answer_tree ans) t.0 t.1 line_is) (is_so (λ a. refused ≡ is_refused a) (answer_tree ans) t.0 t.1 refused_is)

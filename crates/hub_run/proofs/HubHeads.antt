@@ -19,6 +19,7 @@ use Rattle.journal_input.specs.declared.limits.TheConstants.{PIECE_BYTES}
 use Rattle.hub_run.specs.declared.pieces.Pieces.{Pieces}
 use Rattle.journal_input.proofs.EndedLines.{count, few_ended}
 use Rattle.script_parts.proofs.Fronts.{no_front, none_behind}
+use Rattle.script_parts.proofs.Heads.{recut}
 
 -- the reading has come to this input and this text, and has met no separator
 pub record ReadsOn (left left' : Option (List ℕ)) (input : TakenInput) (program : Pieces) : Type 0 where
@@ -43,10 +44,6 @@ reads_nothing left input program lines taken holds = record {
   is_front = no_front;
   holds = holds;
 }
-
--- the bytes taken, cut in another way
-recut : (left left' : Option (List ℕ)) (old new : TakenInput) (front rest : List ℕ) (P : List ℕ → List ℕ → Type 0) → IsTaken left left' old front rest → new.taken ≡ old.taken → (m : MovesOn (front ++ rest) new P) → IsTaken left left' new m.front m.rest
-recut left left' old new front rest P t count m = record { consumes = subst (Consumes left left') m.same t.consumes; lines = m.lines; count = count ∙ t.count ∙ ap length m.same; few = omega (arith, t.few, ap length m.same); last = subst HasLastPiece m.same t.last }
 
 -- the separator was among the lines
 pub part_read : (left left' : Option (List ℕ)) (old new : TakenInput) (before program : Pieces) (r : ReadsOn left left' old before) → MovesOn (r.front ++ r.rest) new (AddsLines true program) → new.taken ≡ old.taken

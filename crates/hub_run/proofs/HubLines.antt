@@ -1,5 +1,5 @@
 -- What a line that was taken does to the pieces of a program part.
-use Rattle.std.proofs.Common.{◌≡◌, ◌<◌, ℕ, List, [], ◌∷◌, ◌++◌, length, Bool, true, false, Option, Some, None, refl, sym, ap, ◌∙◌, append_assoc, arith}
+use Rattle.std.proofs.Common.{◌≡◌, ◌<◌, ℕ, List, [], ◌∷◌, ◌++◌, Bool, true, false, Some, None, sym, ap, ◌∙◌}
 use Rattle.edit_journal.specs.Lines.{line_of}
 use Rattle.edit_journal.specs.Pieces.{FedLines, take_first}
 use Rattle.edit_journal.specs.declared.line.Line.{Line}
@@ -12,30 +12,7 @@ use Rattle.hub_run.specs.declared.pieces.Pieces.{Pieces}
 use Rattle.script_parts.proofs.Fronts.{longer_front, whole_head, separator_line}
 use Rattle.script_parts.proofs.TakenLines.{IsSplit, splits}
 use Rattle.hub_run.proofs.FrontPieces.{front_part, front_line}
-
--- one ended line less
-pub fewer : (line : Line) (rest lines : FedLines) → (Some line, rest) ≡ take_first lines → length rest.ended < length lines.ended
-fewer line rest lines h = by_lines lines.ended h where
-  by_lines : (ended : List Line) → (Some line, rest) ≡ take_first (record { ended = ended; begun = lines.begun }) → length rest.ended < length ended
-  by_lines [] e = let never = ap (λ (p : Option Line × FedLines). p.0) e in cc
-  by_lines (first ∷ ended) e = let same : length rest.ended ≡ length ended = ap (λ (p : Option Line × FedLines). length p.1.ended) e in omega (arith, same)
-
--- no ended line is left, and the lines stay as they are
-none_taken : (rest lines : FedLines) → (None, rest) ≡ take_first lines → lines.ended ≡ []
-none_taken rest lines h = by_lines lines.ended h where
-  by_lines : (ended : List Line) → (None, rest) ≡ take_first (record { ended = ended; begun = lines.begun }) → ended ≡ []
-  by_lines [] e = refl
-  by_lines (first ∷ ended) e = let never = ap (λ (p : Option Line × FedLines). p.0) e in cc
-
-pub same_lines : (rest lines : FedLines) → (None, rest) ≡ take_first lines → rest ≡ lines
-same_lines rest lines h = by_lines lines.ended h where
-  by_lines : (ended : List Line) → (None, rest) ≡ take_first (record { ended = ended; begun = lines.begun }) → rest ≡ record { ended = ended; begun = lines.begun }
-  by_lines [] e = ap (λ (p : Option Line × FedLines). p.1) e
-  by_lines (first ∷ ended) e = let never = ap (λ (p : Option Line × FedLines). p.0) e in cc
-
--- the bytes up to the line, the line, and what is behind it
-joined : (front text behind : List ℕ) → front ++ (text ++ 10 ∷ behind) ≡ (front ++ (text ++ 10 ∷ [])) ++ behind
-joined front text behind = ap (λ l. front ++ l) (sym (append_assoc text (10 ∷ []) behind)) ∙ sym (append_assoc front (text ++ 10 ∷ []) behind)
+use Rattle.script_parts.proofs.AddedLines.{joined, same_lines, none_taken}
 
 module _ (bytes : List ℕ) (old new : TakenInput) (program : Pieces) (m : MovesOn bytes old (λ front _. IsProgramFront front × HoldsFront program front)) where
   taken_rest : (line : Line) → (Some line, new.lines) ≡ take_first old.lines → IsSplit m.rest line new.lines

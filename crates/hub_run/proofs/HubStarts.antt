@@ -3,20 +3,18 @@ use Rattle.std.proofs.Common.{◌≡◌, ℕ, List, [], ◌∷◌, ◌++◌, Som
 use Rattle.std.specs.Prelude.{◌≢◌, IfOk, MatchResult}
 use Rattle.doc_values.specs.Types.{TyTree}
 use Rattle.lens_flat.specs.declared.flat.ReadyForm.{ReadyForm}
-use Rattle.lens_forms.specs.Forms.{FormTree, form_tree, left_type, right_type}
-use Rattle.lens_core.specs.Complements.{missing}
-use Rattle.lens_core.specs.Consistency.{IsConsistent}
-use Rattle.lens_core.specs.Translation.{translate}
+use Rattle.lens_forms.specs.Forms.{FormTree, form_tree, left_type}
 use Rattle.script_run.specs.Ending.{IsRefusedWith, Opens}
 use Rattle.script_run.specs.declared.state.NotOpened.{NotOpened}
 use Rattle.script_run.specs.declared.state.NotOpened.TheVariants as opening
 use Rattle.view_hub.specs.Hubs.{HubTree, start_hub, first_hub}
 use Rattle.view_hub.specs.Laws.{SameLeft, HaveOneLeftType}
 use Rattle.view_hub.specs.Views.{HubOf, hub_tree}
+use Rattle.hub_run.specs.FormLenses.{form_lens}
 use Rattle.hub_run.specs.FoundLenses.{IsRefusalOf, IsRefused}
 use Rattle.hub_run.specs.HubHeads.{HasPieces}
 use Rattle.hub_run.specs.Lenses.{HubRefusal, forms_of, lenses_of, refusal_line}
-use Rattle.hub_run.specs.RunStates.{forms_of_lenses, state_of}
+use Rattle.hub_run.specs.RunStates.{forms_of_lenses, ready_lens, state_of}
 use Rattle.hub_run.specs.Runs.{hub_of, first_state}
 use Rattle.hub_run.specs.declared.pieces.Pieces.{Pieces}
 use Rattle.hub_run.specs.declared.views.HubRefused.{HubRefused}
@@ -27,33 +25,32 @@ abbrev form_of : ReadyForm → FormTree
 form_of l = form_tree l.typed
 
 abbrev OneLeft : List ReadyForm → Type 0
-OneLeft = HaveOneLeftType (λ (l : ReadyForm). left_type (form_of l)) (λ (l : ReadyForm). right_type (form_of l)) (λ (l : ReadyForm). missing (form_of l)) (λ (l : ReadyForm). IsConsistent (form_of l)) (λ (l : ReadyForm). translate (form_of l))
+OneLeft = HaveOneLeftType ready_lens
 
-same_back : (ty : TyTree) (ls : List ReadyForm) → SameLeft left_type right_type missing IsConsistent translate ty (forms_of_lenses ls)
-    → SameLeft (λ (l : ReadyForm). left_type (form_of l)) (λ (l : ReadyForm). right_type (form_of l)) (λ (l : ReadyForm). missing (form_of l)) (λ (l : ReadyForm). IsConsistent (form_of l)) (λ (l : ReadyForm). translate (form_of l)) ty ls
+same_back : (ty : TyTree) (ls : List ReadyForm) → SameLeft form_lens ty (forms_of_lenses ls) → SameLeft ready_lens ty ls
 same_back ty [] h = tt
 same_back ty (l ∷ ls) h = (h.0, same_back ty ls h.1)
 
-one_back : (ls : List ReadyForm) → HaveOneLeftType left_type right_type missing IsConsistent translate (forms_of_lenses ls) → OneLeft ls
+one_back : (ls : List ReadyForm) → HaveOneLeftType form_lens (forms_of_lenses ls) → OneLeft ls
 one_back [] h = h
 one_back (l ∷ ls) h = same_back (left_type (form_of l)) ls h
 
 -- lenses of forms with one left type have one left type
-pub one_left_of_lenses : (ls : List ReadyForm) (forms : List FormTree) → forms_of_lenses ls ≡ forms → HaveOneLeftType left_type right_type missing IsConsistent translate forms → OneLeft ls
-one_left_of_lenses ls forms same h = one_back ls (subst (HaveOneLeftType left_type right_type missing IsConsistent translate) (sym same) h)
+pub one_left_of_lenses : (ls : List ReadyForm) (forms : List FormTree) → forms_of_lenses ls ≡ forms → HaveOneLeftType form_lens forms → OneLeft ls
+one_left_of_lenses ls forms same h = one_back ls (subst (HaveOneLeftType form_lens) (sym same) h)
 
-first_is : (forms : List FormTree) (h : HubTree) → start_hub left_type right_type missing forms ≡ Some h → h ≡ hub_of forms
+first_is : (forms : List FormTree) (h : HubTree) → start_hub form_lens forms ≡ Some h → h ≡ hub_of forms
 first_is [] h e = cc
-first_is (form ∷ forms) h e = let same : first_hub left_type right_type missing form (form ∷ forms) ≡ h = cc in sym same
+first_is (form ∷ forms) h e = let same : first_hub form_lens form (form ∷ forms) ≡ h = cc in sym same
 
 -- the hub of some lenses at its start is that of their forms
 pub start_is : (ls : List ReadyForm) (forms : List FormTree) (h : HubTree) → forms_of_lenses ls ≡ forms
-    → start_hub (λ (l : ReadyForm). left_type (form_of l)) (λ (l : ReadyForm). right_type (form_of l)) (λ (l : ReadyForm). missing (form_of l)) ls ≡ Some h → h ≡ hub_of forms
+    → start_hub ready_lens ls ≡ Some h → h ≡ hub_of forms
 start_is ls forms h same is =
-    first_is forms h (ap (start_hub left_type right_type missing) (sym same) ∙ sym (starts_are form_of left_type right_type missing translate ls) ∙ is)
+    first_is forms h (ap (start_hub form_lens) (sym same) ∙ sym (starts_are form_of form_lens ls) ∙ is)
 
 pub started_hub : {E : Type 0} (r : Result (HubOf ReadyForm) E) (ls : List ReadyForm) (forms : List FormTree) → forms_of_lenses ls ≡ forms
-    → IfOk r (λ h. start_hub (λ (l : ReadyForm). left_type (form_of l)) (λ (l : ReadyForm). right_type (form_of l)) (λ (l : ReadyForm). missing (form_of l)) ls ≡ Some (hub_tree h.parts))
+    → IfOk r (λ h. start_hub ready_lens ls ≡ Some (hub_tree h.parts))
     → IfOk r (λ h. hub_tree h.parts ≡ hub_of forms)
 started_hub (Ok h) ls forms same is = start_is ls forms (hub_tree h.parts) same is
 started_hub (Err e) ls forms same is = tt

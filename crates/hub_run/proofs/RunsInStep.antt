@@ -1,13 +1,8 @@
 -- Each item of a journal has an answer, and keeps every view in step.
-use Rattle.std.proofs.Common.{◌≡◌, List, [], ◌∷◌, Option, Some, option_map, Result, Ok, Err, refl, sym, ap, subst}
-use Rattle.texts.specs.declared.side.Side.{Side}
+use Rattle.std.proofs.Common.{◌≡◌, List, [], ◌∷◌, Some, option_map, Result, Ok, Err, refl, sym, ap, subst}
 use Rattle.texts.specs.declared.side.Side.TheVariants.{Left, Right}
-use Rattle.doc_values.specs.Documents.{DocTree}
-use Rattle.doc_values.specs.Types.{TyTree}
-use Rattle.edit_module.specs.Words.{WordTree}
-use Rattle.lens_core.specs.Complements.{CompTree}
 use Rattle.lens_core.specs.Laws.{WordsCarry}
-use Rattle.lens_core.specs.Translation.{Translated}
+use Rattle.lens_core.specs.declared.lens.EditLens as OfLens
 use Rattle.view_hub.specs.Hubs as hubs
 use Rattle.view_hub.specs.Hubs.{HubTree, CarriedTree, hub_after}
 use Rattle.view_hub.specs.Laws.{IsHub}
@@ -20,16 +15,15 @@ after_is h (Ok r) = refl
 after_is h (Err (hubs.no_view views)) = refl
 after_is h (Err (hubs.no_apply at cause)) = refl
 
-module _ {L : Type 0} (left : L → TyTree) (right : L → TyTree) (start : L → CompTree) (holds : L → DocTree → CompTree → DocTree → Type 0)
-    (translation : L → Side → CompTree → WordTree → Option Translated)
-    (from_left : (l : L) → WordsCarry (holds l) (left l) (right l) Left (translation l Left))
-    (from_right : (l : L) → WordsCarry (holds l) (right l) (left l) Right (translation l Right)) where
+module _ {L : Type 0} (lens : OfLens.Ghosts L)
+    (from_left : (l : L) → WordsCarry (lens.holds l) (lens.left_type l) (lens.right_type l) Left (lens.carried l Left))
+    (from_right : (l : L) → WordsCarry (lens.holds l) (lens.right_type l) (lens.left_type l) Right (lens.carried l Right)) where
   abbrev Hub : List L → HubTree → Type 0
-  Hub = IsHub left right start holds translation
+  Hub = IsHub lens
 
-  pub item_stays : (ls : List L) (h : HubTree) (item : HubItem) → Hub ls h → (s : HubTree × HubAnswerTree) × (take_item left right translation ls h item ≡ Some s) × Hub ls s.0
+  pub item_stays : (ls : List L) (h : HubTree) (item : HubItem) → Hub ls h → (s : HubTree × HubAnswerTree) × (take_item lens ls h item ≡ Some s) × Hub ls s.0
   item_stays [] h item all = absurd all
   item_stays (l ∷ ls) h (Ok e) all =
-      let k = keeps left right start holds translation from_left from_right (left l) l ls h e all in
+      let k = keeps lens from_left from_right (lens.left_type l) l ls h e all in
       (answer_of h k.0, ap (option_map (answer_of h)) k.1, subst (λ (h' : HubTree). Hub (l ∷ ls) h') (sym (after_is h k.0)) k.2)
   item_stays (l ∷ ls) h (Err fault) all = ((h, no_edit fault), refl, all)

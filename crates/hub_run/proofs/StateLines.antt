@@ -9,17 +9,18 @@ use Rattle.doc_values.specs.declared.doc.Doc.{Doc}
 use Rattle.lens_flat.specs.declared.flat.ReadyForm.{ReadyForm}
 use Rattle.lens_forms.specs.Forms.{FormTree, form_tree, left_type, right_type}
 use Rattle.lens_types.specs.declared.typed.Typed.{Typed}
-use Rattle.lens_core.specs.Complements.{comp_tree, missing, Fits}
+use Rattle.lens_core.specs.Complements.{comp_tree, Fits}
 use Rattle.lens_core.specs.Consistency.{IsConsistent}
-use Rattle.lens_core.specs.Translation.{translate}
 use Rattle.lens_core.specs.declared.comp.Comp.{Comp}
 use Rattle.lens_core.proofs.LawsOfWords.{consistent_is_typed}
 use Rattle.view_hub.specs.Hubs.{ViewTree, HubTree}
 use Rattle.view_hub.specs.Laws.{AllInStep, IsHub}
 use Rattle.view_hub.specs.Views.{view_tree}
 use Rattle.view_hub.specs.declared.view.View as a_view
+use Rattle.hub_run.specs.FormLenses.{form_lens, lens_by}
 use Rattle.hub_run.specs.RunStates.{forms_of_lenses, IsHubOf}
 use Rattle.hub_run.specs.Runs.{lines_of_view, view_lines, state_lines, hub_line, HasLinesOfView}
+use Rattle.shared_lists.proofs.SplicedLists.{drop-at}
 
 -- ---- the views of a hub that is in step
 
@@ -32,7 +33,7 @@ pub record ViewThere (views : List ViewTree) (k : ℕ) (form : FormTree) (x : Do
 
 module _ {L : Type 0} (f : L → FormTree) where
   all_there : (ty : TyTree) (ls : List L) (x : DocTree) (vs : List ViewTree) (k : ℕ) (form : FormTree)
-      → AllInStep (λ l. left_type (f l)) (λ l. right_type (f l)) (λ l. missing (f l)) (λ l. IsConsistent (f l)) (λ l. translate (f l)) ty ls x vs → slice_get (map f ls) k ≡ Some form → ViewThere vs k form x
+      → AllInStep (lens_by f form_lens) ty ls x vs → slice_get (map f ls) k ≡ Some form → ViewThere vs k form x
   all_there ty [] x [] k form h is = absurd cc
   all_there ty [] x (v ∷ vs) k form h is = absurd h
   all_there ty (l ∷ ls) x [] k form h is = absurd h
@@ -44,17 +45,17 @@ module _ {L : Type 0} (f : L → FormTree) where
       let r = all_there ty ls x vs k form h.2 is in
       record { view = r.view; is = r.is; right_has = r.right_has; comp_fits = r.comp_fits }
 
-  pub view_there : (ls : List L) (h : HubTree) (k : ℕ) (form : FormTree) → IsHub (λ l. left_type (f l)) (λ l. right_type (f l)) (λ l. missing (f l)) (λ l. IsConsistent (f l)) (λ l. translate (f l)) ls h
+  pub view_there : (ls : List L) (h : HubTree) (k : ℕ) (form : FormTree) → IsHub (lens_by f form_lens) ls h
       → slice_get (map f ls) k ≡ Some form → ViewThere h.views k form h.hub
   view_there [] h k form all is = absurd all
   view_there (l ∷ ls) h k form all is = all_there (left_type (f l)) (l ∷ ls) h.hub h.views k form all is
 
   -- the hub's document has the left type of the first form
-  pub hub_has : (ls : List L) (h : HubTree) (form : FormTree) → IsHub (λ l. left_type (f l)) (λ l. right_type (f l)) (λ l. missing (f l)) (λ l. IsConsistent (f l)) (λ l. translate (f l)) ls h
+  pub hub_has : (ls : List L) (h : HubTree) (form : FormTree) → IsHub (lens_by f form_lens) ls h
       → slice_get (map f ls) 0 ≡ Some form → IsTrue (has (left_type form) h.hub)
   hub_has [] h form all is = absurd all
   hub_has (l ∷ ls) h form all is = by_views h.views all where
-    by_views : (vs : List ViewTree) → AllInStep (λ l. left_type (f l)) (λ l. right_type (f l)) (λ l. missing (f l)) (λ l. IsConsistent (f l)) (λ l. translate (f l)) (left_type (f l)) (l ∷ ls) h.hub vs
+    by_views : (vs : List ViewTree) → AllInStep (lens_by f form_lens) (left_type (f l)) (l ∷ ls) h.hub vs
         → IsTrue (has (left_type form) h.hub)
     by_views [] a = absurd a
     by_views (v ∷ vs) a =
@@ -143,11 +144,6 @@ state_text_is (u ∷ typed) h t line text within is line_is text_is =
 
 -- ---- the loop
 
-behind_next : {X : Type 0} (xs : List X) (i : ℕ) (x : X) → slice_get xs i ≡ Some x → drop i xs ≡ x ∷ drop (i + 1) xs
-behind_next [] i x is = absurd cc
-behind_next (y ∷ xs) zero x is = let same : y ≡ x = cc in ap (λ z. z ∷ xs) same
-behind_next (y ∷ xs) (suc i) x is = let e : suc (i + 1) ≡ suc i + 1 = omega arith in behind_next xs i x is ∙ ap (λ n. x ∷ drop n (y ∷ xs)) e
-
 -- the lines of one view more
 pub lines_next : (forms : List FormTree) (views : List ViewTree) (i : ℕ) (form : FormTree) (old new lines : List ℕ) → slice_get forms i ≡ Some form → HasLinesOfView views i form lines
     → new ≡ old ++ lines → new ++ view_lines (i + 1) (drop (i + 1) forms) (drop (i + 1) views) ≡ old ++ view_lines i (drop i forms) (drop i views)
@@ -155,7 +151,7 @@ lines_next forms views i form old new lines form_is there is =
     let v = there.view in
     ap (λ x. x ++ view_lines (i + 1) (drop (i + 1) forms) (drop (i + 1) views)) (is ∙ ap (λ x. old ++ x) there.are)
     ∙ append_assoc old (lines_of_view i form v.comp v.doc) (view_lines (i + 1) (drop (i + 1) forms) (drop (i + 1) views))
-    ∙ ap₂ (λ fs vs. old ++ view_lines i fs vs) (sym (behind_next forms i form form_is)) (sym (behind_next views i v there.is))
+    ∙ ap₂ (λ fs vs. old ++ view_lines i fs vs) (sym (drop-at forms i form form_is)) (sym (drop-at views i v there.is))
 
 -- the lines of all views
 pub lines_done : (forms : List FormTree) (views : List ViewTree) (i : ℕ) (text : List ℕ) → length forms ≤ i → text ++ view_lines i (drop i forms) (drop i views) ≡ text

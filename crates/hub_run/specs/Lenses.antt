@@ -3,9 +3,9 @@
 use Rattle.std.specs.Prelude.{ℕ, List, [], ◌∷◌, ◌++◌, length, Option, None, Some, Result, Ok, Err, if◌then◌else◌, nat_lt, codes, decimal}
 use Rattle.doc_values.specs.Types.{TyTree, is_same_ty}
 use Rattle.lens_forms.specs.Forms.{FormTree, left_type}
-use Rattle.accepted_programs.specs.Program.{Refusal, syntax, typing, lens_of}
+use Rattle.accepted_programs.specs.Program.{Refusal, lens_of}
 use Rattle.answer_text.specs.Lines.{program_refused_line}
-use Rattle.answer_text.specs.Reasons.{syntax_reason, typing_reason}
+use Rattle.answer_text.specs.RefusalLines.{reason}
 use Rattle.hub_run.specs.Pieces.{pieces}
 
 -- there are more than 64 views; the program of a view is refused; the left type of a view is not that of view 0
@@ -53,10 +53,6 @@ abbrev pub lenses_of : List ℕ → Result (List FormTree) HubRefusal
 lenses_of part = forms_of (pieces part)
 
 -- ---- the line of a refusal
-
-abbrev pub reason : Refusal → List ℕ
-reason (syntax cause) = syntax_reason cause
-reason (typing failure) = typing_reason failure
 
 -- `view V REASON`
 abbrev pub view_reason : ℕ → List ℕ → List ℕ

@@ -1,6 +1,7 @@
 pub mod AnswerLines
 pub mod Answers
 pub mod EditJson
+pub mod FormLenses
 pub mod FoundLenses
 pub mod HeldPieces
 pub mod HubHeads

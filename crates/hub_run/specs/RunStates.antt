@@ -1,13 +1,12 @@
 -- The state of a hub whose lenses are those of forms.
 use Rattle.std.specs.Prelude.{List, map}
 use Rattle.lens_flat.specs.declared.flat.ReadyForm.{ReadyForm}
-use Rattle.lens_core.specs.Complements.{missing}
-use Rattle.lens_core.specs.Consistency.{IsConsistent}
-use Rattle.lens_core.specs.Translation.{translate}
-use Rattle.lens_forms.specs.Forms.{FormTree, form_tree, left_type, right_type}
+use Rattle.lens_core.specs.declared.lens.EditLens as OfLens
+use Rattle.lens_forms.specs.Forms.{FormTree, form_tree}
 use Rattle.view_hub.specs.Hubs.{HubTree}
 use Rattle.view_hub.specs.Laws.{IsHub}
 use Rattle.view_hub.specs.Views.{HubOf, hub_tree}
+use Rattle.hub_run.specs.FormLenses.{form_lens, lens_by}
 use Rattle.hub_run.specs.Runs.{HubState}
 
 -- the forms of lenses
@@ -18,7 +17,10 @@ forms_of_lenses ls = map (λ (l : ReadyForm). form_tree l.typed) ls
 abbrev pub state_of : HubOf ReadyForm → HubState
 state_of h = record { forms = forms_of_lenses h.lenses; hub = hub_tree h.parts }
 
+-- a compiled lens: that of its form
+abbrev pub ready_lens : OfLens.Ghosts ReadyForm
+ready_lens = lens_by (λ (l : ReadyForm). form_tree l.typed) form_lens
+
 -- each view is in its lens's consistency relation with the hub
 abbrev pub IsHubOf : List ReadyForm → HubTree → Type 0
-IsHubOf ls h = IsHub (λ (l : ReadyForm). left_type (form_tree l.typed)) (λ (l : ReadyForm). right_type (form_tree l.typed)) (λ (l : ReadyForm). missing (form_tree l.typed)) (λ (l : ReadyForm). IsConsistent (form_tree l.typed))
-    (λ (l : ReadyForm). translate (form_tree l.typed)) ls h
+IsHubOf ls h = IsHub ready_lens ls h

@@ -2,18 +2,15 @@
 -- and the answer that are defined here.
 -- Read it from the end: `IsInStep`, `first_state`, `answer`, then `state_text`.
 use Rattle.std.specs.Prelude.{◌≡◌, ℕ, ◌+◌, List, [], ◌∷◌, ◌++◌, slice_get, Option, Some, option_map, Result, Ok, Err, codes, decimal}
-use Rattle.texts.specs.declared.side.Side.{Side}
 use Rattle.doc_values.specs.Documents.{DocTree, unit}
-use Rattle.doc_values.specs.Types.{TyTree}
 use Rattle.edit_module.specs.Words.{WordTree}
 use Rattle.edit_journal.specs.EntryJson.{LineFault}
 use Rattle.edit_journal.specs.declared.line.Line.{Line}
 use Rattle.value_json.specs.DocumentJson.{tree_of_document}
 use Rattle.complement_file.specs.ComplementJson.{tree_of_complement}
 use Rattle.lens_forms.specs.Forms.{FormTree, left_type, right_type}
-use Rattle.lens_core.specs.Complements.{CompTree, missing}
-use Rattle.lens_core.specs.Consistency.{IsConsistent}
-use Rattle.lens_core.specs.Translation.{Translated, translate}
+use Rattle.lens_core.specs.Complements.{CompTree}
+use Rattle.lens_core.specs.declared.lens.EditLens as OfLens
 use Rattle.answer_text.specs.Lines.{tree_line}
 use Rattle.line_stream.specs.declared.state.Answer.{Answer}
 use Rattle.view_hub.specs.Hubs as hubs
@@ -21,6 +18,7 @@ use Rattle.view_hub.specs.Hubs.{ViewTree, HubTree, Place, CarriedTree, step, fir
 use Rattle.view_hub.specs.Laws.{IsHub}
 use Rattle.hub_run.specs.Answers.{HubAnswerTree, carried, no_view, no_apply, no_edit, is_refused, answer_line}
 use Rattle.hub_run.specs.EditJson.{edit_of_line}
+use Rattle.hub_run.specs.FormLenses.{form_lens}
 
 -- ---- the state lines
 
@@ -62,10 +60,10 @@ answer_of h (Ok r) = (r.0, carried r.1)
 answer_of h (Err (hubs.no_view views)) = (h, no_view)
 answer_of h (Err (hubs.no_apply at cause)) = (h, no_apply at cause)
 
-module _ {L : Type 0} (left : L → TyTree) (right : L → TyTree) (translation : L → Side → CompTree → WordTree → Option Translated) where
+module _ {L : Type 0} (lens : OfLens.Ghosts L) where
   -- the hub after an item, and the answer to it
   abbrev pub take_item : List L → HubTree → HubItem → Option (HubTree × HubAnswerTree)
-  take_item ls h (Ok e) = option_map (answer_of h) (step left right translation ls h e)
+  take_item ls h (Ok e) = option_map (answer_of h) (step lens ls h e)
   take_item ls h (Err fault) = Some (h, no_edit fault)
 
 -- ---- a state
@@ -85,12 +83,12 @@ answered forms n s = (record { forms = forms; hub = s.0 }, record { line = answe
 
 -- what the item with this number makes of a state: an edit steps the hub, and any other line leaves it
 abbrev pub answer : HubState → ℕ → Line → Option (HubState × Answer)
-answer t n line = option_map (answered t.forms n) (take_item left_type right_type translate t.forms t.hub (edit_of_line line))
+answer t n line = option_map (answered t.forms n) (take_item form_lens t.forms t.hub (edit_of_line line))
 
 -- The hub at its start: the initial documents and the missing complements. A program part has a view at least.
 abbrev pub hub_of : List FormTree → HubTree
 hub_of [] = record { hub = unit; views = [] }
-hub_of (form ∷ forms) = first_hub left_type right_type missing form (form ∷ forms)
+hub_of (form ∷ forms) = first_hub form_lens form (form ∷ forms)
 
 -- the state before the journal
 abbrev pub first_state : List FormTree → HubState
@@ -99,4 +97,4 @@ first_state forms = record { forms = forms; hub = hub_of forms }
 -- The lenses are those of these forms, and each view's complement and document are in its lens's consistency relation with the hub's
 -- document.
 abbrev pub IsInStep : List FormTree → HubState → Type 0
-IsInStep forms t = (t.forms ≡ forms) × IsHub left_type right_type missing IsConsistent translate forms t.hub
+IsInStep forms t = (t.forms ≡ forms) × IsHub form_lens forms t.hub

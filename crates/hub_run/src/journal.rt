@@ -24,8 +24,8 @@ pub fn take_item<L: EditLens>(
     hub: &mut Hub<L>,
     line: &Line,
 ) -> Result<HubAnswer, AllocError>
-    ensures answer { IfOk result (λ answer. take_item L.left_type L.right_type L.carried
-        hub.old.lenses (hub_tree hub.old.parts) (edit_of_line line.now)
+    ensures answer { IfOk result (λ answer. take_item L.EditLens hub.old.lenses
+        (hub_tree hub.old.parts) (edit_of_line line.now)
         ≡ step_with (hub_tree hub.new.parts) answer) }
     ensures has_line { IfOk result (λ answer. HasAnswerLine answer) }
     ensures lens { hub.new.lenses ≡ hub.old.lenses }
@@ -43,8 +43,8 @@ fn take_edit<L: EditLens>(
     side: HubSide,
     word: &Word,
 ) -> Result<HubAnswer, AllocError>
-    ensures answer { IfOk result (λ answer. take_item L.left_type L.right_type L.carried
-        hub.old.lenses (hub_tree hub.old.parts) (Ok (place_of side, word_tree word.now))
+    ensures answer { IfOk result (λ answer. take_item L.EditLens hub.old.lenses
+        (hub_tree hub.old.parts) (Ok (place_of side, word_tree word.now))
         ≡ step_with (hub_tree hub.new.parts) answer) }
     ensures has_line { IfOk result (λ answer. HasAnswerLine answer) }
     ensures lens { hub.new.lenses ≡ hub.old.lenses }

@@ -1,11 +1,11 @@
 //! Reading the edit that a line of a hub's journal is.
 
-ghost use Rattle.std.specs.Prelude.{◌≡◌, ◌≢◌, true, Some, IfOk, IfErr, option_map, ok_or};
+ghost use Rattle.std.specs.Prelude.{◌≡◌, ◌≢◌, true, Some, IfOk, IfErr, option_map};
 ghost use Rattle.serde_json.specs.View.{view};
 ghost use Rattle.edit_module.specs.Views.{word_tree};
 ghost use Rattle.edit_module.specs.Words.{WordTree};
-ghost use Rattle.edit_json.specs.WordJson.{word_of_tree, counts_fit, numbers_fit};
-ghost use Rattle.edit_journal.specs.EntryJson.{tree_of_text, tree_of_line, not_json, not_an_edit};
+ghost use Rattle.edit_json.specs.WordJson.{counts_fit, numbers_fit};
+ghost use Rattle.edit_journal.specs.EntryJson.{tree_of_line};
 ghost use Rattle.edit_journal.specs.Reading.{Gives};
 ghost use Rattle.edit_journal.specs.declared.fault.EntryFault;
 ghost use Rattle.view_hub.specs.Hubs.{Place};
@@ -13,8 +13,7 @@ ghost use Rattle.view_hub.specs.Views.{place_of};
 ghost use Rattle.hub_run.specs.EditJson.{tree_of_edit, place_fits, is_hub, place_of_tree, parts_of, edit_of_tree, edit_of_text, edit_of_line};
 ghost use Rattle.hub_run.specs.Views.{edit_tree};
 
-use edit_journal::{EntryFault, Line};
-use edit_json::{EditFault, read_word};
+use edit_journal::{EntryFault, Line, read_edit, read_tree};
 use edit_module::Word;
 use serde_json::Value;
 use std::alloc::Global;
@@ -66,22 +65,6 @@ fn read_text(alloc: Global, bytes: &[u8]) -> Result<(HubSide, Word), EntryFault>
     read_parts(alloc, &tree)
 }
 
-// The tree of a text.
-fn read_tree(alloc: Global, bytes: &[u8]) -> Result<Value, EntryFault>
-    ensures { Gives view result (ok_or (tree_of_text bytes.now) not_json) }
-{
-    match Value::from_slice(alloc, bytes) {
-        Ok(tree) => Ok(tree),
-        Err(error) => {
-            if error.is_memory() {
-                Err(EntryFault::NoMemory)
-            } else {
-                Err(EntryFault::NotJson)
-            }
-        }
-    }
-}
-
 // The edit of an object with exactly the members `at` and `edit`.
 fn read_parts(alloc: Global, tree: &Value) -> Result<(HubSide, Word), EntryFault>
     ensures { Gives edit_tree result (edit_of_tree (view tree.now)) }
@@ -121,16 +104,5 @@ fn is_hub(tree: &Value) -> bool
     match tree.as_str() {
         Some(text) => text == "hub",
         None => false,
-    }
-}
-
-// The word of an edit.
-fn read_edit(alloc: Global, edit: &Value) -> Result<Word, EntryFault>
-    ensures { Gives word_tree result (ok_or (word_of_tree (view edit.now)) not_an_edit) }
-{
-    match read_word(alloc, edit) {
-        Ok(word) => Ok(word),
-        Err(EditFault::NotAnEdit) => Err(EntryFault::NotAnEdit),
-        Err(EditFault::NoMemory) => Err(EntryFault::NoMemory),
     }
 }

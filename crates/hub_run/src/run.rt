@@ -1,13 +1,11 @@
 //! A hub that answers the journal of a script.
 
 ghost use Rattle.std.specs.Prelude.{◌≡◌, ℕ, List, map, Some, IfOk, MatchResult};
-ghost use Rattle.lens_forms.specs.Forms.{form_tree, left_type, right_type};
-ghost use Rattle.lens_core.specs.Complements.{missing};
-ghost use Rattle.lens_core.specs.Consistency.{IsConsistent};
-ghost use Rattle.lens_core.specs.Translation.{translate};
+ghost use Rattle.lens_forms.specs.Forms.{form_tree};
 ghost use Rattle.script_run.specs.Ending.{Opens, IsNotOpened};
 ghost use Rattle.view_hub.specs.Laws.{HaveOneLeftType};
 ghost use Rattle.view_hub.specs.Views.{hub_tree};
+ghost use Rattle.hub_run.specs.FormLenses.{form_lens};
 ghost use Rattle.hub_run.specs.FoundLenses.{IsRefused, HasRefusalLine};
 ghost use Rattle.hub_run.specs.HubHeads.{HasPieces};
 ghost use Rattle.hub_run.specs.Lenses.{lenses_of, refusal_line};
@@ -114,8 +112,7 @@ impl HubRun {
     ///
     /// The only error is running out of memory.
     pub fn start(alloc: Global, typed: Vec<Typed>) -> Result<HubRun, AllocError>
-        requires one_left { HaveOneLeftType left_type right_type missing IsConsistent translate
-            (map form_tree typed.items) }
+        requires one_left { HaveOneLeftType form_lens (map form_tree typed.items) }
         ensures state { IfOk result (λ r. state_of r ≡ first_state (map form_tree typed.items)) }
     {
         let hub = first_hub(alloc, &typed)?;
@@ -139,8 +136,7 @@ impl HubRun {
 
 // A hub of these lenses at its start, unless memory ran out.
 fn started(alloc: Global, typed: Vec<Typed>) -> Result<HubRun, NotOpened>
-    requires one_left { HaveOneLeftType left_type right_type missing IsConsistent translate
-        (map form_tree typed.items) }
+    requires one_left { HaveOneLeftType form_lens (map form_tree typed.items) }
     ensures { MatchResult result (λ r. state_of r ≡ first_state (map form_tree typed.items))
         (λ refused. refused ≡ NotOpened.NoMemory) }
 {
@@ -165,8 +161,7 @@ fn not_opened(alloc: Global, refused: &HubRefused) -> NotOpened
 // A hub of these lenses at its start.
 #[tactic(auto, using(crate::proofs::HubStarts::one_left_of_lenses))]
 fn first_hub(alloc: Global, typed: &[Typed]) -> Result<Hub<Flat>, AllocError>
-    requires one_left { HaveOneLeftType left_type right_type missing IsConsistent translate
-        (map form_tree typed.now) }
+    requires one_left { HaveOneLeftType form_lens (map form_tree typed.now) }
     ensures forms { IfOk result (λ h. map form_tree typed.now ≡ forms_of_lenses h.lenses) }
     ensures first { IfOk result (λ h. hub_tree h.parts ≡ hub_of (map form_tree typed.now)) }
 {

@@ -1,27 +1,21 @@
 //! The state of a hub as lines, which end a run.
 
-ghost use Rattle.std.specs.Prelude.{◌≡◌, ◌++◌, codes, decimal, map, slice_get, Some, IfOk, IsTrue};
+ghost use Rattle.std.specs.Prelude.{◌≡◌, ◌++◌, map, slice_get, Some, IfOk, IsTrue};
 ghost use Rattle.doc_values.specs.Documents.{doc_tree};
-ghost use Rattle.doc_values.specs.Types.{ty_tree, is_well_formed};
 ghost use Rattle.doc_values.specs.Typing.{has};
-ghost use Rattle.value_json.specs.DocumentJson.{tree_of_document};
 ghost use Rattle.lens_forms.specs.Forms.{form_tree, left_type, right_type};
 ghost use Rattle.lens_core.specs.Complements.{comp_tree, Fits};
-ghost use Rattle.complement_file.specs.ComplementJson.{tree_of_complement};
-ghost use Rattle.answer_text.specs.Lines.{tree_line};
 ghost use Rattle.view_hub.specs.Views.{hub_tree};
 ghost use Rattle.hub_run.specs.RunStates.{forms_of_lenses, IsHubOf};
 ghost use Rattle.hub_run.specs.Runs.{hub_line, lines_of_view, view_lines, state_lines, HasLinesOfView};
 
-use answer_text::tree_line;
-use complement_file::write_comp;
-use doc_values::{Doc, Ty};
+use answer_text::{complement_line, document_line};
+use doc_values::Doc;
 use lens_core::Comp;
 use lens_flat::Flat;
 use lens_types::Typed;
 use std::alloc::{AllocError, Global};
 use texts::Bytes;
-use value_json::write_doc;
 use view_hub::Hub;
 
 /// `hub JSON` and a line feed: the document of a hub, which has the left type of the form. The only error is running out of memory.
@@ -54,32 +48,6 @@ pub fn lines_of_view(
     let mut lines = view.into_vec();
     lines.extend_from_slice(comp.as_slice())?;
     Ok(lines)
-}
-
-// A label, and the compact text of a document.
-#[tactic(auto, using(value_json::proofs::TreeDepths::whole))]
-fn document_line(alloc: Global, label: &str, ty: &Ty, doc: &Doc) -> Result<Bytes, AllocError>
-    requires well_formed { IsTrue (is_well_formed (ty_tree ty.now)) }
-    requires typed { IsTrue (has (ty_tree ty.now) (doc_tree doc.now)) }
-    ensures { IfOk result (λ line. line ≡ tree_line label.now (tree_of_document (ty_tree ty.now) (doc_tree doc.now))) }
-{
-    let tree = write_doc(alloc, ty, doc)?;
-    tree_line(alloc, label, &tree)
-}
-
-// A label, and the compact text of a complement.
-#[tactic(auto, using(complement_file::proofs::Floats::whole))]
-fn complement_line(
-    alloc: Global,
-    label: &str,
-    typed: &Typed,
-    comp: &Comp,
-) -> Result<Bytes, AllocError>
-    requires { Fits (form_tree typed.now) (comp_tree comp.now) }
-    ensures { IfOk result (λ line. line ≡ tree_line label.now (tree_of_complement (form_tree typed.now) (comp_tree comp.now))) }
-{
-    let tree = write_comp(alloc, typed, comp)?;
-    tree_line(alloc, label, &tree)
 }
 
 /// The state lines of a hub: `hub JSON`, and for each view `view V JSON` and `complement V JSON`.

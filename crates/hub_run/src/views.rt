@@ -2,22 +2,21 @@
 
 ghost use Rattle.std.specs.Prelude.{◌≡◌, ◌≢◌, ◌++◌, ◌∷◌, [], List, ℕ, IfOk, IfErr, MatchResult, Option, Result, Ok, Err, codes, length, map};
 ghost use Rattle.doc_values.specs.Types.{TyTree};
-ghost use Rattle.lens_forms.specs.Forms.{FormTree, form_tree, left_type, right_type};
-ghost use Rattle.lens_core.specs.Complements.{missing};
-ghost use Rattle.lens_core.specs.Consistency.{IsConsistent};
-ghost use Rattle.lens_core.specs.Translation.{translate};
+ghost use Rattle.lens_forms.specs.Forms.{FormTree, form_tree};
 ghost use Rattle.view_hub.specs.Laws.{HaveOneLeftType};
 ghost use Rattle.accepted_programs.specs.Refused.{IsKnown, IsRefusal};
 ghost use Rattle.accepted_programs.specs.Program.{Refusal};
 ghost use Rattle.answer_text.specs.Lines.{program_refused_line};
 ghost use Rattle.script_parts.specs.Parts.{HoldsPart};
 ghost use Rattle.hub_run.specs.HeldPieces.{HoldsPieces};
-ghost use Rattle.hub_run.specs.Lenses.{HubRefusal, view_with, with_left, form_of_view, first_left, forms_of, reason, view_reason, refusal_line, views_differ};
+ghost use Rattle.answer_text.specs.RefusalLines.{reason};
+ghost use Rattle.hub_run.specs.Lenses.{HubRefusal, view_with, with_left, form_of_view, first_left, forms_of, view_reason, refusal_line, views_differ};
+ghost use Rattle.hub_run.specs.FormLenses.{form_lens};
 ghost use Rattle.hub_run.specs.FoundLenses.{IsRefusalOf, IsRefused, HasRefusalLine, HasLeft};
 
 use crate::pieces::Pieces;
 use accepted_programs::Refused;
-use answer_text::{program_refused_line, syntax_line, typing_line};
+use answer_text::{program_refused_line, refused_part_line};
 use lens_types::Typed;
 use script_parts::ProgramText;
 use std::alloc::{AllocError, AllocFailed, Global};
@@ -74,8 +73,8 @@ impl Pieces {
         ensures lenses { (ended : List (List ℕ)) (begun : List ℕ) → HoldsPieces self.now ended begun → MatchResult result
             (λ lenses. forms_of (ended ++ begun ∷ []) ≡ Ok (map form_tree lenses.items))
             (λ refused. IsRefused (forms_of (ended ++ begun ∷ [])) refused) }
-        ensures one_left { IfOk result (λ lenses. HaveOneLeftType left_type right_type missing IsConsistent translate
-            (map form_tree lenses.items)) }
+        ensures one_left { IfOk result (λ lenses.
+            HaveOneLeftType form_lens (map form_tree lenses.items)) }
         ensures known { IfErr result HasRefusalLine }
     {
         if self.is_many {
@@ -170,11 +169,8 @@ fn in_view_line(alloc: Global, number: u64, refused: &Refused) -> Result<Bytes, 
     ensures { IfOk result (λ line. (why : Refusal) → IsRefusal (Err why) refused.now
         → line ≡ program_refused_line (view_reason number (reason why))) }
 {
-    match refused {
-        Refused::Syntax(fault) => view_line(alloc, number, &syntax_line(alloc, fault)?),
-        Refused::Typing(fault) => view_line(alloc, number, &typing_line(alloc, fault)?),
-        Refused::NoMemory => Err(AllocError),
-    }
+    let line = refused_part_line(alloc, refused)?;
+    view_line(alloc, number, &line)
 }
 
 // The line of a refusal, with the number of the view in front of the reason.

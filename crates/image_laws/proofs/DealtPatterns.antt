@@ -1,19 +1,19 @@
 -- Lists by tags dealt out to items, and the patterns of the lists on the right of a partition.
 use Rattle.std.proofs.Common.{◌≡◌, ◌∙◌, ℕ, zero, suc, ◌+◌, ◌<◌, Bool, true, false, List, [], ◌∷◌, length, Option, None, Some, refl, ap, sym, subst, arith}
 use Rattle.std.specs.Prelude.{nat_eq, nat_lt, cond, option_map, option_and_then}
-use Rattle.std.proofs.lemmas.Bool.{eqb-true}
+use Rattle.std.proofs.lemmas.Bool.{eqb-true, ltb-true}
 use Rattle.texts.proofs.Conjunction.{first, second}
 use Rattle.doc_values.specs.Documents.{DocTree, unit, DocTrees, no_docs, more_docs, docs_of}
 use Rattle.doc_values.specs.Types.{FieldTrees, no_fields, more_fields}
 use Rattle.doc_values.specs.Typing.{has, has_each}
 use Rattle.tag_seq.specs.Tags.{are_below, count}
 use Rattle.lens_core.specs.Tags.{tag_count, tag_name}
-use Rattle.partition_lens.proofs.ItemLists.{Item, tags_of, contents_at, same_number}
-use Rattle.partition_lens.proofs.ListEdits.{below}
-use Rattle.partition_lens.proofs.RightLists.{tag_type}
+use Rattle.lens_core.proofs.ItemLists.{Item, tags_of, contents_at}
+use Rattle.lens_core.proofs.RightLists.{tag_type}
 use Rattle.image_laws.specs.Patterns.{PatternTree, PatternTrees, no_patterns, more_patterns, pattern_count, Matches, MatchEach}
 use Rattle.image_laws.specs.PartImage.{patterns_in_list, list_patterns, patterns_at, first_pattern, other_patterns, dealt}
 use Rattle.image_laws.proofs.PatternsOfItems.{MatchItems, AreItemsOf}
+use Rattle.texts.proofs.Tests.{nat_eq-refl}
 
 -- ---- the patterns of each list
 
@@ -50,7 +50,7 @@ lists_some (more_fields n t rest) k ts at lists e j b =
     go (Some ps) q (Some others) again e zero b =
         let is = lists_are (λ j. cond (nat_eq k j) ps (others j)) lists e k in
         let same : k + 0 ≡ k = omega arith in
-        subst (λ z. patterns_in_list (count z ts) (at n) ≡ Some (lists z)) (sym same) (q ∙ ap Some (sym (ap (λ b. cond b ps (others k)) (same_number k)) ∙ is))
+        subst (λ z. patterns_in_list (count z ts) (at n) ≡ Some (lists z)) (sym same) (q ∙ ap Some (sym (ap (λ b. cond b ps (others k)) (nat_eq-refl k)) ∙ is))
     go (Some ps) q (Some others) again e (suc l) b =
         let same : k + suc l ≡ k + 1 + l = omega arith in
         let off : nat_eq k (k + 1 + l) ≡ false = not_further k l in
@@ -85,7 +85,7 @@ contents_first : (k : ℕ) (x : Item) (its : List Item) (b : Bool) → nat_eq x.
 contents_first k x its b e = ap (λ z. cond z (x.1 ∷ contents_at k its) (contents_at k its)) e
 
 below_first : (n t : ℕ) (ts : List ℕ) → are_below n (t ∷ ts) ≡ true → t < n
-below_first n t ts h = below t n (first (nat_lt t n) (are_below n ts) h)
+below_first n t ts h = ltb-true t n (first (nat_lt t n) (are_below n ts) h)
 
 below_rest : (n t : ℕ) (ts : List ℕ) → are_below n (t ∷ ts) ≡ true → are_below n ts ≡ true
 below_rest n t ts h = second (nat_lt t n) (are_below n ts) h
@@ -93,7 +93,7 @@ below_rest n t ts h = second (nat_lt t n) (are_below n ts) h
 pub dealt_match : (n : ℕ) (its : List Item) (lists : ℕ → PatternTrees) → are_below n (tags_of its) ≡ true → ((k : ℕ) → k < n → MatchEach (lists k) (docs_of (contents_at k its))) → MatchItems (dealt (tags_of its) lists) its
 dealt_match n [] lists b h = tt
 dealt_match n (x ∷ its) lists b h =
-    let here = head_match (lists x.0) x.1 (docs_of (contents_at x.0 its)) (subst (λ z. MatchEach (lists x.0) (docs_of z)) (contents_first x.0 x its true (same_number x.0)) (h x.0 (below_first n x.0 (tags_of its) b))) in
+    let here = head_match (lists x.0) x.1 (docs_of (contents_at x.0 its)) (subst (λ z. MatchEach (lists x.0) (docs_of z)) (contents_first x.0 x its true (nat_eq-refl x.0)) (h x.0 (below_first n x.0 (tags_of its) b))) in
     (here.0, dealt_match n its (λ k. cond (nat_eq x.0 k) (other_patterns (lists x.0)) (lists k)) (below_rest n x.0 (tags_of its) b) (λ k i. go k (nat_eq x.0 k) refl (h k i)))
   where
     go : (k : ℕ) (d : Bool) → nat_eq x.0 k ≡ d → MatchEach (lists k) (docs_of (cond d (x.1 ∷ contents_at k its) (contents_at k its))) → MatchEach (cond d (other_patterns (lists x.0)) (lists k)) (docs_of (contents_at k its))
@@ -195,7 +195,7 @@ unfolding deal
 deal_typed fs n [] lists b h a = tt
 deal_typed fs n (t ∷ ts) lists b h a =
     let low = below_first n t ts b in
-    let size = subst (λ z. length (lists t) ≡ cond z 1 0 + count t ts) (same_number t) (h t low) in
+    let size = subst (λ z. length (lists t) ≡ cond z 1 0 + count t ts) (nat_eq-refl t) (h t low) in
     let here = first_has fs t (count t ts) (lists t) size (a t low) in
     (here.0, deal_typed fs n ts (λ j. cond (nat_eq t j) (other_docs (lists t)) (lists j)) (below_rest n t ts b) (λ j i. deal_sizes t ts lists j (nat_eq t j) refl (h j i)) (λ j i. go here.1 j (nat_eq t j) refl (a j i)))
   where
@@ -222,7 +222,7 @@ match_picked n no_patterns [] e b h = tt
 match_picked n no_patterns (x ∷ its) e b h = absurd (omega (arith, e))
 match_picked n (more_patterns q qs) [] e b h = absurd (omega (arith, e))
 match_picked n (more_patterns q qs) (x ∷ its) e b h =
-    (here (nat_eq x.0 x.0) (same_number x.0) (h x.0 (below_first n x.0 (tags_of its) b)), match_picked n qs its (omega (arith, e)) (below_rest n x.0 (tags_of its) b) (λ k i. go k (nat_eq x.0 k) (h k i)))
+    (here (nat_eq x.0 x.0) (nat_eq-refl x.0) (h x.0 (below_first n x.0 (tags_of its) b)), match_picked n qs its (omega (arith, e)) (below_rest n x.0 (tags_of its) b) (λ k i. go k (nat_eq x.0 k) (h k i)))
   where
     here : (d : Bool) → d ≡ true
         → MatchEach (cond d (more_patterns q (patterns_at x.0 (tags_of its) qs)) (patterns_at x.0 (tags_of its) qs)) (docs_of (cond d (x.1 ∷ contents_at x.0 its) (contents_at x.0 its))) → Matches q x.1

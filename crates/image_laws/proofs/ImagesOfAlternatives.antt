@@ -1,11 +1,10 @@
 -- Images through alternatives.
 use Rattle.std.proofs.Common.{◌≡◌, ◌⊎◌, ◌∙◌, inl, inr, ℕ, Bool, true, false, List, Option, None, Some, refl, ap, sym, subst}
-use Rattle.std.specs.Prelude.{◌||◌, bytes_eq, cond, not, option_map}
+use Rattle.std.specs.Prelude.{◌||◌, bytes_eq, cond, option_map}
 use Rattle.texts.specs.declared.side.Side.{Side}
 use Rattle.texts.specs.declared.side.Side.TheVariants.{Left, Right}
 use Rattle.texts.specs.Sides.{other}
 use Rattle.texts.specs.Keys.{has_name}
-use Rattle.texts.proofs.Conjunction.{first, second}
 use Rattle.doc_values.specs.Documents.{DocTree, alt}
 use Rattle.doc_values.specs.Types.{TyTree, ty_alt, FieldTrees, are_distinct, is_well_formed}
 use Rattle.doc_values.specs.Typing.{has, lookup_type}
@@ -17,14 +16,16 @@ use Rattle.lens_core.specs.Sides.{near, far, type_on}
 use Rattle.lens_core.specs.Complements.{CompTree, nil, then_comp, rec_comp, alt_comp, hold_comp, tags_comp, Fits, FitsArm}
 use Rattle.lens_core.specs.Consistency.{AreAlternatives, IsInArm}
 use Rattle.lens_core.specs.Laws.{IsRelated}
-use Rattle.lens_core.proofs.LawsOfLeaves.{bytes_are, bytes_same, differs_back, across_far}
-use Rattle.lens_core.proofs.NameTests.{not_false, not_that, or_later, fits_among}
+use Rattle.lens_core.proofs.LawsOfLeaves.{differs_back, across_far}
+use Rattle.lens_core.proofs.NameTests.{not_that, fits_among}
 use Rattle.lens_core.proofs.RecordFields.{lookup_type-more}
-use Rattle.lens_branch.proofs.Arms.{arm_names, tags_on, AreApart, ArmIs, arm_left, arm_right, from_left, from_right, left_among, head_apart, tail_apart}
+use Rattle.lens_core.proofs.Arms.{arm_names, tags_on, AreApart, ArmIs, arm_left, arm_right, from_left, from_right, left_among, head_apart, tail_apart}
 use Rattle.image_laws.specs.Patterns.{PatternTree, hole, unit_pattern, truth_pattern, int_pattern, text_pattern, pick_pattern, rec_pattern, alt_pattern, hold_pattern, Matches, HasSome}
 use Rattle.image_laws.specs.Image.{image, image_arm, arm_pattern}
 use Rattle.image_laws.specs.ImageLaws.{IsImage, ImageLaw}
 use Rattle.image_laws.proofs.SidesOfTriples.{near_has}
+use Rattle.texts.proofs.Tests.{or_second, bytes_eq-is}
+use Rattle.texts.proofs.KeyOrder.{bytes_eq-refl}
 
 -- ---- the arms, seen from a side
 
@@ -33,7 +34,7 @@ tag_type Left a b l arms n = lookup_type-more a (left_type l) (left_tags arms) n
 tag_type Right a b l arms n = lookup_type-more b (right_type l) (right_tags arms) n
 
 tag_type_here : (s : Side) (a b : List ℕ) (l : FormTree) (arms : ArmTrees) → lookup_type (tags_on s (more_arms a b l arms)) (near s a b) ≡ Some (type_on s l)
-tag_type_here s a b l arms = tag_type s a b l arms (near s a b) ∙ ap (λ z. cond z (Some (type_on s l)) (lookup_type (tags_on s arms) (near s a b))) (bytes_same (near s a b))
+tag_type_here s a b l arms = tag_type s a b l arms (near s a b) ∙ ap (λ z. cond z (Some (type_on s l)) (lookup_type (tags_on s arms) (near s a b))) (bytes_eq-refl (near s a b))
 
 tag_type_later : (s : Side) (a b : List ℕ) (l : FormTree) (arms : ArmTrees) (n : List ℕ) (t : TyTree) → bytes_eq (near s a b) n ≡ false → lookup_type (tags_on s arms) n ≡ Some t
     → lookup_type (tags_on s (more_arms a b l arms)) n ≡ Some t
@@ -62,12 +63,12 @@ ArmImages no_arms = Unit {0}
 ArmImages (more_arms a b l arms) = ((s : Side) → is_well_formed (type_on s l) ≡ true) × ImageLaw l × ArmImages arms
 
 name_here : (s : Side) (a b : List ℕ) (l : FormTree) (arms : ArmTrees) → has_name (near s a b) (arm_names s (more_arms a b l arms)) ≡ true
-name_here Left a b l arms = rw (bytes_same a) refl
-name_here Right a b l arms = rw (bytes_same b) refl
+name_here Left a b l arms = rw (bytes_eq-refl a) refl
+name_here Right a b l arms = rw (bytes_eq-refl b) refl
 
 name_later : (s : Side) (a b : List ℕ) (l : FormTree) (arms : ArmTrees) (n : List ℕ) → has_name n (arm_names s arms) ≡ true → has_name n (arm_names s (more_arms a b l arms)) ≡ true
-name_later Left a b l arms n h = or_later (bytes_eq n a) (has_name n (left_arms arms)) h
-name_later Right a b l arms n h = or_later (bytes_eq n b) (has_name n (right_arms arms)) h
+name_later Left a b l arms n h = or_second (bytes_eq n a) (has_name n (left_arms arms)) h
+name_later Right a b l arms n h = or_second (bytes_eq n b) (has_name n (right_arms arms)) h
 
 arm_here : (a b : List ℕ) (l : FormTree) (arms : ArmTrees) → ((s : Side) → is_well_formed (type_on s l) ≡ true) → ImageLaw l → (s : Side) (t : List ℕ) (c : CompTree)
     → has_name a (left_arms arms) ≡ false → bytes_eq t a ≡ true → Fits l c → IsArmOf s (more_arms a b l arms) t c
@@ -84,12 +85,12 @@ arm_here a b l arms wf law s t c apart test fit = record {
   near_type = tag_type_here s a b l arms;
   far_type = subst (λ z. lookup_type (tags_on (other s) (more_arms a b l arms)) z ≡ Some (type_on (other s) l)) (across_far s a b) (tag_type_here (other s) a b l arms);
   inside = inside;
-  back = λ v w k. inl (refl, bytes_are t a test, refl, k);
+  back = λ v w k. inl (refl, bytes_eq-is t a test, refl, k);
 }
   where
     inside : (i : List ℕ) (v : DocTree) (j : List ℕ) (w : DocTree) → ArmIs s (more_arms a b l arms) i v t c j w → (i ≡ near s a b) × (j ≡ far s a b) × IsRelated l s v c w
     inside i v j w (inl h) = (h.0, h.2, h.3)
-    inside i v j w (inr h) = let here = subst (λ (z : List ℕ). has_name z (left_arms arms) ≡ true) (bytes_are t a test) (left_among s arms i v t c j w h) in cc
+    inside i v j w (inr h) = let here = subst (λ (z : List ℕ). has_name z (left_arms arms) ≡ true) (bytes_eq-is t a test) (left_among s arms i v t c j w h) in cc
 
 arm_later : (a b : List ℕ) (l : FormTree) (arms : ArmTrees) (s : Side) (t : List ℕ) (c : CompTree) → AreApart s (more_arms a b l arms) → AreApart (other s) (more_arms a b l arms)
     → bytes_eq t a ≡ false → IsArmOf s arms t c → IsArmOf s (more_arms a b l arms) t c
@@ -111,7 +112,7 @@ arm_later a b l arms s t c apart apart' test r = record {
 }
   where
     inside : (i : List ℕ) (v : DocTree) (j : List ℕ) (w : DocTree) → ArmIs s (more_arms a b l arms) i v t c j w → (i ≡ r.near_tag) × (j ≡ r.far_tag) × IsRelated r.form s v c w
-    inside i v j w (inl h) = let here = subst (λ (z : List ℕ). bytes_eq z a ≡ false) h.1 test in let there = bytes_same a in cc
+    inside i v j w (inl h) = let here = subst (λ (z : List ℕ). bytes_eq z a ≡ false) h.1 test in let there = bytes_eq-refl a in cc
     inside i v j w (inr h) = r.inside i v j w h
 
 both_apart : (s : Side) (arms : ArmTrees) → AreApart s arms → AreApart (other s) arms → AreApart Left arms
@@ -124,9 +125,9 @@ choose : (a b : List ℕ) (l : FormTree) (arms : ArmTrees) → ArmImages (more_a
 choose a b l arms laws s t c h k again true e (inl f) = arm_here a b l arms laws.0 laws.1 s t c (head_apart Left a b l arms (both_apart s (more_arms a b l arms) h k)) e f.1
 choose a b l arms laws s t c h k again true e (inr f) =
     let none = head_apart Left a b l arms (both_apart s (more_arms a b l arms) h k) in
-    let there = subst (λ (z : List ℕ). has_name z (left_arms arms) ≡ true) (bytes_are t a e) (fits_among arms t c f) in
+    let there = subst (λ (z : List ℕ). has_name z (left_arms arms) ≡ true) (bytes_eq-is t a e) (fits_among arms t c f) in
     cc
-choose a b l arms laws s t c h k again false e (inl f) = let same = subst (λ (z : List ℕ). bytes_eq z a ≡ false) f.0 e in let there = bytes_same a in cc
+choose a b l arms laws s t c h k again false e (inl f) = let same = subst (λ (z : List ℕ). bytes_eq z a ≡ false) f.0 e in let there = bytes_eq-refl a in cc
 choose a b l arms laws s t c h k again false e (inr f) = arm_later a b l arms s t c h k e (again f)
 
 arm_of : (arms : ArmTrees) → ArmImages arms → (s : Side) (t : List ℕ) (c : CompTree) → AreApart s arms → AreApart (other s) arms → FitsArm arms t c → IsArmOf s arms t c
@@ -218,10 +219,10 @@ module _ (s : Side) (arms : ArmTrees) (t : List ℕ) (c : CompTree) (fit : FitsA
   tag_given i p some false e = no_content (alt_pattern i p) (λ v m.
       let same = (alt_same r.near_tag i v m.0 m.1).0 in
       let here = subst (λ (z : List ℕ). bytes_eq z r.near_tag ≡ false) (sym same) e in
-      let there = bytes_same r.near_tag in
+      let there = bytes_eq-refl r.near_tag in
       cc)
   tag_given i p some true e =
-      let same = bytes_are i r.near_tag e in
+      let same = bytes_eq-is i r.near_tag e in
       let h = subst (λ z. has (type_on s (form_alt arms)) (alt z some.2.0) ≡ true) same (subst (λ z. has (type_on s (form_alt arms)) z ≡ true) some.2.1 some.1) in
       content_given (alt_pattern i p) p
       (λ v m. subst (Matches p) (sym (alt_same r.near_tag i v m.0 m.1).1) m.2)

@@ -1,6 +1,6 @@
 -- Images through the map over a container.
-use Rattle.std.proofs.Common.{◌≡◌, ◌∙◌, ℕ, suc, Bool, true, false, ◌&&◌, List, [], ◌∷◌, length, Option, None, Some, refl, ap, sym, subst, arith}
-use Rattle.std.specs.Prelude.{nat_eq, bytes_eq, cond, option_map, option_and_then}
+use Rattle.std.proofs.Common.{◌≡◌, ◌∙◌, ℕ, Bool, true, false, ◌&&◌, [], ◌∷◌, length, Option, None, Some, refl, ap, sym, subst, arith}
+use Rattle.std.specs.Prelude.{nat_eq, cond, option_map, option_and_then}
 use Rattle.std.proofs.lemmas.Bool.{eq-eqb, eqb-true}
 use Rattle.texts.specs.declared.side.Side.{Side}
 use Rattle.texts.specs.declared.side.Side.TheVariants.{Left, Right}
@@ -11,22 +11,23 @@ use Rattle.texts.proofs.Conjunction.{first, second, both}
 use Rattle.hold_shapes.specs.declared.shape.Shape.{Shape}
 use Rattle.hold_shapes.specs.declared.shape.Shape.TheVariants.{List as ListOf, Keyed as KeyedOf, Tree as TreeOf}
 use Rattle.doc_values.specs.Documents.{DocTree, hold, DocTrees, no_docs, more_docs, doc_list}
-use Rattle.doc_values.specs.Types.{TyTree, are_same_names, is_well_formed}
+use Rattle.doc_values.specs.Types.{TyTree, is_well_formed}
 use Rattle.doc_values.specs.Typing.{has, has_each, is_list_of, is_keyed_of, is_tree_of}
 use Rattle.doc_values.specs.Initial.{initial}
 use Rattle.doc_values.proofs.InitialTypes.{has_initial}
-use Rattle.doc_values.proofs.SameTypes.{are_same_names-equal}
+use Rattle.doc_values.proofs.SameTypes.{are_same_names-equal, are_same_names-refl}
 use Rattle.lens_forms.specs.Forms.{FormTree, form_each, form_keyed, form_ordered}
 use Rattle.lens_core.specs.Sides.{type_on}
 use Rattle.lens_core.specs.Complements.{CompTree, nil, then_comp, rec_comp, alt_comp, hold_comp, tags_comp, CompTrees, no_comps, more_comps, comp_count, Fits, AllFit}
 use Rattle.lens_core.specs.Consistency.{IsConsistent, AtEachPlace, AreHeld}
 use Rattle.lens_core.specs.Laws.{IsRelated}
-use Rattle.lens_core.proofs.LawsOfLeaves.{bytes_are, bytes_same}
 use Rattle.image_laws.specs.Patterns.{PatternTree, hole, unit_pattern, truth_pattern, int_pattern, text_pattern, pick_pattern, rec_pattern, alt_pattern, hold_pattern, PatternTrees, no_patterns, more_patterns, Matches, MatchEach, HasSome}
 use Rattle.image_laws.specs.PartImage.{holes}
 use Rattle.image_laws.specs.Image.{image, image_each, image_held, is_same_shape}
 use Rattle.image_laws.specs.ImageLaws.{IsImage, IsImageOf, ImageLaw}
 use Rattle.image_laws.proofs.SidesOfTriples.{near_has}
+use Rattle.texts.proofs.Tests.{bytes_eq-is}
+use Rattle.texts.proofs.KeyOrder.{bytes_eq-refl}
 
 -- ---- the places one after another
 
@@ -114,19 +115,15 @@ each_imaged l law s (more_comps c cs) (more_patterns p ps) (more_docs d ds) fits
 
 -- ---- shapes
 
-names_same : (ms : List (List ℕ)) → are_same_names ms ms ≡ true
-names_same [] = refl
-names_same (m ∷ ms) = both (bytes_eq m m) (are_same_names ms ms) (bytes_same m) (names_same ms)
-
 pub shape_same : (r : Shape) → is_same_shape r r ≡ true
 shape_same (ListOf r) = eq-eqb r.count r.count refl
-shape_same (KeyedOf ms) = names_same ms
-shape_same (TreeOf ds) = bytes_same ds
+shape_same (KeyedOf ms) = are_same_names-refl ms
+shape_same (TreeOf ds) = bytes_eq-refl ds
 
 pub shapes_are : (r q : Shape) → is_same_shape r q ≡ true → r ≡ q
 shapes_are (ListOf r) (ListOf q) e = ap (λ n. ListOf (record { count = n })) (eqb-true r.count q.count e)
 shapes_are (KeyedOf ms) (KeyedOf ns) e = ap (λ z. KeyedOf z) (are_same_names-equal ms ns e)
-shapes_are (TreeOf ds) (TreeOf es) e = ap (λ z. TreeOf z) (bytes_are ds es e)
+shapes_are (TreeOf ds) (TreeOf es) e = ap (λ z. TreeOf z) (bytes_eq-is ds es e)
 shapes_are (ListOf r) (KeyedOf ns) e = cc
 shapes_are (ListOf r) (TreeOf es) e = cc
 shapes_are (KeyedOf ms) (ListOf q) e = cc
@@ -205,14 +202,6 @@ hole_inside t r cs wf = record {
   match = holes_match cs (fresh (initial t) cs) (fresh_long (initial t) cs);
   long = fresh_long (initial t) cs;
 }
-
-match_long : (ps : PatternTrees) (ds es : DocTrees) → MatchEach ps ds → MatchEach ps es → length (doc_list ds) ≡ length (doc_list es)
-match_long no_patterns no_docs no_docs m n = refl
-match_long no_patterns no_docs (more_docs e es) m n = absurd n
-match_long no_patterns (more_docs d ds) es m n = absurd m
-match_long (more_patterns p ps) no_docs es m n = absurd m
-match_long (more_patterns p ps) (more_docs d ds) no_docs m n = absurd n
-match_long (more_patterns p ps) (more_docs d ds) (more_docs e es) m n = ap suc (match_long ps ds es m.1 n.1)
 
 same_docs : (r q : Shape) (ds es : DocTrees) → hold r ds ≡ hold q es → (r ≡ q) × (ds ≡ es)
 same_docs r q ds es e = (cc, cc)

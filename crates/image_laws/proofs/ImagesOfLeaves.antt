@@ -18,11 +18,15 @@ use Rattle.lens_core.specs.Complements.{CompTree, IsNil}
 use Rattle.lens_core.specs.Consistency.{IsPair, ArePartners}
 use Rattle.lens_core.specs.Translation.{partner}
 use Rattle.lens_core.specs.Laws.{IsRelated}
-use Rattle.lens_core.proofs.LawsOfLeaves.{bytes_are, bytes_same, differs_back, members_on, IsPairOn, pair_here, pair_later, members_more, has_partner}
-use Rattle.lens_core.proofs.NameTests.{not_false, not_that, or_later}
+use Rattle.lens_core.proofs.LawsOfLeaves.{differs_back, members_on, IsPairOn, pair_here, pair_later, members_more, has_partner}
+use Rattle.lens_core.proofs.NameTests.{not_that}
 use Rattle.image_laws.specs.Patterns.{PatternTree, hole, unit_pattern, truth_pattern, int_pattern, text_pattern, pick_pattern, rec_pattern, alt_pattern, hold_pattern, Matches}
 use Rattle.image_laws.specs.Image.{partner_pattern}
 use Rattle.image_laws.specs.ImageLaws.{IsImage, ImageLaw}
+use Rattle.std.proofs.lemmas.Bool.{not-true}
+use Rattle.texts.proofs.Tests.{or_second, bytes_eq-is}
+use Rattle.texts.proofs.KeyOrder.{bytes_eq-refl}
+use Rattle.lens_core.proofs.Arms.{same_first}
 
 -- ---- identity
 
@@ -68,16 +72,13 @@ turned_back : (s : Side) (ps : List (List ℕ × List ℕ)) (m n : List ℕ) →
 turned_back Left ps m n h = h
 turned_back Right ps m n h = h
 
-same_or : (m n : List ℕ) (b : Bool) → m ≡ n → (bytes_eq m n || b) ≡ true
-same_or m n b e = rw (e, bytes_same n) refl
-
 pair_member : (s : Side) (ps : List (List ℕ × List ℕ)) (m n : List ℕ) → IsPairOn s ps m n → has_name m (members_on s ps) ≡ true
 pair_member Left [] m n h = absurd h
 pair_member Right [] m n h = absurd h
-pair_member Left (p ∷ ps) m n (inl h) = same_or m p.0 (has_name m (lefts ps)) h.0
-pair_member Left (p ∷ ps) m n (inr h) = or_later (bytes_eq m p.0) (has_name m (lefts ps)) (pair_member Left ps m n h)
-pair_member Right (p ∷ ps) m n (inl h) = same_or m p.1 (has_name m (rights ps)) h.1
-pair_member Right (p ∷ ps) m n (inr h) = or_later (bytes_eq m p.1) (has_name m (rights ps)) (pair_member Right ps m n h)
+pair_member Left (p ∷ ps) m n (inl h) = same_first m p.0 (has_name m (lefts ps)) h.0
+pair_member Left (p ∷ ps) m n (inr h) = or_second (bytes_eq m p.0) (has_name m (lefts ps)) (pair_member Left ps m n h)
+pair_member Right (p ∷ ps) m n (inl h) = same_first m p.1 (has_name m (rights ps)) h.1
+pair_member Right (p ∷ ps) m n (inr h) = or_second (bytes_eq m p.1) (has_name m (rights ps)) (pair_member Right ps m n h)
 
 -- the partner of a member of a pair is the other one, where the members are distinct
 pair_partner : (s : Side) (ps : List (List ℕ × List ℕ)) (m n : List ℕ) → are_distinct (members_on s ps) ≡ true → IsPairOn s ps m n → partner s ps m ≡ Some n
@@ -89,9 +90,9 @@ pair_partner s (p ∷ ps) m n apart h = go (pair_cases s p ps m n h) (λ k. pair
     first_apart = subst (λ (ms : List (List ℕ)). are_distinct ms ≡ true) (members_more s p ps) apart
 
     go : ((m ≡ near s p.0 p.1) × (n ≡ far s p.0 p.1)) ⊎ IsPairOn s ps m n → (IsPairOn s ps m n → partner s ps m ≡ Some n) → partner s (p ∷ ps) m ≡ Some n
-    go (inl k) again = rw (k.0, k.1, bytes_same (near s p.0 p.1)) refl
+    go (inl k) again = rw (k.0, k.1, bytes_eq-refl (near s p.0 p.1)) refl
     go (inr k) again =
-        let none = not_false (has_name (near s p.0 p.1) (members_on s ps)) (first (not (has_name (near s p.0 p.1) (members_on s ps))) (are_distinct (members_on s ps)) first_apart) in
+        let none = not-true (has_name (near s p.0 p.1) (members_on s ps)) (first (not (has_name (near s p.0 p.1) (members_on s ps))) (are_distinct (members_on s ps)) first_apart) in
         let off = differs_back m (near s p.0 p.1) (not_that m (near s p.0 p.1) (members_on s ps) none (pair_member s ps m n k)) in
         rw off (again k)
 
@@ -100,7 +101,7 @@ partner_pair s [] m n e = cc
 partner_pair s (p ∷ ps) m n e = go (bytes_eq (near s p.0 p.1) m) refl e (λ k. partner_pair s ps m n k)
   where
     go : (b : Bool) → bytes_eq (near s p.0 p.1) m ≡ b → cond b (Some (far s p.0 p.1)) (partner s ps m) ≡ Some n → (partner s ps m ≡ Some n → IsPairOn s ps m n) → IsPairOn s (p ∷ ps) m n
-    go true q e again = let same : far s p.0 p.1 ≡ n = cc in subst (λ z. IsPairOn s (p ∷ ps) m z) same (pair_here s p ps m (sym (bytes_are (near s p.0 p.1) m q)))
+    go true q e again = let same : far s p.0 p.1 ≡ n = cc in subst (λ z. IsPairOn s (p ∷ ps) m z) same (pair_here s p ps m (sym (bytes_eq-is (near s p.0 p.1) m q)))
     go false q e again = pair_later s p ps m n (again e)
 
 -- a member of an enum

@@ -1,7 +1,7 @@
 -- Images through partitions, from both sides.
 use Rattle.std.proofs.Common.{◌≡◌, ◌∙◌, ℕ, suc, ◌+◌, ◌<◌, Bool, true, false, List, [], ◌∷◌, length, map, Option, None, Some, option_map, refl, ap, sym, subst, arith}
 use Rattle.std.specs.Prelude.{◌||◌, bytes_eq, nat_eq, nat_lt, cond, option_and_then}
-use Rattle.std.proofs.lemmas.Bool.{eq-eqb, eqb-true}
+use Rattle.std.proofs.lemmas.Bool.{eq-eqb, eqb-true, ltb-true}
 use Rattle.std.proofs.lemmas.Bool.Decides.{nat_tests}
 use Rattle.texts.specs.declared.side.Side.TheVariants.{Left, Right}
 use Rattle.texts.specs.Keys.{is_rising, has_name}
@@ -19,9 +19,8 @@ use Rattle.lens_core.specs.Complements.{nil, then_comp, rec_comp, alt_comp, hold
 use Rattle.lens_core.specs.Consistency.{IsConsistent, HasTheirContents, item_tag, content, list_doc}
 use Rattle.lens_core.proofs.LawsOfLeaves.{differs_back}
 use Rattle.lens_core.proofs.RecordFields.{lookup_type-more}
-use Rattle.partition_lens.proofs.ItemLists.{Item, tags_of, contents_at, length-contents}
-use Rattle.partition_lens.proofs.ListEdits.{below}
-use Rattle.partition_lens.proofs.RightLists.{tag_type, right_lists, IsPartition, HasLists, item_docs, lists_by_tag, right_type_is, type_by_name, found_by_name, tag_found, items_of, tags_of_items, theirs_are_lists, lists_are_theirs}
+use Rattle.lens_core.proofs.ItemLists.{Item, tags_of, contents_at, length-contents}
+use Rattle.lens_core.proofs.RightLists.{tag_type, right_lists, IsPartition, HasLists, item_docs, lists_by_tag, right_type_is, type_by_name, found_by_name, tag_found, items_of, tags_of_items, theirs_are_lists, lists_are_theirs}
 use Rattle.image_laws.specs.Patterns.{PatternTree, hole, rec_pattern, PatternTrees, pattern_count, Matches, MatchEach, HasSome, in_order}
 use Rattle.image_laws.specs.PartImage.{list_pattern, patterns_in_list, content_patterns, patterns_at, list_at, list_patterns, dealt, item_patterns}
 use Rattle.image_laws.specs.Image.{patterns_by_name}
@@ -29,6 +28,7 @@ use Rattle.image_laws.specs.ImageLaws.{IsImage, ImageLaw}
 use Rattle.image_laws.proofs.PatternsByName.{AreGood, rising_distinct, match_in_order, like_in_order, like_by_name, match_by_name, record_of, found_content, content_named}
 use Rattle.image_laws.proofs.PatternsOfItems.{MatchItems, AreItemsOf, HasItems, IsInList, in_list, list_built, items_count, IsSame, left_same, left_built, left_matches, items_found, has_tag, tag_has, tag_formed}
 use Rattle.image_laws.proofs.DealtPatterns.{lists_some, lists_none, dealt_match, match_dealt, deal, deal_tags, deal_contents, AllHave, deal_typed, picked_match, match_picked}
+use Rattle.std.proofs.lemmas.Option.{same_Some}
 
 -- ---- a triple, by its items
 
@@ -69,7 +69,7 @@ triple_items fs p x ts y k = absurd k.1
 items_typed : (fs : FieldTrees) (its : List Item) → are_distinct (names_of fs) ≡ true → are_below (tag_count fs) (tags_of its) ≡ true → AreItemsOf fs its → has_each (ty_alt fs) (docs_of (item_docs fs its)) ≡ true
 items_typed fs [] a b h = refl
 items_typed fs (x ∷ its) a b h =
-    let low = below x.0 (tag_count fs) (first (nat_lt x.0 (tag_count fs)) (are_below (tag_count fs) (tags_of its)) b) in
+    let low = ltb-true x.0 (tag_count fs) (first (nat_lt x.0 (tag_count fs)) (are_below (tag_count fs) (tags_of its)) b) in
     both (has (ty_alt fs) (alt (tag_name fs x.0) x.1)) (has_each (ty_alt fs) (docs_of (item_docs fs its))) (has_tag fs (tag_name fs x.0) x.1 (tag_type fs x.0) (type_by_name fs x.0 a low) h.0)
     (items_typed fs its a (second (nat_lt x.0 (tag_count fs)) (are_below (tag_count fs) (tags_of its)) b) h.1)
 
@@ -101,9 +101,6 @@ record IsListAt (fs : FieldTrees) (n : List ℕ) (g : ℕ → List DocTree) (v :
   number : tag_number fs n ≡ Some tag
   is : v ≡ list_doc (g tag)
 
-some_doc_same : (v w : DocTree) → Some v ≡ Some w → v ≡ w
-some_doc_same v w e = cc
-
 -- the tag of a name that has a type among the lists
 tag_at : (fs : FieldTrees) (n : List ℕ) (t : TyTree) → lookup_type (right_lists fs) n ≡ Some t → (s : ℕ × TyTree) × (lookup_field fs n ≡ Some s) × (t ≡ ty_list s.1)
 tag_at fs n t e = go (lookup_field fs n) refl (sym (right_type_is fs n) ∙ e)
@@ -121,7 +118,7 @@ list_in fs ys g lists n t typed v e =
       low = i.low;
       named = i.named;
       number = ap (option_map (λ (f : ℕ × TyTree). f.0)) s.1;
-      is = some_doc_same v (list_doc (g s.0.0)) (sym e ∙ (ap (content (right_lists fs) ys) (sym i.named) ∙ lists.each s.0.0 i.low));
+      is = same_Some v (list_doc (g s.0.0)) (sym e ∙ (ap (content (right_lists fs) ys) (sym i.named) ∙ lists.each s.0.0 i.low));
     }
 
 -- a name among the fields has a type
@@ -187,7 +184,7 @@ record_doc fs (hold s ds) h = cc
 typed_items : (fs : FieldTrees) (its : List Item) → are_distinct (names_of fs) ≡ true → are_below (tag_count fs) (tags_of its) ≡ true → has_each (ty_alt fs) (docs_of (item_docs fs its)) ≡ true → AreItemsOf fs its
 typed_items fs [] a b h = tt
 typed_items fs (x ∷ its) a b h =
-    let low = below x.0 (tag_count fs) (first (nat_lt x.0 (tag_count fs)) (are_below (tag_count fs) (tags_of its)) b) in (
+    let low = ltb-true x.0 (tag_count fs) (first (nat_lt x.0 (tag_count fs)) (are_below (tag_count fs) (tags_of its)) b) in (
       tag_has fs (tag_name fs x.0) x.1 (tag_type fs x.0) (type_by_name fs x.0 a low) (first (has (ty_alt fs) (alt (tag_name fs x.0) x.1)) (has_each (ty_alt fs) (docs_of (item_docs fs its))) h),
       typed_items fs its a (second (nat_lt x.0 (tag_count fs)) (are_below (tag_count fs) (tags_of its)) b) (second (has (ty_alt fs) (alt (tag_name fs x.0) x.1)) (has_each (ty_alt fs) (docs_of (item_docs fs its))) h),
     )
@@ -229,12 +226,12 @@ record HasListOf (fs : FieldTrees) (ts : List ℕ) (k : ℕ) (ps : PatternTrees)
 is_below : (k n : ℕ) → k < n → nat_lt k n ≡ false → ⊥
 is_below k n i e = let b : nat_lt k n ≡ true = grind (arith, nat_tests) in cc
 
--- one for each tag below the bound
+-- one for each tag ltb-true the bound
 chosen : (n : ℕ) (P : ℕ → List DocTree → Type 0) → ((k : ℕ) → k < n → (ds : List DocTree) × P k ds) → (k : ℕ) → (ds : List DocTree) × (k < n → P k ds)
 chosen n P all k = go (nat_lt k n) refl
   where
     go : (b : Bool) → nat_lt k n ≡ b → (ds : List DocTree) × (k < n → P k ds)
-    go true e = let r = all k (below k n e) in (r.0, λ i. r.1)
+    go true e = let r = all k (ltb-true k n e) in (r.0, λ i. r.1)
     go false e = ([], λ i. absurd (is_below k n i e))
 
 right_built : (fs : FieldTrees) → IsPartition fs → are_well_formed fs ≡ true → (ts : List ℕ) (p : PatternTree) → are_below (tag_count fs) ts ≡ true → HasSome (ty_rec (right_lists fs)) p

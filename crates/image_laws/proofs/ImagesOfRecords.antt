@@ -17,15 +17,18 @@ use Rattle.lens_core.specs.Sides.{near, type_on, fields_on, names_on}
 use Rattle.lens_core.specs.Complements.{CompTree, nil, then_comp, rec_comp, alt_comp, hold_comp, tags_comp, CompTrees, no_comps, more_comps, FitRows}
 use Rattle.lens_core.specs.Consistency.{content, AreRecords, AreConsistentRows}
 use Rattle.lens_core.specs.Laws.{IsRelated}
-use Rattle.lens_core.proofs.LawsOfLeaves.{bytes_are, bytes_same, differs_back}
-use Rattle.lens_core.proofs.NameTests.{not_that, or_later}
+use Rattle.lens_core.proofs.LawsOfLeaves.{differs_back}
+use Rattle.lens_core.proofs.NameTests.{not_that}
 use Rattle.lens_core.proofs.RecordFields.{with_content, type_on-rec}
-use Rattle.lens_branch.proofs.RecordRows.{row_type, row_type-is, RowsAre, rows_left, rows_right, rows_keep_near, rows_from_left, rows_from_right, AreApart, head_apart, tail_apart, left_tail_apart, right_tail_apart, head_left, head_right}
+use Rattle.lens_core.proofs.RecordRows.{row_type, row_type-is, RowsAre, rows_left, rows_right, rows_keep_near, rows_from_left, rows_from_right, AreApart, head_apart, tail_apart, left_tail_apart, right_tail_apart, head_left, head_right}
 use Rattle.image_laws.specs.Patterns.{PatternTree, hole, rec_pattern, Matches, MatchEach, HasSome, in_order}
 use Rattle.image_laws.specs.Image.{image, image_rows, patterns_by_name, named, with_named}
 use Rattle.image_laws.specs.ImageLaws.{IsImage, IsImageOf, ImageLaw}
 use Rattle.image_laws.proofs.SidesOfTriples.{near_has}
 use Rattle.image_laws.proofs.PatternsByName.{Contents, AreLike, AreGood, rising_distinct, match_in_order, like_in_order, like_by_name, match_by_name, good_record, record_of}
+use Rattle.std.proofs.lemmas.Option.{same_Some}
+use Rattle.texts.proofs.Tests.{or_second, bytes_eq-is}
+use Rattle.texts.proofs.KeyOrder.{bytes_eq-refl}
 
 -- ---- one more name
 
@@ -36,18 +39,15 @@ with_type n t types k = cond (bytes_eq n k) (Some t) (types k)
 abbrev IsNew : List ℕ → (List ℕ → Option TyTree) → Type 0
 IsNew n types = (k : List ℕ) (u : TyTree) → types k ≡ Some u → bytes_eq n k ≡ false
 
-some_same : {A : Type 0} (a b : A) → Some a ≡ Some b → a ≡ b
-some_same a b e = cc
-
 content_here : (n : List ℕ) (v : DocTree) (f : Contents) → with_content n v f n ≡ Some v
-content_here n v f = rw (bytes_same n) refl
+content_here n v f = rw (bytes_eq-refl n) refl
 
 near_more : (types : List ℕ → Option TyTree) (n : List ℕ) (t : TyTree) (v : DocTree) (at : List ℕ → PatternTree) (f : Contents) → has t v ≡ true → Matches (at n) v → AreGood types at f
     → AreGood (with_type n t types) at (with_content n v f)
 near_more types n t v at f h l good k u e = go (bytes_eq n k) refl e
   where
     go : (b : Bool) → bytes_eq n k ≡ b → cond b (Some t) (types k) ≡ Some u → (x : DocTree) × (cond b (Some v) (f k) ≡ Some x) × (has u x ≡ true) × Matches (at k) x
-    go true q e = (v, refl, subst (λ z. has z v ≡ true) (some_same t u e) h, subst (λ z. Matches (at z) v) (bytes_are n k q) l)
+    go true q e = (v, refl, subst (λ z. has z v ≡ true) (same_Some t u e) h, subst (λ z. Matches (at z) v) (bytes_eq-is n k q) l)
     go false q e = good k u e
 
 near_less : (types : List ℕ → Option TyTree) (n : List ℕ) (t : TyTree) (at : List ℕ → PatternTree) (f : Contents) → IsNew n types → AreGood (with_type n t types) at f → AreGood types at f
@@ -58,7 +58,7 @@ far_more : (types : List ℕ → Option TyTree) (n : List ℕ) (t : TyTree) (w :
 far_more types n t w q qs g h l good k u e = go (bytes_eq n k) e
   where
     go : (b : Bool) → cond b (Some t) (types k) ≡ Some u → (x : DocTree) × (cond b (Some w) (g k) ≡ Some x) × (has u x ≡ true) × Matches (cond b q (named qs k)) x
-    go true e = (w, refl, subst (λ z. has z w ≡ true) (some_same t u e) h, l)
+    go true e = (w, refl, subst (λ z. has z w ≡ true) (same_Some t u e) h, l)
     go false e = good k u e
 
 far_less : (types : List ℕ → Option TyTree) (n : List ℕ) (t : TyTree) (q : PatternTree) (qs : List (List ℕ × PatternTree)) (g : Contents) → IsNew n types
@@ -70,17 +70,17 @@ far_less types n t q qs g new good k u e =
 far_first : (types : List ℕ → Option TyTree) (n : List ℕ) (t : TyTree) (q : PatternTree) (qs : List (List ℕ × PatternTree)) (g : Contents) → AreGood (with_type n t types) (named (with_named n q qs)) g
     → (w : DocTree) × (g n ≡ Some w) × (has t w ≡ true) × Matches q w
 far_first types n t q qs g good =
-    let r = good n t (ap (λ b. cond b (Some t) (types n)) (bytes_same n)) in
-    (r.0, r.1, r.2, subst (λ b. Matches (cond b q (named qs n)) r.0) (bytes_same n) r.3)
+    let r = good n t (ap (λ b. cond b (Some t) (types n)) (bytes_eq-refl n)) in
+    (r.0, r.1, r.2, subst (λ b. Matches (cond b q (named qs n)) r.0) (bytes_eq-refl n) r.3)
 
 near_first : (types : List ℕ → Option TyTree) (n : List ℕ) (t : TyTree) (at : List ℕ → PatternTree) (f : Contents) → AreGood (with_type n t types) at f → (v : DocTree) × (f n ≡ Some v) × (has t v ≡ true) × Matches (at n) v
-near_first types n t at f good = good n t (ap (λ b. cond b (Some t) (types n)) (bytes_same n))
+near_first types n t at f good = good n t (ap (λ b. cond b (Some t) (types n)) (bytes_eq-refl n))
 
 far_into : (n : List ℕ) (q : PatternTree) (qs : List (List ℕ × PatternTree)) (g : Contents) → ((w : DocTree) → g n ≡ Some w → Matches q w) → AreLike (named qs) g → AreLike (named (with_named n q qs)) g
 far_into n q qs g here there k w e = go (bytes_eq n k) refl
   where
     go : (b : Bool) → bytes_eq n k ≡ b → Matches (cond b q (named qs k)) w
-    go true i = here w (subst (λ z. g z ≡ Some w) (sym (bytes_are n k i)) e)
+    go true i = here w (subst (λ z. g z ≡ Some w) (sym (bytes_eq-is n k i)) e)
     go false i = there k w e
 
 -- ---- rows by the types and the relation of their contents
@@ -130,7 +130,7 @@ pair_some : (types far_types : List ℕ → Option TyTree) (rel : Contents → C
     → AreImagesOf (with_type m (type_on s l) types) (with_type n (type_on (other s) l) far_types) (WithPair l s c m n rel) at (with_named n q qs)
 pair_some types far_types rel at l s c m n free new q one qs a = record {
   some_docs = (with_content n one.some_doc.0 a.some_docs.0, far_more far_types n (type_on (other s) l) one.some_doc.0 q qs a.some_docs.0 one.some_doc.1 one.some_doc.2 a.some_docs.1);
-  into = λ f g k h. far_into n q qs g (λ w e. subst (Matches q) (some_same h.0.1 w (sym h.0.3 ∙ e)) (one.into h.0.0 h.0.1 (k m h.0.0 h.0.2) h.0.4)) (a.into f g k h.1);
+  into = λ f g k h. far_into n q qs g (λ w e. subst (Matches q) (same_Some h.0.1 w (sym h.0.3 ∙ e)) (one.into h.0.0 h.0.1 (k m h.0.0 h.0.2) h.0.4)) (a.into f g k h.1);
   onto = λ g h.
       let w = far_first far_types n (type_on (other s) l) q qs g h in
       let v = one.onto w.0 w.2 w.3 in
@@ -161,8 +161,8 @@ more_named : (m n : List ℕ) (u : TyTree) (o : Option TyTree) (t : TyTree) (ms 
 more_named m n u o t ms e rest = go (bytes_eq m n) refl e
   where
     go : (b : Bool) → bytes_eq m n ≡ b → cond b (Some u) o ≡ Some t → has_name n (m ∷ ms) ≡ true
-    go true q e = rw (sym (bytes_are m n q), bytes_same m) refl
-    go false q e = or_later (bytes_eq n m) (has_name n ms) (rest e)
+    go true q e = rw (sym (bytes_eq-is m n q), bytes_eq-refl m) refl
+    go false q e = or_second (bytes_eq n m) (has_name n ms) (rest e)
 
 -- a name with a type is among the names
 row_named : (s : Side) (rows : RowTrees) (n : List ℕ) (t : TyTree) → row_type s rows n ≡ Some t → has_name n (names_on s rows) ≡ true
@@ -232,7 +232,7 @@ rows_agree s no_rows no_comps f f' g same h = tt
 rows_agree s no_rows (more_comps c cs) f f' g same h = h
 rows_agree s (both a b l rows) no_comps f f' g same h = h
 rows_agree s (both a b l rows) (more_comps c cs) f f' g same h = (
-  (h.0.0, h.0.1, same (near s a b) (type_on s l) (ap (λ z. cond z (Some (type_on s l)) (row_type s rows (near s a b))) (bytes_same (near s a b))) ∙ h.0.2, h.0.3, h.0.4),
+  (h.0.0, h.0.1, same (near s a b) (type_on s l) (ap (λ z. cond z (Some (type_on s l)) (row_type s rows (near s a b))) (bytes_eq-refl (near s a b))) ∙ h.0.2, h.0.3, h.0.4),
   rows_agree s rows cs f f' g (λ n t e. later_type (bytes_eq (near s a b) n) (type_on s l) (row_type s rows n) t e (λ u q. same n u q)) h.1,
 )
 rows_agree Left (only_left a u rows) cs f f' g same h = rows_agree Left rows cs f f' g (λ n t e. later_type (bytes_eq a n) u (row_type Left rows n) t e (λ v q. same n v q)) h
@@ -287,9 +287,6 @@ record_doc fs (text s) h = cc
 record_doc fs (pick n) h = cc
 record_doc fs (alt n d) h = cc
 record_doc fs (hold s ds) h = cc
-
-rec_same : (ds es : DocTrees) → rec ds ≡ rec es → ds ≡ es
-rec_same ds es e = cc
 
 module _ (rows : RowTrees) (s : Side) (cs : CompTrees) (p : PatternTree) (ds0 : DocTrees) (near_apart : are_distinct (names_of (fields_on s rows)) ≡ true) (far_apart : are_distinct (names_of (fields_on (other s) rows)) ≡ true)
     (fit : FitRows rows cs) (like0 : Matches p (rec ds0)) (has0 : has_fields (fields_on s rows) ds0 ≡ true) where

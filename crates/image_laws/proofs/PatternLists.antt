@@ -21,9 +21,6 @@ pub pattern_list-patterns_from : (ps : List PatternTree) → pattern_list (patte
 pattern_list-patterns_from [] = refl
 pattern_list-patterns_from (p ∷ ps) = ap (λ x. p ∷ x) (pattern_list-patterns_from ps)
 
-pub pattern_list_patterns : (ps : Patterns) → pattern_list (patterns_tree ps) ≡ map pattern_tree (out-Patterns ps).items
-pattern_list_patterns ps = ap pattern_list (patterns_tree-out ps) ∙ pattern_list-patterns_from _
-
 -- ---- lengths
 
 pub pattern_count-length : (ps : PatternTrees) → pattern_count ps ≡ length (pattern_list ps)

@@ -1,7 +1,7 @@
 -- Patterns of lists, and patterns for the contents of items: what stands between the two sides of a partition.
 use Rattle.std.proofs.Common.{◌≡◌, ◌∙◌, ℕ, zero, suc, ◌<◌, Bool, true, false, ◌&&◌, List, [], ◌∷◌, length, Option, None, Some, refl, ap, sym, subst, arith}
 use Rattle.std.specs.Prelude.{nat_eq, nat_lt, bytes_eq, cond, option_map, option_and_then}
-use Rattle.std.proofs.lemmas.Bool.{eq-eqb, eqb-true}
+use Rattle.std.proofs.lemmas.Bool.{eq-eqb, eqb-true, ltb-true}
 use Rattle.texts.proofs.Conjunction.{first, second, both}
 use Rattle.hold_shapes.specs.declared.shape.Shape.{Shape}
 use Rattle.hold_shapes.specs.declared.shape.Shape.TheVariants.{List as ListOf, Keyed as KeyedOf, Tree as TreeOf}
@@ -14,12 +14,12 @@ use Rattle.doc_values.proofs.Lists.{doc_list-docs_of}
 use Rattle.tag_seq.specs.Tags.{are_below}
 use Rattle.lens_core.specs.Tags.{tag_count, tag_name}
 use Rattle.lens_core.specs.Consistency.{list_doc}
-use Rattle.lens_core.proofs.LawsOfLeaves.{bytes_are, bytes_same}
-use Rattle.partition_lens.proofs.ItemLists.{Item, tags_of}
-use Rattle.partition_lens.proofs.ListEdits.{below}
-use Rattle.partition_lens.proofs.RightLists.{tag_type, item_docs, type_by_name}
+use Rattle.lens_core.proofs.ItemLists.{Item, tags_of}
+use Rattle.lens_core.proofs.RightLists.{tag_type, item_docs, type_by_name}
 use Rattle.image_laws.specs.Patterns.{PatternTree, hole, unit_pattern, truth_pattern, int_pattern, text_pattern, pick_pattern, rec_pattern, alt_pattern, hold_pattern, PatternTrees, no_patterns, more_patterns, pattern_count, Matches, MatchEach, HasSome}
 use Rattle.image_laws.specs.PartImage.{holes, list_pattern, patterns_in_list, content_pattern, content_patterns, item_patterns}
+use Rattle.texts.proofs.Tests.{bytes_eq-is}
+use Rattle.texts.proofs.KeyOrder.{bytes_eq-refl}
 
 -- ---- lists
 
@@ -161,11 +161,11 @@ alt_same m n d e q = (cc, cc)
 
 content_tag : (n : List ℕ) (d : DocTree) (m : List ℕ) (p : PatternTree) (b : Bool) → bytes_eq m n ≡ b → IsContent n d (alt_pattern m p) (cond b (Some p) None)
 content_tag n d m p true e =
-    let same = bytes_are m n e in
+    let same = bytes_eq-is m n e in
     ((λ h. subst (Matches p) (sym (alt_same n m d h.0 h.1).1) h.2), (λ h. (d, ap (λ z. alt z d) (sym same), h)))
 content_tag n d m p false e = λ h.
     let here = subst (λ (z : List ℕ). bytes_eq z n ≡ false) (sym (alt_same n m d h.0 h.1).0) e in
-    let there = bytes_same n in
+    let there = bytes_eq-refl n in
     cc
 
 content_is : (n : List ℕ) (d : DocTree) (p : PatternTree) → IsContent n d p (content_pattern n p)
@@ -218,7 +218,7 @@ left_same fs its p = go (patterns_in_list (length (tags_of its)) p) (in_list (le
     go (Some ps) a = inside ps a.1 a.2 (content_patterns fs (tags_of its) ps) (contents_are fs its ps)
 
 -- the items of a list of alternatives in the pattern
-same_pattern : (p q : PatternTree) → Some p ≡ Some q → p ≡ q
+pub same_pattern : (p q : PatternTree) → Some p ≡ Some q → p ≡ q
 same_pattern p q e = cc
 
 pub tag_has : (fs : FieldTrees) (n : List ℕ) (v : DocTree) (t : TyTree) → lookup_type fs n ≡ Some t → has (ty_alt fs) (alt n v) ≡ true → has t v ≡ true
@@ -236,7 +236,7 @@ content_some fs k (alt_pattern m p) q apart wf b some e = go (bytes_eq m (tag_na
     go false i e = cc
     go true i e =
         let h = subst (λ z. has (ty_alt fs) z ≡ true) some.2.1 some.1 in
-        let h' = subst (λ z. has (ty_alt fs) (alt z some.2.0) ≡ true) (bytes_are m (tag_name fs k) i) h in
+        let h' = subst (λ z. has (ty_alt fs) (alt z some.2.0) ≡ true) (bytes_eq-is m (tag_name fs k) i) h in
         subst (HasSome (tag_type fs k)) (same_pattern p q e) (some.2.0, tag_has fs (tag_name fs k) some.2.0 (tag_type fs k) (type_by_name fs k apart b) h', some.2.2)
 content_some fs k unit_pattern q apart wf b some e = cc
 content_some fs k (truth_pattern x) q apart wf b some e = cc
@@ -247,7 +247,7 @@ content_some fs k (rec_pattern x) q apart wf b some e = cc
 content_some fs k (hold_pattern x y) q apart wf b some e = cc
 
 below_first : (fs : FieldTrees) (t : ℕ) (ts : List ℕ) → are_below (tag_count fs) (t ∷ ts) ≡ true → t < tag_count fs
-below_first fs t ts h = below t (tag_count fs) (first (nat_lt t (tag_count fs)) (are_below (tag_count fs) ts) h)
+below_first fs t ts h = ltb-true t (tag_count fs) (first (nat_lt t (tag_count fs)) (are_below (tag_count fs) ts) h)
 
 below_rest : (fs : FieldTrees) (t : ℕ) (ts : List ℕ) → are_below (tag_count fs) (t ∷ ts) ≡ true → are_below (tag_count fs) ts ≡ true
 below_rest fs t ts h = second (nat_lt t (tag_count fs)) (are_below (tag_count fs) ts) h

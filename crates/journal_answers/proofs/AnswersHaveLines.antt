@@ -1,5 +1,5 @@
 -- An answer that has a line has a tree, and what a fault of a line says of both.
-use Rattle.std.proofs.Common.{◌≡◌, ℕ, List, true, Option, None, Some, option_map, Result, Ok, Err, length, refl, sym, ap, subst, ◌∙◌}
+use Rattle.std.proofs.Common.{◌≡◌, ℕ, List, true, Option, None, Some, option_map, Result, Ok, Err, length, refl, sym, subst, ◌∙◌}
 use Rattle.std.specs.Prelude.{IfOk, IfSome}
 use Rattle.std.specs.List.{list_all}
 use Rattle.std.proofs.lemmas.List.{length-map}
@@ -9,21 +9,15 @@ use Rattle.edit_module.specs.declared.word.Word.{Word}
 use Rattle.edit_json.specs.WordJson.{counts_fit}
 use Rattle.journal_answers.proofs.StepCounts.{Counted}
 use Rattle.edit_journal.specs.EntryJson.{LineFault}
-use Rattle.edit_journal.specs.Reading.{cause_of, IsRefused}
+use Rattle.edit_journal.specs.Reading.{cause_of}
 use Rattle.edit_journal.specs.declared.fault.EntryFault.{EntryFault}
 use Rattle.edit_journal.specs.declared.fault.EntryFault.TheVariants.{LineTooLong, NotJson, NotAnEntry, NotAnEdit, NoMemory}
-use Rattle.texts.specs.declared.side.Side.{Side}
-use Rattle.doc_values.specs.Types.{TyTree}
-use Rattle.edit_module.specs.Words.{WordTree}
-use Rattle.lens_core.specs.Complements.{CompTree}
-use Rattle.lens_core.specs.Translation.{Translated}
-use Rattle.edit_session.specs.Step.{TripleTree}
-use Rattle.edit_session.specs.Run.{take_item, is_refused, no_entry}
+use Rattle.edit_session.specs.Run.{no_entry}
 use Rattle.answer_text.specs.Lines.{fault_line}
 use Rattle.journal_answers.specs.AnswerLines.{HasAnswerLine}
 use Rattle.journal_answers.specs.Answers.{answer_line}
-use Rattle.journal_answers.specs.Runs.{JournalItem, JournalAnswer}
-use Rattle.journal_answers.specs.Views.{answer_tree, step_with}
+use Rattle.journal_answers.specs.Runs.{JournalAnswer}
+use Rattle.journal_answers.specs.Views.{answer_tree}
 use Rattle.journal_answers.specs.declared.answers.Answer.{Answer}
 use Rattle.journal_answers.specs.declared.answers.Answer.TheVariants.{Carried, NoApply, GroupCarried, GroupNoApply, NoEntry}
 
@@ -42,11 +36,6 @@ pub is_so : (P : JournalAnswer → Type 0) (o : Option JournalAnswer) (a : Journ
 is_so P None a e h = cc
 is_so P (Some b) a e h = let same : b ≡ a = cc in subst P same h
 
--- a line that is not a change is refused
-pub fault_refused : (o : Option LineFault) → IfSome (option_map no_entry o) (λ (a : JournalAnswer). true ≡ is_refused a)
-fault_refused None = tt
-fault_refused (Some cause) = refl
-
 -- and its line is that of the cause
 pub fault_has_line : (o : Option LineFault) (number : ℕ) (line : List ℕ) → ((cause : LineFault) → o ≡ Some cause → line ≡ fault_line number cause)
     → IfSome (option_map no_entry o) (λ (a : JournalAnswer). line ≡ answer_line number a)
@@ -58,15 +47,6 @@ pub fault_line_is : {E : Type 0} (r : Result (List ℕ) E) (answer : Answer) (fa
     → IfOk r (λ line. IfSome (answer_tree answer) (λ a. line ≡ answer_line number a))
 fault_line_is (Ok line) answer fault number is h = subst (λ x. IfSome (answer_tree x) (λ a. line ≡ answer_line number a)) (sym is) (fault_has_line (cause_of fault) number line h)
 fault_line_is (Err e) answer fault number is h = tt
-
--- it leaves the triple as it was
-pub fault_stays : (left right : TyTree) (translation : Side → CompTree → WordTree → Option Translated) (t : TripleTree) (item : JournalItem) (fault : EntryFault) → HasAnswerLine (NoEntry fault)
-    → IsRefused (cause_of fault) item → take_item left right translation t item ≡ step_with t (NoEntry fault)
-fault_stays left right translation t item LineTooLong h e = ap (take_item left right translation t) e
-fault_stays left right translation t item NotJson h e = ap (take_item left right translation t) e
-fault_stays left right translation t item NotAnEntry h e = ap (take_item left right translation t) e
-fault_stays left right translation t item NotAnEdit h e = ap (take_item left right translation t) e
-fault_stays left right translation t item NoMemory h e = absurd h
 
 -- a group that was accepted has a line
 pub words_counted : (es : List Entry) (ws : List Word) → Counted (entry_trees es) (word_trees ws) → (length ws ≡ length es) × (list_all counts_fit (word_trees ws) ≡ true)

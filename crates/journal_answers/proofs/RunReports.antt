@@ -14,14 +14,7 @@ use Rattle.edit_session.specs.Run.{take_item, run, last, is_refused, any_refused
 use Rattle.journal_answers.specs.Answers.{answer_line, answer_lines, state_lines, text_from}
 use Rattle.journal_answers.specs.Runs.{JournalItem, JournalAnswer, items_of, run_from}
 use Rattle.journal_answers.specs.Running.{Come, Written, of_steps, after_progress, written, written_after}
-
-or_assoc : (a b c : Bool) → (a || (b || c)) ≡ ((a || b) || c)
-or_assoc true b c = refl
-or_assoc false b c = refl
-
-or_false : (a : Bool) → (a || false) ≡ a
-or_false true = refl
-or_false false = refl
+use Rattle.texts.proofs.Tests.{or_false, or_grouped}
 
 -- ---- the run of a lens
 
@@ -42,7 +35,7 @@ module _ (left right : TyTree) (translation : Side → CompTree → WordTree →
       (ap (λ n. old.text ++ (answer_line n a ++ answer_lines (n + 1) steps)) (sym number)
       ∙ sym (append_assoc old.text (answer_line new.number a) (answer_lines (new.number + 1) steps))
       ∙ ap (λ x. x ++ answer_lines (new.number + 1) steps) (sym text))
-      (or_assoc old.refused (is_refused a) (any_refused steps) ∙ ap (λ b. b || any_refused steps) (sym refused))
+      (or_grouped old.refused (is_refused a) (any_refused steps) ∙ ap (λ b. b || any_refused steps) (sym refused))
       refl
 
   pub item_step : (t t' : TripleTree) (old new : Come) (item : JournalItem) (a : JournalAnswer) (items : List JournalItem)

@@ -1,7 +1,6 @@
 -- Lines that are answered one after another, and the answers that are written on the way.
 use Rattle.std.proofs.Common.{◌≡◌, ℕ, List, [], ◌∷◌, ◌++◌, Bool, Option, Result, Ok, Err, refl, sym, ap, subst, ◌∙◌, append_assoc, append-nil}
 use Rattle.std.specs.Prelude.{OnOk, IfErr, MatchResult}
-use Rattle.std.specs.Io.KnownBytes.{Appends}
 use Rattle.std.proofs.KnownBytes.{Appends-nil, Appends-trans}
 use Rattle.lens_io.specs.Content.{AppendsFront}
 use Rattle.texts.specs.declared.side.Side.{Side}
@@ -28,19 +27,6 @@ come_given given p p' held held' g =
     ap (λ n. make n p.refused (given ++ p.text.items)) (sym g.number)
     ∙ ap (λ r. make p'.number r (given ++ p.text.items)) (sym g.refused)
     ∙ ap (λ x. make p'.number p'.refused x) (ap (λ x. given ++ x) g.kept ∙ sym (append_assoc given g.given p'.text.items))
-
--- all that was kept is written, or nothing is
-pub all_given : (p p' : Progress) (held held' : Option (List ℕ)) → p'.number ≡ p.number → p'.refused ≡ p.refused → p'.text.items ≡ [] → Appends held held' p.text.items → GivesAnswers p p' held held'
-all_given p p' held held' number refused text appends = record {
-  number = number;
-  refused = refused;
-  given = p.text.items;
-  kept = sym (append-nil p.text.items) ∙ ap (λ x. p.text.items ++ x) (sym text);
-  appends = appends;
-}
-
-pub none_given : (p : Progress) (held : Option (List ℕ)) → GivesAnswers p p held held
-none_given p held = record { number = refl; refused = refl; given = []; kept = refl; appends = Appends-nil held }
 
 module _ (left right : TyTree) (translation : Side → CompTree → WordTree → Option Translated) where
   pub nothing_answered : (t : TripleTree) (p : Progress) (held : Option (List ℕ)) → AnswersLines left right translation t p [] held held t p

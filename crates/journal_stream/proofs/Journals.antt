@@ -1,5 +1,5 @@
 -- A journal as it comes, piece by piece: how far a run has come.
-use Rattle.std.proofs.Common.{◌≡◌, ◌≤◌, ◌+◌, ◌^◌, inl, inr, ℕ, List, [], ◌++◌, length, Bool, false, Option, Some, Ok, Err, refl, sym, ap, subst, ◌∙◌, append_assoc, append-nil, length-append, arith}
+use Rattle.std.proofs.Common.{◌≡◌, ◌≤◌, ◌+◌, inl, inr, ℕ, List, [], ◌++◌, length, Bool, false, Option, Some, Ok, Err, refl, sym, ap, subst, ◌∙◌, append_assoc, append-nil, length-append, arith}
 use Rattle.std.specs.Io.KnownBytes.{Appends, Consumes}
 use Rattle.std.proofs.KnownBytes.{Appends-nil, Appends-trans, Consumes-nil, Consumes-trans}
 use Rattle.lens_io.specs.declared.failed.TakeFault.{TakeFault}
@@ -18,6 +18,7 @@ use Rattle.journal_answers.specs.Running.{Come, come, written, written_after}
 use Rattle.journal_answers.specs.declared.journal.Progress.{Progress}
 use Rattle.journal_answers.proofs.RunReports.{at_start, at_end}
 use Rattle.journal_input.specs.Taking.{TakenInput, TakesMore, TakesNone, StopsAt}
+use Rattle.journal_input.specs.declared.limits.TheConstants.{MOST_BYTES}
 use Rattle.journal_stream.specs.Answered.{AnswersLines, StopsLines, StopsPiece, AnswersPiece, WritesStopped, AreAnswered, AnswersFirst, StopsRun, AnswersPieces, ComesOn}
 use Rattle.journal_stream.specs.Stopping.{stop_of}
 use Rattle.journal_stream.specs.declared.stopped.Stopped.{Stopped}
@@ -66,7 +67,7 @@ module _ (left right : TyTree) (translation : Side → CompTree → WordTree →
     }
 
     -- the run stopped at them
-    pub stops_first : (input : TakenInput) (room : ℕ) (t : TripleTree) (stopped : Stopped) → before.taken ≤ 2 ^ 30 + 1 → StopsLines left right translation start p before.lines.ended held held' stopped
+    pub stops_first : (input : TakenInput) (room : ℕ) (t : TripleTree) (stopped : Stopped) → before.taken ≤ MOST_BYTES + 1 → StopsLines left right translation start p before.lines.ended held held' stopped
         → AnswersPieces left right translation start before input room source source held held' t (Err stopped)
     stops_first input room t stopped few s =
         let part = stopped_behind stopped (before.taken + 0) s.rest held held held' [] s.text (Appends-nil held) s.writes in
@@ -142,7 +143,7 @@ module _ (left right : TyTree) (translation : Side → CompTree → WordTree →
     run_ends a any_room =
         let now = comes_on_piece false a in
         let end = a.ends.at_end refl in
-        let within : before.taken + length now.more ≤ 2 ^ 30 = omega (arith, end.2, c.count, length-append c.more a.bytes, ap length end.0) in
+        let within : before.taken + length now.more ≤ MOST_BYTES = omega (arith, end.2, c.count, length-append c.more a.bytes, ap length end.0) in
         record {
           more = now.more;
           consumes = now.consumes;

@@ -14,4 +14,4 @@ mod stream;
 
 pub use last::{Ended, last_answers};
 pub use stopped::Stopped;
-pub use stream::{MOST_KEPT, answer_piece, answer_pieces};
+pub use stream::{answer_piece, answer_pieces};

@@ -4,20 +4,17 @@ ghost use Rattle.edit_session.specs.Views.{triple_tree};
 ghost use Rattle.lens_io.specs.Causes.{Increased, SinkFailed};
 ghost use Rattle.lens_io.specs.Content.{AppendsFront};
 ghost use Rattle.journal_input.specs.Taking.{IsWithin};
+ghost use Rattle.journal_input.specs.declared.limits.TheConstants.{MOST_BYTES, MOST_KEPT};
 ghost use Rattle.journal_stream.specs.Answered.{GivesAnswers, WritesPart, AnswersLines, StopsLines, AnswersPiece, AnswersPieces};
-ghost use Rattle.journal_stream.specs.declared.stream.TheConstants.{MOST_KEPT};
 
 use crate::stopped::Stopped;
 use edit_journal::Line;
 use edit_session::Session;
 use journal_answers::{Progress, handle_line};
-use journal_input::Input;
+use journal_input::{Input, MOST_KEPT};
 use lens_core::EditLens;
 use lens_io::{Sink, Source, give_all};
 use std::alloc::Global;
-
-/// The answers that are not written yet have fewer bytes than this, when the next line is handled.
-pub const MOST_KEPT: usize = 65_536;
 
 /// Steps a session through the items of a journal as their lines come, and writes the answers. The journal is read in
 /// pieces, to its end. When the source is asked for the next piece, all lines that have ended are answered, and their answers
@@ -45,7 +42,7 @@ pub fn answer_pieces<S: Source, K: Sink, L: EditLens>(
         (L.carried session.old.lens) (triple_tree session.old.triple) input.old input.new
         (length piece.old) (S.left source.old) (S.left source.new) (K.held sink.old) (K.held sink.new)
         (triple_tree session.new.triple) result }
-    ensures number { IfOk result (λ p. p.number ≤ 2 ^ 30 + 1) }
+    ensures number { IfOk result (λ p. p.number ≤ MOST_BYTES + 1) }
     ensures lens { session.new.lens ≡ session.old.lens }
     ensures source_fault { IsErrOf result Stopped.SourceFault
         → Increased (S.faults source.old) (S.faults source.new) }
@@ -81,7 +78,7 @@ pub fn answer_piece<S: Source, K: Sink, L: EditLens>(
     requires answered { input.old.lines.ended ≡ [] }
     requires written { progress.old.text.items ≡ [] }
     requires number { progress.old.number ≤ input.old.taken }
-    requires within { input.old.taken ≤ 2 ^ 30 + 1 }
+    requires within { input.old.taken ≤ MOST_BYTES + 1 }
     ensures one_piece { AnswersPiece (L.left_type session.old.lens) (L.right_type session.old.lens)
         (L.carried session.old.lens) input.old input.new (length piece.old) (S.left source.old)
         (S.left source.new) (K.held sink.old) (K.held sink.new) (triple_tree session.old.triple)

@@ -11,11 +11,12 @@ use Rattle.lens_forms.specs.Typing.{left_arms, right_arms}
 use Rattle.lens_core.specs.Sides.{near, far}
 use Rattle.lens_core.specs.Complements.{CompTree, alt_comp, missing}
 use Rattle.lens_core.specs.Translation.{Translated, translate_one, translate, translate_stay, translate_switch, far_tag, in_arm, to_arm}
-use Rattle.lens_core.proofs.LawsOfLeaves.{bytes_are, differs_back}
+use Rattle.lens_core.proofs.LawsOfLeaves.{differs_back}
 use Rattle.lens_core.specs.Beginnings.{Beginning, inside, carried_on}
 use Rattle.lens_branch.specs.AlternativeSteps.{ArmAt, next_arm, near_tag, far_tag_of, arm_of, if_near, current_arm, begin_here, begin_anew, begin_alternatives, finish_stay, finish_switch, finish_alternatives, arm_lens, arm_translation}
-use Rattle.lens_core.proofs.NameTests.{not_that, or_later}
-use Rattle.lens_branch.proofs.Arms.{arm_names, head_apart, tail_apart, arm_name, same_first}
+use Rattle.lens_core.proofs.NameTests.{not_that}
+use Rattle.lens_core.proofs.Arms.{arm_names, head_apart, tail_apart, arm_name, same_first}
+use Rattle.texts.proofs.Tests.{or_second, bytes_eq-is}
 
 -- ---- what the arms translate
 
@@ -134,9 +135,9 @@ among_found (more_arms a b l arms) side m q e = arm_name side a b l arms m ∙ g
 
     go : (k : Bool) → bytes_eq (near side a b) m ≡ k → (o : Option ArmAt) → cond k (Some first) (option_map next_arm o) ≡ Some q
         → ((p : ArmAt) → o ≡ Some p → has_name m (arm_names side arms) ≡ true) → (bytes_eq m (near side a b) || has_name m (arm_names side arms)) ≡ true
-    go true f o h again = same_first m (near side a b) (has_name m (arm_names side arms)) (sym (bytes_are (near side a b) m f))
+    go true f o h again = same_first m (near side a b) (has_name m (arm_names side arms)) (sym (bytes_eq-is (near side a b) m f))
     go false f None h again = cc
-    go false f (Some p) h again = or_later (bytes_eq m (near side a b)) (has_name m (arm_names side arms)) (again p refl)
+    go false f (Some p) h again = or_second (bytes_eq m (near side a b)) (has_name m (arm_names side arms)) (again p refl)
 
 -- an arm with this near tag behind the first one
 found_behind : (a b : List ℕ) (l : FormTree) (arms : ArmTrees) (side : Side) (m : List ℕ) (p : ArmAt) → are_distinct (arm_names side (more_arms a b l arms)) ≡ true

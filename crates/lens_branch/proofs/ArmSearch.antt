@@ -1,5 +1,5 @@
 -- The arms of alternatives, as the code goes through them one after the other.
-use Rattle.std.proofs.Common.{◌≡◌, ℕ, zero, suc, ◌+◌, ◌<◌, ◌≤◌, Bool, true, false, List, [], ◌∷◌, length, map, drop, drop-cons, get_or, add-one, Option, None, Some, option_map, Result, Ok, Err, refl, sym, ap, subst, ◌∙◌, arith}
+use Rattle.std.proofs.Common.{◌≡◌, ℕ, suc, ◌+◌, ◌<◌, ◌≤◌, Bool, true, false, List, [], ◌∷◌, length, map, drop, drop-cons, get_or, add-one, Option, None, Some, option_map, Result, Ok, Err, refl, sym, ap, subst, ◌∙◌, arith}
 use Rattle.std.specs.Prelude.{bytes_eq, cond, option_and_then, is_some, MatchResult}
 use Rattle.std.proofs.lemmas.Option.{slice_get-map, slice_get_read, slice_get_past}
 use Rattle.std.proofs.lemmas.List.{drop_all}
@@ -17,6 +17,7 @@ use Rattle.lens_core.specs.declared.carry.CarryFault.{CarryFault}
 use Rattle.lens_core.specs.declared.carry.CarryFault.TheVariants.{NoMemory}
 use Rattle.lens_core.specs.Beginnings.{Beginning, inside, begun_tree, IsBeginFault, IsInside}
 use Rattle.lens_branch.specs.AlternativeSteps.{ArmAt, next_arm, near_tag, arm_of, if_near, current_arm, begin_here, begin_anew, begin_alternatives, HasBegun, arm_lens, arm_starts}
+use Rattle.lens_forms.proofs.ArmParts.{parts_below}
 
 -- an arm behind a number of others
 abbrev pub arm_behind : ℕ → ArmAt → ArmAt
@@ -118,13 +119,6 @@ arm_at items arms i a e h is =
 
 pub past_arms : (items : List (List ℕ × List ℕ × Form)) (arms : ArmTrees) (i : ℕ) → form_arms_of (map arm_tree items) ≡ arms → length items ≤ i → arm_lens arms i ≡ None
 past_arms items arms i e h = rw (← e, arm_list-form_arms_of, slice_get-map arm_tree items i, slice_get_past items i h) refl
-
--- a lens inside has fewer parts than the arms
-parts_below : (items : List (List ℕ × List ℕ × Form)) (i : ℕ) (a : List ℕ × List ℕ × Form) → i < length items → a ≡ get_or items i a
-    → form_parts (form_tree a.2) < arms_parts (form_arms_of (map arm_tree items))
-parts_below [] i a h is = absurd (omega arith)
-parts_below (b ∷ items) zero a h is = rw is (omega arith)
-parts_below (b ∷ items) (suc i) a h is = let rest = parts_below items i a (omega arith) is in omega (arith, rest)
 
 pub arm_smaller : (items : List (List ℕ × List ℕ × Form)) (arms : ArmTrees) (i : ℕ) (a : List ℕ × List ℕ × Form) → form_arms_of (map arm_tree items) ≡ arms → i < length items → a ≡ get_or items i a
     → form_parts (form_tree a.2) < arms_parts arms

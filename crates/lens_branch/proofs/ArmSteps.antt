@@ -19,11 +19,13 @@ use Rattle.lens_core.specs.Complements.{CompTree, alt_comp, missing}
 use Rattle.lens_core.specs.Translation.{translate, translate_stay, translate_switch, far_tag}
 use Rattle.lens_core.specs.Laws.{IsRelated, Laws}
 use Rattle.lens_core.proofs.LawsOfWords.{edits_carry, starts_on}
-use Rattle.lens_core.proofs.Results.{some_same}
-use Rattle.lens_core.proofs.LawsOfLeaves.{bytes_are, bytes_same, differs_back}
+use Rattle.lens_core.proofs.LawsOfLeaves.{differs_back}
 use Rattle.lens_branch.specs.Branches.{ArmLaws}
-use Rattle.lens_core.proofs.NameTests.{not_that, or_later}
-use Rattle.lens_branch.proofs.Arms.{AreApart, ArmIs, arm_names, far_arm_name, far_head_apart, far_tag_type, far_tail_apart, first_type, head_apart, later_type, left_among, near_among, same_first, tag_type, tags_on, tail_apart}
+use Rattle.lens_core.proofs.NameTests.{not_that}
+use Rattle.lens_core.proofs.Arms.{AreApart, ArmIs, arm_names, far_arm_name, far_head_apart, far_tag_type, far_tail_apart, first_type, head_apart, later_type, left_among, near_among, same_first, tag_type, tags_on, tail_apart}
+use Rattle.std.proofs.lemmas.Option.{same_Some}
+use Rattle.texts.proofs.Tests.{or_second, bytes_eq-is}
+use Rattle.texts.proofs.KeyOrder.{bytes_eq-refl}
 
 -- ---- a stay in an arm
 
@@ -39,7 +41,7 @@ pub record StayStep (s : Side) (arms : ArmTrees) (i : List ℕ) (v' : DocTree) (
 
 stay_translates : (s : Side) (a b : List ℕ) (l : FormTree) (arms : ArmTrees) (c : CompTree) (u w : WordTree) (d : CompTree) → translate l s c u ≡ Some (w, d)
     → translate_stay (more_arms a b l arms) s a c (near s a b) u ≡ Some (stay_word (far s a b) w, alt_comp a d)
-stay_translates s a b l arms c u w d e = rw (bytes_same a) (rw (bytes_same (near s a b)) (rw e refl))
+stay_translates s a b l arms c u w d e = rw (bytes_eq-refl a) (rw (bytes_eq-refl (near s a b)) (rw e refl))
 
 stay_here : (s : Side) (a b : List ℕ) (l : FormTree) (arms : ArmTrees) (v : DocTree) (c : CompTree) (w : DocTree) (u : WordTree) (v' : DocTree) → Laws l → IsRelated l s v c w → act (type_on s l) u v ≡ Ok v'
     → StayStep s (more_arms a b l arms) (near s a b) v' a c (far s a b) w u
@@ -61,7 +63,7 @@ pub stay_step : (s : Side) (arms : ArmTrees) (i : List ℕ) (v : DocTree) (t : L
 stay_step s no_arms i v t c j w u ty v' laws apart far_apart lefts h typed e = absurd h
 stay_step s (more_arms a b l arms) i v t c j w u ty v' laws apart far_apart lefts (inl h) typed e =
     let at_near = subst (λ z. lookup_type (tags_on s (more_arms a b l arms)) z ≡ Some ty) h.0 typed in
-    let same = some_same (type_on s l) ty (sym (tag_type s a b l arms (near s a b) ∙ first_type (near s a b) (type_on s l) (lookup_type (tags_on s arms) (near s a b))) ∙ at_near) in
+    let same = same_Some (type_on s l) ty (sym (tag_type s a b l arms (near s a b) ∙ first_type (near s a b) (type_on s l) (lookup_type (tags_on s arms) (near s a b))) ∙ at_near) in
     let r = stay_here s a b l arms v c w u v' laws.0 h.3 (subst (λ z. act z u v ≡ Ok v') (sym same) e) in
     subst (λ z. StayStep s (more_arms a b l arms) z v' t c j w u) (sym h.0)
     (subst (λ z. StayStep s (more_arms a b l arms) (near s a b) v' z c j w u) (sym h.1)
@@ -86,7 +88,7 @@ stay_step s (more_arms a b l arms) i v t c j w u ty v' laws apart far_apart left
     far_among : (s : Side) (arms : ArmTrees) (i : List ℕ) (v : DocTree) (t : List ℕ) (c : CompTree) (j : List ℕ) (w : DocTree) → ArmIs s arms i v t c j w → has_name j (arm_names (other s) arms) ≡ true
     far_among s no_arms i v t c j w h = absurd h
     far_among s (more_arms a b l arms) i v t c j w (inl h) = far_arm_name s a b l arms j ∙ same_first j (far s a b) (has_name j (arm_names (other s) arms)) h.2
-    far_among s (more_arms a b l arms) i v t c j w (inr h) = far_arm_name s a b l arms j ∙ or_later (bytes_eq j (far s a b)) (has_name j (arm_names (other s) arms)) (far_among s arms i v t c j w h)
+    far_among s (more_arms a b l arms) i v t c j w (inr h) = far_arm_name s a b l arms j ∙ or_second (bytes_eq j (far s a b)) (has_name j (arm_names (other s) arms)) (far_among s arms i v t c j w h)
 
     past_arm : (s : Side) (a b : List ℕ) (l : FormTree) (arms : ArmTrees) (t : List ℕ) (c : CompTree) (i : List ℕ) (u : WordTree) → bytes_eq a t ≡ false → translate_stay (more_arms a b l arms) s t c i u ≡ translate_stay arms s t c i u
     past_arm s a b l arms t c i u e = rw e refl
@@ -97,7 +99,7 @@ far_tag_is s no_arms i v t c j w lefts h = absurd h
 far_tag_is s (more_arms a b l arms) i v t c j w lefts (inl h) = tag_here s a b l arms i t j h.0 h.1 h.2
   where
     tag_here : (s : Side) (a b : List ℕ) (l : FormTree) (arms : ArmTrees) (i t j : List ℕ) → i ≡ near s a b → t ≡ a → j ≡ far s a b → far_tag (more_arms a b l arms) s t i ≡ Some j
-    tag_here s a b l arms i t j e f g = rw (e, f, g) (rw (bytes_same a) (rw (bytes_same (near s a b)) refl))
+    tag_here s a b l arms i t j e f g = rw (e, f, g) (rw (bytes_eq-refl a) (rw (bytes_eq-refl (near s a b)) refl))
 far_tag_is s (more_arms a b l arms) i v t c j w lefts (inr h) =
     let off_left = not_that t a (left_arms arms) (head_apart Left a b l arms lefts) (left_among s arms i v t c j w h) in
     tag_later s a b l arms i t (differs_back t a off_left) ∙ far_tag_is s arms i v t c j w (tail_apart Left a b l arms lefts) h
@@ -122,7 +124,7 @@ pub record SwitchStep (s : Side) (arms : ArmTrees) (from i : List ℕ) (u : Word
 
 switch_translates : (s : Side) (a b : List ℕ) (l : FormTree) (arms : ArmTrees) (from : List ℕ) (u w : WordTree) (d : CompTree) → translate l s (missing l) u ≡ Some (w, d)
     → translate_switch (more_arms a b l arms) s from (near s a b) u ≡ Some (switch_word from (far s a b) w, alt_comp a d)
-switch_translates s a b l arms from u w d e = rw (bytes_same (near s a b)) (rw e refl)
+switch_translates s a b l arms from u w d e = rw (bytes_eq-refl (near s a b)) (rw e refl)
 
 switch_here : (s : Side) (a b : List ℕ) (l : FormTree) (arms : ArmTrees) (from : List ℕ) (u : WordTree) (v' : DocTree) → Laws l → act (type_on s l) u (initial (type_on s l)) ≡ Ok v'
     → SwitchStep s (more_arms a b l arms) from (near s a b) u v'
@@ -154,9 +156,9 @@ switch_step s (more_arms a b l arms) from i u ty v' laws far_apart typed e =
     go : (q : Bool) → bytes_eq (near s a b) i ≡ q → cond q (Some (type_on s l)) (lookup_type (tags_on s arms) i) ≡ Some ty → (lookup_type (tags_on s arms) i ≡ Some ty → SwitchStep s arms from i u v')
         → SwitchStep s (more_arms a b l arms) from i u v'
     go true f k again =
-        let same = some_same (type_on s l) ty k in
+        let same = same_Some (type_on s l) ty k in
         let acts = subst (λ t. act t u (initial t) ≡ Ok v') (sym same) e in
-        subst (λ z. SwitchStep s (more_arms a b l arms) from z u v') (bytes_are (near s a b) i f) (switch_here s a b l arms from u v' laws.0 acts)
+        subst (λ z. SwitchStep s (more_arms a b l arms) from z u v') (bytes_eq-is (near s a b) i f) (switch_here s a b l arms from u v' laws.0 acts)
     go false f k again =
         let q = again k in
         let far_off = not_that q.to (far s a b) (arm_names (other s) arms) (far_head_apart s a b l arms far_apart) q.among in record {
@@ -167,7 +169,7 @@ switch_step s (more_arms a b l arms) from i u ty v' laws far_apart typed e =
           document = q.document;
           ty = q.ty;
           carried = past_arm f ∙ q.carried;
-          among = far_arm_name s a b l arms q.to ∙ or_later (bytes_eq q.to (far s a b)) (has_name q.to (arm_names (other s) arms)) q.among;
+          among = far_arm_name s a b l arms q.to ∙ or_second (bytes_eq q.to (far s a b)) (has_name q.to (arm_names (other s) arms)) q.among;
           typed = far_tag_type s a b l arms q.to ∙ later_type (far s a b) q.to (type_on (other s) l) (lookup_type (tags_on (other s) arms) q.to) q.ty (differs_back q.to (far s a b) far_off) q.typed;
           acts = q.acts;
           related = inr q.related;

@@ -1,6 +1,6 @@
 -- The laws of alternatives, from those of the lenses of their arms.
-use Rattle.std.proofs.Common.{◌≡◌, ◌⊎◌, ◌∙◌, inl, inr, ℕ, Bool, true, false, List, Option, None, Some, Result, Ok, Err, refl, ap, sym, subst}
-use Rattle.std.specs.Prelude.{bytes_eq, cond}
+use Rattle.std.proofs.Common.{◌≡◌, ◌⊎◌, ◌∙◌, inl, inr, ℕ, true, List, Option, None, Some, Result, Ok, refl, ap, sym, subst}
+use Rattle.std.specs.Prelude.{bytes_eq}
 use Rattle.texts.specs.declared.side.Side.{Side}
 use Rattle.texts.specs.declared.side.Side.TheVariants.{Left, Right}
 use Rattle.texts.specs.Sides.{other}
@@ -12,7 +12,7 @@ use Rattle.doc_values.proofs.InitialTypes.{has_initial}
 use Rattle.edit_module.specs.declared.fault.Cause.{Cause}
 use Rattle.edit_module.specs.declared.fault.Cause.TheVariants.{Tag}
 use Rattle.edit_module.specs.Words.{PrimitiveTree, set as set_to, add, splice, at, stay, switch, modify, shape, WordTree, no_primitives, more_primitives}
-use Rattle.edit_module.specs.Action.{Why, act, act_primitive, map_ok, if_present, inner}
+use Rattle.edit_module.specs.Action.{act, act_primitive, map_ok, if_present, inner}
 use Rattle.edit_module.proofs.ActionKeepsTypes.{has_primitive, has_act}
 use Rattle.lens_forms.specs.Forms.{form_alt, ArmTrees, no_arms, more_arms, left_type, left_tags, right_type, right_tags}
 use Rattle.lens_core.specs.Sides.{near, type_on}
@@ -21,11 +21,13 @@ use Rattle.lens_core.specs.Complements.{CompTree, alt_comp, missing}
 use Rattle.lens_core.specs.Consistency.{IsConsistent, AreAlternatives, IsInArm}
 use Rattle.lens_core.specs.Translation.{translate_one, translate_switch, far_tag}
 use Rattle.lens_core.specs.Laws.{IsRelated, Carries, Laws}
-use Rattle.lens_core.proofs.LawsOfLeaves.{bytes_are, bytes_same}
 use Rattle.lens_branch.specs.Branches.{AreLawfulAlternatives}
 use Rattle.lens_branch.proofs.Triples.{carries_at}
-use Rattle.lens_branch.proofs.Arms.{AreApart, ArmIs, arm_fits, arm_left, arm_right, from_left, from_right, tags_on}
+use Rattle.lens_core.proofs.Arms.{AreApart, ArmIs, arm_fits, arm_left, arm_right, from_left, from_right, tags_on}
 use Rattle.lens_branch.proofs.ArmSteps.{far_tag_is, stay_step, switch_step}
+use Rattle.texts.proofs.Tests.{bytes_eq-is}
+use Rattle.texts.proofs.KeyOrder.{bytes_eq-refl}
+use Rattle.lens_core.proofs.Results.{tag_ok, content_ok}
 
 -- ---- a consistent triple taken apart, and put together again
 
@@ -118,31 +120,23 @@ record Switches (fs : FieldTrees) (i : List ℕ) (p : PrimitiveTree) (x' : DocTr
   acts : act ty word (initial ty) ≡ Ok content
   result : x' ≡ alt to content
 
-content_ok : (i : List ℕ) (r : Result DocTree Why) (x' : DocTree) → map_ok (alt i) (inner r) ≡ Ok x' → (v : DocTree) × (r ≡ Ok v) × (x' ≡ alt i v)
-content_ok i (Ok v) x' h = (v, refl, cc)
-content_ok i (Err why) x' h = cc
-
 present_ok : (o : Option TyTree) (go : TyTree → Result DocTree Cause) (x' : DocTree) → if_present o Tag go ≡ Ok x' → (t : TyTree) × (o ≡ Some t) × (go t ≡ Ok x')
 present_ok None go x' h = cc
 present_ok (Some t) go x' h = (t, refl, h)
-
-tag_ok : (b : Bool) (r : Result DocTree Cause) (x' : DocTree) → cond b r (Err Tag) ≡ Ok x' → (b ≡ true) × (r ≡ Ok x')
-tag_ok true r x' h = (refl, h)
-tag_ok false r x' h = cc
 
 stay_acted : (fs : FieldTrees) (i t : List ℕ) (v : DocTree) (w : WordTree) (x' : DocTree) → act_primitive (ty_alt fs) (stay t w) (alt i v) ≡ Ok x' → Stays fs i v (stay t w) x'
 stay_acted fs i t v w x' e =
     let a = tag_ok (bytes_eq t i) (if_present (lookup_type fs i) Tag (λ ty. map_ok (alt i) (inner (act ty w v)))) x' e in
     let b = present_ok (lookup_type fs i) (λ ty. map_ok (alt i) (inner (act ty w v))) x' a.1 in
     let c = content_ok i (act b.0 w v) x' b.2 in
-    record { word = w; ty = b.0; content = c.0; is = ap (λ z. stay z w) (bytes_are t i a.0); found = b.1; acts = c.1; result = c.2 }
+    record { word = w; ty = b.0; content = c.0; is = ap (λ z. stay z w) (bytes_eq-is t i a.0); found = b.1; acts = c.1; result = c.2 }
 
 switch_acted : (fs : FieldTrees) (i m n : List ℕ) (v : DocTree) (w : WordTree) (x' : DocTree) → act_primitive (ty_alt fs) (switch m n w) (alt i v) ≡ Ok x' → Switches fs i (switch m n w) x'
 switch_acted fs i m n v w x' e =
     let a = tag_ok (bytes_eq m i) (if_present (lookup_type fs n) Tag (λ ty. map_ok (alt n) (inner (act ty w (initial ty))))) x' e in
     let b = present_ok (lookup_type fs n) (λ ty. map_ok (alt n) (inner (act ty w (initial ty)))) x' a.1 in
     let c = content_ok n (act b.0 w (initial b.0)) x' b.2 in
-    record { to = n; word = w; ty = b.0; content = c.0; is = ap (λ z. switch z n w) (bytes_are m i a.0); found = b.1; acts = c.1; result = c.2 }
+    record { to = n; word = w; ty = b.0; content = c.0; is = ap (λ z. switch z n w) (bytes_eq-is m i a.0); found = b.1; acts = c.1; result = c.2 }
 
 acts_on_alt : (fs : FieldTrees) (i : List ℕ) (v : DocTree) (p : PrimitiveTree) (x' : DocTree) → act_primitive (ty_alt fs) p (alt i v) ≡ Ok x' → Stays fs i v p x' ⊎ Switches fs i p x'
 acts_on_alt fs i v (stay t w) x' e = inl (stay_acted fs i t v w x' e)
@@ -157,10 +151,10 @@ acts_on_alt fs i v (shape a) x' e = cc
 -- the far words act
 stay_acts : (fs : FieldTrees) (j : List ℕ) (w : DocTree) (u : WordTree) (ty : TyTree) (w' : DocTree) → lookup_type fs j ≡ Some ty → act ty u w ≡ Ok w' → act (ty_alt fs) (stay_word j u) (alt j w) ≡ Ok (alt j w')
 stay_acts fs j w no_primitives ty w' e f = let same : w ≡ w' = cc in ap (λ z. Ok (alt j z)) same
-stay_acts fs j w (more_primitives p u) ty w' e f = rw (bytes_same j) (rw e (rw f refl))
+stay_acts fs j w (more_primitives p u) ty w' e f = rw (bytes_eq-refl j) (rw e (rw f refl))
 
 switch_acts : (fs : FieldTrees) (j k : List ℕ) (w : DocTree) (u : WordTree) (ty : TyTree) (w' : DocTree) → lookup_type fs k ≡ Some ty → act ty u (initial ty) ≡ Ok w' → act (ty_alt fs) (switch_word j k u) (alt j w) ≡ Ok (alt k w')
-switch_acts fs j k w u ty w' e f = rw (bytes_same j) (rw e (rw f refl))
+switch_acts fs j k w u ty w' e f = rw (bytes_eq-refl j) (rw e (rw f refl))
 
 -- ---- the step
 

@@ -21,15 +21,17 @@ use Rattle.lens_core.specs.Complements.{CompTree, rec_comp, CompTrees, comp_coun
 use Rattle.lens_core.specs.Consistency.{IsConsistent, content, AreRecords, AreConsistentRows}
 use Rattle.lens_core.specs.Translation.{translate_one, translate_at}
 use Rattle.lens_core.specs.Laws.{IsRelated, Carries, Laws}
-use Rattle.lens_core.proofs.Results.{some_same}
 use Rattle.doc_values.proofs.FieldPlaces.{lookup_type_place}
-use Rattle.lens_core.proofs.LawsOfLeaves.{bytes_same, differs_back}
+use Rattle.lens_core.proofs.LawsOfLeaves.{differs_back}
 use Rattle.lens_branch.specs.Branches.{RowLaws, IsLawfulRecord}
-use Rattle.lens_core.proofs.NameTests.{not_that, or_later}
+use Rattle.lens_core.proofs.NameTests.{not_that}
 use Rattle.lens_core.proofs.RecordFields.{ActsOnField, acts_on_field, content-found, content-initial, content-put, field_acts, with_content, type_on-rec}
 use Rattle.lens_branch.proofs.Triples.{carries_at}
-use Rattle.lens_branch.proofs.RecordRows.{AreApart, RowsAre, head_apart, head_left, head_right, left_tail_apart, near_name, right_tail_apart, row_type, row_type-is, rows_count, rows_fit, rows_from_left, rows_from_right, rows_left, rows_right, tail_apart}
+use Rattle.lens_core.proofs.RecordRows.{AreApart, RowsAre, head_apart, head_left, head_right, left_tail_apart, near_name, right_tail_apart, row_type, row_type-is, rows_count, rows_fit, rows_from_left, rows_from_right, rows_left, rows_right, tail_apart}
 use Rattle.lens_branch.proofs.RowSteps.{IsAloneStep, IsPairedStep, RowStep, row_step}
+use Rattle.std.proofs.lemmas.Option.{same_Some}
+use Rattle.texts.proofs.Tests.{or_second}
+use Rattle.texts.proofs.KeyOrder.{bytes_eq-refl}
 
 -- ---- the step of a record
 
@@ -121,7 +123,7 @@ paired_carries rows s xs cs ys p x' r q =
     let k = r.field in
     let fs = fields_on (other s) rows in
     let spot = lookup_type_place fs q.name q.ty (row_type-is (other s) rows q.name ∙ q.typed) in
-    let same : doc_at ys spot.0.0 ≡ q.before = some_same (doc_at ys spot.0.0) q.before (sym (content-found fs ys q.name spot.0 r.far_has spot.1) ∙ q.there) in
+    let same : doc_at ys spot.0.0 ≡ q.before = same_Some (doc_at ys spot.0.0) q.before (sym (content-found fs ys q.name spot.0 r.far_has spot.1) ∙ q.there) in
     let acts : act spot.0.1 q.word (doc_at ys spot.0.0) ≡ Ok q.behind = subst (λ t. act t q.word (doc_at ys spot.0.0) ≡ Ok q.behind) (sym spot.2) (subst (λ z. act q.ty q.word z ≡ Ok q.behind) (sym same) q.acts) in
     let far_acts = field_acts fs ys q.name q.word spot.0 q.behind spot.1 acts in
     let far_new = has_act (ty_rec fs) (at_word q.name q.word) (rec ys) (rec (put_at ys spot.0.0 q.behind)) r.sound r.far_has far_acts in
@@ -197,22 +199,22 @@ abbrev AreInitial : Side → RowTrees → (List ℕ → Option DocTree) → Type
 AreInitial s rows f = (n : List ℕ) → has_name n (names_on s rows) ≡ true → f n ≡ option_map initial (row_type s rows n)
 
 initial_here : (s : Side) (a b : List ℕ) (l : FormTree) (rows : RowTrees) (f : List ℕ → Option DocTree) → AreInitial s (both a b l rows) f → f (near s a b) ≡ Some (initial (type_on s l))
-initial_here s a b l rows f h = h (near s a b) (near_name s a b l rows (near s a b) ∙ rw (bytes_same (near s a b)) refl) ∙ rw (bytes_same (near s a b)) refl
+initial_here s a b l rows f h = h (near s a b) (near_name s a b l rows (near s a b) ∙ rw (bytes_eq-refl (near s a b)) refl) ∙ rw (bytes_eq-refl (near s a b)) refl
 
 initial_later : (s : Side) (a b : List ℕ) (l : FormTree) (rows : RowTrees) (f : List ℕ → Option DocTree) → AreApart s (both a b l rows) → AreInitial s (both a b l rows) f → AreInitial s rows f
 initial_later s a b l rows f apart h n e =
     let unlike = differs_back n (near s a b) (not_that n (near s a b) (names_on s rows) (head_apart s a b l rows apart) e) in
-    h n (near_name s a b l rows n ∙ or_later (bytes_eq n (near s a b)) (has_name n (names_on s rows)) e) ∙ rw unlike refl
+    h n (near_name s a b l rows n ∙ or_second (bytes_eq n (near s a b)) (has_name n (names_on s rows)) e) ∙ rw unlike refl
 
 initial_past_left : (s : Side) (a : List ℕ) (t : TyTree) (rows : RowTrees) (f : List ℕ → Option DocTree) → AreApart s (only_left a t rows) → AreInitial s (only_left a t rows) f → AreInitial s rows f
 initial_past_left Left a t rows f apart h n e =
-    let unlike = differs_back n a (not_that n a (left_names rows) (head_left a t rows apart) e) in h n (or_later (bytes_eq n a) (has_name n (left_names rows)) e) ∙ rw unlike refl
+    let unlike = differs_back n a (not_that n a (left_names rows) (head_left a t rows apart) e) in h n (or_second (bytes_eq n a) (has_name n (left_names rows)) e) ∙ rw unlike refl
 initial_past_left Right a t rows f apart h n e = h n e
 
 initial_past_right : (s : Side) (b : List ℕ) (t : TyTree) (rows : RowTrees) (f : List ℕ → Option DocTree) → AreApart s (only_right b t rows) → AreInitial s (only_right b t rows) f → AreInitial s rows f
 initial_past_right Left b t rows f apart h n e = h n e
 initial_past_right Right b t rows f apart h n e =
-    let unlike = differs_back n b (not_that n b (right_names rows) (head_right b t rows apart) e) in h n (or_later (bytes_eq n b) (has_name n (right_names rows)) e) ∙ rw unlike refl
+    let unlike = differs_back n b (not_that n b (right_names rows) (head_right b t rows apart) e) in h n (or_second (bytes_eq n b) (has_name n (right_names rows)) e) ∙ rw unlike refl
 
 rows_start : (rows : RowTrees) → RowLaws rows → AreApart Left rows → AreApart Right rows → (f g : List ℕ → Option DocTree) → AreInitial Left rows f → AreInitial Right rows g
     → RowsAre Left rows f (missing_rows rows) g

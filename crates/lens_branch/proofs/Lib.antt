@@ -1,13 +1,11 @@
 pub mod AlternativeRounds
 pub mod ArmSearch
 pub mod ArmSteps
-pub mod Arms
 pub mod EmittedWords
 pub mod LawsOfAlternatives
 pub mod LawsOfRecords
 pub mod NilPlaces
 pub mod RecordRounds
-pub mod RecordRows
 pub mod RowSearch
 pub mod RowSteps
 pub mod Triples

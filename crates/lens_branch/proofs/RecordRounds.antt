@@ -4,7 +4,6 @@ use Rattle.std.specs.Prelude.{option_and_then, nat_eq, bytes_eq, cond}
 use Rattle.texts.specs.declared.side.Side.{Side}
 use Rattle.texts.specs.declared.side.Side.TheVariants.{Left, Right}
 use Rattle.edit_module.specs.Words.{PrimitiveTree, set as set_to, add, splice, at, stay, switch, modify, shape, WordTree, no_primitives}
-use Rattle.edit_module.proofs.ActionKeepsTypes.{count-is}
 use Rattle.lens_forms.specs.Forms.{FormTree, form_rec, RowTrees, no_rows, both, only_left, only_right, RowTree, row_both, row_left, row_right, row_list, paired_rows}
 use Rattle.lens_core.specs.Sides.{near, far}
 use Rattle.lens_core.specs.Emitted.{at_word}
@@ -13,6 +12,7 @@ use Rattle.lens_core.specs.Translation.{Translated, translate_one, translate, tr
 use Rattle.lens_core.proofs.ComplementTrees.{comps_of-comp_list}
 use Rattle.lens_core.specs.Beginnings.{inside, carried_on}
 use Rattle.lens_branch.specs.RecordSteps.{has_near, pairs_of, RowAt, row_behind, row_of, begin_row, begin_in, begin_record, finish_row, finish_in, finish_record, row_lens, row_translation}
+use Rattle.std.proofs.lemmas.Bool.{eqb-true}
 
 -- ---- what the row of a field translates
 
@@ -172,7 +172,7 @@ at_round : (rows : RowTrees) (side : Side) (cs : CompTrees) (f : List ℕ) (u : 
     → cond b (option_map in_record (translate_at rows side f u cs)) None
     ≡ option_and_then (carried_on (row_translation rows side) (finish_record rows side cs (at f u))) (cond b (option_map (begin_in cs u) (row_of (row_list rows) side f)) None)
 at_round rows side cs f u true e =
-    ap (option_map in_record) (rows_translate side f u rows cs (count-is (comp_count cs) (paired_rows rows) e))
+    ap (option_map in_record) (rows_translate side f u rows cs (eqb-true (comp_count cs) (paired_rows rows) e))
     ∙ found_round rows side f cs u (row_of (row_list rows) side f) refl
 at_round rows side cs f u false e = refl
 

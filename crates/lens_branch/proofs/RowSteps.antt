@@ -17,12 +17,14 @@ use Rattle.lens_core.specs.Complements.{CompTree, CompTrees, no_comps, more_comp
 use Rattle.lens_core.specs.Translation.{translate, translate_at}
 use Rattle.lens_core.specs.Laws.{Laws}
 use Rattle.lens_core.proofs.LawsOfWords.{edits_carry}
-use Rattle.lens_core.proofs.Results.{some_same}
-use Rattle.lens_core.proofs.LawsOfLeaves.{bytes_are, bytes_same, differs_back}
+use Rattle.lens_core.proofs.LawsOfLeaves.{differs_back}
 use Rattle.lens_branch.specs.Branches.{RowLaws}
-use Rattle.lens_core.proofs.NameTests.{not_that, or_later}
+use Rattle.lens_core.proofs.NameTests.{not_that}
 use Rattle.lens_core.proofs.RecordFields.{with_content}
-use Rattle.lens_branch.proofs.RecordRows.{AreApart, RowsAre, far_head_apart, far_left_tail, far_name, far_right_tail, far_tail, head_apart, head_left, head_right, keep_there, left_tail_apart, right_tail_apart, row_type, rows_keep_far, rows_keep_near, tail_apart}
+use Rattle.lens_core.proofs.RecordRows.{AreApart, RowsAre, far_head_apart, far_left_tail, far_name, far_right_tail, far_tail, head_apart, head_left, head_right, keep_there, left_tail_apart, right_tail_apart, row_type, rows_keep_far, rows_keep_near, tail_apart}
+use Rattle.std.proofs.lemmas.Option.{same_Some}
+use Rattle.texts.proofs.Tests.{or_second, bytes_eq-is}
+use Rattle.texts.proofs.KeyOrder.{bytes_eq-refl}
 
 -- ---- a word in one field
 
@@ -50,8 +52,8 @@ abbrev pub RowStep : Side → RowTrees → (List ℕ → Option DocTree) → (Li
 RowStep s rows f g cs n u x' = IsPairedStep s rows f g cs n u x' ⊎ IsAloneStep s rows f g cs n u x'
 
 far_typed : (s : Side) (a b : List ℕ) (l : FormTree) (rows : RowTrees) → row_type (other s) (both a b l rows) (far s a b) ≡ Some (type_on (other s) l)
-far_typed Left a b l rows = rw (bytes_same b) refl
-far_typed Right a b l rows = rw (bytes_same a) refl
+far_typed Left a b l rows = rw (bytes_eq-refl b) refl
+far_typed Right a b l rows = rw (bytes_eq-refl a) refl
 
 far_typed_later : (s : Side) (a b : List ℕ) (l : FormTree) (rows : RowTrees) (m : List ℕ) → bytes_eq (far s a b) m ≡ false → row_type (other s) (both a b l rows) m ≡ row_type (other s) rows m
 far_typed_later Left a b l rows m h = rw h refl
@@ -74,8 +76,8 @@ step_here : (s : Side) (a b : List ℕ) (l : FormTree) (rows : RowTrees) → Law
     → (n : List ℕ) (u : WordTree) (x x' : DocTree) → bytes_eq (near s a b) n ≡ true → f n ≡ Some x → act (type_on s l) u x ≡ Ok x'
     → IsPairedStep s (both a b l rows) f g (more_comps c cs) n u x'
 step_here s a b l rows laws apart far_apart f g c cs h n u x x' is at_n acts =
-    let same_name : near s a b ≡ n = bytes_are (near s a b) n is in
-    let same : h.0.0 ≡ x = some_same h.0.0 x (sym h.0.2 ∙ (ap f same_name ∙ at_n)) in
+    let same_name : near s a b ≡ n = bytes_eq-is (near s a b) n is in
+    let same : h.0.0 ≡ x = same_Some h.0.0 x (sym h.0.2 ∙ (ap f same_name ∙ at_n)) in
     let r = edits_carry l laws s u h.0.0 c h.0.1 x' h.0.4 (subst (λ z. act (type_on s l) u z ≡ Ok x') (sym same) acts) in
     record {
       name = far s a b;
@@ -84,13 +86,13 @@ step_here s a b l rows laws apart far_apart f g c cs h n u x x' is at_n acts =
       ty = type_on (other s) l;
       before = h.0.1;
       behind = r.document;
-      among = rw (far_name s a b l rows (far s a b), bytes_same (far s a b)) refl;
+      among = rw (far_name s a b l rows (far s a b), bytes_eq-refl (far s a b)) refl;
       typed = far_typed s a b l rows;
       there = h.0.3;
       acts = r.acts;
       translated = translate_here s a b l rows c cs n u r.word r.comp is r.carried;
       related = (
-        (x', r.document, put_there n (near s a b) x' f (subst (λ z. bytes_eq n z ≡ true) (sym same_name) (bytes_same n)), put_there (far s a b) (far s a b) r.document g (bytes_same (far s a b)), r.consistent),
+        (x', r.document, put_there n (near s a b) x' f (subst (λ z. bytes_eq n z ≡ true) (sym same_name) (bytes_eq-refl n)), put_there (far s a b) (far s a b) r.document g (bytes_eq-refl (far s a b)), r.consistent),
         rows_keep_near s rows f (with_content (far s a b) r.document g) (cs) n x' (subst (λ z. has_name z (names_on s rows) ≡ false) same_name (head_apart s a b l rows apart))
             (rows_keep_far s rows f g cs (far s a b) r.document (far_head_apart s a b l rows far_apart) h.1),
       );
@@ -204,11 +206,11 @@ left_step Left a ty rows apart far_apart again f g cs h n u x x' t at_n typed ac
     go : (q : Bool) → bytes_eq a n ≡ q → cond q (Some ty) (row_type Left rows n) ≡ Some t → RowStep Left (only_left a ty rows) f g cs n u x'
     go true e k =
         alone_here Left rows f g cs n u x' (only_left a ty rows) (rw e refl)
-        (rows_keep_near Left rows f g cs n x' (subst (λ z. has_name z (left_names rows) ≡ false) (bytes_are a n e) (head_left a ty rows apart)) h)
+        (rows_keep_near Left rows f g cs n x' (subst (λ z. has_name z (left_names rows) ≡ false) (bytes_eq-is a n e) (head_left a ty rows apart)) h)
     go false e k =
         past_left Left a ty rows f g cs n u x' (rw e refl) (λ m i. i) (λ m y i j. j) (again f g cs h n u x x' t at_n k acts)
 left_step Right a ty rows apart far_apart again f g cs h n u x x' t at_n typed acts =
-    past_left Right a ty rows f g cs n u x' refl (λ m i. or_later (bytes_eq m a) (has_name m (left_names rows)) i)
+    past_left Right a ty rows f g cs n u x' refl (λ m i. or_second (bytes_eq m a) (has_name m (left_names rows)) i)
     (λ m y i j. type_later a m (left_names rows) ty y (row_type Left rows m) (head_left a ty rows far_apart) i j) (again f g cs h n u x x' t at_n typed acts)
 
 right_step : (s : Side) (b : List ℕ) (ty : TyTree) (rows : RowTrees) → AreApart s (only_right b ty rows) → AreApart (other s) (only_right b ty rows) → StepOf s rows → StepOf s (only_right b ty rows)
@@ -217,11 +219,11 @@ right_step Right b ty rows apart far_apart again f g cs h n u x x' t at_n typed 
     go : (q : Bool) → bytes_eq b n ≡ q → cond q (Some ty) (row_type Right rows n) ≡ Some t → RowStep Right (only_right b ty rows) f g cs n u x'
     go true e k =
         alone_here Right rows f g cs n u x' (only_right b ty rows) (rw e refl)
-        (rows_keep_near Right rows f g cs n x' (subst (λ z. has_name z (right_names rows) ≡ false) (bytes_are b n e) (head_right b ty rows apart)) h)
+        (rows_keep_near Right rows f g cs n x' (subst (λ z. has_name z (right_names rows) ≡ false) (bytes_eq-is b n e) (head_right b ty rows apart)) h)
     go false e k =
         past_right Right b ty rows f g cs n u x' (rw e refl) (λ m i. i) (λ m y i j. j) (again f g cs h n u x x' t at_n k acts)
 right_step Left b ty rows apart far_apart again f g cs h n u x x' t at_n typed acts =
-    past_right Left b ty rows f g cs n u x' refl (λ m i. or_later (bytes_eq m b) (has_name m (right_names rows)) i)
+    past_right Left b ty rows f g cs n u x' refl (λ m i. or_second (bytes_eq m b) (has_name m (right_names rows)) i)
     (λ m y i j. type_later b m (right_names rows) ty y (row_type Right rows m) (head_right b ty rows far_apart) i j) (again f g cs h n u x x' t at_n typed acts)
 
 no_step : (s : Side) → StepOf s no_rows

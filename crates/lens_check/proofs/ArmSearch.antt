@@ -1,11 +1,11 @@
 -- The arms of alternatives, as the code goes through them one after the other.
-use Rattle.std.proofs.Common.{◌≡◌, ℕ, zero, suc, ◌+◌, ◌<◌, ◌≤◌, true, false, List, [], ◌∷◌, length, map, drop, drop-cons, get_or, add-one, None, Some, refl, sym, arith}
+use Rattle.std.proofs.Common.{◌≡◌, ℕ, ◌+◌, ◌<◌, ◌≤◌, true, false, List, [], ◌∷◌, length, map, drop, drop-cons, get_or, add-one, None, Some, refl, sym}
 use Rattle.std.specs.Prelude.{bytes_eq}
 use Rattle.std.proofs.lemmas.List.{drop_all}
-use Rattle.lens_forms.specs.Forms.{form_arms_of, arm_tree, form_tree}
-use Rattle.lens_forms.specs.Measures.{form_parts, arms_parts}
+use Rattle.lens_forms.specs.Forms.{form_arms_of, arm_tree}
 use Rattle.lens_forms.specs.declared.form.Form.{Form}
 use Rattle.lens_check.specs.ImageParts.{first_arm}
+use Rattle.lens_forms.proofs.ArmParts.{parts_below}
 
 -- an arm with the tag ends the search
 pub arm_here : (arms : List (List ℕ × List ℕ × Form)) (t : List ℕ) (i : ℕ) (a : List ℕ × List ℕ × Form) → i < length arms → a ≡ get_or arms i a
@@ -21,11 +21,4 @@ arm_next arms t i a h is e = rw (drop-cons arms i a h, sym is, e, add-one) refl
 pub arm_none : (arms : List (List ℕ × List ℕ × Form)) (t : List ℕ) (i : ℕ) → length arms ≤ i → first_arm (form_arms_of (map arm_tree (drop i arms))) t ≡ None
 arm_none arms t i h = rw (drop_all i arms h) refl
 
--- the form of an arm has fewer parts than the arms
-pub arm_within : (arms : List (List ℕ × List ℕ × Form)) (i : ℕ) (a : List ℕ × List ℕ × Form) → i < length arms → a ≡ get_or arms i a
-    → form_parts (form_tree a.2) < arms_parts (form_arms_of (map arm_tree arms))
-arm_within [] i a h is = absurd (omega arith)
-arm_within (b ∷ arms) zero a h is = rw is (omega arith)
-arm_within (b ∷ arms) (suc i) a h is = let rest : form_parts (form_tree a.2) < arms_parts (form_arms_of (map arm_tree arms)) = arm_within arms i a (omega arith) is in omega (arith, rest)
-
-pub ruleset arm_rules = (arm_here, arm_next, arm_none, arm_within)
+pub ruleset arm_rules = (arm_here, arm_next, arm_none, parts_below)

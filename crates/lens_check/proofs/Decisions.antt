@@ -18,6 +18,7 @@ use Rattle.image_laws.specs.ImageLaws.{IsExactImage}
 use Rattle.image_laws.proofs.ExactImages.{decides_consistency, images_are_exact}
 use Rattle.image_laws.proofs.TypedPatterns.{match_self, pattern_typed}
 use Rattle.lens_check.specs.TypedTriples.{AreTyped}
+use Rattle.image_laws.proofs.PatternsOfItems.{same_pattern}
 
 -- the three tests
 pub typed_test : (a f b : Bool) (l : FormTree) (x : DocTree) (c : CompTree) (y : DocTree) → a ≡ has (left_type l) x → (IsTrue f ↔ Fits l c) → b ≡ has (right_type l) y
@@ -40,9 +41,6 @@ not_typed l x c y t h =
 pub whole_typed : (t : FormTree) (x : DocTree) → has (left_type t) x ≡ true → is_of_type (pattern_of x) (type_on Left t) ≡ true
 whole_typed l x h = pattern_typed (pattern_of x) (left_type l) x h (match_self x)
 
-same_some : (p q : PatternTree) → Some p ≡ Some q → p ≡ q
-same_some p q e = cc
-
 -- without an image nothing is consistent
 pub no_image : (l : FormTree) (x : DocTree) (c : CompTree) (y : DocTree) → is_typed l ≡ true → image l Left c (pattern_of x) ≡ None → IsTrue false ↔ IsConsistent l x c y
 no_image l x c y t e = ((λ h. cc), (λ k. let i = (decides_consistency l t).judged x c y k in let n : None ≡ Some i.2 = sym e ∙ i.3 in cc))
@@ -54,7 +52,7 @@ in_image b l x c y q t a e m = (
   (λ h. (decides_consistency l t).consistent x c y (a.left_has, a.comp_fits, q, e, (a.right_has, m.0 h))),
   (λ k.
       let i = (decides_consistency l t).judged x c y k in
-      m.1 (subst (λ p. Matches p y) (same_some i.2 q (sym i.3 ∙ e)) i.4.1)),
+      m.1 (subst (λ p. Matches p y) (same_pattern i.2 q (sym i.3 ∙ e)) i.4.1)),
 )
 
 -- both cases, as a call of `image` gives them

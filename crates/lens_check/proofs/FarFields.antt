@@ -1,5 +1,5 @@
 -- The far fields of a record: they come in the order of the rows, and each is put at its place.
-use Rattle.std.proofs.Common.{◌≡◌, ◌∙◌, ℕ, zero, suc, ◌+◌, ◌<◌, ◌≤◌, Bool, true, false, List, [], ◌∷◌, length, map, drop, drop-cons, get_or, add-one, Option, None, Some, option_map, refl, ap, sym, subst, arith, rules}
+use Rattle.std.proofs.Common.{◌≡◌, ◌∙◌, ℕ, zero, suc, ◌+◌, ◌<◌, ◌≤◌, Bool, true, false, List, [], ◌∷◌, length, map, drop, drop-cons, get_or, add-one, Option, None, Some, option_map, refl, ap, sym, subst, arith}
 use Rattle.std.specs.List.{insert}
 use Rattle.std.specs.Prelude.{◌||◌, bytes_eq, not, option_and_then}
 use Rattle.std.proofs.lemmas.List.{drop_all}
@@ -12,15 +12,12 @@ use Rattle.doc_values.specs.Types.{FieldTrees, no_fields, more_fields, names_of,
 use Rattle.doc_values.specs.declared.ty.Ty.{Ty}
 use Rattle.lens_forms.specs.Forms.{FormTree, form_tree, form_rec, RowTrees, no_rows, both, only_left, only_right, RowTree, row_both, row_left, row_right, row_tree, with_row, form_rows_of}
 use Rattle.lens_forms.specs.declared.form.Form.{Form}
-use Rattle.lens_forms.specs.declared.form.FormRow.{FormRow, the_lemmas as row_lemmas}
+use Rattle.lens_forms.specs.declared.form.FormRow.{FormRow}
 use Rattle.lens_forms.specs.declared.form.FormRow.TheVariants.{Both, OnlyLeft, OnlyRight}
-use Rattle.lens_forms.proofs.SortedFields.{not_not}
 use Rattle.lens_forms.proofs.TreesOfRows.{row_tree-both, rows_from, next_both, next_left, next_right}
 use Rattle.lens_core.specs.Complements.{nil, rec_comp, CompTrees, no_comps, more_comps, comps_of, comp_list, comp_count}
 use Rattle.lens_core.specs.Sides.{near, far, fields_on, names_on}
 use Rattle.lens_core.proofs.ComplementTrees.{comps_of-comp_list, comp_count-length}
-use Rattle.lens_core.proofs.LawsOfLeaves.{bytes_same}
-use Rattle.lens_core.proofs.NameTests.{or_later}
 use Rattle.image_laws.specs.Image.{image, image_rows, with_named, named, patterns_by_name}
 use Rattle.image_laws.specs.Patterns.{PatternTree, hole, rec_pattern, patterns_from, pattern_list, in_order}
 use Rattle.image_laws.proofs.PatternLists.{patterns_from-pattern_list}
@@ -28,6 +25,10 @@ use Rattle.lens_check.specs.ImageParts.{place_among, if_far}
 use Rattle.lens_check.specs.ReadyComplements.{IsReady, AreReadyRows}
 use Rattle.lens_check.proofs.SortedNames.{insert_name, sort_names, put_names, put_sorted, insert-place, insert-place-name}
 use Rattle.lens_check.proofs.FieldPlaces.{fields_on-names}
+use Rattle.std.proofs.lemmas.Bool.{not-true}
+use Rattle.std.proofs.lemmas.Option.{same_Some}
+use Rattle.texts.proofs.Tests.{or_second}
+use Rattle.texts.proofs.KeyOrder.{bytes_eq-refl}
 
 -- ---- named patterns put at their places
 
@@ -66,8 +67,8 @@ agrees_more m v qs (r ∷ rs) h a = go (bytes_eq m r.0) refl h (λ k. agrees_mor
 distinct_agrees : (qs : List (List ℕ × PatternTree)) → are_distinct (first_names qs) ≡ true → Agrees (named qs) qs
 distinct_agrees [] h = tt
 distinct_agrees (q ∷ qs) h = (
-  rw (bytes_same q.0) refl,
-  agrees_more q.0 q.1 qs qs (not_not (has_name q.0 (first_names qs)) (first_and (not (has_name q.0 (first_names qs))) (are_distinct (first_names qs)) h))
+  rw (bytes_eq-refl q.0) refl,
+  agrees_more q.0 q.1 qs qs (not-true (has_name q.0 (first_names qs)) (first_and (not (has_name q.0 (first_names qs))) (are_distinct (first_names qs)) h))
       (distinct_agrees qs (second_and (not (has_name q.0 (first_names qs))) (are_distinct (first_names qs)) h)),
 )
 
@@ -77,9 +78,6 @@ in_order-map (more_fields n t fs) at = ap (λ z. at n ∷ z) (in_order-map fs at
 
 -- ---- the names of the far fields
 
-pub some_is : {A : Type 0} (a b : A) → Some a ≡ Some b → a ≡ b
-some_is a b e = cc
-
 paired_names : (s : Side) (a b : List ℕ) (l : FormTree) (rows : RowTrees) → names_on (other s) (both a b l rows) ≡ far s a b ∷ names_on (other s) rows
 paired_names Left a b l rows = refl
 paired_names Right a b l rows = refl
@@ -87,12 +85,12 @@ paired_names Right a b l rows = refl
 one_more : (n : List ℕ) (q : PatternTree) (o : Option (List (List ℕ × PatternTree))) (ns : List (List ℕ)) (qs : List (List ℕ × PatternTree))
     → option_map (with_named n q) o ≡ Some qs → ((rs : List (List ℕ × PatternTree)) → o ≡ Some rs → first_names rs ≡ ns) → first_names qs ≡ n ∷ ns
 one_more n q None ns qs e again = cc
-one_more n q (Some rs) ns qs e again = subst (λ z. first_names z ≡ n ∷ ns) (some_is ((n, q) ∷ rs) qs e) (ap (λ z. n ∷ z) (again rs refl))
+one_more n q (Some rs) ns qs e again = subst (λ z. first_names z ≡ n ∷ ns) (same_Some ((n, q) ∷ rs) qs e) (ap (λ z. n ∷ z) (again rs refl))
 
 rows_named : (rows : RowTrees) (s : Side) (cs : CompTrees) (at : List ℕ → PatternTree) (qs : List (List ℕ × PatternTree)) → image_rows rows s cs at ≡ Some qs
     → first_names qs ≡ names_on (other s) rows
-rows_named no_rows Left cs at qs e = subst (λ z. first_names z ≡ []) (some_is [] qs e) refl
-rows_named no_rows Right cs at qs e = subst (λ z. first_names z ≡ []) (some_is [] qs e) refl
+rows_named no_rows Left cs at qs e = subst (λ z. first_names z ≡ []) (same_Some [] qs e) refl
+rows_named no_rows Right cs at qs e = subst (λ z. first_names z ≡ []) (same_Some [] qs e) refl
 rows_named (both a b l rows) s no_comps at qs e = cc
 rows_named (both a b l rows) s (more_comps c cs) at qs e = go (image l s c (at (near s a b))) e (λ rs k. rows_named rows s cs at rs k) ∙ sym (paired_names s a b l rows)
   where
@@ -220,16 +218,16 @@ ready_right rows cs i r b t h is row ready = subst (λ z. AreReadyRows z cs) (ne
 -- ---- the near field of a paired row is one of its side
 
 first_has : (s : Side) (a b : List ℕ) (l : FormTree) (rows : RowTrees) → has_name (near s a b) (names_on s (both a b l rows)) ≡ true
-first_has Left a b l rows = rw (bytes_same a) refl
-first_has Right a b l rows = rw (bytes_same b) refl
+first_has Left a b l rows = rw (bytes_eq-refl a) refl
+first_has Right a b l rows = rw (bytes_eq-refl b) refl
 
 later_has : (s : Side) (n : List ℕ) (r : RowTree) (rows : RowTrees) → has_name n (names_on s rows) ≡ true → has_name n (names_on s (with_row r rows)) ≡ true
-later_has Left n (row_both a b l) rows h = or_later (bytes_eq n a) (has_name n (names_on Left rows)) h
-later_has Left n (row_left a t) rows h = or_later (bytes_eq n a) (has_name n (names_on Left rows)) h
+later_has Left n (row_both a b l) rows h = or_second (bytes_eq n a) (has_name n (names_on Left rows)) h
+later_has Left n (row_left a t) rows h = or_second (bytes_eq n a) (has_name n (names_on Left rows)) h
 later_has Left n (row_right b t) rows h = h
-later_has Right n (row_both a b l) rows h = or_later (bytes_eq n b) (has_name n (names_on Right rows)) h
+later_has Right n (row_both a b l) rows h = or_second (bytes_eq n b) (has_name n (names_on Right rows)) h
 later_has Right n (row_left a t) rows h = h
-later_has Right n (row_right b t) rows h = or_later (bytes_eq n b) (has_name n (names_on Right rows)) h
+later_has Right n (row_right b t) rows h = or_second (bytes_eq n b) (has_name n (names_on Right rows)) h
 
 pub near_among : (rows : List FormRow) (s : Side) (i : ℕ) (r : FormRow) (a b : List ℕ) (l : Form) → i < length rows → r ≡ get_or rows i r → r ≡ Both a b l
     → has_name (near s a b) (names_on s (form_rows_of (map row_tree rows))) ≡ true

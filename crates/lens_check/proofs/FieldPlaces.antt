@@ -12,7 +12,7 @@ use Rattle.lens_forms.specs.Forms.{RowTrees, no_rows, both, only_left, only_righ
 use Rattle.lens_forms.specs.Typing.{left_names, right_names}
 use Rattle.lens_forms.specs.declared.form.FormRow.{FormRow}
 use Rattle.lens_forms.proofs.SortedFields.{inserted, inserted_names}
-use Rattle.lens_core.proofs.LawsOfLeaves.{bytes_are, differs_back}
+use Rattle.lens_core.proofs.LawsOfLeaves.{differs_back}
 use Rattle.lens_core.specs.Sides.{fields_on, names_on}
 use Rattle.image_laws.specs.Image.{pattern_at, patterns_by_name}
 use Rattle.image_laws.specs.Patterns.{PatternTree, hole, unit_pattern, truth_pattern, int_pattern, text_pattern, pick_pattern, rec_pattern, alt_pattern, hold_pattern, PatternTrees, no_patterns, more_patterns, pattern_list, pattern_count, pattern_tree, patterns_tree}
@@ -22,6 +22,7 @@ use Rattle.image_laws.specs.declared.pattern.Patterns.{Patterns}
 use Rattle.image_laws.proofs.PatternLists.{pattern_count-length}
 use Rattle.lens_check.specs.ImageParts.{place_among, field_pattern, has_field_before}
 use Rattle.lens_check.proofs.SortedNames.{insert_name, sort_names, one_before, rank-insert, rank-first, before_member}
+use Rattle.texts.proofs.Tests.{bytes_eq-is}
 
 -- ---- the names of a side
 
@@ -142,7 +143,7 @@ pattern_place (more_fields m t fs) (more_patterns p ps) n r h =
         → (if b then p else pattern_at fs ps n) ≡ get_or (p ∷ pattern_list ps) (rank n (m ∷ names_of fs)) hole
     go true e again =
         at_first p (pattern_list ps) (rank n (m ∷ names_of fs))
-        (subst (λ z. rank z (m ∷ names_of fs) ≡ 0) (bytes_are m n e) (rank-first m (names_of fs) r))
+        (subst (λ z. rank z (m ∷ names_of fs) ≡ 0) (bytes_eq-is m n e) (rank-first m (names_of fs) r))
     go false e again =
         let k : has_name n (names_of fs) ≡ true = later e (bytes_eq n m) refl h in
         let on : is_before m n ≡ true = before_member m n (names_of fs) r k in

@@ -1,10 +1,8 @@
 -- Complements, rows and arms from a place on: what a loop over them has still to test.
-use Rattle.std.proofs.Common.{◌≡◌, ℕ, zero, suc, ◌+◌, ◌<◌, ◌≤◌, Bool, true, false, ◌&&◌, ◌||◌, List, [], ◌∷◌, length, map, drop, drop-cons, get_or, add-one, refl, sym, ap, ◌∙◌, arith}
-use Rattle.std.specs.Prelude.{bytes_eq}
+use Rattle.std.proofs.Common.{◌≡◌, ℕ, ◌+◌, ◌<◌, ◌≤◌, Bool, true, false, ◌&&◌, ◌||◌, List, [], ◌∷◌, length, map, drop, drop-cons, get_or, add-one, refl, sym, ap, ◌∙◌, arith}
 use Rattle.std.proofs.lemmas.List.{drop_all}
 use Rattle.doc_values.specs.declared.ty.Ty.{Ty}
 use Rattle.lens_forms.specs.Forms.{form_tree, no_rows, row_tree, form_rows_of, arm_tree, form_arms_of}
-use Rattle.lens_forms.specs.Measures.{form_parts, arms_parts}
 use Rattle.lens_forms.specs.declared.form.Form.{Form}
 use Rattle.lens_forms.specs.declared.form.FormRow.{FormRow}
 use Rattle.lens_forms.specs.declared.form.FormRow.TheVariants.{Both, OnlyLeft, OnlyRight}
@@ -89,18 +87,3 @@ rows_done rows cs i j b h f g =
 -- whether the complement is one of the arms from a place on
 abbrev pub arm_from : List (List ℕ × List ℕ × Form) → List ℕ → CompTree → ℕ → Bool
 arm_from arms t c i = arm_fits (form_arms_of (map arm_tree (drop i arms))) t c
-
-pub arm_next : (arms : List (List ℕ × List ℕ × Form)) (t : List ℕ) (c : CompTree) (i : ℕ) (a : List ℕ × List ℕ × Form) → i < length arms → a ≡ get_or arms i a
-    → arm_from arms t c i ≡ ((bytes_eq t a.0 && fits (form_tree a.2) c) || arm_from arms t c (i + 1))
-arm_next arms t c i a h is =
-    rw (drop-cons arms i a h, add-one) (ap (λ (z : List ℕ × List ℕ × Form). (bytes_eq t z.0 && fits (form_tree z.2) c) || arm_from arms t c (suc i)) (sym is))
-
-pub arm_done : (arms : List (List ℕ × List ℕ × Form)) (t : List ℕ) (c : CompTree) (i : ℕ) → length arms ≤ i → arm_from arms t c i ≡ false
-arm_done arms t c i h = rw (drop_all i arms h) refl
-
--- an arm has fewer parts than the arms that have it
-pub arm_smaller : (arms : List (List ℕ × List ℕ × Form)) (i : ℕ) (a : List ℕ × List ℕ × Form) → i < length arms → a ≡ get_or arms i a
-    → form_parts (form_tree a.2) < arms_parts (form_arms_of (map arm_tree arms))
-arm_smaller [] i a h e = absurd (omega arith)
-arm_smaller (b ∷ arms) zero a h e = rw e (omega arith)
-arm_smaller (b ∷ arms) (suc i) a h e = let rest = arm_smaller arms i a (omega arith) e in omega (arith, rest)

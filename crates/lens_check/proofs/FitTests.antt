@@ -6,8 +6,8 @@ use Rattle.texts.proofs.Conjunction.{first, second, both as both_true}
 use Rattle.doc_values.specs.Typing.{is_list_of, is_keyed_of, is_tree_of}
 use Rattle.lens_forms.specs.Forms.{FormTree, form_id, form_bij, form_disc, form_then, form_rec, form_alt, form_each, form_keyed, form_ordered, form_part, form_inv, RowTrees, no_rows, both, only_left, only_right, ArmTrees, no_arms, more_arms}
 use Rattle.lens_core.specs.Complements.{CompTree, nil, then_comp, rec_comp, alt_comp, hold_comp, tags_comp, CompTrees, no_comps, more_comps, comp_count, IsNil, AllFit, Fits, FitRows, FitsArm}
-use Rattle.lens_core.proofs.NameTests.{or_later}
 use Rattle.lens_check.specs.FitTest.{is_nil, all_pass, fits, rows_fit, arm_fits}
+use Rattle.texts.proofs.Tests.{or_second}
 
 nil_passes : (c : CompTree) → IsNil c → is_nil c ≡ true
 nil_passes nil h = refl
@@ -69,7 +69,7 @@ mutual
   arm_passes : (arms : ArmTrees) (t : List ℕ) (c : CompTree) → FitsArm arms t c → arm_fits arms t c ≡ true
   arm_passes no_arms t c h = absurd h
   arm_passes (more_arms a b l arms) t c (inl h) = or_first (bytes_eq t a && fits l c) (arm_fits arms t c) (both_true (bytes_eq t a) (fits l c) ((bytes_eq-Decides t a).1 h.0) (fit_passes l c h.1))
-  arm_passes (more_arms a b l arms) t c (inr h) = or_later (bytes_eq t a && fits l c) (arm_fits arms t c) (arm_passes arms t c h)
+  arm_passes (more_arms a b l arms) t c (inr h) = or_second (bytes_eq t a && fits l c) (arm_fits arms t c) (arm_passes arms t c h)
 
 mutual
   pub passes_fit : (l : FormTree) (c : CompTree) → fits l c ≡ true → Fits l c

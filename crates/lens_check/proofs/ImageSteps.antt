@@ -1,5 +1,5 @@
 -- The image of each form, from what the code found: the complement's parts, and the images inside.
-use Rattle.std.proofs.Common.{◌≡◌, ◌∙◌, ℕ, ◌+◌, ◌<◌, ◌≤◌, Bool, true, false, List, [], ◌∷◌, length, map, Option, None, Some, option_map, Box, Global, ◌++◌, get_or, refl, ap, sym, subst, arith, rules}
+use Rattle.std.proofs.Common.{◌≡◌, ◌∙◌, ℕ, ◌+◌, ◌<◌, ◌≤◌, Bool, true, false, List, [], ◌∷◌, length, map, Option, None, Some, option_map, ◌++◌, get_or, refl, ap, sym, subst, arith, rules}
 use Rattle.std.specs.List.{insert}
 use Rattle.std.specs.Prelude.{IsTrue, bytes_eq, option_and_then, if◌then◌else◌}
 use Rattle.std.proofs.lemmas.List.Edits.{length-insert}
@@ -10,10 +10,9 @@ use Rattle.texts.specs.Keys.{has_name, is_rising}
 use Rattle.hold_shapes.specs.declared.shape.Shape.{Shape}
 use Rattle.doc_values.specs.Types.{are_distinct, names_of}
 use Rattle.doc_values.specs.declared.ty.Ty.{Ty}
-use Rattle.lens_forms.specs.Forms.{FormTree, form_tree, form_then, form_rec, form_alt, form_each, form_keyed, form_ordered, RowTrees, row_tree, form_rows_of, ArmTrees, no_arms, more_arms}
+use Rattle.lens_forms.specs.Forms.{FormTree, form_tree, form_then, form_rec, form_alt, RowTrees, row_tree, form_rows_of, ArmTrees, no_arms, more_arms}
 use Rattle.lens_forms.specs.Typing.{left_names, right_names}
-use Rattle.lens_forms.specs.declared.form.Form.{Form, the_lemmas as form_lemmas}
-use Rattle.lens_forms.specs.declared.form.Form.TheVariants.{Each, Keyed, Tree}
+use Rattle.lens_forms.specs.declared.form.Form.{Form}
 use Rattle.lens_forms.specs.declared.form.FormRow.{FormRow}
 use Rattle.lens_forms.specs.declared.form.FormRow.TheVariants.{Both, OnlyLeft, OnlyRight}
 use Rattle.lens_forms.proofs.TreesOfRows.{rows_from}
@@ -28,20 +27,12 @@ use Rattle.image_laws.specs.declared.pattern.Pattern.TheVariants.{Hole, Rec as R
 use Rattle.image_laws.specs.declared.pattern.Patterns.{Patterns}
 use Rattle.lens_check.specs.ImageParts.{first_arm, has_shape, place_pattern, place_among, if_far}
 use Rattle.lens_check.specs.ReadyComplements.{IsReady, AreReadyPlaces, AreReadyRows, IsReadyArm, Chosen}
-use Rattle.lens_check.proofs.FarFields.{some_is, near_among, placed, still_placed, comps_from, placed_end, placed_start, record_is, ready_both, ready_left, ready_right, placed_both, placed_none, placed_short, placed_left, placed_right}
+use Rattle.lens_check.proofs.FarFields.{near_among, placed, still_placed, comps_from, placed_end, placed_start, record_is, ready_both, ready_left, ready_right, placed_both, placed_none, placed_short, placed_left, placed_right}
 use Rattle.lens_check.proofs.FieldPlaces.{fields_on-has, fields_on-rising, place_within}
-use Rattle.lens_check.proofs.HeldPatterns.{image_list, places_of, places-length, still_imaged, imaged_next, imaged_none, imaged_start, imaged_end, held_is, held_none, has_place, place_is, ready_at}
+use Rattle.lens_check.proofs.HeldPatterns.{image_list, places_of, places-length, still_imaged, imaged_next, imaged_none, imaged_start, imaged_end, held_is, held_none, has_place, place_is}
+use Rattle.std.proofs.lemmas.Option.{same_Some}
 
 -- ---- forms that map another over a container, and patterns as trees
-
-pub each_tree : (f : Form) (i : Box Form Global) (l : Form) → f ≡ Each i → l ≡ i.value → form_tree f ≡ form_each (form_tree l)
-each_tree f i l is e = rw (is, e) (search (rules, form_lemmas))
-
-pub keyed_tree : (f : Form) (i : Box Form Global) (l : Form) → f ≡ Keyed i → l ≡ i.value → form_tree f ≡ form_keyed (form_tree l)
-keyed_tree f i l is e = rw (is, e) (search (rules, form_lemmas))
-
-pub ordered_tree : (f : Form) (i : Box Form Global) (l : Form) → f ≡ Tree i → l ≡ i.value → form_tree f ≡ form_ordered (form_tree l)
-ordered_tree f i l is e = rw (is, e) (search (rules, form_lemmas))
 
 pub hole_tree : pattern_tree Hole ≡ hole
 hole_tree = search (rules, pattern_lemmas)
@@ -206,7 +197,7 @@ arm_found (more_arms x y k arms) s t c p a b l e = go (bytes_eq t x) e (λ h. ar
     go : (d : Bool) → (if d then Some (x, y, k) else first_arm arms t) ≡ Some (a, b, l)
         → (first_arm arms t ≡ Some (a, b, l) → image_arm arms s t c p ≡ arm_pattern (near s a b) (far s a b) (image l s c) p)
         → (if d then arm_pattern (near s x y) (far s x y) (image k s c) p else image_arm arms s t c p) ≡ arm_pattern (near s a b) (far s a b) (image l s c) p
-    go true h again = ap (λ (q : List ℕ × List ℕ × FormTree). arm_pattern (near s q.0 q.1) (far s q.0 q.1) (image q.2 s c) p) (some_is (x, y, k) (a, b, l) h)
+    go true h again = ap (λ (q : List ℕ × List ℕ × FormTree). arm_pattern (near s q.0 q.1) (far s q.0 q.1) (image q.2 s c) p) (same_Some (x, y, k) (a, b, l) h)
     go false h again = again h
 
 arm_missing : (arms : ArmTrees) (s : Side) (t : List ℕ) (c : CompTree) (p : PatternTree) → first_arm arms t ≡ None → image_arm arms s t c p ≡ None
@@ -224,7 +215,7 @@ arm_ready (more_arms x y k arms) t c a b l e h = go (bytes_eq t x) e h (λ m n. 
   where
     go : (d : Bool) → (if d then Some (x, y, k) else first_arm arms t) ≡ Some (a, b, l) → Chosen d (IsReady k c) (IsReadyArm arms t c)
         → (first_arm arms t ≡ Some (a, b, l) → IsReadyArm arms t c → IsReady l c) → IsReady l c
-    go true m n again = subst (λ (q : List ℕ × List ℕ × FormTree). IsReady q.2 c) (some_is (x, y, k) (a, b, l) m) n
+    go true m n again = subst (λ (q : List ℕ × List ℕ × FormTree). IsReady q.2 c) (same_Some (x, y, k) (a, b, l) m) n
     go false m n again = again m n
 
 pub alt_found : (arms : ArmTrees) (s : Side) (e : CompTree) (t : List ℕ) (c : CompTree) (p : PatternTree) (a b : List ℕ) (l : FormTree) → e ≡ alt_comp t c

@@ -6,6 +6,7 @@ use Rattle.doc_values.proofs.Lists.{docs_of-doc_list}
 use Rattle.image_laws.specs.Patterns.{PatternTree, PatternTrees, patterns_from, pattern_list, pattern_count}
 use Rattle.image_laws.proofs.PatternLists.{patterns_from-pattern_list, pattern_count-length}
 use Rattle.lens_check.specs.MatchTest.{is_match, match_each}
+use Rattle.texts.proofs.Tests.{and_false}
 
 -- whether those from a place on are in their patterns
 abbrev pub match_from : PatternTrees → DocTrees → ℕ → Bool
@@ -21,10 +22,6 @@ match_next ps ds i p q d e many h pe de =
 
 pub match_done : (ps : PatternTrees) (ds : DocTrees) (i : ℕ) → pattern_count ps ≡ length (doc_list ds) → pattern_count ps ≤ i → match_from ps ds i ≡ true
 match_done ps ds i many h = rw (drop_all i (pattern_list ps) (omega (arith, pattern_count-length ps)), drop_all i (doc_list ds) (omega arith)) refl
-
-and_false : (b : Bool) → (b && false) ≡ false
-and_false true = refl
-and_false false = refl
 
 lengths_apart : (ps : List PatternTree) (ds : List DocTree) → (length ps ≡ length ds → ⊥) → match_each (patterns_from ps) (docs_of ds) ≡ false
 lengths_apart [] [] h = absurd (h refl)

@@ -1,17 +1,16 @@
 -- The contents of a partition's items, in a list for each tag.
-use Rattle.std.proofs.Common.{◌≡◌, ℕ, zero, suc, ◌+◌, ◌<◌, ◌≤◌, Bool, true, false, ◌&&◌, List, [], ◌∷◌, ◌++◌, append-nil, append_assoc, replicate, length, map, set, drop, get_or, add-one, Option, Some, None, option_map, refl, ap, sym, ◌∙◌, subst, arith}
+use Rattle.std.proofs.Common.{◌≡◌, ℕ, zero, suc, ◌+◌, ◌<◌, ◌≤◌, Bool, true, false, ◌&&◌, List, [], ◌∷◌, ◌++◌, append-nil, append_assoc, replicate, length, map, set, drop, get_or, add-one, Option, Some, None, option_map, refl, ap, sym, ◌∙◌, arith}
 use Rattle.std.specs.Prelude.{Vec, vec_items, slice_index, nat_eq, cond, if◌then◌else◌, option_and_then}
 use Rattle.std.specs.List.{range_with_len}
 use Rattle.std.proofs.lemmas.Bool.{eq-eqb, ne_eqb, eqb-true}
 use Rattle.std.proofs.lemmas.List.{drop_all, length-map, length-replicate}
 use Rattle.std.proofs.lemmas.List.FromFn.{get_or-map-range_with_len, length-map-range_with_len}
-use Rattle.doc_values.specs.Types.{TyTree, FieldTrees, names_of, type_fields_of, field_tree}
+use Rattle.doc_values.specs.Types.{FieldTrees, names_of, type_fields_of, field_tree}
 use Rattle.doc_values.specs.declared.ty.Ty.{Ty}
-use Rattle.doc_values.specs.Typing.{lookup_field, is_list_of}
+use Rattle.doc_values.specs.Typing.{is_list_of}
 use Rattle.tag_seq.specs.Tags.{count}
 use Rattle.lens_core.specs.Tags.{tag_count, tag_number, tag_name}
 use Rattle.lens_core.proofs.Tags.{tag_name-at}
-use Rattle.partition_lens.proofs.TagNames.{number_below}
 use Rattle.image_laws.specs.declared.pattern.Pattern.{Pattern}
 use Rattle.image_laws.specs.Patterns.{PatternTree, hole, unit_pattern, truth_pattern, int_pattern, text_pattern, pick_pattern, rec_pattern, alt_pattern, hold_pattern, PatternTrees, no_patterns, more_patterns, pattern_count, pattern_list, patterns_from, pattern_tree, in_order}
 use Rattle.image_laws.specs.PartImage.{content_pattern, content_patterns, patterns_at, list_pattern, list_at, holes, patterns_in_list, parted_image}
@@ -19,6 +18,7 @@ use Rattle.image_laws.proofs.PatternsOfItems.{count_holes}
 use Rattle.image_laws.proofs.PatternLists.{patterns_from-pattern_list, pattern_count-length}
 use Rattle.lens_check.specs.PartLists.{trees_in, with_content, lists_by_tag, list_at_tag, list_of}
 use Rattle.lens_check.proofs.PartNames.{in_order-names}
+use Rattle.lens_core.proofs.TagNumbers.{tag-below}
 
 -- ---- one content in the list of its tag
 
@@ -198,16 +198,6 @@ at_long k (t ∷ ts) (more_patterns q qs) e = one_longer (nat_eq t k) q (pattern
 pub list_made : (qs : PatternTrees) (n : ℕ) → pattern_count qs ≡ n → list_of (pattern_list qs) ≡ list_pattern n qs
 list_made qs n e = ap (λ z. list_pattern z (patterns_from (pattern_list qs))) (sym (pattern_count-length qs) ∙ e) ∙ ap (list_pattern n) (patterns_from-pattern_list qs)
 
--- the number of a tag is below how many there are
-number_low : (fs : FieldTrees) (n : List ℕ) (k : ℕ) → tag_number fs n ≡ Some k → k < tag_count fs
-number_low fs n k e = go (lookup_field fs n) refl e
-  where
-    go : (o : Option (ℕ × TyTree)) → lookup_field fs n ≡ o → option_map (λ f. f.0) o ≡ Some k → k < tag_count fs
-    go None f g = cc
-    go (Some s) f g =
-        let same : s.0 ≡ k = cc in
-        subst (λ z. z < tag_count fs) same (number_below fs n s f)
-
 -- the list at a field, by the number of its tag
 abbrev by_number : List ℕ → PatternTrees → Option ℕ → PatternTree
 by_number ts qs None = hole
@@ -226,7 +216,7 @@ list_is fs ts qs e n = go (tag_number fs n) refl
     go (Some k) f =
         let place : 0 + k ≡ k = omega arith in
         sym (list_made (patterns_at k ts qs) (count k ts) (at_long k ts qs e))
-        ∙ ap list_of (sym (get_or-map-range_with_len (λ z. pattern_list (patterns_at z ts qs)) 0 (tag_count fs) k k [] (number_low fs n k f) place))
+        ∙ ap list_of (sym (get_or-map-range_with_len (λ z. pattern_list (patterns_at z ts qs)) 0 (tag_count fs) k k [] (tag-below fs n k f) place))
 
 -- the whole image
 pub image_made : (fs gs : FieldTrees) (ts : List ℕ) (p : PatternTree) (ps : PatternTrees) (ls : List (List PatternTree)) (r : PatternTree) → Some ps ≡ patterns_in_list (length ts) p

@@ -7,11 +7,12 @@ use Rattle.doc_values.specs.Types.{are_distinct, are_choices, is_well_formed, is
 use Rattle.doc_values.proofs.DistinctNames.{are_choices-distinct}
 use Rattle.lens_forms.specs.Forms.{FormTree, form_id, form_bij, form_disc, form_then, form_rec, form_alt, form_each, form_keyed, form_ordered, form_part, form_inv, RowTrees, no_rows, both, only_left, only_right, ArmTrees, no_arms, more_arms, left_type, right_type}
 use Rattle.lens_forms.specs.Typing.{is_typed, are_typed_rows, are_typed_arms, left_names, right_names, left_arms, right_arms}
-use Rattle.lens_forms.proofs.SortedFields.{not_not}
 use Rattle.lens_core.specs.Complements.{CompTree, nil, then_comp, rec_comp, alt_comp, hold_comp, tags_comp, CompTrees, no_comps, more_comps, AllFit, Fits, FitRows, FitsArm}
-use Rattle.lens_core.proofs.LawsOfLeaves.{bytes_are, bytes_same}
 use Rattle.lens_core.proofs.NameTests.{fits_among}
 use Rattle.lens_check.specs.ReadyComplements.{IsReady, AreReadyRows, IsReadyArm, Chosen}
+use Rattle.std.proofs.lemmas.Bool.{not-true}
+use Rattle.texts.proofs.Tests.{bytes_eq-is}
+use Rattle.texts.proofs.KeyOrder.{bytes_eq-refl}
 
 all_ready : (fits ready : CompTree → Type 0) → ((c : CompTree) → fits c → ready c) → (cs : CompTrees) → AllFit fits cs → AllFit ready cs
 all_ready fits ready each no_comps f = tt
@@ -23,12 +24,12 @@ first_fits : (a b : List ℕ) (l : FormTree) (arms : ArmTrees) (t : List ℕ) (c
     → bytes_eq t a ≡ true → FitsArm (more_arms a b l arms) t c → Fits l c
 first_fits a b l arms t c apart e (inl f) = f.1
 first_fits a b l arms t c apart e (inr f) =
-    let here : has_name a (left_arms arms) ≡ true = subst (λ z. has_name z (left_arms arms) ≡ true) (bytes_are t a e) (fits_among arms t c f) in
-    let off = not_not (has_name a (left_arms arms)) (first_and (not (has_name a (left_arms arms))) (are_distinct (left_arms arms)) apart) in
+    let here : has_name a (left_arms arms) ≡ true = subst (λ z. has_name z (left_arms arms) ≡ true) (bytes_eq-is t a e) (fits_among arms t c f) in
+    let off = not-true (has_name a (left_arms arms)) (first_and (not (has_name a (left_arms arms))) (are_distinct (left_arms arms)) apart) in
     cc
 
 later_fits : (a b : List ℕ) (l : FormTree) (arms : ArmTrees) (t : List ℕ) (c : CompTree) → bytes_eq t a ≡ false → FitsArm (more_arms a b l arms) t c → FitsArm arms t c
-later_fits a b l arms t c e (inl f) = let same = subst (λ z. bytes_eq z a ≡ true) (sym f.0) (bytes_same a) in cc
+later_fits a b l arms t c e (inl f) = let same = subst (λ z. bytes_eq z a ≡ true) (sym f.0) (bytes_eq-refl a) in cc
 later_fits a b l arms t c e (inr f) = f
 
 either : (b : Bool) (P Q : Type 0) → (b ≡ true → P) → (b ≡ false → Q) → Chosen b P Q

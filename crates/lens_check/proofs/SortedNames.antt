@@ -2,10 +2,10 @@
 use Rattle.std.proofs.Common.{◌≡◌, ◌∙◌, ℕ, zero, suc, ◌+◌, Bool, true, false, List, [], ◌∷◌, map, refl, ap, sym, subst, arith}
 use Rattle.std.specs.List.{insert}
 use Rattle.std.specs.Prelude.{bytes_eq, if◌then◌else◌}
-use Rattle.texts.specs.Keys.{is_before, all_after, is_rising, has_name, rank}
-use Rattle.texts.proofs.KeyOrder.{before-trans, before-total, before-differs, after-tail, rising-first, rising-rest, after-member}
-use Rattle.lens_core.proofs.LawsOfLeaves.{bytes_are, bytes_same}
+use Rattle.texts.specs.Keys.{is_before, is_rising, has_name, rank}
+use Rattle.texts.proofs.KeyOrder.{before-trans, before-total, before-differs, rising-first, rising-rest, after-member, bytes_eq-refl, rank-none, before_back}
 use Rattle.lens_check.specs.ImageParts.{place_among}
+use Rattle.texts.proofs.Tests.{bytes_eq-is}
 
 -- a name put at its place
 abbrev pub insert_name : List ℕ → List (List ℕ) → List (List ℕ)
@@ -23,19 +23,12 @@ put_names (n ∷ ns) ms = put_names ns (insert_name n ms)
 
 -- ---- the order of names
 
-before_back : (a b : List ℕ) → is_before a b ≡ true → is_before b a ≡ false
-before_back a b h = go (is_before b a) refl
-  where
-    go : (x : Bool) → is_before b a ≡ x → x ≡ false
-    go false e = refl
-    go true e = let off = before-differs a a (before-trans a b a h e) in let same = bytes_same a in cc
-
 -- a name that is not before x is x or comes after it
 not_before : (m x n : List ℕ) → is_before x m ≡ false → is_before x n ≡ true → is_before m n ≡ true
 not_before m x n h k = go (bytes_eq m x) refl
   where
     go : (b : Bool) → bytes_eq m x ≡ b → is_before m n ≡ true
-    go true e = subst (λ z. is_before z n ≡ true) (sym (bytes_are m x e)) k
+    go true e = subst (λ z. is_before z n ≡ true) (sym (bytes_eq-is m x e)) k
     go false e = before-trans m x n (before-total m x h e) k
 
 -- ---- two names in either order
@@ -48,7 +41,7 @@ two_ways n m false true ms e f = refl
 two_ways n m false false ms e f = go (bytes_eq n m) refl
   where
     go : (b : Bool) → bytes_eq n m ≡ b → n ∷ m ∷ ms ≡ m ∷ n ∷ ms
-    go true k = rw (bytes_are n m k) refl
+    go true k = rw (bytes_eq-is n m k) refl
     go false k = let on = before-total n m e k in cc
 
 insert_before : (n m : List ℕ) (ms : List (List ℕ)) → is_before m n ≡ true → insert_name n (m ∷ ms) ≡ m ∷ insert_name n ms
@@ -137,16 +130,11 @@ rank-insert k n (m ∷ ms) = go (is_before m n) (rank-insert k n ms)
     go true e = omega (arith, rank-more-name k m (insert_name n ms), rank-more-name k m ms, e)
     go false e = rank-more-name k n (m ∷ ms)
 
--- no name that comes after n is counted
-pub rank-after : (n : List ℕ) (ms : List (List ℕ)) → all_after n ms ≡ true → is_rising ms ≡ true → rank n ms ≡ 0
-rank-after n [] a r = refl
-rank-after n (m ∷ ms) a r = rw (before_back n m a) (rank-after n ms (after-tail n m ms a (rising-first m ms r)) (rising-rest m ms r))
-
 pub rank-first : (n : List ℕ) (ms : List (List ℕ)) → is_rising (n ∷ ms) ≡ true → rank n (n ∷ ms) ≡ 0
-rank-first n ms r = go (is_before n n) refl (rank-after n ms (rising-first n ms r) (rising-rest n ms r))
+rank-first n ms r = go (is_before n n) refl (rank-none n ms (rising-first n ms r) (rising-rest n ms r))
   where
     go : (b : Bool) → is_before n n ≡ b → rank n ms ≡ 0 → (if b then suc (rank n ms) else rank n ms) ≡ 0
-    go true e h = let off = before-differs n n e in let same = bytes_same n in cc
+    go true e h = let off = before-differs n n e in let same = bytes_eq-refl n in cc
     go false e h = h
 
 -- the first of rising names is before each other one

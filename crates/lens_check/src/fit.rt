@@ -5,13 +5,13 @@ ghost use Rattle.tag_seq.specs.Tags.{are_below};
 ghost use Rattle.doc_values.specs.Types.{fields_tree};
 ghost use Rattle.doc_values.specs.Typing.{is_list_of, is_keyed_of, is_tree_of};
 ghost use Rattle.lens_forms.specs.Forms.{form_tree, rows_tree, arms_tree};
-ghost use Rattle.lens_forms.specs.Measures.{form_parts, rows_parts, arms_parts, fields_parts, most_parts};
+ghost use Rattle.lens_forms.specs.Measures.{form_parts, rows_parts, arms_parts, fields_parts};
+ghost use Rattle.lens_forms.specs.declared.limits.TheConstants.{MOST_PARTS};
 ghost use Rattle.lens_core.specs.Complements.{comp_tree, comps_tree, Fits};
 ghost use Rattle.lens_core.specs.Tags.{tag_count};
 ghost use Rattle.lens_check.specs.FitTest.{fits, rows_fit, arm_fits, all_pass};
 
-use doc_values::Fields;
-use hold_shapes::Shape;
+use doc_values::{Fields, is_keyed_of, is_list_of, is_tree_of};
 use lens_core::{Comp, Comps};
 use lens_forms::{Form, FormArms, FormRow, FormRows};
 use lens_types::Typed;
@@ -29,7 +29,7 @@ pub fn conforms(typed: &Typed, comp: &Comp) -> bool
 
 #[cycle(fits_form)]
 fn fits_form(form: &Form, comp: &Comp) -> bool
-    requires { form_parts (form_tree form.now) ≤ most_parts }
+    requires { form_parts (form_tree form.now) ≤ MOST_PARTS }
     ensures { result ≡ fits (form_tree form.now) (comp_tree comp.now) }
 {
     match (form, comp) {
@@ -59,7 +59,7 @@ fn fits_form(form: &Form, comp: &Comp) -> bool
 // One complement for each paired row, in written order.
 #[cycle(fits_form)]
 fn fits_rows(rows: &FormRows, comps: &Comps) -> bool
-    requires { rows_parts (rows_tree rows.now) ≤ most_parts }
+    requires { rows_parts (rows_tree rows.now) ≤ MOST_PARTS }
     ensures { result ≡ rows_fit (rows_tree rows.now) (comps_tree comps.now) }
 {
     let mut next = 0;
@@ -84,7 +84,7 @@ fn fits_rows(rows: &FormRows, comps: &Comps) -> bool
 // A complement of an arm with this left tag.
 #[cycle(fits_form)]
 fn fits_arm(arms: &FormArms, tag: &Name, part: &Comp) -> bool
-    requires { arms_parts (arms_tree arms.now) ≤ most_parts }
+    requires { arms_parts (arms_tree arms.now) ≤ MOST_PARTS }
     ensures { result ≡ arm_fits (arms_tree arms.now) tag.now (comp_tree part.now) }
 {
     for arm in arms.as_slice() {
@@ -98,7 +98,7 @@ fn fits_arm(arms: &FormArms, tag: &Name, part: &Comp) -> bool
 // Every complement of a container fits the inner form.
 #[cycle(fits_form)]
 fn fits_each(inner: &Form, comps: &Comps) -> bool
-    requires { form_parts (form_tree inner.now) ≤ most_parts }
+    requires { form_parts (form_tree inner.now) ≤ MOST_PARTS }
     ensures { result ≡ all_pass (fits (form_tree inner.now)) (comps_tree comps.now) }
 {
     for i in 0..comps.len() {
@@ -112,40 +112,8 @@ fn fits_each(inner: &Form, comps: &Comps) -> bool
 // Every number is that of a tag.
 #[tactic(auto, using(crate::proofs::TagNumbers::tag_rules))]
 fn fits_tags(tags: &Fields, numbers: &TagSeq) -> bool
-    requires { fields_parts (fields_tree tags.now) ≤ most_parts }
+    requires { fields_parts (fields_tree tags.now) ≤ MOST_PARTS }
     ensures { result ≡ are_below (tag_count (fields_tree tags.now)) numbers.now }
 {
     numbers.is_below(tags.len() as u32)
-}
-
-fn is_list_of(shape: &Shape, count: usize) -> bool
-    ensures { result ≡ is_list_of shape.now count }
-{
-    match shape {
-        Shape::List(list) => list.count == count as u64,
-        Shape::Keyed(_) => false,
-        Shape::Tree(_) => false,
-    }
-}
-
-// The names of a keyed shape are strictly rising by its type.
-fn is_keyed_of(shape: &Shape, count: usize) -> bool
-    ensures { result ≡ is_keyed_of shape.now count }
-{
-    match shape {
-        Shape::List(_) => false,
-        Shape::Keyed(keyed) => keyed.names().len() == count,
-        Shape::Tree(_) => false,
-    }
-}
-
-// The depths of a tree shape are those of a tree by its type.
-fn is_tree_of(shape: &Shape, count: usize) -> bool
-    ensures { result ≡ is_tree_of shape.now count }
-{
-    match shape {
-        Shape::List(_) => false,
-        Shape::Keyed(_) => false,
-        Shape::Tree(tree) => tree.depths().len() == count,
-    }
 }

@@ -141,7 +141,7 @@ fn list_at_tag(
 }
 
 // The number of a tag. None if and only if no tag has the name.
-#[tactic(auto, using(partition_lens::proofs::TagNames::number_rules))]
+#[tactic(auto, using(lens_core::proofs::TagNames::number_rules))]
 fn number_of(tags: &Fields, name: &Name) -> Option<usize>
     ensures is { result ≡ tag_number (fields_tree tags.now) name.now }
     ensures below { IfSome result (λ k. k < tag_count (fields_tree tags.now)) }

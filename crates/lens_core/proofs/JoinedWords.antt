@@ -1,12 +1,8 @@
 -- Words joined in turn, and what was translated behind them.
 use Rattle.std.proofs.Common.{◌≡◌, Option, None, Some, option_map, refl, ap, sym}
-use Rattle.edit_module.specs.Words.{WordTree, no_primitives, more_primitives, joined}
+use Rattle.edit_module.specs.Words.{WordTree, no_primitives, joined}
 use Rattle.edit_module.proofs.Words.{joined_assoc}
 use Rattle.lens_core.specs.Emitted.{behind}
-
-pub joined_nothing : (u : WordTree) → joined u no_primitives ≡ u
-joined_nothing no_primitives = refl
-joined_nothing (more_primitives p u) = ap (more_primitives p) (joined_nothing u)
 
 module _ {A : Type 0} where
   pub behind_nothing : (o : Option (WordTree × A)) → option_map (behind no_primitives) o ≡ o

@@ -19,10 +19,6 @@ use Rattle.lens_core.proofs.LawsOfWords.{edits_carry, consistent_is_typed}
 
 -- ---- inverse
 
-inv_related : (l : FormTree) (s : Side) (x : DocTree) (c : CompTree) (y : DocTree) → IsRelated (form_inv l) s x c y → IsRelated l (other s) x c y
-inv_related l Left x c y k = k
-inv_related l Right x c y k = k
-
 inv_carries : (l : FormTree) (s : Side) (p : PrimitiveTree) (x' : DocTree) (c : CompTree) (y : DocTree) → Carries l (other s) x' y (translate_one l (other s) c p) → Carries (form_inv l) s x' y (translate_one (form_inv l) s c p)
 inv_carries l Left p x' c y k = record { word = k.word; comp = k.comp; document = k.document; carried = k.carried; acts = k.acts; consistent = k.consistent }
 inv_carries l Right p x' c y k = record { word = k.word; comp = k.comp; document = k.document; carried = k.carried; acts = k.acts; consistent = k.consistent }

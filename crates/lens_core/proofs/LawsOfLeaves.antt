@@ -1,7 +1,6 @@
 -- The laws of the lenses that keep nothing: identity, disconnection and bijection.
 use Rattle.std.proofs.Common.{◌≡◌, inl, inr, ℕ, Bool, true, false, List, [], ◌∷◌, Some, Ok, Err, refl, ap, sym, ◌∙◌, subst}
 use Rattle.std.specs.Prelude.{bytes_eq, cond, ◌||◌}
-use Rattle.std.proofs.lemmas.Slice.Eq.{bytes_eq-Decides}
 use Rattle.texts.specs.declared.side.Side.{Side}
 use Rattle.texts.specs.declared.side.Side.TheVariants.{Left, Right}
 use Rattle.texts.specs.Keys.{has_name}
@@ -24,6 +23,8 @@ use Rattle.lens_forms.proofs.TypingLaws.{left_formed, right_formed}
 use Rattle.lens_core.specs.Laws.{IsRelated, Carries, Laws}
 use Rattle.doc_values.proofs.InitialTypes.{has_initial}
 use Rattle.edit_module.proofs.ActionKeepsTypes.{has_primitive}
+use Rattle.texts.proofs.Tests.{bytes_eq-is, or_true}
+use Rattle.texts.proofs.KeyOrder.{bytes_eq-refl}
 
 -- a complement that keeps nothing
 pub is_nil : (c : CompTree) → IsNil c → c ≡ nil
@@ -111,19 +112,13 @@ disc_laws t u wf wg = record {
 
 -- ---- bijection
 
-pub bytes_are : (m n : List ℕ) → bytes_eq m n ≡ true → m ≡ n
-bytes_are m n h = (bytes_eq-Decides m n).0 h
-
-pub bytes_same : (m : List ℕ) → bytes_eq m m ≡ true
-bytes_same m = (bytes_eq-Decides m m).1 refl
-
 -- names that differ, the other way round
 pub differs_back : (m n : List ℕ) → bytes_eq m n ≡ false → bytes_eq n m ≡ false
 differs_back m n e = go (bytes_eq n m) refl
   where
     go : (b : Bool) → bytes_eq n m ≡ b → b ≡ false
     go false h = refl
-    go true h = let same = subst (λ z. bytes_eq z n ≡ false) (sym (bytes_are n m h)) e in let k = bytes_same n in cc
+    go true h = let same = subst (λ z. bytes_eq z n ≡ false) (sym (bytes_eq-is n m h)) e in let k = bytes_eq-refl n in cc
 
 -- a primitive that acts on a member sets another one
 record SetsMember (ms : List (List ℕ)) (p : PrimitiveTree) (x' : DocTree) : Type 0 where
@@ -180,10 +175,6 @@ pub record HasPartner (s : Side) (ps : List (List ℕ × List ℕ)) (m : List �
   pub are_pair : IsPairOn s ps m partner_name
   pub among : has_name partner_name (members_on (other s) ps) ≡ true
 
-or_true : (b : Bool) → (b || true) ≡ true
-or_true true = refl
-or_true false = refl
-
 member_later : (s : Side) (p : List ℕ × List ℕ) (ps : List (List ℕ × List ℕ)) (n : List ℕ) → has_name n (members_on s ps) ≡ true → has_name n (members_on s (p ∷ ps)) ≡ true
 member_later Left p ps n h = rw h (or_true (bytes_eq n p.0))
 member_later Right p ps n h = rw h (or_true (bytes_eq n p.1))
@@ -198,8 +189,8 @@ has_partner s (p ∷ ps) m h = go (bytes_eq (near s p.0 p.1) m) refl (λ k. has_
     go true e again = record {
       partner_name = far s p.0 p.1;
       is_partner = rw e refl;
-      are_pair = pair_here s p ps m (sym (bytes_are (near s p.0 p.1) m e));
-      among = rw (members_more (other s) p ps, across_far s p.0 p.1, bytes_same (far s p.0 p.1)) refl;
+      are_pair = pair_here s p ps m (sym (bytes_eq-is (near s p.0 p.1) m e));
+      among = rw (members_more (other s) p ps, across_far s p.0 p.1, bytes_eq-refl (far s p.0 p.1)) refl;
     }
     go false e again =
         let rest : has_name m (members_on s ps) ≡ true = subst (λ b. (b || has_name m (members_on s ps)) ≡ true) (differs_back (near s p.0 p.1) m e) (subst (λ (ms : List (List ℕ)). has_name m ms ≡ true) (members_more s p ps) h) in
@@ -211,9 +202,6 @@ has_partner s (p ∷ ps) m h = go (bytes_eq (near s p.0 p.1) m) refl (λ k. has_
         }
 
 -- ---- the step of a bijection
-
-abbrev enum_on : Side → List (List ℕ × List ℕ) → List ℕ → TyTree
-enum_on s ps n = type_on s (form_bij ps n)
 
 related_partners : (ps : List (List ℕ × List ℕ)) (i : List ℕ) (s : Side) (m n : List ℕ) → has_name m (members_on s ps) ≡ true → has_name n (members_on (other s) ps) ≡ true
     → IsPairOn s ps m n → IsRelated (form_bij ps i) s (pick m) nil (pick n)
@@ -255,7 +243,7 @@ first_pair [] m h = cc
 first_pair (p ∷ ps) m h = go (bytes_eq p.0 m) refl (λ k. first_pair ps m k)
   where
     go : (b : Bool) → bytes_eq p.0 m ≡ b → (has_name m (lefts ps) ≡ true → IsPair ps m (partner_of ps m)) → IsPair (p ∷ ps) m (partner_of (p ∷ ps) m)
-    go true e again = rw e (inl (sym (bytes_are p.0 m e), refl))
+    go true e again = rw e (inl (sym (bytes_eq-is p.0 m e), refl))
     go false e again = rw e (inr (again (subst (λ b. (b || has_name m (lefts ps)) ≡ true) (differs_back p.0 m e) h)))
 
 bij_sound : (ps : List (List ℕ × List ℕ)) (i : List ℕ) → is_well_formed (type_on Left (form_bij ps i)) ≡ true → is_well_formed (type_on Right (form_bij ps i)) ≡ true

@@ -1,5 +1,5 @@
 -- From one primitive to a whole word: where each primitive is translated so that the triple stays consistent, so is each word.
-use Rattle.std.proofs.Common.{◌≡◌, Option, None, Some, option_map, refl, ap, sym, ◌∙◌, subst}
+use Rattle.std.proofs.Common.{◌≡◌, Option, None, Some, option_map, refl, ap, ◌∙◌, subst}
 use Rattle.std.specs.Prelude.{option_and_then}
 use Rattle.texts.specs.declared.side.Side.{Side}
 use Rattle.texts.specs.declared.side.Side.TheVariants.{Left, Right}
@@ -15,7 +15,8 @@ use Rattle.lens_core.specs.Complements.{CompTree, Fits, missing}
 use Rattle.lens_core.specs.Translation.{Translated, translate_one, translate}
 use Rattle.lens_core.specs.Laws.{IsRelated, Carries, Laws, StartsConsistent, EditsCarry, EmptyStays, WordsCompose, ConsistentIsTyped}
 use Rattle.lens_core.proofs.JoinedWords.{behind_behind}
-use Rattle.lens_core.proofs.Results.{after_ok, acts_joined}
+use Rattle.lens_core.proofs.Results.{after_ok}
+use Rattle.edit_module.proofs.JoinedWords.{acts_joined}
 
 -- the first primitive and then the rest
 carries_more : (l : FormTree) (s : Side) (p : PrimitiveTree) (w : WordTree) (x'' y : DocTree) (c : CompTree) (x' : DocTree)

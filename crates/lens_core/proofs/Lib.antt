@@ -1,7 +1,9 @@
-mod Examples
+pub mod Arms
 pub mod ComplementTrees
 pub mod EmptyWords
+mod Examples
 pub mod FormParts
+pub mod ItemLists
 pub mod JoinedWords
 pub mod LawsOfCompositions
 pub mod LawsOfLeaves
@@ -11,5 +13,9 @@ pub mod LensLaws
 pub mod MissingRows
 pub mod NameTests
 pub mod RecordFields
+pub mod RecordRows
 pub mod Results
+pub mod RightLists
+pub mod TagNames
+pub mod TagNumbers
 pub mod Tags

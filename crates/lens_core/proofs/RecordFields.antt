@@ -5,7 +5,7 @@ use Rattle.texts.specs.declared.side.Side.{Side}
 use Rattle.texts.specs.declared.side.Side.TheVariants.{Left, Right}
 use Rattle.texts.specs.Keys.{is_before}
 use Rattle.texts.proofs.Conjunction.{second}
-use Rattle.texts.proofs.KeyOrder.{before-differs}
+use Rattle.texts.proofs.KeyOrder.{before-differs, bytes_eq-refl}
 use Rattle.doc_values.specs.Documents.{DocTree, rec, DocTrees, no_docs, more_docs}
 use Rattle.doc_values.specs.Types.{TyTree, ty_rec, FieldTrees, no_fields, more_fields}
 use Rattle.doc_values.specs.Typing.{has, has_fields, lookup_field, lookup_type, later_field}
@@ -18,7 +18,8 @@ use Rattle.lens_forms.specs.Forms.{RowTrees, form_rec, insert_field}
 use Rattle.lens_core.specs.Sides.{type_on, fields_on}
 use Rattle.lens_core.specs.Emitted.{at_word}
 use Rattle.lens_core.specs.Consistency.{content}
-use Rattle.lens_core.proofs.LawsOfLeaves.{bytes_are, bytes_same, differs_back}
+use Rattle.lens_core.proofs.LawsOfLeaves.{differs_back}
+use Rattle.texts.proofs.Tests.{bytes_eq-is}
 
 -- ---- fields that are sorted
 
@@ -39,7 +40,7 @@ pass_first false c t u o h = refl
 
 not_both : (m n k : List ℕ) → is_before m n ≡ true → bytes_eq m k ≡ true → bytes_eq n k ≡ false
 not_both m n k h e =
-    let same = bytes_are m k e in
+    let same = bytes_eq-is m k e in
     differs_back k n (subst (λ z. bytes_eq z n ≡ false) same (before-differs m n h))
 
 pub lookup_type-insert : (n : List ℕ) (t : TyTree) (fs : FieldTrees) (k : List ℕ) → lookup_type (insert_field n t fs) k ≡ (if bytes_eq n k then Some t else lookup_type fs k)
@@ -81,7 +82,7 @@ content-put (more_fields m t fs) (more_docs d ds) n s v h e k =
     go (bytes_eq m n) (lookup_field fs n) e (λ r q. content-put fs ds n r v (second (has t d) (has_fields fs ds) h) q k) refl
   where
     same_name : bytes_eq m n ≡ true → bytes_eq m k ≡ bytes_eq n k
-    same_name q = ap (λ z. bytes_eq z k) (bytes_are m n q)
+    same_name q = ap (λ z. bytes_eq z k) (bytes_eq-is m n q)
 
     here : (b : Bool) → cond b (Some v) (content fs ds k) ≡ cond b (Some v) (cond b (Some d) (content fs ds k))
     here true = refl
@@ -89,8 +90,8 @@ content-put (more_fields m t fs) (more_docs d ds) n s v h e k =
 
     unlike : bytes_eq m n ≡ false → (b c : Bool) → bytes_eq m k ≡ b → bytes_eq n k ≡ c → cond b (Some d) (cond c (Some v) (content fs ds k)) ≡ cond c (Some v) (cond b (Some d) (content fs ds k))
     unlike q true true f g =
-        let p = bytes_are m k f in let r = bytes_are n k g in
-        let z = subst (λ y. bytes_eq y n ≡ false) (p ∙ sym r) q in let w = bytes_same n in cc
+        let p = bytes_eq-is m k f in let r = bytes_eq-is n k g in
+        let z = subst (λ y. bytes_eq y n ≡ false) (p ∙ sym r) q in let w = bytes_eq-refl n in cc
     unlike q true false f g = refl
     unlike q false c f g = refl
 

@@ -6,8 +6,8 @@ use Rattle.doc_values.specs.Types.{FieldTrees, no_fields, more_fields, field_lis
 use Rattle.doc_values.specs.declared.ty.Ty.{Ty}
 use Rattle.lens_forms.specs.Measures.{fields_parts}
 use Rattle.lens_core.specs.Tags.{tag_count, tag_name}
-use Rattle.lens_core.proofs.LawsOfLeaves.{bytes_same}
-use Rattle.lens_core.proofs.NameTests.{or_later}
+use Rattle.texts.proofs.Tests.{or_second}
+use Rattle.texts.proofs.KeyOrder.{bytes_eq-refl}
 
 -- there are as many tags as fields
 pub field_list-tag_count : (fs : FieldTrees) → length (field_list fs) ≡ tag_count fs
@@ -32,5 +32,5 @@ tag_name-at (g ∷ fs) (suc k) f h e = tag_name-at fs k f (omega arith) e
 -- each tag is among the names
 pub tag_name-among : (fs : FieldTrees) (k : ℕ) → k < tag_count fs → has_name (tag_name fs k) (names_of fs) ≡ true
 tag_name-among no_fields k h = absurd (omega arith)
-tag_name-among (more_fields n t fs) zero h = rw (bytes_same n) refl
-tag_name-among (more_fields n t fs) (suc k) h = or_later (bytes_eq (tag_name fs k) n) (has_name (tag_name fs k) (names_of fs)) (tag_name-among fs k (omega arith))
+tag_name-among (more_fields n t fs) zero h = rw (bytes_eq-refl n) refl
+tag_name-among (more_fields n t fs) (suc k) h = or_second (bytes_eq (tag_name fs k) n) (has_name (tag_name fs k) (names_of fs)) (tag_name-among fs k (omega arith))

@@ -163,10 +163,6 @@ pub ruleset place_rules = (slice_get_read, slice_get_past)
 pub root_ready : (table : List Entry) (n : ℕ) (form : FormTree) → IsCompiled table n form → IsReady form → IsReadyAt table n
 root_ready table n form h ready = record { sound = h.sound; within = h.within; ready = subst IsReady (sym h.form_is) ready }
 
-pub root_carried : (r : Result Carried CarryFault) (table : List Entry) (n : ℕ) (form : FormTree) (side : Side) (c : CompTree) (w : WordTree) → IsCompiled table n form
-    → IsOf r (translate (form_at table n) side c w) → IsOf r (translate form side c w)
-root_carried r table n form side c w h carried = subst (λ (f : FormTree). IsOf r (translate f side c w)) h.form_is carried
-
 pub root_start : (table : List Entry) (n : ℕ) (form : FormTree) (c : CompTree) → IsCompiled table n form → c ≡ missing (form_at table n) → c ≡ missing form
 root_start table n form c h is = is ∙ ap missing h.form_is
 

@@ -5,7 +5,6 @@ use Rattle.std.proofs.lemmas.List.{take_all, map_more}
 use Rattle.std.proofs.lemmas.Option.{slice_get-map}
 use Rattle.doc_values.specs.declared.ty.Ty.{Ty}
 use Rattle.lens_forms.specs.Forms.{FormTree, RowTree, row_both, row_left, row_right, row_list, form_rows_of, row_tree, form_arms_of, arm_tree, form_tree}
-use Rattle.lens_forms.specs.Measures.{form_parts, arms_parts}
 use Rattle.lens_forms.specs.declared.form.Form.{Form}
 use Rattle.lens_forms.specs.declared.form.FormRow.{FormRow}
 use Rattle.lens_forms.specs.declared.form.FormRow.TheVariants.{Both, OnlyLeft, OnlyRight}
@@ -13,9 +12,10 @@ use Rattle.lens_forms.proofs.TreesOfRows.{row_tree-both, row_tree-left, row_tree
 use Rattle.lens_branch.specs.AlternativeSteps.{lens_of, arm_lens}
 use Rattle.lens_branch.specs.RecordSteps.{row_lens}
 use Rattle.lens_branch.proofs.ArmSearch.{arm_list-form_arms_of}
-use Rattle.lens_flat.specs.Tables.{form_at, AreSound, Grows, Adds, AddsLenses}
+use Rattle.lens_flat.specs.Tables.{form_at, Grows, Adds, AddsLenses}
 use Rattle.lens_flat.specs.declared.node.Entry.{Entry}
-use Rattle.lens_flat.proofs.Growth.{grows_not, grows_on}
+use Rattle.lens_flat.proofs.Growth.{grows_on}
+use Rattle.lens_branch.proofs.RowSearch.{row_list-form_rows_of}
 
 -- ---- numbers of nodes with these forms
 
@@ -57,9 +57,6 @@ found_forms table (j ∷ ks) (l ∷ ls) h (suc i) = found_forms table ks ls h.2 
 pub record Going (old new : List Entry) (ks : List ℕ) (ls : List FormTree) : Type 0 where
   pub grows : Grows old new
   pub are : AreForms new ks ls
-
-pub not_begun : (es : List Entry) → AreSound es → Going es es [] []
-not_begun es sound = record { grows = grows_not es sound; are = tt }
 
 going_on : (a b c : List Entry) (ks : List ℕ) (ls : List FormTree) (k : ℕ) (l : FormTree) → Going a b ks ls → Adds b c l k → Going a c (ks ++ k ∷ []) (ls ++ l ∷ [])
 going_on a b c ks ls k l h g = record {
@@ -132,19 +129,13 @@ right_more a b rows i r n t ks h is row g =
     one_more rows i r h is ∙ (ap (λ (ls : List FormTree). lenses_to rows i ++ ls) tree ∙ append_none (lenses_to rows i)) in
     rw next g
 
-row_list-of : (rows : List RowTree) → row_list (form_rows_of rows) ≡ rows
-row_list-of [] = refl
-row_list-of (row_both a b l ∷ rows) = ap (λ x. row_both a b l ∷ x) (row_list-of rows)
-row_list-of (row_left a t ∷ rows) = ap (λ x. row_left a t ∷ x) (row_list-of rows)
-row_list-of (row_right b t ∷ rows) = ap (λ x. row_right b t ∷ x) (row_list-of rows)
-
 -- once every row is done
 pub rows_done : (a b : List Entry) (rows : List FormRow) (i : ℕ) (ks : List ℕ) → length rows ≤ i → Going a b ks (lenses_to rows i)
     → AddsLenses a b (row_lens (row_list (form_rows_of (map row_tree rows)))) ks
 rows_done a b rows i ks h g =
     let whole : take i rows ≡ rows = take_all i rows h in
     all_there a b ks (lenses_to rows i) (row_lens (row_list (form_rows_of (map row_tree rows)))) g
-    (λ j. ap (λ (qs : List RowTree). row_lens qs j) (row_list-of (map row_tree rows))
+    (λ j. ap (λ (qs : List RowTree). row_lens qs j) (row_list-form_rows_of (map row_tree rows))
     ∙ (lens_of_row (map row_tree rows) j ∙ ap (λ (rs : List FormRow). slice_get (row_lenses (map row_tree rs)) j) (sym whole)))
 
 -- ---- arms
@@ -179,12 +170,3 @@ arms_done a b arms i ks h g =
     let whole : take i arms ≡ arms = take_all i arms h in
     all_there a b ks (arm_forms_to arms i) (arm_lens (form_arms_of (map arm_tree arms))) g
     (λ j. lens_of_arm arms j ∙ ap (λ (xs : List (List ℕ × List ℕ × Form)). slice_get (map arm_form xs) j) (sym whole))
-
--- an arm has fewer parts than the arms
-pub arm_smaller : (arms : List (List ℕ × List ℕ × Form)) (i : ℕ) (x : List ℕ × List ℕ × Form) → i < length arms → x ≡ get_or arms i x
-    → form_parts (form_tree x.2) < arms_parts (form_arms_of (map arm_tree arms))
-arm_smaller [] i x h e = absurd (omega arith)
-arm_smaller (y ∷ arms) zero x h e = rw e (omega arith)
-arm_smaller (y ∷ arms) (suc i) x h e =
-    let rest : form_parts (form_tree x.2) < arms_parts (form_arms_of (map arm_tree arms)) = arm_smaller arms i x (omega arith) e in
-    omega (arith, rest)

@@ -1,4 +1,6 @@
+pub mod ArmParts
 mod Examples
+pub mod FormLevels
 pub mod ListLengths
 pub mod Partners
 pub mod SortedFields

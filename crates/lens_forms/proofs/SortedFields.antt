@@ -6,8 +6,9 @@ use Rattle.doc_values.specs.Types.{TyTree, FieldTrees, no_fields, more_fields, n
 use Rattle.texts.proofs.Conjunction.{both as both_true, first as first_and, second as second_and}
 use Rattle.texts.proofs.KeyOrder.{before-total}
 use Rattle.lens_forms.specs.Forms.{insert_field, sorted}
+use Rattle.std.proofs.lemmas.Bool.{not-true}
 
-not_first : (x y : Bool) → (x || y) ≡ false → (x ≡ false) × (y ≡ false)
+pub not_first : (x y : Bool) → (x || y) ≡ false → (x ≡ false) × (y ≡ false)
 not_first true y h = cc
 not_first false y h = (refl, h)
 
@@ -51,21 +52,17 @@ has_name-insert k n t (more_fields m u fs) =
     elim (is_before m n) as (λ b. has_name k (names_of (if b then more_fields m u (insert_field n t fs) else more_fields n t (more_fields m u fs))) ≡ (bytes_eq k n || (bytes_eq k m || has_name k (names_of fs))))
     [ true ↦ ap (λ b. bytes_eq k m || b) (has_name-insert k n t fs) ∙ or_swap (bytes_eq k m) (bytes_eq k n) (has_name k (names_of fs)) | false ↦ refl ]
 
-pub not_not : (b : Bool) → not b ≡ true → b ≡ false
-not_not true h = cc
-not_not false h = refl
-
 pub inserted : (n : List ℕ) (t : TyTree) (fs : FieldTrees) (names : List (List ℕ)) → ((k : List ℕ) → has_name k (names_of fs) ≡ has_name k names)
     → (not (has_name n names) && are_distinct names) ≡ true → is_rising (names_of fs) ≡ true
     → is_rising (names_of (insert_field n t fs)) ≡ true
 inserted n t fs names same h r =
-    rising-insert n t fs r (same n ∙ not_not (has_name n names) (first_and (not (has_name n names)) (are_distinct names) h))
+    rising-insert n t fs r (same n ∙ not-true (has_name n names) (first_and (not (has_name n names)) (are_distinct names) h))
 
 pub inserted_names : (n : List ℕ) (t : TyTree) (fs : FieldTrees) (names : List (List ℕ)) → ((k : List ℕ) → has_name k (names_of fs) ≡ has_name k names)
     → (k : List ℕ) → has_name k (names_of (insert_field n t fs)) ≡ has_name k (n ∷ names)
 inserted_names n t fs names same k = has_name-insert k n t fs ∙ ap (λ b. bytes_eq k n || b) (same k)
 
-sorted-names : (fs : FieldTrees) (k : List ℕ) → has_name k (names_of (sorted fs)) ≡ has_name k (names_of fs)
+pub sorted-names : (fs : FieldTrees) (k : List ℕ) → has_name k (names_of (sorted fs)) ≡ has_name k (names_of fs)
 sorted-names no_fields k = refl
 sorted-names (more_fields n t fs) k = inserted_names n t (sorted fs) (names_of fs) (sorted-names fs) k
 

@@ -3,7 +3,7 @@ use Rattle.std.proofs.Common.{◌≡◌, ℕ, true, ◌&&◌, List, [], ◌∷�
 use Rattle.texts.specs.Keys.{is_rising, has_name}
 use Rattle.doc_values.specs.Types.{TyTree, ty_rec, ty_alt, ty_list, ty_keyed, ty_ordered, FieldTrees, no_fields, more_fields, names_of, are_distinct, are_choices, is_well_formed, are_well_formed, is_same_ty}
 use Rattle.doc_values.proofs.SameTypes.{is_same_ty-equal, is_same_ty-refl}
-use Rattle.doc_values.proofs.DistinctNames.{are_distinct-rest}
+use Rattle.doc_values.proofs.DistinctNames.{are_distinct-rest, are_choices-distinct}
 use Rattle.texts.proofs.Conjunction.{both as both_true, first as first_and, second as second_and}
 use Rattle.lens_forms.specs.Forms.{FormTree, form_id, form_bij, form_disc, form_then, form_rec, form_alt, form_each, form_keyed, form_ordered, form_part, form_inv, RowTrees, no_rows, both, only_left, only_right, ArmTrees, no_arms, more_arms, lefts, rights, insert_field, sorted, lists_of, left_type, right_type, left_fields, right_fields, left_tags, right_tags}
 use Rattle.lens_forms.specs.Typing.{IsTyped, AreTypedRows, AreTypedArms, is_typed, are_typed_rows, are_typed_arms, left_names, right_names, left_arms, right_arms}
@@ -199,15 +199,11 @@ lists_of-well_formed no_fields h = refl
 lists_of-well_formed (more_fields n t fs) h =
     both_true _ _ (first_and (is_well_formed t) (are_well_formed fs) h) (lists_of-well_formed fs (second_and (is_well_formed t) (are_well_formed fs) h))
 
-choices_distinct : (names : List (List ℕ)) → are_choices names ≡ true → are_distinct names ≡ true
-choices_distinct [] h = refl
-choices_distinct (n ∷ names) h = h
-
 parts_formed : (fs : FieldTrees) → (are_choices (names_of fs) && are_well_formed fs) ≡ true → is_well_formed (ty_rec (sorted (lists_of fs))) ≡ true
 parts_formed fs h =
     let P : List (List ℕ) → Type 0 = λ ns. are_distinct ns ≡ true in
     both_true _ _
-    (sorted-rising (lists_of fs) (subst P (sym (lists_of-names fs)) (choices_distinct (names_of fs) (first_and (are_choices (names_of fs)) (are_well_formed fs) h))))
+    (sorted-rising (lists_of fs) (subst P (sym (lists_of-names fs)) (are_choices-distinct (names_of fs) (first_and (are_choices (names_of fs)) (are_well_formed fs) h))))
     (sorted-well_formed (lists_of fs) (lists_of-well_formed fs (second_and (are_choices (names_of fs)) (are_well_formed fs) h)))
 
 mutual

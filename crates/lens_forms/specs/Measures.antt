@@ -115,10 +115,3 @@ abbrev mutual
   pub longest_in_arms : ArmTrees → ℕ
   longest_in_arms no_arms = 0
   longest_in_arms (more_arms a b l arms) = max (longest_list l) (longest_in_arms arms)
-
--- the most parts that a definition may have, and the greatest height of a lens, of a type and of a side
-abbrev pub most_parts : ℕ
-most_parts = 4096
-
-abbrev pub greatest_height : ℕ
-greatest_height = 32

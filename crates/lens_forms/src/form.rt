@@ -10,7 +10,7 @@ use texts::{Name, Twin};
 
 /// A lens with all names expanded. Each list is in written order.
 ///
-/// Contracts see it as a `FormTree`. docs/TYPING.md has the two types of each form.
+/// Contracts see it as a `FormTree`. docs/LANGUAGE.md has the two types of each form.
 #[derive(Drop)]
 #[cycle(form)]
 pub enum Form {

@@ -14,6 +14,7 @@ use Rattle.program_reader.specs.Causes.{ReadCause, program_of}
 use Rattle.program_reader.specs.Causes as tokens
 use Rattle.lens_syntax.specs.declared.fault.ProgramFault.{ProgramFault}
 use Rattle.lens_syntax.specs.declared.fault.ProgramFault.TheVariants.{ProgramTooLong, NotAProgram, UnknownName, RepeatedName, NoMemory}
+use Rattle.lens_syntax.specs.declared.reading.TheConstants.{MOST_PROGRAM_BYTES}
 
 -- Why a text is no program: it is too long, or this is the offset of the unexpected token, of the unknown or of the repeated name.
 pub data ProgramCause : Type 0 where
@@ -69,7 +70,7 @@ unbounded text = text_result text (program_of (tokens_of text))
 
 -- the same of a text that has a limit of length
 abbrev pub bounded : List ℕ → Result ProgramTree ProgramCause
-bounded text = if nat_le (length text) 65536 then unbounded text else Err too_long
+bounded text = if nat_le (length text) MOST_PROGRAM_BYTES then unbounded text else Err too_long
 
 -- ---- the faults of the code
 

@@ -11,6 +11,6 @@ pub mod laws;
 pub mod reading;
 
 pub use crate::fault::ProgramFault;
-pub use crate::reading::{read_program, read_unbounded};
+pub use crate::reading::{MOST_PROGRAM_BYTES, read_program, read_unbounded};
 pub use program_terms::{Arms, Def, Lens, Pairs, Program, Row, Rows, TyExpr, TyFields};
 pub use program_writing::{write_name, write_program, write_type};

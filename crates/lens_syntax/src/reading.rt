@@ -12,7 +12,7 @@ use program_tokens::tokens;
 use std::alloc::Global;
 
 /// The most bytes of a text that `read_program` reads.
-pub const LONGEST: usize = 65_536;
+pub const MOST_PROGRAM_BYTES: usize = 65_536;
 
 /// The program of a text of at most 65,536 bytes.
 ///
@@ -24,12 +24,12 @@ pub const LONGEST: usize = 65_536;
 /// - `NoMemory` when memory runs out, in place of any result but `ProgramTooLong`.
 pub fn read_program(alloc: Global, text: &[u8]) -> Result<Program, ProgramFault>
     ensures answer { Gives program_tree result (bounded text.now) }
-    ensures too_long { IsErrOf result ProgramFault.ProgramTooLong ↔ 65536 < length text.now }
+    ensures too_long { IsErrOf result ProgramFault.ProgramTooLong ↔ MOST_PROGRAM_BYTES < length text.now }
 
     // What the result says of the text, in the words of the grammar.
-    ensures tells { length text.now ≤ 65536 → TellsResult program_tree text.now result }
+    ensures tells { length text.now ≤ MOST_PROGRAM_BYTES → TellsResult program_tree text.now result }
 {
-    if text.len() > LONGEST {
+    if text.len() > MOST_PROGRAM_BYTES {
         return Err(ProgramFault::ProgramTooLong);
     }
     read_unbounded(alloc, text)

@@ -1,11 +1,10 @@
 -- Heights up to one more than the limit.
 use Rattle.std.proofs.Common.{◌≡◌, ℕ, ◌+◌, true, false, List, refl, ap, ◌∙◌, arith}
-use Rattle.std.specs.Prelude.{nat_le, max, if◌then◌else◌}
-use Rattle.std.proofs.lemmas.Bool.Decides.{nat_tests}
+use Rattle.std.specs.Prelude.{max, if◌then◌else◌}
 use Rattle.texts.specs.Keys.{is_before}
 use Rattle.doc_values.specs.Types.{TyTree, ty_rec, FieldTrees, no_fields, more_fields, height, highest}
 use Rattle.lens_forms.specs.Forms.{ArmTrees, no_arms, more_arms, insert_field, sorted}
-use Rattle.lens_forms.specs.Measures.{form_height, highest_arm, greatest_height}
+use Rattle.lens_forms.specs.Measures.{form_height, highest_arm}
 use Rattle.lens_types.specs.Earlier.{alternatives_type, alternatives, partition}
 use Rattle.lens_types.specs.Heights.{capped}
 
@@ -14,10 +13,6 @@ capped-next a = omega arith
 
 pub capped-max : (a b : ℕ) → max (capped a) (capped b) ≡ capped (max a b)
 capped-max a b = omega arith
-
--- the test of a capped height against the limit is that of the height
-pub capped-within : (a : ℕ) → nat_le (capped a) greatest_height ≡ nat_le a greatest_height
-capped-within a = grind (arith, nat_tests)
 
 -- ---- a record is as high in written order as sorted
 

@@ -1,6 +1,6 @@
 -- One definition after another.
 use Rattle.std.proofs.Common.{◌≡◌, ℕ, zero, suc, ◌+◌, ◌≤◌, true, false, true≢false, ◌||◌, List, [], ◌∷◌, ◌++◌, length, map, take, drop, bytes_eq, Option, Some, None, is_some, refl, ap, ap₂, sym, ◌∙◌, subst, add-one}
-use Rattle.std.specs.Prelude.{option_map, unwrap_or, slice_get, if◌then◌else◌}
+use Rattle.std.specs.Prelude.{option_map, slice_get, if◌then◌else◌}
 use Rattle.std.specs.Option.{option_or}
 use Rattle.std.proofs.lemmas.List.{drop_all, map-append}
 use Rattle.texts.specs.Keys.{has_name}
@@ -13,26 +13,24 @@ use Rattle.lens_types.specs.declared.fault.TypeFault.{TypeFault}
 use Rattle.lens_types.specs.declared.fault.TypeFault.TheVariants.{MiddleDiffers, RepeatedField, RepeatedTag, RepeatedMember, NotAMember, TooLarge, TooDeep, NoMemory}
 use Rattle.lens_types.proofs.Entries.{not_known}
 use Rattle.lens_types.proofs.SoundForms.{are_sound, sound_more, def_sound}
+use Rattle.std.proofs.lemmas.Option.{same_Some}
 
 -- ---- a list from a place on
-
-value_is : {A : Type 0} (x y : A) → Some x ≡ Some y → x ≡ y
-value_is x y h = ap (λ o. unwrap_or o x) h
 
 -- what is at a place is the first thing from that place on
 drop_at : {A : Type 0} (xs : List A) (i : ℕ) (x : A) → slice_get xs i ≡ Some x → drop i xs ≡ x ∷ drop (suc i) xs
 drop_at [] i x h = absurd (true≢false (sym (ap is_some h)))
-drop_at (y ∷ xs) zero x h = ap (λ z. z ∷ xs) (value_is y x h)
+drop_at (y ∷ xs) zero x h = ap (λ z. z ∷ xs) (same_Some y x h)
 drop_at (y ∷ xs) (suc i) x h = drop_at xs i x h
 
 pair_is : {A B : Type 0} (o : Option (A × B)) (a : A) (b : B) → option_map (λ x. x.0) o ≡ Some a → option_map (λ x. x.1) o ≡ Some b → o ≡ Some (a, b)
 pair_is None a b h k = cc
-pair_is (Some x) a b h k = ap₂ (λ c d. Some (c, d)) (value_is x.0 a h) (value_is x.1 b k)
+pair_is (Some x) a b h k = ap₂ (λ c d. Some (c, d)) (same_Some x.0 a h) (same_Some x.1 b k)
 
 -- the same where only the second part is known
 second_is : {A B : Type 0} (o : Option (A × B)) (b : B) → option_map (λ x. x.1) o ≡ Some b → (a : A) × (o ≡ Some (a, b))
 second_is None b k = let no : ⊥ = cc in absurd no
-second_is (Some x) b k = (x.0, ap (λ d. Some (x.0, d)) (value_is x.1 b k))
+second_is (Some x) b k = (x.0, ap (λ d. Some (x.0, d)) (same_Some x.1 b k))
 
 -- ---- a definition that has a failure
 
@@ -108,12 +106,6 @@ next_is_new ds defs i n d main whole all distinct name def h =
 pub main_failure : (ds : Definitions) (defs : List (List ℕ × Term.DefTree)) (i : ℕ) (main : Term.LensTree) (whole : Option Failure)
     → length defs ≤ i → failure_after ds (drop i defs) main ≡ whole → def_failure ds (Term.lens_def main) ≡ whole
 main_failure ds defs i main whole past h = ap (λ xs. failure_after ds xs main) (sym (drop_all i defs past)) ∙ h
-
-pub main_fault : (ds : Definitions) (defs : List (List ℕ × Term.DefTree)) (i : ℕ) (main : Term.LensTree) (whole : Option Failure) (fault : TypeFault)
-    → length defs ≤ i → failure_after ds (drop i defs) main ≡ whole → IsFaultOf (def_failure ds (Term.lens_def main)) fault → IsFaultOf whole fault
-main_fault ds defs i main whole fault past h f =
-    let P : Option Failure → Type 0 = λ o. IsFaultOf o fault in
-    subst P (main_failure ds defs i main whole past h) f
 
 pub main_known : (ds : Definitions) (defs : List (List ℕ × Term.DefTree)) (i : ℕ) (all : Definitions) → length defs ≤ i → all_known ds (drop i defs) ≡ all → ds ≡ all
 main_known ds defs i all past a = ap (all_known ds) (sym (drop_all i defs past)) ∙ a

@@ -19,6 +19,7 @@ use Rattle.lens_types.specs.declared.known.Known.{Known}
 use Rattle.lens_types.specs.declared.known.Known.TheVariants.{OfType, OfLens}
 use Rattle.lens_types.specs.declared.known.KnownType.{KnownType}
 use Rattle.lens_types.specs.declared.known.KnownLens.{KnownLens}
+use Rattle.std.proofs.lemmas.Bool.{eqb-true, leb-true, eq-eqb, le-leb}
 
 abbrev Entry : Type 0
 Entry = List ℕ × Known
@@ -28,21 +29,15 @@ standing ds e = (e.0, stands_for ds e.1)
 
 -- ---- more definitions change nothing for an entry before them
 
-within : (a b : ℕ) → nat_le a b ≡ true → a ≤ b
-within a b h = grind (arith, nat_tests)
-
-within_test : (a b : ℕ) → a ≤ b → nat_le a b ≡ true
-within_test a b h = grind (arith, nat_tests)
-
 scope_within : (ds : Definitions) (k : Known) → is_measured ds k ≡ true → scope_of k ≤ length ds
-scope_within ds (OfType k) h = within k.scope (length ds) (first_and (nat_le k.scope (length ds)) _ h)
-scope_within ds (OfLens k) h = within k.scope (length ds) (first_and (nat_le k.scope (length ds)) _ h)
+scope_within ds (OfType k) h = leb-true k.scope (length ds) (first_and (nat_le k.scope (length ds)) _ h)
+scope_within ds (OfLens k) h = leb-true k.scope (length ds) (first_and (nat_le k.scope (length ds)) _ h)
 
 take_more : (ds more : Definitions) (n : ℕ) → n ≤ length ds → take n (ds ++ more) ≡ take n ds
 take_more ds more n h = take-append-le n ds more h
 
 longer : (ds more : Definitions) (n : ℕ) → nat_le n (length ds) ≡ true → nat_le n (length (ds ++ more)) ≡ true
-longer ds more n h = within_test n (length (ds ++ more)) (omega (arith, within n (length ds) h, length-append ds more))
+longer ds more n h = le-leb n (length (ds ++ more)) (omega (arith, leb-true n (length ds) h, length-append ds more))
 
 measured-more : (ds more : Definitions) (k : Known) → is_measured ds k ≡ true → is_measured (ds ++ more) k ≡ true
 measured-more ds more (OfType k) h =
@@ -269,9 +264,6 @@ all_of es scope h = ap (λ n. take n (earlier_tree es)) (h ∙ length_tree es) �
 
 -- ---- the measures of what is found among all definitions
 
-equal : (a b : ℕ) → nat_eq a b ≡ true → a ≡ b
-equal a b h = grind (arith, nat_tests)
-
 pub record AreTypeMeasures (t : TyTree) (k : KnownType) : Type 0 where
   pub parts : k.parts ≡ type_parts t
   pub height : k.height ≡ capped (height t)
@@ -285,8 +277,8 @@ type_measures es scope name k h all =
     let P : TyTree → Type 0 = λ u. AreTypeMeasures u k in
     subst P is
     (record {
-      parts = equal k.parts (type_parts t) (first_and (nat_eq k.parts (type_parts t)) _ numbers);
-      height = equal k.height (capped (height t)) (second_and (nat_eq k.parts (type_parts t)) _ numbers);
+      parts = eqb-true k.parts (type_parts t) (first_and (nat_eq k.parts (type_parts t)) _ numbers);
+      height = eqb-true k.height (capped (height t)) (second_and (nat_eq k.parts (type_parts t)) _ numbers);
     })
 
 pub record AreLensMeasures (f : FormTree) (k : KnownLens) : Type 0 where
@@ -305,11 +297,11 @@ lens_measures es scope name k h all =
     let P : FormTree → Type 0 = λ g. AreLensMeasures g k in
     subst P is
     (record {
-      parts = equal k.parts (form_parts f) (first_and (nat_eq k.parts (form_parts f)) _ numbers);
-      height = equal k.height (capped (form_height f)) (first_and (nat_eq k.height (capped (form_height f))) _ heights);
+      parts = eqb-true k.parts (form_parts f) (first_and (nat_eq k.parts (form_parts f)) _ numbers);
+      height = eqb-true k.height (capped (form_height f)) (first_and (nat_eq k.height (capped (form_height f))) _ heights);
       sides = (
-        equal k.sides.left (capped (height (left_type f))) (first_and (nat_eq k.sides.left (capped (height (left_type f)))) _ sides),
-        equal k.sides.right (capped (height (right_type f))) (second_and (nat_eq k.sides.left (capped (height (left_type f)))) _ sides),
+        eqb-true k.sides.left (capped (height (left_type f))) (first_and (nat_eq k.sides.left (capped (height (left_type f)))) _ sides),
+        eqb-true k.sides.right (capped (height (right_type f))) (second_and (nat_eq k.sides.left (capped (height (left_type f)))) _ sides),
       );
     })
 
@@ -341,18 +333,15 @@ lens_itself es k all h = record { stands = ap (λ ds. expanded_form ds (lens_tre
 
 -- ---- the measures of a new entry are those that were counted
 
-equal_test : (a b : ℕ) → a ≡ b → nat_eq a b ≡ true
-equal_test a b h = grind (arith, nat_tests)
-
 scope_test : (es : List Entry) (scope : ℕ) → scope ≡ length es → nat_le scope (length (earlier_tree es)) ≡ true
-scope_test es scope h = within_test scope (length (earlier_tree es)) (omega (arith, h, length_tree es))
+scope_test es scope h = le-leb scope (length (earlier_tree es)) (omega (arith, h, length_tree es))
 
 pub measured_type : (es : List Entry) (k : KnownType) → k.scope ≡ length es → k.parts ≡ type_parts (expanded_type (earlier_tree es) (type_tree k.ty.now))
     → k.height ≡ capped (height (expanded_type (earlier_tree es) (type_tree k.ty.now))) → is_measured_type (earlier_tree es) k ≡ true
 measured_type es k all p h =
     let same = sym (ap (λ ds. expanded_type ds (type_tree k.ty.now)) (all_of es k.scope all)) in
     both_true _ _ (scope_test es k.scope all)
-    (both_true _ _ (equal_test k.parts _ (p ∙ ap type_parts same)) (equal_test k.height _ (h ∙ ap (λ t. capped (height t)) same)))
+    (both_true _ _ (eq-eqb k.parts _ (p ∙ ap type_parts same)) (eq-eqb k.height _ (h ∙ ap (λ t. capped (height t)) same)))
 
 pub measured_lens : (es : List Entry) (k : KnownLens) → k.scope ≡ length es → k.parts ≡ form_parts (expanded_form (earlier_tree es) (lens_tree k.lens.now))
     → k.height ≡ capped (form_height (expanded_form (earlier_tree es) (lens_tree k.lens.now)))
@@ -360,6 +349,6 @@ pub measured_lens : (es : List Entry) (k : KnownLens) → k.scope ≡ length es 
 measured_lens es k all p h s =
     let same = sym (ap (λ ds. expanded_form ds (lens_tree k.lens.now)) (all_of es k.scope all)) in
     both_true _ _ (scope_test es k.scope all)
-    (both_true _ _ (equal_test k.parts _ (p ∙ ap form_parts same))
-    (both_true _ _ (equal_test k.height _ (h ∙ ap (λ f. capped (form_height f)) same))
-    (both_true _ _ (equal_test k.sides.left _ (s.0 ∙ ap (λ f. capped (height (left_type f))) same)) (equal_test k.sides.right _ (s.1 ∙ ap (λ f. capped (height (right_type f))) same)))))
+    (both_true _ _ (eq-eqb k.parts _ (p ∙ ap form_parts same))
+    (both_true _ _ (eq-eqb k.height _ (h ∙ ap (λ f. capped (form_height f)) same))
+    (both_true _ _ (eq-eqb k.sides.left _ (s.0 ∙ ap (λ f. capped (height (left_type f))) same)) (eq-eqb k.sides.right _ (s.1 ∙ ap (λ f. capped (height (right_type f))) same)))))

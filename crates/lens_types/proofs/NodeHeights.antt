@@ -70,11 +70,6 @@ pub partition_heights : (ds : Definitions) (fs : List (List ℕ × TyExpr)) (h :
 partition_heights ds [] h k m e l r = absurd (omega arith)
 partition_heights ds (f ∷ fs) h k m e l r = some_partition _ _ _ h k e l r
 
-pub no_partition_heights : (ds : Definitions) (fs : List (List ℕ × TyExpr)) (h : SideHeights) → length fs ≡ 0 → h.left ≡ 1 → h.right ≡ 1
-    → HasHeights (partition (expanded_fields ds (Term.term_fields_of (map field_tree fs)))) h
-no_partition_heights ds [] h m l r = (l, r)
-no_partition_heights ds (f ∷ fs) h m l r = absurd (omega arith)
-
 -- ---- one row more, and one arm more
 
 max_none : (n : ℕ) → max 0 n ≡ n

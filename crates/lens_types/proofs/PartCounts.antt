@@ -6,7 +6,8 @@ use Rattle.texts.specs.Keys.{is_before}
 use Rattle.doc_values.specs.Types.{TyTree, FieldTrees, no_fields, more_fields}
 use Rattle.program_terms.specs.Terms as Term
 use Rattle.lens_forms.specs.Forms.{ArmTrees, no_arms, more_arms, insert_field, sorted}
-use Rattle.lens_forms.specs.Measures.{type_parts, fields_parts, form_parts, rows_parts, arms_parts, most_parts}
+use Rattle.lens_forms.specs.Measures.{type_parts, fields_parts, form_parts, rows_parts, arms_parts}
+use Rattle.lens_forms.specs.declared.limits.TheConstants.{MOST_PARTS}
 use Rattle.lens_types.specs.Checking.{too_large}
 use Rattle.lens_types.specs.Earlier.{Definitions, expanded_type, expanded_fields, expanded_form, expanded_rows, expanded_arms, alternatives_type, alternatives, partition}
 use Rattle.lens_types.specs.PartRooms.{IsCountOf, room_after, type_room, fields_room, lens_room, rows_room, arms_room}
@@ -139,31 +140,31 @@ mutual
 
 -- ---- a count that is done
 
-count_none : (parts : ℕ) → room_after parts most_parts ≡ None → IsCountOf parts None
-count_none parts h = elim (nat_le parts most_parts) as (λ b. (if b then Some (most_parts - parts) else None) ≡ None → (if b then None else Some too_large) ≡ Some too_large)
+count_none : (parts : ℕ) → room_after parts MOST_PARTS ≡ None → IsCountOf parts None
+count_none parts h = elim (nat_le parts MOST_PARTS) as (λ b. (if b then Some (MOST_PARTS - parts) else None) ≡ None → (if b then None else Some too_large) ≡ Some too_large)
     [ true ↦ λ k. cc | false ↦ λ k. refl ] h
 
-count_step : (b : Bool) (parts room : ℕ) → nat_le parts most_parts ≡ b → (if b then Some (most_parts - parts) else None) ≡ Some room
-    → (room ≤ most_parts) × (((if b then None else Some too_large) ≡ None) × (most_parts - room ≡ parts))
+count_step : (b : Bool) (parts room : ℕ) → nat_le parts MOST_PARTS ≡ b → (if b then Some (MOST_PARTS - parts) else None) ≡ Some room
+    → (room ≤ MOST_PARTS) × (((if b then None else Some too_large) ≡ None) × (MOST_PARTS - room ≡ parts))
 count_step true parts room e h =
-    let same : most_parts - parts ≡ room = ap (λ o. unwrap_or o 0) h in
-    let low : parts ≤ most_parts = grind (arith, nat_tests) in
+    let same : MOST_PARTS - parts ≡ room = ap (λ o. unwrap_or o 0) h in
+    let low : parts ≤ MOST_PARTS = grind (arith, nat_tests) in
     (omega (arith, same), (refl, omega (arith, same, low)))
 count_step false parts room e h = let no : ⊥ = cc in absurd no
 
-count_some : (parts room : ℕ) → room_after parts most_parts ≡ Some room → (room ≤ most_parts) × IsCountOf parts (Some (most_parts - room))
-count_some parts room h = count_step (nat_le parts most_parts) parts room refl h
+count_some : (parts room : ℕ) → room_after parts MOST_PARTS ≡ Some room → (room ≤ MOST_PARTS) × IsCountOf parts (Some (MOST_PARTS - room))
+count_some parts room h = count_step (nat_le parts MOST_PARTS) parts room refl h
 
-pub type_count_none : (ds : Definitions) (t : Term.TypeTree) → type_room ds t most_parts ≡ None → IsCountOf (type_parts (expanded_type ds t)) None
-type_count_none ds t h = count_none (type_parts (expanded_type ds t)) (sym (type_room-parts ds t most_parts) ∙ h)
+pub type_count_none : (ds : Definitions) (t : Term.TypeTree) → type_room ds t MOST_PARTS ≡ None → IsCountOf (type_parts (expanded_type ds t)) None
+type_count_none ds t h = count_none (type_parts (expanded_type ds t)) (sym (type_room-parts ds t MOST_PARTS) ∙ h)
 
-pub type_count_some : (ds : Definitions) (t : Term.TypeTree) (room : ℕ) → type_room ds t most_parts ≡ Some room
-    → (room ≤ most_parts) × IsCountOf (type_parts (expanded_type ds t)) (Some (most_parts - room))
-type_count_some ds t room h = count_some (type_parts (expanded_type ds t)) room (sym (type_room-parts ds t most_parts) ∙ h)
+pub type_count_some : (ds : Definitions) (t : Term.TypeTree) (room : ℕ) → type_room ds t MOST_PARTS ≡ Some room
+    → (room ≤ MOST_PARTS) × IsCountOf (type_parts (expanded_type ds t)) (Some (MOST_PARTS - room))
+type_count_some ds t room h = count_some (type_parts (expanded_type ds t)) room (sym (type_room-parts ds t MOST_PARTS) ∙ h)
 
-pub lens_count_none : (ds : Definitions) (l : Term.LensTree) → lens_room ds l most_parts ≡ None → IsCountOf (form_parts (expanded_form ds l)) None
-lens_count_none ds l h = count_none (form_parts (expanded_form ds l)) (sym (lens_room-parts ds l most_parts) ∙ h)
+pub lens_count_none : (ds : Definitions) (l : Term.LensTree) → lens_room ds l MOST_PARTS ≡ None → IsCountOf (form_parts (expanded_form ds l)) None
+lens_count_none ds l h = count_none (form_parts (expanded_form ds l)) (sym (lens_room-parts ds l MOST_PARTS) ∙ h)
 
-pub lens_count_some : (ds : Definitions) (l : Term.LensTree) (room : ℕ) → lens_room ds l most_parts ≡ Some room
-    → (room ≤ most_parts) × IsCountOf (form_parts (expanded_form ds l)) (Some (most_parts - room))
-lens_count_some ds l room h = count_some (form_parts (expanded_form ds l)) room (sym (lens_room-parts ds l most_parts) ∙ h)
+pub lens_count_some : (ds : Definitions) (l : Term.LensTree) (room : ℕ) → lens_room ds l MOST_PARTS ≡ Some room
+    → (room ≤ MOST_PARTS) × IsCountOf (form_parts (expanded_form ds l)) (Some (MOST_PARTS - room))
+lens_count_some ds l room h = count_some (form_parts (expanded_form ds l)) room (sym (lens_room-parts ds l MOST_PARTS) ∙ h)

@@ -17,25 +17,23 @@ use Rattle.lens_types.specs.Earlier.{Definitions, expanded_fields, expanded_rows
 use Rattle.lens_types.specs.Repeats.{SidedName, sided, is_same_side, is_same_name, is_among, repeat_after, first_repeat, member_names, field_names, pair_names, row_names, arm_names}
 use Rattle.texts.specs.declared.side.Side.{Side}
 use Rattle.texts.specs.declared.side.Side.TheVariants.{Left, Right}
+use Rattle.texts.proofs.Tests.{or_second}
+use Rattle.std.proofs.lemmas.Bool.{false_from_ne_true}
 
 -- the names of a side
 abbrev pub on : Side → List SidedName → List (List ℕ)
 on e [] = []
 on e (n ∷ ns) = if is_same_side e n.0 then n.1 ∷ on e ns else on e ns
 
-same_side : (e : Side) → is_same_side e e ≡ true
+pub same_side : (e : Side) → is_same_side e e ≡ true
 same_side Left = refl
 same_side Right = refl
 
-side_is : (e f : Side) → is_same_side e f ≡ true → e ≡ f
+pub side_is : (e f : Side) → is_same_side e f ≡ true → e ≡ f
 side_is Left Left h = refl
 side_is Right Right h = refl
 side_is Left Right h = cc
 side_is Right Left h = cc
-
-or_true : (x y : Bool) → y ≡ true → (x || y) ≡ true
-or_true true y h = refl
-or_true false y h = h
 
 among_front : (n : SidedName) (ms ns : List SidedName) → is_among n ms ≡ true → is_among n (ms ++ ns) ≡ true
 among_front n [] ns h = cc
@@ -45,22 +43,18 @@ among_front n (m ∷ ms) ns h =
 
 among_last : (n : SidedName) (ms : List SidedName) → is_among n (ms ++ n ∷ []) ≡ true
 among_last n [] = rw (same_side n.0, bytes_eq-refl n.1) refl
-among_last n (m ∷ ms) = or_true (is_same_name n m) (is_among n (ms ++ n ∷ [])) (among_last n ms)
+among_last n (m ∷ ms) = or_second (is_same_name n m) (is_among n (ms ++ n ∷ [])) (among_last n ms)
 
 -- the first name is not among those before it, and the rest repeats nothing either
 pub none_here : (b : Bool) (n : List ℕ) (rest : Option (List ℕ)) → (if b then Some n else rest) ≡ None → (b ≡ false) × (rest ≡ None)
 none_here true n rest h = cc
 none_here false n rest h = (refl, h)
 
-not_true : (b : Bool) → (b ≡ true → ⊥) → b ≡ false
-not_true true f = absurd (f refl)
-not_true false f = refl
-
 -- a name that is among some names is not one that is not
 differs : (e : Side) (n : List ℕ) (m : SidedName) (before : List SidedName) → is_among (e, n) before ≡ true → is_among m before ≡ false
     → is_same_name (e, n) m ≡ false
 differs e n m before k new =
-    not_true (is_same_name (e, n) m)
+    false_from_ne_true (is_same_name (e, n) m)
     (λ (h : is_same_name (e, n) m ≡ true).
     let side : e ≡ m.0 = side_is e m.0 (first_and (is_same_side e m.0) (bytes_eq n m.1) h) in
     let name : n ≡ m.1 = (bytes_eq-Decides n m.1).0 (second_and (is_same_side e m.0) (bytes_eq n m.1) h) in
@@ -105,39 +99,39 @@ sides_distinct ns e names same h = subst (λ (xs : List (List ℕ)). are_distinc
 
 -- ---- the names of each side, list by list
 
-on-members : (ms : List (List ℕ)) → on Left (member_names ms) ≡ ms
+pub on-members : (ms : List (List ℕ)) → on Left (member_names ms) ≡ ms
 on-members [] = refl
 on-members (m ∷ ms) = ap (λ xs. m ∷ xs) (on-members ms)
 
-on-fields : (ds : Definitions) (fs : Term.FieldTrees) → on Left (field_names fs) ≡ names_of (expanded_fields ds fs)
+pub on-fields : (ds : Definitions) (fs : Term.FieldTrees) → on Left (field_names fs) ≡ names_of (expanded_fields ds fs)
 on-fields ds Term.no_fields = refl
 on-fields ds (Term.more_fields n t fs) = ap (λ xs. n ∷ xs) (on-fields ds fs)
 
-on-lefts : (ps : List (List ℕ × List ℕ)) → on Left (pair_names ps) ≡ lefts ps
+pub on-lefts : (ps : List (List ℕ × List ℕ)) → on Left (pair_names ps) ≡ lefts ps
 on-lefts [] = refl
 on-lefts (p ∷ ps) = ap (λ xs. p.0 ∷ xs) (on-lefts ps)
 
-on-rights : (ps : List (List ℕ × List ℕ)) → on Right (pair_names ps) ≡ rights ps
+pub on-rights : (ps : List (List ℕ × List ℕ)) → on Right (pair_names ps) ≡ rights ps
 on-rights [] = refl
 on-rights (p ∷ ps) = ap (λ xs. p.1 ∷ xs) (on-rights ps)
 
-on-left_names : (ds : Definitions) (rows : Term.RowTrees) → on Left (row_names rows) ≡ left_names (expanded_rows ds rows)
+pub on-left_names : (ds : Definitions) (rows : Term.RowTrees) → on Left (row_names rows) ≡ left_names (expanded_rows ds rows)
 on-left_names ds Term.no_rows = refl
 on-left_names ds (Term.both a b l rows) = ap (λ xs. a ∷ xs) (on-left_names ds rows)
 on-left_names ds (Term.only_left a t rows) = ap (λ xs. a ∷ xs) (on-left_names ds rows)
 on-left_names ds (Term.only_right b t rows) = on-left_names ds rows
 
-on-right_names : (ds : Definitions) (rows : Term.RowTrees) → on Right (row_names rows) ≡ right_names (expanded_rows ds rows)
+pub on-right_names : (ds : Definitions) (rows : Term.RowTrees) → on Right (row_names rows) ≡ right_names (expanded_rows ds rows)
 on-right_names ds Term.no_rows = refl
 on-right_names ds (Term.both a b l rows) = ap (λ xs. b ∷ xs) (on-right_names ds rows)
 on-right_names ds (Term.only_left a t rows) = on-right_names ds rows
 on-right_names ds (Term.only_right b t rows) = ap (λ xs. b ∷ xs) (on-right_names ds rows)
 
-on-left_arms : (ds : Definitions) (arms : Term.ArmTrees) → on Left (arm_names arms) ≡ left_arms (expanded_arms ds arms)
+pub on-left_arms : (ds : Definitions) (arms : Term.ArmTrees) → on Left (arm_names arms) ≡ left_arms (expanded_arms ds arms)
 on-left_arms ds Term.no_arms = refl
 on-left_arms ds (Term.more_arms a b l arms) = ap (λ xs. a ∷ xs) (on-left_arms ds arms)
 
-on-right_arms : (ds : Definitions) (arms : Term.ArmTrees) → on Right (arm_names arms) ≡ right_arms (expanded_arms ds arms)
+pub on-right_arms : (ds : Definitions) (arms : Term.ArmTrees) → on Right (arm_names arms) ≡ right_arms (expanded_arms ds arms)
 on-right_arms ds Term.no_arms = refl
 on-right_arms ds (Term.more_arms a b l arms) = ap (λ xs. b ∷ xs) (on-right_arms ds arms)
 

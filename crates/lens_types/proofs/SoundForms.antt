@@ -8,13 +8,14 @@ use Rattle.texts.proofs.Conjunction.{both as both_true, first as first_and, seco
 use Rattle.program_terms.specs.Terms as Term
 use Rattle.lens_forms.specs.Forms.{FormTree, ArmTrees, no_arms, more_arms, form_bij, lefts, rights, left_type, right_type}
 use Rattle.lens_forms.specs.Typing.{is_typed, are_typed_rows, are_typed_arms, left_arms, right_arms}
-use Rattle.lens_forms.specs.Measures.{form_parts, form_height, most_parts, greatest_height}
+use Rattle.lens_forms.specs.Measures.{form_parts, form_height}
 use Rattle.lens_types.specs.Sound.{is_sound}
 use Rattle.lens_types.specs.Earlier.{KnownTree, known_type, known_lens, Definitions, known, type_of_known, form_of_known, type_named, form_named, alternatives_type, alternatives, partition, expanded_type, expanded_fields, expanded_form, expanded_rows, expanded_arms, known_of}
 use Rattle.lens_types.specs.Checking.{Failure, repeated_field, repeated_tag, repeated_member, not_a_member, too_large, too_deep, value_failure, enum_failure, pairs_failure, type_failure, fields_failure, lens_failure, rows_failure, arms_failure, middle_failure, sides_failure, written_height, size_failure, height_failure, def_failure}
 use Rattle.lens_types.specs.Repeats.{first_repeat, member_names, field_names, pair_names, row_names, arm_names}
 use Rattle.lens_types.proofs.RepeatedNames.{members_distinct, fields_distinct, lefts_distinct, rights_distinct, left_names_distinct, right_names_distinct, left_arms_distinct, right_arms_distinct}
 use Rattle.lens_forms.proofs.SortedFields.{sorted-rising, sorted-well_formed}
+use Rattle.lens_forms.specs.declared.limits.TheConstants.{GREATEST_HEIGHT, MOST_PARTS}
 
 -- ---- no failure
 
@@ -26,7 +27,7 @@ none_map : (f : List ℕ → Failure) (x : Option (List ℕ)) → option_map f x
 none_map f None h = refl
 none_map f (Some n) h = cc
 
-none_if : (b : Bool) (f : Failure) → (if b then None else Some f) ≡ None → b ≡ true
+pub none_if : (b : Bool) (f : Failure) → (if b then None else Some f) ≡ None → b ≡ true
 none_if true f h = refl
 none_if false f h = cc
 
@@ -186,7 +187,7 @@ mutual
 -- ---- the sides are low
 
 abbrev low_sides : FormTree → Bool
-low_sides f = nat_le (height (left_type f)) greatest_height && nat_le (height (right_type f)) greatest_height
+low_sides f = nat_le (height (left_type f)) GREATEST_HEIGHT && nat_le (height (right_type f)) GREATEST_HEIGHT
 
 sides_low : (f : FormTree) → sides_failure f ≡ None → low_sides f ≡ true
 sides_low f h = none_if (low_sides f) too_deep h
@@ -212,8 +213,8 @@ lens_low ds s (Term.part_of fs) h =
 lens_low ds s (Term.inv_of l) h = last_low (lens_failure ds l) (expanded_form ds (Term.inv_of l)) h
 lens_low ds s (Term.named_lens n) h =
     let f = form_named ds n in
-    second_and (nat_le (form_height f) greatest_height) (low_sides f)
-    (second_and (nat_le (form_parts f) most_parts) _ (second_and (is_typed f) _ (named_sound ds n s)))
+    second_and (nat_le (form_height f) GREATEST_HEIGHT) (low_sides f)
+    (second_and (nat_le (form_parts f) MOST_PARTS) _ (second_and (is_typed f) _ (named_sound ds n s)))
 
 -- ---- definitions
 
@@ -224,8 +225,8 @@ lens_sound ds s l h =
     let levels = none_both (height_failure (form_height f)) _ size.1 in
     let nodes = none_both (height_failure (written_height ds l)) (lens_failure ds l) levels.1 in
     both_true _ _ (lens_typed ds s l nodes.1)
-    (both_true _ _ (none_if (nat_le (form_parts f) most_parts) too_large size.0)
-    (both_true _ _ (none_if (nat_le (form_height f) greatest_height) too_deep levels.0) (lens_low ds s l nodes.1)))
+    (both_true _ _ (none_if (nat_le (form_parts f) MOST_PARTS) too_large size.0)
+    (both_true _ _ (none_if (nat_le (form_height f) GREATEST_HEIGHT) too_deep levels.0) (lens_low ds s l nodes.1)))
 
 pub def_sound : (ds : Definitions) → are_sound ds ≡ true → (d : Term.DefTree) → def_failure ds d ≡ None → is_sound_known (known_of ds d) ≡ true
 def_sound ds s (Term.type_def t) h =

@@ -11,10 +11,7 @@ use Rattle.texts.proofs.Conjunction.{both, first, second}
 use Rattle.doc_values.specs.Types.{more_fields, type_fields_of, field_tree, ty_tree}
 use Rattle.doc_values.specs.declared.ty.Ty.{Ty}
 use Rattle.lens_forms.specs.Forms.{insert_field, sorted}
-
-not_true : (b : Bool) → not b ≡ true → b ≡ false
-not_true true h = cc
-not_true false h = refl
+use Rattle.std.proofs.lemmas.Bool.{not-true}
 
 false_not : (b : Bool) → b ≡ false → not b ≡ true
 false_not true h = cc
@@ -120,8 +117,8 @@ module _ {X : Type 0} (lt : X → X → Bool) (o : IsStrictWeakOrder lt) where
   -- where g is less than f, not both of them tie with another
   apart : (x f g : X) → lt g f ≡ true → ties lt x f ≡ true → ties lt x g ≡ true → ⊥
   apart x f g h tf tg =
-      let gx : lt g x ≡ false = not_true (lt g x) (second (not (lt x g)) (not (lt g x)) tg) in
-      let xf : lt x f ≡ false = not_true (lt x f) (first (not (lt x f)) (not (lt f x)) tf) in
+      let gx : lt g x ≡ false = not-true (lt g x) (second (not (lt x g)) (not (lt g x)) tg) in
+      let xf : lt x f ≡ false = not-true (lt x f) (first (not (lt x f)) (not (lt f x)) tf) in
       true≢false (sym h ∙ o.chain g x f gx xf)
 
   swapped : (c b : Bool) (f g : X) (gs : List X) → (c ≡ true → b ≡ true → ⊥)

@@ -7,7 +7,8 @@ use Rattle.doc_values.specs.Types.{TyTree, height, highest, is_same_ty}
 use Rattle.program_terms.specs.Terms as Term
 use Rattle.lens_forms.specs.Forms.{FormTree, lefts, left_type, right_type}
 use Rattle.lens_types.specs.Earlier.{Definitions, expanded_type, expanded_fields, expanded_form, known_of}
-use Rattle.lens_forms.specs.Measures.{type_parts, form_parts, form_height, most_parts, greatest_height}
+use Rattle.lens_forms.specs.Measures.{type_parts, form_parts, form_height}
+use Rattle.lens_forms.specs.declared.limits.TheConstants.{GREATEST_HEIGHT, MOST_PARTS}
 use Rattle.lens_types.specs.Repeats.{first_repeat, member_names, field_names, pair_names, row_names, arm_names}
 
 -- why a program is refused
@@ -64,7 +65,7 @@ middle_failure l k =
 -- the types of both sides are at most so high
 abbrev pub sides_failure : FormTree → Option Failure
 sides_failure f =
-    if nat_le (height (left_type f)) greatest_height && nat_le (height (right_type f)) greatest_height then None else Some too_deep
+    if nat_le (height (left_type f)) GREATEST_HEIGHT && nat_le (height (right_type f)) GREATEST_HEIGHT then None else Some too_deep
 
 -- first the failures in the parts, then the node's own condition, then the heights of its two sides
 abbrev mutual
@@ -132,10 +133,10 @@ abbrev mutual
 
 -- too many parts; too high
 abbrev pub size_failure : ℕ → Option Failure
-size_failure parts = if nat_le parts most_parts then None else Some too_large
+size_failure parts = if nat_le parts MOST_PARTS then None else Some too_large
 
 abbrev pub height_failure : ℕ → Option Failure
-height_failure levels = if nat_le levels greatest_height then None else Some too_deep
+height_failure levels = if nat_le levels GREATEST_HEIGHT then None else Some too_deep
 
 -- a definition: its parts are counted, then its heights are tested, then its nodes
 abbrev pub def_failure : Definitions → Term.DefTree → Option Failure

@@ -1,16 +1,17 @@
 -- For the helpers of the checker: heights up to one more than the limit, on both sides and row by row.
-use Rattle.std.specs.Prelude.{◌≡◌, ℕ, Bool, ◌&&◌, nat_eq, min}
+use Rattle.std.specs.Prelude.{◌≡◌, ℕ, ◌+◌, Bool, ◌&&◌, nat_eq, min}
 use Rattle.doc_values.specs.Types.{height, highest}
 use Rattle.program_terms.specs.Terms as Term
 use Rattle.lens_forms.specs.Forms.{FormTree, left_type, right_type, RowTrees, left_fields, right_fields, ArmTrees, left_tags, right_tags}
 use Rattle.lens_forms.specs.Measures.{form_height}
+use Rattle.lens_forms.specs.declared.limits.TheConstants.{GREATEST_HEIGHT}
 use Rattle.lens_types.specs.Earlier.{Definitions, expanded_type, expanded_form}
 use Rattle.lens_types.specs.Checking.{written_height}
 use Rattle.lens_types.specs.declared.known.SideHeights.{SideHeights}
 
 -- a height over the limit counts as one more than the limit
 abbrev pub capped : ℕ → ℕ
-capped h = min h 33
+capped h = min h (GREATEST_HEIGHT + 1)
 
 -- these are the capped heights of the types of both sides of a form, and of the highest fields or tags of both sides
 abbrev pub HasHeights : FormTree → SideHeights → Type 0

@@ -16,12 +16,12 @@ use crate::fault::TypeFault;
 use crate::heights::{lens_height, type_height, written_height};
 use crate::known::{Known, KnownLens, KnownType};
 use crate::lenses::checked_lens;
-use crate::limits::GREATEST_HEIGHT;
 use crate::made::both;
 use crate::sides::side_type;
 use crate::size::{counted_lens, counted_type};
 use crate::typed::Typed;
 use crate::types::check_type;
+use lens_forms::GREATEST_HEIGHT;
 use program_terms::{Def, Lens, Program, TyExpr};
 use std::alloc::{AllocError, Global};
 use texts::{Side, Twin};
@@ -30,7 +30,7 @@ use texts::{Side, Twin};
 ///
 /// Definitions are checked in written order, used or not, and the main lens last; the fault is the first failure. For
 /// each definition its parts are counted first, then heights are tested, then its nodes are checked, each after its
-/// parts. docs/TYPING.md has the condition of each fault, with an example, and the order. `NoMemory` says nothing of
+/// parts. docs/LANGUAGE.md has the condition of each fault, with an example, and the order. `NoMemory` says nothing of
 /// the program.
 ///
 /// The time is linear in the text of the program, apart from what compositions compare: for each composition, both

@@ -5,7 +5,7 @@ use doc_values::Ty;
 use std::alloc::{AllocError, AllocFailed, Global};
 use texts::{Name, Twin};
 
-/// Why a program is refused. docs/TYPING.md has the condition of each, with an example, and their order.
+/// Why a program is refused. docs/LANGUAGE.md has the condition of each, with an example, and their order.
 #[derive(Drop)]
 pub enum TypeFault {
     /// The right type of the first lens of a composition is not the left type of the second.
@@ -30,17 +30,17 @@ pub enum TypeFault {
         /// The first member, in written order, that equals an earlier one of its side.
         name: Name,
     },
-    /// The initial value of an enum is not one of its members, or that of a bijection is not one of its left members.
-    NotAMember {
-        /// The initial value.
-        name: Name,
-    },
     /// A definition has more than 4,096 parts, names expanded.
     TooLarge,
     /// A lens, a type written in it, or the type of a side is higher than 32.
     TooDeep,
     /// There was not enough memory.
     NoMemory,
+    /// The initial value of an enum is not one of its members, or that of a bijection is not one of its left members.
+    NotAMember {
+        /// The initial value.
+        name: Name,
+    },
 }
 
 impl From<AllocError> for TypeFault {

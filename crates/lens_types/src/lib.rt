@@ -2,7 +2,7 @@
 //!
 //! [`check`] returns the form of a program's main lens with its two types, a [`Typed`], or the first failure of the
 //! program, a [`TypeFault`]. What a name stands for is `expanded_form` of specs/, and the first failure is
-//! `first_failure`. The forms are those of the crate `lens_forms`. docs/TYPING.md has the rules in words.
+//! `first_failure`. The forms are those of the crate `lens_forms`. docs/LANGUAGE.md has the rules in words.
 #![tactic(auto)]
 
 mod checking;
@@ -23,6 +23,5 @@ mod types;
 
 pub use crate::checking::check;
 pub use crate::fault::TypeFault;
-pub use crate::limits::{GREATEST_HEIGHT, MOST_PARTS};
 pub use crate::typed::Typed;
-pub use lens_forms::{Form, FormArms, FormRow, FormRows, laws};
+pub use lens_forms::{Form, FormArms, FormRow, FormRows, GREATEST_HEIGHT, MOST_PARTS, laws};

@@ -1,13 +1,9 @@
-//! The limits of definitions, and heights up to one more than the limit.
+//! Heights up to one more than the limit.
 
 ghost use Rattle.std.specs.Prelude.{◌≡◌, ◌+◌, max};
 ghost use Rattle.lens_types.specs.Heights.{capped};
 
-/// The most parts that a definition may have, names expanded.
-pub const MOST_PARTS: usize = 4096;
-
-/// The greatest height of a lens, of a type written in it, and of the type of a side.
-pub const GREATEST_HEIGHT: u32 = 32;
+use lens_forms::GREATEST_HEIGHT;
 
 // Heights over the limit all count as one more than the limit, so that no height overflows.
 const CAP: u32 = GREATEST_HEIGHT + 1;

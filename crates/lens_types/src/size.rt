@@ -12,7 +12,7 @@ ghost use Rattle.lens_types.specs.Entries.{earlier_tree};
 ghost use Rattle.lens_types.specs.PartRooms.{IsCountOf, room_after, type_room, fields_room, lens_room, row_room, rows_room, arms_room};
 
 use crate::earlier::Earlier;
-use crate::limits::MOST_PARTS;
+use lens_forms::MOST_PARTS;
 use program_terms::{Arms, Lens, Row, Rows, TyExpr, TyFields};
 
 // The parts of a type. None where there are too many.

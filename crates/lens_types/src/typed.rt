@@ -3,8 +3,9 @@
 ghost use Rattle.std.specs.Prelude.{◌≡◌, ◌≤◌, IsTrue};
 ghost use Rattle.doc_values.specs.Types.{ty_tree, height, is_well_formed};
 ghost use Rattle.lens_forms.specs.Forms.{form_tree, left_type, right_type};
-ghost use Rattle.lens_forms.specs.Measures.{form_parts, form_height, longest_list, most_parts, greatest_height};
+ghost use Rattle.lens_forms.specs.Measures.{form_parts, form_height, longest_list};
 ghost use Rattle.lens_forms.specs.Typing.{IsTyped, is_typed};
+ghost use Rattle.lens_forms.specs.declared.limits.TheConstants.{GREATEST_HEIGHT, MOST_PARTS};
 ghost use Rattle.lens_types.specs.Sound.{is_sound};
 
 use crate::made::both;
@@ -16,7 +17,7 @@ use texts::Twin;
 
 /// A form that is typed, with its two types. Contracts see it as its form.
 ///
-/// [`check`](crate::check) makes it. The form and its types keep the limits of docs/TYPING.md.
+/// [`check`](crate::check) makes it. The form and its types keep the limits of docs/LANGUAGE.md.
 #[derive(Drop)]
 pub struct Typed {
     form: Form,
@@ -62,9 +63,9 @@ impl Typed {
         ensures is { result.now ≡ self.now }
         ensures typed { IsTyped (form_tree result.now) (left_type (form_tree result.now)) (right_type (form_tree result.now)) }
         ensures tested { IsTrue (is_typed (form_tree result.now)) }
-        ensures small { form_parts (form_tree result.now) ≤ most_parts }
-        ensures short { longest_list (form_tree result.now) ≤ most_parts }
-        ensures low { form_height (form_tree result.now) ≤ greatest_height }
+        ensures small { form_parts (form_tree result.now) ≤ MOST_PARTS }
+        ensures short { longest_list (form_tree result.now) ≤ MOST_PARTS }
+        ensures low { form_height (form_tree result.now) ≤ GREATEST_HEIGHT }
     {
         &self.form
     }
@@ -73,7 +74,7 @@ impl Typed {
     pub fn left(&self) -> &Ty
         ensures left { ty_tree result.now ≡ left_type (form_tree self.now) }
         ensures well_formed { IsTrue (is_well_formed (ty_tree result.now)) }
-        ensures low { height (ty_tree result.now) ≤ greatest_height }
+        ensures low { height (ty_tree result.now) ≤ GREATEST_HEIGHT }
     {
         &self.left
     }
@@ -82,7 +83,7 @@ impl Typed {
     pub fn right(&self) -> &Ty
         ensures right { ty_tree result.now ≡ right_type (form_tree self.now) }
         ensures well_formed { IsTrue (is_well_formed (ty_tree result.now)) }
-        ensures low { height (ty_tree result.now) ≤ greatest_height }
+        ensures low { height (ty_tree result.now) ≤ GREATEST_HEIGHT }
     {
         &self.right
     }

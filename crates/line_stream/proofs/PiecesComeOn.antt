@@ -1,5 +1,5 @@
 -- An input as it comes, piece by piece: how far a run has come.
-use Rattle.std.proofs.Common.{◌≡◌, ◌≤◌, ◌+◌, ◌^◌, inl, inr, ℕ, List, [], ◌++◌, length, Bool, false, Option, Some, Ok, Err, refl, sym, ap, subst, ◌∙◌, append_assoc, append-nil, length-append, arith}
+use Rattle.std.proofs.Common.{◌≡◌, ◌≤◌, ◌+◌, inl, inr, ℕ, List, [], ◌++◌, length, Bool, false, Option, Some, Ok, Err, refl, sym, ap, subst, ◌∙◌, append_assoc, append-nil, length-append, arith}
 use Rattle.std.specs.Io.KnownBytes.{Appends, Consumes}
 use Rattle.std.proofs.KnownBytes.{Appends-nil, Appends-trans, Consumes-nil, Consumes-trans}
 use Rattle.lens_io.specs.declared.failed.TakeFault.{TakeFault}
@@ -12,6 +12,7 @@ use Rattle.line_stream.specs.Runs.{Come, come, written, written_after}
 use Rattle.line_stream.specs.declared.progress.Progress.{Progress}
 use Rattle.line_stream.proofs.RunSteps.{at_start, at_end}
 use Rattle.journal_input.specs.Taking.{TakenInput, TakesMore, TakesNone, StopsAt}
+use Rattle.journal_input.specs.declared.limits.TheConstants.{MOST_BYTES}
 use Rattle.line_stream.specs.Answered.{AnswersLines, StopsLines, StopsPiece, AnswersPiece, WritesStopped, AreAnswered, AnswersFirst, StopsRun, AnswersPieces, ComesOn}
 use Rattle.line_stream.specs.Stopping.{stop_of}
 use Rattle.line_stream.specs.declared.stopped.Stopped.{Stopped}
@@ -60,7 +61,7 @@ module _ {T : Type 0} (answer : T → ℕ → Line → Option (T × Answer)) (st
     }
 
     -- the run stopped at them
-    pub stops_first : (input : TakenInput) (room : ℕ) (t : T) (stopped : Stopped) → before.taken ≤ 2 ^ 30 + 1 → StopsLines answer start p before.lines.ended held held' stopped
+    pub stops_first : (input : TakenInput) (room : ℕ) (t : T) (stopped : Stopped) → before.taken ≤ MOST_BYTES + 1 → StopsLines answer start p before.lines.ended held held' stopped
         → AnswersPieces answer start before input room source source held held' t (Err stopped)
     stops_first input room t stopped few s =
         let part = stopped_behind stopped (before.taken + 0) s.rest held held held' [] s.text (Appends-nil held) s.writes in
@@ -136,7 +137,7 @@ module _ {T : Type 0} (answer : T → ℕ → Line → Option (T × Answer)) (st
     run_ends a any_room =
         let now = comes_on_piece false a in
         let end = a.ends.at_end refl in
-        let within : before.taken + length now.more ≤ 2 ^ 30 = omega (arith, end.2, c.count, length-append c.more a.bytes, ap length end.0) in
+        let within : before.taken + length now.more ≤ MOST_BYTES = omega (arith, end.2, c.count, length-append c.more a.bytes, ap length end.0) in
         record {
           more = now.more;
           consumes = now.consumes;

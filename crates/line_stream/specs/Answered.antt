@@ -1,6 +1,6 @@
 -- How far a run has come over an input that comes in pieces. Read it from the end: `AnswersPieces`, `StopsRun`, `EndsRun`, then
 -- `AnswersPiece`, which is one turn.
-use Rattle.std.specs.Prelude.{◌≡◌, ◌⊎◌, ℕ, ◌+◌, ◌^◌, ◌<◌, ◌≤◌, List, [], ◌++◌, length, take, Bool, true, false, Some, Result, Ok, Err}
+use Rattle.std.specs.Prelude.{◌≡◌, ◌⊎◌, ℕ, ◌+◌, ◌<◌, ◌≤◌, List, [], ◌++◌, length, take, Bool, true, false, Some, Result, Ok, Err}
 use Rattle.std.specs.declared.option.Option.{Option}
 use Rattle.std.specs.Io.KnownBytes.{Appends, Consumes, IsAtEnd}
 use Rattle.lens_io.specs.Content.{AppendsFront}
@@ -10,6 +10,7 @@ use Rattle.line_stream.specs.declared.state.Answer.{Answer}
 use Rattle.line_stream.specs.Runs.{come, written, written_after}
 use Rattle.line_stream.specs.declared.progress.Progress.{Progress}
 use Rattle.journal_input.specs.Taking.{TakenInput}
+use Rattle.journal_input.specs.declared.limits.TheConstants.{MOST_BYTES}
 use Rattle.line_stream.specs.declared.stopped.Stopped.{Stopped}
 use Rattle.line_stream.specs.declared.stopped.Stopped.TheVariants.{SourceFault, TooLong, SinkFault, NoMemory}
 
@@ -32,8 +33,8 @@ WritesPart held held' text stopped = ⊥
 -- What was written when a run stopped before its end, over this many bytes: this many bytes of the text. A fault of the source, and too
 -- many bytes, leave no line that has ended.
 abbrev pub WritesStopped : ℕ → List Line → List ℕ → ℕ → Option (List ℕ) → Option (List ℕ) → Stopped → Type 0
-WritesStopped taken rest text count held held' SourceFault = (rest ≡ []) × (count ≡ length text) × Appends held held' text × (taken ≤ 2 ^ 30)
-WritesStopped taken rest text count held held' TooLong = (rest ≡ []) × (count ≡ length text) × Appends held held' text × (2 ^ 30 < taken)
+WritesStopped taken rest text count held held' SourceFault = (rest ≡ []) × (count ≡ length text) × Appends held held' text × (taken ≤ MOST_BYTES)
+WritesStopped taken rest text count held held' TooLong = (rest ≡ []) × (count ≡ length text) × Appends held held' text × (MOST_BYTES < taken)
 WritesStopped taken rest text count held held' SinkFault = (count < length text) × Appends held held' (take count text)
 WritesStopped taken rest text count held held' NoMemory = (count ≡ length text) × Appends held held' text
 
@@ -69,12 +70,12 @@ module _ {T : Type 0} (answer : T → ℕ → Line → Option (T × Answer)) whe
     pub answers : AnswersLines t p (fed input.lines bytes).ended held held' t' p'
     pub written : p'.text.items ≡ []
     pub some : more ≡ true → 0 < length bytes
-    pub at_end : more ≡ false → (bytes ≡ []) × IsAtEnd source' × (input.taken ≤ 2 ^ 30)
+    pub at_end : more ≡ false → (bytes ≡ []) × IsAtEnd source' × (input.taken ≤ MOST_BYTES)
 
   -- A fault of the source, and too many bytes, take nothing and write nothing.
   abbrev pub StopsPiece : TakenInput → TakenInput → List ℕ → Option (List ℕ) → Option (List ℕ) → T → Progress → Stopped → Type 0
-  StopsPiece input input' bytes held held' t p SourceFault = (bytes ≡ []) × Appends held held' [] × (input'.taken ≤ 2 ^ 30)
-  StopsPiece input input' bytes held held' t p TooLong = (bytes ≡ []) × Appends held held' [] × (2 ^ 30 < input'.taken)
+  StopsPiece input input' bytes held held' t p SourceFault = (bytes ≡ []) × Appends held held' [] × (input'.taken ≤ MOST_BYTES)
+  StopsPiece input input' bytes held held' t p TooLong = (bytes ≡ []) × Appends held held' [] × (MOST_BYTES < input'.taken)
   StopsPiece input input' bytes held held' t p SinkFault = StopsLines t p (fed input.lines bytes).ended held held' SinkFault
   StopsPiece input input' bytes held held' t p NoMemory = StopsLines t p (fed input.lines bytes).ended held held' NoMemory
 
@@ -88,7 +89,7 @@ module _ {T : Type 0} (answer : T → ℕ → Line → Option (T × Answer)) whe
     pub consumes : Consumes source source' bytes
     pub few : length bytes ≤ room
     pub taken : input'.taken ≡ input.taken + length bytes
-    pub at_most : input'.taken ≤ 2 ^ 30 + 1
+    pub at_most : input'.taken ≤ MOST_BYTES + 1
     pub ends : PieceEnds input input' bytes source' held held' t t' p p' result
 
   -- ---- a run from a state on
@@ -135,7 +136,7 @@ module _ {T : Type 0} (answer : T → ℕ → Line → Option (T × Answer)) whe
     -- A run that came to the end of its input: the answers to all lines that have ended were written.
     pub record EndsRun (before input : TakenInput) (more : List ℕ) (left' held held' : Option (List ℕ)) (t : T) (p : Progress) : Type 0 where
       pub at_end : IsAtEnd left'
-      pub within : before.taken + length more ≤ 2 ^ 30
+      pub within : before.taken + length more ≤ MOST_BYTES
       pub given : List ℕ
       pub appends : Appends held held' given
       pub nothing_left : p.text.items ≡ []
@@ -151,7 +152,7 @@ module _ {T : Type 0} (answer : T → ℕ → Line → Option (T × Answer)) whe
     pub record AnswersPieces (before input : TakenInput) (room : ℕ) (source source' held held' : Option (List ℕ)) (t : T) (result : Result Progress Stopped) : Type 0 where
       pub more : List ℕ
       pub consumes : Consumes source source' more
-      pub at_most : before.taken + length more ≤ 2 ^ 30 + 1
+      pub at_most : before.taken + length more ≤ MOST_BYTES + 1
       pub has_ended : HasEnded before input room more source' held held' t result
 
     -- The run as it goes on: these bytes were taken, all lines that have ended are answered, and their answers are written.

@@ -3,19 +3,16 @@ ghost use Rattle.std.specs.Prelude.{◌≡◌, ◌+◌, ◌^◌, ◌<◌, ◌≤
 ghost use Rattle.lens_io.specs.Causes.{Increased, SinkFailed};
 ghost use Rattle.lens_io.specs.Content.{AppendsFront};
 ghost use Rattle.journal_input.specs.Taking.{IsWithin};
+ghost use Rattle.journal_input.specs.declared.limits.TheConstants.{MOST_BYTES, MOST_KEPT};
 ghost use Rattle.line_stream.specs.Answered.{GivesAnswers, WritesPart, AnswersLines, StopsLines, AnswersPiece, AnswersPieces};
-ghost use Rattle.line_stream.specs.declared.stream.TheConstants.{MOST_KEPT};
 
 use crate::progress::{Progress, handle_line};
 use crate::state::LineAnswers;
 use crate::stopped::Stopped;
 use edit_journal::Line;
-use journal_input::Input;
+use journal_input::{Input, MOST_KEPT};
 use lens_io::{Sink, Source, give_all};
 use std::alloc::Global;
-
-/// The answers that are not written yet have fewer bytes than this, when the next line is handled.
-pub const MOST_KEPT: usize = 65_536;
 
 /// Steps a state through the lines of an input as they come, and writes the answers. The input is read in pieces, to
 /// its end. When the source is asked for the next piece, all lines that have ended are answered, and their answers
@@ -42,7 +39,7 @@ pub fn answer_pieces<S: Source, K: Sink, A: LineAnswers>(
     ensures answers { AnswersPieces A.answer (A.state state.old) input.old input.new
         (length piece.old) (S.left source.old) (S.left source.new) (K.held sink.old) (K.held sink.new)
         (A.state state.new) result }
-    ensures number { IfOk result (λ p. p.number ≤ 2 ^ 30 + 1) }
+    ensures number { IfOk result (λ p. p.number ≤ MOST_BYTES + 1) }
     ensures source_fault { IsErrOf result Stopped.SourceFault
         → Increased (S.faults source.old) (S.faults source.new) }
     ensures sink_faults { (K.faults sink.old ≤ K.faults sink.new)
@@ -77,7 +74,7 @@ pub fn answer_piece<S: Source, K: Sink, A: LineAnswers>(
     requires answered { input.old.lines.ended ≡ [] }
     requires written { progress.old.text.items ≡ [] }
     requires number { progress.old.number ≤ input.old.taken }
-    requires within { input.old.taken ≤ 2 ^ 30 + 1 }
+    requires within { input.old.taken ≤ MOST_BYTES + 1 }
     ensures one_piece { AnswersPiece A.answer input.old input.new (length piece.old) (S.left source.old)
         (S.left source.new) (K.held sink.old) (K.held sink.new) (A.state state.old)
         (A.state state.new) progress.old progress.new result }

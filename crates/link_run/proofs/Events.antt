@@ -2,7 +2,7 @@
 use Rattle.std.proofs.Common.{◌≡◌, ℕ, Bool, true, false, List, cond, codes, bytes_eq, Option, Some, None, option_map, Ok, Err, refl, sym, ap, ap₂, subst, ◌∙◌}
 use Rattle.std.specs.Prelude.{ok_or}
 use Rattle.serde_json.specs.Data.{Data, string, array, object, no_items, item, no_members, member}
-use Rattle.value_json.proofs.Facts.{equal_bytes, map_some}
+use Rattle.value_json.proofs.Facts.{map_some}
 use Rattle.value_json.specs.Numbers.{count_of}
 use Rattle.value_json.proofs.ReadingHasTree.{count_takes}
 use Rattle.texts.specs.declared.side.Side.{Side}
@@ -10,18 +10,12 @@ use Rattle.texts.specs.declared.side.Side.TheVariants.{Left, Right}
 use Rattle.edit_json.specs.WordJson.{word_of_tree}
 use Rattle.edit_json.proofs.WritingReadsBack.{again as word_reads}
 use Rattle.edit_json.proofs.ReadingHasTree.{count_fits, takes as word_writes_back}
-use Rattle.edit_journal.specs.EntryJson.{side_text, side_of}
 use Rattle.turn_link.specs.Links.{EventTree, edit, seal, send, deliver, restart}
 use Rattle.link_run.specs.EventJson.{EventCause, not_an_event, not_an_edit, one_member, tree_of_side, tree_of_event, event_counts_fit, event_numbers_fit, side_of_tree, side_and_edit, edit_of_parts, event_of_side, delivery_of, event_of_member, event_of_tree}
+use Rattle.texts.proofs.Tests.{bytes_eq-is}
+use Rattle.edit_journal.proofs.Entries.{side_writes_back}
 
 -- ---- sides
-
-side_writes_back : (s : List ℕ) (side : Side) → side_of s ≡ Some side → side_text side ≡ s
-side_writes_back s side h = by_tests (bytes_eq s (codes "left")) (bytes_eq s (codes "right")) refl refl h where
-  by_tests : (l r : Bool) → l ≡ bytes_eq s (codes "left") → r ≡ bytes_eq s (codes "right") → cond l (Some Left) (cond r (Some Right) None) ≡ Some side → side_text side ≡ s
-  by_tests true r is other h = let same : Left ≡ side = cc in ap side_text (sym same) ∙ sym (equal_bytes s (codes "left") (sym is))
-  by_tests false true is other h = let same : Right ≡ side = cc in ap side_text (sym same) ∙ sym (equal_bytes s (codes "right") (sym other))
-  by_tests false false is other h = cc
 
 tree_side_writes : (d : Data) (side : Side) → side_of_tree d ≡ Some side → tree_of_side side ≡ d
 tree_side_writes (string s) side h = ap string (side_writes_back s side h)
@@ -74,11 +68,11 @@ member_writes k d e h = by_tests (bytes_eq k (codes "edit")) (bytes_eq k (codes 
       → f ≡ bytes_eq k (codes "deliver") → g ≡ bytes_eq k (codes "restart")
       → cond a (edit_of_parts (side_and_edit d)) (cond b (event_of_side seal d) (cond c (event_of_side send d) (cond f (delivery_of d) (cond g (event_of_side restart d) (Err not_an_event))))) ≡ Ok e
       → Has (one_member k d) e
-  by_tests true b c f g is1 is2 is3 is4 is5 h = edit_writes k d e (side_and_edit d) (pair_writes d) (equal_bytes k (codes "edit") (sym is1)) h
-  by_tests false true c f g is1 is2 is3 is4 is5 h = side_event_writes (codes "seal") seal k d e (equal_bytes k (codes "seal") (sym is2)) (λ side. (refl, refl, refl)) h
-  by_tests false false true f g is1 is2 is3 is4 is5 h = side_event_writes (codes "send") send k d e (equal_bytes k (codes "send") (sym is3)) (λ side. (refl, refl, refl)) h
-  by_tests false false false true g is1 is2 is3 is4 is5 h = delivery_writes k d e (equal_bytes k (codes "deliver") (sym is4)) h
-  by_tests false false false false true is1 is2 is3 is4 is5 h = side_event_writes (codes "restart") restart k d e (equal_bytes k (codes "restart") (sym is5)) (λ side. (refl, refl, refl)) h
+  by_tests true b c f g is1 is2 is3 is4 is5 h = edit_writes k d e (side_and_edit d) (pair_writes d) (bytes_eq-is k (codes "edit") (sym is1)) h
+  by_tests false true c f g is1 is2 is3 is4 is5 h = side_event_writes (codes "seal") seal k d e (bytes_eq-is k (codes "seal") (sym is2)) (λ side. (refl, refl, refl)) h
+  by_tests false false true f g is1 is2 is3 is4 is5 h = side_event_writes (codes "send") send k d e (bytes_eq-is k (codes "send") (sym is3)) (λ side. (refl, refl, refl)) h
+  by_tests false false false true g is1 is2 is3 is4 is5 h = delivery_writes k d e (bytes_eq-is k (codes "deliver") (sym is4)) h
+  by_tests false false false false true is1 is2 is3 is4 is5 h = side_event_writes (codes "restart") restart k d e (bytes_eq-is k (codes "restart") (sym is5)) (λ side. (refl, refl, refl)) h
   by_tests false false false false false is1 is2 is3 is4 is5 h = cc
 
 pub writes_back : (d : Data) (e : EventTree) → event_of_tree d ≡ Ok e → Has d e

@@ -4,4 +4,3 @@ pub mod ToldLines
 pub mod ShownState
 pub mod RunsInTurns
 pub mod AnswerSteps
-pub mod RefusalLines

@@ -1,18 +1,62 @@
--- What is read has the tree of the line, and if a line is refused no event has its tree.
-use Rattle.std.proofs.Common.{◌≡◌, true, Option, Some, None, Result, Ok, Err, IfOk, refl, sym, ap, ◌∙◌}
-use Rattle.std.specs.Prelude.{IfErr, ◌≢◌}
+-- What is read has the tree of the line, and if a line is refused no event has its tree. The refusals of a text and of a word are those of
+-- edit_journal.
+use Rattle.std.proofs.Common.{◌≡◌, true, Option, Some, None, Result, Ok, Err, IfOk, refl, sym, ap, subst, ◌∙◌}
+use Rattle.std.specs.Prelude.{IfErr, ◌≢◌, ok_or, option_map}
 use Rattle.serde_json.specs.Data.{Data}
+use Rattle.texts.specs.declared.side.Side.{Side}
+use Rattle.edit_module.specs.Words.{WordTree}
+use Rattle.edit_journal.specs.EntryJson as entries
 use Rattle.edit_journal.specs.EntryJson.{tree_of_text, tree_of_line}
+use Rattle.edit_journal.specs.Reading as of_entries
+use Rattle.edit_journal.specs.declared.fault.EntryFault.{EntryFault}
+use Rattle.edit_journal.specs.declared.fault.EntryFault.TheVariants as entry
 use Rattle.edit_journal.specs.declared.line.Line.{Line}
 use Rattle.edit_journal.specs.declared.line.Line.TheVariants.{Text, TooLong}
 use Rattle.turn_link.specs.declared.event.Event.{Event}
-use Rattle.turn_link.specs.Links.{EventTree}
+use Rattle.turn_link.specs.Links.{EventTree, edit}
 use Rattle.turn_link.specs.Views.{event_tree}
-use Rattle.link_run.specs.EventJson.{EventCause, tree_of_event, event_counts_fit, event_numbers_fit, event_if_json, event_of_line}
-use Rattle.link_run.specs.Reading.{Gives}
+use Rattle.link_run.specs.EventJson.{EventCause, not_an_edit, tree_of_event, event_counts_fit, event_numbers_fit, event_if_json, event_of_line}
+use Rattle.link_run.specs.Reading.{event_fault, cause_of, IsRefused, Gives}
 use Rattle.link_run.specs.declared.fault.EventFault.{EventFault}
 use Rattle.link_run.specs.declared.fault.EventFault.TheVariants.{LineTooLong, NotJson, NotAnEvent, NotAnEdit, NoMemory}
 use Rattle.link_run.proofs.Events.{writes_back, reads_back}
+
+-- ---- the refusals of edit_journal
+
+text_fault : (o : Option Data) (f : EntryFault) → of_entries.IsRefused (of_entries.cause_of f) (ok_or o entries.not_json) → IsRefused (cause_of (event_fault f)) (event_if_json o)
+text_fault o entry.NoMemory h = tt
+text_fault None entry.NotJson h = refl
+text_fault None entry.LineTooLong h = cc
+text_fault None entry.NotAnEntry h = cc
+text_fault None entry.NotAnEdit h = cc
+text_fault (Some d) entry.NotJson h = cc
+text_fault (Some d) entry.LineTooLong h = cc
+text_fault (Some d) entry.NotAnEntry h = cc
+text_fault (Some d) entry.NotAnEdit h = cc
+
+word_fault : (side : Side) (o : Option WordTree) (f : EntryFault) → of_entries.IsRefused (of_entries.cause_of f) (ok_or o entries.not_an_edit)
+    → IsRefused (cause_of (event_fault f)) (ok_or (option_map (edit side) o) not_an_edit)
+word_fault side o entry.NoMemory h = tt
+word_fault side None entry.NotAnEdit h = refl
+word_fault side None entry.LineTooLong h = cc
+word_fault side None entry.NotJson h = cc
+word_fault side None entry.NotAnEntry h = cc
+word_fault side (Some w) entry.NotAnEdit h = cc
+word_fault side (Some w) entry.LineTooLong h = cc
+word_fault side (Some w) entry.NotJson h = cc
+word_fault side (Some w) entry.NotAnEntry h = cc
+
+-- a text that is refused is no event
+pub text_refused : (o : Option Data) (f : EntryFault) (fault : EventFault) → fault ≡ event_fault f → of_entries.IsRefused (of_entries.cause_of f) (ok_or o entries.not_json)
+    → IsRefused (cause_of fault) (event_if_json o)
+text_refused o f fault is h = subst (λ v. IsRefused (cause_of v) (event_if_json o)) (sym is) (text_fault o f h)
+
+-- an edit whose word is refused is no event
+pub word_refused : (side : Side) (o : Option WordTree) (f : EntryFault) (fault : EventFault) → fault ≡ event_fault f
+    → of_entries.IsRefused (of_entries.cause_of f) (ok_or o entries.not_an_edit) → IsRefused (cause_of fault) (ok_or (option_map (edit side) o) not_an_edit)
+word_refused side o f fault is h = subst (λ v. IsRefused (cause_of v) (ok_or (option_map (edit side) o) not_an_edit)) (sym is) (word_fault side o f h)
+
+-- ---- lines
 
 if_json_tree : (o : Option Data) (e : EventTree) → event_if_json o ≡ Ok e → (event_counts_fit e ≡ true) × (o ≡ Some (tree_of_event e))
 if_json_tree None e h = cc

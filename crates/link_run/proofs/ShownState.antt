@@ -15,8 +15,9 @@ use Rattle.journal_answers.proofs.InStep.{in_step_fits}
 use Rattle.turn_link.specs.Sites.{LeftTree, RightTree}
 use Rattle.turn_link.specs.Links.{LinkTree, triple_at, left_of, right_of}
 use Rattle.turn_link.specs.Laws.{IsLinked, AreSites}
-use Rattle.turn_link.proofs.Numbers.{at_most, within_number}
+use Rattle.turn_link.proofs.Numbers.{at_most}
 use Rattle.link_run.specs.Answers.{shown_lines, state_lines}
+use Rattle.std.proofs.lemmas.Bool.{leb-true}
 
 module _ (holds : DocTree → CompTree → DocTree → Type 0) (left : TyTree) (right : TyTree) (start : CompTree) (carried : Side → CompTree → WordTree → Option Translated) where
   -- a triple at a number that a site may have is in step
@@ -25,7 +26,7 @@ module _ (holds : DocTree → CompTree → DocTree → Type 0) (left : TyTree) (
   in_step_at s k n within = by_test (nat_le (length s.made) n) refl where
     by_test : (b : Bool) → nat_le (length s.made) n ≡ b → (t : TripleTree) × (triple_at left right start carried s.made n ≡ Some t) × IsInStep holds t
     by_test true h =
-        let least = within_number (length s.made) n h in
+        let least = leb-true (length s.made) n h in
         let same : length s.made ≡ n = omega (arith, least, within) in
         (k.present.triple, ap (triple_at left right start carried s.made) (sym same) ∙ k.present.at_length, k.present.in_step)
     by_test false h =

@@ -1,8 +1,18 @@
 -- What a reader of events returns.
 use Rattle.std.specs.Prelude.{◌≡◌, Option, Some, None, Result, Ok, Err}
+use Rattle.edit_journal.specs.declared.fault.EntryFault.{EntryFault}
+use Rattle.edit_journal.specs.declared.fault.EntryFault.TheVariants as entry
 use Rattle.link_run.specs.declared.fault.EventFault.{EventFault}
 use Rattle.link_run.specs.declared.fault.EventFault.TheVariants.{LineTooLong, NotJson, NotAnEvent, NotAnEdit, NoMemory}
 use Rattle.link_run.specs.EventJson.{EventCause, line_too_long, not_json, not_an_event, not_an_edit}
+
+-- the fault of an event's line, for that of an entry's
+abbrev pub event_fault : EntryFault → EventFault
+event_fault entry.LineTooLong = LineTooLong
+event_fault entry.NotJson = NotJson
+event_fault entry.NotAnEntry = NotAnEvent
+event_fault entry.NotAnEdit = NotAnEdit
+event_fault entry.NoMemory = NoMemory
 
 -- what a fault says of the line; running out of memory says nothing of it
 abbrev pub cause_of : EventFault → Option EventCause

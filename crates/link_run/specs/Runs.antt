@@ -9,19 +9,12 @@ use Rattle.lens_core.specs.Consistency.{IsConsistent}
 use Rattle.lens_core.specs.Translation.{translate}
 use Rattle.lens_flat.specs.declared.flat.ReadyForm.{ReadyForm}
 use Rattle.line_stream.specs.declared.state.Answer.{Answer}
-use Rattle.accepted_programs.specs.Program.{Refusal, syntax, typing}
-use Rattle.answer_text.specs.Lines.{syntax_line, typing_line}
 use Rattle.turn_link.specs.Links.{LinkTree, link_start}
 use Rattle.turn_link.specs.Laws.{IsLinked}
 use Rattle.turn_link.specs.LinkViews.{LinkOf, link_tree}
 use Rattle.link_run.specs.EventJson.{event_of_line}
 use Rattle.link_run.specs.Items.{AnswerTree, take_item, is_refused}
 use Rattle.link_run.specs.Answers.{answer_line, state_lines}
-
--- the line that is written if the program part is refused
-abbrev pub refusal_line : Refusal → List ℕ
-refusal_line (syntax fault) = syntax_line fault
-refusal_line (typing failure) = typing_line failure
 
 -- the link of the lens of a form before any event
 abbrev pub first_link : FormTree → FormTree × LinkTree

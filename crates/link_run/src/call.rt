@@ -6,7 +6,8 @@ ghost use Rattle.accepted_programs.specs.Program.{lens_of};
 ghost use Rattle.journal_input.specs.declared.limits.TheConstants.{MOST_BYTES};
 ghost use Rattle.script_run.specs.Ends.{IsFinished, IsComplete, Reports, Stops};
 ghost use Rattle.script_run.specs.Ending.{Ended};
-ghost use Rattle.link_run.specs.Runs.{first_link, line_answer, refusal_line, state_text, IsInTurnsWith};
+ghost use Rattle.answer_text.specs.RefusalLines.{refused_part_line};
+ghost use Rattle.link_run.specs.Runs.{first_link, line_answer, state_text, IsInTurnsWith};
 
 use crate::script::open_link;
 use journal_input::piece_buffer;
@@ -37,9 +38,9 @@ use std::alloc::Global;
 /// `NoMemory` comes only if memory ran out, which no clause can say.
 pub fn run_link<S: Source, K: Sink>(alloc: Global, source: &mut S, sink: &mut K) -> ScriptStatus
     ensures reports { IsFinished result
-        → Reports lens_of refusal_line first_link line_answer state_text IsInTurnsWith
+        → Reports lens_of refused_part_line first_link line_answer state_text IsInTurnsWith
         (S.left source.old) (S.left source.new) (K.held sink.old) (K.held sink.new) result }
-    ensures stops_are_clean { Stops lens_of refusal_line first_link line_answer state_text IsInTurnsWith
+    ensures stops_are_clean { Stops lens_of refused_part_line first_link line_answer state_text IsInTurnsWith
         (S.left source.old) (S.left source.new) (K.held sink.old) (K.held sink.new) result }
     ensures source_fault { result ≡ ScriptStatus.SourceFault
         → Increased (S.faults source.old) (S.faults source.new) }
@@ -55,7 +56,7 @@ pub fn run_link<S: Source, K: Sink>(alloc: Global, source: &mut S, sink: &mut K)
 
 // The same, as one record of what holds at the end.
 fn run_script<S: Source, K: Sink>(alloc: Global, source: &mut S, sink: &mut K) -> ScriptStatus
-    ensures ended { Ended lens_of refusal_line first_link line_answer state_text IsInTurnsWith
+    ensures ended { Ended lens_of refused_part_line first_link line_answer state_text IsInTurnsWith
         (S.left source.old) (S.left source.new) (K.held sink.old) (K.held sink.new) result }
     ensures source_fault { result ≡ ScriptStatus.SourceFault
         → Increased (S.faults source.old) (S.faults source.new) }

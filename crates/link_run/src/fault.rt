@@ -1,5 +1,6 @@
 //! Why a line was not read.
 
+use edit_journal::EntryFault;
 use std::alloc::{AllocError, AllocFailed};
 
 /// Why a line was not read as an event. A line is tested in the order of these variants.
@@ -36,5 +37,22 @@ impl<T: Drop> From<AllocFailed<T>> for EventFault {
 
     fn from(_: AllocFailed<T>) -> EventFault {
         EventFault::NoMemory
+    }
+}
+
+impl From<EntryFault> for EventFault {
+    ghost use Rattle.std.specs.Prelude.{◌≡◌};
+    ghost use Rattle.link_run.specs.Reading.{event_fault};
+
+    ghost from_gives = { λ entry fault. fault ≡ event_fault entry };
+
+    fn from(fault: EntryFault) -> EventFault {
+        match fault {
+            EntryFault::LineTooLong => EventFault::LineTooLong,
+            EntryFault::NotJson => EventFault::NotJson,
+            EntryFault::NotAnEntry => EventFault::NotAnEvent,
+            EntryFault::NotAnEdit => EventFault::NotAnEdit,
+            EntryFault::NoMemory => EventFault::NoMemory,
+        }
     }
 }

@@ -42,7 +42,7 @@ pub fn take_item<L: EditLens>(
     link: &mut Link<L>,
     line: &Line,
 ) -> Result<Answer, AllocError>
-    ensures answer { IfOk result (λ answer. take_item_of L.left_type L.right_type L.start L.carried
+    ensures answer { IfOk result (λ answer. take_item_of L.EditLens
         link.old (event_of_line line.now) ≡ step_with (link_tree link.new) answer) }
     ensures has_line { IfOk result (λ answer. HasAnswerLine answer) }
     ensures lens { link.new.left.lens ≡ link.old.left.lens }
@@ -56,7 +56,7 @@ pub fn take_item<L: EditLens>(
 
 // The answer to an event.
 fn take_event<L: EditLens>(link: &mut Link<L>, event: &Event) -> Result<Answer, AllocError>
-    ensures answer { IfOk result (λ answer. take_item_of L.left_type L.right_type L.start L.carried
+    ensures answer { IfOk result (λ answer. take_item_of L.EditLens
         link.old (Ok (event_tree event.now)) ≡ step_with (link_tree link.new) answer) }
     ensures has_line { IfOk result (λ answer. HasAnswerLine answer) }
     ensures lens { link.new.left.lens ≡ link.old.left.lens }
@@ -73,7 +73,7 @@ fn take_event<L: EditLens>(link: &mut Link<L>, event: &Event) -> Result<Answer, 
 
 // Does nothing; its clause is what the left site's call says of the link.
 fn is_linked<L: EditLens>(link: &Link<L>)
-    ensures { IsLinkedOf L.left_type L.right_type L.start L.carried L.holds link.now }
+    ensures { IsLinkedOf L.EditLens link.now }
 {
     let _ = link.left();
 }

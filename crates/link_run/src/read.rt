@@ -2,19 +2,16 @@
 
 ghost use Rattle.std.specs.Prelude.{◌≡◌, ◌≢◌, true, Some, IfOk, IfErr, option_map, ok_or};
 ghost use Rattle.serde_json.specs.View.{view};
-ghost use Rattle.edit_module.specs.Views.{word_tree};
-ghost use Rattle.edit_json.specs.WordJson.{word_of_tree};
-ghost use Rattle.edit_journal.specs.EntryJson.{side_of, tree_of_text, tree_of_line};
+ghost use Rattle.edit_journal.specs.EntryJson.{side_of, tree_of_line};
 ghost use Rattle.turn_link.specs.Links.{EventTree};
 ghost use Rattle.turn_link.specs.Views.{event_tree};
-ghost use Rattle.link_run.specs.EventJson.{side_of_tree, side_and_edit, edit_of_parts, delivery_of, event_of_member, event_of_tree, event_of_text, event_of_line, tree_of_event, event_counts_fit, event_numbers_fit, not_json, not_an_event, not_an_edit};
+ghost use Rattle.link_run.specs.EventJson.{side_of_tree, side_and_edit, edit_of_parts, delivery_of, event_of_member, event_of_tree, event_of_text, event_of_line, tree_of_event, event_counts_fit, event_numbers_fit, not_an_event};
 ghost use Rattle.link_run.specs.Reading.{Gives};
 ghost use Rattle.link_run.specs.declared.fault.EventFault;
 
 use crate::fault::EventFault;
-use edit_journal::Line;
-use edit_json::{EditFault, read_word, two_items};
-use edit_module::Word;
+use edit_journal::{Line, read_edit, read_tree};
+use edit_json::two_items;
 use serde_json::Value;
 use std::alloc::Global;
 use texts::Side;
@@ -59,27 +56,12 @@ fn read_line(alloc: Global, line: &Line) -> Result<Event, EventFault>
     }
 }
 
+#[tactic(auto, using(crate::proofs::Reading::text_refused))]
 fn read_text(alloc: Global, bytes: &[u8]) -> Result<Event, EventFault>
     ensures { Gives event_tree result (event_of_text bytes.now) }
 {
     let tree = read_tree(alloc, bytes)?;
     read_event_tree(alloc, &tree)
-}
-
-// The tree of a text.
-fn read_tree(alloc: Global, bytes: &[u8]) -> Result<Value, EventFault>
-    ensures { Gives view result (ok_or (tree_of_text bytes.now) not_json) }
-{
-    match Value::from_slice(alloc, bytes) {
-        Ok(tree) => Ok(tree),
-        Err(error) => {
-            if error.is_memory() {
-                Err(EventFault::NoMemory)
-            } else {
-                Err(EventFault::NotJson)
-            }
-        }
-    }
 }
 
 fn read_event_tree(alloc: Global, tree: &Value) -> Result<Event, EventFault>
@@ -96,7 +78,7 @@ fn read_member(alloc: Global, name: &str, content: &Value) -> Result<Event, Even
     ensures { Gives event_tree result (event_of_member name.now (view content.now)) }
 {
     match name {
-        "edit" => read_edit(alloc, content),
+        "edit" => read_sided_edit(alloc, content),
         "seal" => Ok(Event::Seal(read_side(content)?)),
         "send" => Ok(Event::Send(read_side(content)?)),
         "deliver" => read_delivery(content),
@@ -105,13 +87,15 @@ fn read_member(alloc: Global, name: &str, content: &Value) -> Result<Event, Even
     }
 }
 
-fn read_edit(alloc: Global, content: &Value) -> Result<Event, EventFault>
+#[tactic(auto, using(crate::proofs::Reading::word_refused))]
+fn read_sided_edit(alloc: Global, content: &Value) -> Result<Event, EventFault>
     ensures { Gives event_tree result (edit_of_parts (side_and_edit (view content.now))) }
 {
-    match side_and_edit(content) {
-        Some((side, edit)) => Ok(Event::Edit(side, read_edit_word(alloc, edit)?)),
-        None => Err(EventFault::NotAnEvent),
-    }
+    let Some((side, edit)) = side_and_edit(content) else {
+        return Err(EventFault::NotAnEvent);
+    };
+    let word = read_edit(alloc, edit)?;
+    Ok(Event::Edit(side, word))
 }
 
 // The side and the tree of the edit, of an array of exactly these two.
@@ -120,17 +104,6 @@ fn side_and_edit(tree: &Value) -> Option<(Side, &Value)>
 {
     let (side, edit) = two_items(tree)?;
     Some((side_of_tree(side)?, edit))
-}
-
-// The word of an edit.
-fn read_edit_word(alloc: Global, edit: &Value) -> Result<Word, EventFault>
-    ensures { Gives word_tree result (ok_or (word_of_tree (view edit.now)) not_an_edit) }
-{
-    match read_word(alloc, edit) {
-        Ok(word) => Ok(word),
-        Err(EditFault::NotAnEdit) => Err(EventFault::NotAnEdit),
-        Err(EditFault::NoMemory) => Err(EventFault::NoMemory),
-    }
 }
 
 fn read_delivery(content: &Value) -> Result<Event, EventFault>

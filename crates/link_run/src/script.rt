@@ -5,12 +5,13 @@ ghost use Rattle.accepted_programs.specs.Program.{Refusal, lens_of};
 ghost use Rattle.accepted_programs.specs.Refused.{IsKnown, IsRefusal};
 ghost use Rattle.script_parts.specs.Parts.{HoldsPart};
 ghost use Rattle.script_run.specs.Ending.{Opens, IsNotOpened};
-ghost use Rattle.link_run.specs.Runs.{first_link, line_answer, refusal_line, state_of, state_text};
+ghost use Rattle.answer_text.specs.RefusalLines.{refused_part_line};
+ghost use Rattle.link_run.specs.Runs.{first_link, line_answer, state_of, state_text};
 
 use crate::journal::answer_item;
 use crate::state::state_lines;
 use accepted_programs::Refused;
-use answer_text::{syntax_line, typing_line};
+use answer_text::refused_part_line;
 use edit_journal::Line;
 use lens_flat::Flat;
 use lens_types::Typed;
@@ -31,7 +32,8 @@ impl ScriptState for LinkRun {
     ghost use Rattle.lens_forms.specs.Forms.{FormTree};
     ghost use Rattle.accepted_programs.specs.Program.{Refusal, lens_of};
     ghost use Rattle.turn_link.specs.Links.{LinkTree};
-    ghost use Rattle.link_run.specs.Runs.{first_link, line_answer, refusal_line, state_of, state_text, IsInTurnsWith};
+    ghost use Rattle.answer_text.specs.RefusalLines.{refused_part_line};
+    ghost use Rattle.link_run.specs.Runs.{first_link, line_answer, state_of, state_text, IsInTurnsWith};
 
     ghost Accepted = { FormTree };
 
@@ -43,7 +45,7 @@ impl ScriptState for LinkRun {
 
     ghost accepted = { lens_of };
 
-    ghost refusal_line = { refusal_line };
+    ghost refusal_line = { refused_part_line };
 
     ghost start = { first_link };
 
@@ -74,7 +76,7 @@ fn text_of_state(alloc: Global, link: &Link<Flat>) -> Result<Bytes, AllocError>
 /// The link of a program part before any event, or why there is none.
 pub(crate) fn open_link(alloc: Global, program: &ProgramText) -> Result<LinkRun, NotOpened>
     ensures { (part : List ℕ) → HoldsPart program.now part
-        → Opens (lens_of part) refusal_line first_link (λ run. state_of run.link) result }
+        → Opens (lens_of part) refused_part_line first_link (λ run. state_of run.link) result }
 {
     match program.lens(alloc) {
         Ok(typed) => start_run(alloc, typed),
@@ -85,7 +87,7 @@ pub(crate) fn open_link(alloc: Global, program: &ProgramText) -> Result<LinkRun,
 // The link of a lens before any event.
 fn start_run(alloc: Global, typed: Typed) -> Result<LinkRun, NotOpened>
     ensures { (part : List ℕ) → lens_of part ≡ Ok (form_tree typed)
-        → Opens (lens_of part) refusal_line first_link (λ run. state_of run.link) result }
+        → Opens (lens_of part) refused_part_line first_link (λ run. state_of run.link) result }
 {
     let started = first_run(alloc, &typed);
     drop(typed);
@@ -107,24 +109,12 @@ fn first_run(alloc: Global, typed: &Typed) -> Result<LinkRun, AllocError>
 fn refusal(alloc: Global, refused: Refused) -> NotOpened
     requires { IsKnown refused }
     ensures { (outcome : Result FormTree Refusal) → IsRefusal outcome refused
-        → IsNotOpened outcome refusal_line first_link result }
+        → IsNotOpened outcome refused_part_line first_link result }
 {
-    let line = line_of_refusal(alloc, &refused);
+    let line = refused_part_line(alloc, &refused);
     drop(refused);
     match line {
         Ok(line) => NotOpened::Refused(line),
         Err(_) => NotOpened::NoMemory,
-    }
-}
-
-fn line_of_refusal(alloc: Global, refused: &Refused) -> Result<Bytes, AllocError>
-    requires { IsKnown refused.now }
-    ensures { IfOk result (λ line. (outcome : Result FormTree Refusal) → IsRefusal outcome refused.now
-        → IsNotOpened outcome refusal_line first_link (NotOpened.Refused line)) }
-{
-    match refused {
-        Refused::Syntax(fault) => syntax_line(alloc, fault),
-        Refused::Typing(fault) => typing_line(alloc, fault),
-        Refused::NoMemory => Err(AllocError),
     }
 }

@@ -1,7 +1,7 @@
 -- The storing of payloads in an empty log, and how it stops.
-use Rattle.std.proofs.Common.{◌≡◌, ◌⊎◌, inl, inr, ℕ, suc, ◌+◌, ◌-◌, ◌^◌, ◌<◌, List, [], ◌∷◌, ◌++◌, length, drop, get_or, drop-cons, add-one, Option, Some, Err, IfSome, refl, sym, ap, subst, ◌∙◌, append_assoc, append-nil, arith}
+use Rattle.std.proofs.Common.{◌≡◌, ◌⊎◌, ℕ, suc, ◌+◌, ◌-◌, ◌^◌, ◌<◌, List, [], ◌∷◌, ◌++◌, length, drop, get_or, drop-cons, add-one, Option, Some, Err, IfSome, refl, sym, ap, subst, ◌∙◌, append_assoc, append-nil, arith}
 use Rattle.gate_log.specs.CallEnds.{AppendEnds}
-use Rattle.gate_log.specs.LogBytes.{closed_gate, records_length}
+use Rattle.gate_log.specs.LogBytes.{closed_gate}
 use Rattle.gate_log.specs.LogOnDisk.{LogState, Stands}
 use Rattle.gate_log.specs.declared.fault.LogFault.{LogFault}
 use Rattle.gate_log.specs.declared.fault.LogFault.TheVariants as log
@@ -10,14 +10,11 @@ use Rattle.stored_run.proofs.Effects.{room_over}
 use Rattle.stored_run.proofs.StoredPayloads.{images_held}
 use Rattle.making_steps.specs.Making.{StopsAppending}
 use Rattle.making_steps.specs.Stores.{IsTooLong, HoldsStore, HoldsFirst}
-
-pub records_joined : (front rest : List (List ℕ)) → records_length (front ++ rest) ≡ records_length front + records_length rest
-records_joined [] rest = omega arith
-records_joined (payload ∷ front) rest = omega (arith, records_joined front rest)
+use Rattle.gate_log.proofs.Heads.{records_length_append}
 
 -- there is no room for one more payload
 pub too_long : (front rest : List (List ℕ)) (payload : List ℕ) (gate : ℕ) → gate ≡ closed_gate front → 2 ^ 63 - 1 < gate + 10 + length payload → IsTooLong (front ++ payload ∷ rest)
-too_long front rest payload gate at full = omega (arith, at, full, records_joined front (payload ∷ rest))
+too_long front rest payload gate at full = omega (arith, at, full, records_length_append front (payload ∷ rest))
 
 module _ {D : Type 0} (content : D → Option (List ℕ)) (images : D → List ℕ → Type 0) where
   -- the first of the payloads are stored, and these are left
@@ -45,7 +42,7 @@ module _ {D : Type 0} (content : D → Option (List ℕ)) (images : D → List �
         front = s.front ++ payload ∷ [];
         parts = s.parts ∙ ap (λ r. s.front ++ r) next ∙ sym (append_assoc s.front (payload ∷ []) (drop (i + 1) records));
         stands = stands s.front s.stands;
-        gate = omega (arith, gate, s.gate, records_joined s.front (payload ∷ []));
+        gate = omega (arith, gate, s.gate, records_length_append s.front (payload ∷ []));
       }
 
   -- there is no room for the next payload

@@ -1,5 +1,5 @@
 -- The ends of a command that makes a store, whatever it refuses and makes.
-use Rattle.std.proofs.Common.{◌≡◌, ◌⊎◌, inl, inr, ℕ, ◌+◌, ◌<◌, ◌≤◌, List, [], ◌∷◌, ◌++◌, length, Option, Some, None, Ok, Err, IfSome, refl, sym, ap, subst, ◌∙◌, append-nil, length-append, arith}
+use Rattle.std.proofs.Common.{◌≡◌, ◌⊎◌, inl, inr, ℕ, ◌+◌, ◌<◌, ◌≤◌, List, [], ◌∷◌, ◌++◌, length, Option, Some, None, Ok, Err, IfSome, refl, sym, ap, subst, ◌∙◌, arith}
 use Rattle.std.specs.Io.KnownBytes.{Appends, Consumes, IsAtEnd}
 use Rattle.std.proofs.KnownBytes.{Appends-nil, Consumes-nil}
 use Rattle.lens_io.specs.Disks.{SameImages}
@@ -12,14 +12,15 @@ use Rattle.script_parts.specs.Coming.{HasPart}
 use Rattle.script_parts.specs.Lines.{program_part}
 use Rattle.stored_run.specs.Refusals.{IsUnwritten, refusal_line}
 use Rattle.stored_run.specs.declared.refusals.StoreRefusal.TheVariants.{LogExists}
-use Rattle.making_steps.specs.Ends.{GivesLine, StopsAfter, FindsStore, StopsEarly, RefusesScript, MakesStore, Ends, IsEnd, IsRefused, IsComplete}
-use Rattle.making_steps.specs.Helpers.{ReadsRefused, ReadsFront, RefusesWith}
-use Rattle.making_steps.specs.Making.{IsTaken, EndsStore, EndsPlan}
+use Rattle.making_steps.specs.Ends.{GivesLine, StopsAfter, MakesStore, Ends, IsEnd, IsComplete}
+use Rattle.making_steps.specs.Helpers.{ReadsFront, RefusesWith}
+use Rattle.making_steps.specs.Making.{EndsStore, EndsPlan}
 use Rattle.making_steps.specs.Reading.{status_at}
 use Rattle.making_steps.specs.Scripts.{RefusesPart}
-use Rattle.making_steps.specs.Stores.{IsTooLong, HoldsStore, EndsMaking}
+use Rattle.making_steps.specs.Stores.{IsTooLong, EndsMaking}
 use Rattle.making_steps.specs.declared.status.MakingStatus.{MakingStatus}
 use Rattle.making_steps.specs.declared.status.MakingStatus.TheVariants.{Done, SomeRefused, ProgramRefused, StoreRefused, SourceFault, SinkFault, DiskFault, InputTooLong, NoMemory}
+use Rattle.script_parts.proofs.TakenParts.{few_taken, part_of_all, all_taken}
 
 -- ---- facts of known bytes
 
@@ -32,20 +33,6 @@ some_found (Some (byte ∷ bytes)) count taken none some is = (omega arith, none
 both_some : (o : Option (List ℕ)) (P Q R : List ℕ → Type 0) → ((bytes : List ℕ) → P bytes → Q bytes → R bytes) → IfSome o P → IfSome o Q → IfSome o R
 both_some None P Q R f h k = tt
 both_some (Some bytes) P Q R f h k = f bytes h k
-
-all_taken : (bytes : List ℕ) (left' : Option (List ℕ)) (taken : List ℕ) → Consumes (Some bytes) left' taken → IsAtEnd left' → bytes ≡ taken
-all_taken bytes None taken h end = absurd h
-all_taken bytes (Some rest) taken h end = h ∙ ap (λ r. taken ++ r) end ∙ append-nil taken
-
-few_taken : (bytes : List ℕ) (left' : Option (List ℕ)) (taken : List ℕ) → Consumes (Some bytes) left' taken → length taken ≤ length bytes
-few_taken bytes None taken h = absurd h
-few_taken bytes (Some rest) taken h = omega (arith, ap length h, length-append taken rest)
-
--- if the separator has come, the program part of all bytes is that of those taken
-part_of_all : (bytes : List ℕ) (left' : Option (List ℕ)) (taken : List ℕ) → Consumes (Some bytes) left' taken → HasPart taken ⊎ IsAtEnd left' → program_part bytes ≡ program_part taken
-part_of_all bytes None taken h whole = absurd h
-part_of_all bytes (Some rest) taken h (inl part) = ap program_part h ∙ part.stays rest
-part_of_all bytes (Some rest) taken h (inr end) = ap program_part (all_taken bytes (Some rest) taken h end)
 
 never_both : (part : List ℕ) (form : FormTree) (refusal : Refusal) → lens_of part ≡ Ok form → lens_of part ≡ Err refusal → ⊥
 never_both part form refusal e f = cc

@@ -1,7 +1,7 @@
 -- What the reading of a script has found.
 use Rattle.std.proofs.Common.{◌≡◌, ◌⊎◌, inl, inr, ℕ, ◌+◌, ◌≤◌, List, [], ◌++◌, length, Option, Ok, Err, sym, ap, subst, ◌∙◌, append_assoc, length-append, arith}
-use Rattle.std.specs.Io.KnownBytes.{Consumes, IsAtEnd}
-use Rattle.std.proofs.KnownBytes.{Consumes-nil, Consumes-trans}
+use Rattle.std.specs.Io.KnownBytes.{Consumes}
+use Rattle.std.proofs.KnownBytes.{Consumes-trans}
 use Rattle.accepted_programs.specs.Program.{lens_of}
 use Rattle.accepted_programs.specs.Refused.{IsKnown, IsRefusal}
 use Rattle.accepted_programs.specs.declared.program.Refused.{Refused}
@@ -14,17 +14,10 @@ use Rattle.journal_input.specs.declared.limits.TheConstants.{MOST_BYTES}
 use Rattle.program_terms.specs.Terms.{ProgramTree}
 use Rattle.script_parts.specs.Coming.{HasPart}
 use Rattle.script_parts.specs.Lines.{program_part}
-use Rattle.script_parts.specs.Parts.{HoldsPart, ReadsPart, ReadsAll, StopsHead}
+use Rattle.script_parts.specs.Parts.{HoldsPart, ReadsPart, ReadsAll}
 use Rattle.script_parts.specs.declared.script.ProgramText.{ProgramText}
 use Rattle.making_steps.specs.Helpers.{ReadsScript, ReadsRefused, ReadsFront}
 use Rattle.making_steps.specs.Scripts.{IsAccepted}
-
--- nothing was read
-pub reads_none : (left : Option (List ℕ)) → ReadsFront left left taking.NoMemory
-reads_none left = record { bytes = []; consumes = Consumes-nil left; at_most = omega arith; stops = tt }
-
-pub reads_head : (left left' : Option (List ℕ)) (fault : TakeFault) → StopsHead left left' fault → ReadsFront left left' fault
-reads_head left left' fault s = record { bytes = s.bytes; consumes = s.consumes; at_most = s.at_most; stops = s.stops }
 
 -- ---- a script that is a program part alone
 

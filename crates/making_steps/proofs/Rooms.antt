@@ -1,19 +1,10 @@
 -- A store that a disk has no room for.
-use Rattle.std.proofs.Common.{inl, inr, ℕ, ◌<◌, ◌≤◌, List, [], length, Option}
+use Rattle.std.proofs.Common.{ℕ, ◌<◌, ◌≤◌, List, [], length, Option}
 use Rattle.std.specs.Prelude.{IfSome}
 use Rattle.std.specs.Io.KnownBytes.{Consumes, IsAtEnd}
 use Rattle.journal_input.specs.declared.limits.TheConstants.{MOST_BYTES}
-use Rattle.stored_run.specs.Rooms.{HasNoRoom}
 use Rattle.stored_run.proofs.Effects.{room_over}
 use Rattle.making_steps.specs.Rooms.{HasNoRoomToMake, PlanHasNoRoom, ScriptHasNoRoom}
-
--- no room for an empty log
-pub no_room_for_mark : (o : Option ℕ) (payloads : List (List ℕ)) → IfSome o (λ most. most < 9) → IfSome o (λ most. HasNoRoomToMake most payloads)
-no_room_for_mark o payloads h = room_over o (λ most. most < 9) (λ most. HasNoRoomToMake most payloads) (λ most small. inl small) h
-
--- no room for a record
-pub no_room_for_record : (o : Option ℕ) (payloads : List (List ℕ)) → IfSome o (λ most. HasNoRoom most [] payloads) → IfSome o (λ most. HasNoRoomToMake most payloads)
-no_room_for_record o payloads h = room_over o (λ most. HasNoRoom most [] payloads) (λ most. HasNoRoomToMake most payloads) (λ most no_room. inr no_room) h
 
 -- no room for what was planned
 pub no_room_for_plan : (o : Option ℕ) (P : List (List ℕ) → List ℕ → Type 0) (payloads : List (List ℕ)) (lines : List ℕ) → P payloads lines → IfSome o (λ most. HasNoRoomToMake most payloads)

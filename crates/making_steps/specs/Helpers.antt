@@ -1,10 +1,11 @@
 -- For the helpers of the commands: what was read of a script, and how a refusal is written.
-use Rattle.std.specs.Prelude.{◌≡◌, ◌⊎◌, ℕ, ◌+◌, ◌≤◌, List, [], length, Result, Ok, Err}
+use Rattle.std.specs.Prelude.{◌≡◌, ◌⊎◌, ℕ, ◌+◌, ◌≤◌, List, [], length, Result, Ok}
 use Rattle.std.specs.declared.option.Option.{Option}
 use Rattle.std.specs.Io.KnownBytes.{Appends, Consumes, IsAtEnd}
 use Rattle.accepted_programs.specs.Program.{Refusal, lens_of}
 use Rattle.accepted_programs.specs.Refused.{IsKnown, IsRefusal}
 use Rattle.accepted_programs.specs.declared.program.Refused.{Refused}
+use Rattle.answer_text.specs.RefusalLines.{IsLineOf}
 use Rattle.lens_forms.specs.Forms.{FormTree}
 use Rattle.lens_io.specs.declared.failed.TakeFault.{TakeFault}
 use Rattle.journal_input.specs.Taking.{StopsAt}
@@ -13,19 +14,13 @@ use Rattle.program_terms.specs.Terms.{ProgramTree}
 use Rattle.script_parts.specs.Coming.{HasPart}
 use Rattle.script_parts.specs.Lines.{program_part}
 use Rattle.making_steps.specs.Ends.{GivesLine}
-use Rattle.making_steps.specs.Scripts.{IsAccepted, program_line}
+use Rattle.making_steps.specs.Scripts.{IsAccepted}
 use Rattle.making_steps.specs.declared.scripts.Unread.{Unread}
 use Rattle.making_steps.specs.declared.scripts.Unread.TheVariants.{Refused as IsNoProgram, Stopped}
 use Rattle.making_steps.specs.declared.status.MakingStatus.{MakingStatus}
 use Rattle.making_steps.specs.declared.status.MakingStatus.TheVariants.{ProgramRefused, NoMemory}
 
 -- ---- the refusal of a program part
-
--- the outcome is a refusal, and this is its line
-pub record IsLineOf (outcome : Result FormTree Refusal) (line : List ℕ) : Type 0 where
-  pub refusal : Refusal
-  pub is : outcome ≡ Err refusal
-  pub is_line : line ≡ program_line refusal
 
 -- The outcome is a refusal, and its line was written; or memory ran out before.
 abbrev pub RefusesWith : Result FormTree Refusal → Option (List ℕ) → Option (List ℕ) → MakingStatus → Type 0

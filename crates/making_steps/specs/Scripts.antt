@@ -2,8 +2,8 @@
 use Rattle.std.specs.Prelude.{◌≡◌, ◌⊎◌, ℕ, List, Ok, Err}
 use Rattle.std.specs.declared.option.Option.{Option}
 use Rattle.std.specs.Io.KnownBytes.{IsAtEnd}
-use Rattle.accepted_programs.specs.Program.{Refusal, syntax, typing, lens_of}
-use Rattle.answer_text.specs.Lines.{syntax_line, typing_line}
+use Rattle.accepted_programs.specs.Program.{Refusal, lens_of}
+use Rattle.answer_text.specs.RefusalLines.{refused_part_line}
 use Rattle.lens_forms.specs.Forms.{FormTree}
 use Rattle.lens_syntax.specs.Programs.{bounded}
 use Rattle.program_terms.specs.Terms.{ProgramTree}
@@ -15,15 +15,10 @@ pub record IsAccepted (part : List ℕ) (program : ProgramTree) (form : FormTree
   pub read : bounded part ≡ Ok program
   pub has_lens : lens_of part ≡ Ok form
 
--- `program refused: REASON`
-abbrev pub program_line : Refusal → List ℕ
-program_line (syntax cause) = syntax_line cause
-program_line (typing failure) = typing_line failure
-
 -- The program part is known whole and refused, and this is the line of that refusal: the separator has come with the last piece of
 -- these bytes, or the source is at its end.
 pub record RefusesPart (left' : Option (List ℕ)) (bytes line : List ℕ) : Type 0 where
   pub whole : HasPart bytes ⊎ IsAtEnd left'
   pub refusal : Refusal
   pub refused : lens_of (program_part bytes) ≡ Err refusal
-  pub is_line : line ≡ program_line refusal
+  pub is_line : line ≡ refused_part_line refusal

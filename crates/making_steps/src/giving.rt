@@ -1,19 +1,18 @@
 // Writing the line that a command ends with.
-ghost use Rattle.std.specs.Prelude.{◌≡◌, ◌⊎◌, IfOk, Err, Result};
+ghost use Rattle.std.specs.Prelude.{◌≡◌, ◌⊎◌, Result};
 ghost use Rattle.std.specs.Io.KnownBytes.{Appends};
 ghost use Rattle.lens_io.specs.Causes.{SinkFailed};
 ghost use Rattle.lens_forms.specs.Forms.{FormTree};
 ghost use Rattle.accepted_programs.specs.Program.{Refusal};
 ghost use Rattle.accepted_programs.specs.Refused.{IsKnown, IsRefusal};
 ghost use Rattle.making_steps.specs.Ends.{GivesLine};
-ghost use Rattle.making_steps.specs.Helpers.{RefusesWith, IsLineOf};
+ghost use Rattle.making_steps.specs.Helpers.{RefusesWith};
 
 use crate::status::MakingStatus;
 use accepted_programs::Refused;
-use answer_text::{syntax_line, typing_line};
+use answer_text::refused_part_line;
 use lens_io::{Sink, give_all};
-use std::alloc::{AllocError, Global};
-use texts::Bytes;
+use std::alloc::Global;
 
 /// Writes these bytes, and ends with the status.
 pub fn give_line<K: Sink>(sink: &mut K, line: &[u8], status: MakingStatus) -> MakingStatus
@@ -35,22 +34,10 @@ pub fn refuse_program<K: Sink>(alloc: Global, refused: Refused, sink: &mut K) ->
     ensures sink_fault { result ≡ MakingStatus.SinkFault
         → SinkFailed K.faults K.empty_takes K.room K.held sink.old sink.new }
 {
-    let line = refusal_line(alloc, &refused);
+    let line = refused_part_line(alloc, &refused);
     drop(refused);
     match line {
         Ok(line) => give_line(sink, line.as_slice(), MakingStatus::ProgramRefused),
         Err(_) => MakingStatus::NoMemory,
-    }
-}
-
-// The line of a refusal of a program part.
-fn refusal_line(alloc: Global, refused: &Refused) -> Result<Bytes, AllocError>
-    requires { IsKnown refused.now }
-    ensures { IfOk result (λ line. (outcome : Result FormTree Refusal) → IsRefusal outcome refused.now → IsLineOf outcome line) }
-{
-    match refused {
-        Refused::Syntax(fault) => syntax_line(alloc, fault),
-        Refused::Typing(fault) => typing_line(alloc, fault),
-        Refused::NoMemory => Err(AllocError),
     }
 }

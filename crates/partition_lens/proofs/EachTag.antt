@@ -7,8 +7,8 @@ use Rattle.edit_module.specs.Words.{WordTree, no_primitives, joined}
 use Rattle.edit_module.proofs.Words.{joined_assoc}
 use Rattle.lens_core.specs.Emitted.{at_word}
 use Rattle.lens_core.specs.Partition.{at_each_tag}
-use Rattle.lens_core.proofs.JoinedWords.{joined_nothing}
 use Rattle.lens_core.proofs.Tags.{tag_count-length}
+use Rattle.edit_module.proofs.JoinedWords.{joined_nothing}
 
 -- what is left of the tags, from the number i on, behind the word u
 abbrev pub left_tags : WordTree → List (List ℕ × Ty) → ℕ → (ℕ → WordTree) → WordTree

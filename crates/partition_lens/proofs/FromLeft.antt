@@ -1,12 +1,13 @@
 -- Partition from the left: each primitive of the list is translated to a word that turns the lists on the right.
 use Rattle.std.proofs.Common.{◌≡◌, ℕ, zero, suc, ◌+◌, ◌-◌, ◌<◌, ◌≤◌, Bool, true, false, ◌&&◌, List, [], ◌∷◌, ◌++◌, length, map, take, drop, get_or, replicate, Option, Some, Ok, refl, ap, sym, ◌∙◌, subst, arith, length-append}
 use Rattle.std.specs.Prelude.{nat_eq, nat_lt, nat_le, cond, slice_index}
-use Rattle.std.proofs.lemmas.Bool.{eq-eqb, eqb-true}
+use Rattle.std.proofs.lemmas.Bool.{eq-eqb, eqb-true, lt-ltb, leb-true, ltb-true}
 use Rattle.std.proofs.lemmas.List.{append-nil, map-append, length-map, length-drop, take-append-drop, drop-map}
 use Rattle.hold_shapes.specs.declared.edit.Place.TheVariants.{Index, Key, Node}
 use Rattle.hold_shapes.specs.declared.edit.ShapeEdit.{ShapeEdit}
 use Rattle.hold_shapes.specs.declared.edit.ShapeEdit.TheVariants.{Ins, Del, MoveItem, Reorder, PutKey, DropKey, RenameKey, Graft, Prune, Shift, Hang}
 use Rattle.hold_shapes.specs.Plans.{is_count, is_each_new}
+use Rattle.hold_shapes.specs.declared.lists.TheConstants.{MOST_ITEMS}
 use Rattle.texts.proofs.Conjunction.{both, first, second}
 use Rattle.doc_values.specs.Documents.{DocTree}
 use Rattle.doc_values.specs.Types.{TyTree, ty_alt, ty_list, FieldTrees, no_fields, more_fields}
@@ -19,11 +20,12 @@ use Rattle.tag_seq.specs.Tags.{are_below, count, rank, moved}
 use Rattle.tag_seq.proofs.Bounds.{are_below-append, are_below-take, are_below-replicate, are_below-get_or, are_below-moved}
 use Rattle.lens_core.specs.Consistency.{list_doc}
 use Rattle.lens_core.specs.Partition.{Parted, mv, del, reorder, at_each_tag, ranks_of, part_left}
-use Rattle.partition_lens.proofs.ItemLists.{Item, tag_of, tags_of, contents_at, contents-append, length-contents, contents-here, contents-off, rank-part, tag-part, here_is, without_here, put_here, split_at, cut_at, parts_same, same_number}
-use Rattle.partition_lens.proofs.ListEdits.{Allowed, edited, edited-through, Turns, edit_turns, edit_back, mod_back, mv_turns, del_turns, reorder_turns, below, is_below, at_most}
-use Rattle.partition_lens.proofs.RightLists.{tag_type, IsPartition, TurnsLists, one_list_turns, each_list_turns, item_doc, item_docs, lists_by_tag}
+use Rattle.lens_core.proofs.ItemLists.{Item, tag_of, tags_of, contents_at, contents-append, length-contents, contents-here, contents-off, rank-part, tag-part, here_is, without_here, put_here, split_at, cut_at, parts_same}
+use Rattle.partition_lens.proofs.ListEdits.{Allowed, edited, edited-through, edit_turns, edit_back, mod_back, mv_turns, del_turns, reorder_turns}
+use Rattle.lens_core.proofs.RightLists.{tag_type, IsPartition, TurnsLists, one_list_turns, each_list_turns, item_doc, item_docs, lists_by_tag, Turns}
 use Rattle.partition_lens.proofs.ItemWords.{item_steps}
 use Rattle.partition_lens.proofs.TagOrders.{IsOrder, ranks_order, gathered_by_tag, each_within}
+use Rattle.texts.proofs.Tests.{nat_eq-refl}
 
 -- the step: the new items, and the word that turns the lists on the right into theirs
 pub record LeftStep (fs : FieldTrees) (ps : List Item) (o : Option Parted) (x : DocTree) : Type 0 where
@@ -34,11 +36,11 @@ pub record LeftStep (fs : FieldTrees) (ps : List Item) (o : Option Parted) (x : 
   pub turns : TurnsLists fs word (lists_by_tag ps) (lists_by_tag items)
   pub low : are_below (tag_count fs) (tags_of items) ≡ true
 
--- ---- tags below a bound
+-- ---- tags ltb-true a bound
 
 below_order : (n : ℕ) (xs f : List ℕ) → 0 < n → are_below n xs ≡ true → are_below n (map (λ k. get_or xs k 0) f) ≡ true
 below_order n xs [] z h = refl
-below_order n xs (k ∷ f) z h = both (nat_lt (get_or xs k 0) n) (are_below n (map (λ k. get_or xs k 0) f)) (is_below (get_or xs k 0) n (are_below-get_or n k xs z h)) (below_order n xs f z h)
+below_order n xs (k ∷ f) z h = both (nat_lt (get_or xs k 0) n) (are_below n (map (λ k. get_or xs k 0) f)) (lt-ltb (get_or xs k 0) n (are_below-get_or n k xs z h)) (below_order n xs f z h)
 
 edited_low : (n : ℕ) (e : ShapeEdit) (xs : List ℕ) → 0 < n → are_below n xs ≡ true → are_below n (edited 0 e xs) ≡ true
 edited_low n (Ins c) xs z h = are_below-append n xs (replicate c 0) h (are_below-replicate n 0 c z)
@@ -55,11 +57,11 @@ edited_low n (Hang q r) xs z h = h
 
 -- the tag of one item, and another one in its place
 pub below_here : (n : ℕ) (us : List Item) (x : Item) (ws : List Item) → are_below n (tags_of (us ++ x ∷ ws)) ≡ true → x.0 < n
-below_here n [] x ws h = below x.0 n (first (nat_lt x.0 n) (are_below n (tags_of ws)) h)
+below_here n [] x ws h = ltb-true x.0 n (first (nat_lt x.0 n) (are_below n (tags_of ws)) h)
 below_here n (u ∷ us) x ws h = below_here n us x ws (second (nat_lt u.0 n) (are_below n (tags_of (us ++ x ∷ ws))) h)
 
 pub below_there : (n : ℕ) (us : List Item) (x y : Item) (ws : List Item) → are_below n (tags_of (us ++ x ∷ ws)) ≡ true → y.0 < n → are_below n (tags_of (us ++ y ∷ ws)) ≡ true
-below_there n [] x y ws h k = both (nat_lt y.0 n) (are_below n (tags_of ws)) (is_below y.0 n k) (second (nat_lt x.0 n) (are_below n (tags_of ws)) h)
+below_there n [] x y ws h k = both (nat_lt y.0 n) (are_below n (tags_of ws)) (lt-ltb y.0 n k) (second (nat_lt x.0 n) (are_below n (tags_of ws)) h)
 below_there n (u ∷ us) x y ws h k =
     both (nat_lt u.0 n) (are_below n (tags_of (us ++ y ∷ ws))) (first (nat_lt u.0 n) (are_below n (tags_of (us ++ x ∷ ws))) h)
     (below_there n us x y ws (second (nat_lt u.0 n) (are_below n (tags_of (us ++ x ∷ ws))) h) k)
@@ -85,7 +87,7 @@ record EditStep (fs : FieldTrees) (ps : List Item) (e : ShapeEdit) (o : Option P
 -- Ins
 pub contents_many : (t c : ℕ) (v : DocTree) → contents_at t (replicate c (t, v)) ≡ replicate c v
 contents_many t zero v = refl
-contents_many t (suc c) v = rw (same_number t) (ap (λ z. v ∷ z) (contents_many t c v))
+contents_many t (suc c) v = rw (nat_eq-refl t) (ap (λ z. v ∷ z) (contents_many t c v))
 
 pub contents_none : (l t c : ℕ) (v : DocTree) → nat_eq t l ≡ false → contents_at l (replicate c (t, v)) ≡ []
 contents_none l t zero v e = refl
@@ -111,7 +113,7 @@ contents_few k (p ∷ ps) = go (nat_eq p.0 k) (contents_few k ps)
     go true h = omega arith
     go false h = omega arith
 
-delete_turns : (ty : TyTree) (ps : List Item) (c l : ℕ) → c ≤ 65536 → c ≤ length ps
+delete_turns : (ty : TyTree) (ps : List Item) (c l : ℕ) → c ≤ MOST_ITEMS → c ≤ length ps
     → Turns ty (del (count l (drop (length (tags_of ps) - c) (tags_of ps)))) (contents_at l ps) (contents_at l (take (length ps - c) ps))
 delete_turns ty ps c l h few =
     let n = length ps - c in
@@ -125,8 +127,8 @@ delete_turns ty ps c l h few =
 
 del_row : (fs : FieldTrees) → IsPartition fs → (ps : List Item) (c : ℕ) → (is_count c && nat_le c (length ps)) ≡ true → EditStep fs ps (Del c) (part_left fs (tags_of ps) (shape (Del c)))
 del_row fs p ps c h =
-    let few = at_most c 65536 (second (nat_le 1 c) (nat_le c 65536) (first (is_count c) (nat_le c (length ps)) h)) in
-    let within = at_most c (length ps) (second (is_count c) (nat_le c (length ps)) h) in
+    let few = leb-true c MOST_ITEMS (second (nat_le 1 c) (nat_le c MOST_ITEMS) (first (is_count c) (nat_le c (length ps)) h)) in
+    let within = leb-true c (length ps) (second (is_count c) (nat_le c (length ps)) h) in
     let tags : (is_count c && nat_le c (length (tags_of ps))) ≡ true = subst (λ z. (is_count c && nat_le c z) ≡ true) (sym (length-map ps tag_of)) h in
     record {
       word = at_each_tag fs 0 (λ t. del (count t (drop (length (tags_of ps) - c) (tags_of ps))));
@@ -173,8 +175,8 @@ move_parts fs p us x ws cs ds e low h =
 move_row : (fs : FieldTrees) → IsPartition fs → (ps : List Item) (i j : ℕ) → are_below (tag_count fs) (tags_of ps) ≡ true → (nat_lt i (length ps) && nat_lt j (length ps)) ≡ true
     → EditStep fs ps (MoveItem i j) (part_left fs (tags_of ps) (shape (MoveItem i j)))
 move_row fs p ps i j b h =
-    let hi = below i (length ps) (first (nat_lt i (length ps)) (nat_lt j (length ps)) h) in
-    let hj = below j (length ps) (second (nat_lt i (length ps)) (nat_lt j (length ps)) h) in
+    let hi = ltb-true i (length ps) (first (nat_lt i (length ps)) (nat_lt j (length ps)) h) in
+    let hj = ltb-true j (length ps) (second (nat_lt i (length ps)) (nat_lt j (length ps)) h) in
     let s = split_at ps i hi in
     let whole : length ps ≡ length s.before + suc (length s.after) = ap length s.is ∙ length-append s.before (s.here ∷ s.after) in
     let rest = length-append s.before s.after in
@@ -250,7 +252,7 @@ modify_parts : (fs : FieldTrees) → IsPartition fs → (us : List Item) (old : 
 modify_parts fs p us old ws w d x b e is =
     let step = item_steps fs p w us old ws d (below_here (tag_count fs) us old ws b) e in
     let place : nat_lt (length us) (length (tags_of (us ++ old ∷ ws))) ≡ true =
-    is_below (length us) (length (tags_of (us ++ old ∷ ws))) (rw (length-map (us ++ old ∷ ws) tag_of, length-append us (old ∷ ws)) (omega arith)) in
+    lt-ltb (length us) (length (tags_of (us ++ old ∷ ws))) (rw (length-map (us ++ old ∷ ws) tag_of, length-append us (old ∷ ws)) (omega arith)) in
     record {
       items = us ++ step.new ∷ ws;
       word = step.word;

@@ -19,14 +19,14 @@ use Rattle.tag_seq.specs.Tags.{are_below, count, place, moved}
 use Rattle.tag_seq.proofs.Bounds.{are_below-append, are_below-replicate}
 use Rattle.lens_core.specs.Consistency.{list_doc}
 use Rattle.lens_core.specs.Partition.{Parted, mv, place_in, mod_occurrence, switch_places, insert_occurrences, delete_last, delete_occurrences, move_occurrence}
-use Rattle.lens_core.proofs.Results.{acts_joined}
-use Rattle.lens_core.proofs.LawsOfLeaves.{bytes_same}
-use Rattle.partition_lens.proofs.ItemLists.{Item, tag_of, tags_of, contents_at, contents-append, length-contents, contents-here, contents-off, occurrence, parts_same, without_here}
-use Rattle.partition_lens.proofs.ListEdits.{edited, edited-through, remove-through, Turns, edit_turns, ModActs, mod_turns, mv_turns, remove_turns}
-use Rattle.partition_lens.proofs.RightLists.{tag_type, IsPartition, type_by_name, item_doc, item_docs}
+use Rattle.lens_core.proofs.ItemLists.{Item, tag_of, tags_of, contents_at, contents-append, length-contents, contents-here, contents-off, occurrence, parts_same, without_here}
+use Rattle.partition_lens.proofs.ListEdits.{edited, edited-through, remove-through, edit_turns, ModActs, mod_turns, mv_turns, remove_turns}
+use Rattle.lens_core.proofs.RightLists.{tag_type, IsPartition, type_by_name, item_doc, item_docs, Turns}
 use Rattle.partition_lens.proofs.Counts.{place_found}
 use Rattle.partition_lens.proofs.TagOrders.{place_by_rank}
 use Rattle.partition_lens.proofs.FromLeft.{below_here, below_there, below_without, first_item, first_is, contents_many, contents_none, moved_is}
+use Rattle.texts.proofs.KeyOrder.{bytes_eq-refl}
+use Rattle.edit_module.proofs.JoinedWords.{acts_joined}
 
 -- the step: the new items, whose list at the tag t is vs and whose other lists are the old ones, and the word that turns the list of
 -- alternatives
@@ -50,7 +50,7 @@ length-docs fs us = length-map us (item_doc fs)
 stay_acts : (fs : FieldTrees) → IsPartition fs → (t : ℕ) (u : WordTree) (v v' : DocTree) → t < tag_count fs → act (tag_type fs t) u v ≡ Ok v'
     → act (ty_alt fs) (stay_word (tag_name fs t) u) (alt (tag_name fs t) v) ≡ Ok (alt (tag_name fs t) v')
 stay_acts fs p t no_primitives v v' low e = let same : v ≡ v' = cc in ap (λ z. Ok (alt (tag_name fs t) z)) same
-stay_acts fs p t (more_primitives q u) v v' low e = rw (bytes_same (tag_name fs t), type_by_name fs t p.apart low, e) refl
+stay_acts fs p t (more_primitives q u) v v' low e = rw (bytes_eq-refl (tag_name fs t), type_by_name fs t p.apart low, e) refl
 
 item_turns : (fs : FieldTrees) (w : WordTree) (us : List Item) (x y : Item) (ws : List Item) → act (ty_alt fs) w (item_doc fs x) ≡ Ok (item_doc fs y)
     → Turns (ty_alt fs) (mod_word (Index (length us)) w) (item_docs fs (us ++ x ∷ ws)) (item_docs fs (us ++ y ∷ ws))
@@ -104,7 +104,7 @@ mod_step fs p t ps q u x b m =
 
 switch_acts : (fs : FieldTrees) → IsPartition fs → (t : ℕ) (v : DocTree) → t < tag_count fs
     → act (ty_alt fs) (switch_word (tag_name fs 0) (tag_name fs t) no_primitives) (alt (tag_name fs 0) v) ≡ Ok (alt (tag_name fs t) (initial (tag_type fs t)))
-switch_acts fs p t v low = rw (bytes_same (tag_name fs 0), type_by_name fs t p.apart low) refl
+switch_acts fs p t v low = rw (bytes_eq-refl (tag_name fs 0), type_by_name fs t p.apart low) refl
 
 switch_turns : (ty : TyTree) (first n : List ℕ) (a b : DocTree) → act ty (switch_word first n no_primitives) a ≡ Ok b → (c x : ℕ) (docs : List DocTree) → x ≡ length docs
     → Turns ty (switch_places first n x c) (docs ++ replicate c a) (docs ++ replicate c b)

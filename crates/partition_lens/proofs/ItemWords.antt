@@ -1,29 +1,29 @@
 -- Partition from the left: a word inside one item, of stays and switches.
-use Rattle.std.proofs.Common.{◌≡◌, ℕ, suc, ◌+◌, ◌-◌, ◌<◌, Bool, true, false, List, [], ◌∷◌, ◌++◌, length, set, Option, Some, None, option_map, Result, Ok, Err, refl, ap, sym, ◌∙◌, subst, arith, length-append}
+use Rattle.std.proofs.Common.{◌≡◌, ℕ, suc, ◌+◌, ◌-◌, ◌<◌, Bool, true, false, List, [], ◌∷◌, ◌++◌, length, set, Option, Some, None, option_map, Ok, refl, ap, sym, ◌∙◌, subst, arith, length-append}
 use Rattle.std.specs.Prelude.{nat_eq, bytes_eq, if◌then◌else◌, cond}
 use Rattle.std.proofs.lemmas.Bool.{eqb-true}
 use Rattle.std.proofs.lemmas.List.{append-nil, map-append}
 use Rattle.hold_shapes.specs.declared.edit.Place.TheVariants.{Index}
 use Rattle.hold_shapes.specs.declared.edit.ShapeEdit.TheVariants.{Ins, Del}
-use Rattle.edit_module.specs.declared.fault.Cause.{Cause}
 use Rattle.edit_module.specs.declared.fault.Cause.TheVariants.{Tag}
 use Rattle.doc_values.specs.Documents.{DocTree, alt}
 use Rattle.doc_values.specs.Types.{TyTree, ty_alt, ty_list, FieldTrees}
 use Rattle.doc_values.specs.Typing.{lookup_field, lookup_type}
 use Rattle.doc_values.specs.Initial.{initial}
 use Rattle.edit_module.specs.Words.{PrimitiveTree, set as set_to, add, splice, at, stay, switch, modify, shape, WordTree, no_primitives, more_primitives, joined}
-use Rattle.edit_module.specs.Action.{Why, act, act_primitive, map_ok, if_present, inner}
+use Rattle.edit_module.specs.Action.{act, act_primitive, map_ok, if_present, inner}
 use Rattle.edit_module.proofs.ActionKeepsTypes.{present_ok}
 use Rattle.lens_core.specs.Emitted.{at_word, mod_word, shape_word, one_by_one}
 use Rattle.lens_core.specs.Tags.{tag_count, tag_number, tag_name}
 use Rattle.lens_core.specs.Consistency.{list_doc}
 use Rattle.tag_seq.specs.Tags.{count, rank}
 use Rattle.lens_core.specs.Partition.{Parted, mv, part_item}
-use Rattle.lens_core.proofs.Results.{after_ok, acts_joined}
-use Rattle.lens_core.proofs.LawsOfLeaves.{bytes_are}
-use Rattle.partition_lens.proofs.ItemLists.{Item, tag_of, tags_of, contents_at, contents-append, length-contents, contents-here, contents-off, rank-part, tag-part, same_number}
-use Rattle.partition_lens.proofs.ListEdits.{Turns, edit_turns, mod_turns, mv_turns, remove_turns}
-use Rattle.partition_lens.proofs.RightLists.{tag_type, IsPartition, found_by_name, type_by_name, tag_found, TurnsLists, one_list_turns, lists_joined, lists_same, item_doc, lists_by_tag}
+use Rattle.lens_core.proofs.Results.{after_ok, tag_ok, content_ok}
+use Rattle.lens_core.proofs.ItemLists.{Item, tag_of, tags_of, contents_at, contents-append, length-contents, contents-here, contents-off, rank-part, tag-part}
+use Rattle.partition_lens.proofs.ListEdits.{edit_turns, mod_turns, mv_turns, remove_turns}
+use Rattle.lens_core.proofs.RightLists.{tag_type, IsPartition, found_by_name, type_by_name, tag_found, TurnsLists, one_list_turns, lists_joined, lists_same, item_doc, lists_by_tag, Turns}
+use Rattle.texts.proofs.Tests.{bytes_eq-is, nat_eq-refl}
+use Rattle.edit_module.proofs.JoinedWords.{acts_joined}
 
 -- the step of an item: its new tag and content, and the word that turns the lists on the right
 pub record ItemStep (fs : FieldTrees) (us : List Item) (old : Item) (ws : List Item) (o : Option Parted) (d : DocTree) : Type 0 where
@@ -35,14 +35,6 @@ pub record ItemStep (fs : FieldTrees) (us : List Item) (old : Item) (ws : List I
   pub low : new.0 < tag_count fs
 
 -- ---- what acted
-
-if_tag : (b : Bool) (r : Result DocTree Cause) (d : DocTree) → cond b r (Err Tag) ≡ Ok d → (b ≡ true) × (r ≡ Ok d)
-if_tag true r d e = (refl, e)
-if_tag false r d e = cc
-
-alt_ok : (a : List ℕ) (r : Result DocTree Why) (d : DocTree) → map_ok (alt a) (inner r) ≡ Ok d → (v : DocTree) × (r ≡ Ok v) × (d ≡ alt a v)
-alt_ok a (Ok v) d e = (v, refl, cc)
-alt_ok a (Err why) d e = cc
 
 type_same : (t u : TyTree) → Some t ≡ Some u → t ≡ u
 type_same t u e = cc
@@ -65,18 +57,18 @@ number_by_name fs t p low = ap (option_map (λ (f : ℕ × TyTree). f.0)) (found
 stay_step : (fs : FieldTrees) → IsPartition fs → (us : List Item) (t : ℕ) (v : DocTree) (ws : List Item) (n : List ℕ) (u : WordTree) (d : DocTree) → t < tag_count fs
     → act_primitive (ty_alt fs) (stay n u) (alt (tag_name fs t) v) ≡ Ok d → ItemStep fs us (t, v) ws (part_item fs (length us) (tags_of (us ++ (t, v) ∷ ws)) (stay n u)) d
 stay_step fs p us t v ws n u d low e =
-    let a = if_tag (bytes_eq n (tag_name fs t)) (if_present (lookup_type fs (tag_name fs t)) Tag (λ ty. map_ok (alt (tag_name fs t)) (inner (act ty u v)))) d e in
+    let a = tag_ok (bytes_eq n (tag_name fs t)) (if_present (lookup_type fs (tag_name fs t)) Tag (λ ty. map_ok (alt (tag_name fs t)) (inner (act ty u v)))) d e in
     let b = present_ok (lookup_type fs (tag_name fs t)) Tag (λ ty. map_ok (alt (tag_name fs t)) (inner (act ty u v))) d a.1 in
-    let c = alt_ok (tag_name fs t) (act b.0 u v) d b.2 in
+    let c = content_ok (tag_name fs t) (act b.0 u v) d b.2 in
     let typed : b.0 ≡ tag_type fs t = type_same b.0 (tag_type fs t) (sym b.1 ∙ type_by_name fs t p.apart low) in
-    let named : tag_name fs t ≡ n = sym (bytes_are n (tag_name fs t) a.0) in
+    let named : tag_name fs t ≡ n = sym (bytes_eq-is n (tag_name fs t) a.0) in
     let word = λ (m : List ℕ). at_word m (mod_word (Index (rank t (length us) (tags_of (us ++ (t, v) ∷ ws)))) u) in
     record {
       new = (t, c.0);
       is = c.2;
       word = word (tag_name fs t);
       carried = subst (λ m. part_item fs (length us) (tags_of (us ++ (t, v) ∷ ws)) (stay m u) ≡ Some (word (tag_name fs t), tags_of (us ++ (t, c.0) ∷ ws))) named
-          (rw (number_by_name fs t p low, tag-part t v us ws, same_number t, same_tags us t v c.0 ws) refl);
+          (rw (number_by_name fs t p low, tag-part t v us ws, nat_eq-refl t, same_tags us t v c.0 ws) refl);
       turns = stay_turns fs p us t v c.0 ws u low (subst (λ ty. act ty u v ≡ Ok c.0) typed c.1);
       low = low;
     }
@@ -149,11 +141,11 @@ switch_step : (fs : FieldTrees) → IsPartition fs → (us : List Item) (t : ℕ
     → act_primitive (ty_alt fs) (switch a b u) (alt (tag_name fs t) v) ≡ Ok d → ItemStep fs us (t, v) ws (part_item fs (length us) (tags_of (us ++ (t, v) ∷ ws)) (switch a b u)) d
 switch_step fs p us t v ws a b u d low e =
     let ts = tags_of (us ++ (t, v) ∷ ws) in
-    let i = if_tag (bytes_eq a (tag_name fs t)) (if_present (lookup_type fs b) Tag (λ ty. map_ok (alt b) (inner (act ty u (initial ty))))) d e in
+    let i = tag_ok (bytes_eq a (tag_name fs t)) (if_present (lookup_type fs b) Tag (λ ty. map_ok (alt b) (inner (act ty u (initial ty))))) d e in
     let j = present_ok (lookup_type fs b) Tag (λ ty. map_ok (alt b) (inner (act ty u (initial ty)))) d i.1 in
-    let k = alt_ok b (act j.0 u (initial j.0)) d j.2 in
+    let k = content_ok b (act j.0 u (initial j.0)) d j.2 in
     let tag = typed_tag b j.0 j.1 in
-    let named : tag_name fs t ≡ a = sym (bytes_are a (tag_name fs t) i.0) in
+    let named : tag_name fs t ≡ a = sym (bytes_eq-is a (tag_name fs t) i.0) in
     let s = tag.0 in
     let gone = joined (mv (rank t (length us) ts) (count t ts - 1)) (shape_word (Del 1)) in
     let m = (if nat_eq t s then count s ts - 1 else count s ts) in
@@ -166,7 +158,7 @@ switch_step fs p us t v ws a b u d low e =
       word = joined (at_word (tag_name fs t) gone) (at_word (tag_name fs s) come);
       carried = subst (λ z. part_item fs (length us) ts (switch z b u) ≡ Some (joined (at_word (tag_name fs t) gone) (at_word (tag_name fs s) come), tags_of (us ++ (s, k.0) ∷ ws))) named
           (subst (λ z. part_item fs (length us) ts (switch (tag_name fs t) z u) ≡ Some (joined (at_word (tag_name fs t) gone) (at_word (tag_name fs s) come), tags_of (us ++ (s, k.0) ∷ ws))) tag.2
-          (rw (number_by_name fs t p low, number_by_name fs s p tag.4, tag-part t v us ws, same_number t, switched_tags us t s v k.0 ws) refl));
+          (rw (number_by_name fs t p low, number_by_name fs s p tag.4, tag-part t v us ws, nat_eq-refl t, switched_tags us t s v k.0 ws) refl));
       turns = lists_joined fs (at_word (tag_name fs t) gone) (at_word (tag_name fs s) come) (lists_by_tag (us ++ (t, v) ∷ ws)) (lists_by_tag (us ++ ws)) (lists_by_tag (us ++ (s, k.0) ∷ ws)) first_turns second_turns;
       low = tag.4;
     }

@@ -28,8 +28,8 @@ use Rattle.doc_values.proofs.Lists.{doc_list-docs_of, docs_of-doc_list}
 use Rattle.doc_values.proofs.DistinctNames.{are_choices-distinct}
 use Rattle.edit_module.proofs.ActionKeepsTypes.{has_primitive, has_act}
 use Rattle.lens_core.proofs.RecordFields.{content-initial}
-use Rattle.partition_lens.proofs.ItemLists.{Item, tags_of}
-use Rattle.partition_lens.proofs.RightLists.{right_lists, IsPartition, HasLists, item_docs, lists_by_tag, right_type_is, type_by_name, items_of, tags_of_items, theirs_are_lists, lists_are_theirs}
+use Rattle.lens_core.proofs.ItemLists.{Item, tags_of}
+use Rattle.lens_core.proofs.RightLists.{right_lists, IsPartition, HasLists, item_docs, lists_by_tag, right_type_is, type_by_name, items_of, tags_of_items, theirs_are_lists, lists_are_theirs}
 use Rattle.partition_lens.proofs.FromLeft.{left_step}
 use Rattle.partition_lens.proofs.RightWords.{record_step}
 

@@ -3,17 +3,14 @@ pub mod EachTag
 pub mod EmittedWords
 pub mod FromLeft
 pub mod FromRight
-pub mod ItemLists
 pub mod ItemWords
 pub mod LawsOfPartitions
 pub mod ListEdits
 pub mod NumbersOfTags
 pub mod OrderTests
 pub mod Reorderings
-pub mod RightLists
 pub mod RightSteps
 pub mod RightWords
 pub mod RowSteps
-pub mod TagNames
 pub mod TagOrders
 pub mod TagRanks

@@ -2,8 +2,7 @@
 use Rattle.std.proofs.Common.{◌≡◌, ℕ, zero, suc, ◌+◌, ◌-◌, ◌<◌, ◌≤◌, Bool, true, false, ◌&&◌, List, [], ◌∷◌, ◌++◌, length, map, take, drop, get_or, set, replicate, Some, None, Result, Ok, Err, refl, ap, sym, ◌∙◌, subst, arith, length-append}
 use Rattle.std.specs.Prelude.{nat_eq, nat_lt, nat_le, cond}
 use Rattle.std.specs.List.{insert, remove, range_with_len}
-use Rattle.std.proofs.lemmas.Bool.{ne_eqb, eqb-true}
-use Rattle.std.proofs.lemmas.Bool.Decides.{nat_tests}
+use Rattle.std.proofs.lemmas.Bool.{ne_eqb, eqb-true, lt-ltb, le-leb, ltb-true}
 use Rattle.std.proofs.lemmas.List.{length-replicate, append-nil, map-append, length-map, take_at, take-map, drop-map, length-take-le, length-take, length-drop, length-set, drop_more}
 use Rattle.texts.proofs.Conjunction.{first, second}
 use Rattle.hold_shapes.specs.declared.shape.Shape.{Shape}
@@ -15,6 +14,7 @@ use Rattle.hold_shapes.specs.declared.edit.ShapeEdit.TheVariants.{Ins, Del, Move
 use Rattle.hold_shapes.specs.Causes as Fault
 use Rattle.hold_shapes.specs.Plans.{Planned, old_places, list_of, is_count, is_each_new, plan_list}
 use Rattle.hold_shapes.specs.Gather.{content_at}
+use Rattle.hold_shapes.specs.declared.lists.TheConstants.{MOST_ITEMS}
 use Rattle.shape_laws.proofs.Content.{content-old_places}
 use Rattle.doc_values.specs.Documents.{DocTree, unit, hold, docs_of}
 use Rattle.doc_values.specs.Types.{TyTree, ty_list}
@@ -26,8 +26,10 @@ use Rattle.lens_core.specs.Emitted.{mod_word, shape_word}
 use Rattle.lens_core.specs.Consistency.{list_doc}
 use Rattle.lens_core.specs.Partition.{mv, del, reorder, is_identity}
 use Rattle.doc_values.proofs.Lists.{doc_list-docs_of}
-use Rattle.lens_core.proofs.Results.{acted_at, acts_joined}
-use Rattle.partition_lens.proofs.ItemLists.{IsSplit, split_at, parts_same, here_is, without_here, set_here, put_here}
+use Rattle.lens_core.proofs.Results.{acted_at}
+use Rattle.lens_core.proofs.ItemLists.{IsSplit, split_at, parts_same, here_is, without_here, set_here, put_here}
+use Rattle.edit_module.proofs.JoinedWords.{acts_joined}
+use Rattle.lens_core.proofs.RightLists.{Turns}
 
 -- ---- edits of lists of anything
 
@@ -159,24 +161,12 @@ gathered_as vs d (Prune p) h = absurd h
 gathered_as vs d (Shift p i j) h = absurd h
 gathered_as vs d (Hang p q) h = absurd h
 
-pub below : (i n : ℕ) → nat_lt i n ≡ true → i < n
-below i n h = grind (arith, nat_tests)
-
-pub is_below : (i n : ℕ) → i < n → nat_lt i n ≡ true
-is_below i n h = grind (arith, nat_tests)
-
-pub at_most : (i n : ℕ) → nat_le i n ≡ true → i ≤ n
-at_most i n h = grind (arith, nat_tests)
-
-pub is_at_most : (i n : ℕ) → i ≤ n → nat_le i n ≡ true
-is_at_most i n h = grind (arith, nat_tests)
-
 size_is : (vs : List DocTree) (d : DocTree) (e : ShapeEdit) → Allowed (length vs) e → size_after (length vs) e ≡ length (edited d e vs)
 size_is vs d (Ins c) h = sym (length-append vs (replicate c d) ∙ ap (λ z. length vs + z) (length-replicate c d))
 size_is vs d (Del c) h = sym (length-take-le (length vs - c) vs (omega arith))
 size_is vs d (MoveItem i j) h =
-    let a = below i (length vs) (first (nat_lt i (length vs)) (nat_lt j (length vs)) h) in
-    let b = below j (length vs) (second (nat_lt i (length vs)) (nat_lt j (length vs)) h) in
+    let a = ltb-true i (length vs) (first (nat_lt i (length vs)) (nat_lt j (length vs)) h) in
+    let b = ltb-true j (length vs) (second (nat_lt i (length vs)) (nat_lt j (length vs)) h) in
     simp (length-append, length-take, length-drop) (omega arith)
 size_is vs d (Reorder f) h = sym (length-map f (λ k. get_or vs k d) ∙ eqb-true (length f) (length vs) h.0)
 size_is vs d (PutKey k) h = absurd h
@@ -188,10 +178,6 @@ size_is vs d (Shift p i j) h = absurd h
 size_is vs d (Hang p q) h = absurd h
 
 -- ---- what acts on a list
-
--- a word turns a list of documents into another
-abbrev pub Turns : TyTree → WordTree → List DocTree → List DocTree → Type 0
-Turns t w vs us = act (ty_list t) w (list_doc vs) ≡ Ok (list_doc us)
 
 edit_result : (t : TyTree) (e : ShapeEdit) (vs : List DocTree) → Allowed (length vs) e → act_primitive (ty_list t) (shape e) (list_doc vs) ≡ Ok (list_doc (edited (initial t) e vs))
 edit_result t e vs h = rw (planned (length vs) e h, doc_list-docs_of vs, gathered_as vs (initial t) e h, size_is vs (initial t) e h) refl
@@ -215,7 +201,7 @@ edit_back t e vs x h =
 
 -- a word inside a place
 place_in_list : (us : List DocTree) (v : DocTree) (ws : List DocTree) → nat_lt (length us) (length (us ++ v ∷ ws)) ≡ true
-place_in_list us v ws = is_below (length us) (length (us ++ v ∷ ws)) (simp length-append (omega arith))
+place_in_list us v ws = lt-ltb (length us) (length (us ++ v ∷ ws)) (simp length-append (omega arith))
 
 same_length : (us : List DocTree) (v u : DocTree) (ws : List DocTree) → length (us ++ v ∷ ws) ≡ length (us ++ u ∷ ws)
 same_length us v u ws = length-append us (v ∷ ws) ∙ sym (length-append us (u ∷ ws))
@@ -246,7 +232,7 @@ pub mod_back : (t : TyTree) (w : WordTree) (vs : List DocTree) (p : ℕ) (x : Do
 mod_back t w vs p x e =
     let a = acted_at t w (list_of (length vs)) (docs_of vs) (Index p) x e in
     let b = some_if (nat_lt p (length vs)) p a.0 a.2 in
-    let s = split_at vs p (below p (length vs) b.0) in
+    let s = split_at vs p (ltb-true p (length vs) b.0) in
     let there : doc_at (docs_of vs) a.0 ≡ s.here =
     ap (λ z. get_or z a.0 unit) (doc_list-docs_of vs) ∙ (ap (λ z. get_or z a.0 unit) s.is ∙ (ap (λ z. get_or (s.before ++ s.here ∷ s.after) z unit) (sym b.1 ∙ sym s.long) ∙ here_is s.before s.here s.after unit)) in
     let changed : set vs a.0 a.1 ≡ s.before ++ a.1 ∷ s.after =
@@ -273,20 +259,20 @@ mv_turns t us ws cs ds v e = go (nat_eq (length us) (length cs)) refl
         let long : length us + length ws ≡ length cs + length ds = sym (length-append us ws) ∙ (ap length e ∙ length-append cs ds) in
         let whole : length (us ++ v ∷ ws) ≡ length us + suc (length ws) = length-append us (v ∷ ws) in
         let a = place_in_list us v ws in
-        let b : nat_lt (length cs) (length (us ++ v ∷ ws)) ≡ true = is_below (length cs) (length (us ++ v ∷ ws)) (omega arith) in
+        let b : nat_lt (length cs) (length (us ++ v ∷ ws)) ≡ true = lt-ltb (length cs) (length (us ++ v ∷ ws)) (omega arith) in
         edit_turns t (MoveItem (length us) (length cs)) (us ++ v ∷ ws) (rw (a, b) refl)
         ∙ ap (λ z. Ok (list_doc z)) (rw (here_is us v ws (initial t), without_here us v ws, e) (put_here cs ds v))
 
 -- the last part of a list deleted, where there is one
-pub del_turns : (t : TyTree) (us ws : List DocTree) (k : ℕ) → k ≡ length ws → k ≤ 65536 → Turns t (del k) (us ++ ws) us
+pub del_turns : (t : TyTree) (us ws : List DocTree) (k : ℕ) → k ≡ length ws → k ≤ MOST_ITEMS → Turns t (del k) (us ++ ws) us
 del_turns t us [] zero e h = ap (λ z. Ok (list_doc z)) (append-nil us)
 del_turns t us [] (suc k) e h = absurd (omega arith)
 del_turns t us (w ∷ ws) zero e h = absurd (omega arith)
 del_turns t us (w ∷ ws) (suc k) e h =
     let whole : length (us ++ w ∷ ws) ≡ length us + suc (length ws) = length-append us (w ∷ ws) in
-    let a : nat_le 1 (suc k) ≡ true = is_at_most 1 (suc k) (omega arith) in
-    let b : nat_le (suc k) 65536 ≡ true = is_at_most (suc k) 65536 h in
-    let c : nat_le (suc k) (length (us ++ w ∷ ws)) ≡ true = is_at_most (suc k) (length (us ++ w ∷ ws)) (omega arith) in
+    let a : nat_le 1 (suc k) ≡ true = le-leb 1 (suc k) (omega arith) in
+    let b : nat_le (suc k) MOST_ITEMS ≡ true = le-leb (suc k) MOST_ITEMS h in
+    let c : nat_le (suc k) (length (us ++ w ∷ ws)) ≡ true = le-leb (suc k) (length (us ++ w ∷ ws)) (omega arith) in
     let n : length us ≡ length (us ++ w ∷ ws) - suc k = omega arith in
     let some : nat_eq (suc k) 0 ≡ false = ne_eqb (suc k) 0 (omega arith) in
     ap (λ z. act (ty_list t) (cond z no_primitives (shape_word (Del (suc k)))) (list_doc (us ++ w ∷ ws))) some

@@ -7,6 +7,7 @@ use Rattle.texts.specs.declared.side.Side.TheVariants.{Left, Right}
 use Rattle.doc_values.specs.Types.{FieldTrees, field_list}
 use Rattle.edit_module.specs.Words.{PrimitiveTree}
 use Rattle.lens_forms.specs.Forms.{form_part}
+use Rattle.lens_forms.specs.declared.limits.TheConstants.{MOST_PARTS}
 use Rattle.lens_core.specs.Complements.{tags_comp}
 use Rattle.lens_core.specs.Partition.{Parted, part_left, part_right}
 use Rattle.lens_core.specs.Tags.{tag_count}
@@ -18,7 +19,7 @@ use Rattle.partition_lens.specs.Rows.{IsRowFault}
 
 -- ---- how many tags there are
 
-pub few_fields : (fs : FieldTrees) → tag_count fs ≤ 4096 → length (field_list fs) ≤ 4096
+pub few_fields : (fs : FieldTrees) → tag_count fs ≤ MOST_PARTS → length (field_list fs) ≤ MOST_PARTS
 few_fields fs h = omega (arith, field_list-tag_count fs)
 
 pub fields_count : (fs : FieldTrees) (n : ℕ) (ts : List ℕ) → n ≡ length (field_list fs) → are_below n ts ≡ are_below (tag_count fs) ts

@@ -14,13 +14,13 @@ use Rattle.lens_core.specs.Tags.{tag_count}
 use Rattle.tag_seq.specs.Tags.{are_below, rank, place}
 use Rattle.lens_core.specs.Consistency.{list_doc}
 use Rattle.lens_core.specs.Partition.{place_in, place_from, reorder, reorder_occurrences}
-use Rattle.lens_core.proofs.NameTests.{or_later}
-use Rattle.partition_lens.proofs.ItemLists.{Item, tag_of, tags_of, contents_at, contents-append, contents-here, rank-part, tag-part, here_is, occurrence, same_number}
+use Rattle.lens_core.proofs.ItemLists.{Item, tag_of, tags_of, contents_at, contents-append, contents-here, rank-part, tag-part, here_is, occurrence}
 use Rattle.partition_lens.proofs.ListEdits.{edited, edited-through, reorder_turns}
-use Rattle.partition_lens.proofs.RightLists.{item_doc, item_docs}
+use Rattle.lens_core.proofs.RightLists.{item_doc, item_docs}
 use Rattle.partition_lens.proofs.TagOrders.{IsOrder, AreWithin, each_within, within_parts, within_none, within_make, each_parts, each_make, placed}
 use Rattle.partition_lens.proofs.FromLeft.{first_item, first_is}
 use Rattle.partition_lens.proofs.FromRight.{RightStep}
+use Rattle.texts.proofs.Tests.{or_second, nat_eq-refl}
 
 -- ---- numbers that are each new
 
@@ -31,10 +31,10 @@ known_differs n zero m known (x ∷ f) e h l q =
     let no = subst (λ z. has_number z known ≡ false) q a.1 in cc
 known_differs n (suc k) m known (x ∷ f) e h l q =
     let a = each_parts n x known f e in
-    known_differs n k m (x ∷ known) f a.2 (or_later (nat_eq m x) (has_number m known) h) (omega arith) q
+    known_differs n k m (x ∷ known) f a.2 (or_second (nat_eq m x) (has_number m known) h) (omega arith) q
 
 known_first : (x : ℕ) (known : List ℕ) → has_number x (x ∷ known) ≡ true
-known_first x known = rw (same_number x) refl
+known_first x known = rw (nat_eq-refl x) refl
 
 each_differs : (n : ℕ) (known f : List ℕ) (k l : ℕ) → is_each_new n known f ≡ true → k < length f → l < length f → get_or f k 0 ≡ get_or f l 0 → k ≡ l
 each_differs n known [] k l e hk hl q = absurd (omega arith)
@@ -205,7 +205,7 @@ more_with_tag t ps f d v a r x rest same low item more =
     record {
       tags = ap (λ (z : Item). z.0 ∷ tags_of new) item ∙ (ap (λ z. z ∷ tags_of new) same ∙ ap (λ z. x.0 ∷ z) more.tags);
       column = ap (λ (z : Item). contents_at t (z ∷ new)) item
-          ∙ (ap (λ z. cond z (content ∷ contents_at t new) (contents_at t new)) (same_number t)
+          ∙ (ap (λ z. cond z (content ∷ contents_at t new) (contents_at t new)) (nat_eq-refl t)
           ∙ (ap (λ z. content ∷ z) more.column ∙ sym (ap (map (λ k. get_or (contents_at t ps) k v)) (drop_more f r 0 low))));
       others = λ l q. ap (λ (z : Item). contents_at l (z ∷ new)) item
           ∙ (ap (λ z. cond z (content ∷ contents_at l new) (contents_at l new)) q

@@ -12,8 +12,8 @@ use Rattle.lens_core.specs.Emitted.{behind, mod_word, switch_word}
 use Rattle.lens_core.specs.Partition.{Parted, switch_places, delete_last, delete_occurrences, place_from}
 use Rattle.tag_seq.specs.Tags.{moved}
 use Rattle.tag_seq.proofs.Sides.{take_all_left}
-use Rattle.lens_core.proofs.JoinedWords.{joined_nothing}
 use Rattle.partition_lens.proofs.Counts.{length_moved}
+use Rattle.edit_module.proofs.JoinedWords.{joined_nothing}
 
 -- ---- switches
 

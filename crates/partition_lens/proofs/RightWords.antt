@@ -1,7 +1,7 @@
 -- Partition from the right: each primitive of the record, with a word of any length inside one list, is translated.
 use Rattle.std.proofs.Common.{◌≡◌, ℕ, ◌+◌, ◌<◌, Bool, true, false, List, [], ◌∷◌, ◌++◌, length, Option, Some, None, option_map, Ok, refl, ap, sym, ◌∙◌, subst, arith, length-append}
 use Rattle.std.specs.Prelude.{nat_eq, nat_lt, nat_le, bytes_eq, cond}
-use Rattle.std.proofs.lemmas.Bool.{eqb-true}
+use Rattle.std.proofs.lemmas.Bool.{eqb-true, lt-ltb, leb-true, ltb-true}
 use Rattle.hold_shapes.specs.declared.edit.Place.TheVariants.{Index, Key, Node}
 use Rattle.hold_shapes.specs.declared.edit.ShapeEdit.{ShapeEdit}
 use Rattle.hold_shapes.specs.declared.edit.ShapeEdit.TheVariants.{Ins, Del, MoveItem, Reorder, PutKey, DropKey, RenameKey, Graft, Prune, Shift, Hang}
@@ -18,15 +18,17 @@ use Rattle.lens_core.specs.Tags.{tag_count, tag_number, tag_name}
 use Rattle.tag_seq.specs.Tags.{are_below, count}
 use Rattle.lens_core.specs.Consistency.{content, list_doc}
 use Rattle.lens_core.specs.Partition.{Parted, part_occurrence, part_right}
-use Rattle.lens_core.proofs.Results.{after_ok, acts_joined}
+use Rattle.lens_core.proofs.Results.{after_ok}
 use Rattle.edit_module.proofs.ActionKeepsTypes.{has_primitive}
 use Rattle.lens_core.proofs.RecordFields.{content-found, content-put, ActsOnField, acts_on_field}
-use Rattle.partition_lens.proofs.ItemLists.{Item, tags_of, contents_at, length-contents}
-use Rattle.partition_lens.proofs.ListEdits.{Allowed, edited, edit_back, mod_back, below, is_below, at_most}
-use Rattle.partition_lens.proofs.RightLists.{tag_type, right_lists, IsPartition, tag_found, names_as_numbers, right_type_is, HasLists, item_docs, lists_by_tag}
+use Rattle.lens_core.proofs.ItemLists.{Item, tags_of, contents_at, length-contents}
+use Rattle.partition_lens.proofs.ListEdits.{Allowed, edited, edit_back, mod_back}
+use Rattle.lens_core.proofs.RightLists.{tag_type, right_lists, IsPartition, tag_found, names_as_numbers, right_type_is, HasLists, item_docs, lists_by_tag}
 use Rattle.partition_lens.proofs.TagOrders.{IsOrder}
 use Rattle.partition_lens.proofs.FromRight.{RightStep, mod_step, ins_step, del_step, move_step}
 use Rattle.partition_lens.proofs.Reorderings.{reorder_step}
+use Rattle.edit_module.proofs.JoinedWords.{acts_joined}
+use Rattle.std.proofs.lemmas.Option.{same_Some}
 
 -- ---- the primitives of one list
 
@@ -48,12 +50,12 @@ edit_row : (fs : FieldTrees) (t : ℕ) (ps : List Item) → IsReady fs t ps → 
 edit_row fs t ps r (Ins c) h = rw h (ins_step fs r.part r.some t ps c r.tag r.low h)
 edit_row fs t ps r (Del c) h =
     let n = length-contents t ps in
-    let few = at_most c (count t (tags_of ps)) (second (is_count c) (nat_le c (count t (tags_of ps))) h) in
+    let few = leb-true c (count t (tags_of ps)) (second (is_count c) (nat_le c (count t (tags_of ps))) h) in
     rw h (del_step fs t c ps r.low (omega arith))
 edit_row fs t ps r (MoveItem i j) h =
     let n = length-contents t ps in
-    let hi = below i (count t (tags_of ps)) (first (nat_lt i (count t (tags_of ps))) (nat_lt j (count t (tags_of ps))) h) in
-    let hj = below j (count t (tags_of ps)) (second (nat_lt i (count t (tags_of ps))) (nat_lt j (count t (tags_of ps))) h) in
+    let hi = ltb-true i (count t (tags_of ps)) (first (nat_lt i (count t (tags_of ps))) (nat_lt j (count t (tags_of ps))) h) in
+    let hj = ltb-true j (count t (tags_of ps)) (second (nat_lt i (count t (tags_of ps))) (nat_lt j (count t (tags_of ps))) h) in
     rw h (move_step fs t i j ps (initial (tag_type fs t)) r.low (omega arith) (omega arith))
 edit_row fs t ps r (Reorder f) h =
     let n = length-contents t ps in
@@ -77,7 +79,7 @@ modify_row fs t ps r q u x e =
     let whole : length (contents_at t ps) ≡ length m.split.before + length (m.split.here ∷ m.split.after) = ap length m.split.is ∙ length-append m.split.before (m.split.here ∷ m.split.after) in
     let at_q = m.split.long in
     let n = length-contents t ps in
-    let low : nat_lt q (count t (tags_of ps)) ≡ true = is_below q (count t (tags_of ps)) (omega arith) in
+    let low : nat_lt q (count t (tags_of ps)) ≡ true = lt-ltb q (count t (tags_of ps)) (omega arith) in
     record { list = m.split.before ++ m.content ∷ m.split.after; is = m.is; step = rw low (mod_step fs r.part t ps q u x r.low m) }
 
 one_row : (fs : FieldTrees) (t : ℕ) (ps : List Item) → IsReady fs t ps → (q : PrimitiveTree) (x : DocTree) → act_primitive (ty_list (tag_type fs t)) q (list_doc (contents_at t ps)) ≡ Ok x
@@ -164,16 +166,13 @@ list_field fs n ty e = go (lookup_field fs n) refl (sym (right_type_is fs n) ∙
         let same : ty_list s.1 ≡ ty = cc in
         record { number = s.0; named = tag.named; found = ap (option_map (λ (z : ℕ × TyTree). z.0)) f; typed = sym same ∙ ap ty_list (sym tag.typed); low = tag.low }
 
-some_document : (v w : DocTree) → Some v ≡ Some w → v ≡ w
-some_document v w e = cc
-
 field_step : (fs : FieldTrees) → IsPartition fs → 0 < tag_count fs → (ps : List Item) (ys : DocTrees) (q : PrimitiveTree) (y : DocTree) → are_below (tag_count fs) (tags_of ps) ≡ true → HasLists fs ys (lists_by_tag ps)
     → act_primitive (ty_rec (right_lists fs)) q (rec ys) ≡ Ok y → (k : ActsOnField (right_lists fs) ys q y) → RecordStep fs ps (part_right fs (tags_of ps) (at k.field k.word)) y
 field_step fs p some ps ys q y b lists e k =
     let tag = list_field fs k.field k.place.1 (ap (option_map (λ (z : ℕ × TyTree). z.1)) k.found) in
     let t = tag.number in
     let was : doc_at ys k.place.0 ≡ list_doc (contents_at t ps) =
-    some_document (doc_at ys k.place.0) (list_doc (contents_at t ps)) (sym (content-found (right_lists fs) ys k.field k.place lists.typed k.found)
+    same_Some (doc_at ys k.place.0) (list_doc (contents_at t ps)) (sym (content-found (right_lists fs) ys k.field k.place lists.typed k.found)
     ∙ (ap (content (right_lists fs) ys) (sym tag.named) ∙ lists.each t tag.low)) in
     let acts : act (ty_list (tag_type fs t)) k.word (list_doc (contents_at t ps)) ≡ Ok k.content =
     subst (λ z. act z k.word (list_doc (contents_at t ps)) ≡ Ok k.content) tag.typed (subst (λ z. act k.place.1 k.word z ≡ Ok k.content) was k.acts) in

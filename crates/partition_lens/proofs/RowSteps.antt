@@ -2,14 +2,15 @@
 use Rattle.std.proofs.Common.{◌≡◌, ℕ, suc, ◌+◌, ◌<◌, ◌≤◌, List, length, map, drop, drop-cons, get_or, add-one, Option, None, Some, option_map, refl, ap, sym, ◌∙◌}
 use Rattle.std.proofs.lemmas.List.{drop_all}
 use Rattle.edit_module.specs.declared.word.Primitive.{Primitive}
-use Rattle.edit_module.specs.Words.{PrimitiveTree, WordTree, no_primitives, more_primitives, word_of, joined}
+use Rattle.edit_module.specs.Words.{PrimitiveTree, WordTree, no_primitives, word_of, joined}
 use Rattle.edit_module.specs.Views.{primitive_tree}
 use Rattle.lens_core.specs.Emitted.{behind, one_by_one}
 use Rattle.lens_core.specs.Partition.{Parted}
-use Rattle.lens_core.proofs.JoinedWords.{joined_nothing, behind_nothing, behind_behind}
+use Rattle.lens_core.proofs.JoinedWords.{behind_nothing, behind_behind}
 use Rattle.lens_core.specs.declared.carry.CarryFault.{CarryFault}
 use Rattle.lens_core.specs.declared.carry.CarryFault.TheVariants.{Unfit, NoMemory}
 use Rattle.partition_lens.specs.Rows.{IsRowFault}
+use Rattle.edit_module.proofs.JoinedWords.{joined_nothing}
 
 -- what is left of a word, from the primitive number i on, behind the word u
 abbrev pub left_over : (List ℕ → PrimitiveTree → Option Parted) → WordTree → List ℕ → List Primitive → ℕ → Option Parted

@@ -3,7 +3,7 @@ use Rattle.std.proofs.Common.{◌≡◌, ℕ, ◌+◌, ◌<◌, Bool, true, fals
 use Rattle.std.specs.Prelude.{nat_eq, nat_lt, cond, slice_index, slice_get}
 use Rattle.std.specs.List.{sum_by}
 use Rattle.std.specs.List.Sorted.{IsPermutation}
-use Rattle.std.proofs.lemmas.Bool.{eq-eqb, ne_eqb, eqb-true}
+use Rattle.std.proofs.lemmas.Bool.{eq-eqb, ne_eqb, eqb-true, lt-ltb, ltb-true}
 use Rattle.std.proofs.lemmas.List.{length-map}
 use Rattle.std.proofs.lemmas.List.Sorted.{IsPermutation-map, sum_by-IsPermutation}
 use Rattle.std.proofs.lemmas.List.Sums.{sum_by-cons}
@@ -17,8 +17,8 @@ use Rattle.doc_values.specs.Documents.{DocTree}
 use Rattle.tag_seq.specs.Tags.{count, rank, place, one_if_same}
 use Rattle.tag_seq.proofs.Ranks.{place-after-rank}
 use Rattle.lens_core.specs.Partition.{ranks_of}
-use Rattle.partition_lens.proofs.ItemLists.{Item, tag_of, tags_of, contents_at, length-contents, contents-here, rank-part, tag-part, here_is, split_at}
-use Rattle.partition_lens.proofs.ListEdits.{below, is_below}
+use Rattle.lens_core.proofs.ItemLists.{Item, tag_of, tags_of, contents_at, length-contents, contents-here, rank-part, tag-part, here_is, split_at}
+use Rattle.lens_forms.proofs.SortedFields.{not_first}
 
 -- ---- counts in another order
 
@@ -96,12 +96,12 @@ each_parts n k known f e = go (has_number k known) refl (first (nat_lt k n) (not
   where
     go : (b : Bool) → has_number k known ≡ b → nat_lt k n ≡ true → (not b && is_each_new n (k ∷ known) f) ≡ true → (k < n) × (has_number k known ≡ false) × (is_each_new n (k ∷ known) f ≡ true)
     go true g l h = cc
-    go false g l h = (below k n l, g, h)
+    go false g l h = (ltb-true k n l, g, h)
 
 pub each_make : (n k : ℕ) (known f : List ℕ) → k < n → has_number k known ≡ false → is_each_new n (k ∷ known) f ≡ true → is_each_new n known (k ∷ f) ≡ true
-each_make n k known f l g h = rw (is_below k n l, g) h
+each_make n k known f l g h = rw (lt-ltb k n l, g) h
 
--- numbers below the size of a list
+-- numbers ltb-true the size of a list
 pub AreWithin : ℕ → List ℕ → Type 0
 AreWithin n [] = Unit {0}
 AreWithin n (k ∷ f) = (k < n) × AreWithin n f
@@ -143,16 +143,12 @@ rank_differs ps t k l hk hl tk tl d = go (nat_eq (rank t k (tags_of ps)) (rank t
         let places : k ≡ l = number k l (sym (at_place k hk tk) ∙ (ap (λ z. place t z (tags_of ps)) same ∙ at_place l hl tl)) in
         let yes = eq-eqb k l places in cc
 
-or_none : (a b : Bool) → (a || b) ≡ false → (a ≡ false) × (b ≡ false)
-or_none true b e = cc
-or_none false b e = (refl, e)
-
 rank_new : (ps : List Item) (t k : ℕ) (known : List ℕ) → k < length ps → slice_index (tags_of ps) k ≡ t → AreWithin (length ps) known → has_number k known ≡ false
     → has_number (rank t k (tags_of ps)) (ranks_of t (tags_of ps) known) ≡ false
 rank_new ps t k [] h e w n = refl
 rank_new ps t k (l ∷ known) h e w n =
     let a = within_parts (length ps) l known w in
-    let b = or_none (nat_eq k l) (has_number k known) n in
+    let b = not_first (nat_eq k l) (has_number k known) n in
     go (nat_eq t (slice_index (tags_of ps) l)) refl a.0 b.0 (rank_new ps t k known h e a.1 b.1)
   where
     go : (c : Bool) → nat_eq t (slice_index (tags_of ps) l) ≡ c → l < length ps → nat_eq k l ≡ false → has_number (rank t k (tags_of ps)) (ranks_of t (tags_of ps) known) ≡ false

@@ -10,6 +10,7 @@ ghost use Rattle.lens_core.specs.Emitted.{at_word, mod_word, shape_word, one_by_
 ghost use Rattle.lens_core.specs.Tags.{tag_count};
 ghost use Rattle.lens_core.specs.Partition.{part_item, mv};
 ghost use Rattle.tag_seq.specs.Tags.{count, rank};
+ghost use Rattle.lens_forms.specs.declared.limits.TheConstants.{MOST_PARTS};
 ghost use Rattle.partition_lens.specs.Rows.{row_of, IsRowFault};
 
 use crate::emit::{at_word, mod_word, move_word, shape_word};
@@ -34,7 +35,7 @@ pub(crate) fn on_item(
     place: u64,
     word: &Word,
 ) -> Result<Row, CarryFault>
-    requires few { tag_count (fields_tree tags.now) ≤ 4096 }
+    requires few { tag_count (fields_tree tags.now) ≤ MOST_PARTS }
     requires within { place < length seq.now }
     ensures { MatchResult result
         (λ r. one_by_one (part_item (fields_tree tags.now) place) seq.now (word_tree word.now) ≡ Some (row_of r))
@@ -57,7 +58,7 @@ fn item_primitive(
     place: u64,
     primitive: &Primitive,
 ) -> Result<Row, CarryFault>
-    requires few { tag_count (fields_tree tags.now) ≤ 4096 }
+    requires few { tag_count (fields_tree tags.now) ≤ MOST_PARTS }
     requires within { place < length seq.now }
     ensures row { MatchResult result
         (λ r. part_item (fields_tree tags.now) place seq.now (primitive_tree primitive.now) ≡ Some (row_of r))
@@ -80,7 +81,7 @@ fn stay_item(
     tag: &Name,
     word: &Word,
 ) -> Result<Row, CarryFault>
-    requires few { tag_count (fields_tree tags.now) ≤ 4096 }
+    requires few { tag_count (fields_tree tags.now) ≤ MOST_PARTS }
     requires within { place < length seq.now }
     ensures row { MatchResult result
         (λ r. part_item (fields_tree tags.now) place seq.now (stay tag.now (word_tree word.now)) ≡ Some (row_of r))
@@ -111,7 +112,7 @@ fn switch_item(
     to: &Name,
     word: &Word,
 ) -> Result<Row, CarryFault>
-    requires few { tag_count (fields_tree tags.now) ≤ 4096 }
+    requires few { tag_count (fields_tree tags.now) ≤ MOST_PARTS }
     requires within { place < length seq.now }
     ensures row { MatchResult result
         (λ r. part_item (fields_tree tags.now) place seq.now (switch from.now to.now (word_tree word.now)) ≡ Some (row_of r))

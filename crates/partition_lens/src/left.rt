@@ -6,6 +6,7 @@ ghost use Rattle.edit_module.specs.Words.{modify};
 ghost use Rattle.edit_module.specs.Views.{word_tree, primitive_tree};
 ghost use Rattle.texts.specs.declared.side.Side.TheVariants.{Left};
 ghost use Rattle.lens_forms.specs.Forms.{form_part};
+ghost use Rattle.lens_forms.specs.declared.limits.TheConstants.{MOST_PARTS};
 ghost use Rattle.lens_core.specs.Complements.{tags_comp};
 ghost use Rattle.lens_core.specs.Tags.{tag_count};
 ghost use Rattle.lens_core.specs.Partition.{part_left};
@@ -34,7 +35,7 @@ use tag_seq::TagSeq;
 ///   does not exist, or a count or an order that is not one of the list.
 /// - `NoMemory`: only if memory ran out, or if the list would have 2^64 items.
 ///
-/// The arguments stay as they are. docs/TRANSLATION.md has the rows.
+/// The arguments stay as they are. docs/EDITS.md has the rows.
 #[tactic(auto, using(crate::proofs::NumbersOfTags::left_rules))]
 pub fn part_left(
     alloc: Global,
@@ -42,7 +43,7 @@ pub fn part_left(
     seq: &TagSeq,
     primitive: &Primitive,
 ) -> Result<Carried, CarryFault>
-    requires { tag_count (fields_tree tags.now) ≤ 4096 }
+    requires { tag_count (fields_tree tags.now) ≤ MOST_PARTS }
     ensures { MatchResult result
         (λ r. translate_one (form_part (fields_tree tags.now)) Left (tags_comp seq.now) (primitive_tree primitive.now)
         ≡ Some (carried_tree r))
@@ -65,7 +66,7 @@ fn row_left(
     seq: &TagSeq,
     primitive: &Primitive,
 ) -> Result<Row, CarryFault>
-    requires { tag_count (fields_tree tags.now) ≤ 4096 }
+    requires { tag_count (fields_tree tags.now) ≤ MOST_PARTS }
     ensures { MatchResult result
         (λ r. part_left (fields_tree tags.now) seq.now (primitive_tree primitive.now) ≡ Some (row_of r))
         (IsRowFault (part_left (fields_tree tags.now) seq.now (primitive_tree primitive.now))) }
@@ -85,7 +86,7 @@ fn mod_items(
     place: &Place,
     word: &Word,
 ) -> Result<Row, CarryFault>
-    requires { tag_count (fields_tree tags.now) ≤ 4096 }
+    requires { tag_count (fields_tree tags.now) ≤ MOST_PARTS }
     ensures { MatchResult result
         (λ r. part_left (fields_tree tags.now) seq.now (modify place.now (word_tree word.now)) ≡ Some (row_of r))
         (IsRowFault (part_left (fields_tree tags.now) seq.now (modify place.now (word_tree word.now)))) }

@@ -10,6 +10,7 @@ ghost use Rattle.lens_core.specs.Emitted.{at_word};
 ghost use Rattle.lens_core.specs.Tags.{tag_count};
 ghost use Rattle.lens_core.specs.Partition.{part_left, insert_items, delete_items, move_item, at_each_tag, del};
 ghost use Rattle.tag_seq.specs.Tags.{count};
+ghost use Rattle.lens_forms.specs.declared.limits.TheConstants.{MOST_PARTS};
 ghost use Rattle.partition_lens.specs.Rows.{row_of, IsRowFault};
 
 use crate::emit::{at_word, delete_word, move_word, nothing, shape_word};
@@ -19,14 +20,11 @@ use crate::row::Row;
 use crate::tags::name_of;
 use doc_values::Fields;
 use edit_module::Word;
-use hold_shapes::{Places, ShapeEdit};
+use hold_shapes::{MOST_ITEMS, Places, ShapeEdit};
 use lens_core::CarryFault;
 use std::alloc::{AllocError, Global};
 use tag_seq::TagSeq;
 use texts::{Name, Twin};
-
-/// The most items that one edit adds or deletes.
-const MOST_ITEMS: u32 = 65536;
 
 /// An edit of the mixed list.
 pub(crate) fn edit_items(
@@ -35,7 +33,7 @@ pub(crate) fn edit_items(
     seq: &TagSeq,
     edit: &ShapeEdit,
 ) -> Result<Row, CarryFault>
-    requires { tag_count (fields_tree tags.now) ≤ 4096 }
+    requires { tag_count (fields_tree tags.now) ≤ MOST_PARTS }
     ensures { MatchResult result
         (λ r. part_left (fields_tree tags.now) seq.now (shape edit.now) ≡ Some (row_of r))
         (IsRowFault (part_left (fields_tree tags.now) seq.now (shape edit.now))) }
@@ -68,7 +66,7 @@ fn insert_row(alloc: Global, tags: &Fields, seq: &TagSeq, items: u32) -> Result<
 }
 
 fn delete_row(alloc: Global, tags: &Fields, seq: &TagSeq, items: u32) -> Result<Row, CarryFault>
-    requires { tag_count (fields_tree tags.now) ≤ 4096 }
+    requires { tag_count (fields_tree tags.now) ≤ MOST_PARTS }
     ensures { MatchResult result
         (λ r. part_left (fields_tree tags.now) seq.now (shape (Del items)) ≡ Some (row_of r))
         (IsRowFault (part_left (fields_tree tags.now) seq.now (shape (Del items)))) }
@@ -109,7 +107,7 @@ fn reorder_row(
     edit: &ShapeEdit,
     order: &Places,
 ) -> Result<Row, CarryFault>
-    requires few { tag_count (fields_tree tags.now) ≤ 4096 }
+    requires few { tag_count (fields_tree tags.now) ≤ MOST_PARTS }
     requires same { edit.now ≡ Reorder order.now }
     ensures { MatchResult result
         (λ r. part_left (fields_tree tags.now) seq.now (shape (Reorder order.now)) ≡ Some (row_of r))
@@ -137,7 +135,7 @@ fn insert_items(alloc: Global, tags: &Fields, seq: &TagSeq, items: u32) -> Resul
 
 // Of each tag as many are deleted as it has among the last items.
 fn delete_items(alloc: Global, tags: &Fields, seq: &TagSeq, items: u32) -> Result<Row, AllocError>
-    requires few { tag_count (fields_tree tags.now) ≤ 4096 }
+    requires few { tag_count (fields_tree tags.now) ≤ MOST_PARTS }
     requires within { items ≤ length seq.now }
     ensures { IfOk result (λ r. row_of r ≡ delete_items (fields_tree tags.now) seq.now items) }
 {
@@ -151,7 +149,7 @@ fn delete_items(alloc: Global, tags: &Fields, seq: &TagSeq, items: u32) -> Resul
 // A deletion in the list of each tag, in written order.
 #[tactic(auto, using(crate::proofs::EachTag::each_rules))]
 fn deletions(alloc: Global, tags: &Fields, seq: &TagSeq, kept: u64) -> Result<Word, AllocError>
-    requires few { tag_count (fields_tree tags.now) ≤ 4096 }
+    requires few { tag_count (fields_tree tags.now) ≤ MOST_PARTS }
     requires within { kept ≤ length seq.now }
     requires last { length seq.now - kept < 2 ^ 32 }
     ensures { IfOk result (λ w. word_tree w ≡ at_each_tag (fields_tree tags.now) 0 (λ t. del (count t (drop kept seq.now)))) }

@@ -8,6 +8,7 @@ ghost use Rattle.edit_module.specs.Views.{word_tree};
 ghost use Rattle.lens_core.specs.Tags.{tag_count};
 ghost use Rattle.lens_core.specs.Emitted.{at_word};
 ghost use Rattle.lens_core.specs.Partition.{reorder_items, at_each_tag, reorder};
+ghost use Rattle.lens_forms.specs.declared.limits.TheConstants.{MOST_PARTS};
 ghost use Rattle.partition_lens.specs.TagRanks.{with_rank, ranks_by_tag};
 ghost use Rattle.partition_lens.specs.Rows.{row_of};
 
@@ -54,7 +55,7 @@ pub(crate) fn reorder_items(
     seq: &TagSeq,
     order: &[u64],
 ) -> Result<Row, AllocError>
-    requires few { tag_count (fields_tree tags.now) ≤ 4096 }
+    requires few { tag_count (fields_tree tags.now) ≤ MOST_PARTS }
     requires each { is_each_new (length seq.now) [] order.now ≡ true }
     ensures { IfOk result (λ r. row_of r ≡ reorder_items (fields_tree tags.now) seq.now order.now) }
 {
@@ -139,7 +140,7 @@ fn reorder_tag(alloc: Global, ranks: &[u64], name: &Name) -> Result<Word, AllocE
 // A reorder in the list of each tag, in written order.
 #[tactic(auto, using(crate::proofs::EachTag::each_rules))]
 fn reorders(alloc: Global, tags: &Fields, ranks: &[Vec<u64>]) -> Result<Word, AllocError>
-    requires few { tag_count (fields_tree tags.now) ≤ 4096 }
+    requires few { tag_count (fields_tree tags.now) ≤ MOST_PARTS }
     requires long { length ranks.now ≡ tag_count (fields_tree tags.now) }
     ensures { IfOk result (λ w. word_tree w
         ≡ at_each_tag (fields_tree tags.now) 0 (λ t. reorder (slice_index_or (map vec_items ranks.now) t []))) }

@@ -5,6 +5,7 @@ ghost use Rattle.doc_values.specs.Types.{fields_tree};
 ghost use Rattle.edit_module.specs.Views.{word_tree, primitive_tree};
 ghost use Rattle.texts.specs.declared.side.Side.TheVariants.{Right};
 ghost use Rattle.lens_forms.specs.Forms.{form_part};
+ghost use Rattle.lens_forms.specs.declared.limits.TheConstants.{MOST_PARTS};
 ghost use Rattle.lens_core.specs.Complements.{tags_comp};
 ghost use Rattle.lens_core.specs.Emitted.{one_by_one};
 ghost use Rattle.lens_core.specs.Tags.{tag_count};
@@ -32,7 +33,7 @@ use texts::Name;
 ///   tag does not have, or a count or an order that is not one of that list.
 /// - `NoMemory`: only if memory ran out, or if the mixed list would have 2^64 items.
 ///
-/// The arguments stay as they are. docs/TRANSLATION.md has the rows.
+/// The arguments stay as they are. docs/EDITS.md has the rows.
 #[tactic(auto, using(crate::proofs::NumbersOfTags::right_rules))]
 pub fn part_right(
     alloc: Global,
@@ -40,7 +41,7 @@ pub fn part_right(
     seq: &TagSeq,
     primitive: &Primitive,
 ) -> Result<Carried, CarryFault>
-    requires { tag_count (fields_tree tags.now) ≤ 4096 }
+    requires { tag_count (fields_tree tags.now) ≤ MOST_PARTS }
     ensures { MatchResult result
         (λ r. translate_one (form_part (fields_tree tags.now)) Right (tags_comp seq.now) (primitive_tree primitive.now)
         ≡ Some (carried_tree r))
@@ -63,7 +64,7 @@ fn row_right(
     seq: &TagSeq,
     primitive: &Primitive,
 ) -> Result<Row, CarryFault>
-    requires { tag_count (fields_tree tags.now) ≤ 4096 }
+    requires { tag_count (fields_tree tags.now) ≤ MOST_PARTS }
     ensures { MatchResult result
         (λ r. part_right (fields_tree tags.now) seq.now (primitive_tree primitive.now) ≡ Some (row_of r))
         (IsRowFault (part_right (fields_tree tags.now) seq.now (primitive_tree primitive.now))) }

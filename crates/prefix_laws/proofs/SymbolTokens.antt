@@ -8,8 +8,8 @@ use Rattle.program_tokens.specs.declared.token.Token.{Token}
 use Rattle.program_tokens.specs.declared.token.Token.TheVariants as tokens
 use Rattle.program_grammar.specs.Grammar.{Symbol}
 use Rattle.program_grammar.specs.Reading.{is_end}
-use Rattle.program_grammar.proofs.ReadingResults.{some_is}
 use Rattle.prefix_laws.proofs.Machine.{is_name, is_string, is_number, is_word, code}
+use Rattle.std.proofs.lemmas.Option.{same_Some}
 
 abbrev pub absent : Option (List Symbol)
 absent = None
@@ -57,7 +57,7 @@ word_is k tokens.Bad e = absurd cc
 word_is k tokens.End e = absurd cc
 
 pub chosen : (b : Bool) (s q : List Symbol) → cond b (Some s) None ≡ Some q → (b ≡ true) × (s ≡ q)
-chosen true s q e = (refl, some_is s q e)
+chosen true s q e = (refl, same_Some s q e)
 chosen false s q e = absurd (nothing_there q e)
 
 pub name_is : (t : Token) → is_name t ≡ true → (n : List ℕ) × (t ≡ tokens.Name n)

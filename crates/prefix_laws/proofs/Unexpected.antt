@@ -4,11 +4,11 @@ use Rattle.program_tokens.specs.declared.token.Token.{Token}
 use Rattle.program_tokens.specs.declared.token.PlacedToken.{PlacedToken}
 use Rattle.program_grammar.specs.Grammar.{Symbol, IsViablePrefix, no_tokens, mark_first, word_first, name_first, string_first, number_first, end_first, rule_replaced, option_present, option_absent, repeated_once_more, repeated_no_more}
 use Rattle.program_grammar.specs.Unexpected.{without_offsets, IsUnexpectedToken}
-use Rattle.program_grammar.proofs.ReadingResults.{some_is}
 use Rattle.program_grammar.proofs.RestOfTokens.{same_tail}
 use Rattle.prefix_laws.proofs.Machine.{take_one, goes, stop}
 use Rattle.prefix_laws.proofs.MachineSoundness.{goes_viable}
 use Rattle.prefix_laws.proofs.MachineCompleteness.{Fine, viable_goes}
+use Rattle.std.proofs.lemmas.Option.{same_Some}
 
 -- What a viable prefix begins with is a viable prefix.
 
@@ -42,10 +42,6 @@ pub begins : (s : List Symbol) (before after : List Token) → IsViablePrefix s 
 begins s before after h = subst (IsViablePrefix s) (take_length before after) (first_of_viable h (length before))
 
 -- Two unexpected tokens are at one offset.
-
-without_offsets_append : (a b : List PlacedToken) → without_offsets (a ++ b) ≡ without_offsets a ++ without_offsets b
-without_offsets_append [] b = refl
-without_offsets_append (t ∷ a) b = ap (λ x. t.token ∷ x) (without_offsets_append a b)
 
 same_head : (t u : PlacedToken) (ts us : List PlacedToken) → t ∷ ts ≡ u ∷ us → t ≡ u
 same_head t u ts us e = cc
@@ -105,7 +101,7 @@ stopped s (t ∷ ts) at e =
       | Some r ↦ λ k g.
           let h = stopped r ts at g in
           record { before = t ∷ h.before; first = h.first; after = h.after; parts = ap (λ x. t ∷ x) h.parts; place = h.place; front = rw (k, goes) h.front; none = rw (k, goes) h.none }
-      | None ↦ λ k g. record { before = []; first = t; after = ts; parts = refl; place = some_is t.at at g; front = refl; none = rw (k, goes) refl }
+      | None ↦ λ k g. record { before = []; first = t; after = ts; parts = refl; place = same_Some t.at at g; front = refl; none = rw (k, goes) refl }
     ] refl e
 
 never : (b : Bool) → b ≡ true → b ≡ false → ⊥

@@ -7,7 +7,7 @@ use Rattle.program_tokens.specs.declared.token.Token.{Token}
 use Rattle.program_tokens.specs.declared.token.Token.TheVariants as tokens
 use Rattle.program_tokens.specs.Words.{mark_byte, mark_of}
 use Rattle.program_grammar.specs.Reading.{is_mark}
-use Rattle.program_grammar.proofs.ReadingResults.{some_is}
+use Rattle.std.proofs.lemmas.Option.{same_Some}
 
 -- a mark is known by its byte
 mark_of_byte : (m : Mark) → mark_of (mark_byte m) ≡ Some m
@@ -27,7 +27,7 @@ mark_of_byte Comma = refl
 mark_of_byte Tilde = refl
 
 same_mark : (m k : Mark) → eqb (mark_byte k) (mark_byte m) ≡ true → k ≡ m
-same_mark m k e = some_is k m (sym (mark_of_byte k) ∙ ap mark_of (eqb-true (mark_byte k) (mark_byte m) e) ∙ mark_of_byte m)
+same_mark m k e = same_Some k m (sym (mark_of_byte k) ∙ ap mark_of (eqb-true (mark_byte k) (mark_byte m) e) ∙ mark_of_byte m)
 
 pub mark_is : (m : Mark) (t : Token) → is_mark m t ≡ true → t ≡ tokens.Mark m
 mark_is m (tokens.Mark k) e = ap tokens.Mark (same_mark m k e)

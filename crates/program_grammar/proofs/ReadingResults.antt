@@ -1,5 +1,5 @@
 -- What a step of reading gives: a value, or the offset at which it stopped.
-use Rattle.std.proofs.Common.{◌≡◌, ℕ, Bool, true, false, cond, Option, Some, Result, Ok, Err, refl, ◌⊎◌, inl, inr}
+use Rattle.std.proofs.Common.{◌≡◌, ℕ, Bool, true, false, cond, Option, Result, Ok, Err, refl, ◌⊎◌, inl, inr}
 use Rattle.program_grammar.specs.Reading.{◌>>=◌}
 
 abbrev pub done : {A : Type 0} → A → Result A (Option ℕ)
@@ -10,9 +10,6 @@ failed e = Err e
 
 pub ok_is : {A : Type 0} (x y : A) → done x ≡ done y → x ≡ y
 ok_is x y e = cc
-
-pub some_is : {A : Type 0} (x y : A) → Some x ≡ Some y → x ≡ y
-some_is x y e = cc
 
 pub no_value : {A : Type 0} (e : Option ℕ) (x : A) → failed e ≡ done x → ⊥
 no_value e x h = absurd cc

@@ -12,7 +12,7 @@ use Rattle.program_reader.specs.declared.fault.ReadFault.{ReadFault}
 use Rattle.program_reader.specs.declared.fault.ReadFault.TheVariants as faults
 use Rattle.program_reader.specs.Gives.{Fails}
 use Rattle.program_reader.specs.Programs.{term_at, with_no_mentions}
-use Rattle.program_grammar.proofs.ReadingResults.{bind_ok, ok_is}
+use Rattle.program_grammar.proofs.ReadingResults.{bind_ok, ok_is, failed}
 use Rattle.program_grammar.proofs.RestOfTokens.{definitions_after}
 use Rattle.program_grammar.proofs.TokensLeft.{LeavesFewer, type_term_leaves, lens_term_leaves, definition_leaves}
 use Rattle.program_reader.proofs.ListLoop.{with_front, regroup}
@@ -54,9 +54,6 @@ no_mentions_ok {A = A} read x q e =
     let same = ok_is (a.0.0, ([], a.0.1)) (x, q) a.2 in
     (a.1 ∙ ap (λ (y : A × Point). Ok (y.0, y.1.1)) same, sym (ap (λ (y : A × Point). y.1.0) same))
 
-abbrev failed : {A : Type 0} → Option ℕ → Result A (Option ℕ)
-failed f = Err f
-
 err_is : {A : Type 0} (f g : Option ℕ) → failed {A = A} f ≡ failed g → f ≡ g
 err_is f g e = cc
 
@@ -70,13 +67,6 @@ no_mentions_fails {A = A} (Err f) other faults.Ended h k = k f refl ∙ ap (λ (
 no_mentions_fails {A = A} (Err f) other (faults.At at) h k = k f refl ∙ ap (λ (g : Option ℕ). Err g) (err_is {A = A × Point} f (Some at) h)
 
 -- ---- a loop
-
-pub begins_empty : (ts : List PlacedToken) → AreSoFar [] ts ts
-begins_empty ts = by (definitions_at 0 ts)
-  where
-    by : (read : Result (List NotedDefinition × List PlacedToken) (Option ℕ)) → with_front [] read ≡ read
-    by (Ok x) = refl
-    by (Err f) = refl
 
 pub goes_on : (sort : Sort) (front : List NotedDefinition) (ts whole : List PlacedToken) (d : NotedDefinition) (q : Point) → definition_of (next_word ts) ≡ Some (term_at sort)
     → with_no_mentions (definition_at (term_at sort) (drop 1 ts)) ≡ Ok (d, q) → AreSoFar front ts whole → AreSoFar (front ++ d ∷ []) q.1 whole

@@ -11,6 +11,7 @@ use Rattle.program_grammar.specs.declared.mention.NameFault.TheVariants.{Unknown
 use Rattle.program_grammar.specs.Mentions.{NotedDefinition, NotedProgram, definition_without_notes}
 use Rattle.program_grammar.specs.Names.{is_of, is_known, first_unknown, first_after, first_fault}
 use Rattle.program_reader.specs.Known.{is_wanted, is_known_among, first_unknown_among, first_fault_among}
+use Rattle.texts.proofs.Tests.{or_false}
 
 -- the same names are known by looking up the definition with the name, and by looking for one of the wanted sort
 abbrev SameNames : List (List ℕ × DefTree) → Type 0
@@ -52,16 +53,12 @@ known_push sort name (e ∷ es) d new =
     by true same apart before = rw (other_name name e.0 d.0 same apart) (kept (is_of sort e.1) (is_of sort d.1))
     by false same apart before = before
 
-alone : (b : Bool) → (b || false) ≡ b
-alone true = refl
-alone false = refl
-
 same_push : (ds : List (List ℕ × DefTree)) (d : List ℕ × DefTree) → SameNames ds → is_defined d.0 ds ≡ false → SameNames (ds ++ d ∷ [])
 same_push ds d same new m =
     let here = is_of m.sort d.1 && bytes_eq m.name d.0 in
     known_push m.sort m.name ds d new
     ∙ ap (λ b. b || here) (same m)
-    ∙ ap (λ b. is_known m ds || b) (sym (alone here))
+    ∙ ap (λ b. is_known m ds || b) (sym (or_false here))
     ∙ sym (list_any-append (λ d. is_of m.sort d.1 && bytes_eq m.name d.0) ds (d ∷ []))
 
 -- ---- faults

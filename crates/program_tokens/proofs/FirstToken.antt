@@ -251,25 +251,6 @@ stops_at_mark marks.Colon = refl
 stops_at_mark marks.Comma = refl
 stops_at_mark marks.Tilde = refl
 
--- no number goes on there either
-pub no_digit_at_mark : (m : Mark) → is_digit (mark_byte m) ≡ false
-no_digit_at_mark marks.Equals = refl
-no_digit_at_mark marks.Semicolon = refl
-no_digit_at_mark marks.OpenBrace = refl
-no_digit_at_mark marks.CloseBrace = refl
-no_digit_at_mark marks.Less = refl
-no_digit_at_mark marks.Greater = refl
-no_digit_at_mark marks.OpenBracket = refl
-no_digit_at_mark marks.CloseBracket = refl
-no_digit_at_mark marks.OpenParen = refl
-no_digit_at_mark marks.CloseParen = refl
-no_digit_at_mark marks.Colon = refl
-no_digit_at_mark marks.Comma = refl
-no_digit_at_mark marks.Tilde = refl
-
-pub no_digit_at_space : is_digit 32 ≡ false
-no_digit_at_space = refl
-
 pub stops_at_space : in_word 32 ≡ false
 unfolding in_word begins_word
 stops_at_space = refl

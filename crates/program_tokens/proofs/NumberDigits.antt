@@ -62,9 +62,6 @@ few_behind first others h short =
     let b = pow-le-pow_right {n = 10} (omega arith) short in
     omega arith
 
-pub few_digits : (ds : List ℕ) → length ds ≤ 19 → (0 + 1) * 10 ^ length ds ≤ 10 ^ 19
-few_digits ds short = let b = pow-le-pow_right {n = 10} (omega arith) short in omega arith
-
 -- ---- numbers in decimal digits
 
 is_one : (c : ℕ) → 48 ≤ c → c ≤ 57 → is_digit c ≡ true

@@ -10,10 +10,6 @@ use Rattle.program_tokens.proofs.WordUtf8.{word_goes_on}
 use Rattle.texts.proofs.Conjunction.{split}
 use Rattle.program_tokens.specs.Words.{begins_word, in_word, is_word, is_name, in_text, is_text, keyword_of}
 
-not_true : (b : Bool) → not b ≡ true → b ≡ false
-not_true false h = refl
-not_true true h = absurd cc
-
 -- ---- strings
 
 -- the parts of the test

@@ -18,17 +18,14 @@ use Rattle.program_grammar.specs.Spelling.{Is, IsInitial}
 use Rattle.program_writing.specs.Canonical.{put_string, put_initial_number, put_initial_string}
 use Rattle.program_writing.specs.Writable.{IsText, IsInitialText}
 use Rattle.program_writing.proofs.TextSteps.{Spelt, space_mark_space, string, number, two}
+use Rattle.texts.proofs.Tests.{neither_second}
 
 -- ---- where no word goes on, no number does
-
-no_digit : (word digit : Bool) → (word || digit) ≡ false → digit ≡ false
-no_digit false digit h = h
-no_digit true digit h = absurd cc
 
 no_number : (rest : List ℕ) → Stops in_word rest → Stops is_digit rest
 unfolding in_word
 no_number [] h = tt
-no_number (b ∷ rest) h = no_digit (begins_word b) (is_digit b) h
+no_number (b ∷ rest) h = neither_second (begins_word b) (is_digit b) h
 
 -- ---- written where it differs
 

@@ -13,7 +13,7 @@ use Rattle.program_writing.specs.Writable.{IsNotEmpty, HasFields, IsWritableType
 use Rattle.program_writing.proofs.CanonicalTokens.{a_type}
 use Rattle.program_writing.proofs.TextSteps.{before}
 
-has_level : (t : TyTree) → 1 ≤ height t
+pub has_level : (t : TyTree) → 1 ≤ height t
 has_level ty_unit = omega arith
 has_level ty_bool = omega arith
 has_level (ty_int z) = omega arith

@@ -1,17 +1,17 @@
 -- A script that goes on: what is known of it at some bytes stays so, whatever follows.
-use Rattle.std.proofs.Common.{◌≡◌, ℕ, List, [], ◌∷◌, ◌++◌, Bool, true, false, cond, refl, sym, ap, subst, ◌∙◌, append_assoc, append-nil}
+use Rattle.std.proofs.Common.{◌≡◌, ℕ, List, [], ◌∷◌, ◌++◌, Bool, true, false, refl, sym, ap, subst, ◌∙◌, append_assoc, append-nil}
 use Rattle.std.specs.Prelude.{◌==◌, ◌||◌, option_to_list}
 use Rattle.std.specs.List.{list_any}
 use Rattle.std.proofs.lemmas.Bool.{eqb-true}
 use Rattle.edit_journal.specs.Pieces.{FedLines, nothing_fed, fed, last_line, lines_of, has_no_end}
-use Rattle.edit_journal.specs.declared.line.Line.{Line}
-use Rattle.edit_journal.proofs.Feeding.{joins, plain, in_front, all_lines_given, both_plain}
-use Rattle.script_parts.specs.Lines.{is_separator, is_separator_line, behind_separator, program_part, journal}
+use Rattle.edit_journal.proofs.Feeding.{joins, plain, in_front, all_lines_given, plain_more}
+use Rattle.script_parts.specs.Lines.{is_separator, is_separator_line, program_part, journal}
 use Rattle.script_parts.specs.Coming.{ended_lines, has_separator, journal_lines}
 use Rattle.script_parts.specs.Parts.{IsHead}
 use Rattle.script_parts.specs.PartSteps.{IsProgramFront}
 use Rattle.script_parts.proofs.Fronts.{no_front, longer_front, whole_head}
 use Rattle.report_laws.specs.Beginnings.{BeginsWith}
+use Rattle.script_parts.proofs.TakenParts.{none_behind}
 
 -- ---- lines that have ended are the first ones
 
@@ -42,10 +42,6 @@ record HasHead (bytes : List ℕ) : Type 0 where
 
 joined : (front text bytes : List ℕ) → (front ++ (text ++ 10 ∷ [])) ++ bytes ≡ front ++ (text ++ 10 ∷ bytes)
 joined front text bytes = append_assoc front (text ++ 10 ∷ []) bytes ∙ ap (λ l. front ++ l) (append_assoc text (10 ∷ []) bytes)
-
-plain_more : (text : List ℕ) (byte : ℕ) → has_no_end text ≡ true → byte == 10 ≡ false → has_no_end (text ++ byte ∷ []) ≡ true
-plain_more [] byte h e = rw e refl
-plain_more (first ∷ text) byte h e = let parts = both_plain first text h in rw parts.0 (plain_more text byte parts.1 e)
 
 -- without an LF no line has ended
 none_ended : (text : List ℕ) → has_no_end text ≡ true → has_separator text ≡ false
@@ -113,14 +109,6 @@ behind_head bytes more h =
     }
 
 -- ---- before it has come
-
--- without a separator no lines are behind it
-none_behind : (lines : List Line) → list_any is_separator_line lines ≡ false → behind_separator lines ≡ []
-none_behind [] h = refl
-none_behind (line ∷ lines) h = by_test (is_separator_line line) (λ e. none_behind lines e) h where
-  by_test : (b : Bool) → (list_any is_separator_line lines ≡ false → behind_separator lines ≡ []) → (b || list_any is_separator_line lines) ≡ false → cond b lines (behind_separator lines) ≡ []
-  by_test true f e = cc
-  by_test false f e = f e
 
 pub no_journal : (bytes : List ℕ) → has_separator bytes ≡ false → journal_lines bytes ≡ []
 no_journal bytes h = none_behind (ended_lines bytes) h

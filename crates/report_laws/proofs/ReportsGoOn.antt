@@ -12,7 +12,8 @@ use Rattle.edit_session.specs.Step.{TripleTree}
 use Rattle.edit_session.specs.Run.{any_refused, last}
 use Rattle.journal_answers.specs.Answers.{answer_lines, state_lines, text_from}
 use Rattle.journal_answers.specs.Runs.{JournalItem, JournalAnswer, first_of, run_of, items_of}
-use Rattle.editlens_main.specs.Report.{ending, report_with, run_report, report, refusal_line}
+use Rattle.answer_text.specs.RefusalLines.{refused_part_line}
+use Rattle.editlens_main.specs.Report.{ending, report_with, run_report, report}
 use Rattle.editlens_main.specs.Ends.{answers_with, AnswersBut, AnswersSome}
 use Rattle.editlens_main.specs.declared.commands.Command.{Command}
 use Rattle.editlens_main.specs.declared.commands.Command.TheVariants.{Run, Check}
@@ -93,11 +94,11 @@ answers_first Check bytes text a more whole status reported = let none : [] ≡ 
 
 -- ---- a refusal
 
-pub refused : (command : Command) (outcome : Result FormTree Refusal) (items : List JournalItem) (refusal : Refusal) → outcome ≡ Err refusal → report_with command outcome items ≡ Some (refusal_line refusal, ProgramRefused)
+pub refused : (command : Command) (outcome : Result FormTree Refusal) (items : List JournalItem) (refusal : Refusal) → outcome ≡ Err refusal → report_with command outcome items ≡ Some (refused_part_line refusal, ProgramRefused)
 refused Run outcome items refusal h = ap (λ o. report_with Run o items) h
 refused Check outcome items refusal h = ap (λ o. report_with Check o items) h
 
 pub refusal_stays : (command : Command) (bytes : List ℕ) (refusal : Refusal) → has_separator bytes ≡ true → lens_of (program_part bytes) ≡ Err refusal
-    → (more : List ℕ) → report command (bytes ++ more) ≡ Some (refusal_line refusal, ProgramRefused)
+    → (more : List ℕ) → report command (bytes ++ more) ≡ Some (refused_part_line refusal, ProgramRefused)
 refusal_stays command bytes refusal has h more =
     refused command (lens_of (program_part (bytes ++ more))) (items_of (journal (bytes ++ more))) refusal (ap lens_of (part_stays bytes more has) ∙ h)

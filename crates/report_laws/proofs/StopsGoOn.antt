@@ -5,7 +5,8 @@ use Rattle.script_parts.specs.Lines.{program_part, journal}
 use Rattle.script_parts.specs.Coming.{HasPart}
 use Rattle.accepted_programs.specs.Program.{Refusal, lens_of}
 use Rattle.journal_answers.specs.Runs.{items_of}
-use Rattle.editlens_main.specs.Report.{report, refusal_line}
+use Rattle.answer_text.specs.RefusalLines.{refused_part_line}
+use Rattle.editlens_main.specs.Report.{report}
 use Rattle.editlens_main.specs.Ends.{IsFinished, AnswersSome, RefusesPart, WouldWrite, IsCleanStop}
 use Rattle.editlens_main.specs.declared.commands.Command.{Command}
 use Rattle.editlens_main.specs.declared.status.Status.{Status}
@@ -37,16 +38,16 @@ module _ (command : Command) (left' : Option (List ℕ)) (bytes more whole : Lis
   answers : (text : List ℕ) → AnswersSome command bytes text → BeginsWith whole text
   answers text a = answers_first command bytes text a more whole status reported
 
-  refusal_is : (refusal : Refusal) → RefusesPart left' bytes refusal → report command (bytes ++ more) ≡ Some (refusal_line refusal, ProgramRefused)
+  refusal_is : (refusal : Refusal) → RefusesPart left' bytes refusal → report command (bytes ++ more) ≡ Some (refused_part_line refusal, ProgramRefused)
   refusal_is refusal r = by_part r.whole where
-    by_part : HasPart bytes ⊎ IsAtEnd left' → report command (bytes ++ more) ≡ Some (refusal_line refusal, ProgramRefused)
+    by_part : HasPart bytes ⊎ IsAtEnd left' → report command (bytes ++ more) ≡ Some (refused_part_line refusal, ProgramRefused)
     by_part (inl part) = refusal_stays command bytes refusal part.has r.refused more
     by_part (inr e) = at_end e ∙ refused command (lens_of (program_part bytes)) (items_of (journal bytes)) refusal r.refused
 
-  refusal_begins : (refusal : Refusal) → RefusesPart left' bytes refusal → BeginsWith whole (refusal_line refusal)
+  refusal_begins : (refusal : Refusal) → RefusesPart left' bytes refusal → BeginsWith whole (refused_part_line refusal)
   refusal_begins refusal r =
-      itself whole (refusal_line refusal)
-      (same_text (report command (bytes ++ more)) (report command (bytes ++ more)) (whole, status) (refusal_line refusal, ProgramRefused) reported (refusal_is refusal r) refl)
+      itself whole (refused_part_line refusal)
+      (same_text (report command (bytes ++ more)) (report command (bytes ++ more)) (whole, status) (refused_part_line refusal, ProgramRefused) reported (refusal_is refusal r) refl)
 
   would_begin : (text : List ℕ) → WouldWrite command left' bytes text → BeginsWith whole text
   would_begin text (inl a) = answers text a.1
@@ -62,7 +63,7 @@ module _ (command : Command) (left' : Option (List ℕ)) (bytes more whole : Lis
   stop_begins Usage left held held' not clean = absurd clean
   stop_begins StoreRefused left held held' not clean = absurd clean
   stop_begins DiskFault left held held' not clean = absurd clean
-  stop_begins ProgramRefused left held held' not clean = record { text = refusal_line clean.0; appends = clean.2; begins = refusal_begins clean.0 clean.1 }
+  stop_begins ProgramRefused left held held' not clean = record { text = refused_part_line clean.0; appends = clean.2; begins = refusal_begins clean.0 clean.1 }
   stop_begins SourceFault left held held' not clean = record { text = clean.1.0; appends = clean.1.2; begins = answers clean.1.0 ([], clean.1.1) }
   stop_begins SinkFault left held held' not clean = record {
     text = take clean.2.0.0 clean.0;

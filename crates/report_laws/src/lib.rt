@@ -12,7 +12,8 @@ ghost use Rattle.accepted_programs.specs.Program.{Refusal, lens_of};
 ghost use Rattle.script_parts.specs.Coming.{has_separator, journal_lines};
 ghost use Rattle.script_parts.specs.Lines.{program_part, journal};
 ghost use Rattle.editlens_main.specs.Ends.{AnswersSome, IsCleanStop, IsFinished};
-ghost use Rattle.editlens_main.specs.Report.{report, refusal_line};
+ghost use Rattle.answer_text.specs.RefusalLines.{refused_part_line};
+ghost use Rattle.editlens_main.specs.Report.{report};
 ghost use Rattle.editlens_main.specs.declared.commands.Command.{Command};
 ghost use Rattle.editlens_main.specs.declared.status.Status.{Status};
 ghost use Rattle.editlens_main.specs.declared.status.Status.TheVariants.{ProgramRefused};
@@ -41,7 +42,7 @@ pub fn answers_come_first()
 pub fn a_refusal_stays()
     ensures { (command : Command) (bytes : List ℕ) (refusal : Refusal) → has_separator bytes ≡ true
         → lens_of (program_part bytes) ≡ Err refusal
-        → (more : List ℕ) → report command (bytes ++ more) ≡ Some (refusal_line refusal, ProgramRefused) }
+        → (more : List ℕ) → report command (bytes ++ more) ≡ Some (refused_part_line refusal, ProgramRefused) }
 {}
 
 /// What a call has written when it stops is the beginning of the report of its whole input.

@@ -1,5 +1,5 @@
 -- What a line that was taken does to the program part.
-use Rattle.std.proofs.Common.{◌≡◌, ◌<◌, ℕ, List, [], ◌∷◌, ◌++◌, length, Bool, true, false, Option, Some, None, refl, sym, ap, subst, ◌∙◌, append_assoc, arith}
+use Rattle.std.proofs.Common.{◌≡◌, ◌<◌, ℕ, List, [], ◌∷◌, ◌++◌, Bool, true, false, Option, Some, None, refl, sym, ap, subst, ◌∙◌, append_assoc}
 use Rattle.edit_journal.specs.Lines.{line_of}
 use Rattle.edit_journal.specs.Pieces.{FedLines, take_first}
 use Rattle.edit_journal.specs.declared.line.Line.{Line}
@@ -11,15 +11,8 @@ use Rattle.script_parts.specs.declared.script.ProgramText.{ProgramText}
 use Rattle.script_parts.proofs.Fronts.{longer_front, whole_head, separator_line}
 use Rattle.script_parts.proofs.TakenLines.{IsSplit, splits}
 
--- one ended line less
-pub fewer : (line : Line) (rest lines : FedLines) → (Some line, rest) ≡ take_first lines → length rest.ended < length lines.ended
-fewer line rest lines h = by_lines lines.ended h where
-  by_lines : (ended : List Line) → (Some line, rest) ≡ take_first (record { ended = ended; begun = lines.begun }) → length rest.ended < length ended
-  by_lines [] e = let never = ap (λ (p : Option Line × FedLines). p.0) e in cc
-  by_lines (first ∷ ended) e = let same : length rest.ended ≡ length ended = ap (λ (p : Option Line × FedLines). length p.1.ended) e in omega (arith, same)
-
 -- no ended line is left, and the lines stay as they are
-none_taken : (rest lines : FedLines) → (None, rest) ≡ take_first lines → lines.ended ≡ []
+pub none_taken : (rest lines : FedLines) → (None, rest) ≡ take_first lines → lines.ended ≡ []
 none_taken rest lines h = by_lines lines.ended h where
   by_lines : (ended : List Line) → (None, rest) ≡ take_first (record { ended = ended; begun = lines.begun }) → ended ≡ []
   by_lines [] e = refl
@@ -32,7 +25,7 @@ same_lines rest lines h = by_lines lines.ended h where
   by_lines (first ∷ ended) e = let never = ap (λ (p : Option Line × FedLines). p.0) e in cc
 
 -- the bytes up to the line, the line, and what is behind it
-joined : (front text behind : List ℕ) → front ++ (text ++ 10 ∷ behind) ≡ (front ++ (text ++ 10 ∷ [])) ++ behind
+pub joined : (front text behind : List ℕ) → front ++ (text ++ 10 ∷ behind) ≡ (front ++ (text ++ 10 ∷ [])) ++ behind
 joined front text behind = ap (λ l. front ++ l) (sym (append_assoc text (10 ∷ []) behind)) ∙ sym (append_assoc front (text ++ 10 ∷ []) behind)
 
 module _ (bytes : List ℕ) (old new : TakenInput) (program : ProgramText) (m : MovesOn bytes old (λ front _. IsProgramFront front × HoldsPart program front)) where

@@ -9,6 +9,7 @@ use Rattle.edit_journal.specs.Pieces.{FedLines, last_line, lines_of, has_no_end}
 use Rattle.edit_journal.specs.declared.line.Line.{Line}
 use Rattle.edit_journal.specs.declared.line.Line.TheVariants.{Text, TooLong}
 use Rattle.edit_journal.proofs.Feeding.{both_plain, plain, first_line, all_lines_given}
+use Rattle.edit_journal.specs.declared.line.TheConstants.{MOST_LINE_BYTES}
 use Rattle.script_parts.specs.Lines.{cut, up_to_line_end, is_separator, lines_before, program_part, is_separator_line, behind_separator, journal}
 use Rattle.script_parts.specs.Coming.{ended_lines, has_separator, journal_lines}
 use Rattle.script_parts.specs.Parts.{IsHead}
@@ -54,16 +55,16 @@ up_to_last (byte ∷ text) h = let parts = both_plain byte text h in rw parts.0 
 
 -- ---- the separator as a line
 
-few : (text : List ℕ) → is_separator text ≡ true → length text ≤ 1048576
+few : (text : List ℕ) → is_separator text ≡ true → length text ≤ MOST_LINE_BYTES
 few text h = by_test (bytes_eq text (codes "---")) (bytes_eq text (codes "---" ++ 13 ∷ [])) (λ e. (bytes_eq-Decides text (codes "---")).0 e) (λ e. (bytes_eq-Decides text (codes "---" ++ 13 ∷ [])).0 e) h where
-  by_test : (a b : Bool) → (a ≡ true → text ≡ codes "---") → (b ≡ true → text ≡ codes "---" ++ 13 ∷ []) → (a || b) ≡ true → length text ≤ 1048576
+  by_test : (a b : Bool) → (a ≡ true → text ≡ codes "---") → (b ≡ true → text ≡ codes "---" ++ 13 ∷ []) → (a || b) ≡ true → length text ≤ MOST_LINE_BYTES
   by_test true b p q e = omega (arith, ap length (p refl))
   by_test false b p q e = omega (arith, ap length (q e))
 
 -- a text is the separator if and only if its line is
 pub separator_line : (text : List ℕ) → is_separator_line (line_of text) ≡ is_separator text
-separator_line text = by_test (nat_le (length text) 1048576) (is_separator text) refl (λ e. leb-false (length text) 1048576 e) refl where
-  by_test : (b c : Bool) → nat_le (length text) 1048576 ≡ b → (b ≡ false → 1048576 < length text) → is_separator text ≡ c → is_separator_line (cond b (Text text) TooLong) ≡ is_separator text
+separator_line text = by_test (nat_le (length text) MOST_LINE_BYTES) (is_separator text) refl (λ e. leb-false (length text) MOST_LINE_BYTES e) refl where
+  by_test : (b c : Bool) → nat_le (length text) MOST_LINE_BYTES ≡ b → (b ≡ false → MOST_LINE_BYTES < length text) → is_separator text ≡ c → is_separator_line (cond b (Text text) TooLong) ≡ is_separator text
   by_test true c e many is = refl
   by_test false true e many is = absurd (omega (arith, many refl, few text is))
   by_test false false e many is = sym is

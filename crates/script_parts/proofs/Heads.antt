@@ -43,7 +43,7 @@ reads_nothing left input program lines taken holds = record {
 }
 
 -- the bytes taken, cut in another way
-recut : (left left' : Option (List ℕ)) (old new : TakenInput) (front rest : List ℕ) (P : List ℕ → List ℕ → Type 0) → IsTaken left left' old front rest → new.taken ≡ old.taken → (m : MovesOn (front ++ rest) new P) → IsTaken left left' new m.front m.rest
+pub recut : (left left' : Option (List ℕ)) (old new : TakenInput) (front rest : List ℕ) (P : List ℕ → List ℕ → Type 0) → IsTaken left left' old front rest → new.taken ≡ old.taken → (m : MovesOn (front ++ rest) new P) → IsTaken left left' new m.front m.rest
 recut left left' old new front rest P t count m = record { consumes = subst (Consumes left left') m.same t.consumes; lines = m.lines; count = count ∙ t.count ∙ ap length m.same; few = omega (arith, t.few, ap length m.same); last = subst HasLastPiece m.same t.last }
 
 -- the separator was among the lines

@@ -4,3 +4,4 @@ pub mod Fronts
 pub mod Heads
 pub mod ProgramTexts
 pub mod TakenLines
+pub mod TakenParts

@@ -6,11 +6,12 @@ use Rattle.edit_journal.specs.Lines.{line_of}
 use Rattle.edit_journal.specs.Pieces.{last_line, has_no_end}
 use Rattle.edit_journal.specs.declared.line.Line.{Line}
 use Rattle.edit_journal.specs.declared.line.Line.TheVariants.{Text, TooLong}
+use Rattle.edit_journal.specs.declared.line.TheConstants.{MOST_LINE_BYTES}
 use Rattle.script_parts.specs.Lines.{program_part, is_separator_line}
 use Rattle.script_parts.specs.Parts.{HoldsText, HoldsPart}
 use Rattle.script_parts.specs.PartSteps.{IsProgramFront}
 use Rattle.script_parts.specs.declared.script.ProgramText.{ProgramText}
-use Rattle.script_parts.specs.declared.script.TheConstants.{LONGEST}
+use Rattle.lens_syntax.specs.declared.reading.TheConstants.{MOST_PROGRAM_BYTES}
 use Rattle.script_parts.proofs.Fronts.{separator_line, last_separator, last_in_part}
 
 -- a part that is too long remains so
@@ -19,31 +20,31 @@ still_long true text part bytes end is h = omega (arith, h, length-append (part 
 still_long false text part bytes end is h = cc
 
 pub added : (b long : Bool) (text new part bytes end : List ℕ) → b ≡ false → HoldsText b text part → new ≡ (text ++ bytes) ++ end
-    → (long ≡ true → LONGEST < length new) → (long ≡ false → length new ≤ LONGEST) → HoldsText long new ((part ++ bytes) ++ end)
+    → (long ≡ true → MOST_PROGRAM_BYTES < length new) → (long ≡ false → length new ≤ MOST_PROGRAM_BYTES) → HoldsText long new ((part ++ bytes) ++ end)
 added true long text new part bytes end is h e over within = cc
 added false true text new part bytes end is h e over within =
     omega (arith, over refl, ap length e, ap length h.0, length-append (text ++ bytes) end, length-append (part ++ bytes) end, length-append text bytes, length-append part bytes)
 added false false text new part bytes end is h e over within =
     let same : new ≡ (part ++ bytes) ++ end = e ∙ ap (λ t. (t ++ bytes) ++ end) h.0 in
-    (same, subst (λ t. length t ≤ LONGEST) same (within refl))
+    (same, subst (λ t. length t ≤ MOST_PROGRAM_BYTES) same (within refl))
 
 -- a line that is too long has more bytes than a program part may have
-pub long_line : (text : List ℕ) → TooLong ≡ line_of text → 1048576 < length text
-long_line text e = by_test (nat_le (length text) 1048576) (λ f. leb-false (length text) 1048576 f) e where
-  by_test : (b : Bool) → (b ≡ false → 1048576 < length text) → TooLong ≡ cond b (Text text) TooLong → 1048576 < length text
+pub long_line : (text : List ℕ) → TooLong ≡ line_of text → MOST_LINE_BYTES < length text
+long_line text e = by_test (nat_le (length text) MOST_LINE_BYTES) (λ f. leb-false (length text) MOST_LINE_BYTES f) e where
+  by_test : (b : Bool) → (b ≡ false → MOST_LINE_BYTES < length text) → TooLong ≡ cond b (Text text) TooLong → MOST_LINE_BYTES < length text
   by_test true f e = cc
   by_test false f e = f refl
 
 -- ---- the last line
 
-same_line : (line next : Line) → Some line ≡ last_line next → line ≡ next
+pub same_line : (line next : Line) → Some line ≡ last_line next → line ≡ next
 same_line line (Text []) e = cc
 same_line line (Text (byte ∷ bytes)) e = cc
 same_line line TooLong e = cc
 
-no_line : (text : List ℕ) → None ≡ last_line (line_of text) → text ≡ []
+pub no_line : (text : List ℕ) → None ≡ last_line (line_of text) → text ≡ []
 no_line [] e = refl
-no_line (byte ∷ text) e = by_test (nat_le (length (byte ∷ text)) 1048576) e where
+no_line (byte ∷ text) e = by_test (nat_le (length (byte ∷ text)) MOST_LINE_BYTES) e where
   by_test : (b : Bool) → None ≡ last_line (cond b (Text (byte ∷ text)) TooLong) → byte ∷ text ≡ []
   by_test true e = cc
   by_test false e = cc

@@ -7,6 +7,7 @@ use Rattle.edit_journal.specs.Pieces.{FedLines, nothing_fed, fed, take_first, ha
 use Rattle.edit_journal.specs.declared.line.Line.{Line}
 use Rattle.edit_journal.proofs.Feeding.{plain, first_line}
 use Rattle.edit_journal.proofs.FirstEnds.{is_end, first_end, no_end}
+use Rattle.journal_input.proofs.EndedLines.{answer}
 
 -- the bytes are a line, its LF, and what is left
 pub record IsSplit (bytes : List ℕ) (line : Line) (rest : FedLines) : Type 0 where
@@ -16,9 +17,6 @@ pub record IsSplit (bytes : List ℕ) (line : Line) (rest : FedLines) : Type 0 w
   pub plain_text : has_no_end text ≡ true
   pub is_line : line ≡ line_of text
   pub is_rest : rest ≡ fed nothing_fed behind
-
-abbrev answer : Option Line → FedLines → Option Line × FedLines
-answer line rest = (line, rest)
 
 none_of : (bytes : List ℕ) → None ≡ position is_end bytes → (line : Option Line) (rest : FedLines) → answer line rest ≡ take_first (fed nothing_fed bytes) → line ≡ None
 none_of bytes e line rest h = ap (λ (p : Option Line × FedLines). p.0) (h ∙ ap take_first (plain [] [] bytes (no_end bytes e)))
@@ -45,10 +43,3 @@ split_at bytes (Some i) e line rest h =
 
 pub splits : (bytes : List ℕ) (line : Line) (rest : FedLines) → answer (Some line) rest ≡ take_first (fed nothing_fed bytes) → IsSplit bytes line rest
 splits bytes line rest h = split_at bytes (position is_end bytes) refl line rest h
-
-none_at : (bytes : List ℕ) (o : Option ℕ) → o ≡ position is_end bytes → (rest : FedLines) → answer None rest ≡ take_first (fed nothing_fed bytes) → has_no_end bytes ≡ true
-none_at bytes None e rest h = no_end bytes e
-none_at bytes (Some i) e rest h = let never = ap (λ (p : Option Line × FedLines). p.0) (some_of bytes i e None rest h) in cc
-
-pub none_left : (bytes : List ℕ) (rest : FedLines) → answer None rest ≡ take_first (fed nothing_fed bytes) → has_no_end bytes ≡ true
-none_left bytes rest h = none_at bytes (position is_end bytes) refl rest h

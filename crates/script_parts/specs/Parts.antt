@@ -12,14 +12,14 @@ use Rattle.journal_input.specs.declared.limits.TheConstants.{MOST_BYTES, PIECE_B
 use Rattle.script_parts.specs.declared.script.Head.{Head}
 use Rattle.script_parts.specs.declared.script.Head.TheVariants.{Separated, Whole}
 use Rattle.script_parts.specs.declared.script.ProgramText.{ProgramText}
-use Rattle.script_parts.specs.declared.script.TheConstants.{LONGEST}
+use Rattle.lens_syntax.specs.declared.reading.TheConstants.{MOST_PROGRAM_BYTES}
 
 -- ---- a program part
 
--- this text is the program part, unless that has more than `LONGEST` bytes
+-- this text is the program part, unless that has more than `MOST_PROGRAM_BYTES` bytes
 abbrev pub HoldsText : Bool → List ℕ → List ℕ → Type 0
-HoldsText true text part = LONGEST < length part
-HoldsText false text part = (text ≡ part) × (length part ≤ LONGEST)
+HoldsText true text part = MOST_PROGRAM_BYTES < length part
+HoldsText false text part = (text ≡ part) × (length part ≤ MOST_PROGRAM_BYTES)
 
 abbrev pub HoldsPart : ProgramText → List ℕ → Type 0
 HoldsPart program part = HoldsText program.is_long program.text.items part

@@ -8,7 +8,7 @@ ghost use Rattle.script_parts.specs.Lines.{is_separator, is_separator_line, prog
 ghost use Rattle.script_parts.specs.Parts.{HoldsPart, ReadsHead, StopsHead};
 ghost use Rattle.script_parts.specs.PartSteps.{IsProgramFront, MovesOn, AddsLines};
 ghost use Rattle.journal_input.specs.declared.limits.TheConstants.{PIECE_BYTES};
-ghost use Rattle.script_parts.specs.declared.script.TheConstants.{LONGEST};
+ghost use Rattle.lens_syntax.specs.declared.reading.TheConstants.{MOST_PROGRAM_BYTES};
 ghost use Rattle.accepted_programs.specs.Program.{lens_of};
 ghost use Rattle.accepted_programs.specs.Refused.{IsKnown, IsRefusal};
 
@@ -16,12 +16,9 @@ use accepted_programs::{Refused, read_lens};
 use edit_journal::Line;
 use journal_input::Input;
 use lens_io::{Source, TakeFault};
-use lens_syntax::ProgramFault;
+use lens_syntax::{MOST_PROGRAM_BYTES, ProgramFault};
 use lens_types::Typed;
 use std::alloc::{AllocError, Global};
-
-// The most bytes of a program part.
-const LONGEST: usize = 65_536;
 
 /// The text of a program part, unless it is too long. Of one that is too long the text says nothing.
 #[derive(Drop)]
@@ -63,15 +60,15 @@ impl ProgramText {
         }
         self.text.extend_from_slice(bytes)?;
         self.text.extend_from_slice(end)?;
-        self.is_long = self.text.len() > LONGEST;
+        self.is_long = self.text.len() > MOST_PROGRAM_BYTES;
         Ok(())
     }
 
     /// The text of the program part. None if and only if the part has more than 65,536 bytes. Does not allocate.
     pub fn text(&self) -> Option<&[u8]>
         ensures { (part : List ℕ) → HoldsPart self.now part
-            → MatchOption result (LONGEST < length part)
-            (λ text. (text.now ≡ part) × (length part ≤ LONGEST)) }
+            → MatchOption result (MOST_PROGRAM_BYTES < length part)
+            (λ text. (text.now ≡ part) × (length part ≤ MOST_PROGRAM_BYTES)) }
     {
         if self.is_long {
             return None;

@@ -1,30 +1,14 @@
 -- A call over a script that met no fault is complete.
-use Rattle.std.proofs.Common.{◌≡◌, ◌⊎◌, inl, inr, ℕ, ◌≤◌, List, ◌++◌, length, Option, Some, None, Result, Ok, Err, IfSome, refl, sym, ap, ◌∙◌, append-nil, length-append, arith}
-use Rattle.std.specs.Io.KnownBytes.{Consumes, IsAtEnd}
+use Rattle.std.proofs.Common.{◌≡◌, ◌⊎◌, inl, inr, ℕ, ◌≤◌, List, ◌++◌, length, Option, Some, None, Result, Ok, Err, IfSome, refl, sym, ap, ◌∙◌, arith}
 use Rattle.edit_journal.specs.declared.line.Line.{Line}
 use Rattle.journal_input.specs.declared.limits.TheConstants.{MOST_BYTES}
 use Rattle.line_stream.specs.declared.state.Answer.{Answer}
-use Rattle.script_parts.specs.Coming.{HasPart}
 use Rattle.script_parts.specs.Lines.{program_part}
 use Rattle.script_run.specs.Ends.{IsComplete}
 use Rattle.script_run.specs.Ending.{Ended}
 use Rattle.script_run.specs.declared.status.ScriptStatus.{ScriptStatus}
 use Rattle.script_run.specs.declared.status.ScriptStatus.TheVariants.{Done, SomeRefused, ProgramRefused, SourceFault, SinkFault, InputTooLong, NoMemory}
-
--- all that the source had was taken
-all_taken : (bytes : List ℕ) (left' : Option (List ℕ)) (taken : List ℕ) → Consumes (Some bytes) left' taken → IsAtEnd left' → bytes ≡ taken
-all_taken bytes None taken h end = absurd h
-all_taken bytes (Some rest) taken h end = h ∙ ap (λ r. taken ++ r) end ∙ append-nil taken
-
-few_taken : (bytes : List ℕ) (left' : Option (List ℕ)) (taken : List ℕ) → Consumes (Some bytes) left' taken → length taken ≤ length bytes
-few_taken bytes None taken h = absurd h
-few_taken bytes (Some rest) taken h = omega (arith, ap length h, length-append taken rest)
-
--- if the separator has come, the program part of all bytes is that of those taken
-part_of_all : (bytes : List ℕ) (left' : Option (List ℕ)) (taken : List ℕ) → Consumes (Some bytes) left' taken → HasPart taken ⊎ IsAtEnd left' → program_part bytes ≡ program_part taken
-part_of_all bytes None taken h whole = absurd h
-part_of_all bytes (Some rest) taken h (inl part) = ap program_part h ∙ part.stays rest
-part_of_all bytes (Some rest) taken h (inr end) = ap program_part (all_taken bytes (Some rest) taken h end)
+use Rattle.script_parts.proofs.TakenParts.{few_taken, part_of_all, all_taken}
 
 -- an outcome is not both
 one_outcome : {Accepted Refusal : Type 0} {X : Type 0} (r s : Result Accepted Refusal) (program : Accepted) (refusal : Refusal) → r ≡ s → r ≡ Ok program → s ≡ Err refusal → X

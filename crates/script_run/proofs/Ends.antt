@@ -1,7 +1,6 @@
 -- What stands at each end of a call over a script.
-use Rattle.std.proofs.Common.{◌≡◌, ◌⊎◌, inl, inr, ℕ, ◌+◌, ◌<◌, ◌≤◌, List, [], ◌∷◌, ◌++◌, length, Bool, true, false, cond, Option, Some, None, option_map, Result, Ok, Err, refl, sym, ap, ap₂, subst, ◌∙◌, append-nil, append_assoc, arith}
+use Rattle.std.proofs.Common.{◌≡◌, ◌⊎◌, inl, inr, ℕ, ◌+◌, ◌<◌, ◌≤◌, List, [], ◌∷◌, ◌++◌, length, Bool, true, false, Option, Some, None, option_map, Result, Ok, Err, refl, sym, ap, ap₂, subst, ◌∙◌, append-nil, append_assoc, arith}
 use Rattle.std.specs.Io.KnownBytes.{Appends, Consumes, IsAtEnd}
-use Rattle.std.specs.List.{list_any}
 use Rattle.std.specs.Prelude.{◌||◌, IfOk}
 use Rattle.std.specs.declared.alloc.AllocError.{AllocError}
 use Rattle.std.proofs.KnownBytes.{Appends-nil, Appends-trans, Consumes-nil}
@@ -18,7 +17,7 @@ use Rattle.line_stream.specs.declared.state.Answer.{Answer}
 use Rattle.line_stream.specs.declared.stopped.Stopped.TheVariants as stop
 use Rattle.line_stream.proofs.Prefixes.{stopped_behind}
 use Rattle.script_parts.specs.Coming.{ended_lines, has_separator, journal_lines, HasPart}
-use Rattle.script_parts.specs.Lines.{is_separator_line, behind_separator, program_part, journal}
+use Rattle.script_parts.specs.Lines.{program_part, journal}
 use Rattle.script_parts.specs.Parts.{HasLastPiece, IsHead, IsTaken, ReadsAll, StopsHead}
 use Rattle.script_parts.specs.declared.script.ProgramText.{ProgramText}
 use Rattle.script_run.specs.Report.{with_state, report_with, report}
@@ -30,6 +29,7 @@ use Rattle.script_run.specs.declared.state.NotOpened.{NotOpened}
 use Rattle.script_run.specs.declared.state.NotOpened.TheVariants as opening
 use Rattle.script_run.specs.declared.status.ScriptStatus.{ScriptStatus}
 use Rattle.script_run.specs.declared.status.ScriptStatus.TheVariants.{Done, ProgramRefused, SourceFault, SinkFault, InputTooLong, NoMemory}
+use Rattle.script_parts.proofs.TakenParts.{none_behind}
 
 -- ---- statuses
 
@@ -59,14 +59,6 @@ not_memory (inl e) = cc
 not_memory (inr e) = cc
 
 -- ---- the parts of a script
-
--- before a separator no line of a journal has come
-none_behind : (lines : List Line) → list_any is_separator_line lines ≡ false → behind_separator lines ≡ []
-none_behind [] h = refl
-none_behind (line ∷ lines) h = by_test (is_separator_line line) (λ e. none_behind lines e) h where
-  by_test : (b : Bool) → (list_any is_separator_line lines ≡ false → behind_separator lines ≡ []) → (b || list_any is_separator_line lines) ≡ false → cond b lines (behind_separator lines) ≡ []
-  by_test true f e = cc
-  by_test false f e = f e
 
 -- the piece with which the separator came
 pub last_of : {bytes : List ℕ} → HasPart bytes → HasLastPiece bytes

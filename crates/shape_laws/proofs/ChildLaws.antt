@@ -18,12 +18,13 @@ use Rattle.hold_shapes.proofs.ChildPlaces.{child-at, length-remove_part, front-l
 use Rattle.hold_shapes.proofs.Nodes.{child-numbered}
 use Rattle.shape_laws.specs.Children.{child_path, children_at, origin_of, origin_at, other_child, GainsLastChild, HangsLastChild, MovesChild, LosesLastChild}
 use Rattle.shape_laws.proofs.Lawful.{past}
-use Rattle.shape_laws.proofs.Content.{OfPlan, of-else, end-within, not-zero}
+use Rattle.shape_laws.proofs.Content.{OfPlan, of-else, end-within}
 use Rattle.shape_laws.proofs.Family.{old-at, insert-is, high-moved_depths}
 use Rattle.shape_laws.proofs.Parents.{part-of, below_node, deeper}
 use Rattle.shape_laws.proofs.SamePrefix.{prefix-less, prefix-trans, prefix-take, node-same, node-child, node-in}
 use Rattle.shape_laws.proofs.Children.{children-more, child-at_end, child-at_place, children-less, child-descendant, before-part}
 use Rattle.shape_laws.proofs.OtherChildren.{past_part, slot-left, slot-for, others-inserted, others-origin, same-origin, put-back-same, length-between}
+use Rattle.texts.proofs.Tests.{not_zero}
 
 of-if : (P : Shape → List Origin → Type 0) (b : Bool) (x : Planned) (cause : PlanCause) → (b ≡ true → OfPlan P x) → OfPlan P (if b then x else Err cause)
 of-if P true x cause f = f refl
@@ -76,7 +77,7 @@ same-length ds c h =
 
 -- ---- a part inserted as the last child
 
-still-named : (ds part q : List ℕ) (p t : ℕ) → 0 < length ds → node ds q ≡ Some p → p < t → t ≤ length ds → node (insert_part t part ds) q ≡ Some p
+pub still-named : (ds part q : List ℕ) (p t : ℕ) → 0 < length ds → node ds q ≡ Some p → p < t → t ≤ length ds → node (insert_part t part ds) q ≡ Some p
 still-named ds part q p t z is h k =
     node-same ds (insert_part t part ds) q p z is (prefix-less (p + 1) t ds (insert_part t part ds) (omega arith) (prefix-take t ds (part ++ drop t ds) k))
 
@@ -288,9 +289,6 @@ hung ds q a r up within is =
     let P : List ℕ → Type 0 = λ block. GainsLastChild rest q (Old a) (TreeOf (insert_part t block rest)) (move_part a end t (old_places (length ds))) in
     subst P (sym part) (as-last rest (moved_depths d f bs) q (move_part a end t (old_places (length ds))) r (Old a) z is low (get-moved ds a t within room))
 
-with-node : (ds p q : List ℕ) (a : ℕ) (s : Shape) (from : List Origin) → node ds p ≡ Some a → GainsLastChild (remove_part a (end_of ds a) ds) q (Old a) s from → HangsLastChild ds p q s from
-with-node ds p q a s from is g = (a, is, g)
-
 of-deep : (b : Bool) (ds p q part : List ℕ) (a r : ℕ) → node ds p ≡ Some a
     → GainsLastChild (remove_part a (end_of ds a) ds) q (Old a) (TreeOf (insert_part (end_of (remove_part a (end_of ds a) ds) r) part (remove_part a (end_of ds a) ds)))
     (move_part a (end_of ds a) (end_of (remove_part a (end_of ds a) ds) r) (old_places (length ds)))
@@ -309,7 +307,7 @@ of-hang : (ds p q : List ℕ) (o : Option ℕ) → 0 < length ds → node ds p �
 of-hang ds p q None z is = tt
 of-hang ds p q (Some a) z is =
     of-else (HangsLastChild ds p q) (nat_eq a 0) (hang_at ds a (end_of ds a) (remove_part a (end_of ds a) ds) q) Place
-    (λ b. of-below ds p q a (node (remove_part a (end_of ds a) ds) q) is (not-zero a b) (node-in ds p a z is) refl)
+    (λ b. of-below ds p q a (node (remove_part a (end_of ds a) ds) q) is (not_zero a b) (node-in ds p a z is) refl)
 
 -- ---- the laws
 

@@ -7,9 +7,7 @@ use Rattle.hold_shapes.specs.Plans.{remove_part, insert_part}
 use Rattle.hold_shapes.proofs.ValidDepths.{Low, end-zero, end-suc}
 use Rattle.shape_laws.proofs.Content.{child-in}
 use Rattle.shape_laws.proofs.SamePrefix.{child_from-step}
-
-pub deeper-test : (d e : ℕ) → d < e → nat_lt d e ≡ true
-deeper-test d e h = grind (arith, nat_tests)
+use Rattle.std.proofs.lemmas.Bool.{lt-ltb}
 
 pub child-test : (d : ℕ) → nat_eq (d + 1) (d + 1) ≡ true
 child-test d = grind (arith, nat_tests)
@@ -23,7 +21,7 @@ no_child-test d e h = grind (arith, nat_tests)
 children-deeper : (d : ℕ) (bs es : List ℕ) → Low (d + 2) bs → children_of d (bs ++ es) ≡ children_of d es
 children-deeper d [] es l = refl
 children-deeper d (b ∷ bs) es l =
-    rw (deeper-test d b (omega (arith, l.0)), no_child-test d b l.0) (children-deeper d bs es l.1)
+    rw (lt-ltb d b (omega (arith, l.0)), no_child-test d b l.0) (children-deeper d bs es l.1)
 
 count-step : (t u : Bool) (m k n : ℕ) (P : Type 0) → (P → m ≡ suc n) → (t ≡ true → P)
     → t ≡ true → (if t then (if u then suc m else m) else k) ≡ suc (if t then (if u then suc n else n) else 0)
@@ -38,7 +36,7 @@ within-descendants false n k h = absurd (omega arith)
 -- a subtree inserted among the descendants of a node, as one of its children, is one child more
 children-insert : (d : ℕ) (bs es : List ℕ) (n : ℕ) → Low (d + 2) bs → n ≤ descendants d es → children_of d (insert_part n ((d + 1) ∷ bs) es) ≡ suc (children_of d es)
 children-insert d bs es zero l h =
-    rw (deeper-test d (d + 1) (omega arith), child-test d) (ap suc (children-deeper d bs es l))
+    rw (lt-ltb d (d + 1) (omega arith), child-test d) (ap suc (children-deeper d bs es l))
 children-insert d bs [] (suc n) l h = absurd (omega arith)
 children-insert d bs (e ∷ es) (suc n) l h =
     let w = within-descendants (nat_lt d e) n (descendants d es) h in
@@ -65,12 +63,12 @@ child-last-step true at d e bs es h ih =
     child-last-true (nat_eq e (d + 1)) d e at (children_of d es) (descendants d es) (insert_part (descendants d es) ((d + 1) ∷ bs) es) h refl ih
 child-last-step false at d e bs es h ih =
     let same : at ≡ at + 0 = omega arith in
-    rw (deeper-test d (d + 1) (omega arith), child-test d) (ap Some same)
+    rw (lt-ltb d (d + 1) (omega arith), child-test d) (ap Some same)
 
 child-last : (at d : ℕ) (bs es : List ℕ) → child_from at d (children_of d es) (insert_part (descendants d es) ((d + 1) ∷ bs) es) ≡ Some (at + descendants d es)
 child-last at d bs [] =
     let same : at ≡ at + 0 = omega arith in
-    rw (deeper-test d (d + 1) (omega arith), child-test d) (ap Some same)
+    rw (lt-ltb d (d + 1) (omega arith), child-test d) (ap Some same)
 child-last at d bs (e ∷ es) = child-last-step (nat_lt d e) at d e bs es refl (child-last (at + 1) d bs es)
 
 -- inserted before child j, it becomes child j
@@ -94,7 +92,7 @@ child-here at d i zero bs (e ∷ es) is =
     let z = number-zero (nat_lt d e) (nat_eq e (d + 1)) (nat_eq i 0) at i (child_from (at + 1) d (i - 1) es) (child_from (at + 1) d i es) refl
     (not-before at d (i - 1) es) (not-before at d i es) is in
     let same : at ≡ at + 0 = omega arith in
-    rw (deeper-test d (d + 1) (omega arith), child-test d, z) (ap Some same)
+    rw (lt-ltb d (d + 1) (omega arith), child-test d, z) (ap Some same)
 child-here at d i (suc n) bs (e ∷ es) is =
     let same : at + 1 + n ≡ at + suc n = omega arith in
     child_from-step (nat_lt d e) (nat_eq e (d + 1)) (nat_eq i 0) at (at + suc n) (child_from (at + 1) d (i - 1) es) (child_from (at + 1) d i es)
@@ -108,7 +106,7 @@ skip-step : (t : Bool) (d e : ℕ) (es : List ℕ) → nat_lt (d + 1) e ≡ t �
     → children_of d (drop (if t then suc (descendants (d + 1) es) else 0) (e ∷ es)) ≡ children_of d (e ∷ es)
 skip-step true d e es h ih =
     let more : d + 2 ≤ e = grind (arith, nat_tests) in
-    rw (deeper-test d e (omega arith), no_child-test d e more) ih
+    rw (lt-ltb d e (omega arith), no_child-test d e more) ih
 skip-step false d e es h ih = refl
 
 pub children-skip : (d : ℕ) (es : List ℕ) → children_of d (drop (descendants (d + 1) es) es) ≡ children_of d es

@@ -3,7 +3,6 @@ use Rattle.std.proofs.Common.{◌≡◌, ℕ, ◌+◌, ◌-◌, ◌<◌, ◌≤�
 use Rattle.std.specs.Prelude.{if◌then◌else◌, nat_lt, nat_eq, bytes_eq, slice_range}
 use Rattle.std.specs.List.{insert, remove, range_with_len}
 use Rattle.std.proofs.Math.ListN.{set}
-use Rattle.std.proofs.lemmas.Bool.Decides.{nat_tests}
 use Rattle.std.proofs.lemmas.List.{take-map, drop-map, map-append, append_assoc, length-append, length-drop, length-map, length-take-le, length-set, get_or-set_same, set-get_or}
 use Rattle.std.proofs.Math.Seq.{get_or-append_seam, take-append_seam, drop-append_seam}
 use Rattle.std.proofs.lemmas.Slice.Eq.{bytes_eq-Decides}
@@ -20,6 +19,7 @@ use Rattle.hold_shapes.specs.Trees.{node, node_from, children, child, child_at, 
 use Rattle.hold_shapes.specs.Plans.{Planned, old_places, at_place, put_key, drop_key, rename_to, rename_key, plan_keyed, remove_part, insert_part, move_part, graft, prune, prune_child, place_for_child, shift_child, shift, moved_depths, all_at_most, hang_depths, hang_below, hang_at, hang, plan_list, plan_tree, plan}
 use Rattle.shape_laws.specs.Laws.{renamed_at, names_after, fresh_name, hung_below, hung_at, depths_after, depth_below, fresh_depth, MovesNames, MovesDepths, KeepsContent}
 use Rattle.shape_laws.proofs.Lawful.{key-within, past}
+use Rattle.texts.proofs.Tests.{not_zero}
 
 -- ---- gathering commutes with what a plan does to lists
 
@@ -142,15 +142,15 @@ of-rename-to ks m p None h =
     sym (outer ∙ (ap (λ (x : List ℕ). insert (map (content_at named []) (remove (old_places (length ks)) p)) (rank m (remove ks p)) x) here
     ∙ ap (λ (l : List (List ℕ)). insert l (rank m (remove ks p)) m) (sym both)))
 
-least-step : (b : Bool) (at p : ℕ) (o : Option ℕ) → (o ≡ Some p → at + 1 ≤ p) → (if b then Some at else o) ≡ Some p → at ≤ p
+pub least-step : (b : Bool) (at p : ℕ) (o : Option ℕ) → (o ≡ Some p → at + 1 ≤ p) → (if b then Some at else o) ≡ Some p → at ≤ p
 least-step true at p o f h = let e : at ≡ p = cc in omega arith
 least-step false at p o f h = let e = f h in omega arith
 
-least : (at p : ℕ) (k : List ℕ) (ks : List (List ℕ)) → key_from at k ks ≡ Some p → at ≤ p
+pub least : (at p : ℕ) (k : List ℕ) (ks : List (List ℕ)) → key_from at k ks ≡ Some p → at ≤ p
 least at p k [] h = cc
 least at p k (m ∷ ms) h = least-step (bytes_eq k m) at p (key_from (at + 1) k ms) (least (at + 1) p k ms) h
 
-found-step : (b : Bool) (at i : ℕ) (k m : List ℕ) (ms : List (List ℕ)) → bytes_eq k m ≡ b → (if b then Some at else key_from (at + 1) k ms) ≡ Some (at + i)
+pub found-step : (b : Bool) (at i : ℕ) (k m : List ℕ) (ms : List (List ℕ)) → bytes_eq k m ≡ b → (if b then Some at else key_from (at + 1) k ms) ≡ Some (at + i)
     → ((j : ℕ) → key_from (at + 1) k ms ≡ Some (at + 1 + j) → get_or ms j [] ≡ k) → get_or (m ∷ ms) i [] ≡ k
 found-step true at zero k m ms e h f = sym ((bytes_eq-Decides k m).0 e)
 found-step true at (suc i) k m ms e h f = let q : at ≡ at + suc i = cc in absurd (omega arith)
@@ -159,7 +159,7 @@ found-step false at (suc i) k m ms e h f =
     let q : at + suc i ≡ at + 1 + i = omega arith in
     f i (h ∙ ap Some q)
 
-key-found : (at i : ℕ) (k : List ℕ) (ks : List (List ℕ)) → key_from at k ks ≡ Some (at + i) → get_or ks i [] ≡ k
+pub key-found : (at i : ℕ) (k : List ℕ) (ks : List (List ℕ)) → key_from at k ks ≡ Some (at + i) → get_or ks i [] ≡ k
 key-found at i k [] h = cc
 key-found at i k (m ∷ ms) h = found-step (bytes_eq k m) at i k m ms refl h (λ j. key-found (at + 1) j k ms)
 
@@ -333,14 +333,11 @@ pub node-within : (ds path : List ℕ) (o : Option ℕ) → Within ds o → With
 node-within ds [] o w = w
 node-within ds (i ∷ path) o w = node-within ds path (child_at ds i o) (within-child ds i o)
 
-pub not-zero : (a : ℕ) → nat_eq a 0 ≡ false → 0 < a
-not-zero a h = grind (arith, nat_tests)
-
 of-hang-at : (ds q : List ℕ) (o : Option ℕ) → Within ds o → OfPlan (MovesDepths (hung_at ds q o) 0) (at_place o (hang ds q))
 of-hang-at ds q None w = tt
 of-hang-at ds q (Some a) w =
     of-else (MovesDepths (hung_at ds q (Some a)) 0) (nat_eq a 0) (hang_at ds a (end_of ds a) (remove_part a (end_of ds a) ds) q) Place
-    (λ h. of-below ds a (end_of ds a) (node (remove_part a (end_of ds a) ds) q) (past ds a) (end-within ds a (w (not-zero a h))))
+    (λ h. of-below ds a (end_of ds a) (node (remove_part a (end_of ds a) ds) q) (past ds a) (end-within ds a (w (not_zero a h))))
 
 of-hang : (ds p q : List ℕ) → OfPlan (MovesDepths (hung_at ds q (node ds p)) 0) (at_place (node ds p) (hang ds q))
 of-hang ds p q = of-hang-at ds q (node ds p) (node-within ds p (Some 0) (λ h. absurd (omega arith)))

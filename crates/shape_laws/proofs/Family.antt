@@ -21,13 +21,14 @@ use Rattle.hold_shapes.proofs.ChildPlaces.{child-at, front-same, front-length, l
 use Rattle.shape_laws.specs.Parents.{parents, parents_below}
 use Rattle.shape_laws.specs.Laws.{OnlyMoves, MovesFamily, KeepsFamily}
 use Rattle.shape_laws.proofs.Lawful.{past}
-use Rattle.shape_laws.proofs.Content.{OfPlan, of-if, of-else, always, child-in, child-within, Within, node-within, end-within, not-zero}
+use Rattle.shape_laws.proofs.Content.{OfPlan, of-if, of-else, always, child-in, child-within, Within, node-within, end-within}
 use Rattle.shape_laws.proofs.Parents.{Pairs, behind, part-of, below_node, called_below, same-below, kids_of, taken-out, put-back, deeper, below-lifted}
+use Rattle.texts.proofs.Tests.{not_zero}
 
 pub old-at : (n i : ℕ) → i < n → get_or (old_places n) i Fresh ≡ Old i
 old-at n i h = get_or-map-range_with_len Old 0 n i i Fresh h (omega arith)
 
-weaker : (b c : ℕ) (ds : List ℕ) → b ≤ c → HeadAtMost b ds → HeadAtMost c ds
+pub weaker : (b c : ℕ) (ds : List ℕ) → b ≤ c → HeadAtMost b ds → HeadAtMost c ds
 weaker b c [] h l = tt
 weaker b c (d ∷ ds) h l = omega arith
 
@@ -231,7 +232,7 @@ of-hang-at : (ds q : List ℕ) (o : Option ℕ) → Within ds o → OfPlan (OfTr
 of-hang-at ds q None w = tt
 of-hang-at ds q (Some a) w =
     of-else (OfTree (OnlyMoves (Some a)) ds) (nat_eq a 0) (hang_at ds a (end_of ds a) (remove_part a (end_of ds a) ds) q) Place
-    (λ h. of-below ds a (node (remove_part a (end_of ds a) ds) q) (w (not-zero a h)))
+    (λ h. of-below ds a (node (remove_part a (end_of ds a) ds) q) (w (not_zero a h)))
 
 of-hang : (ds p q : List ℕ) → OfPlan (OfTree (OnlyMoves (node ds p)) ds) (at_place (node ds p) (hang ds q))
 of-hang ds p q = of-hang-at ds q (node ds p) (node-within ds p (Some 0) (λ h. absurd (omega arith)))

@@ -21,6 +21,7 @@ use Rattle.hold_shapes.specs.Plans.{Planned, old_places, list_of, is_count, is_e
 use Rattle.shape_laws.specs.Laws.{Inserts, Deletes, Rearranges, IsArranged}
 use Rattle.hold_shapes.proofs.OldPlaces.{length-old_places}
 use Rattle.shape_laws.proofs.Permuted.{perm-remove_part, perm-move_part, perm-replaced, perm-order}
+use Rattle.std.proofs.lemmas.Bool.{eqb-true}
 
 -- a property of the origins of a plan, where there is one
 abbrev pub Keeps : (List Origin → Type 0) → Planned → Type 0
@@ -67,9 +68,6 @@ cut n c =
 both-below : (i j n : ℕ) → (nat_lt i n && nat_lt j n) ≡ true → i < n
 both-below i j n h = grind (arith, nat_tests)
 
-is-length : (a n : ℕ) → nat_eq a n ≡ true → a ≡ n
-is-length a n h = grind (arith, nat_tests)
-
 of-list : (n : ℕ) (e : ShapeEdit) → Keeps (IsArranged e n) (plan_list n e)
 of-list n (Ins c) = keeps-if (Inserts n) (is_count c) (Ok (list_of (n + c), old_places n ++ replicate c Fresh)) Range (λ h. (c, IsPermutation-refl (old_places n ++ replicate c Fresh)))
 of-list n (Del c) = keeps-if (Deletes n) (is_count c && nat_le c n) (Ok (list_of (n - c), old_places (n - c))) Range (λ h. cut n c)
@@ -77,7 +75,7 @@ of-list n (MoveItem i j) =
     keeps-if (Rearranges n) (nat_lt i n && nat_lt j n) (Ok (list_of n, insert (remove (old_places n) i) j (Old i))) Place (λ h. replaced n i j (both-below i j n h))
 of-list n (Reorder f) =
     keeps-if (Rearranges n) (nat_eq (length f) n) (if is_each_new n [] f then Ok (list_of n, map Old f) else Err Range) Length
-    (λ h. keeps-if (Rearranges n) (is_each_new n [] f) (Ok (list_of n, map Old f)) Range (λ k. perm-order n f (is-length (length f) n h) k))
+    (λ h. keeps-if (Rearranges n) (is_each_new n [] f) (Ok (list_of n, map Old f)) Range (λ k. perm-order n f (eqb-true (length f) n h) k))
 of-list n (PutKey k) = tt
 of-list n (DropKey k) = tt
 of-list n (RenameKey k m) = tt

@@ -1,4 +1,4 @@
-mod ChildLaws
+pub mod ChildLaws
 pub mod Children
 pub mod Content
 mod Examples

@@ -14,7 +14,8 @@ use Rattle.hold_shapes.proofs.Nodes.{child-numbered}
 use Rattle.hold_shapes.proofs.RunOrigins.{kept-at, slice_get-back}
 use Rattle.shape_laws.specs.Children.{other_child, origin_of}
 use Rattle.shape_laws.proofs.Content.{child-in}
-use Rattle.shape_laws.proofs.Children.{deeper-test, child-test, no_child-test, within-descendants, number-zero, not-before, next-place, before-part, drop-insert, drop-remove, child-descendant}
+use Rattle.shape_laws.proofs.Children.{child-test, no_child-test, within-descendants, number-zero, not-before, next-place, before-part, drop-insert, drop-remove, child-descendant}
+use Rattle.std.proofs.lemmas.Bool.{lt-ltb}
 
 -- a place of a list after m items were put in at place b
 abbrev pub past_part : ℕ → ℕ → ℕ → ℕ
@@ -41,7 +42,7 @@ child_from-skip : (at d k : ℕ) (bs es : List ℕ) → Low (d + 2) bs → child
 child_from-skip at d k [] es l = let z : at + 0 ≡ at = omega arith in rw z refl
 child_from-skip at d k (b ∷ bs) es l =
     let z : at + suc (length bs) ≡ at + 1 + length bs = omega arith in
-    rw (deeper-test d b (omega (arith, l.0)), no_child-test d b l.0, z) (child_from-skip (at + 1) d k bs es l.1)
+    rw (lt-ltb d b (omega (arith, l.0)), no_child-test d b l.0, z) (child_from-skip (at + 1) d k bs es l.1)
 
 all-behind : (b m : ℕ) (o : Option ℕ) → ((x : ℕ) → o ≡ Some x → b ≤ x) → option_map (λ x. x + m) o ≡ option_map (past_part b m) o
 all-behind b m None h = refl
@@ -85,7 +86,7 @@ others at d zero bs es l h k =
     let one : suc k - 1 ≡ k = omega arith in
     let here : at + 0 ≡ at = omega arith in
     let more : at + 1 + length bs ≡ at + suc (length bs) = omega arith in
-    rw (other-first k, deeper-test d (d + 1) (omega arith), child-test d, z, one, here)
+    rw (other-first k, lt-ltb d (d + 1) (omega arith), child-test d, z, one, here)
     (child_from-skip (at + 1) d k bs es l
     ∙ (ap (λ a. child_from a d k es) more
     ∙ (child_from-on at (suc (length bs)) d k es ∙ all-behind at (suc (length bs)) (child_from at d k es) (λ x e. (child-in at d k x es e).0))))

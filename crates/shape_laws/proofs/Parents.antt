@@ -53,7 +53,7 @@ less-after c above (d ∷ ds) (o ∷ os) l =
     let here : less_deep c ((d, o) ∷ less_deep d above) ≡ less_deep c (less_deep d above) = rw (not-less c d l.0) refl in
     ih ∙ (here ∙ less-twice c d above l.0)
 
-lower : (b c : ℕ) (ds : List ℕ) → b ≤ c → Low c ds → Low b ds
+pub lower : (b c : ℕ) (ds : List ℕ) → b ≤ c → Low c ds → Low b ds
 lower b c [] h l = tt
 lower b c (d ∷ ds) h l = (let k = l.0 in omega arith, lower b c ds h l.1)
 
@@ -125,7 +125,7 @@ with-subtree xs ys bs us vs cs d o hx hb l h =
 
 -- ---- a subtree taken out, and one put in
 
-high-step : (t : Bool) (d e : ℕ) (es : List ℕ) → nat_lt d e ≡ t → Low (d + 1) (take (descendants d es) es) → Low (d + 1) (take (if t then suc (descendants d es) else 0) (e ∷ es))
+pub high-step : (t : Bool) (d e : ℕ) (es : List ℕ) → nat_lt d e ≡ t → Low (d + 1) (take (descendants d es) es) → Low (d + 1) (take (if t then suc (descendants d es) else 0) (e ∷ es))
 high-step true d e es h l = (grind (arith, nat_tests), l)
 high-step false d e es h l = tt
 
@@ -134,12 +134,12 @@ pub deeper : (d : ℕ) (es : List ℕ) → Low (d + 1) (take (descendants d es) 
 deeper d [] = tt
 deeper d (e ∷ es) = high-step (nat_lt d e) d e es refl (deeper d es)
 
-next-step : (t : Bool) (d e : ℕ) (es : List ℕ) → nat_lt d e ≡ t → HeadAtMost d (drop (descendants d es) es) → HeadAtMost d (drop (if t then suc (descendants d es) else 0) (e ∷ es))
+pub next-step : (t : Bool) (d e : ℕ) (es : List ℕ) → nat_lt d e ≡ t → HeadAtMost d (drop (descendants d es) es) → HeadAtMost d (drop (if t then suc (descendants d es) else 0) (e ∷ es))
 next-step true d e es h l = l
 next-step false d e es h l = grind (arith, nat_tests)
 
 -- the node behind a subtree is at most as deep as its root
-next : (d : ℕ) (es : List ℕ) → HeadAtMost d (drop (descendants d es) es)
+pub next : (d : ℕ) (es : List ℕ) → HeadAtMost d (drop (descendants d es) es)
 next d [] = tt
 next d (e ∷ es) = next-step (nat_lt d e) d e es refl (next d es)
 

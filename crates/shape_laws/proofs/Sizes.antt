@@ -21,6 +21,7 @@ use Rattle.shape_laws.specs.Laws.{is_same_kind}
 use Rattle.hold_shapes.proofs.OldPlaces.{length-old_places}
 use Rattle.shape_laws.proofs.Permuted.{perm-remove_part, perm-put, perm-move_part}
 use Rattle.shape_laws.proofs.Lawful.{key-within, past}
+use Rattle.std.proofs.lemmas.Bool.{eqb-true}
 
 abbrev pub Fits : Shape → Shape → List Origin → Type 0
 Fits s t from = (length from ≡ size_of t) × (is_same_kind s t ≡ true)
@@ -65,9 +66,6 @@ same-move_part X Y xs ys a e t h k = length-move_part X xs a e t h ∙ (k ∙ sy
 same-below : (i j n : ℕ) → (nat_lt i n && nat_lt j n) ≡ true → i < n
 same-below i j n h = grind (arith, nat_tests)
 
-is-length : (a n : ℕ) → nat_eq a n ≡ true → a ≡ n
-is-length a n h = grind (arith, nat_tests)
-
 move_part-item : (n i j : ℕ) → i < n → length (insert (remove (old_places n) i) j (Old i)) ≡ n
 move_part-item n i j h =
     let l = length-old_places n in
@@ -84,7 +82,7 @@ of-list l n (MoveItem i j) k s =
     fits-if l (nat_lt i n && nat_lt j n) (Ok (list_of n, insert (remove (old_places n) i) j (Old i))) Place (λ h. (move_part-item n i j (same-below i j n h), s n))
 of-list l n (Reorder f) k s =
     fits-if l (nat_eq (length f) n) (if is_each_new n [] f then Ok (list_of n, map Old f) else Err Range) Length
-    (λ h. fits-if l (is_each_new n [] f) (Ok (list_of n, map Old f)) Range (λ g. (length-map f Old ∙ is-length (length f) n h, s n)))
+    (λ h. fits-if l (is_each_new n [] f) (Ok (list_of n, map Old f)) Range (λ g. (length-map f Old ∙ eqb-true (length f) n h, s n)))
 of-list l n (PutKey q) k s = tt
 of-list l n (DropKey q) k s = tt
 of-list l n (RenameKey q m) k s = tt

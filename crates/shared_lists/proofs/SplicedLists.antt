@@ -36,7 +36,7 @@ length-spliced xs more from to order within = simp (length-append, length-take, 
 
 pub ruleset splice_rules = (spliced_left, spliced_right, spliced_across, length-spliced)
 
-one_more : (i : ℕ) → suc i ≡ i + 1
+pub one_more : (i : ℕ) → suc i ≡ i + 1
 one_more i = omega arith
 
 -- what is left of a list from a place on begins with the item there

@@ -12,8 +12,8 @@ use Rattle.doc_values.specs.Initial.{initial}
 use Rattle.doc_values.specs.Documents.{DocTree}
 use Rattle.doc_values.specs.Types.{TyTree, height}
 use Rattle.edit_inverse.specs.Construct.{construct}
-use Rattle.edit_json.specs.WordJson.{counts_fit, numbers_fit}
-use Rattle.edit_journal.specs.EntryJson.{change_counts_fit, tree_of_text}
+use Rattle.edit_json.specs.WordJson.{counts_fit}
+use Rattle.edit_journal.specs.EntryJson.{change_counts_fit, change_numbers_fit, tree_of_text}
 use Rattle.edit_module.specs.Changes.{one}
 use Rattle.edit_module.specs.Action.{act, Why}
 use Rattle.edit_module.specs.Words.{WordTree}
@@ -22,7 +22,7 @@ use Rattle.lens_core.specs.LensOf.{IsLensOf}
 use Rattle.lens_core.specs.Sides.{near}
 use Rattle.lens_core.specs.Translation.{Translated, translate}
 use Rattle.lens_forms.specs.Forms.{FormTree, left_type, right_type}
-use Rattle.lens_forms.specs.Measures.{greatest_height}
+use Rattle.lens_forms.specs.declared.limits.TheConstants.{GREATEST_HEIGHT}
 use Rattle.journal_answers.specs.Answers.{state_lines}
 use Rattle.journal_answers.specs.Runs.{IsInStepFor, first_of}
 use Rattle.journal_answers.proofs.InStep.{of_form}
@@ -34,14 +34,13 @@ use Rattle.edit_session.specs.Step.{alone, document_on, IsInStep, TripleTree, tr
 -- ---- the entry
 
 pub document_made : (form : FormTree) (doc : DocTree) (ty : TyTree) (w : WordTree) → ty ≡ left_type form → w ≡ construct ty doc → act ty w (initial ty) ≡ Ok doc
-    → counts_fit w ≡ true → numbers_fit w ≡ true → MakesDocument form doc (Left, w)
-document_made form doc ty w same is acts counts numbers =
+    → counts_fit w ≡ true → MakesDocument form doc (Left, w)
+document_made form doc ty w same is acts counts =
     let made : w ≡ construct (left_type form) doc = is ∙ ap (λ t. construct t doc) same in
     record {
       is = cc;
       acts = subst (λ x. act (left_type form) x (initial (left_type form)) ≡ Ok doc) made (subst (λ t. act t w (initial t) ≡ Ok doc) same acts);
       counts = subst (λ x. counts_fit x ≡ true) made counts;
-      numbers = subst (λ x. numbers_fit x ≡ true) made numbers;
     }
 
 -- it applies to the first triple
@@ -77,9 +76,9 @@ module _ (left right : TyTree) (carried : Side → CompTree → WordTree → Opt
 
 -- What is stored and written of the step by which a document is imported, for the entry itself and the first triple.
 first_made : (form : FormTree) (doc : DocTree) (after : TripleTree) (word : WordTree) (payload lines : List ℕ)
-    → height (left_type form) ≤ greatest_height → height (right_type form) ≤ greatest_height
+    → height (left_type form) ≤ GREATEST_HEIGHT → height (right_type form) ≤ GREATEST_HEIGHT
     → act (left_type form) (construct (left_type form) doc) (initial (left_type form)) ≡ Ok doc
-    → counts_fit (construct (left_type form) doc) ≡ true → numbers_fit (construct (left_type form) doc) ≡ true
+    → counts_fit (construct (left_type form) doc) ≡ true → change_numbers_fit (one (Left, construct (left_type form) doc)) ≡ true
     → step (left_type form) (right_type form) (translate form) (first_of form) (Left, construct (left_type form) doc) ≡ Some (Ok (after, word))
     → IsInStepFor form after
     → payload ≡ compact_text (tree_of_change_record (one (Left, construct (left_type form) doc)))
@@ -94,7 +93,7 @@ first_made form doc after word payload lines low_left low_right acts counts numb
       word = word;
       is_payload = is;
       reads = reads (accepted_low form (first_of form) after (one (Left, w)) (word ∷ []) low_left low_right all);
-      counts = (both (counts_fit w) true counts refl, both (numbers_fit w) true numbers refl);
+      counts = (both (counts_fit w) true counts refl, numbers);
       steps = all;
       left_is = step_left (left_type form) (right_type form) (translate form) (first_of form) w doc (after, word) steps acts;
       in_step = in_step;
@@ -105,21 +104,23 @@ first_made form doc after word payload lines low_left low_right acts counts numb
 record HasText (e : Side × WordTree) (payload : List ℕ) : Type 0 where
   is : payload ≡ compact_text (tree_of_change_record (one e))
   reads : depth (tree_of_change_record (one e)) ≤ max_depth → tree_of_text payload ≡ Some (tree_of_change_record (one e))
+  numbers : change_numbers_fit (one e) ≡ true
 
 -- The same for the step of a lens of the form.
 pub entry_made : (left right : TyTree) (start : CompTree) (holds : DocTree → CompTree → DocTree → Type 0) (carried : Side → CompTree → WordTree → Option Translated) (form : FormTree)
     (doc : DocTree) (e : Side × WordTree) (t after : TripleTree) (word : WordTree) (payload lines : List ℕ) → IsLensOf left right start holds carried form
-    → height (left_type form) ≤ greatest_height → height (right_type form) ≤ greatest_height → MakesDocument form doc e → t ≡ first_of form
+    → height (left_type form) ≤ GREATEST_HEIGHT → height (right_type form) ≤ GREATEST_HEIGHT → MakesDocument form doc e → t ≡ first_of form
     → step left right carried t e ≡ Some (Ok (after, word)) → IsInStep holds after
     → payload ≡ compact_text (tree_of_change_record (one e))
     → (depth (tree_of_change_record (one e)) ≤ max_depth → tree_of_text payload ≡ Some (tree_of_change_record (one e)))
+    → change_numbers_fit (one e) ≡ true
     → lines ≡ ok_line 1 Right word ++ state_lines form after
     → IsEntryText form doc payload lines
-entry_made left right start holds carried form doc e t after word payload lines l low_left low_right m first steps in_step is reads written =
+entry_made left right start holds carried form doc e t after word payload lines l low_left low_right m first steps in_step is reads numbers written =
     let w = construct (left_type form) doc in
     let of_the_form = of_form left right start holds carried form l (λ a b k. step a b k t e ≡ Some (Ok (after, word))) steps in
     let from_first = subst (λ u. step (left_type form) (right_type form) (translate form) u e ≡ Some (Ok (after, word))) first of_the_form in
     let by_entry = subst (λ (k : Side × WordTree). step (left_type form) (right_type form) (translate form) (first_of form) k ≡ Some (Ok (after, word))) m.is from_first in
-    let text = subst (λ (k : Side × WordTree). HasText k payload) m.is (record { is = is; reads = reads }) in
-    first_made form doc after word payload lines low_left low_right m.acts m.counts m.numbers by_entry
+    let text = subst (λ (k : Side × WordTree). HasText k payload) m.is (record { is = is; reads = reads; numbers = numbers }) in
+    first_made form doc after word payload lines low_left low_right m.acts m.counts text.numbers by_entry
     ((l.relates after.left after.comp after.right).0 in_step) text.is text.reads written

@@ -5,7 +5,7 @@ use Rattle.answer_text.specs.Lines.{ok_line}
 use Rattle.doc_values.specs.Documents.{DocTree}
 use Rattle.doc_values.specs.Initial.{initial}
 use Rattle.edit_inverse.specs.Construct.{construct}
-use Rattle.edit_json.specs.WordJson.{counts_fit, numbers_fit}
+use Rattle.edit_json.specs.WordJson.{counts_fit}
 use Rattle.edit_module.specs.Action.{act}
 use Rattle.edit_module.specs.Changes.{one}
 use Rattle.edit_module.specs.Words.{WordTree}
@@ -29,12 +29,11 @@ use Rattle.store_import.specs.declared.refused.ImportRefusal.{ImportRefusal}
 use Rattle.making_steps.specs.declared.status.MakingStatus.{MakingStatus}
 use Rattle.making_steps.specs.declared.status.MakingStatus.TheVariants.{SomeRefused, NoMemory}
 
--- The entry of the left side whose word makes the document from the initial one, and has a record.
+-- The entry of the left side whose word makes the document from the initial one, and has a tree.
 pub record MakesDocument (form : FormTree) (doc : DocTree) (entry : Side × WordTree) : Type 0 where
   pub is : entry ≡ (Left, construct (left_type form) doc)
   pub acts : act (left_type form) (construct (left_type form) doc) (initial (left_type form)) ≡ Ok doc
   pub counts : counts_fit (construct (left_type form) doc) ≡ true
-  pub numbers : numbers_fit (construct (left_type form) doc) ≡ true
 
 -- The word that makes the document steps the first triple to this one, with this translated word. The payload is that of the entry,
 -- and reads as its tree; the lines are those that are written once it is stored.

@@ -1,10 +1,10 @@
 //! The command `import`.
-ghost use Rattle.std.specs.Prelude.{◌≡◌, ◌⊎◌, ◌<◌, ◌≤◌, ◌++◌, [], length, true, IfOk, IfSome, IsErrOf, MatchResult, Ok, OnOk, Some};
+ghost use Rattle.std.specs.Prelude.{◌≡◌, ◌⊎◌, ◌<◌, ◌≤◌, ◌++◌, [], length, true, IfOk, IfSome, IsErrOf, MatchResult, Ok, Some};
 ghost use Rattle.answer_text.specs.Lines.{ok_line};
 ghost use Rattle.doc_values.specs.Documents.{DocTree, doc_tree};
 ghost use Rattle.doc_values.specs.Types.{height};
 ghost use Rattle.doc_values.specs.Typing.{has};
-ghost use Rattle.edit_json.specs.WordJson.{counts_fit, numbers_fit};
+ghost use Rattle.edit_json.specs.WordJson.{counts_fit};
 ghost use Rattle.edit_module.specs.Action.{act};
 ghost use Rattle.edit_module.specs.Views.{entry_tree, word_tree};
 ghost use Rattle.edit_session.specs.Step.{IsInStep, document_on, step};
@@ -14,7 +14,7 @@ ghost use Rattle.journal_answers.specs.Runs.{first_of};
 ghost use Rattle.lens_core.specs.LensOf.{IsLensOf};
 ghost use Rattle.lens_core.specs.Sides.{near};
 ghost use Rattle.lens_forms.specs.Forms.{form_tree, left_type, right_type};
-ghost use Rattle.lens_forms.specs.Measures.{greatest_height};
+ghost use Rattle.lens_forms.specs.declared.limits.TheConstants.{GREATEST_HEIGHT};
 ghost use Rattle.program_terms.specs.Views.{program_tree};
 ghost use Rattle.texts.specs.declared.side.Side.TheVariants.{Right};
 ghost use Rattle.lens_io.specs.Causes.{Increased, SinkFailed};
@@ -34,7 +34,6 @@ use crate::document::{DocumentFault, Found, document_of, find_lines};
 use answer_text::ok_line;
 use doc_values::Doc;
 use edit_inverse::construct;
-use edit_json::write_word;
 use edit_module::{Change, Entry, Word};
 use edit_session::{Session, StepFault};
 use journal_answers::state_lines;
@@ -281,8 +280,8 @@ fn text_of_step<L: EditLens>(
 
 // The types of a lens are low enough that the JSON reader reads their changes back.
 fn types_are_low(lens: &Typed)
-    ensures left { height (left_type (form_tree lens.now)) ≤ greatest_height }
-    ensures right { height (right_type (form_tree lens.now)) ≤ greatest_height }
+    ensures left { height (left_type (form_tree lens.now)) ≤ GREATEST_HEIGHT }
+    ensures right { height (right_type (form_tree lens.now)) ≤ GREATEST_HEIGHT }
 {
     let (_left, _right) = (lens.left(), lens.right());
 }
@@ -293,20 +292,10 @@ fn document_entry(alloc: Global, lens: &Typed, doc: &Doc) -> Result<Entry, Alloc
     ensures { IfOk result (λ e. MakesDocument (form_tree lens.now) (doc_tree doc.now) (entry_tree e)) }
 {
     let word = construct(alloc, lens.left(), doc)?;
-    numbers_fit(alloc, &word)?;
     Ok(Entry {
         side: Side::Left,
         word,
     })
-}
-
-// Every number of a word fits its tree. The writing of the tree shows this; the tree is dropped at once.
-fn numbers_fit(alloc: Global, word: &Word) -> Result<(), AllocError>
-    requires counts { counts_fit (word_tree word.now) ≡ true }
-    ensures { OnOk result (numbers_fit (word_tree word.now) ≡ true) }
-{
-    write_word(alloc, word)?;
-    Ok(())
 }
 
 // Steps a session by an entry that applies. Returns the translated word.

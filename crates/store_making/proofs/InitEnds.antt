@@ -6,6 +6,7 @@ use Rattle.accepted_programs.specs.Program.{Refusal, form_of_program, lens_of}
 use Rattle.edit_journal.specs.EntryJson.{tree_of_text}
 use Rattle.lens_forms.specs.Forms.{FormTree}
 use Rattle.lens_syntax.specs.Programs.{ProgramCause, too_long, bounded, unbounded}
+use Rattle.lens_syntax.specs.declared.reading.TheConstants.{MOST_PROGRAM_BYTES}
 use Rattle.program_terms.specs.Terms.{ProgramTree}
 use Rattle.program_writing.specs.Canonical.{canonical}
 use Rattle.script_parts.specs.Lines.{program_part}
@@ -29,7 +30,7 @@ use Rattle.making_steps.proofs.Rooms.{no_room_for_script}
 
 -- a text that is read within the limit is read without it
 without_limit : (text : List ℕ) (program : ProgramTree) → bounded text ≡ Ok program → unbounded text ≡ Ok program
-without_limit text program h = by_test (nat_le (length text) 65536) h where
+without_limit text program h = by_test (nat_le (length text) MOST_PROGRAM_BYTES) h where
   by_test : (b : Bool) → cond b (unbounded text) (Err too_long) ≡ Ok program → unbounded text ≡ Ok program
   by_test true e = e
   by_test false e = cc

@@ -1,7 +1,6 @@
 -- An answer's line is one line, which begins with `ok ` where there is a payload; the state lines are other lines.
-use Rattle.std.proofs.Common.{◌≡◌, ℕ, List, [], ◌∷◌, ◌++◌, Bool, true, false, not, codes, cond, Option, Some, None, option_map, option_and_then, Result, Ok, Err, refl, sym, ap, subst, ◌∙◌, append_assoc, append-nil}
+use Rattle.std.proofs.Common.{◌≡◌, ℕ, List, [], ◌∷◌, ◌++◌, Bool, true, false, not, codes, cond, Option, Some, None, option_map, Ok, Err, refl, sym, ap, subst, ◌∙◌, append_assoc, append-nil}
 use Rattle.std.specs.Prelude.{decimal, is_some}
-use Rattle.std.specs.List.{concat}
 use Rattle.texts.specs.declared.side.Side.{Side}
 use Rattle.texts.specs.declared.side.Side.TheVariants.{Left, Right}
 use Rattle.serde_json.specs.Data.{Data}
@@ -22,11 +21,12 @@ use Rattle.answer_text.specs.Lines.{tree_line}
 use Rattle.journal_answers.specs.Answers.{answer_line}
 use Rattle.journal_answers.specs.Runs.{JournalItem, JournalAnswer}
 use Rattle.lens_forms.specs.Forms.{left_type, right_type}
-use Rattle.stored_run.specs.OkLines.{IsLine, IsAnswer, IsOtherLine, AllOther, AreOtherLines, begins_ok}
+use Rattle.stored_run.specs.OkLines.{IsLine, IsAnswer, AreOtherLines, begins_ok}
 use Rattle.stored_run.specs.declared.session.Answer.{Answer}
 use Rattle.store_session.specs.StoredStates.{StoredState, state_with, change_text, payload_of, stored_answer, taken, answer_item, answer, state_text}
 use Rattle.stored_run.proofs.Decimals.{decimal_plain}
-use Rattle.store_session.proofs.NoLineEnd.{join_plain, text_plain}
+use Rattle.store_session.proofs.NoLineEnd.{text_plain}
+use Rattle.edit_journal.proofs.LinesHeld.{plain_both}
 
 -- ---- lines of parts
 
@@ -58,37 +58,37 @@ fault_plain not_an_edit = refl
 
 pub answer_is_line : (n : ℕ) (a : JournalAnswer) → IsLine (answer_line n a)
 answer_is_line n (carried side w) =
-    let p0 = join_plain (codes "ok ") (decimal n) refl (decimal_plain n) in
-    let p1 = join_plain (codes "ok " ++ decimal n) (codes " ") p0 refl in
-    let p2 = join_plain (codes "ok " ++ decimal n ++ codes " ") (side_text side) p1 (side_plain side) in
-    let p3 = join_plain (codes "ok " ++ decimal n ++ codes " " ++ side_text side) (codes " ") p2 refl in
-    let p4 = join_plain (codes "ok " ++ decimal n ++ codes " " ++ side_text side ++ codes " ") (compact_text (tree_of_word w)) p3 (text_plain (tree_of_word w)) in
+    let p0 = plain_both (codes "ok ") (decimal n) refl (decimal_plain n) in
+    let p1 = plain_both (codes "ok " ++ decimal n) (codes " ") p0 refl in
+    let p2 = plain_both (codes "ok " ++ decimal n ++ codes " ") (side_text side) p1 (side_plain side) in
+    let p3 = plain_both (codes "ok " ++ decimal n ++ codes " " ++ side_text side) (codes " ") p2 refl in
+    let p4 = plain_both (codes "ok " ++ decimal n ++ codes " " ++ side_text side ++ codes " ") (compact_text (tree_of_word w)) p3 (text_plain (tree_of_word w)) in
     last_part (codes "ok " ++ decimal n ++ codes " " ++ side_text side ++ codes " " ++ compact_text (tree_of_word w)) p4
 answer_is_line n (no_apply at cause) =
-    let p0 = join_plain (codes "refused ") (decimal n) refl (decimal_plain n) in
-    let p1 = join_plain (codes "refused " ++ decimal n) (codes " no-apply ") p0 refl in
-    let p2 = join_plain (codes "refused " ++ decimal n ++ codes " no-apply ") (decimal at) p1 (decimal_plain at) in
-    let p3 = join_plain (codes "refused " ++ decimal n ++ codes " no-apply " ++ decimal at) (codes " ") p2 refl in
-    let p4 = join_plain (codes "refused " ++ decimal n ++ codes " no-apply " ++ decimal at ++ codes " ") (cause_text cause) p3 (cause_plain cause) in
+    let p0 = plain_both (codes "refused ") (decimal n) refl (decimal_plain n) in
+    let p1 = plain_both (codes "refused " ++ decimal n) (codes " no-apply ") p0 refl in
+    let p2 = plain_both (codes "refused " ++ decimal n ++ codes " no-apply ") (decimal at) p1 (decimal_plain at) in
+    let p3 = plain_both (codes "refused " ++ decimal n ++ codes " no-apply " ++ decimal at) (codes " ") p2 refl in
+    let p4 = plain_both (codes "refused " ++ decimal n ++ codes " no-apply " ++ decimal at ++ codes " ") (cause_text cause) p3 (cause_plain cause) in
     last_part (codes "refused " ++ decimal n ++ codes " no-apply " ++ decimal at ++ codes " " ++ cause_text cause) p4
 answer_is_line n (group_carried words) =
-    let p0 = join_plain (codes "ok ") (decimal n) refl (decimal_plain n) in
-    let p1 = join_plain (codes "ok " ++ decimal n) (codes " group ") p0 refl in
-    let p2 = join_plain (codes "ok " ++ decimal n ++ codes " group ") (compact_text (tree_of_entries words)) p1 (text_plain (tree_of_entries words)) in
+    let p0 = plain_both (codes "ok ") (decimal n) refl (decimal_plain n) in
+    let p1 = plain_both (codes "ok " ++ decimal n) (codes " group ") p0 refl in
+    let p2 = plain_both (codes "ok " ++ decimal n ++ codes " group ") (compact_text (tree_of_entries words)) p1 (text_plain (tree_of_entries words)) in
     last_part (codes "ok " ++ decimal n ++ codes " group " ++ compact_text (tree_of_entries words)) p2
 answer_is_line n (group_no_apply part at cause) =
-    let p0 = join_plain (codes "refused ") (decimal n) refl (decimal_plain n) in
-    let p1 = join_plain (codes "refused " ++ decimal n) (codes " group ") p0 refl in
-    let p2 = join_plain (codes "refused " ++ decimal n ++ codes " group ") (decimal part) p1 (decimal_plain part) in
-    let p3 = join_plain (codes "refused " ++ decimal n ++ codes " group " ++ decimal part) (codes " no-apply ") p2 refl in
-    let p4 = join_plain (codes "refused " ++ decimal n ++ codes " group " ++ decimal part ++ codes " no-apply ") (decimal at) p3 (decimal_plain at) in
-    let p5 = join_plain (codes "refused " ++ decimal n ++ codes " group " ++ decimal part ++ codes " no-apply " ++ decimal at) (codes " ") p4 refl in
-    let p6 = join_plain (codes "refused " ++ decimal n ++ codes " group " ++ decimal part ++ codes " no-apply " ++ decimal at ++ codes " ") (cause_text cause) p5 (cause_plain cause) in
+    let p0 = plain_both (codes "refused ") (decimal n) refl (decimal_plain n) in
+    let p1 = plain_both (codes "refused " ++ decimal n) (codes " group ") p0 refl in
+    let p2 = plain_both (codes "refused " ++ decimal n ++ codes " group ") (decimal part) p1 (decimal_plain part) in
+    let p3 = plain_both (codes "refused " ++ decimal n ++ codes " group " ++ decimal part) (codes " no-apply ") p2 refl in
+    let p4 = plain_both (codes "refused " ++ decimal n ++ codes " group " ++ decimal part ++ codes " no-apply ") (decimal at) p3 (decimal_plain at) in
+    let p5 = plain_both (codes "refused " ++ decimal n ++ codes " group " ++ decimal part ++ codes " no-apply " ++ decimal at) (codes " ") p4 refl in
+    let p6 = plain_both (codes "refused " ++ decimal n ++ codes " group " ++ decimal part ++ codes " no-apply " ++ decimal at ++ codes " ") (cause_text cause) p5 (cause_plain cause) in
     last_part (codes "refused " ++ decimal n ++ codes " group " ++ decimal part ++ codes " no-apply " ++ decimal at ++ codes " " ++ cause_text cause) p6
 answer_is_line n (no_entry fault) =
-    let p0 = join_plain (codes "refused ") (decimal n) refl (decimal_plain n) in
-    let p1 = join_plain (codes "refused " ++ decimal n) (codes " ") p0 refl in
-    let p2 = join_plain (codes "refused " ++ decimal n ++ codes " ") (fault_text fault) p1 (fault_plain fault) in
+    let p0 = plain_both (codes "refused ") (decimal n) refl (decimal_plain n) in
+    let p1 = plain_both (codes "refused " ++ decimal n) (codes " ") p0 refl in
+    let p2 = plain_both (codes "refused " ++ decimal n ++ codes " ") (fault_text fault) p1 (fault_plain fault) in
     last_part (codes "refused " ++ decimal n ++ codes " " ++ fault_text fault) p2
 
 pub begins : (n : ℕ) (a : JournalAnswer) (b : Bool) → is_refused a ≡ b → begins_ok (answer_line n a) ≡ not b
@@ -139,8 +139,8 @@ is_answer s t n line a h = of_taken s n (change_of_line line) t a (taken s (chan
 
 tree_is_line : (label : List ℕ) (d : Data) → has_no_end label ≡ true → IsLine (tree_line label d)
 tree_is_line label d h =
-    let front = join_plain label (codes " ") h refl in
-    last_part (label ++ codes " " ++ compact_text d) (join_plain (label ++ codes " ") (compact_text d) front (text_plain d))
+    let front = plain_both label (codes " ") h refl in
+    last_part (label ++ codes " " ++ compact_text d) (plain_both (label ++ codes " ") (compact_text d) front (text_plain d))
 
 pub states_are_other : (t : StoredState) → AreOtherLines (state_text t)
 states_are_other t =

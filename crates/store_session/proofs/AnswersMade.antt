@@ -1,30 +1,29 @@
 -- The answers that a call makes are those of the definition.
-use Rattle.std.proofs.Common.{◌≡◌, ℕ, ◌≤◌, List, [], ◌∷◌, Bool, true, false, Option, Some, None, option_map, Result, Ok, Err, refl, sym, ap, subst, ◌∙◌}
-use Rattle.std.specs.Prelude.{IfOk, IfSome}
+use Rattle.std.proofs.Common.{◌≡◌, ℕ, ◌≤◌, List, [], ◌∷◌, Option, Some, None, option_map, Result, Ok, Err, refl, sym, ap, subst, ◌∙◌}
+use Rattle.std.specs.Prelude.{IfOk}
 use Rattle.serde_json.specs.Data.{depth}
 use Rattle.serde_json.specs.Read.{max_depth}
 use Rattle.texts.specs.declared.side.Side.{Side}
 use Rattle.texts.specs.Sides.{other}
 use Rattle.doc_values.specs.Types.{height}
-use Rattle.edit_module.specs.Changes.{ChangeTree, one, group, carried_to}
+use Rattle.edit_module.specs.Changes.{one, group, carried_to}
 use Rattle.edit_module.specs.Words.{WordTree}
 use Rattle.edit_module.specs.declared.fault.Cause.{Cause}
 use Rattle.edit_journal.specs.EntryJson.{LineFault, line_too_long, not_json, not_an_entry, not_an_edit}
 use Rattle.edit_journal.specs.Reading.{cause_of, IsRefused}
 use Rattle.edit_journal.specs.declared.fault.EntryFault.{EntryFault}
 use Rattle.edit_journal.specs.declared.fault.EntryFault.TheVariants.{LineTooLong, NotJson, NotAnEntry, NotAnEdit, NoMemory}
-use Rattle.edit_session.specs.Run.{answered, group_answered, carried, no_apply, group_carried, group_no_apply, no_entry}
+use Rattle.edit_session.specs.Run.{answered, group_answered}
 use Rattle.edit_session.specs.Step.{TripleTree, Stepped, AllStepped, step, step_each, alone}
 use Rattle.answer_text.specs.Lines.{ok_line, no_apply_line, group_line, group_refused_line, fault_line}
 use Rattle.journal_answers.specs.Runs.{JournalItem, JournalAnswer}
 use Rattle.lens_core.specs.Translation.{translate}
 use Rattle.lens_forms.specs.Forms.{FormTree, left_type, right_type}
-use Rattle.lens_forms.specs.Measures.{greatest_height}
+use Rattle.lens_forms.specs.declared.limits.TheConstants.{GREATEST_HEIGHT}
 use Rattle.stored_records.specs.RecordJson.{tree_of_change_record}
 use Rattle.stored_run.specs.declared.session.Answer.{Answer}
-use Rattle.stored_sessions.specs.Stands.{step_of}
 use Rattle.stored_sessions.proofs.AcceptedDepths.{accepted_low}
-use Rattle.store_session.specs.StoredStates.{StoredState, state_with, change_text, stored_answer, answer_item, answer, ReadsAsChange, IsStep}
+use Rattle.store_session.specs.StoredStates.{StoredState, state_with, change_text, stored_answer, answer_item}
 
 -- an answer with this line and this payload
 pub answer_is : (a : Answer) (line : List ℕ) (payload : Option (List ℕ)) → a.line ≡ line → a.payload ≡ payload → a ≡ record { line = line; payload = payload }
@@ -79,18 +78,14 @@ module _ (l : FormTree) (t : TripleTree) (n : ℕ) where
   fault_refused item NoMemory a known refused line payload = absurd (known refl)
 
   -- the record of a change that was accepted is read back
-  pub entry_low : (e : Side × WordTree) (u : TripleTree) (w : WordTree) → height (left_type l) ≤ greatest_height → height (right_type l) ≤ greatest_height
+  pub entry_low : (e : Side × WordTree) (u : TripleTree) (w : WordTree) → height (left_type l) ≤ GREATEST_HEIGHT → height (right_type l) ≤ GREATEST_HEIGHT
       → entry_step e ≡ Some (Ok (u, w)) → depth (tree_of_change_record (one e)) ≤ max_depth
   entry_low e u w low_left low_right h = accepted_low l t u (one e) (w ∷ []) low_left low_right (ap (option_map alone) h)
 
-  pub group_low : (es : List (Side × WordTree)) (u : TripleTree) (ws : List WordTree) → height (left_type l) ≤ greatest_height → height (right_type l) ≤ greatest_height
+  pub group_low : (es : List (Side × WordTree)) (u : TripleTree) (ws : List WordTree) → height (left_type l) ≤ GREATEST_HEIGHT → height (right_type l) ≤ GREATEST_HEIGHT
       → group_step es ≡ Some (Ok (u, ws)) → depth (tree_of_change_record (group es)) ≤ max_depth
   group_low es u ws low_left low_right h = accepted_low l t u (group es) ws low_left low_right h
 
 -- what holds of an item holds of the same
 pub of_item : {E : Type 0} (r : Result Answer E) (item x : JournalItem) (P : JournalItem → Answer → Type 0) → item ≡ x → IfOk r (P x) → IfOk r (P item)
 of_item r item x P e h = subst (λ i. IfOk r (P i)) (sym e) h
-
-pub of_two : {E : Type 0} (r : Result Answer E) (P Q R : Answer → Type 0) → ((a : Answer) → P a → Q a → R a) → IfOk r P → IfOk r Q → IfOk r R
-of_two (Ok a) P Q R f p q = f a p q
-of_two (Err e) P Q R f p q = tt

@@ -1,26 +1,16 @@
 -- Texts in which no byte is a line feed.
-use Rattle.std.proofs.Common.{◌≡◌, ◌⊎◌, inl, inr, ℕ, suc, ◌+◌, ◌/◌, ◌%◌, ◌<◌, ◌≤◌, List, [], ◌∷◌, ◌++◌, Bool, true, false, not, ◌&&◌, ◌||◌, cond, refl, ap₂, arith}
+use Rattle.std.proofs.Common.{◌≡◌, ◌⊎◌, inl, inr, ℕ, suc, ◌+◌, ◌/◌, ◌%◌, ◌<◌, ◌≤◌, List, [], ◌∷◌, ◌++◌, Bool, true, false, ◌&&◌, ◌||◌, cond, refl, arith}
 use Rattle.std.specs.Prelude.{◌==◌, nat_lt, decimal, ℤ, pos, negsuc}
 use Rattle.std.specs.Char.{digit_char}
-use Rattle.std.proofs.lemmas.Bool.{ne_eqb, eqb-true, ltb-false}
+use Rattle.std.proofs.lemmas.Bool.{eqb-true, ltb-false}
 use Rattle.json.specs.Print.{escape_letter, escape_byte, escape, quoted}
 use Rattle.serde_json.specs.Data.{Num, unsigned, negative, float, Data, null, boolean, number, string, array, object, Items, no_items, item, Members, no_members, member}
 use Rattle.serde_json.specs.Written.{number_text, compact_text, items_text, members_text, comma_if}
 use Rattle.edit_journal.specs.Pieces.{has_no_end}
-use Rattle.edit_journal.proofs.Feeding.{both_plain}
-use Rattle.stored_run.proofs.Decimals.{decimal_plain}
-
-cons_plain : (x : ℕ) (xs : List ℕ) → x == 10 ≡ false → has_no_end xs ≡ true → has_no_end (x ∷ xs) ≡ true
-cons_plain x xs p q = ap₂ (λ b c. not b && c) p q
-
-pub join_plain : (xs ys : List ℕ) → has_no_end xs ≡ true → has_no_end ys ≡ true → has_no_end (xs ++ ys) ≡ true
-join_plain [] ys p q = q
-join_plain (x ∷ xs) ys p q = let parts = both_plain x xs p in cons_plain x (xs ++ ys) parts.0 (join_plain xs ys parts.1 q)
+use Rattle.stored_run.proofs.Decimals.{decimal_plain, cons_plain, no_ten}
+use Rattle.edit_journal.proofs.LinesHeld.{plain_both}
 
 -- ---- numbers
-
-no_ten : (n : ℕ) → 10 < n → n == 10 ≡ false
-no_ten n h = ne_eqb n 10 (λ e. omega (arith, e, h))
 
 number_plain : (n : Num) → has_no_end (number_text n) ≡ true
 number_plain (unsigned n) = decimal_plain n
@@ -68,10 +58,10 @@ escaped_plain x = by_test (nat_lt 0 (escape_letter x)) (nat_lt x 32) (λ e. ltb-
 
 escape_plain : (xs : List ℕ) → has_no_end (escape xs) ≡ true
 escape_plain [] = refl
-escape_plain (x ∷ xs) = join_plain (escape_byte x) (escape xs) (escaped_plain x) (escape_plain xs)
+escape_plain (x ∷ xs) = plain_both (escape_byte x) (escape xs) (escaped_plain x) (escape_plain xs)
 
 quoted_plain : (s : List ℕ) → has_no_end (quoted s) ≡ true
-quoted_plain s = cons_plain 34 (escape s ++ 34 ∷ []) refl (join_plain (escape s) (34 ∷ []) (escape_plain s) refl)
+quoted_plain s = cons_plain 34 (escape s ++ 34 ∷ []) refl (plain_both (escape s) (34 ∷ []) (escape_plain s) refl)
 
 -- ---- trees
 
@@ -91,11 +81,11 @@ mutual
 
   items_plain : (later : Bool) (ds : Items) → has_no_end (items_text later ds) ≡ true
   items_plain later no_items = refl
-  items_plain later (item d ds) = join_plain (comma_if later) (compact_text d ++ items_text true ds) (comma_plain later) (join_plain (compact_text d) (items_text true ds) (text_plain d) (items_plain true ds))
+  items_plain later (item d ds) = plain_both (comma_if later) (compact_text d ++ items_text true ds) (comma_plain later) (plain_both (compact_text d) (items_text true ds) (text_plain d) (items_plain true ds))
 
   members_plain : (later : Bool) (ms : Members) → has_no_end (members_text later ms) ≡ true
   members_plain later no_members = refl
   members_plain later (member k d ms) =
-      join_plain (comma_if later) (quoted k ++ 58 ∷ (compact_text d ++ members_text true ms)) (comma_plain later)
-      (join_plain (quoted k) (58 ∷ (compact_text d ++ members_text true ms)) (quoted_plain k)
-      (cons_plain 58 (compact_text d ++ members_text true ms) refl (join_plain (compact_text d) (members_text true ms) (text_plain d) (members_plain true ms))))
+      plain_both (comma_if later) (quoted k ++ 58 ∷ (compact_text d ++ members_text true ms)) (comma_plain later)
+      (plain_both (quoted k) (58 ∷ (compact_text d ++ members_text true ms)) (quoted_plain k)
+      (cons_plain 58 (compact_text d ++ members_text true ms) refl (plain_both (compact_text d) (members_text true ms) (text_plain d) (members_plain true ms))))

@@ -1,6 +1,5 @@
 -- What was opened, in the words of a store.
 use Rattle.std.proofs.Common.{◌≡◌, ℕ, List, [], ◌∷◌, Option, Some, None, option_map, Result, Ok, Err, refl, sym, ap, subst, ◌∙◌}
-use Rattle.std.specs.Prelude.{IfOk, MatchResult}
 use Rattle.lens_forms.specs.Forms.{FormTree}
 use Rattle.edit_session.specs.Step.{TripleTree}
 use Rattle.stored_records.specs.Outcomes.{IsBadFirst}
@@ -11,7 +10,7 @@ use Rattle.stored_run.specs.Reopening.{IsReopenFault}
 use Rattle.stored_run.specs.declared.session.ReopenFault.{ReopenFault}
 use Rattle.stored_run.specs.declared.session.ReopenFault.TheVariants as of_stores
 use Rattle.stored_sessions.specs.Outcomes.{IsReopenFault as IsRecordFault}
-use Rattle.stored_sessions.specs.Stands.{Standing, from_opening, stands}
+use Rattle.stored_sessions.specs.Stands.{from_opening, stands}
 use Rattle.stored_sessions.specs.Views.{standing}
 use Rattle.store_session.specs.StoredStates.{StoredState, state_with, version_for, fault_of, opened_as, stands_for, counted, count_of}
 
@@ -47,9 +46,3 @@ opened_stands ps l t count number version h e =
 
 pub opened_counts : (ps : List (List ℕ)) (l : FormTree) (t : TripleTree) (count number : ℕ) → stands ps ≡ Ok (standing l t count number) → count ≡ count_of ps
 opened_counts ps l t count number h = sym (ap counted h)
-
--- what holds with the form of a lens holds with that of the lens that was compiled
-pub with_own_form : {O E : Type 0} (r : Result O E) (P : O → FormTree → Type 0) (Q : E → Type 0) (form : O → FormTree) (l : FormTree)
-    → MatchResult r (λ o. P o l) Q → IfOk r (λ o. form o ≡ l) → MatchResult r (λ o. P o (form o)) Q
-with_own_form (Ok o) P Q form l h e = subst (P o) (sym e) h
-with_own_form (Err fault) P Q form l h e = h

@@ -14,7 +14,7 @@ ghost use Rattle.edit_journal.specs.declared.fault.EntryFault;
 ghost use Rattle.edit_session.specs.Step.{TripleTree};
 ghost use Rattle.journal_answers.specs.Runs.{JournalItem};
 ghost use Rattle.lens_forms.specs.Forms.{FormTree, form_tree, left_type, right_type};
-ghost use Rattle.lens_forms.specs.Measures.{greatest_height};
+ghost use Rattle.lens_forms.specs.declared.limits.TheConstants.{GREATEST_HEIGHT};
 ghost use Rattle.stored_records.specs.RecordJson.{tree_of_change_record};
 ghost use Rattle.stored_run.specs.OkLines.{IsAnswer};
 ghost use Rattle.store_session.specs.StoredStates.{answer, answer_item, change_text, state_with, ReadsAsChange, IsStep};
@@ -119,8 +119,8 @@ fn answer_group(
 
 // The types of a lens are no higher than the reader of JSON reads back the changes of.
 fn types_are_low(lens: &Flat)
-    ensures left { height (left_type (form_tree lens.now.typed)) ≤ greatest_height }
-    ensures right { height (right_type (form_tree lens.now.typed)) ≤ greatest_height }
+    ensures left { height (left_type (form_tree lens.now.typed)) ≤ GREATEST_HEIGHT }
+    ensures right { height (right_type (form_tree lens.now.typed)) ≤ GREATEST_HEIGHT }
 {
     let (_left, _right) = (lens.typed().left(), lens.typed().right());
 }

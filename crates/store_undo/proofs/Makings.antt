@@ -1,7 +1,6 @@
 -- What is made, from what its parts say.
-use Rattle.std.proofs.Common.{◌≡◌, ℕ, ◌<◌, List, ◌∷◌, [], ◌++◌, length, Some, Ok, ap, subst, ◌∙◌}
-use Rattle.std.specs.Prelude.{nat_lt, option_to_list}
-use Rattle.std.proofs.lemmas.Bool.{ltb-true}
+use Rattle.std.proofs.Common.{◌≡◌, ℕ, ◌<◌, List, ◌∷◌, [], ◌++◌, Some, Ok, ap, subst, ◌∙◌}
+use Rattle.std.specs.Prelude.{option_to_list}
 use Rattle.edit_module.specs.Changes.{ChangeTree}
 use Rattle.edit_session.specs.Step.{TripleTree}
 use Rattle.lens_core.specs.Translation.{translate}
@@ -9,14 +8,11 @@ use Rattle.lens_forms.specs.Forms.{FormTree, left_type, right_type}
 use Rattle.stored_sessions.specs.Stands.{Standing, stands}
 use Rattle.store_undo.specs.Making.{AreTexts, IsMade}
 use Rattle.store_undo.specs.UndoRecords.{version_due, version_then}
-use Rattle.store_undo.specs.Undoing.{changes_of, last_payloads, payloads_before, last_changes}
+use Rattle.store_undo.specs.Undoing.{payloads_before, last_changes}
 use Rattle.store_undo.specs.declared.making.Making.{Making}
-use Rattle.store_undo.proofs.Earlier.{some_last, stood_then}
+use Rattle.store_undo.proofs.Earlier.{stood_then}
 use Rattle.store_undo.proofs.VersionRecords.{undone_stands}
 use Rattle.undo_words.specs.Undone.{BothTrees, BringsBack, undone}
-
-pub fewer : (count : ℕ) (held : List (List ℕ)) (cs : List ChangeTree) → last_changes count held ≡ Some cs → count < length held
-fewer count held cs h = ltb-true count (length held) (some_last (nat_lt count (length held)) (changes_of (last_payloads count held)) cs h).0
 
 -- the words of a standing's changes
 abbrev UndoneBy : Standing → List ChangeTree → TripleTree × BothTrees → Type 0

@@ -1,6 +1,6 @@
 -- Why `undo` ended so, and that after some statuses the snapshot is not stored.
-use Rattle.std.proofs.Common.{◌≡◌, ◌⊎◌, inl, inr, ℕ, ◌+◌, ◌<◌, List, [], ◌∷◌, ◌++◌, length, Option, Some, None, Ok, refl, sym, ap, subst, ◌∙◌, append-nil, arith}
-use Rattle.std.specs.Prelude.{option_to_list, IfSome, IsNone}
+use Rattle.std.proofs.Common.{◌≡◌, ◌⊎◌, inl, inr, ℕ, ◌+◌, ◌<◌, List, [], ◌∷◌, ◌++◌, length, Option, Some, Ok, refl, sym, subst, ◌∙◌, append-nil, arith}
+use Rattle.std.specs.Prelude.{option_to_list}
 use Rattle.gate_log.specs.LogBytes.{records_length, closed_gate}
 use Rattle.gate_log.specs.LogOnDisk.{LogState, HoldsPayloads, Stands}
 use Rattle.stored_run.specs.Effects.{IsOver, Stops}
@@ -15,7 +15,7 @@ use Rattle.stored_run.specs.declared.status.Status.TheVariants as ending
 use Rattle.stored_run.specs.declared.stop.Stop.{Stop}
 use Rattle.stored_run.specs.declared.stop.Stop.TheVariants.{LogFull, SourceFault, SinkFault, DiskFault, TooLong, NoMemory}
 use Rattle.stored_run.proofs.Effects.{records_append, room_over}
-use Rattle.stored_run.proofs.Rooms.{gate_of}
+use Rattle.stored_run.proofs.Rooms.{gate_of, none_some}
 use Rattle.stored_sessions.specs.Stands.{stands}
 use Rattle.store_undo.specs.UndoCall.{HoldsNow}
 use Rattle.store_undo.specs.UndoCauses.{UndoHasNoRoom, IsUndoCause}
@@ -48,10 +48,6 @@ no_room_of most gate before front (p ∷ rest) whole g e h =
 over_more : (most gate : ℕ) (begun more : List (List ℕ)) → IsOver most gate begun → IsOver most gate (begun ++ more)
 over_more most gate [] more h = absurd h
 over_more most gate (p ∷ rest) more h = h
-
-none_some : (o : Option ℕ) (P : ℕ → Type 0) → IsNone o → IfSome o P
-none_some None P h = tt
-none_some (Some n) P h = cc
 
 cause_at : (status other : Status) (o : Option ℕ) (before : List (List ℕ)) (u : Undoing) → status ≡ other → IsUndoCause other o before u → IsUndoCause status o before u
 cause_at status other o before u e h = subst (λ (s : Status). IsUndoCause s o before u) (sym e) h

@@ -1,11 +1,7 @@
 //! What `undo` stores and writes, of a session and two words.
 
-ghost use Rattle.std.specs.Prelude.{◌≡◌, ◌++◌, true, codes, IfOk, OnOk, IsTrue};
+ghost use Rattle.std.specs.Prelude.{◌≡◌, ◌++◌, codes, IfOk};
 ghost use Rattle.serde_json.specs.Written.{compact_text};
-ghost use Rattle.doc_values.specs.Documents.{doc_tree};
-ghost use Rattle.doc_values.specs.Types.{ty_tree, is_well_formed};
-ghost use Rattle.doc_values.specs.Typing.{has};
-ghost use Rattle.value_json.specs.DocumentJson.{holds_i64s};
 ghost use Rattle.edit_json.specs.WordJson.{tree_of_word};
 ghost use Rattle.edit_module.specs.Views.{word_tree};
 ghost use Rattle.edit_session.specs.Views.{triple_tree};
@@ -15,7 +11,6 @@ ghost use Rattle.lens_forms.specs.Forms.{form_tree};
 ghost use Rattle.store_undo.specs.Making.{IsSnapshot, AreTexts};
 ghost use Rattle.undo_words.specs.Views.{both_tree};
 
-use doc_values::{Doc, Ty};
 use edit_json::append_word;
 use edit_module::Word;
 use edit_session::Session;
@@ -25,7 +20,6 @@ use std::alloc::{AllocError, Global};
 use stored_records::snapshot_payload;
 use texts::Bytes;
 use undo_words::BothWords;
-use value_json::write_doc;
 
 // The payload of a snapshot, and the lines of `undo`.
 #[derive(Drop)]
@@ -53,22 +47,10 @@ fn snapshot_of(alloc: Global, session: &Session<Flat>) -> Result<Bytes, AllocErr
 {
     let typed = session.lens().typed();
     let (left, comp, right) = (session.left(), session.comp(), session.right());
-    // The proof needs that the form is typed, and that the ints of the documents are i64, which these calls say.
+    // The proof needs that the form is typed, which this call says.
     let _form = typed.form();
-    read_ints(alloc, typed.left(), left)?;
-    read_ints(alloc, typed.right(), right)?;
     let payload = snapshot_payload(alloc, typed, left, comp, right)?;
     Ok(payload)
-}
-
-// Writes a document as a tree, which is not kept: the tree reads back as the document, so its ints are i64.
-fn read_ints(alloc: Global, ty: &Ty, doc: &Doc) -> Result<(), AllocError>
-    requires well_formed { IsTrue (is_well_formed (ty_tree ty.now)) }
-    requires typed { IsTrue (has (ty_tree ty.now) (doc_tree doc.now)) }
-    ensures { OnOk result (holds_i64s (doc_tree doc.now) ≡ true) }
-{
-    let _tree = write_doc(alloc, ty, doc)?;
-    Ok(())
 }
 
 // The lines `undo left WORD` and `undo right WORD`, and the state lines of the session.

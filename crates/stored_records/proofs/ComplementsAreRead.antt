@@ -1,11 +1,11 @@
 -- `complement_of` reads a tree as the complement that fits the form and has this tree, and there is none where it reads nothing.
-use Rattle.std.proofs.Common.{◌≡◌, ℕ, ◌&&◌, Bool, true, false, cond, codes, List, [], ◌∷◌, length, Option, Some, None, option_map, option_and_then, IsTrue, refl, sym, ap, ap₂, subst, ◌∙◌, bytes_eq, arith}
+use Rattle.std.proofs.Common.{◌≡◌, ℕ, ◌&&◌, Bool, true, false, cond, codes, List, [], ◌∷◌, length, Option, Some, None, option_map, option_and_then, refl, sym, ap, ap₂, subst, ◌∙◌, bytes_eq, arith}
 use Rattle.std.proofs.lemmas.Bool.Decides.{nat_tests}
 use Rattle.std.specs.Prelude.{nat_eq, nat_lt}
 use Rattle.std.proofs.lemmas.Option.{same_Some}
 use Rattle.texts.specs.Keys.{is_rising}
 use Rattle.texts.proofs.Conjunction.{both as both_true, first, second}
-use Rattle.serde_json.specs.Data.{Data, null, boolean, number, string, array, object, Items, no_items, item, Members, no_members, member}
+use Rattle.serde_json.specs.Data.{Data, null, string, array, object, Items, no_items, item, Members, no_members, member}
 use Rattle.serde_json.specs.Find.{as_str, as_array, as_object}
 use Rattle.hold_shapes.specs.Trees.{is_valid}
 use Rattle.hold_shapes.specs.declared.shape.Shape.TheVariants.{List as ListOf, Keyed as KeyedOf, Tree as TreeOf}
@@ -15,29 +15,30 @@ use Rattle.doc_values.specs.Typing.{lookup_field}
 use Rattle.value_json.specs.Numbers.{counts_of}
 use Rattle.value_json.specs.Parts.{depths_and_items}
 use Rattle.value_json.specs.DocumentJson.{member_names}
-use Rattle.value_json.proofs.Facts.{same_bytes, equal_bytes, equal, bind_some, map_some, if_some}
+use Rattle.value_json.proofs.Facts.{bind_some, map_some, if_some}
 use Rattle.value_json.proofs.WritingReadsBack.{counts_again}
 use Rattle.lens_forms.specs.Forms.{FormTree, form_id, form_bij, form_disc, form_then, form_rec, form_alt, form_each, form_keyed, form_ordered, form_part, form_inv, RowTrees, no_rows, both, only_left, only_right, ArmTrees, no_arms, more_arms, right_type, left_type}
 use Rattle.lens_forms.specs.Typing.{is_typed, are_typed_rows, are_typed_arms, left_names, right_names, left_arms, right_arms}
 use Rattle.doc_values.specs.Types.{are_distinct, are_choices}
 use Rattle.lens_core.specs.Tags.{tag_count, tag_name, tag_number}
 use Rattle.lens_core.specs.Complements.{CompTree, nil, then_comp, rec_comp, alt_comp, hold_comp, tags_comp, CompTrees, no_comps, more_comps, comp_count, IsNil, Fits, FitRows, FitsArm, AllFit}
-use Rattle.complement_file.specs.ComplementJson.{tree_of_complement, one, two, row_items, place_items, place_members, tag_items, tree_in_arm, arm_with}
+use Rattle.complement_file.specs.ComplementJson.{tree_of_complement, one, two, row_items, place_items, tag_items, tree_in_arm, arm_with}
 use Rattle.complement_file.specs.Reading.{IsComplement, ArePlaces, AreRows, AreTags, IsTag, nodes_tree, member_contents}
 use Rattle.complement_file.proofs.Arms.{found_step, arm_is_there, arm_fits, arm_tree_is}
 use Rattle.complement_file.proofs.ReadPlaces.{names_again, contents_again}
 use Rattle.complement_file.proofs.ReadTags.{is_tag, tag_found, tag_absent}
 use Rattle.complement_file.proofs.ReadForms.{pair_found, rec_found, tagged_found, list_found, keyed_found, nodes_found, tags_found}
 use Rattle.complement_file.proofs.TreesDiffer.{apart}
-use Rattle.complement_file.proofs.TagNames.{lower}
 use Rattle.stored_records.specs.StoredComplements.{nothing_of, content_under, both_items, each_complement, list_of, keyed_of, ordered_of, tag_numbers_of, held_by_keys, held_by_depths, of_both, of_tagged, complement_of, row_complements, arm_complement}
+use Rattle.std.proofs.lemmas.Bool.{eqb-true, ltb-true}
+use Rattle.texts.proofs.Tests.{bytes_eq-is}
 
 -- ---- the parts of trees
 
 under_is : (name : List ℕ) (t d : Data) → content_under name t ≡ Some d → one name d ≡ t
 under_is name (object (member k e no_members)) d h =
     let p = if_some (bytes_eq k name) e d h in
-    ap₂ one (sym (equal_bytes k name p.0)) (sym p.1)
+    ap₂ one (sym (bytes_eq-is k name p.0)) (sym p.1)
 under_is name t d h = cc
 
 array_is : (t : Data) (ds : Items) → as_array t ≡ Some ds → array ds ≡ t
@@ -65,8 +66,8 @@ nodes_are : (t : Data) (p : Items × Items) → depths_and_items t ≡ Some p
     → object (member (codes "depths") (array p.0) (member (codes "items") (array p.1) no_members)) ≡ t
 nodes_are (object (member k (array ns) (member l (array ds) no_members))) p h =
     let c = if_some (bytes_eq k (codes "depths") && bytes_eq l (codes "items")) _ p h in
-    let kn = equal_bytes k (codes "depths") (first (bytes_eq k (codes "depths")) (bytes_eq l (codes "items")) c.0) in
-    let ln = equal_bytes l (codes "items") (second (bytes_eq k (codes "depths")) (bytes_eq l (codes "items")) c.0) in
+    let kn = bytes_eq-is k (codes "depths") (first (bytes_eq k (codes "depths")) (bytes_eq l (codes "items")) c.0) in
+    let ln = bytes_eq-is l (codes "items") (second (bytes_eq k (codes "depths")) (bytes_eq l (codes "items")) c.0) in
     ap (λ (q : Items × Items). object (member (codes "depths") (array q.0) (member (codes "items") (array q.1) no_members))) (sym c.1)
     ∙ ap₂ (λ x y. object (member x (array ns) (member y (array ds) no_members))) (sym kn) (sym ln)
 nodes_are t p h = cc
@@ -125,7 +126,7 @@ ordered_sound l s t c h =
     let r = if_some (is_valid n.0 && nat_eq (length n.0) (comp_count b.0)) _ c b.2 in
     subst (IsComplement (form_ordered l) t) r.1
     (nodes_found l t o.0.0 o.0.1 n.0 n.0 b.0 (under_nodes t o.0 o.1) n.1 refl (first (is_valid n.0) (nat_eq (length n.0) (comp_count b.0)) r.0)
-    (equal (length n.0) (comp_count b.0) (second (is_valid n.0) (nat_eq (length n.0) (comp_count b.0)) r.0)) (each_sound l s o.0.1 b.0 b.1))
+    (eqb-true (length n.0) (comp_count b.0) (second (is_valid n.0) (nat_eq (length n.0) (comp_count b.0)) r.0)) (each_sound l s o.0.1 b.0 b.1))
 
 tags_sound : (fs : FieldTrees) (ds : Items) (ks : List ℕ) → tag_numbers_of fs ds ≡ Some ks → AreTags fs ds ks
 tags_sound fs no_items ks h = subst (AreTags fs no_items) (same_Some _ _ h) (refl, refl)
@@ -212,14 +213,14 @@ each_back l f (more_comps c cs) h = rw (f c h.0, each_back l f cs h.1) refl
 
 list_back : (l : FormTree) → IsReadBack l → IsReadBack (form_each l)
 list_back l f (hold_comp (ListOf s) cs) h =
-    rw (each_back l f cs h.1) (ap (λ n. Some (hold_comp (ListOf (record { count = n })) cs)) (sym (equal s.count (comp_count cs) h.0)))
+    rw (each_back l f cs h.1) (ap (λ n. Some (hold_comp (ListOf (record { count = n })) cs)) (sym (eqb-true s.count (comp_count cs) h.0)))
 list_back l f (hold_comp (KeyedOf ks) cs) h = let bad : false ≡ true = h.0 in cc
 list_back l f (hold_comp (TreeOf ks) cs) h = let bad : false ≡ true = h.0 in cc
 list_back l f c h = absurd h
 
 keyed_back : (l : FormTree) → IsReadBack l → IsReadBack (form_keyed l)
 keyed_back l f (hold_comp (KeyedOf ks) cs) h =
-    let many = equal (length ks) (comp_count cs) (second (is_rising ks) (nat_eq (length ks) (comp_count cs)) h.0) in
+    let many = eqb-true (length ks) (comp_count cs) (second (is_rising ks) (nat_eq (length ks) (comp_count cs)) h.0) in
     let rises = first (is_rising ks) (nat_eq (length ks) (comp_count cs)) h.0 in
     rw (names_again (tree_of_complement l) ks cs many, contents_again (tree_of_complement l) ks cs many, each_back l f cs h.1, rises) refl
 keyed_back l f (hold_comp (ListOf s) cs) h = let bad : false ≡ true = h.0 in cc
@@ -240,7 +241,7 @@ only_number j k e = cc
 
 number_back : (fs : FieldTrees) (k : ℕ) (o : Option (ℕ × TyTree)) → lookup_field fs (tag_name fs k) ≡ o → is_typed (form_part fs) ≡ true → nat_lt k (tag_count fs) ≡ true
     → option_map (λ (x : ℕ × TyTree). x.0) o ≡ Some k
-number_back fs k None e typed h = absurd (tag_absent fs (tag_name fs k) k e (lower k (tag_count fs) h) refl)
+number_back fs k None e typed h = absurd (tag_absent fs (tag_name fs k) k e (ltb-true k (tag_count fs) h) refl)
 number_back fs k (Some q) e typed h =
     let f = tag_found fs (tag_name fs k) q e in
     let below : nat_lt q.0 (tag_count fs) ≡ true = grind (arith, nat_tests, f.0) in

@@ -1,25 +1,24 @@
 -- The texts of payloads and their trees.
-use Rattle.std.proofs.Common.{◌≡◌, ℕ, ◌≤◌, ◌*◌, List, [], ◌∷◌, Bool, true, false, cond, Option, Some, None, Result, Ok, Err, IfOk, String, Global, refl, sym, subst, arith}
+use Rattle.std.proofs.Common.{◌≡◌, ℕ, ◌≤◌, ◌*◌, List, [], ◌∷◌, false, Some, Result, Ok, Err, IfOk, String, Global, refl, sym, subst, arith}
 use Rattle.std.specs.Prelude.{string_bytes}
-use Rattle.std.specs.Str.{IsUtf8, is_utf8}
 use Rattle.std.proofs.lemmas.Bool.{or_from}
-use Rattle.std.proofs.lemmas.Str.{is_utf8-from_IsUtf8, IsUtf8-from_is_utf8, IsUtf8-string_bytes}
-use Rattle.serde_json.specs.Data.{Data, depth, items_depth}
+use Rattle.std.proofs.lemmas.Str.{is_utf8-from_IsUtf8, IsUtf8-string_bytes}
+use Rattle.serde_json.specs.Data.{Data, depth}
 use Rattle.serde_json.specs.Read.{read, max_depth}
-use Rattle.serde_json.specs.Written.{has_float, items_have_float}
+use Rattle.serde_json.specs.Written.{has_float}
 use Rattle.doc_values.specs.Documents.{DocTree}
 use Rattle.doc_values.specs.Types.{height}
 use Rattle.value_json.proofs.TreeDepths as documents
 use Rattle.edit_module.specs.Changes.{ChangeTree, one, group}
-use Rattle.edit_module.specs.Words.{WordTree}
-use Rattle.edit_journal.specs.EntryJson.{tree_of_text, tree_of_entry}
+use Rattle.edit_journal.specs.EntryJson.{tree_of_text}
 use Rattle.edit_journal.proofs.Entries as entry
 use Rattle.edit_journal.proofs.Groups as groups
 use Rattle.lens_core.specs.Complements.{CompTree}
 use Rattle.lens_forms.specs.Forms.{FormTree, left_type, right_type}
-use Rattle.lens_forms.specs.Measures.{form_height, greatest_height}
+use Rattle.lens_forms.specs.Measures.{form_height}
+use Rattle.lens_forms.specs.declared.limits.TheConstants.{GREATEST_HEIGHT}
 use Rattle.complement_file.proofs.Floats as complements
-use Rattle.stored_records.specs.RecordJson.{tree_of_program, tree_of_version, tree_of_change_record, tree_of_triple, tree_of_snapshot}
+use Rattle.stored_records.specs.RecordJson.{tree_of_change_record, tree_of_snapshot}
 use Rattle.stored_records.proofs.ComplementDepths.{low}
 
 -- ---- reading a text
@@ -30,12 +29,6 @@ string_read s d h = rw (is_utf8-from_IsUtf8 (string_bytes s) (IsUtf8-string_byte
 
 -- ---- no float
 
-pub program_whole : (text : List ℕ) → has_float (tree_of_program text) ≡ false
-program_whole text = refl
-
-pub version_whole : has_float tree_of_version ≡ false
-version_whole = refl
-
 pub change_whole : (change : ChangeTree) → has_float (tree_of_change_record change) ≡ false
 change_whole (one e) = or_from _ _ (entry.whole e) refl
 change_whole (group es) = groups.change_whole (group es)
@@ -45,13 +38,7 @@ snapshot_whole l x c y = or_from _ _ (or_from _ _ (complements.whole l c) (or_fr
 
 -- ---- depth
 
-pub program_low : (text : List ℕ) → depth (tree_of_program text) ≤ max_depth
-program_low text = omega arith
-
-pub version_low : depth tree_of_version ≤ max_depth
-version_low = omega arith
-
-pub snapshot_low : (l : FormTree) (x : DocTree) (c : CompTree) (y : DocTree) → form_height l ≤ greatest_height → height (left_type l) ≤ greatest_height → height (right_type l) ≤ greatest_height
+pub snapshot_low : (l : FormTree) (x : DocTree) (c : CompTree) (y : DocTree) → form_height l ≤ GREATEST_HEIGHT → height (left_type l) ≤ GREATEST_HEIGHT → height (right_type l) ≤ GREATEST_HEIGHT
     → depth (tree_of_snapshot l x c y) ≤ max_depth
 snapshot_low l x c y h left right = omega (arith, low l c, documents.shallow (left_type l) x, documents.shallow (right_type l) y, h, left, right)
 

@@ -1,24 +1,26 @@
 //! The payloads that this program writes.
 
-ghost use Rattle.std.specs.Prelude.{◌≡◌, ◌≤◌, true, false, IfOk, IsTrue, Some};
+ghost use Rattle.std.specs.Prelude.{◌≡◌, ◌≤◌, true, false, IfOk, OnOk, IsTrue, Some};
 ghost use Rattle.serde_json.specs.Data.{depth};
 ghost use Rattle.serde_json.specs.Read.{max_depth};
 ghost use Rattle.serde_json.specs.View.{view};
 ghost use Rattle.serde_json.specs.Written.{has_float, compact_text};
 ghost use Rattle.doc_values.specs.Documents.{doc_tree};
+ghost use Rattle.doc_values.specs.Types.{ty_tree, is_well_formed};
 ghost use Rattle.doc_values.specs.Typing.{has};
 ghost use Rattle.edit_module.specs.Views.{change_tree};
-ghost use Rattle.edit_journal.specs.EntryJson.{change_counts_fit, tree_of_text};
+ghost use Rattle.edit_journal.specs.EntryJson.{change_counts_fit, change_numbers_fit, tree_of_text};
 ghost use Rattle.lens_core.specs.Complements.{comp_tree, Fits};
 ghost use Rattle.lens_forms.specs.Forms.{form_tree, left_type, right_type};
 ghost use Rattle.program_terms.specs.Views.{program_tree};
 ghost use Rattle.program_writing.specs.Canonical.{canonical};
+ghost use Rattle.value_json.specs.DocumentJson.{holds_i64s, tree_of_document};
 ghost use Rattle.stored_records.specs.RecordJson.{tree_of_program, tree_of_version, tree_of_change_record, tree_of_triple, tree_of_snapshot, one_member};
 
 use crate::parts::VERSION;
 use crate::text::payload_of;
 use complement_file::write_comp;
-use doc_values::Doc;
+use doc_values::{Doc, Ty};
 use edit_journal::write_change;
 use edit_module::Change;
 use lens_core::Comp;
@@ -86,6 +88,9 @@ pub fn change_payload(alloc: Global, change: &Change) -> Result<Bytes, AllocErro
     // A reader of JSON gives its tree back, unless it nests too deep for it; that of a change that applies does not (`laws`).
     ensures reads_back { IfOk result (λ bytes. depth (tree_of_change_record (change_tree change.now)) ≤ max_depth
         → tree_of_text bytes ≡ Some (tree_of_change_record (change_tree change.now))) }
+
+    // The program can hold every number in its words.
+    ensures numbers { OnOk result (change_numbers_fit (change_tree change.now) ≡ true) }
 {
     let tree = change_record(alloc, change)?;
     payload_of(alloc, &tree)
@@ -93,7 +98,8 @@ pub fn change_payload(alloc: Global, change: &Change) -> Result<Bytes, AllocErro
 
 fn change_record(alloc: Global, change: &Change) -> Result<Value, AllocError>
     requires counts_fit { change_counts_fit (change_tree change.now) ≡ true }
-    ensures { IfOk result (λ tree. view tree ≡ tree_of_change_record (change_tree change.now)) }
+    ensures tree { IfOk result (λ tree. view tree ≡ tree_of_change_record (change_tree change.now)) }
+    ensures numbers { OnOk result (change_numbers_fit (change_tree change.now) ≡ true) }
 {
     let tree = write_change(alloc, change)?;
     match change {
@@ -122,6 +128,10 @@ pub fn snapshot_payload(
     // A reader of JSON gives its tree back.
     ensures reads_back { IfOk result (λ bytes. tree_of_text bytes
         ≡ Some (tree_of_snapshot (form_tree typed.now) (doc_tree left.now) (comp_tree comp.now) (doc_tree right.now))) }
+
+    // The ints of both documents are i64.
+    ensures left_ints { OnOk result (holds_i64s (doc_tree left.now) ≡ true) }
+    ensures right_ints { OnOk result (holds_i64s (doc_tree right.now) ≡ true) }
 {
     let tree = snapshot_record(alloc, typed, left, comp, right)?;
     let payload = payload_of(alloc, &tree);
@@ -140,8 +150,10 @@ fn snapshot_record(
     requires left_has { IsTrue (has (left_type (form_tree typed.now)) (doc_tree left.now)) }
     requires comp_fits { Fits (form_tree typed.now) (comp_tree comp.now) }
     requires right_has { IsTrue (has (right_type (form_tree typed.now)) (doc_tree right.now)) }
-    ensures { IfOk result (λ tree. view tree
+    ensures tree { IfOk result (λ tree. view tree
         ≡ tree_of_snapshot (form_tree typed.now) (doc_tree left.now) (comp_tree comp.now) (doc_tree right.now)) }
+    ensures left_ints { OnOk result (holds_i64s (doc_tree left.now) ≡ true) }
+    ensures right_ints { OnOk result (holds_i64s (doc_tree right.now) ≡ true) }
 {
     let content = triple_record(alloc, typed, left, comp, right)?;
     record_named(alloc, "snapshot", content)
@@ -157,8 +169,10 @@ fn triple_record(
     requires left_has { IsTrue (has (left_type (form_tree typed.now)) (doc_tree left.now)) }
     requires comp_fits { Fits (form_tree typed.now) (comp_tree comp.now) }
     requires right_has { IsTrue (has (right_type (form_tree typed.now)) (doc_tree right.now)) }
-    ensures { IfOk result (λ tree. view tree
+    ensures tree { IfOk result (λ tree. view tree
         ≡ tree_of_triple (form_tree typed.now) (doc_tree left.now) (comp_tree comp.now) (doc_tree right.now)) }
+    ensures left_ints { OnOk result (holds_i64s (doc_tree left.now) ≡ true) }
+    ensures right_ints { OnOk result (holds_i64s (doc_tree right.now) ≡ true) }
 {
     let mut members = Map::new(alloc);
     put(
@@ -171,13 +185,23 @@ fn triple_record(
         &mut members,
         alloc,
         "left",
-        write_doc(alloc, typed.left(), left)?,
+        document_record(alloc, typed.left(), left)?,
     )?;
     put(
         &mut members,
         alloc,
         "right",
-        write_doc(alloc, typed.right(), right)?,
+        document_record(alloc, typed.right(), right)?,
     )?;
     Ok(Value::Object(members))
+}
+
+// The tree of a document. It is read back as the document, so the ints of the document are i64.
+fn document_record(alloc: Global, ty: &Ty, doc: &Doc) -> Result<Value, AllocError>
+    requires well_formed { IsTrue (is_well_formed (ty_tree ty.now)) }
+    requires typed { IsTrue (has (ty_tree ty.now) (doc_tree doc.now)) }
+    ensures tree { IfOk result (λ tree. view tree ≡ tree_of_document (ty_tree ty.now) (doc_tree doc.now)) }
+    ensures ints { OnOk result (holds_i64s (doc_tree doc.now) ≡ true) }
+{
+    write_doc(alloc, ty, doc)
 }

@@ -1,5 +1,5 @@
 -- StoredSession some lines and then others, and how that stops.
-use Rattle.std.proofs.Common.{◌≡◌, ℕ, ◌+◌, ◌≤◌, ◌^◌, List, [], ◌∷◌, ◌++◌, length, Bool, true, false, ◌||◌, not, Option, Some, Ok, Err, refl, sym, ap, ap₂, subst, ◌∙◌, append_assoc, append-nil, arith, length-append}
+use Rattle.std.proofs.Common.{◌≡◌, ℕ, ◌+◌, ◌≤◌, List, [], ◌∷◌, ◌++◌, length, Bool, true, false, ◌||◌, not, Option, Some, Ok, Err, refl, sym, ap, ap₂, subst, ◌∙◌, append_assoc, append-nil, arith, length-append}
 use Rattle.std.specs.Prelude.{option_to_list, is_some}
 use Rattle.std.specs.Io.KnownBytes.{Consumes}
 use Rattle.std.proofs.KnownBytes.{Consumes-nil, Consumes-trans}
@@ -12,6 +12,7 @@ use Rattle.edit_journal.specs.Pieces.{FedLines, nothing_fed, fed}
 use Rattle.edit_journal.specs.declared.line.Line.{Line}
 use Rattle.edit_journal.proofs.Feeding.{lines_at, joins, in_front}
 use Rattle.journal_input.specs.Taking.{TakenInput, TakesMore, TakesNone, StopsAt}
+use Rattle.journal_input.specs.declared.limits.TheConstants.{MOST_BYTES}
 use Rattle.stored_run.specs.Answered.{ended_lines, Answers, StopsAmong, AllAt, StopsPieces, EndsPieces, ComesOn}
 use Rattle.stored_run.specs.Effects.{HoldsFirst, Adds, Stops}
 use Rattle.stored_run.specs.OkLines.{IsAnswer}
@@ -22,7 +23,8 @@ use Rattle.stored_run.specs.declared.journal.Progress.{Progress}
 use Rattle.stored_run.specs.declared.stop.Stop.{Stop}
 use Rattle.stored_run.specs.declared.stop.Stop.TheVariants.{LogFull, SourceFault, SinkFault, DiskFault, TooLong, NoMemory}
 use Rattle.stored_run.proofs.Effects.{adds_none, adds_then, stops_then}
-use Rattle.stored_run.proofs.RunParts.{or_false, text_append, kept_append, refused_then, last_append, chain_append, are_append, goes_none, goes_then, goes_blank, goes_one}
+use Rattle.stored_run.proofs.RunParts.{text_append, kept_append, refused_then, last_append, chain_append, are_append, goes_none, goes_then, goes_blank, goes_one}
+use Rattle.texts.proofs.Tests.{or_false}
 
 abbrev pub progress_at : ℕ → Bool → Progress
 progress_at number refused = record { number = number; refused = refused }
@@ -258,7 +260,7 @@ module _ {K D State : Type 0} (held : K → Option (List ℕ)) (content : D → 
     }
 
     -- the answering of the lines that have ended stopped
-    pub stops_lines : (k'' : K) (d'' : D) (l'' : LogState) (stop : Stop) → input.taken ≤ 2 ^ 30 + 1 → IsOwnStop stop → StopsAmong held content images moment images_since room answer is_step k' d' l' k'' d'' l'' t' p'.number input.lines.ended stop
+    pub stops_lines : (k'' : K) (d'' : D) (l'' : LogState) (stop : Stop) → input.taken ≤ MOST_BYTES + 1 → IsOwnStop stop → StopsAmong held content images moment images_since room answer is_step k' d' l' k'' d'' l'' t' p'.number input.lines.ended stop
         → StopsPieces held content images moment images_since room answer is_step left left' k d l k'' d'' l'' t p.number stop
     stops_lines k'' d'' l'' stop few own s =
         let among = subst (λ (x : List Line). StopsAmong held content images moment images_since room answer is_step k d l k'' d'' l'' t p.number x stop) (sym c.ended)
@@ -302,7 +304,7 @@ module _ {K D State : Type 0} (held : K → Option (List ℕ)) (content : D → 
         }
 
     -- a fault at a piece
-    stops_with : (left'' : Option (List ℕ)) (bytes : List ℕ) (rest : List Line) (stop : Stop) → Consumes left left'' bytes → length bytes ≤ 2 ^ 30 + 1 → ended_lines bytes ≡ c.lines ++ rest
+    stops_with : (left'' : Option (List ℕ)) (bytes : List ℕ) (rest : List Line) (stop : Stop) → Consumes left left'' bytes → length bytes ≤ MOST_BYTES + 1 → ended_lines bytes ≡ c.lines ++ rest
         → ((text : List ℕ) (kept : List (List ℕ)) → Adds held content images moment images_since room k d l k' d' l' text kept → Stops held content images moment images_since room k d l k' d' l' stop text [] kept [])
         → AllAt held content images moment images_since room answer is_step stop (length bytes) rest → StopsPieces held content images moment images_since room answer is_step left left'' k d l k' d' l' t p.number stop
     stops_with left'' bytes rest stop consumes few e f all =
@@ -337,7 +339,7 @@ module _ {K D State : Type 0} (held : K → Option (List ℕ)) (content : D → 
       consumed : Consumes left left'' (c.bytes ++ m.bytes)
       consumed = Consumes-trans left left' left'' c.bytes m.bytes c.consumes m.consumes
 
-      few : length (c.bytes ++ m.bytes) ≤ 2 ^ 30 + 1
+      few : length (c.bytes ++ m.bytes) ≤ MOST_BYTES + 1
       few = omega (arith, taken, m.at_most)
 
       whole : m.bytes ≡ [] → ended_lines (c.bytes ++ m.bytes) ≡ c.lines ++ []

@@ -11,10 +11,7 @@ use Rattle.gate_log.specs.CallEnds.{IsAppendFault}
 use Rattle.stored_run.specs.Stopping.{stop_of_log, stop_of_input}
 use Rattle.stored_run.specs.declared.stop.Stop.{Stop}
 use Rattle.stored_run.specs.declared.stop.Stop.TheVariants.{LogFull, SourceFault, SinkFault, DiskFault, TooLong, NoMemory}
-
--- a count that has increased later has increased
-pub increased_since : (a b c : ℕ) → a ≤ b → Increased b c → Increased a c
-increased_since a b c first h = omega (arith, first, h)
+use Rattle.lens_io.proofs.Increases.{increased_since}
 
 module _ {K D : Type 0} (faults empty_takes : K → ℕ) (room : K → Option ℕ) (held : K → Option (List ℕ)) (disk_faults : D → ℕ) where
   sink_since : (k k' k'' : K) → faults k ≤ faults k' → empty_takes k ≤ empty_takes k' → SinkFailed faults empty_takes room held k' k'' → SinkFailed faults empty_takes room held k k''

@@ -5,10 +5,10 @@ use Rattle.std.specs.Fmt.{digits, digits_onto, digit_glyph}
 use Rattle.std.proofs.lemmas.Bool.{ne_eqb}
 use Rattle.edit_journal.specs.Pieces.{has_no_end}
 
-cons_plain : (x : ℕ) (xs : List ℕ) → x == 10 ≡ false → has_no_end xs ≡ true → has_no_end (x ∷ xs) ≡ true
+pub cons_plain : (x : ℕ) (xs : List ℕ) → x == 10 ≡ false → has_no_end xs ≡ true → has_no_end (x ∷ xs) ≡ true
 cons_plain x xs p q = ap₂ (λ b c. not b && c) p q
 
-no_ten : (n : ℕ) → 10 < n → n == 10 ≡ false
+pub no_ten : (n : ℕ) → 10 < n → n == 10 ≡ false
 no_ten n h = ne_eqb n 10 (λ e. omega (arith, e, h))
 
 glyph_plain : (upper : Bool) (d : ℕ) → digit_glyph upper d == 10 ≡ false

@@ -1,5 +1,5 @@
 -- How many `ok` lines the answers of a run have: as many as payloads are kept.
-use Rattle.std.proofs.Common.{◌≡◌, ℕ, suc, ◌+◌, ◌-◌, ◌<◌, ◌≤◌, List, [], ◌∷◌, ◌++◌, length, take, Bool, true, false, not, ◌&&◌, cond, Option, Some, None, refl, sym, ap, ap₂, subst, ◌∙◌, append_assoc, append-nil, arith, length-append}
+use Rattle.std.proofs.Common.{◌≡◌, ℕ, ◌+◌, ◌-◌, ◌<◌, ◌≤◌, List, [], ◌∷◌, ◌++◌, length, take, Bool, true, false, not, ◌&&◌, cond, Option, Some, None, refl, sym, ap, ap₂, subst, ◌∙◌, append_assoc, append-nil, arith, length-append}
 use Rattle.std.specs.Prelude.{◌==◌, nat_lt, filter, is_some, option_to_list, drop}
 use Rattle.std.specs.List.{onto_first, concat}
 use Rattle.std.proofs.lemmas.List.{take-append-le, take-append-drop, length-drop}
@@ -10,10 +10,8 @@ use Rattle.stored_run.specs.Effects.{IsProperFront}
 use Rattle.stored_run.specs.OkLines.{cut, begins_ok, is_ok_line, ok_lines, IsLine, IsOtherLine, AllOther}
 use Rattle.stored_run.specs.Runs.{AreAnswers, text_of, kept_of}
 use Rattle.stored_run.specs.declared.session.Answer.{Answer}
-
-and_false : (b : Bool) → (b && false) ≡ false
-and_false true = refl
-and_false false = refl
+use Rattle.texts.proofs.Tests.{and_false}
+use Rattle.std.proofs.Math.Seq.{take-append-add}
 
 -- ---- lines
 
@@ -70,14 +68,6 @@ count_plain (byte ∷ bytes) plain =
 
 -- ---- a prefix of a line
 
-head_of : ℕ → List ℕ → ℕ
-head_of none [] = none
-head_of none (byte ∷ bytes) = byte
-
-tail_of : List ℕ → List ℕ
-tail_of [] = []
-tail_of (byte ∷ bytes) = bytes
-
 front_plain : (text front rest : List ℕ) → text ++ 10 ∷ [] ≡ front ++ rest → 0 < length rest → has_no_end text ≡ true → has_no_end front ≡ true
 front_plain text [] rest e some plain = refl
 front_plain [] (byte ∷ front) rest e some plain = absurd (omega (arith, some, ap length e, length-append front rest))
@@ -129,12 +119,6 @@ module _ {State : Type 0} where
 
 -- ---- other lines
 
-take_past : (xs ys : List ℕ) (n : ℕ) → take (length xs + n) (xs ++ ys) ≡ xs ++ take n ys
-take_past [] ys n = let same : 0 + n ≡ n = omega arith in ap (λ k. take k ys) same
-take_past (x ∷ xs) ys n =
-    let same : suc (length xs) + n ≡ suc (length xs + n) = omega arith in
-    ap (λ k. take k (x ∷ xs ++ ys)) same ∙ ap (λ l. x ∷ l) (take_past xs ys n)
-
 -- a prefix of a line and of what follows it, which has no `ok` line
 other_step : (line rest : List ℕ) (n : ℕ) → IsOtherLine line → ((m : ℕ) → m < length rest → ok_lines (take m rest) ≡ 0) → n < length (line ++ rest) → ok_lines (take n (line ++ rest)) ≡ 0
 other_step line rest n other more less = by_test (nat_lt n (length line)) (λ e. ltb-true n (length line) e) (λ e. ltb-false n (length line) e) where
@@ -147,7 +131,7 @@ other_step line rest n other more less = by_test (nat_lt n (length line)) (λ e.
   behind m e =
       let less' : m < length rest = omega (arith, e, less, length-append line rest) in
       ap (λ k. ok_lines (take k (line ++ rest))) e
-      ∙ ap ok_lines (take_past line rest m)
+      ∙ ap ok_lines (take-append-add line rest m)
       ∙ count_line line (take m rest) other.is_line
       ∙ ap₂ (λ b k. bit b + k) other.other (more m less')
 

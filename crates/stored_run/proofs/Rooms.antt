@@ -74,7 +74,7 @@ full_room SinkFault room gate begun h = tt
 full_room TooLong room gate begun h = tt
 full_room NoMemory room gate begun h = tt
 
-none_some : (o : Option ℕ) (P : ℕ → Type 0) → IsNone o → IfSome o P
+pub none_some : (o : Option ℕ) (P : ℕ → Type 0) → IsNone o → IfSome o P
 none_some None P h = tt
 none_some (Some n) P h = cc
 

@@ -5,14 +5,7 @@ use Rattle.edit_journal.specs.Lines.{is_blank}
 use Rattle.edit_journal.specs.declared.line.Line.{Line}
 use Rattle.stored_run.specs.Runs.{run, GoesOver, AreSteps, AreAnswers, last, any_refused, text_of, kept_of}
 use Rattle.stored_run.specs.declared.session.Answer.{Answer}
-
-or_assoc : (a b c : Bool) → (a || (b || c)) ≡ ((a || b) || c)
-or_assoc true b c = refl
-or_assoc false b c = refl
-
-pub or_false : (a : Bool) → (a || false) ≡ a
-or_false true = refl
-or_false false = refl
+use Rattle.texts.proofs.Tests.{or_grouped}
 
 module _ {State : Type 0} where
   pub text_append : (xs ys : List (State × Answer)) → text_of (xs ++ ys) ≡ text_of xs ++ text_of ys
@@ -25,11 +18,11 @@ module _ {State : Type 0} where
 
   pub refused_append : (xs ys : List (State × Answer)) → any_refused (xs ++ ys) ≡ (any_refused xs || any_refused ys)
   refused_append [] ys = refl
-  refused_append (x ∷ xs) ys = ap (λ b. not (is_some x.1.payload) || b) (refused_append xs ys) ∙ or_assoc (not (is_some x.1.payload)) (any_refused xs) (any_refused ys)
+  refused_append (x ∷ xs) ys = ap (λ b. not (is_some x.1.payload) || b) (refused_append xs ys) ∙ or_grouped (not (is_some x.1.payload)) (any_refused xs) (any_refused ys)
 
   pub refused_then : (b : Bool) (b' : Bool) (b'' : Bool) (xs ys : List (State × Answer)) → b' ≡ (b || any_refused xs) → b'' ≡ (b' || any_refused ys) → b'' ≡ (b || any_refused (xs ++ ys))
   refused_then b b' b'' xs ys e f =
-      f ∙ ap (λ x. x || any_refused ys) e ∙ sym (or_assoc b (any_refused xs) (any_refused ys)) ∙ ap (λ x. b || x) (sym (refused_append xs ys))
+      f ∙ ap (λ x. x || any_refused ys) e ∙ sym (or_grouped b (any_refused xs) (any_refused ys)) ∙ ap (λ x. b || x) (sym (refused_append xs ys))
 
   pub are_append : (xs ys : List (State × Answer)) → AreAnswers xs → AreAnswers ys → AreAnswers (xs ++ ys)
   are_append [] ys h k = k

@@ -1,10 +1,11 @@
 -- What answering some lines of a journal comes to: for the session, the sink, the disk and the log.
 -- Read it from the end: `EndsPieces` and `StopsPieces`, then `StopsAmong` and `Answers`; `ComesOn` is for the loop.
-use Rattle.std.specs.Prelude.{◌≡◌, ℕ, ◌+◌, ◌^◌, ◌<◌, ◌≤◌, List, [], ◌++◌, length, ◌||◌, Option}
+use Rattle.std.specs.Prelude.{◌≡◌, ℕ, ◌+◌, ◌<◌, ◌≤◌, List, [], ◌++◌, length, ◌||◌, Option}
 use Rattle.std.specs.Io.KnownBytes.{Consumes, IsAtEnd}
 use Rattle.edit_journal.specs.Pieces.{nothing_fed, fed}
 use Rattle.edit_journal.specs.declared.line.Line.{Line}
 use Rattle.journal_input.specs.Taking.{TakenInput}
+use Rattle.journal_input.specs.declared.limits.TheConstants.{MOST_BYTES}
 use Rattle.stored_run.specs.Effects.{Adds, Stops}
 use Rattle.stored_run.specs.Runs.{GoesOver, AreSteps, AreAnswers, last, any_refused, text_of, kept_of}
 use Rattle.stored_run.specs.declared.session.Answer.{Answer}
@@ -51,8 +52,8 @@ module _ {K D State : Type 0} (held : K → Option (List ℕ)) (content : D → 
 
   -- after a fault of the source, and too many bytes, all lines that have ended are answered
   abbrev pub AllAt : Stop → ℕ → List Line → Type 0
-  AllAt SourceFault taken rest = (rest ≡ []) × (taken ≤ 2 ^ 30)
-  AllAt TooLong taken rest = (rest ≡ []) × (2 ^ 30 < taken)
+  AllAt SourceFault taken rest = (rest ≡ []) × (taken ≤ MOST_BYTES)
+  AllAt TooLong taken rest = (rest ≡ []) × (MOST_BYTES < taken)
   AllAt stop taken rest = Unit {0}
 
   -- The answering of a journal that comes in pieces stopped, among the lines that have ended in these bytes.
@@ -60,7 +61,7 @@ module _ {K D State : Type 0} (held : K → Option (List ℕ)) (content : D → 
       (t : State) (n : ℕ) (stop : Stop) : Type 0 where
     pub bytes : List ℕ
     pub consumes : Consumes left left' bytes
-    pub at_most : length bytes ≤ 2 ^ 30 + 1
+    pub at_most : length bytes ≤ MOST_BYTES + 1
     pub among : StopsAmong k d l k' d' l' t n (ended_lines bytes) stop
     pub all : AllAt stop (length bytes) among.rest
 
@@ -70,7 +71,7 @@ module _ {K D State : Type 0} (held : K → Option (List ℕ)) (content : D → 
     pub bytes : List ℕ
     pub consumes : Consumes left left' bytes
     pub at_end : IsAtEnd left'
-    pub within : length bytes ≤ 2 ^ 30
+    pub within : length bytes ≤ MOST_BYTES
     pub none : input.lines.ended ≡ []
     pub begun : (fed nothing_fed bytes).begun ≡ input.lines.begun
     pub answers : Answers k d l k' d' l' t p (ended_lines bytes) t' p'

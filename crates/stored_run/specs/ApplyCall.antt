@@ -1,11 +1,12 @@
 -- The whole command `apply`: what it comes to, and what a crash leaves of it.
 -- Read it from the end: `EndsCall` for each status, `IsSafeCall`, then `ContinuesCall`.
-use Rattle.std.specs.Prelude.{◌≡◌, ◌⊎◌, ℕ, ◌+◌, ◌^◌, ◌≤◌, List, [], ◌++◌, length, Option, Some, None, Result, Ok, option_to_list, IfSome}
+use Rattle.std.specs.Prelude.{◌≡◌, ◌⊎◌, ℕ, ◌+◌, ◌≤◌, List, [], ◌++◌, length, Option, Some, None, Result, Ok, option_to_list, IfSome}
 use Rattle.std.specs.Io.KnownBytes.{Appends, Consumes, IsAtEnd}
 use Rattle.lens_io.specs.Disks.{LeavesOnly}
 use Rattle.gate_log.specs.LogOnDisk.{LogState, HoldsPayloads, Stands}
 use Rattle.edit_journal.specs.Pieces.{lines_of}
 use Rattle.edit_journal.specs.declared.line.Line.{Line}
+use Rattle.journal_input.specs.declared.limits.TheConstants.{MOST_BYTES}
 use Rattle.stored_run.specs.Crash.{IsAcknowledged}
 use Rattle.stored_run.specs.Effects.{HoldsFirst}
 use Rattle.stored_run.specs.Ends.{end_of, Exits}
@@ -31,7 +32,7 @@ module _ {K D State : Type 0} (held : K → Option (List ℕ)) (content : D → 
     pub bytes : List ℕ
     pub consumes : Consumes left left' bytes
     pub at_end : IsAtEnd left'
-    pub within : length bytes ≤ 2 ^ 30
+    pub within : length bytes ≤ MOST_BYTES
     pub steps : List (State × Answer)
     pub is_run : run answer t 0 (lines_of bytes) ≡ Some steps
     pub given : Appends (held k) (held k') (text_of steps ++ state_text (last t steps))

@@ -1,11 +1,12 @@
 -- How `apply` ends over a session that was opened, and what holds then. Read it from the end: `IsSafeFrom`, `Exits`, then `Continues`.
-use Rattle.std.specs.Prelude.{◌≡◌, ◌⊎◌, ℕ, ◌^◌, ◌≤◌, List, [], ◌++◌, length, Bool, true, false, Some, Option}
+use Rattle.std.specs.Prelude.{◌≡◌, ◌⊎◌, ℕ, ◌≤◌, List, [], ◌++◌, length, Bool, true, false, Some, Option}
 use Rattle.std.specs.Io.KnownBytes.{Appends, Consumes, IsAtEnd}
 use Rattle.lens_io.specs.Content.{AppendsFront}
 use Rattle.edit_journal.specs.Pieces.{lines_of}
 use Rattle.edit_journal.specs.declared.line.Line.{Line}
 use Rattle.lens_io.specs.Disks.{LeavesOnly}
 use Rattle.gate_log.specs.LogOnDisk.{LogState, HoldsPayloads, Stands}
+use Rattle.journal_input.specs.declared.limits.TheConstants.{MOST_BYTES}
 use Rattle.stored_run.specs.Crash.{IsAcknowledged}
 use Rattle.stored_run.specs.Effects.{HoldsFirst, Adds, Stops}
 use Rattle.stored_run.specs.Journal.{EndsJournal, StopsJournal}
@@ -79,7 +80,7 @@ module _ {K D State : Type 0} (held : K → Option (List ℕ)) (content : D → 
     pub bytes : List ℕ
     pub consumes : Consumes left left' bytes
     pub at_end : IsAtEnd left'
-    pub within : length bytes ≤ 2 ^ 30
+    pub within : length bytes ≤ MOST_BYTES
     pub steps : List (State × Answer)
     pub is_run : run answer t 0 (lines_of bytes) ≡ Some steps
     pub at_last : last t steps ≡ t'

@@ -1,8 +1,9 @@
 -- How the answering of a whole journal ends: `EndsJournal` or `StopsJournal`.
-use Rattle.std.specs.Prelude.{◌⊎◌, ℕ, ◌^◌, ◌≤◌, List, length, Option}
+use Rattle.std.specs.Prelude.{◌⊎◌, ℕ, ◌≤◌, List, length, Option}
 use Rattle.std.specs.Io.KnownBytes.{Consumes, IsAtEnd}
 use Rattle.edit_journal.specs.Pieces.{lines_of}
 use Rattle.edit_journal.specs.declared.line.Line.{Line}
+use Rattle.journal_input.specs.declared.limits.TheConstants.{MOST_BYTES}
 use Rattle.stored_run.specs.Answered.{Answers, StopsAmong, StopsPieces}
 use Rattle.stored_run.specs.Stopping.{IsOwnStop}
 use Rattle.stored_run.specs.declared.session.Answer.{Answer}
@@ -18,7 +19,7 @@ module _ {K D State : Type 0} (held : K → Option (List ℕ)) (content : D → 
     pub bytes : List ℕ
     pub consumes : Consumes left left' bytes
     pub at_end : IsAtEnd left'
-    pub within : length bytes ≤ 2 ^ 30
+    pub within : length bytes ≤ MOST_BYTES
     pub answers : Answers held content images moment images_since room answer is_step k d l k' d' l' t p (lines_of bytes) t' p'
 
   -- The source was read to its end, and the answering stopped at the last line, which no LF ends.
@@ -27,7 +28,7 @@ module _ {K D State : Type 0} (held : K → Option (List ℕ)) (content : D → 
     pub bytes : List ℕ
     pub consumes : Consumes left left' bytes
     pub at_end : IsAtEnd left'
-    pub within : length bytes ≤ 2 ^ 30
+    pub within : length bytes ≤ MOST_BYTES
     pub own : IsOwnStop stop
     pub among : StopsAmong held content images moment images_since room answer is_step k d l k' d' l' t n (lines_of bytes) stop
 

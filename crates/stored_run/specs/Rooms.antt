@@ -5,6 +5,7 @@ use Rattle.std.specs.Io.KnownBytes.{Consumes}
 use Rattle.edit_journal.specs.Pieces.{lines_of}
 use Rattle.edit_journal.specs.declared.line.Line.{Line}
 use Rattle.gate_log.specs.LogBytes.{closed_gate}
+use Rattle.journal_input.specs.declared.limits.TheConstants.{MOST_BYTES}
 use Rattle.stored_run.specs.Runs.{run, kept_of}
 use Rattle.stored_run.specs.declared.session.Answer.{Answer}
 use Rattle.stored_run.specs.declared.status.Status.{Status}
@@ -27,13 +28,13 @@ pub record HasNoRoom (most : ℕ) (before kept : List (List ℕ)) : Type 0 where
 pub record TakesWithin (left left' : Option (List ℕ)) : Type 0 where
   pub bytes : List ℕ
   pub consumes : Consumes left left' bytes
-  pub within : length bytes ≤ 2 ^ 30
+  pub within : length bytes ≤ MOST_BYTES
 
 -- one byte more than the limit was taken from the source
 pub record TakesTooMany (left left' : Option (List ℕ)) : Type 0 where
   pub bytes : List ℕ
   pub consumes : Consumes left left' bytes
-  pub over : length bytes ≡ 2 ^ 30 + 1
+  pub over : length bytes ≡ MOST_BYTES + 1
 
 module _ {State : Type 0} (answer : State → ℕ → Line → Option (State × Answer)) where
   -- In the run over the first of the lines taken there is a payload, the version record or that of a change, for which a disk of so many

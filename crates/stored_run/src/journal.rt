@@ -4,6 +4,7 @@ ghost use Rattle.lens_io.specs.Causes.{Increased};
 ghost use Rattle.gate_log.specs.LogOnDisk.{Stands};
 ghost use Rattle.edit_journal.specs.Lines.{is_blank};
 ghost use Rattle.edit_journal.specs.Pieces.{nothing_fed};
+ghost use Rattle.journal_input.specs.declared.limits.TheConstants.{MOST_BYTES};
 ghost use Rattle.stored_run.specs.Answered.{Answers, StopsAmong, StopsPieces, EndsPieces};
 ghost use Rattle.stored_run.specs.Causes.{Counted, stop_in};
 ghost use Rattle.stored_run.specs.Effects.{Adds, Stops};
@@ -251,7 +252,7 @@ pub fn answer_pieces<S: Source, A: StoredSession, K: Sink, D: Disk>(
         (StopsPieces K.held D.content D.images D.moment D.images_since D.room A.answer A.is_step
         (S.left source.old) (S.left source.new)
         sink.old disk.old log.old sink.new disk.new log.new (A.state session.old) 0) }
-    ensures number { IfOk result (λ p. p.number ≤ 2 ^ 30 + 1) }
+    ensures number { IfOk result (λ p. p.number ≤ MOST_BYTES + 1) }
     ensures counted { Counted K.faults K.empty_takes K.room K.held D.faults
         sink.old disk.old sink.new disk.new (stop_in result) }
     ensures source_later { S.faults source.old ≤ S.faults source.new }

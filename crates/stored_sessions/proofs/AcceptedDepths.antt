@@ -15,7 +15,7 @@ use Rattle.edit_module.specs.Words.{WordTree}
 use Rattle.edit_journal.proofs.Entries.{shallow}
 use Rattle.edit_journal.proofs.Groups.{change_shallow}
 use Rattle.lens_forms.specs.Forms.{FormTree, left_type, right_type}
-use Rattle.lens_forms.specs.Measures.{greatest_height}
+use Rattle.lens_forms.specs.declared.limits.TheConstants.{GREATEST_HEIGHT}
 use Rattle.lens_core.specs.Complements.{CompTree}
 use Rattle.lens_core.specs.Sides.{near}
 use Rattle.lens_core.specs.Translation.{Translated, translate}
@@ -24,8 +24,8 @@ use Rattle.stored_records.specs.RecordJson.{tree_of_change_record}
 use Rattle.stored_records.proofs.AppliedWords.{word_low}
 use Rattle.stored_sessions.specs.Stands.{step_of}
 
-module _ (left right : TyTree) (carried : Side → CompTree → WordTree → Option Translated) (low_left : height left ≤ greatest_height) (low_right : height right ≤ greatest_height) where
-  side_low : (side : Side) → height (near side left right) ≤ greatest_height
+module _ (left right : TyTree) (carried : Side → CompTree → WordTree → Option Translated) (low_left : height left ≤ GREATEST_HEIGHT) (low_right : height right ≤ GREATEST_HEIGHT) where
+  side_low : (side : Side) → height (near side left right) ≤ GREATEST_HEIGHT
   side_low Left = low_left
   side_low Right = low_right
 
@@ -35,7 +35,7 @@ module _ (left right : TyTree) (carried : Side → CompTree → WordTree → Opt
   acted t side w (Ok x) s h = (x, refl)
   acted t side w (Err why) s h = cc
 
-  entry_low : (t : TripleTree) (e : Side × WordTree) (s : TripleTree × WordTree) → step left right carried t e ≡ Some (Ok s) → word_depth e.1 ≤ greatest_height
+  entry_low : (t : TripleTree) (e : Side × WordTree) (s : TripleTree × WordTree) → step left right carried t e ≡ Some (Ok s) → word_depth e.1 ≤ GREATEST_HEIGHT
   entry_low t e s h =
       let a = acted t e.0 e.1 (act (near e.0 left right) e.1 (document_on e.0 t)) s h in
       omega (arith, word_low e.1 (near e.0 left right) (document_on e.0 t) a.0 a.1, side_low e.0)
@@ -58,17 +58,17 @@ module _ (left right : TyTree) (carried : Side → CompTree → WordTree → Opt
   first_made others None m h = cc
 
   entries_low : (t : TripleTree) (es : List (Side × WordTree)) (m : TripleTree × List WordTree) → step_each left right carried t es ≡ Some (Ok m)
-      → AllByRecursion (λ (e : Side × WordTree). word_depth e.1 ≤ greatest_height) es
+      → AllByRecursion (λ (e : Side × WordTree). word_depth e.1 ≤ GREATEST_HEIGHT) es
   entries_low t [] m h = tt
   entries_low t (e ∷ es) m h =
       let f = first_made (λ next. step_each left right carried next es) (step left right carried t e) m h in
       (entry_low t e f.0 f.1, entries_low f.0.0 es f.2 f.3)
 
-pub accepted_low : (l : FormTree) (t after : TripleTree) (change : ChangeTree) (words : List WordTree) → height (left_type l) ≤ greatest_height → height (right_type l) ≤ greatest_height
+pub accepted_low : (l : FormTree) (t after : TripleTree) (change : ChangeTree) (words : List WordTree) → height (left_type l) ≤ GREATEST_HEIGHT → height (right_type l) ≤ GREATEST_HEIGHT
     → step_of l t change ≡ Some (Ok (after, words)) → depth (tree_of_change_record change) ≤ max_depth
 accepted_low l t after (one e) words low_left low_right h =
     let s = alone_made (left_type l) (right_type l) (translate l) low_left low_right (step (left_type l) (right_type l) (translate l) t e) (after, words) h in
     omega (arith, shallow e, entry_low (left_type l) (right_type l) (translate l) low_left low_right t e s.0 s.1)
 accepted_low l t after (group es) words low_left low_right h =
     let all = entries_low (left_type l) (right_type l) (translate l) low_left low_right t es (after, words) h in
-    omega (arith, change_shallow (group es) greatest_height (All-from_recursion (λ (e : Side × WordTree). word_depth e.1 ≤ greatest_height) es all))
+    omega (arith, change_shallow (group es) GREATEST_HEIGHT (All-from_recursion (λ (e : Side × WordTree). word_depth e.1 ≤ GREATEST_HEIGHT) es all))

@@ -1,11 +1,9 @@
 -- What this program writes stands.
-use Rattle.std.proofs.Common.{◌≡◌, ℕ, ◌+◌, Bool, true, false, cond, not, List, [], ◌∷◌, ◌++◌, length, map, Option, Some, None, option_map, option_and_then, Result, Ok, Err, refl, sym, ap, subst, ◌∙◌, arith}
-use Rattle.std.specs.Prelude.{nat_eq, IsTrue}
+use Rattle.std.proofs.Common.{◌≡◌, ℕ, ◌+◌, Bool, true, false, cond, not, List, [], ◌∷◌, ◌++◌, length, map, Option, Some, option_map, option_and_then, Ok, Err, refl, sym, ap, subst, ◌∙◌}
+use Rattle.std.specs.Prelude.{nat_eq}
 use Rattle.std.proofs.lemmas.List.{append-nil, append_assoc}
-use Rattle.serde_json.specs.Data.{Data}
-use Rattle.value_json.specs.DocumentJson.{document_of, tree_of_document, holds_i64s}
+use Rattle.value_json.specs.DocumentJson.{tree_of_document, holds_i64s}
 use Rattle.value_json.proofs.WritingReadsBack.{again}
-use Rattle.value_json.proofs.Facts.{equal_tests}
 use Rattle.edit_module.specs.Changes.{ChangeTree, one, group}
 use Rattle.edit_module.specs.Words.{WordTree}
 use Rattle.edit_journal.specs.EntryJson.{tree_of_text}
@@ -20,10 +18,8 @@ use Rattle.lens_syntax.specs.Programs.{unbounded}
 use Rattle.lens_syntax.proofs.GrammarAnswers.{read_again}
 use Rattle.accepted_programs.specs.Program.{form_of_program}
 use Rattle.edit_session.specs.Step.{TripleTree, AllStepped}
-use Rattle.stored_records.specs.RecordJson.{RecordTree, version_record, change_record, snapshot_record, tree_of_program, tree_of_change_record, opening_of, record_of, record_in}
+use Rattle.stored_records.specs.RecordJson.{version_record, change_record, snapshot_record, tree_of_program, tree_of_change_record, opening_of, record_of}
 use Rattle.stored_records.specs.StoredLens.{accepted, form_of_text, with_form, opening_of_payload, lens_and_version}
-use Rattle.stored_records.specs.StoredComplements.{complement_of}
-use Rattle.stored_records.specs.declared.fault.ReopenFault.{ReopenFault}
 use Rattle.stored_records.specs.declared.fault.ReopenFault.TheVariants.{BadRecord, NotConsistent}
 use Rattle.stored_records.proofs.ComplementsAreRead.{read_back}
 use Rattle.stored_records.proofs.RecordsAreRead.{program_read, version_read, change_read, snapshot_read}
@@ -32,6 +28,7 @@ use Rattle.stored_sessions.specs.Stands.{Standing, step_of, is_too_new, after_st
 use Rattle.stored_sessions.specs.Written.{WrittenRecord, the_version, the_change, the_snapshot, tree_of_written, HasRecord, StandsAfter, ReadsAs, AreWritten}
 use Rattle.stored_sessions.proofs.ConsistencyDecided.{consistent_then}
 use Rattle.stored_sessions.proofs.Appending.{stands_append}
+use Rattle.std.proofs.lemmas.Bool.{eq-eqb}
 
 -- a change that has a record is read from its tree
 change_is_read : (version : ℕ) (change : ChangeTree) → HasRecord version change → record_of (tree_of_change_record change) ≡ Some (change_record change)
@@ -49,11 +46,11 @@ if_false false x y h = refl
 -- ---- one record
 
 version_stands : (n : ℕ) (s : Standing) → s.version ≡ 1 → after_record n s (Some version_record) ≡ Ok (record s { version = 2 })
-version_stands n s h = if_true (nat_eq s.version 1) (Ok (record s { version = 2 })) (Err (BadRecord n)) (equal_tests s.version 1 h)
+version_stands n s h = if_true (nat_eq s.version 1) (Ok (record s { version = 2 })) (Err (BadRecord n)) (eq-eqb s.version 1 h)
 
 not_new : (change : ChangeTree) (version : ℕ) → HasRecord version change → is_too_new change version ≡ false
 not_new (one e) version h = refl
-not_new (group es) version h = ap not (equal_tests version 2 h.2)
+not_new (group es) version h = ap not (eq-eqb version 2 h.2)
 
 step_stands : (n : ℕ) (s : Standing) (o : Option AllStepped) (t : TripleTree) (words : List WordTree) → o ≡ Some (Ok (t, words))
     → after_step n s o ≡ Ok (record s { triple = t; count = s.count + 1 })

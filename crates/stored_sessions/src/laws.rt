@@ -11,8 +11,8 @@ ghost use Rattle.edit_module.specs.Words.{WordTree};
 ghost use Rattle.edit_journal.specs.EntryJson.{tree_of_text};
 ghost use Rattle.edit_session.specs.Step.{TripleTree};
 ghost use Rattle.lens_forms.specs.Forms.{FormTree, left_type, right_type};
-ghost use Rattle.lens_forms.specs.Measures.{greatest_height};
 ghost use Rattle.lens_forms.specs.Typing.{is_typed};
+ghost use Rattle.lens_forms.specs.declared.limits.TheConstants.{GREATEST_HEIGHT};
 ghost use Rattle.lens_core.specs.Consistency.{IsConsistent};
 ghost use Rattle.doc_values.specs.Documents.{DocTree};
 ghost use Rattle.lens_core.specs.Complements.{CompTree};
@@ -62,7 +62,7 @@ pub fn written_records_stand()
 /// The tree of a change that is accepted does not nest too deep for the reader of JSON, so its payload is read back.
 pub fn accepted_changes_are_shallow()
     ensures { (form : FormTree) (triple after : TripleTree) (change : ChangeTree) (words : List WordTree)
-        → height (left_type form) ≤ greatest_height → height (right_type form) ≤ greatest_height
+        → height (left_type form) ≤ GREATEST_HEIGHT → height (right_type form) ≤ GREATEST_HEIGHT
         → step_of form triple change ≡ Some (Ok (after, words))
         → depth (tree_of_change_record change) ≤ max_depth }
 {}

@@ -1,6 +1,6 @@
 //! Reads changes and cases from the standard input, one a line, and compares what a list of tags returns with what is
 //! wanted there. It prints the number of cases and how many differ, and for each of these the line, what was wanted and
-//! what came. bench/tag_cases.py writes the lines, and says what they mean.
+//! what came. reference/CASES.md says what the lines mean.
 #![tactic(auto)]
 
 mod cases;

@@ -7,10 +7,6 @@ use Rattle.std.specs.Prelude.{nat_eq, nat_lt}
 use Rattle.tag_seq.specs.Numbers.{number, merged, IsMap, AreAbove, reduced, with_pair, pairs_before}
 use Rattle.tag_seq.specs.MergeLaws.{merged-nothing, merged-less, merged-more, merged-same}
 
-pub number-append : (t : ℕ) (a b : List (ℕ × ℕ)) → number t (a ++ b) ≡ number t a + number t b
-number-append t [] b = omega arith
-number-append t (p ∷ a) b = omega (arith, number-append t a b)
-
 -- what `rest` adds, added behind a pair
 number-merged_behind : (t : ℕ) (p : ℕ × ℕ) (ps : List (ℕ × ℕ)) → ((b : List (ℕ × ℕ)) → number t (merged ps b) ≡ number t ps + number t b) → (b : List (ℕ × ℕ)) → number t (merged (p ∷ ps) b) ≡ number t (p ∷ ps) + number t b
 number-merged_behind t p ps ih [] = omega (arith, ih [])

@@ -15,7 +15,8 @@ use Rattle.edit_session.specs.Step.{TripleTree, first, document_on, triple_from,
 use Rattle.edit_session.specs.Run.{AnswerTree, last, take_item, run}
 use Rattle.turn_link.specs.Turns.{BatchTree, is_turn, last_made}
 use Rattle.turn_link.specs.Links.{single, triple_at, batch_word, batch_at, last_batch}
-use Rattle.turn_link.proofs.Numbers.{length-snoc, slice_get-front, positive, last_made-le, last_made-taken}
+use Rattle.turn_link.proofs.Numbers.{length-snoc, positive, last_made-le, last_made-taken}
+use Rattle.hold_shapes.proofs.RunOrigins.{slice_get-front}
 
 -- the triple after a list of items begins at the triple after the first
 last-cons : (t : TripleTree) (s : TripleTree × AnswerTree ⊥) (o : Option (List (TripleTree × AnswerTree ⊥)))

@@ -8,6 +8,7 @@ use Rattle.doc_values.specs.Types.{TyTree}
 use Rattle.edit_module.specs.Words.{WordTree}
 use Rattle.edit_module.specs.Action.{act, Why}
 use Rattle.lens_core.specs.Complements.{CompTree}
+use Rattle.lens_core.specs.declared.lens.EditLens as OfLens
 use Rattle.lens_core.specs.Translation.{Translated}
 use Rattle.lens_core.specs.Laws.{WordsCarry, StartTogether}
 use Rattle.turn_link.specs.declared.fault.Received.{Received}
@@ -20,12 +21,10 @@ use Rattle.turn_link.specs.Turns.{BatchTree, is_turn, Refusal, not_turn, unfit, 
 use Rattle.turn_link.specs.Sites.{LeftTree, RightTree, drafted, joining, edited, left_drafted, right_drafted, left_start, right_start, left_edit, right_edit, left_seal, right_seal, left_receive, right_receive, left_restart, right_restart}
 use Rattle.turn_link.specs.Links.{EventTree, edit, seal, send, deliver, restart, LinkTree, ToldTree, told_draft, sealed, packet, taken, stale, restarted, PacketTree, last_batch, left_of, right_of, happens}
 use Rattle.turn_link.specs.Laws.{AreSites}
-use Rattle.turn_link.specs.LinkViews.{link_of, IsLink, IsLinkRefusal}
+use Rattle.turn_link.specs.LinkViews.{link_of, IsLink, IsLinkOf, IsLinkRefusal}
 use Rattle.turn_link.proofs.LinkSites.{edits_left, edits_right, refuses_edit_left, refuses_edit_right, restarts_left, restarts_right, sends, no_sending, seals_left_site, seals_right_site, refuses_seal_left, refuses_seal_right, receives_left, receives_right, never_refused_left, never_refused_right}
 use Rattle.turn_link.proofs.LinkRuns.{start_sites, no_unfit}
-
-same_some : {A : Type 0} {o : Option A} {x y : A} → o ≡ Some x → o ≡ Some y → x ≡ y
-same_some p q = cc
+use Rattle.texts.proofs.Tests.{same_value}
 
 module _ (holds : DocTree → CompTree → DocTree → Type 0) (left : TyTree) (right : TyTree) (start : CompTree) (carried : Side → CompTree → WordTree → Option Translated) where
   abbrev pub Entries : Type 0
@@ -35,21 +34,21 @@ module _ (holds : DocTree → CompTree → DocTree → Type 0) (left : TyTree) (
   link_is : (s : LinkTree) (l : LeftTree) (r : RightTree) → AreSites holds left right start carried s l r → s ≡ link_of s.made l r s.packets
   link_is s l r a =
       let k = a.linked in
-      let of_left : left_of left right start carried s k.left_draft.triple ≡ l = same_some (ap (option_map (left_of left right start carried s)) k.left_draft.at_number) a.left_is in
-      let of_right : right_of left right start carried s k.right_draft.triple ≡ r = same_some (ap (option_map (right_of left right start carried s)) k.right_draft.at_number) a.right_is in
+      let of_left : left_of left right start carried s k.left_draft.triple ≡ l = same_value (ap (option_map (left_of left right start carried s)) k.left_draft.at_number) a.left_is in
+      let of_right : right_of left right start carried s k.right_draft.triple ≡ r = same_value (ap (option_map (right_of left right start carried s)) k.right_draft.at_number) a.right_is in
       ap (λ l. link_of s.made l (right_of left right start carried s k.right_draft.triple) s.packets) of_left ∙ ap (λ r. link_of s.made l r s.packets) of_right
 
   -- the last batches of the sites
   last_left : (s : LinkTree) (l : LeftTree) (r : RightTree) → AreSites holds left right start carried s l r → last_batch left right start carried Left s.made s.left_number ≡ l.last
   last_left s l r a =
       let k = a.linked in
-      let of_left : left_of left right start carried s k.left_draft.triple ≡ l = same_some (ap (option_map (left_of left right start carried s)) k.left_draft.at_number) a.left_is in
+      let of_left : left_of left right start carried s k.left_draft.triple ≡ l = same_value (ap (option_map (left_of left right start carried s)) k.left_draft.at_number) a.left_is in
       ap (λ (l : LeftTree). l.last) of_left
 
   last_right : (s : LinkTree) (l : LeftTree) (r : RightTree) → AreSites holds left right start carried s l r → last_batch left right start carried Right s.made s.right_number ≡ r.last
   last_right s l r a =
       let k = a.linked in
-      let of_right : right_of left right start carried s k.right_draft.triple ≡ r = same_some (ap (option_map (right_of left right start carried s)) k.right_draft.at_number) a.right_is in
+      let of_right : right_of left right start carried s k.right_draft.triple ≡ r = same_value (ap (option_map (right_of left right start carried s)) k.right_draft.at_number) a.right_is in
       ap (λ (r : RightTree). r.last) of_right
 
   -- an event happened: the link after it, and what is told
@@ -165,10 +164,9 @@ module _ (holds : DocTree → CompTree → DocTree → Type 0) (left : TyTree) (
       (record { sites = start_sites holds left right start carried together; typed = typed }))
 
 -- the same for an equal lens, and for an equal type
-pub at-lens : {L : Type 0} (holds : L → DocTree → CompTree → DocTree → Type 0) (left : L → TyTree) (right : L → TyTree) (start : L → CompTree)
-    (carried : L → Side → CompTree → WordTree → Option Translated) (new old : L) → new ≡ old → {ty : TyTree} {s : LinkTree} {l : LeftTree} {r : RightTree}
-    → IsLink (holds old) (left old) (right old) (start old) (carried old) ty s l r → IsLink (holds new) (left new) (right new) (start new) (carried new) ty s l r
-at-lens holds left right start carried new old same {ty} {s} {l} {r} k = subst (λ lens. IsLink (holds lens) (left lens) (right lens) (start lens) (carried lens) ty s l r) (sym same) k
+pub at-lens : {L : Type 0} (lens : OfLens.Ghosts L) (new old : L) → new ≡ old → {ty : TyTree} {s : LinkTree} {l : LeftTree} {r : RightTree}
+    → IsLinkOf lens old ty s l r → IsLinkOf lens new ty s l r
+at-lens lens new old same {ty} {s} {l} {r} k = subst (λ m. IsLinkOf lens m ty s l r) (sym same) k
 
 pub at-type : (holds : DocTree → CompTree → DocTree → Type 0) (left : TyTree) (right : TyTree) (start : CompTree) (carried : Side → CompTree → WordTree → Option Translated)
     (new old : TyTree) → new ≡ old → {s : LinkTree} {l : LeftTree} {r : RightTree} → IsLink holds left right start carried old s l r → IsLink holds left right start carried new s l r
@@ -197,7 +195,7 @@ entries-snoc xs ys e w is word =
 pub addressed : (ps : List PacketTree) (p : ℕ) (to : Side) (q : PacketTree) → option_map (λ (q : PacketTree). q.to) (slice_get ps p) ≡ Some to → slice_get ps p ≡ Some q
     → slice_get ps p ≡ Some (record { to = to; batch = q.batch })
 addressed ps p to q address is =
-    let same : q.to ≡ to = same_some (ap (option_map (λ (q : PacketTree). q.to)) is) address in
+    let same : q.to ≡ to = same_value (ap (option_map (λ (q : PacketTree). q.to)) is) address in
     subst (λ side. slice_get ps p ≡ Some (record { to = side; batch = q.batch })) same is
 
 -- a call that is refused for no reason has run out of memory

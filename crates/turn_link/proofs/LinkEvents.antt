@@ -1,39 +1,27 @@
 -- Each event keeps a link in turns.
-use Rattle.std.proofs.Common.{◌≡◌, ℕ, ◌+◌, ◌-◌, ◌<◌, ◌≤◌, List, [], ◌∷◌, ◌++◌, inl, inr, length, Option, Some, Ok, Bool, true, false, not, if◌then◌else◌, refl, sym, ap, ◌∙◌, subst, arith}
+use Rattle.std.proofs.Common.{◌≡◌, ℕ, ◌+◌, ◌-◌, ◌<◌, ◌≤◌, List, [], ◌∷◌, ◌++◌, inl, inr, length, Option, Some, Ok, true, false, not, if◌then◌else◌, refl, sym, ap, ◌∙◌, subst, arith}
 use borrow.Author.Count.{below_more}
 use Rattle.texts.specs.declared.side.Side.{Side}
 use Rattle.texts.specs.declared.side.Side.TheVariants.{Left, Right}
 use Rattle.texts.specs.Sides.{other}
 use Rattle.doc_values.specs.Documents.{DocTree}
 use Rattle.doc_values.specs.Types.{TyTree}
-use Rattle.edit_module.specs.Words.{WordTree, no_primitives, joined, word_length}
-use Rattle.edit_module.specs.Action.{act, later}
-use Rattle.edit_module.specs.Laws.{in_turn}
-use Rattle.edit_module.proofs.WordSteps.{act-joined}
+use Rattle.edit_module.specs.Words.{WordTree, no_primitives, joined}
+use Rattle.edit_module.specs.Action.{act}
 use Rattle.lens_core.specs.Complements.{CompTree}
 use Rattle.lens_core.specs.Sides.{near}
 use Rattle.lens_core.specs.Translation.{Translated}
 use Rattle.lens_core.specs.Laws.{WordsCarry}
-use Rattle.edit_session.specs.Step.{TripleTree, IsInStep, first, document_on, triple_from}
+use Rattle.edit_session.specs.Step.{TripleTree, IsInStep, document_on, triple_from}
 use Rattle.edit_session.proofs.StepsCarry.{carries, from_seen}
 use Rattle.turn_link.specs.Turns.{BatchTree, is_even, is_turn, last_made}
 use Rattle.turn_link.specs.Links.{LinkTree, PacketTree, number_on, with_entry, with_number, with_draft, with_packet, triple_at, batch_word, batch_at}
 use Rattle.turn_link.specs.Laws.{IsOfBatch, InTurns, Moment, Present, IsDraft, IsLinked}
-use Rattle.turn_link.proofs.Numbers.{length-snoc, slice_get-front, slice_get-end, slice_get-snoc, turn-next, turn-other, both_odd, even-next, last_made-le}
+use Rattle.turn_link.proofs.Numbers.{length-snoc, slice_get-end, slice_get-snoc, turn-next, turn-other, both_odd, even-next, last_made-le}
 use Rattle.turn_link.proofs.Histories.{triple_at-front, triple_at-end, batch_word-front, named_batch, steps, entered}
-
-not_true : (b : Bool) → not b ≡ true → b ≡ false
-not_true true e = cc
-not_true false e = refl
-
-not_false : (b : Bool) → not b ≡ false → b ≡ true
-not_false true e = refl
-not_false false e = cc
-
--- two words that act one after another act when joined
-pub both_act : (t : TyTree) (u w : WordTree) (v x y : DocTree) → act t u v ≡ Ok x → act t w x ≡ Ok y → act t (joined u w) v ≡ Ok y
-both_act t u w v x y first second =
-    act-joined t u w v ∙ ap (λ r. in_turn (word_length u) r (λ x. act t w x)) first ∙ ap (later (word_length u)) second
+use Rattle.std.proofs.lemmas.Bool.{not-true}
+use Rattle.edit_module.proofs.JoinedWords.{acts_joined}
+use Rattle.hold_shapes.proofs.RunOrigins.{slice_get-front}
 
 module _ (holds : DocTree → CompTree → DocTree → Type 0) (left : TyTree) (right : TyTree) (start : CompTree) (carried : Side → CompTree → WordTree → Option Translated) where
   abbrev Linked : LinkTree → Type 0
@@ -51,7 +39,7 @@ module _ (holds : DocTree → CompTree → DocTree → Type 0) (left : TyTree) (
       let same : s.right_number ≡ s.left_number = t.even on in
       (same, omega (arith, t.all_made, same))
   on_turn s t Right on =
-      let odd : is_even s.right_number ≡ false = not_true (is_even s.right_number) on in
+      let odd : is_even s.right_number ≡ false = not-true (is_even s.right_number) on in
       let same : s.left_number ≡ s.right_number = elim (is_even s.left_number) as (λ b. is_even s.left_number ≡ b → s.left_number ≡ s.right_number) [
         | true ↦ λ even. sym (t.even even)
         | false ↦ λ odd'. both_odd s.left_number s.right_number t.left_near t.right_near odd' odd
@@ -144,7 +132,7 @@ module _ (holds : DocTree → CompTree → DocTree → Type 0) (left : TyTree) (
       let stepped = steps left right start carried m.before m.entry m.own m.carried_to m.far m.acts m.carries m.far_acts in
       rw (odd, place, m.at_before, m.entry_is, stepped) refl
   sent_word made k Right m is =
-      let odd : is_even k ≡ false = not_true (is_even k) (subst (λ side. is_turn side k ≡ true) is m.turn) in
+      let odd : is_even k ≡ false = not-true (is_even k) (subst (λ side. is_turn side k ≡ true) is m.turn) in
       let even : is_even (k + 1) ≡ true = even-next k ∙ ap not odd in
       let place : k + 1 - 1 ≡ k = omega arith in
       rw (even, place, m.entry_is) refl
@@ -167,8 +155,8 @@ module _ (holds : DocTree → CompTree → DocTree → Type 0) (left : TyTree) (
   -- the entry of a side's turn is that side's
   turn_side : (n : ℕ) (a b : Side) → is_turn a n ≡ true → is_turn b n ≡ true → a ≡ b
   turn_side n Left Left p q = refl
-  turn_side n Left Right p q = absurd (let odd = not_true (is_even n) q in cc)
-  turn_side n Right Left p q = absurd (let odd = not_true (is_even n) p in cc)
+  turn_side n Left Right p q = absurd (let odd = not-true (is_even n) q in cc)
+  turn_side n Right Left p q = absurd (let odd = not-true (is_even n) p in cc)
   turn_side n Right Right p q = refl
 
   moment_of : (made : List (Side × WordTree)) (k : ℕ) (side : Side) → is_turn side k ≡ true → Moment holds left right start carried made k → MomentOf made k side
@@ -314,7 +302,7 @@ module _ (holds : DocTree → CompTree → DocTree → Type 0) (left : TyTree) (
           at_after = at_after;
           sent = ap (batch_word left right start carried (s.made ++ e ∷ [])) (sym next) ∙ sent_word (s.made ++ e ∷ []) (length s.made) Right m refl;
           linked = record {
-            turns = in_turns-right s l same all (not_true (is_even s.right_number) on);
+            turns = in_turns-right s l same all (not-true (is_even s.right_number) on);
             moments = longer_moments from_left from_right s.made e l.moments m;
             present = new_present from_left from_right s.made e m;
             left_draft = draft-front s.made e Left s.left_number s.left_draft (omega (arith, same, all)) l.left_draft;
@@ -460,7 +448,7 @@ module _ (holds : DocTree → CompTree → DocTree → Type 0) (left : TyTree) (
     triple = d.triple;
     document = y;
     at_number = d.at_number;
-    acts = both_act (near side left right) draft w (document_on side d.triple) d.document y d.acts acts;
+    acts = acts_joined (near side left right) draft w (document_on side d.triple) d.document y d.acts acts;
     idle = λ off. absurd (let on' : is_turn side n ≡ true = on in cc);
   }
 

@@ -16,9 +16,10 @@ use Rattle.turn_link.specs.Sites.{LeftTree, RightTree, left_start, right_start, 
 use Rattle.turn_link.specs.Links.{EventTree, edit, seal, send, deliver, restart, LinkTree, ToldTree, sealed, PacketTree, link_start, number_on, with_entry, batch_at, last_batch, left_of, right_of, naming, happens, link_after, after_events}
 use Rattle.turn_link.specs.Laws.{IsLinked, AreSites}
 use Rattle.turn_link.specs.Runs.{Answers, Fits, LinksStayInTurns}
-use Rattle.turn_link.proofs.Numbers.{at_most, within_number}
+use Rattle.turn_link.proofs.Numbers.{at_most}
 use Rattle.turn_link.proofs.LinkEvents.{empty_draft, fresh_left, fresh_right}
 use Rattle.turn_link.proofs.LinkSites.{edits_left, edits_right, refuses_edit_left, refuses_edit_right, restarts_left, restarts_right, sends, no_sending, seals_left_site, seals_right_site, refuses_seal_left, refuses_seal_right, receives_left-of, receives_right-of, taken_left, taken_right, received}
+use Rattle.std.proofs.lemmas.Bool.{leb-true}
 
 -- a named batch is no refusal
 not_named : (o : Option BatchTree) (f : BatchTree → LinkTree × ToldTree) → option_map (λ b. let r : Result (LinkTree × ToldTree) Refusal = Ok (f b) in r) o ≡ Some (Err unfit) → ⊥
@@ -105,7 +106,7 @@ module _ (holds : DocTree → CompTree → DocTree → Type 0) (left : TyTree) (
       let shows = ap (option_map (left_of left right start carried s)) k.left_draft.at_number in
       elim (nat_le b.number s.left_number) as (λ v. nat_le b.number s.left_number ≡ v
       → ((b.number ≤ s.left_number) × Answers holds left right start carried Left s b Stale) ⊎ ((b.number ≡ s.left_number + 1) × Answers holds left right start carried Left s b Taken)) [
-        | true ↦ λ old. inl (within_number b.number s.left_number old, (l, l, shows, rw old refl))
+        | true ↦ λ old. inl (leb-true b.number s.left_number old, (l, l, shows, rw old refl))
         | false ↦ λ new.
             let newer = at_most b.number s.left_number new in
             let t = taken_left holds left right start carried s k b of.made_already newer of.word in
@@ -117,7 +118,7 @@ module _ (holds : DocTree → CompTree → DocTree → Type 0) (left : TyTree) (
       let shows = ap (option_map (right_of left right start carried s)) k.right_draft.at_number in
       elim (nat_le b.number s.right_number) as (λ v. nat_le b.number s.right_number ≡ v
       → ((b.number ≤ s.right_number) × Answers holds left right start carried Right s b Stale) ⊎ ((b.number ≡ s.right_number + 1) × Answers holds left right start carried Right s b Taken)) [
-        | true ↦ λ old. inl (within_number b.number s.right_number old, (r, r, shows, rw old refl))
+        | true ↦ λ old. inl (leb-true b.number s.right_number old, (r, r, shows, rw old refl))
         | false ↦ λ new.
             let newer = at_most b.number s.right_number new in
             let t = taken_right holds left right start carried s k b of.made_already newer of.word in

@@ -1,5 +1,5 @@
 -- What the sites of a link answer is what the link's events make of it, and they stay its sites.
-use Rattle.std.proofs.Common.{◌≡◌, ℕ, ◌+◌, ◌-◌, ◌^◌, ◌<◌, ◌≤◌, List, [], ◌∷◌, ◌++◌, ◌⊎◌, inl, inr, length, slice_get, Option, None, Some, Result, Ok, Err, true, false, not, if◌then◌else◌, refl, sym, ap, ◌∙◌, subst, arith}
+use Rattle.std.proofs.Common.{◌≡◌, ℕ, ◌+◌, ◌-◌, ◌^◌, ◌<◌, ◌≤◌, List, [], ◌∷◌, ◌++◌, ◌⊎◌, length, slice_get, Option, None, Some, Result, Ok, Err, true, false, not, if◌then◌else◌, refl, sym, ap, ◌∙◌, subst, arith}
 use Rattle.std.specs.Prelude.{nat_eq, nat_le, option_map}
 use Rattle.std.specs.Result.{result_unwrap_or}
 use Rattle.texts.specs.declared.side.Side.{Side}
@@ -18,9 +18,11 @@ use Rattle.turn_link.specs.Turns.{BatchTree, is_turn, last_made, Refusal, not_tu
 use Rattle.turn_link.specs.Sites.{LeftTree, RightTree, drafted, joining, edited, left_drafted, right_drafted, left_edit, right_edit, next_batch, sealing, left_sealed, right_sealed, left_seal, right_seal, left_receive, right_receive, left_restart, right_restart}
 use Rattle.turn_link.specs.Links.{LinkTree, ToldTree, edit, seal, send, deliver, told_draft, sealed, packet, taken, stale, number_on, with_entry, with_number, with_draft, with_packet, triple_at, batch_word, batch_at, last_batch, left_of, right_of, left_site, right_site, happens}
 use Rattle.turn_link.specs.Laws.{IsDraft, IsLinked, AreSites}
-use Rattle.turn_link.proofs.Numbers.{positive, not_positive, at_most, not_at_most, same_number, last_made-le, last_made-sealed}
+use Rattle.turn_link.proofs.Numbers.{positive, at_most, not_at_most, last_made-le, last_made-sealed}
 use Rattle.turn_link.proofs.Histories.{triple_at-front, last_batch-front, last_batch-taken}
 use Rattle.turn_link.proofs.LinkEvents.{fresh_left, fresh_right, SealsLeft, SealsRight, seals_left, seals_right, takes_left, takes_right, draft_joined, empty_draft, linked-drafted_left, linked-drafted_right, linked-sent, last_of_batch, batch_word-some}
+use Rattle.texts.proofs.Tests.{not_zero}
+use Rattle.std.proofs.lemmas.Bool.{eq-eqb}
 
 same_pair : {A B C : Type 0} {o : Result (A × B) C} {a c : A} {b d : B} → o ≡ Ok (a, b) → o ≡ Ok (c, d) → (a ≡ c) × (b ≡ d)
 same_pair {A} {B} {C} {o} {a} {c} {b} {d} p q = let e : (a, b) ≡ (c, d) = cc in (ap (λ (p : A × B). p.0) e, ap (λ (p : A × B). p.1) e)
@@ -45,20 +47,6 @@ may_seal side n answer v is =
         | false ↦ λ more is. record { on = on; more = more; answers = is }
       ] refl
       | false ↦ λ _ no. absurd cc
-    ] refl is
-
--- a refusal to seal comes before the draft is carried, or from its carrying
-may_not_seal : {A : Type 0} (side : Side) (n : ℕ) (answer : Result A Refusal) (why : Refusal) → sealing side n answer ≡ Err why
-    → ((is_turn side n ≡ false) × (why ≡ not_turn n)) ⊎ ((is_turn side n ≡ true) × (nat_eq n (2 ^ 64 - 1) ≡ true) × (why ≡ last_number)) ⊎ (answer ≡ Err why)
-may_not_seal side n answer why is =
-    elim (is_turn side n) as (λ b. is_turn side n ≡ b → (if b then (if nat_eq n (2 ^ 64 - 1) then Err last_number else answer) else Err (not_turn n)) ≡ Err why
-    → ((b ≡ false) × (why ≡ not_turn n)) ⊎ ((b ≡ true) × (nat_eq n (2 ^ 64 - 1) ≡ true) × (why ≡ last_number)) ⊎ (answer ≡ Err why)) [
-      | true ↦ λ on. elim (nat_eq n (2 ^ 64 - 1)) as (λ b. nat_eq n (2 ^ 64 - 1) ≡ b → (if b then Err last_number else answer) ≡ Err why
-          → ((true ≡ false) × (why ≡ not_turn n)) ⊎ ((true ≡ true) × (b ≡ true) × (why ≡ last_number)) ⊎ (answer ≡ Err why)) [
-            | true ↦ λ _ no. inr (inl (refl, refl, cc))
-            | false ↦ λ _ is. inr (inr is)
-          ] refl
-      | false ↦ λ _ no. inl (refl, cc)
     ] refl is
 
 -- an edit that joined a draft that acts
@@ -248,7 +236,7 @@ module _ (holds : DocTree → CompTree → DocTree → Type 0) (left : TyTree) (
           happened = rw (some, at) refl;
           sites = record {
             linked = linked-sent holds left right start carried s side b a.linked
-                (last_of_batch holds left right start carried s side b a.linked (within s a.linked side) (not_positive (last_made side (number_on side s)) some) at);
+                (last_of_batch holds left right start carried s side b a.linked (within s a.linked side) (not_zero (last_made side (number_on side s)) some) at);
             left_is = a.left_is;
             right_is = a.right_is;
           };
@@ -270,7 +258,7 @@ module _ (holds : DocTree → CompTree → DocTree → Type 0) (left : TyTree) (
       → (if v then None else batch_at left right start carried s.made (last_made side (number_on side s))) ≡ None
       → happens left right start carried s (send side) ≡ Some (Err no_batch)) [
         | true ↦ λ none _. rw none refl
-        | false ↦ λ some at. absurd (no_missing s side a.linked (not_positive (last_made side (number_on side s)) some) at)
+        | false ↦ λ some at. absurd (no_missing s side a.linked (not_zero (last_made side (number_on side s)) some) at)
       ] refl is
 
   -- ---- seal
@@ -434,7 +422,7 @@ module _ (holds : DocTree → CompTree → DocTree → Type 0) (left : TyTree) (
       let q = takes_left holds left right start carried s k b.word b.number made newer word in
       let l' : LeftTree = record { number = s.left_number + 1; doc = q.far; comp = q.carried_to.1; draft = s.left_draft; last = last_batch left right start carried Left s.made s.left_number } in
       let not_stale : nat_le b.number s.left_number ≡ false = not_at_most b.number s.left_number newer in
-      let next : nat_eq b.number (s.left_number + 1) ≡ true = same_number b.number (s.left_number + 1) new.0 in
+      let next : nat_eq b.number (s.left_number + 1) ≡ true = eq-eqb b.number (s.left_number + 1) new.0 in
       let off = new.3 in
       let carries = q.carries in
       let acts = q.far_acts in
@@ -451,7 +439,7 @@ module _ (holds : DocTree → CompTree → DocTree → Type 0) (left : TyTree) (
       let q = takes_right holds left right start carried s k b.word b.number made newer word in
       let r' : RightTree = record { number = s.right_number + 1; doc = q.far; draft = s.right_draft; last = last_batch left right start carried Right s.made s.right_number } in
       let not_stale : nat_le b.number s.right_number ≡ false = not_at_most b.number s.right_number newer in
-      let next : nat_eq b.number (s.right_number + 1) ≡ true = same_number b.number (s.right_number + 1) new.0 in
+      let next : nat_eq b.number (s.right_number + 1) ≡ true = eq-eqb b.number (s.right_number + 1) new.0 in
       let on = new.3 in
       let acts = q.far_acts in
       let last : last_batch left right start carried Right s.made b.number ≡ last_batch left right start carried Right s.made s.right_number =

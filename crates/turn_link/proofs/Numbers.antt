@@ -13,28 +13,14 @@ even-next n = grind (arith, nat_tests)
 pub positive : (n : ℕ) → 0 < n → nat_eq n 0 ≡ false
 positive n h = grind (arith, nat_tests)
 
-pub not_positive : (n : ℕ) → nat_eq n 0 ≡ false → 0 < n
-not_positive n h = grind (arith, nat_tests)
-
 pub at_most : (m n : ℕ) → nat_le m n ≡ false → n < m
 at_most m n h = grind (arith, nat_tests)
-
-pub within_number : (m n : ℕ) → nat_le m n ≡ true → m ≤ n
-within_number m n h = grind (arith, nat_tests)
 
 pub not_at_most : (m n : ℕ) → n < m → nat_le m n ≡ false
 not_at_most m n h = grind (arith, nat_tests)
 
-pub same_number : (m n : ℕ) → m ≡ n → nat_eq m n ≡ true
-same_number m n h = grind (arith, nat_tests)
-
 pub length-snoc : {A : Type 0} (xs : List A) (x : A) → length (xs ++ x ∷ []) ≡ length xs + 1
 length-snoc xs x = grind (arith, length-append)
-
-pub slice_get-front : {A : Type 0} (xs ys : List A) (k : ℕ) → k < length xs → slice_get (xs ++ ys) k ≡ slice_get xs k
-slice_get-front [] ys k h = absurd (omega arith)
-slice_get-front (x ∷ xs) ys zero h = refl
-slice_get-front (x ∷ xs) ys (suc k) h = slice_get-front xs ys k (omega arith)
 
 pub slice_get-end : {A : Type 0} (xs : List A) (x : A) → slice_get (xs ++ x ∷ []) (length xs) ≡ Some x
 slice_get-end [] x = refl

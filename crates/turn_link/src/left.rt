@@ -14,7 +14,7 @@ ghost use Rattle.turn_link.specs.Sites.{left_start, left_edit, left_seal, left_r
 ghost use Rattle.turn_link.specs.Turns.{is_turn, IsRefusal};
 ghost use Rattle.turn_link.specs.Views.{batch_tree, site_refusal, receive_refusal};
 
-use crate::batch::{Batch, copy_batch};
+use crate::batch::Batch;
 use crate::draft::{append, empty_word, put};
 use crate::fault::{ReceiveFault, Received, SiteFault};
 use crate::turns::{is_last, is_next, is_stale, is_turn};
@@ -305,7 +305,7 @@ fn sealed<L: EditLens>(
     let number = parts.number + 1;
     let doc = after(parts).twin(alloc)?;
     let batch = Batch { number, word };
-    let last = copy_batch(alloc, &batch)?;
+    let last = batch.twin(alloc)?;
     let next = LeftParts {
         number,
         doc,

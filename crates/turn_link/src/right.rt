@@ -14,7 +14,7 @@ ghost use Rattle.turn_link.specs.Sites.{right_start, right_edit, right_seal, rig
 ghost use Rattle.turn_link.specs.Turns.{is_turn, IsRefusal};
 ghost use Rattle.turn_link.specs.Views.{batch_tree, site_refusal, receive_refusal};
 
-use crate::batch::{Batch, copy_batch};
+use crate::batch::Batch;
 use crate::draft::{append, empty_word, put};
 use crate::fault::{ReceiveFault, Received, SiteFault};
 use crate::turns::{is_last, is_next, is_stale, is_turn};
@@ -258,7 +258,7 @@ fn sealed(alloc: Global, ty: &Ty, parts: &RightParts) -> Result<(RightParts, Bat
     let doc = after(parts).twin(alloc)?;
     let word = parts.draft.twin(alloc)?;
     let batch = Batch { number, word };
-    let last = copy_batch(alloc, &batch)?;
+    let last = batch.twin(alloc)?;
     let next = RightParts {
         number,
         doc,

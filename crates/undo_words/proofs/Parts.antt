@@ -9,12 +9,12 @@ use Rattle.edit_module.specs.Laws.{in_turn}
 use Rattle.edit_module.specs.Words.{WordTree, no_primitives, joined, word_length}
 use Rattle.edit_module.proofs.Words.{joined_assoc}
 use Rattle.edit_module.proofs.WordSteps.{act-joined}
-use Rattle.edit_inverse.proofs.Building.{joined-none}
 use Rattle.edit_session.specs.Step.{TripleTree}
 use Rattle.undo_words.specs.Undone.{BothTrees, no_words, joined_both, undone_behind, BringsBack}
 use Rattle.undo_words.specs.Stepping.{joined_all}
 use Rattle.undo_words.specs.Views.{both_tree, both_trees}
 use Rattle.undo_words.specs.declared.both.BothWords.{BothWords}
+use Rattle.edit_module.proofs.JoinedWords.{joined_nothing}
 
 -- ---- joining
 
@@ -26,7 +26,7 @@ pub same_both : (l l' r r' : WordTree) → l ≡ l' → r ≡ r' → both_of l r
 same_both l l' r r' e f = ap (λ (x : WordTree). both_of x r) e ∙ ap (λ (x : WordTree). both_of l' x) f
 
 pub both_none : (b : BothTrees) → joined_both b no_words ≡ b
-both_none b = same_both (joined b.left no_primitives) b.left (joined b.right no_primitives) b.right (joined-none b.left) (joined-none b.right)
+both_none b = same_both (joined b.left no_primitives) b.left (joined b.right no_primitives) b.right (joined_nothing b.left) (joined_nothing b.right)
 
 pub both_assoc : (a b c : BothTrees) → joined_both (joined_both a b) c ≡ joined_both a (joined_both b c)
 both_assoc a b c =

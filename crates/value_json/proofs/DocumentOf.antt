@@ -9,10 +9,10 @@ use Rattle.doc_values.specs.Documents.{DocTree, unit, truth, int, text, pick, re
 use Rattle.doc_values.specs.Typing.{lookup_type, lookup_field}
 use Rattle.value_json.specs.Numbers.{int_of, counts_of}
 use Rattle.value_json.specs.Parts.{only_member, two_members, depths_and_items}
-use Rattle.value_json.proofs.Facts.{equal_tests}
 use Rattle.hold_shapes.specs.Trees.{is_valid}
 use Rattle.hold_shapes.specs.declared.shape.Shape.TheVariants.{Tree as TreeOf}
 use Rattle.value_json.specs.DocumentJson.{document_of, field_documents, member_documents, item_documents, member_names, list_document, keyed_document, ordered_document}
+use Rattle.std.proofs.lemmas.Bool.{eq-eqb}
 
 pub unit_of : (d : Data) → document_of ty_unit d ≡ cond (is_some (as_null d)) (Some unit) None
 unit_of null = refl
@@ -99,7 +99,7 @@ pub ordered_found : (t : TyTree) (ns ds : Items) (depths : List ℕ) (vs : DocTr
 ordered_found t ns ds depths vs numbers contents = rw (numbers, contents) refl
 
 pub ordered_is : (depths nodes : List ℕ) (vs : DocTrees) → is_valid depths ≡ true → length depths ≡ length (doc_list vs) → nodes ≡ depths → ordered_document depths vs ≡ Some (hold (TreeOf nodes) vs)
-ordered_is depths nodes vs valid many same = rw (valid, equal_tests (length depths) (length (doc_list vs)) many, same) refl
+ordered_is depths nodes vs valid many same = rw (valid, eq-eqb (length depths) (length (doc_list vs)) many, same) refl
 
 pub tag_none : (fs : FieldTrees) (k : List ℕ) (d : Data) → lookup_field fs k ≡ None → tagged_by fs (Some (k, d)) ≡ None
 tag_none fs k d none = let e = ap type_of none in rw e refl

@@ -1,20 +1,5 @@
 -- Small facts about tests and options.
-use Rattle.std.proofs.Common.{◌≡◌, ℕ, Bool, true, false, List, Option, Some, None, option_map, option_and_then, refl, bytes_eq, cond, arith}
-use Rattle.std.specs.Prelude.{nat_eq}
-use Rattle.std.proofs.lemmas.Bool.Decides.{nat_tests}
-use Rattle.std.proofs.lemmas.Slice.Eq.{bytes_eq-Decides}
-
-pub same_bytes : (s : List ℕ) → bytes_eq s s ≡ true
-same_bytes s = (bytes_eq-Decides s s).1 refl
-
-pub equal_bytes : (s t : List ℕ) → bytes_eq s t ≡ true → s ≡ t
-equal_bytes s t h = (bytes_eq-Decides s t).0 h
-
-pub equal : (a b : ℕ) → nat_eq a b ≡ true → a ≡ b
-equal a b h = grind (arith, nat_tests)
-
-pub equal_tests : (a b : ℕ) → a ≡ b → nat_eq a b ≡ true
-equal_tests a b h = grind (arith, nat_tests)
+use Rattle.std.proofs.Common.{◌≡◌, ℕ, Bool, true, false, Option, Some, None, option_map, option_and_then, refl, cond}
 
 pub bind_some : {X Y : Type 0} (f : X → Option Y) (o : Option X) (y : Y) → option_and_then f o ≡ Some y → (x : X) × (o ≡ Some x) × (f x ≡ Some y)
 bind_some f None y h = cc

@@ -1,8 +1,8 @@
 -- One level of a document, and what fails with a part.
-use Rattle.std.proofs.Common.{◌≡◌, ℕ, ◌*◌, ◌<◌, ◌≤◌, String, string_bytes, arith, List, Option, Some, None, Result, Ok, Err, IfOk, OnOk, IsErrOf, Box, Global, true, ap, ◌∙◌, rules}
+use Rattle.std.proofs.Common.{◌≡◌, ℕ, ◌*◌, ◌<◌, ◌≤◌, String, string_bytes, arith, Option, Some, None, Result, Ok, Err, IfOk, OnOk, IsErrOf, Global, true, ap, ◌∙◌, rules}
 use Rattle.hold_shapes.specs.declared.shape.Shape.{Shape}
-use Rattle.doc_values.specs.Documents.{DocTree, alt, hold, doc_tree, docs_tree}
-use Rattle.doc_values.specs.declared.doc.Doc.{Doc, Hold, Alt, the_lemmas}
+use Rattle.doc_values.specs.Documents.{DocTree, hold, doc_tree, docs_tree}
+use Rattle.doc_values.specs.declared.doc.Doc.{Hold, the_lemmas}
 use Rattle.doc_values.specs.declared.doc.Docs.{Docs}
 use Rattle.doc_values.specs.Types.{TyTree}
 use Rattle.doc_values.specs.Typing.{has}
@@ -20,9 +20,6 @@ use Rattle.value_json.specs.declared.fault.DocFault.TheVariants.{NotOfType, NoMe
 
 pub doc_tree-Hold : (s : Shape) (ds : Docs) → doc_tree (Hold s ds) ≡ hold s (docs_tree ds)
 doc_tree-Hold s ds = search (rules, the_lemmas)
-
-pub doc_tree-Alt : (n : List ℕ) (b : Box Doc Global) → doc_tree (Alt n b) ≡ alt n (doc_tree b.value)
-doc_tree-Alt n b = search (rules, the_lemmas)
 
 -- what is refused with a part of the tree is refused with the whole
 pub refused_with : {X Y : Type 0} (fault : DocFault) (part : Option X) (whole : Option Y) → (part ≡ None → whole ≡ None) → Refuses fault part → Refuses fault whole

@@ -29,10 +29,6 @@ pub one_more : (cs : List DocTree) (c : DocTree) (first : Option DocTree) (rest 
 one_more cs c first None h = rw h refl
 one_more cs c first (Some ds) h = rw h (ap Some (sym (then_docs-append cs c ds)))
 
-pub one_refused : (cs : List DocTree) (first : Option DocTree) (rest : Option DocTrees) → first ≡ None
-    → option_map (then_docs cs) (option_and_then (λ x. option_map (more_docs x) rest) first) ≡ None
-one_refused cs first rest h = rw h refl
-
 -- ---- an item of an array, or an entry of a map
 
 pub next_item : (t : TyTree) (vs : List Value) (i : ℕ) (v : Value) (cs : List DocTree) (c : DocTree) → i < length vs → v ≡ get_or vs i v → document_of t (view v) ≡ Some c

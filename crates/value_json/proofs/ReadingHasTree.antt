@@ -13,7 +13,9 @@ use Rattle.doc_values.specs.Integers.{fits_i64}
 use Rattle.value_json.specs.Numbers.{int_in, count_in, counts_of, count_of, count_tree, count_items}
 use Rattle.value_json.specs.DocumentJson.{tree_of_document, field_members, key_members, content_items, member_names, list_document, keyed_document, ordered_document, document_of, field_documents, member_documents, item_documents, holds_i64s, all_hold_i64s}
 use Rattle.texts.proofs.Conjunction.{both, first as left, second as right}
-use Rattle.value_json.proofs.Facts.{equal_bytes, equal_tests, bind_some, map_some, if_some, if_then}
+use Rattle.value_json.proofs.Facts.{bind_some, map_some, if_some, if_then}
+use Rattle.texts.proofs.Tests.{bytes_eq-is}
+use Rattle.std.proofs.lemmas.Bool.{eq-eqb}
 
 -- ---- numbers
 
@@ -98,13 +100,13 @@ mutual
       let m = map_some list_document (item_documents t ds) v h in
       let r = items_take t ds m.0 m.1 in
       let n = length (doc_list m.0) in
-      read_as _ _ _ v m.2 (record { tree = ap array r.tree; typed = both (nat_eq n n) (has_each t m.0) (equal_tests n n refl) r.typed; whole = r.whole })
+      read_as _ _ _ v m.2 (record { tree = ap array r.tree; typed = both (nat_eq n n) (has_each t m.0) (eq-eqb n n refl) r.typed; whole = r.whole })
   takes (ty_keyed t) (object ms) v h =
       let b = bind_some (keyed_document (member_names ms)) (member_documents t ms) v h in
       let r = members_take t ms b.0 b.1 in
       let p = if_some (is_rising (member_names ms)) (hold (KeyedOf (member_names ms)) b.0) v b.2 in
       let n = length (doc_list b.0) in
-      let shape = both (is_rising (member_names ms)) (nat_eq (length (member_names ms)) n) p.0 (equal_tests _ n r.many) in
+      let shape = both (is_rising (member_names ms)) (nat_eq (length (member_names ms)) n) p.0 (eq-eqb _ n r.many) in
       read_as _ _ _ v p.1 (record { tree = ap object r.tree; typed = both (is_rising (member_names ms) && nat_eq (length (member_names ms)) n) (has_each t b.0) shape r.typed; whole = r.whole })
   takes (ty_ordered t) (object (member k (array ns) (member l (array ds) no_members))) v h =
       let names = if_then (bytes_eq k (codes "depths") && bytes_eq l (codes "items")) _ v h in
@@ -113,8 +115,8 @@ mutual
       let r = items_take t ds b.0 b.1 in
       let n = length (doc_list b.0) in
       let p = if_some (is_valid a.0 && nat_eq (length a.0) n) (hold (TreeOf a.0) b.0) v b.2 in
-      let first = equal_bytes k (codes "depths") (left (bytes_eq k (codes "depths")) (bytes_eq l (codes "items")) names.0) in
-      let second = equal_bytes l (codes "items") (right (bytes_eq k (codes "depths")) (bytes_eq l (codes "items")) names.0) in
+      let first = bytes_eq-is k (codes "depths") (left (bytes_eq k (codes "depths")) (bytes_eq l (codes "items")) names.0) in
+      let second = bytes_eq-is l (codes "items") (right (bytes_eq k (codes "depths")) (bytes_eq l (codes "items")) names.0) in
       read_as _ _ _ v p.1 (record {
         tree = ordered_tree t k l ns ds a.0 b.0 first second (counts_take ns a.0 a.1) r.tree;
         typed = both (is_valid a.0 && nat_eq (length a.0) n) (has_each t b.0) p.0 r.typed;
@@ -130,7 +132,7 @@ mutual
       let m = map_some (more_docs b.0) (field_documents fs ms) vs b.2 in
       let r = takes t d b.0 b.1 in
       let s = fields_take fs ms m.0 m.1 in
-      let name : n ≡ k = equal_bytes n k p.0 in
+      let name : n ≡ k = bytes_eq-is n k p.0 in
       rw (← m.2) (record {
         tree = rw (name, r.tree, s.tree) refl;
         typed = both (has t b.0) (has_fields fs m.0) r.typed s.typed;

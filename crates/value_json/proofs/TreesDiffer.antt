@@ -12,8 +12,8 @@ use Rattle.doc_values.specs.Typing.{lookup_type, has, has_fields, has_each}
 use Rattle.value_json.specs.Numbers.{count_items}
 use Rattle.value_json.specs.DocumentJson.{tree_of_document, field_members, key_members, content_items, member_names}
 use Rattle.texts.proofs.Conjunction.{first as left, second as right}
-use Rattle.value_json.proofs.Facts.{equal}
 use Rattle.value_json.proofs.WritingReadsBack.{names_again}
+use Rattle.std.proofs.lemmas.Bool.{eqb-true}
 
 int_apart : (y z : ℤ) → of_integer y ≡ of_integer z → y ≡ z
 int_apart (pos m) (pos n) q = cc
@@ -65,14 +65,14 @@ mutual
       let same : content_items t ds ≡ content_items t es = cc in
       let m = length (doc_list ds) in
       let n = length (doc_list es) in
-      list_same r.count s.count ds es (equal r.count m (left (nat_eq r.count m) (has_each t ds) h)) (equal s.count n (left (nat_eq s.count n) (has_each t es) k))
+      list_same r.count s.count ds es (eqb-true r.count m (left (nat_eq r.count m) (has_each t ds) h)) (eqb-true s.count n (left (nat_eq s.count n) (has_each t es) k))
       (items_apart t ds es (right (nat_eq r.count m) (has_each t ds) h) (right (nat_eq s.count n) (has_each t es) k) same)
   apart (ty_keyed t) (hold (KeyedOf js) ds) (hold (KeyedOf ks) es) h k q =
       let same : key_members t js ds ≡ key_members t ks es = cc in
       let m = length (doc_list ds) in
       let n = length (doc_list es) in
-      let first = equal (length js) m (right (is_rising js) (nat_eq (length js) m) (left (is_rising js && nat_eq (length js) m) (has_each t ds) h)) in
-      let second = equal (length ks) n (right (is_rising ks) (nat_eq (length ks) n) (left (is_rising ks && nat_eq (length ks) n) (has_each t es) k)) in
+      let first = eqb-true (length js) m (right (is_rising js) (nat_eq (length js) m) (left (is_rising js && nat_eq (length js) m) (has_each t ds) h)) in
+      let second = eqb-true (length ks) n (right (is_rising ks) (nat_eq (length ks) n) (left (is_rising ks && nat_eq (length ks) n) (has_each t es) k)) in
       let names = sym (names_again t js ds first) ∙ ap member_names same ∙ names_again t ks es second in
       ap₂ (λ x y. hold (KeyedOf x) y) names
       (members_apart t js ks ds es first second (right (is_rising js && nat_eq (length js) m) (has_each t ds) h) (right (is_rising ks && nat_eq (length ks) n) (has_each t es) k) same)

@@ -2,8 +2,8 @@
 use Rattle.std.proofs.Math.Seq.{take-suc}
 use Rattle.std.proofs.lemmas.List.{map-append}
 use Rattle.std.proofs.lemmas.Cmp.{nat_list_cmp_total}
-use Rattle.std.proofs.Common.{◌≡◌, ℕ, zero, suc, ◌+◌, add-one, ◌<◌, true, false, List, [], ◌∷◌, ◌++◌, map, take, length, get_or, Ordering, Less, Equal, Greater, Some, None, option_map, refl, sym, ap, ◌∙◌, arith}
-use Rattle.std.specs.Ordering.{nat_cmp, is_lt, ordering_reverse}
+use Rattle.std.proofs.Common.{◌≡◌, ℕ, zero, suc, ◌+◌, add-one, ◌<◌, true, List, [], ◌∷◌, ◌++◌, map, take, length, get_or, Greater, Some, option_map, refl, sym, ap, ◌∙◌, arith}
+use Rattle.std.specs.Ordering.{nat_cmp, ordering_reverse}
 use Rattle.std.specs.Cmp.Lexicographic.{slice_cmp}
 use Rattle.texts.specs.Keys.{is_before, is_rising}
 use Rattle.serde_json.specs.Data.{Data, object, item, Members, no_members, member, put}
@@ -15,14 +15,9 @@ use Rattle.doc_values.specs.declared.ty.Ty.{Ty}
 use Rattle.value_json.specs.Numbers.{count_tree, count_items}
 use Rattle.value_json.specs.DocumentJson.{tree_of_document, field_members, key_members, content_items, holds_i64s, all_hold_i64s}
 use Rattle.texts.proofs.Conjunction.{both, first as left, second as right}
-use Rattle.texts.proofs.KeyOrder.{after-all, rising-first, rising-rest}
+use Rattle.texts.proofs.KeyOrder.{after-all, rising-first, rising-rest, is_less}
 
 -- ---- names in byte order
-
-is_less : (r : Ordering) → is_lt r ≡ true → r ≡ Less
-is_less Less h = refl
-is_less Equal h = cc
-is_less Greater h = cc
 
 after : (x y : List ℕ) → is_before x y ≡ true → slice_cmp nat_cmp y x ≡ Greater
 after x y h = nat_list_cmp_total.antisymm y x ∙ ap ordering_reverse (is_less (slice_cmp nat_cmp x y) h)
@@ -42,7 +37,7 @@ names_length (x ∷ fs) = ap suc (names_length fs)
 
 -- ---- one more member
 
-put_at : (k l : List ℕ) (d e : Data) (ms rest : Members) → slice_cmp nat_cmp k l ≡ Greater → put k d ms ≡ rest → put k d (member l e ms) ≡ member l e rest
+pub put_at : (k l : List ℕ) (d e : Data) (ms rest : Members) → slice_cmp nat_cmp k l ≡ Greater → put k d ms ≡ rest → put k d (member l e ms) ≡ member l e rest
 put_at k l d e ms rest later is = rw (later, is) refl
 
 put_field_at : (fs : List (List ℕ × Ty)) (ds : List DocTree) (i : ℕ) (f : List ℕ × Ty) (d : DocTree) → i < length fs → i < length ds → is_rising (names_of (type_fields_of (map field_tree fs))) ≡ true
@@ -145,15 +140,6 @@ items_of_counts (n ∷ ns) = ap (item (count_tree n)) (items_of_counts ns)
 
 tag_at : (fs : FieldTrees) (n : List ℕ) (s : ℕ × TyTree) → lookup_field fs n ≡ Some s → lookup_type fs n ≡ Some s.1
 tag_at fs n s h = ap (option_map (λ (f : ℕ × TyTree). f.1)) h
-
-no_tag_at : (fs : FieldTrees) (n : List ℕ) → lookup_field fs n ≡ None → lookup_type fs n ≡ None
-no_tag_at fs n h = ap (option_map (λ (f : ℕ × TyTree). f.1)) h
-
-pub tag_is_there : (fs : FieldTrees) (n : List ℕ) (d : DocTree) → has (ty_alt fs) (alt n d) ≡ true → lookup_field fs n ≡ None → ⊥
-tag_is_there fs n d h none = let bad : false ≡ true = rw (no_tag_at fs n none, has) at h in cc
-
-pub content_typed : (fs : FieldTrees) (n : List ℕ) (d : DocTree) (s : ℕ × TyTree) → has (ty_alt fs) (alt n d) ≡ true → lookup_field fs n ≡ Some s → has s.1 d ≡ true
-content_typed fs n d s h some = rw (tag_at fs n s some, has) at h
 
 pub content_tree : (fs : FieldTrees) (n : List ℕ) (d : DocTree) (s : ℕ × TyTree) → lookup_field fs n ≡ Some s → tree_of_document (ty_alt fs) (alt n d) ≡ object (member n (tree_of_document s.1 d) no_members)
 content_tree fs n d s some = rw (tag_at fs n s some, tree_of_document) refl

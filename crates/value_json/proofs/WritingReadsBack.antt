@@ -14,7 +14,8 @@ use Rattle.doc_values.specs.Integers.{fits_i64}
 use Rattle.value_json.specs.Numbers.{int_in, counts_of, count_items}
 use Rattle.value_json.specs.DocumentJson.{tree_of_document, field_members, key_members, content_items, member_names, list_document, document_of, field_documents, member_documents, item_documents, holds_i64s, all_hold_i64s}
 use Rattle.texts.proofs.Conjunction.{first as left, second as right}
-use Rattle.value_json.proofs.Facts.{same_bytes, equal}
+use Rattle.std.proofs.lemmas.Bool.{eqb-true}
+use Rattle.texts.proofs.KeyOrder.{bytes_eq-refl}
 
 -- ---- numbers
 
@@ -33,7 +34,7 @@ counts_again_from b (d ∷ ds) h = let p = deep d b (goes_on d ds) h in rw (p.0,
 pub counts_again : (ds : List ℕ) → is_valid ds ≡ true → counts_of (count_items ds) ≡ Some ds
 counts_again [] h = refl
 counts_again (d ∷ ds) h =
-    let zero : d ≡ 0 = equal d 0 (left (nat_eq d 0) (goes_on 0 ds) h) in
+    let zero : d ≡ 0 = eqb-true d 0 (left (nat_eq d 0) (goes_on 0 ds) h) in
     rw (zero, counts_again_from 0 ds (right (nat_eq d 0) (goes_on 0 ds) h)) refl
 
 -- ---- keys
@@ -67,11 +68,11 @@ mutual
   again (ty_list t) (hold (ListOf s) ds) h k =
       let n = length (doc_list ds) in
       ap (option_map list_document) (items_again t ds (right (nat_eq s.count n) (has_each t ds) h) k)
-      ∙ ap Some (list_again n ds s.count (equal s.count n (left (nat_eq s.count n) (has_each t ds) h)))
+      ∙ ap Some (list_again n ds s.count (eqb-true s.count n (left (nat_eq s.count n) (has_each t ds) h)))
   again (ty_keyed t) (hold (KeyedOf ks) ds) h k =
       let n = length (doc_list ds) in
       let shape = left (is_rising ks && nat_eq (length ks) n) (has_each t ds) h in
-      let same = equal (length ks) n (right (is_rising ks) (nat_eq (length ks) n) shape) in
+      let same = eqb-true (length ks) n (right (is_rising ks) (nat_eq (length ks) n) shape) in
       rw (members_again t ks ds same (right (is_rising ks && nat_eq (length ks) n) (has_each t ds) h) k, names_again t ks ds same, left (is_rising ks) (nat_eq (length ks) n) shape) refl
   again (ty_ordered t) (hold (TreeOf depths) ds) h k =
       let n = length (doc_list ds) in
@@ -82,7 +83,7 @@ mutual
   fields_again : (fs : FieldTrees) (ds : DocTrees) → has_fields fs ds ≡ true → all_hold_i64s ds ≡ true → field_documents fs (field_members fs ds) ≡ Some ds
   fields_again no_fields no_docs h k = refl
   fields_again (more_fields n t fs) (more_docs d ds) h k =
-      rw (same_bytes n, again t d (left (has t d) (has_fields fs ds) h) (left (holds_i64s d) (all_hold_i64s ds) k), fields_again fs ds (right (has t d) (has_fields fs ds) h) (right (holds_i64s d) (all_hold_i64s ds) k)) refl
+      rw (bytes_eq-refl n, again t d (left (has t d) (has_fields fs ds) h) (left (holds_i64s d) (all_hold_i64s ds) k), fields_again fs ds (right (has t d) (has_fields fs ds) h) (right (holds_i64s d) (all_hold_i64s ds) k)) refl
   fields_again fs ds h k = cc
 
   members_again : (t : TyTree) (ks : List (List ℕ)) (ds : DocTrees) → length ks ≡ length (doc_list ds) → has_each t ds ≡ true → all_hold_i64s ds ≡ true → member_documents t (key_members t ks ds) ≡ Some ds

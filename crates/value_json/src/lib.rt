@@ -20,4 +20,4 @@ pub use crate::numbers::{read_count, read_counts, read_int};
 pub use crate::parts::{only_member, two_members};
 pub use crate::read::read_doc;
 pub use crate::text::{write_compact, write_doc_text};
-pub use crate::write::{write_counts, write_doc, write_text};
+pub use crate::write::{write_counts, write_depths, write_doc, write_text};

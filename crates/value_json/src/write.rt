@@ -176,8 +176,8 @@ fn write_ordered(
     Ok(Value::Object(members))
 }
 
-// The array of these depths.
-fn write_depths(alloc: Global, depths: &SharedList<u64>) -> Result<Value, AllocError>
+/// The array of these depths. Fails only if memory runs out.
+pub fn write_depths(alloc: Global, depths: &SharedList<u64>) -> Result<Value, AllocError>
     ensures { IfOk result (λ tree. view tree ≡ array (count_items depths.now)) }
 {
     let count = depths.len();

@@ -1,17 +1,15 @@
 -- The views after a word of the hub, one after another, and around the view that was edited.
-use Rattle.std.proofs.Common.{◌≡◌, ℕ, zero, suc, ◌+◌, ◌<◌, List, [], ◌∷◌, ◌++◌, append_assoc, ◌≤◌, get_or, length, map, take, drop, slice_get, Option, None, Some, true, refl, sym, ap, ◌∙◌, subst, arith, ◌-◌, length-drop}
+use Rattle.std.proofs.Common.{◌≡◌, ℕ, zero, suc, ◌+◌, ◌<◌, List, [], ◌∷◌, ◌++◌, append_assoc, ◌≤◌, get_or, length, map, take, drop, slice_get, Option, None, Some, true, refl, sym, ap, ◌∙◌, subst, arith, ◌-◌}
 use Rattle.std.specs.Prelude.{option_map, option_and_then}
 use Rattle.std.proofs.Math.Seq.{take-suc, take-length}
 use Rattle.std.proofs.lemmas.List.{map-append, take-map, drop-map, length-map}
 use Rattle.std.proofs.lemmas.Option.{slice_get_within, slice_get_read, slice_get-map, get_or_from_slice_get}
-use Rattle.texts.specs.declared.side.Side.{Side}
-use Rattle.doc_values.specs.Types.{TyTree}
 use Rattle.doc_values.specs.Typing.{has}
 use Rattle.edit_module.specs.Words.{WordTree}
-use Rattle.lens_core.specs.Complements.{CompTree}
-use Rattle.lens_core.specs.Translation.{Translated}
+use Rattle.lens_core.specs.declared.lens.EditLens as OfLens
 use Rattle.view_hub.specs.Hubs.{ViewTree, lower, lower_all, lower_others}
 use Rattle.view_hub.specs.Lowering.{IsLowered, CanLower, Adds}
+use Rattle.hold_shapes.proofs.SharedItems.{take-end}
 
 -- one more item of a list
 pub one_more : {A : Type 0} (xs : List A) (i : ℕ) (x : A) → slice_get xs i ≡ Some x → take (i + 1) xs ≡ take i xs ++ x ∷ []
@@ -19,19 +17,15 @@ one_more xs i x at =
     let next : i + 1 ≡ suc i = omega arith in
     ap (λ k. take k xs) next ∙ take-suc xs i x (slice_get_within xs i x at) ∙ ap (λ y. take i xs ++ y ∷ []) (get_or_from_slice_get xs i x x at)
 
--- the rest of a list is all of its items from there
-pub rest_is : {A : Type 0} (xs : List A) (k : ℕ) → take (length xs - k) (drop k xs) ≡ drop k xs
-rest_is xs k = ap (λ n. take n (drop k xs)) (sym (length-drop k xs)) ∙ take-length (drop k xs)
-
-module _ {L : Type 0} (left_type : L → TyTree) (right_type : L → TyTree) (carried : L → Side → CompTree → WordTree → Option Translated) where
+module _ {L : Type 0} (lens : OfLens.Ghosts L) where
   abbrev Results : Type 0
   Results = List (ViewTree × WordTree)
 
   abbrev Lower_all : WordTree → List L → List ViewTree → Option Results
-  Lower_all = lower_all left_type right_type carried
+  Lower_all = lower_all lens
 
   abbrev Can : WordTree → List L → List ViewTree → Type 0
-  Can = CanLower left_type right_type carried
+  Can = CanLower lens
 
   -- ---- which views a word is carried to
 
@@ -42,16 +36,16 @@ module _ {L : Type 0} (left_type : L → TyTree) (right_type : L → TyTree) (ca
   can_length w (l ∷ ls) (v ∷ vs) can = ap suc (can_length w ls vs can.2)
 
   pub can_at : (w : WordTree) (ls : List L) (vs : List ViewTree) (k : ℕ) (l : L) (v : ViewTree) → Can w ls vs → slice_get ls k ≡ Some l → slice_get vs k ≡ Some v
-      → (has (right_type l) v.doc ≡ true) × IsLowered (lower left_type right_type carried l w v)
-  can_at w [] [] k l v can lens view = absurd cc
-  can_at w [] (u ∷ vs) k l v can lens view = absurd can
-  can_at w (m ∷ ls) [] k l v can lens view = absurd can
-  can_at w (m ∷ ls) (u ∷ vs) zero l v can lens view =
+      → (has (lens.right_type l) v.doc ≡ true) × IsLowered (lower lens l w v)
+  can_at w [] [] k l v can lens_at view = absurd cc
+  can_at w [] (u ∷ vs) k l v can lens_at view = absurd can
+  can_at w (m ∷ ls) [] k l v can lens_at view = absurd can
+  can_at w (m ∷ ls) (u ∷ vs) zero l v can lens_at view =
       let same_lens : m ≡ l = cc in
       let same_view : u ≡ v = cc in
-      subst (λ l. (has (right_type l) v.doc ≡ true) × IsLowered (lower left_type right_type carried l w v)) same_lens
-      (subst (λ (v : ViewTree). (has (right_type m) v.doc ≡ true) × IsLowered (lower left_type right_type carried m w v)) same_view (can.0, can.1))
-  can_at w (m ∷ ls) (u ∷ vs) (suc k) l v can lens view = can_at w ls vs k l v can.2 lens view
+      subst (λ l. (has (lens.right_type l) v.doc ≡ true) × IsLowered (lower lens l w v)) same_lens
+      (subst (λ (v : ViewTree). (has (lens.right_type m) v.doc ≡ true) × IsLowered (lower lens m w v)) same_view (can.0, can.1))
+  can_at w (m ∷ ls) (u ∷ vs) (suc k) l v can lens_at view = can_at w ls vs k l v can.2 lens_at view
 
   pub can_take : (w : WordTree) (ls : List L) (vs : List ViewTree) (k : ℕ) → Can w ls vs → Can w (take k ls) (take k vs)
   can_take w ls vs zero can = tt
@@ -80,24 +74,24 @@ module _ {L : Type 0} (left_type : L → TyTree) (right_type : L → TyTree) (ca
       rw longer (ap (λ rs. Some (rs ++ r ∷ [])) same)
 
   lower_snoc : (w : WordTree) (ls : List L) (vs : List ViewTree) (l : L) (v : ViewTree) (rs : Results) (r : ViewTree × WordTree)
-      → Lower_all w ls vs ≡ Some rs → lower left_type right_type carried l w v ≡ Some r → Lower_all w (ls ++ l ∷ []) (vs ++ v ∷ []) ≡ Some (rs ++ r ∷ [])
+      → Lower_all w ls vs ≡ Some rs → lower lens l w v ≡ Some r → Lower_all w (ls ++ l ∷ []) (vs ++ v ∷ []) ≡ Some (rs ++ r ∷ [])
   lower_snoc w [] [] l v rs r is one =
       let none : [] ≡ rs = cc in
       rw one (ap (λ rs. Some (rs ++ r ∷ [])) none)
   lower_snoc w [] (u ∷ vs) l v rs r is one = cc
   lower_snoc w (m ∷ ls) [] l v rs r is one = cc
   lower_snoc w (m ∷ ls) (u ∷ vs) l v rs r is one =
-      lower_snoc-at w l v r (lower left_type right_type carried m w u) (Lower_all w ls vs) (Lower_all w (ls ++ l ∷ []) (vs ++ v ∷ [])) rs
+      lower_snoc-at w l v r (lower lens m w u) (Lower_all w ls vs) (Lower_all w (ls ++ l ∷ []) (vs ++ v ∷ [])) rs
       (λ qs some. lower_snoc w ls vs l v qs r some one) is
 
   -- the next view was lowered
   pub adds-more : (w : WordTree) (ls : List L) (us : List ViewTree) (k : ℕ) (l : L) (u : ViewTree) (vs : List ViewTree) (ws : List WordTree) (vs' : List ViewTree) (ws' : List WordTree)
-      (v : ViewTree) (x : WordTree) → slice_get ls k ≡ Some l → slice_get us k ≡ Some u → lower left_type right_type carried l w u ≡ Some (v, x)
+      (v : ViewTree) (x : WordTree) → slice_get ls k ≡ Some l → slice_get us k ≡ Some u → lower lens l w u ≡ Some (v, x)
       → Adds (Lower_all w (take k ls) (take k us)) vs ws vs' ws' → Adds (Lower_all w (take (k + 1) ls) (take (k + 1) us)) vs ws (vs' ++ v ∷ []) (ws' ++ x ∷ [])
-  adds-more w ls us k l u vs ws vs' ws' v x lens view one adds =
+  adds-more w ls us k l u vs ws vs' ws' v x lens_at view one adds =
       record {
         results = adds.results ++ (v, x) ∷ [];
-        is = rw (one_more ls k l lens, one_more us k u view) (lower_snoc w (take k ls) (take k us) l u adds.results (v, x) adds.is one);
+        is = rw (one_more ls k l lens_at, one_more us k u view) (lower_snoc w (take k ls) (take k us) l u adds.results (v, x) adds.is one);
         views_are = ap (λ vs. vs ++ v ∷ []) adds.views_are ∙ append_assoc vs (map (λ r. r.0) adds.results) (v ∷ []) ∙ ap (λ rs. vs ++ rs) (sym (map-append (λ r. r.0) adds.results ((v, x) ∷ [])));
         words_are = ap (λ ws. ws ++ x ∷ []) adds.words_are ∙ append_assoc ws (map (λ r. r.1) adds.results) (x ∷ []) ∙ ap (λ rs. ws ++ rs) (sym (map-append (λ r. r.1) adds.results ((v, x) ∷ [])));
       }
@@ -124,25 +118,25 @@ module _ {L : Type 0} (left_type : L → TyTree) (right_type : L → TyTree) (ca
 
   around : (w : WordTree) (own : ViewTree × WordTree) (k : ℕ) (ls : List L) (vs : List ViewTree) (firsts lasts : Results) → k < length ls → k < length vs
       → Lower_all w (take k ls) (take k vs) ≡ Some firsts → Lower_all w (drop (suc k) ls) (drop (suc k) vs) ≡ Some lasts
-      → lower_others left_type right_type carried w own k ls vs ≡ Some (firsts ++ own ∷ lasts)
-  around w own k [] vs firsts lasts lens view before behind = absurd (omega arith)
-  around w own k (l ∷ ls) [] firsts lasts lens view before behind = absurd (omega arith)
-  around w own zero (l ∷ ls) (v ∷ vs) firsts lasts lens view before behind =
+      → lower_others lens w own k ls vs ≡ Some (firsts ++ own ∷ lasts)
+  around w own k [] vs firsts lasts lens_at view before behind = absurd (omega arith)
+  around w own k (l ∷ ls) [] firsts lasts lens_at view before behind = absurd (omega arith)
+  around w own zero (l ∷ ls) (v ∷ vs) firsts lasts lens_at view before behind =
       let none : [] ≡ firsts = cc in
       rw behind (ap (λ firsts. Some (firsts ++ own ∷ lasts)) none)
-  around w own (suc k) (l ∷ ls) (v ∷ vs) firsts lasts lens view before behind =
-      around-at own (lower left_type right_type carried l w v) (Lower_all w (take k ls) (take k vs)) (lower_others left_type right_type carried w own k ls vs) firsts lasts
+  around w own (suc k) (l ∷ ls) (v ∷ vs) firsts lasts lens_at view before behind =
+      around-at own (lower lens l w v) (Lower_all w (take k ls) (take k vs)) (lower_others lens w own k ls vs) firsts lasts
       (λ qs some. around w own k ls vs qs lasts (omega arith) (omega arith) some behind) before
 
   pub adds-around : (w : WordTree) (v : ViewTree) (x : WordTree) (k : ℕ) (ls : List L) (us : List ViewTree) (vs : List ViewTree) (ws : List WordTree) (vs' : List ViewTree) (ws' : List WordTree)
       → k < length ls → k < length us → Adds (Lower_all w (take k ls) (take k us)) [] [] vs ws
       → Adds (Lower_all w (drop (k + 1) ls) (drop (k + 1) us)) (vs ++ v ∷ []) (ws ++ x ∷ []) vs' ws'
-      → Adds (lower_others left_type right_type carried w (v, x) k ls us) [] [] vs' ws'
-  adds-around w v x k ls us vs ws vs' ws' lens view before behind =
+      → Adds (lower_others lens w (v, x) k ls us) [] [] vs' ws'
+  adds-around w v x k ls us vs ws vs' ws' lens_at view before behind =
       let next : k + 1 ≡ suc k = omega arith in
       record {
         results = before.results ++ (v, x) ∷ behind.results;
-        is = around w (v, x) k ls us before.results behind.results lens view before.is (ap (λ n. Lower_all w (drop n ls) (drop n us)) (sym next) ∙ behind.is);
+        is = around w (v, x) k ls us before.results behind.results lens_at view before.is (ap (λ n. Lower_all w (drop n ls) (drop n us)) (sym next) ∙ behind.is);
         views_are = behind.views_are ∙ append_assoc vs (v ∷ []) (map (λ r. r.0) behind.results) ∙ ap (λ vs. vs ++ v ∷ map (λ r. r.0) behind.results) before.views_are
             ∙ sym (map-append (λ r. r.0) before.results ((v, x) ∷ behind.results));
         words_are = behind.words_are ∙ append_assoc ws (x ∷ []) (map (λ r. r.1) behind.results) ∙ ap (λ ws. ws ++ x ∷ map (λ r. r.1) behind.results) before.words_are
@@ -157,8 +151,8 @@ module _ {L : Type 0} (left_type : L → TyTree) (right_type : L → TyTree) (ca
 
     pub can_behind : (w : WordTree) (ls : List L) (xs : List V) (k : ℕ) → Can w ls (map f xs) → Can w (take (length ls - k) (drop k ls)) (map f (take (length xs - k) (drop k xs)))
     can_behind w ls xs k can =
-        subst (λ ls. Can w ls (map f (take (length xs - k) (drop k xs)))) (sym (rest_is ls k))
-        (subst (λ us. Can w (drop k ls) us) (drop-map f k xs ∙ ap (map f) (sym (rest_is xs k))) (can_drop w ls (map f xs) k can))
+        subst (λ ls. Can w ls (map f (take (length xs - k) (drop k xs)))) (sym (take-end ls k))
+        (subst (λ us. Can w (drop k ls) us) (drop-map f k xs ∙ ap (map f) (sym (take-end xs k))) (can_drop w ls (map f xs) k can))
 
     mapped-snoc : {A B : Type 0} (h : A → B) (xs ys : List A) (x : A) → ys ≡ xs ++ x ∷ [] → map h ys ≡ map h xs ++ h x ∷ []
     mapped-snoc h xs ys x is = ap (map h) is ∙ map-append h xs (x ∷ [])
@@ -167,16 +161,16 @@ module _ {L : Type 0} (left_type : L → TyTree) (right_type : L → TyTree) (ca
         → k < length ls → k < length xs → none ≡ [] → no_words ≡ [] → pushed ≡ before ++ own ∷ [] → longer ≡ words ++ word ∷ []
         → Adds (Lower_all w (take k ls) (map f (take k xs))) (map f none) (map g no_words) (map f before) (map g words)
         → Adds (Lower_all w (take (length ls - (k + 1)) (drop (k + 1) ls)) (map f (take (length xs - (k + 1)) (drop (k + 1) xs)))) (map f pushed) (map g longer) vs ws
-        → Adds (lower_others left_type right_type carried w (f own, g word) k ls (map f xs)) [] [] vs ws
-    adds-others w ls xs k own word none before pushed no_words words longer vs ws lens view no_views no_word push push_word first last =
+        → Adds (lower_others lens w (f own, g word) k ls (map f xs)) [] [] vs ws
+    adds-others w ls xs k own word none before pushed no_words words longer vs ws lens_at view no_views no_word push push_word first last =
         let first_views = subst (λ us. Adds (Lower_all w (take k ls) us) (map f none) (map g no_words) (map f before) (map g words)) (sym (take-map f k xs)) first in
         let first_none = subst (λ vs. Adds (Lower_all w (take k ls) (take k (map f xs))) vs (map g no_words) (map f before) (map g words)) (ap (map f) no_views) first_views in
         let first_all = subst (λ ws. Adds (Lower_all w (take k ls) (take k (map f xs))) [] ws (map f before) (map g words)) (ap (map g) no_word) first_none in
-        let last_lenses = subst (λ ls. Adds (Lower_all w ls (map f (take (length xs - (k + 1)) (drop (k + 1) xs)))) (map f pushed) (map g longer) vs ws) (rest_is ls (k + 1)) last in
-        let last_views = subst (λ us. Adds (Lower_all w (drop (k + 1) ls) us) (map f pushed) (map g longer) vs ws) (ap (map f) (rest_is xs (k + 1)) ∙ sym (drop-map f (k + 1) xs)) last_lenses in
+        let last_lenses = subst (λ ls. Adds (Lower_all w ls (map f (take (length xs - (k + 1)) (drop (k + 1) xs)))) (map f pushed) (map g longer) vs ws) (take-end ls (k + 1)) last in
+        let last_views = subst (λ us. Adds (Lower_all w (drop (k + 1) ls) us) (map f pushed) (map g longer) vs ws) (ap (map f) (take-end xs (k + 1)) ∙ sym (drop-map f (k + 1) xs)) last_lenses in
         let last_pushed = subst (λ us. Adds (Lower_all w (drop (k + 1) ls) (drop (k + 1) (map f xs))) us (map g longer) vs ws) (mapped-snoc f before pushed own push) last_views in
         let last_all = subst (λ us. Adds (Lower_all w (drop (k + 1) ls) (drop (k + 1) (map f xs))) (map f before ++ f own ∷ []) us vs ws) (mapped-snoc g words longer word push_word) last_pushed in
-        adds-around w (f own) (g word) k ls (map f xs) (map f before) (map g words) vs ws lens (subst (λ n. k < n) (sym (length-map xs f)) view) first_all last_all
+        adds-around w (f own) (g word) k ls (map f xs) (map f before) (map g words) vs ws lens_at (subst (λ n. k < n) (sym (length-map xs f)) view) first_all last_all
 
     -- the view and the lens at a place that was read
     pub lens_read : (w : WordTree) (ls : List L) (xs : List V) (k : ℕ) (l : L) → Can w ls (map f xs) → k < length xs → l ≡ get_or ls k l → slice_get ls k ≡ Some l
@@ -186,16 +180,16 @@ module _ {L : Type 0} (left_type : L → TyTree) (right_type : L → TyTree) (ca
     view_read xs k x within is = slice_get-map f xs k ∙ ap (option_map f) (slice_get_read xs (length xs) k x refl within is)
 
     pub can_read : (w : WordTree) (ls : List L) (xs : List V) (k : ℕ) (l : L) (x : V) → Can w ls (map f xs) → k < length xs → l ≡ get_or ls k l → x ≡ get_or xs k x
-        → (has (right_type l) (f x).doc ≡ true) × IsLowered (lower left_type right_type carried l w (f x))
-    can_read w ls xs k l x can within lens view = can_at w ls (map f xs) k l (f x) can (lens_read w ls xs k l can within lens) (view_read xs k x within view)
+        → (has (lens.right_type l) (f x).doc ≡ true) × IsLowered (lower lens l w (f x))
+    can_read w ls xs k l x can within lens_at view = can_at w ls (map f xs) k l (f x) can (lens_read w ls xs k l can within lens_at) (view_read xs k x within view)
 
     pub adds-read : (w : WordTree) (ls : List L) (xs : List V) (k : ℕ) (l : L) (x : V) (vs : List ViewTree) (ws : List WordTree) (before pushed : List V) (words longer : List W) (own : V) (word : W)
-        → Can w ls (map f xs) → k < length xs → l ≡ get_or ls k l → x ≡ get_or xs k x → lower left_type right_type carried l w (f x) ≡ Some (f own, g word)
+        → Can w ls (map f xs) → k < length xs → l ≡ get_or ls k l → x ≡ get_or xs k x → lower lens l w (f x) ≡ Some (f own, g word)
         → pushed ≡ before ++ own ∷ [] → longer ≡ words ++ word ∷ []
         → Adds (Lower_all w (take k ls) (take k (map f xs))) vs ws (map f before) (map g words)
         → Adds (Lower_all w (take (k + 1) ls) (take (k + 1) (map f xs))) vs ws (map f pushed) (map g longer)
-    adds-read w ls xs k l x vs ws before pushed words longer own word can within lens view lowers push push_word adds =
-        let more = adds-more w ls (map f xs) k l (f x) vs ws (map f before) (map g words) (f own) (g word) (lens_read w ls xs k l can within lens) (view_read xs k x within view) lowers adds in
+    adds-read w ls xs k l x vs ws before pushed words longer own word can within lens_at view lowers push push_word adds =
+        let more = adds-more w ls (map f xs) k l (f x) vs ws (map f before) (map g words) (f own) (g word) (lens_read w ls xs k l can within lens_at) (view_read xs k x within view) lowers adds in
         let views = subst (λ us. Adds (Lower_all w (take (k + 1) ls) (take (k + 1) (map f xs))) vs ws us (map g words ++ g word ∷ [])) (sym (mapped-snoc f before pushed own push)) more in
         subst (λ us. Adds (Lower_all w (take (k + 1) ls) (take (k + 1) (map f xs))) vs ws (map f pushed) us) (sym (mapped-snoc g words longer word push_word)) views
 

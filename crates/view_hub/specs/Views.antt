@@ -1,16 +1,14 @@
 -- How contracts see a hub, its views and the answers of a step.
 use Rattle.std.specs.Prelude.{◌≡◌, List, map, Option, Some, Result, Ok, Err, MatchResult, refl}
 use Rattle.std.specs.Coded.{Coded, code_by, coded×, coded_list}
-use Rattle.texts.specs.declared.side.Side.{Side}
 use Rattle.doc_values.specs.Documents.{DocTree, doc_tree}
-use Rattle.doc_values.specs.Types.{TyTree}
 use Rattle.edit_module.specs.Action.{Why}
 use Rattle.edit_module.specs.Words.{WordTree}
 use Rattle.edit_module.specs.Views.{word_tree, word_trees}
 use Rattle.edit_module.specs.declared.fault.ActFault.{ActFault}
 use Rattle.edit_module.specs.declared.fault.ActFault.TheVariants as action
-use Rattle.lens_core.specs.Complements.{CompTree, comp_tree}
-use Rattle.lens_core.specs.Translation.{Translated}
+use Rattle.lens_core.specs.Complements.{comp_tree}
+use Rattle.lens_core.specs.declared.lens.EditLens as OfLens
 use Rattle.view_hub.specs.declared.fault.HubFault.{HubFault}
 use Rattle.view_hub.specs.declared.fault.HubFault.TheVariants.{NoView, NoApply, NoMemory}
 use Rattle.view_hub.specs.declared.side.HubCarried.{HubCarried}
@@ -62,15 +60,15 @@ IsActionFault answer (NoView views) = ⊥
 IsActionFault answer (NoApply at cause) = answer ≡ Err (at, cause)
 IsActionFault answer NoMemory = Unit {0}
 
-module _ {L : Type 0} (left_type : L → TyTree) (right_type : L → TyTree) (carried : L → Side → CompTree → WordTree → Option Translated) where
+module _ {L : Type 0} (lens : OfLens.Ghosts L) where
   -- the parts and the words after a step of a hub of these lenses are those of the definition, or the step is refused as there
   abbrev pub IsNextOutcome : List L → HubTree → Place × WordTree → Result (HubParts × HubCarried) HubFault → Type 0
   IsNextOutcome ls h e result =
-      MatchResult result (λ r. step left_type right_type carried ls h e ≡ Some (Ok (hub_tree r.0, carried_tree r.1)))
-      (IsHubRefusal (step left_type right_type carried ls h e))
+      MatchResult result (λ r. step lens ls h e ≡ Some (Ok (hub_tree r.0, carried_tree r.1)))
+      (IsHubRefusal (step lens ls h e))
 
   -- a step returns the words of the definition and leaves the hub that it makes, or it is refused as there
   abbrev pub IsOutcome : HubOf L → Place × WordTree → HubOf L → Result HubCarried HubFault → Type 0
   IsOutcome old e new result =
-      MatchResult result (λ c. step left_type right_type carried old.lenses (hub_tree old.parts) e ≡ Some (Ok (hub_tree new.parts, carried_tree c)))
-      (IsHubRefusal (step left_type right_type carried old.lenses (hub_tree old.parts) e))
+      MatchResult result (λ c. step lens old.lenses (hub_tree old.parts) e ≡ Some (Ok (hub_tree new.parts, carried_tree c)))
+      (IsHubRefusal (step lens old.lenses (hub_tree old.parts) e))

@@ -4,7 +4,8 @@ ghost use Rattle.std.specs.Prelude.{◌≡◌};
 ghost use Rattle.view_hub.specs.Views.{of_action};
 
 use edit_module::{ActFault, Cause};
-use std::alloc::{AllocError, AllocFailed};
+use std::alloc::{AllocError, AllocFailed, Global};
+use texts::Twin;
 
 /// Why a hub refuses a step. The hub is then as it was.
 #[derive(Clone, Copy, Debug, PartialEq, Eq)]
@@ -44,6 +45,18 @@ impl<T: Drop> From<AllocFailed<T>> for HubFault {
 
     fn from(_: AllocFailed<T>) -> HubFault {
         HubFault::NoMemory
+    }
+}
+
+impl Twin for HubFault {
+    ghost use Rattle.view_hub.specs.declared.fault.HubFault.{HubFault};
+
+    ghost Meaning = { HubFault };
+
+    ghost meaning = { λ fault. fault };
+
+    fn twin(&self, _alloc: Global) -> Result<Self, AllocError> {
+        Ok(*self)
     }
 }
 

@@ -45,8 +45,7 @@ impl<L: EditLens> Model for Hub<L> {
 
     ghost view = { λ h. record { lenses = h.lenses.items; parts = h.parts } };
 
-    ghost invariant = { λ h. IsHub L.left_type L.right_type L.start L.holds L.carried
-        h.lenses.items (hub_tree h.parts) };
+    ghost invariant = { λ h. IsHub L.EditLens h.lenses.items (hub_tree h.parts) };
 }
 
 impl<L: EditLens> Hub<L> {
@@ -59,9 +58,9 @@ impl<L: EditLens> Hub<L> {
     pub fn start(alloc: Global, lenses: Vec<L>) -> Result<Hub<L>, AllocError>
     where
         L: Drop,
-        requires { HaveOneLeftType L.left_type L.right_type L.start L.holds L.carried lenses.items }
+        requires { HaveOneLeftType L.EditLens lenses.items }
         ensures lenses { IfOk result (λ h. h.lenses ≡ lenses.items) }
-        ensures start { IfOk result (λ h. start_hub L.left_type L.right_type L.start lenses.items
+        ensures start { IfOk result (λ h. start_hub L.EditLens lenses.items
             ≡ Some (hub_tree h.parts)) }
     {
         let parts = first_parts(alloc, &lenses)?;
@@ -88,10 +87,9 @@ impl<L: EditLens> Hub<L> {
     /// carried to the hub and to every view, and applies there. A view whose word is empty keeps its document,
     /// which is neither copied nor walked over.
     pub fn step(&mut self, side: HubSide, word: &Word) -> Result<HubCarried, HubFault>
-        ensures steps { IsOutcome L.left_type L.right_type L.carried
-            self.old (place_of side, word_tree word.now) self.new result }
-        ensures in_step { IsHub L.left_type L.right_type L.start L.holds L.carried
-            self.new.lenses (hub_tree self.new.parts) }
+        ensures steps { IsOutcome L.EditLens self.old (place_of side, word_tree word.now)
+            self.new result }
+        ensures in_step { IsHub L.EditLens self.new.lenses (hub_tree self.new.parts) }
         ensures lenses { self.new.lenses ≡ self.old.lenses }
         ensures unchanged { OnErr result (self.new ≡ self.old) }
     {
@@ -103,8 +101,7 @@ impl<L: EditLens> Hub<L> {
     /// The hub's document. It is in each view's relation with the view's complement and document.
     pub fn hub(&self) -> &Doc
         ensures hub { result.now ≡ self.now.parts.hub.value }
-        ensures in_step { IsHub L.left_type L.right_type L.start L.holds L.carried
-            self.now.lenses (hub_tree self.now.parts) }
+        ensures in_step { IsHub L.EditLens self.now.lenses (hub_tree self.now.parts) }
     {
         &self.parts.hub
     }
@@ -141,8 +138,8 @@ impl<L: EditLens> Hub<L> {
 
 // The parts at the start.
 fn first_parts<L: EditLens>(alloc: Global, lenses: &[L]) -> Result<HubParts, AllocError>
-    requires { HaveOneLeftType L.left_type L.right_type L.start L.holds L.carried lenses.now }
-    ensures { IfOk result (λ p. start_hub L.left_type L.right_type L.start lenses.now
+    requires { HaveOneLeftType L.EditLens lenses.now }
+    ensures { IfOk result (λ p. start_hub L.EditLens lenses.now
         ≡ Some (hub_tree p)) }
 {
     let hub = initial_document(alloc, lenses[0].ty(Side::Left))?;
@@ -158,10 +155,9 @@ fn next<L: EditLens>(
     side: HubSide,
     word: &Word,
 ) -> Result<(HubParts, HubCarried), HubFault>
-    requires in_step { IsHub L.left_type L.right_type L.start L.holds L.carried
-        lenses.now (hub_tree parts.now) }
-    ensures { IsNextOutcome L.left_type L.right_type L.carried
-        lenses.now (hub_tree parts.now) (place_of side, word_tree word.now) result }
+    requires in_step { IsHub L.EditLens lenses.now (hub_tree parts.now) }
+    ensures { IsNextOutcome L.EditLens lenses.now (hub_tree parts.now)
+        (place_of side, word_tree word.now) result }
 {
     match side {
         HubSide::Hub => edit_hub(alloc, lenses, parts, word),
@@ -182,10 +178,9 @@ fn edit_hub<L: EditLens>(
     parts: &HubParts,
     word: &Word,
 ) -> Result<(HubParts, HubCarried), HubFault>
-    requires in_step { IsHub L.left_type L.right_type L.start L.holds L.carried
-        lenses.now (hub_tree parts.now) }
-    ensures { IsNextOutcome L.left_type L.right_type L.carried
-        lenses.now (hub_tree parts.now) (at_hub, word_tree word.now) result }
+    requires in_step { IsHub L.EditLens lenses.now (hub_tree parts.now) }
+    ensures { IsNextOutcome L.EditLens lenses.now (hub_tree parts.now)
+        (at_hub, word_tree word.now) result }
 {
     let hub = edit_left(alloc, &lenses[0], &parts.hub, word)?;
     let own = word.twin(alloc)?;
@@ -202,10 +197,9 @@ fn edit_view<L: EditLens>(
     word: &Word,
 ) -> Result<(HubParts, HubCarried), HubFault>
     requires view { place < length parts.now.views.items }
-    requires in_step { IsHub L.left_type L.right_type L.start L.holds L.carried
-        lenses.now (hub_tree parts.now) }
-    ensures { IsNextOutcome L.left_type L.right_type L.carried
-        lenses.now (hub_tree parts.now) (at_view place, word_tree word.now) result }
+    requires in_step { IsHub L.EditLens lenses.now (hub_tree parts.now) }
+    ensures { IsNextOutcome L.EditLens lenses.now (hub_tree parts.now)
+        (at_view place, word_tree word.now) result }
 {
     let own = word.twin(alloc)?;
     let lifted = match lift(alloc, &lenses[place], &parts.hub, &parts.views[place], word) {

@@ -77,7 +77,7 @@ pub(crate) fn lift<L: EditLens>(
     requires in_step { L.holds lens.now (doc_tree hub.now.value)
         (comp_tree view.now.comp) (doc_tree view.now.doc.value) }
     ensures { MatchResult result
-        (λ r. IsLifted (L.left_type lens.now) (L.right_type lens.now) (L.carried lens.now)
+        (λ r. IsLifted L.EditLens lens.now
         (doc_tree hub.now.value) (view_tree view.now) (word_tree word.now)
         (view_tree r.view) (word_tree r.word) (doc_tree r.hub.value))
         (IsActionFault (act (L.right_type lens.now) (word_tree word.now)

@@ -24,7 +24,7 @@ pub(crate) struct Lowered {
 // The views at the start.
 pub(crate) fn first_views<L: EditLens>(alloc: Global, lenses: &[L]) -> Result<Vec<View>, AllocError>
     ensures { IfOk result (λ vs. view_trees vs.items
-        ≡ map (first_view L.left_type L.right_type L.start) lenses.now) }
+        ≡ map (first_view L.EditLens) lenses.now) }
 {
     let mut views = Vec::new(alloc);
     for lens in lenses {
@@ -36,7 +36,7 @@ pub(crate) fn first_views<L: EditLens>(alloc: Global, lenses: &[L]) -> Result<Ve
 // A view at the start.
 fn view_of<L: EditLens>(alloc: Global, lens: &L) -> Result<View, AllocError>
     ensures { IfOk result (λ v. view_tree v
-        ≡ first_view L.left_type L.right_type L.start lens.now) }
+        ≡ first_view L.EditLens lens.now) }
 {
     let comp = lens.missing(alloc)?;
     let doc = initial_document(alloc, lens.ty(Side::Right))?;
@@ -50,10 +50,9 @@ pub(crate) fn lower_all<L: EditLens>(
     views: &[View],
     word: &Word,
 ) -> Result<Lowered, AllocError>
-    requires { CanLower L.left_type L.right_type L.carried
-        (word_tree word.now) lenses.now (view_trees views.now) }
-    ensures { IfOk result (λ out. Adds (lower_all L.left_type L.right_type L.carried
-        (word_tree word.now) lenses.now (view_trees views.now))
+    requires { CanLower L.EditLens (word_tree word.now) lenses.now (view_trees views.now) }
+    ensures { IfOk result (λ out. Adds
+        (lower_all L.EditLens (word_tree word.now) lenses.now (view_trees views.now))
         [] [] (view_trees out.views.items) (word_trees out.words.items)) }
 {
     let mut out = Lowered {
@@ -75,10 +74,9 @@ pub(crate) fn lower_others<L: EditLens>(
 ) -> Result<Lowered, AllocError>
     requires lens { place < length lenses.now }
     requires view { place < length views.now }
-    requires lowers { CanLower L.left_type L.right_type L.carried
-        (word_tree word.now) lenses.now (view_trees views.now) }
-    ensures { IfOk result (λ out. Adds (lower_others L.left_type L.right_type L.carried
-        (word_tree word.now) (view_tree own.view, word_tree own.word) place
+    requires lowers { CanLower L.EditLens (word_tree word.now) lenses.now (view_trees views.now) }
+    ensures { IfOk result (λ out. Adds (lower_others L.EditLens (word_tree word.now)
+        (view_tree own.view, word_tree own.word) place
         lenses.now (view_trees views.now))
         [] [] (view_trees out.views.items) (word_trees out.words.items)) }
 {
@@ -114,10 +112,9 @@ fn lower_each<L: EditLens>(
     word: &Word,
     out: &mut Lowered,
 ) -> Result<(), AllocError>
-    requires { CanLower L.left_type L.right_type L.carried
-        (word_tree word.now) lenses.now (view_trees views.now) }
-    ensures { OnOk result (Adds (lower_all L.left_type L.right_type L.carried
-        (word_tree word.now) lenses.now (view_trees views.now))
+    requires { CanLower L.EditLens (word_tree word.now) lenses.now (view_trees views.now) }
+    ensures { OnOk result (Adds
+        (lower_all L.EditLens (word_tree word.now) lenses.now (view_trees views.now))
         (view_trees out.old.views.items) (word_trees out.old.words.items)
         (view_trees out.new.views.items) (word_trees out.new.words.items)) }
 {
@@ -138,10 +135,10 @@ fn lower<L: EditLens>(
     word: &Word,
 ) -> Result<(View, Word), AllocError>
     requires typed { has (L.right_type lens.now) (doc_tree view.now.doc.value) ≡ true }
-    requires lowers { IsLowered (lower L.left_type L.right_type L.carried
-        lens.now (word_tree word.now) (view_tree view.now)) }
-    ensures { IfOk result (λ r. lower L.left_type L.right_type L.carried
-        lens.now (word_tree word.now) (view_tree view.now) ≡ Some (view_tree r.0, word_tree r.1)) }
+    requires lowers { IsLowered
+        (lower L.EditLens lens.now (word_tree word.now) (view_tree view.now)) }
+    ensures { IfOk result (λ r. lower L.EditLens lens.now (word_tree word.now) (view_tree view.now)
+        ≡ Some (view_tree r.0, word_tree r.1)) }
 {
     let Carried { word, comp } = match lens.carry(alloc, Side::Left, &view.comp, word) {
         Ok(carried) => carried,

@@ -2,6 +2,8 @@
 
 use edit_module::Word;
 use edit_module::change::Words;
+use std::alloc::{AllocError, Global};
+use texts::Twin;
 
 /// The document that is edited.
 #[derive(Clone, Copy, Debug, PartialEq, Eq)]
@@ -19,4 +21,32 @@ pub struct HubCarried {
     pub hub: Word,
     /// The words of the views, one for each and in their order.
     pub views: Words,
+}
+
+impl Twin for HubSide {
+    ghost use Rattle.view_hub.specs.declared.side.HubSide.{HubSide};
+
+    ghost Meaning = { HubSide };
+
+    ghost meaning = { λ side. side };
+
+    fn twin(&self, _alloc: Global) -> Result<Self, AllocError> {
+        Ok(*self)
+    }
+}
+
+impl Twin for HubCarried {
+    ghost use Rattle.view_hub.specs.Hubs.{CarriedTree};
+    ghost use Rattle.view_hub.specs.Views.{carried_tree};
+
+    ghost Meaning = { CarriedTree };
+
+    ghost meaning = { carried_tree };
+
+    fn twin(&self, alloc: Global) -> Result<Self, AllocError> {
+        Ok(HubCarried {
+            hub: self.hub.twin(alloc)?,
+            views: self.views.twin(alloc)?,
+        })
+    }
 }

@@ -9,36 +9,37 @@ use Rattle.lens_forms.specs.Forms.{form_tree, arms_tree}
 use Rattle.lens_forms.specs.declared.form.FormRow.{FormRow}
 use Rattle.lens_forms.specs.Measures.{form_parts, rows_parts}
 use Rattle.lens_core.specs.Complements.{CompTree, nil, comp_tree, comps_tree, comps_of, comp_list, Fits, AllFit}
-use Rattle.lens_core.proofs.ComplementTrees.{comps_of-comp_list, comp_count-length}
+use Rattle.lens_core.proofs.ComplementTrees.{comps_of-comp_list, comp_count-length, comp_tree-hold}
 use Rattle.value_json.proofs.Writing.{push_item}
 use Rattle.complement_file.specs.ComplementJson.{tree_of_complement, one, two, place_items, place_members, row_items}
 use Rattle.complement_file.proofs.Arms.{arm_is_there, arm_fits, arm_typed, arm_smaller, arm_tree_is}
-use Rattle.complement_file.proofs.Levels.{each_form, keyed_form, tree_form, held_comp, each_typed, keyed_typed, tree_typed, each_fits, keyed_fits, tree_fits, if_tree}
+use Rattle.complement_file.proofs.Levels.{each_typed, keyed_typed, tree_typed, each_fits, keyed_fits, tree_fits, if_tree}
 use Rattle.complement_file.proofs.Places.{place_fits, items_of_places, put_place}
 use Rattle.complement_file.proofs.Rows.{AreLeft, at_first, at_last, within, row_typed, row_fits, row_done, left_passed, right_passed, row_smaller_is}
 use Rattle.complement_file.proofs.write.+write.Goals as goal
 use Rattle.complement_file.proofs.write.+write.Goals.{write_record-in-Both+in_ok-part-in-Both+in_ok-push-in-Both, write_record-in-OnlyLeft, write_record-in-OnlyRight}
+use Rattle.lens_forms.proofs.FormLevels.{each_tree, keyed_tree, ordered_tree}
 
 -- ---- the parts of a container
 
 pub write-write_places-requires : goal.write-write_places-requires
 write-write_places-requires t c =
-    let form = each_form _ _ _ c.in-Each-Hold-List-default.is-0 c.deref-in-Each-Hold-List-default.ensures in
-    let comp = held_comp _ _ _ c.in-Each-Hold-List-default.is-1 in
+    let form = each_tree _ _ _ c.in-Each-Hold-List-default.is-0 c.deref-in-Each-Hold-List-default.ensures in
+    let comp = comp_tree-hold _ _ _ c.in-Each-Hold-List-default.is-1 in
     let parts = ap form_parts form in
     (omega (arith, parts), (each_typed _ _ form c.requires.typed, each_fits _ _ _ _ _ form comp c.requires.fits))
 
 pub write-write_nodes-requires : goal.write-write_nodes-requires
 write-write_nodes-requires t c =
-    let form = tree_form _ _ _ c.in-Tree-Hold-Tree-default.is-0 c.deref-in-Tree-Hold-Tree-default.ensures in
-    let comp = held_comp _ _ _ c.in-Tree-Hold-Tree-default.is-1 in
+    let form = ordered_tree _ _ _ c.in-Tree-Hold-Tree-default.is-0 c.deref-in-Tree-Hold-Tree-default.ensures in
+    let comp = comp_tree-hold _ _ _ c.in-Tree-Hold-Tree-default.is-1 in
     let parts = ap form_parts form in
     (omega (arith, parts), (tree_typed _ _ form c.requires.typed, tree_fits _ _ _ _ _ form comp c.requires.fits))
 
 pub write-write_map-requires : goal.write-write_map-requires
 write-write_map-requires t c =
-    let form = keyed_form _ _ _ c.in-Keyed-Hold.is-0 c.deref-in-Keyed-Hold.ensures in
-    let comp = held_comp _ _ _ c.in-Keyed-Hold.is-1 in
+    let form = keyed_tree _ _ _ c.in-Keyed-Hold.is-0 c.deref-in-Keyed-Hold.ensures in
+    let comp = comp_tree-hold _ _ _ c.in-Keyed-Hold.is-1 in
     let parts = ap form_parts form in
     let fit = keyed_fits _ _ _ _ _ form comp c.requires.fits in
     (omega (arith, parts), (keyed_typed _ _ form c.requires.typed, (fit.0, fit.1)))

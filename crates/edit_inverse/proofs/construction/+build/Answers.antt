@@ -13,8 +13,10 @@ use Rattle.edit_module.specs.Views.{primitive_tree, word_tree}
 use Rattle.edit_inverse.specs.Construct.{construct_each, construct_fields, unless_empty, reshape, modify_each, at_each, put_each, graft_each, grow}
 use Rattle.hold_shapes.proofs.ValidDepths.{GoesOn, valid-some}
 use Rattle.edit_inverse.specs.Paths.{parent_path, next_path, paths, paths_after}
-use Rattle.edit_inverse.proofs.Building.{fields_of, same_many, field_typed, field-next, fields-done, each_typed, item-modified, items-done, joined-none, tag-of, key-next, keys-done, root-first, goes-first, goes-next, node-next, nodes-done}
+use Rattle.edit_inverse.proofs.Building.{fields_of, same_many, field_typed, field-next, fields-done, each_typed, item-modified, items-done, key-next, keys-done, root-first, goes-first, goes-next, node-next, nodes-done}
 use Rattle.edit_inverse.proofs.construction.+build.Goals as goal
+use Rattle.edit_module.proofs.JoinedWords.{joined_nothing}
+use Rattle.doc_values.proofs.TagContents.{content_typed}
 
 -- ---- records
 
@@ -56,7 +58,7 @@ of_record-returns t c =
     let ds = docs_tree c.args.docs.now in
     let word = word_of (map primitive_tree l.out.items) in
     c.from_vec.ensures
-    ∙ (sym (joined-none word)
+    ∙ (sym (joined_nothing word)
     ∙ (ap (joined word) (sym (fields-done fields (drop l.i (construct_fields (fields_of fields) ds)) l.i c.loop-i-test.false))
     ∙ (l.invariant ∙ ap (λ (fs : FieldTrees). at_each (names_of fs) (construct_fields fs ds)) c.as_slice-field-items.ensures)))
 
@@ -88,7 +90,7 @@ with_items-returns t c =
     let ty = ty_tree c.args.inner.now in
     let past : length (doc_list ds) ≤ l.i = omega (arith, c.len-i-end.ensures, c.loop-i-test.false) in
     let word = word_of (map primitive_tree l.out.items) in
-    c.from_vec.ensures ∙ (sym (joined-none word) ∙ (ap (joined word) (sym (items-done ty ds l.i past)) ∙ l.invariant))
+    c.from_vec.ensures ∙ (sym (joined_nothing word) ∙ (ap (joined word) (sym (items-done ty ds l.i past)) ∙ l.invariant))
 
 -- ---- tags
 
@@ -97,7 +99,7 @@ of_tag-build-requires t c =
     let tags = fields_tree c.args.tags.now in
     let there = sym (rw c.as_str-name.ensures at c.in-Some.ensures) in
     let low = lookup_field-height tags c.args.tag.now _ there in
-    (omega (arith, low), tag-of tags c.args.tag.now (doc_tree c.args.content.now) _ c.requires there)
+    (omega (arith, low), content_typed tags c.args.tag.now (doc_tree c.args.content.now) _ c.requires there)
 
 -- ---- keys
 
@@ -131,7 +133,7 @@ of_keyed-returns t c =
     let past : length keys ≤ l.i = omega (arith, c.requires.many, c.len-i-end.ensures, c.loop-i-test.false) in
     let word = word_of (map primitive_tree l.out.items) in
     c.from_vec.ensures
-    ∙ (sym (joined-none word) ∙ (ap (joined word) (sym (keys-done keys (drop l.i (construct_each (ty_tree c.args.inner.now) ds)) l.i past)) ∙ l.invariant))
+    ∙ (sym (joined_nothing word) ∙ (ap (joined word) (sym (keys-done keys (drop l.i (construct_each (ty_tree c.args.inner.now) ds)) l.i past)) ∙ l.invariant))
 
 -- ---- trees
 
@@ -216,4 +218,4 @@ of_tree-returns t c =
     let past : length es ≤ l.i = omega (arith, c.requires.many, c.len-i-end.ensures, c.loop-i-test.false) in
     let word = word_of (map primitive_tree l.out.items) in
     c.from_vec-2.ensures
-    ∙ (sym (joined-none word) ∙ (ap (joined word) (sym (nodes-done l.path.items es (drop l.i (construct_each (ty_tree c.args.inner.now) ds)) l.i past)) ∙ l.invariant.left))
+    ∙ (sym (joined_nothing word) ∙ (ap (joined word) (sym (nodes-done l.path.items es (drop l.i (construct_each (ty_tree c.args.inner.now) ds)) l.i past)) ∙ l.invariant.left))

@@ -10,9 +10,10 @@ use Rattle.edit_module.specs.Views.{primitive_tree, word_tree}
 use Rattle.edit_module.specs.Words.{WordTree, word_of, joined, modify}
 use Rattle.edit_inverse.specs.Construct.{construct_each, unless_empty, reshape, graft_each}
 use Rattle.edit_inverse.specs.Paths.{parent_path, next_path, paths_after}
-use Rattle.edit_inverse.proofs.Building.{each_typed, goes-next, joined-none}
+use Rattle.edit_inverse.proofs.Building.{each_typed, goes-next}
 use Rattle.edit_inverse.proofs.Regrown.{grown-next, grown-done}
 use Rattle.edit_inverse.proofs.old_shapes.grown.Goals as goal
+use Rattle.edit_module.proofs.JoinedWords.{joined_nothing}
 
 pub construct-requires : goal.construct-requires
 construct-requires c =
@@ -75,5 +76,5 @@ returns c =
     let word = word_of (map primitive_tree l.out.items) in
     let past : c.args.to ≤ l.i = omega (arith, c.loop-i-test.false) in
     c.from_vec.ensures
-    ∙ (sym (joined-none word)
+    ∙ (sym (joined_nothing word)
     ∙ (ap (joined word) (sym (grown-done (ty_tree c.args.inner.now) l.path.items c.args.depths.now (docs_tree c.args.docs.now) l.i c.args.to past)) ∙ l.invariant.left))

@@ -13,10 +13,10 @@ use Rattle.edit_module.proofs.WordSteps.{later-none, act-more, act-all}
 use Rattle.edit_inverse.specs.Inverse.{inverse}
 use Rattle.edit_inverse.specs.Steps.{backwards}
 use Rattle.edit_inverse.specs.Texts.{MeetsTexts}
-use Rattle.edit_inverse.proofs.Building.{joined-none}
 use Rattle.edit_inverse.proofs.Rows.{at-content}
 use Rattle.edit_inverse.proofs.Walks.{walk-next, walk-done, meets-more, meets-done, part-depth}
 use Rattle.edit_inverse.proofs.walk.+walk.Goals as goal
+use Rattle.edit_module.proofs.JoinedWords.{joined_nothing}
 
 pub walk-loop-i-preserved : goal.walk-loop-i-preserved
 walk-loop-i-preserved t c =
@@ -75,7 +75,7 @@ walk-loop-i-init t c =
     record {
       typed = ap (λ (d : DocTree). has ty d) same ∙ c.requires.typed;
       left = later-none (act ty w v) ∙ ap (λ (d : DocTree). act ty w d) same;
-      back = ap (joined (inverse ty w v)) none ∙ (joined-none (inverse ty w v) ∙ ap (λ (d : DocTree). inverse ty w d) same);
+      back = ap (joined (inverse ty w v)) none ∙ (joined_nothing (inverse ty w v) ∙ ap (λ (d : DocTree). inverse ty w d) same);
       meets = subst M (sym same) (λ m. m);
     }
 

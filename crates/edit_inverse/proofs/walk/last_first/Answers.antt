@@ -2,9 +2,9 @@ use Rattle.std.proofs.Common.{map, sym, ap, ◌∙◌, arith}
 use Rattle.edit_module.specs.Views.{primitive_tree, word_tree}
 use Rattle.edit_module.specs.Words.{word_of, joined}
 use Rattle.edit_inverse.specs.Steps.{backwards}
-use Rattle.edit_inverse.proofs.Building.{joined-none}
 use Rattle.edit_inverse.proofs.Walks.{backwards-pushed, backwards-none}
 use Rattle.edit_inverse.proofs.walk.last_first.Goals as goal
+use Rattle.edit_module.proofs.JoinedWords.{joined_nothing}
 
 pub words-preserved : goal.words-preserved
 words-preserved c =
@@ -18,4 +18,4 @@ returns c =
     let l = c.words in
     let word = word_of (map primitive_tree l.out.items) in
     let none = backwards-none l.parts.items (omega (arith, c.in_default.ensures.cases.0)) in
-    c.from_vec.ensures ∙ (sym (joined-none word) ∙ (ap (joined word) (sym none) ∙ l.invariant))
+    c.from_vec.ensures ∙ (sym (joined_nothing word) ∙ (ap (joined word) (sym none) ∙ l.invariant))

@@ -2,24 +2,21 @@ use Rattle.store_import.specs.Import.{Brings}
 use Rattle.editlens_main.proofs.StoreStatuses.{made_complete, finds_log}
 use Rattle.editlens_main.proofs.makings.run_import.Goals as goal
 
-pub returns-clause-ends : goal.returns-clause-ends
-returns-clause-ends g c =
+pub returns-clause-imports : goal.returns-clause-imports
+returns-clause-imports g c =
     let e = c.import-ended.ensures in
     let ended = c.import-ended.result in
     let is = c.of_making.ensures.is in
     record {
       brings = λ h. e.imports (c.of_making.ensures.done h);
-      refuses = λ h. e.refuses (c.of_making.ensures.refused h);
-      ends = (ended, is, e.ends);
-      cause = λ h. e.room (c.of_making.ensures.disk h);
-      complete = λ empty. made_complete Brings _ _ _ ended c.of_making.result is _ (e.complete empty);
+      declines = λ h. e.refuses (c.of_making.ensures.refused h);
+      stops = (ended, is, e.ends);
+      caused = λ h. e.room (c.of_making.ensures.disk h);
+      completes = λ empty. made_complete Brings _ _ _ ended c.of_making.result is _ (e.complete empty);
+      refuses = finds_log g.K.Sink.held g.D.Disk.content g.D.Disk.images c.args.source.now c.args.sink.now c.args.disk.now
+          c.import-ended.new.source c.import-ended.new.sink c.import-ended.new.disk
+          ended c.of_making.result is (g.D.Disk.content c.args.disk.now) e.exists;
     }
-
-pub returns-clause-finds_log : goal.returns-clause-finds_log
-returns-clause-finds_log g c =
-    finds_log g.K.Sink.held g.D.Disk.content g.D.Disk.images c.args.source.now c.args.sink.now c.args.disk.now
-    c.import-ended.new.source c.import-ended.new.sink c.import-ended.new.disk
-    c.import-ended.result c.of_making.result c.of_making.ensures.is (g.D.Disk.content c.args.disk.now) c.import-ended.ensures.exists
 
 pub returns-clause-source_fault : goal.returns-clause-source_fault
 returns-clause-source_fault g c = λ e. c.import-ended.ensures.source_fault (c.of_making.ensures.source e)

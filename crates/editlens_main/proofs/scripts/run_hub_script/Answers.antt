@@ -2,8 +2,8 @@ use Rattle.hub_run.specs.Lenses.{lenses_of}
 use Rattle.editlens_main.proofs.ScriptStatuses.{finished_script, script_complete}
 use Rattle.editlens_main.proofs.scripts.run_hub_script.Goals as goal
 
-pub returns-clause-ends : goal.returns-clause-ends
-returns-clause-ends g c =
+pub returns-clause-runs : goal.returns-clause-runs
+returns-clause-runs g c =
     let e = c.run_hub-ended.ensures in
     let ended = c.run_hub-ended.result in
     let status = c.of_script.result in
@@ -11,7 +11,7 @@ returns-clause-ends g c =
     record {
       reports = λ h. (ended, is, e.reports (finished_script status ended is h));
       stops = (ended, is, e.stops_are_clean);
-      complete = script_complete lenses_of _ _ _ ended status is e.complete;
+      completes = script_complete lenses_of _ _ _ ended status is e.complete;
     }
 
 pub returns-clause-source_fault : goal.returns-clause-source_fault

@@ -1,22 +1,25 @@
+use Rattle.store_session.proofs.StatesInStep.{stored_sound}
 use Rattle.editlens_main.proofs.StoreStatuses.{ends_done}
+use Rattle.editlens_main.proofs.Statuses.{without_source}
 use Rattle.editlens_main.proofs.stores.run_show.Goals as goal
 
-pub returns-clause-ends : goal.returns-clause-ends
-returns-clause-ends g c =
+pub returns-clause-shows : goal.returns-clause-shows
+returns-clause-shows g c =
     let e = c.show-ended.ensures in
     let ended = c.show-ended.result in
     let is = c.of_store.ensures.is in
     record {
-      shows = λ before t version s. (ended, is, e.views before s.bytes t version s.read s.holds s.stands);
-      complete = λ before t version s f w. ends_done c.of_store.result ended is (e.complete before s.bytes t version s.read s.holds s.stands f w);
-      refused = λ refusal r. (e.unwritten, (ended, is, e.refused r.bytes refusal r.read r.refused));
+      reports = λ s. (ended, is, e.views s.payloads s.bytes s.state s.version s.told s.holds s.stands);
+      in_step = λ s. (stored_sound s.payloads s.state s.version s.stands).1;
+      completes = λ s f w. ends_done c.of_store.result ended is (e.complete s.payloads s.bytes s.state s.version s.told s.holds s.stands f w);
+      refuses = λ other. (e.unwritten, (ended, is, e.refused other.bytes other.reason other.told other.refused));
       unwritten = e.unwritten;
-      moments = e.moments;
-      sure = λ h. e.sure (c.of_store.ensures.disk h);
+      survives = e.moments;
+      caused = λ h. e.sure (c.of_store.ensures.disk h);
     }
 
-pub returns-clause-no_source : goal.returns-clause-no_source
-returns-clause-no_source g c = λ e. c.show-ended.ensures.no_source (c.of_store.ensures.source e)
+pub returns-clause-statuses : goal.returns-clause-statuses
+returns-clause-statuses g c = without_source c.of_store.result c.of_store.ensures.among (λ e. c.show-ended.ensures.no_source (c.of_store.ensures.source e))
 
 pub returns-clause-sink_fault : goal.returns-clause-sink_fault
 returns-clause-sink_fault g c = λ e. c.show-ended.ensures.sink_fault (c.of_store.ensures.sink e)

@@ -6,11 +6,11 @@ use Rattle.lens_core.specs.LensOf.{IsLensOf}
 use Rattle.journal_answers.specs.Runs.{first_of}
 use Rattle.journal_answers.proofs.InStep.{of_form}
 use Rattle.journal_stream.specs.Answered.{AnswersPieces}
-use Rattle.journal_stream.proofs.Prefixes.{sink_failed_since}
 use Rattle.editlens_main.specs.Ending.{Ended}
 use Rattle.editlens_main.specs.declared.commands.Command.TheVariants.{Run}
 use Rattle.editlens_main.proofs.ScriptEnds.{run_ends, run_stops}
 use Rattle.editlens_main.proofs.top.answer_journal.Goals as goal
+use Rattle.lens_io.proofs.Increases.{sink_failed_since}
 
 pub last_report-requires-clause-of_form : goal.last_report-requires-clause-of_form
 last_report-requires-clause-of_form g c =

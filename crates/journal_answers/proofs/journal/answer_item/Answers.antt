@@ -7,9 +7,9 @@ use Rattle.journal_answers.specs.Running.{come, written_after}
 use Rattle.journal_answers.specs.Runs.{JournalItem, JournalAnswer}
 use Rattle.journal_answers.specs.Views.{answer_tree}
 use Rattle.journal_answers.proofs.AnswersHaveLines.{has_tree, is_so}
-use Rattle.journal_answers.proofs.Outcomes.{on_ok_of_three}
 use Rattle.journal_answers.proofs.RunReports.{item_step}
 use Rattle.journal_answers.proofs.journal.answer_item.Goals as goal
+use Rattle.texts.proofs.Outcomes.{on_ok_of_three}
 
 pub returns-clause-goes : goal.returns-clause-goes
 returns-clause-goes g c =

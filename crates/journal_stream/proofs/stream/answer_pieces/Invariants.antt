@@ -1,5 +1,6 @@
-use Rattle.std.proofs.Common.{◌≡◌, ◌+◌, ◌-◌, ◌^◌, ◌≤◌, length}
+use Rattle.std.proofs.Common.{◌≡◌, ◌+◌, ◌-◌, ◌≤◌, length}
 use Rattle.edit_session.specs.Views.{triple_tree}
+use Rattle.journal_input.specs.declared.limits.TheConstants.{MOST_BYTES}
 use Rattle.journal_stream.specs.Answered.{ComesOn}
 use Rattle.journal_stream.proofs.stream.answer_pieces.Given as goal
 
@@ -14,7 +15,7 @@ invariant-pieces g l =
       comes : ComesOn (lens.left_type start.lens) (lens.right_type start.lens) (lens.carried start.lens) (triple_tree start.triple) l.fn.input l.input
           (source.left l.fn.source) (source.left l.source) (sink.held l.fn.sink) (sink.held l.sink) (triple_tree l.session.triple) l.progress;
       number : l.progress.number ≤ l.input.taken;
-      at_most : l.input.taken ≤ 2 ^ 30 + 1;
+      at_most : l.input.taken ≤ MOST_BYTES + 1;
       lens : l.session.lens ≡ start.lens;
       source_faults : source.faults l.fn.source ≤ source.faults l.source;
       sink_faults : sink.faults l.fn.sink ≤ sink.faults l.sink;
@@ -23,4 +24,4 @@ invariant-pieces g l =
     }
 
 abbrev pub decreases-pieces : goal.decreases-pieces
-decreases-pieces g l = 2 ^ 30 + 1 - l.input.taken
+decreases-pieces g l = MOST_BYTES + 1 - l.input.taken

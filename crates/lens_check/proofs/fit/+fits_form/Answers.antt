@@ -7,13 +7,14 @@ use Rattle.lens_forms.proofs.TreesOfRows.{row_tree-both}
 use Rattle.lens_core.specs.Complements.{nil, comp_tree, comps_tree, comp_count}
 use Rattle.lens_core.proofs.FormParts.{row_parts, row_smaller}
 use Rattle.lens_check.specs.FitTest.{fits, rows_fit}
-use Rattle.lens_check.proofs.FitLoops.{and_fails, and_passes, pass_all, pass_next, pass_done, rows_all, paired_next, paired_none, left_next, right_next, rows_done, arm_smaller}
+use Rattle.lens_check.proofs.FitLoops.{and_fails, and_passes, pass_all, pass_next, pass_done, rows_all, paired_next, paired_none, left_next, right_next, rows_done}
 use Rattle.lens_check.proofs.fit.+fits_form.Goals as goal
 use Rattle.lens_check.proofs.fit.+fits_form.Goals.{fits_rows-in-Both+else-next-len+else-not-fits_form, fits_rows-in-OnlyLeft, fits_rows-in-OnlyRight}
+use Rattle.lens_forms.proofs.ArmParts.{parts_below}
 
 pub fits_arm-fits_form-requires : goal.fits_arm-fits_form-requires
 fits_arm-fits_form-requires t c =
-    let low = arm_smaller c.as_slice-arm-items.result.now c.loop-arm.arm-index c.arm-item.result c.loop-arm-test.true c.arm-item.is in
+    let low = parts_below c.as_slice-arm-items.result.now c.loop-arm.arm-index c.arm-item.result c.loop-arm-test.true c.arm-item.is in
     let same = ap arms_parts c.as_slice-arm-items.ensures in
     (omega (arith, low, same), omega (arith, low, same))
 

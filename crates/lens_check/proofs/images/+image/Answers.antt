@@ -12,9 +12,10 @@ use Rattle.lens_check.specs.ImageParts.{names_in, patterns_in}
 use Rattle.lens_check.specs.ReadyComplements.{IsReady}
 use Rattle.lens_check.proofs.FarFields.{ready_both}
 use Rattle.lens_check.proofs.HeldPatterns.{shape_seen, ready_at}
-use Rattle.lens_check.proofs.ImageSteps.{gave, each_tree, keyed_tree, ordered_tree, alt_missing, ready_held, held_next, held_stopped, held_done, record_pattern, record_done, near_rising, field_among, row_both, row_left, row_right}
+use Rattle.lens_check.proofs.ImageSteps.{gave, alt_missing, ready_held, held_next, held_stopped, held_done, record_pattern, record_done, near_rising, field_among, row_both, row_left, row_right}
 use Rattle.lens_check.proofs.images.+image.Goals as goal
 use Rattle.lens_check.proofs.images.+image.Goals.{image_record-in-Both+else-pairs-len+in_ok-image-in-Both+in-Some+in_ok-put-in-Both, image_record-in-OnlyLeft+in_ok-put_alone-in-OnlyLeft, image_record-in-OnlyRight+in_ok-put_alone-in-OnlyRight}
+use Rattle.lens_forms.proofs.FormLevels.{each_tree, keyed_tree, ordered_tree}
 
 -- ---- forms that map another over a container
 

@@ -6,9 +6,10 @@ use Rattle.lens_core.proofs.FormParts.{row_parts, row_smaller}
 use Rattle.lens_branch.specs.AlternativeSteps.{arm_lens}
 use Rattle.lens_branch.specs.RecordSteps.{row_lens}
 use Rattle.lens_flat.specs.Tables.{AddsLenses}
-use Rattle.lens_flat.proofs.LensesInside.{paired_more, left_more, right_more, rows_done, arm_more, arms_done, arm_smaller}
+use Rattle.lens_flat.proofs.LensesInside.{paired_more, left_more, right_more, rows_done, arm_more, arms_done}
 use Rattle.lens_flat.proofs.compile.+compile.Goals as goal
 use Rattle.lens_flat.proofs.compile.+compile.Goals.{row_nodes-in-Both+in_ok-compile_form-in-Both+in_ok-push-in-Both, row_nodes-in-OnlyLeft, row_nodes-in-OnlyRight}
+use Rattle.lens_forms.proofs.ArmParts.{parts_below}
 
 pub row_nodes-compile_form-requires : goal.row_nodes-compile_form-requires
 row_nodes-compile_form-requires t c =
@@ -45,7 +46,7 @@ row_nodes-returns t c =
 
 pub arm_nodes-compile_form-requires : goal.arm_nodes-compile_form-requires
 arm_nodes-compile_form-requires t c =
-    let low = arm_smaller c.as_slice-arm-items.result.now c.loop-arm.arm-index c.arm-item.result c.loop-arm-test.true c.arm-item.is in
+    let low = parts_below c.as_slice-arm-items.result.now c.loop-arm.arm-index c.arm-item.result c.loop-arm-test.true c.arm-item.is in
     let same = ap arms_parts c.as_slice-arm-items.ensures in
     (omega (arith, low, same), c.loop-arm.invariant.grows.sound)
 

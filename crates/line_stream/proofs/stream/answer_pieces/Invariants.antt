@@ -1,4 +1,5 @@
-use Rattle.std.proofs.Common.{◌≡◌, ◌+◌, ◌-◌, ◌^◌, ◌≤◌, length}
+use Rattle.std.proofs.Common.{◌≡◌, ◌+◌, ◌-◌, ◌≤◌, length}
+use Rattle.journal_input.specs.declared.limits.TheConstants.{MOST_BYTES}
 use Rattle.line_stream.specs.Answered.{ComesOn}
 use Rattle.line_stream.proofs.stream.answer_pieces.Given as goal
 
@@ -14,7 +15,7 @@ invariant-pieces g l =
       comes : ComesOn answer (state start) l.fn.input l.input
           (source.left l.fn.source) (source.left l.source) (sink.held l.fn.sink) (sink.held l.sink) (state l.state) l.progress;
       number : l.progress.number ≤ l.input.taken;
-      at_most : l.input.taken ≤ 2 ^ 30 + 1;
+      at_most : l.input.taken ≤ MOST_BYTES + 1;
       source_faults : source.faults l.fn.source ≤ source.faults l.source;
       sink_faults : sink.faults l.fn.sink ≤ sink.faults l.sink;
       empty_takes : sink.empty_takes l.fn.sink ≤ sink.empty_takes l.sink;
@@ -22,4 +23,4 @@ invariant-pieces g l =
     }
 
 abbrev pub decreases-pieces : goal.decreases-pieces
-decreases-pieces g l = 2 ^ 30 + 1 - l.input.taken
+decreases-pieces g l = MOST_BYTES + 1 - l.input.taken

@@ -3,7 +3,8 @@ use Rattle.script_parts.proofs.Heads.{part_within}
 use Rattle.script_run.specs.Ending.{Ended}
 use Rattle.script_run.proofs.Ends.{ended_never, ended_head, whole_of}
 use Rattle.accepted_programs.specs.Program.{lens_of}
-use Rattle.link_run.specs.Runs.{first_link, line_answer, refusal_line, state_text, IsInTurnsWith}
+use Rattle.answer_text.specs.RefusalLines.{refused_part_line}
+use Rattle.link_run.specs.Runs.{first_link, line_answer, state_text, IsInTurnsWith}
 use Rattle.link_run.proofs.RunsInTurns.{every_run}
 use Rattle.link_run.proofs.call.run_script.Goals as goal
 
@@ -19,7 +20,7 @@ answer_alone-requires g c = record { in_step = every_run }
 
 pub returns-in_default-clause-ended : goal.returns-in_default-clause-ended
 returns-in_default-clause-ended g c =
-    ended_never lens_of refusal_line first_link line_answer state_text IsInTurnsWith every_run (g.S.Source.left c.args.source.now) (g.K.Sink.held c.args.sink.now)
+    ended_never lens_of refused_part_line first_link line_answer state_text IsInTurnsWith every_run (g.S.Source.left c.args.source.now) (g.K.Sink.held c.args.sink.now)
 
 pub returns-in-Ok-Whole-clause-ended : goal.returns-in-Ok-Whole-clause-ended
 returns-in-Ok-Whole-clause-ended g c =
@@ -37,5 +38,5 @@ returns-clause-ended g c =
     let left = g.S.Source.left c.args.source.now in
     let now = g.S.Source.left c.read_head.new.source in
     let held = g.K.Sink.held c.args.sink.now in
-    subst (Ended lens_of refusal_line first_link line_answer state_text IsInTurnsWith left now held held) (sym c.of_fault.ensures)
-    (ended_head lens_of refusal_line first_link line_answer state_text IsInTurnsWith every_run left now held c.in-Err.fault c.in-Err.ensures.head)
+    subst (Ended lens_of refused_part_line first_link line_answer state_text IsInTurnsWith left now held held) (sym c.of_fault.ensures)
+    (ended_head lens_of refused_part_line first_link line_answer state_text IsInTurnsWith every_run left now held c.in-Err.fault c.in-Err.ensures.head)

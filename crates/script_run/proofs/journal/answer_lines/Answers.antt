@@ -1,10 +1,10 @@
 use Rattle.std.proofs.Common.{Ok, Err, length, sym, subst, arith}
 use Rattle.lens_io.specs.Content.{IsFull}
 use Rattle.line_stream.specs.Answered.{AnswersPieces}
-use Rattle.line_stream.proofs.Prefixes.{sink_failed_since}
 use Rattle.script_run.specs.Ending.{Ended}
 use Rattle.script_run.proofs.JournalEnds.{run_ends, run_stops}
 use Rattle.script_run.proofs.journal.answer_lines.Goals as goal
+use Rattle.lens_io.proofs.Increases.{sink_failed_since}
 
 pub last_report-requires-clause-none : goal.last_report-requires-clause-none
 last_report-requires-clause-none g c = c.in-Ok.ensures.answers.has_ended.none

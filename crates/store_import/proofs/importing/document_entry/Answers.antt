@@ -12,15 +12,10 @@ use Rattle.store_import.proofs.importing.document_entry.Goals as goal
 pub construct-requires : goal.construct-requires
 construct-requires c = subst (λ ty. has ty (doc_tree c.args.doc.now) ≡ true) (sym c.left.ensures.left) c.requires.typed
 
-pub numbers_fit-requires : goal.numbers_fit-requires
-numbers_fit-requires c =
-    let ty = ty_tree c.left.result.now in
-    record { counts = acting_fits (word_tree c.in_ok-word.word) ty (initial ty) (doc_tree c.args.doc.now) (c.in_ok-word.ensures.makes c.left.ensures.well_formed) }
-
 pub returns : goal.returns
 returns c =
     let ty = ty_tree c.left.result.now in
     let word = word_tree c.in_ok-word.word in
     let doc = doc_tree c.args.doc.now in
     let acts = c.in_ok-word.ensures.makes c.left.ensures.well_formed in
-    document_made (form_tree c.args.lens.now) doc ty word c.left.ensures.left c.in_ok-word.ensures.exact acts (acting_fits word ty (initial ty) doc acts) c.in_ok-numbers_fit.ensures
+    document_made (form_tree c.args.lens.now) doc ty word c.left.ensures.left c.in_ok-word.ensures.exact acts (acting_fits word ty (initial ty) doc acts)

@@ -1,9 +1,9 @@
 use Rattle.std.proofs.Common.{arith}
-use Rattle.stored_run.proofs.Causes.{increased_since}
 use Rattle.making_steps.proofs.Commands.{complete, ends_behind, finds_store, unwritten_by}
 use Rattle.store_import.specs.Import.{Refuses, Brings}
 use Rattle.store_import.proofs.ImportEnds.{accepts, imports, kinds, refuses_import}
 use Rattle.store_import.proofs.importing.import.Goals as goal
+use Rattle.lens_io.proofs.Increases.{increased_since}
 
 pub returns-in-Ok-eq0-clause-imports : goal.returns-in-Ok-eq0-clause-imports
 returns-in-Ok-eq0-clause-imports g c =

@@ -42,4 +42,4 @@ returns g c =
     entry_made (lens.left_type old.lens) (lens.right_type old.lens) (lens.start old.lens) (lens.holds old.lens) (lens.carried old.lens) (form_tree c.args.lens.now) (doc_tree c.args.doc.now)
     (entry_tree c.in_ok-entry.entry) (triple_tree old.triple) after (word_tree c.in_ok-word.word) c.in_ok-payload.payload c.in_ok-lines.lines.items c.requires.of_form
     c.types_are_low.ensures.left c.types_are_low.ensures.right c.in_ok-entry.ensures c.requires.first c.in_ok-word.ensures.steps in_step
-    c.in_ok-payload.ensures.text c.in_ok-payload.ensures.reads_back c.in_ok-lines.ensures
+    c.in_ok-payload.ensures.text c.in_ok-payload.ensures.reads_back c.in_ok-payload.ensures.numbers c.in_ok-lines.ensures

@@ -1,9 +1,9 @@
-use Rattle.std.proofs.Common.{inl, inr, arith}
-use Rattle.stored_run.proofs.Causes.{increased_since}
+use Rattle.std.proofs.Common.{arith}
 use Rattle.making_steps.proofs.Commands.{complete, ends_behind, finds_store, unwritten_by}
 use Rattle.store_making.specs.Init.{Refuses, Begins}
 use Rattle.store_making.proofs.InitEnds.{accepts, kinds, starts}
 use Rattle.store_making.proofs.starting.init.Goals as goal
+use Rattle.lens_io.proofs.Increases.{increased_since}
 
 pub returns-in-Ok-eq0-clause-starts : goal.returns-in-Ok-eq0-clause-starts
 returns-in-Ok-eq0-clause-starts g c =

@@ -7,7 +7,7 @@ use Rattle.journal_answers.proofs.StepCounts.{carried_fits}
 use Rattle.lens_core.specs.Translation.{translate}
 use Rattle.lens_flat.specs.declared.flat.ReadyForm.{ReadyForm}
 use Rattle.lens_forms.specs.Forms.{form_tree, left_type, right_type}
-use Rattle.lens_forms.specs.Measures.{greatest_height}
+use Rattle.lens_forms.specs.declared.limits.TheConstants.{GREATEST_HEIGHT}
 use Rattle.store_session.proofs.AnswersMade.{entry_low}
 use Rattle.store_session.proofs.answering.answer_entry.Goals as goal
 
@@ -23,7 +23,7 @@ ok_line-requires c =
 pub returns-in-Ok-clause-reads : goal.returns-in-Ok-clause-reads
 returns-in-Ok-clause-reads c =
     let l = form_tree c.args.session.now.lens.typed in
-    let low_left = subst (λ (x : ReadyForm). height (left_type (form_tree x.typed)) ≤ greatest_height) c.lens.ensures c.types_are_low.ensures.left in
-    let low_right = subst (λ (x : ReadyForm). height (right_type (form_tree x.typed)) ≤ greatest_height) c.lens.ensures c.types_are_low.ensures.right in
+    let low_left = subst (λ (x : ReadyForm). height (left_type (form_tree x.typed)) ≤ GREATEST_HEIGHT) c.lens.ensures c.types_are_low.ensures.left in
+    let low_right = subst (λ (x : ReadyForm). height (right_type (form_tree x.typed)) ≤ GREATEST_HEIGHT) c.lens.ensures c.types_are_low.ensures.right in
     let low = entry_low l (triple_tree c.args.session.now.triple) c.args.number (entry_tree c.args.entry) (triple_tree c.step.new.self.triple) (word_tree c.in-Ok.word) low_left low_right c.in-Ok.ensures.steps in
     IfOk-weaker c.accepted.result _ _ (λ a h. h low) c.accepted.ensures.reads

@@ -11,7 +11,7 @@ use Rattle.journal_answers.proofs.StepCounts.{each_counted}
 use Rattle.lens_core.specs.Translation.{translate}
 use Rattle.lens_flat.specs.declared.flat.ReadyForm.{ReadyForm}
 use Rattle.lens_forms.specs.Forms.{form_tree, left_type, right_type}
-use Rattle.lens_forms.specs.Measures.{greatest_height}
+use Rattle.lens_forms.specs.declared.limits.TheConstants.{GREATEST_HEIGHT}
 use Rattle.stored_sessions.proofs.AcceptedDepths.{accepted_low}
 use Rattle.store_session.proofs.answering.answer_group.Goals as goal
 
@@ -38,7 +38,7 @@ group_line-requires-clause-counts_fit c =
 pub returns-in_ok-line-in-Ok-clause-reads : goal.returns-in_ok-line-in-Ok-clause-reads
 returns-in_ok-line-in-Ok-clause-reads c =
     let l = form_tree c.args.session.now.lens.typed in
-    let low_left = subst (λ (x : ReadyForm). height (left_type (form_tree x.typed)) ≤ greatest_height) c.lens.ensures c.types_are_low.ensures.left in
-    let low_right = subst (λ (x : ReadyForm). height (right_type (form_tree x.typed)) ≤ greatest_height) c.lens.ensures c.types_are_low.ensures.right in
+    let low_left = subst (λ (x : ReadyForm). height (left_type (form_tree x.typed)) ≤ GREATEST_HEIGHT) c.lens.ensures c.types_are_low.ensures.left in
+    let low_right = subst (λ (x : ReadyForm). height (right_type (form_tree x.typed)) ≤ GREATEST_HEIGHT) c.lens.ensures c.types_are_low.ensures.right in
     let low = accepted_low l (triple_tree c.args.session.now.triple) (triple_tree c.step_all.new.self.triple) (change_tree c.args.change.now) (word_trees c.in-Ok.words) low_left low_right c.in-Ok.ensures.steps in
     IfOk-weaker c.accepted.result _ _ (λ a h. h low) c.accepted.ensures.reads

@@ -3,7 +3,6 @@ use Rattle.gate_log.specs.LogBytes.{payloads, log_of}
 use Rattle.gate_log.specs.LogOnDisk.{HoldsPayloads, Stands}
 use Rattle.gate_log.specs.declared.fault.LogFault.{LogFault}
 use Rattle.stored_run.proofs.ApplyCalls.{same_held, only_disk, synced_holds}
-use Rattle.stored_run.proofs.Causes.{increased_since}
 use Rattle.stored_run.proofs.Openings.{at_content, unwritten_then, same_room}
 use Rattle.stored_run.proofs.RefusalEnds.{at_disk_fault, at_log_disk, at_log_sourceless, at_log_unfinished}
 use Rattle.stored_run.proofs.StoredPayloads.{images_held, reads_held}
@@ -13,6 +12,7 @@ use Rattle.store_undo.proofs.UndoCauses.{other_status, undo_cause, undo_complete
 use Rattle.store_undo.proofs.UndoCalls.{stood_now, undoes_call, exits_of, safe_kept, safe_of_ends, ends_behind}
 use Rattle.store_undo.proofs.UndoRefusals.{log_refused}
 use Rattle.store_undo.proofs.undo_call.undo.Goals as goal
+use Rattle.lens_io.proofs.Increases.{increased_since}
 
 pub returns-in-Ok-clause-undoes : goal.returns-in-Ok-clause-undoes
 returns-in-Ok-clause-undoes g c =

@@ -3,7 +3,6 @@ use Rattle.gate_log.specs.CallEnds.{NoBadRecord}
 use Rattle.gate_log.specs.LogOnDisk.{Stands}
 use Rattle.gate_log.specs.declared.fault.LogFault.{LogFault}
 use Rattle.stored_run.proofs.ApplyCalls.{at_some}
-use Rattle.stored_run.proofs.Causes.{increased_since}
 use Rattle.stored_run.proofs.Openings.{unwritten_then, same_room, reading_fails}
 use Rattle.stored_run.proofs.RefusalEnds.{at_log_disk, at_log_sourceless}
 use Rattle.stored_run.proofs.StoredPayloads.{images_held, reads_held}
@@ -11,6 +10,7 @@ use Rattle.store_undo.specs.UndoEnds.{UndoEnds}
 use Rattle.store_undo.specs.Undoing.{undoing, undo_refusal}
 use Rattle.store_undo.proofs.UndoCalls.{ends_behind}
 use Rattle.store_undo.proofs.undo_call.undo_log.Goals as goal
+use Rattle.lens_io.proofs.Increases.{increased_since}
 
 pub returns-in-Ok-clause-ends : goal.returns-in-Ok-clause-ends
 returns-in-Ok-clause-ends g c =

@@ -4,7 +4,6 @@ use Rattle.std.proofs.KnownBytes.{Consumes-nil}
 use Rattle.gate_log.specs.LogOnDisk.{HoldsPayloads, Stands}
 use Rattle.gate_log.specs.declared.fault.LogFault.{LogFault}
 use Rattle.stored_run.proofs.Rooms.{apply_cause, apply_complete}
-use Rattle.stored_run.proofs.Causes.{increased_since}
 use Rattle.stored_run.proofs.ApplyCalls.{same_held, opened_later, only_disk, synced_holds, safe_later, safe_synced, held_first}
 use Rattle.stored_run.proofs.StoredPayloads.{images_held, reads_held}
 use Rattle.stored_run.proofs.RefusalEnds.{at_disk_fault, at_log_disk, at_log_other, at_log_sourceless, at_log_unfinished}
@@ -12,6 +11,7 @@ use Rattle.gate_log.specs.LogBytes.{payloads, log_of}
 use Rattle.stored_run.specs.Refusals.{refusal_of_log}
 use Rattle.stored_run.proofs.Openings.{at_content, unwritten_then, same_room, log_refused}
 use Rattle.stored_run.proofs.apply_call.apply.Goals as goal
+use Rattle.lens_io.proofs.Increases.{increased_since}
 
 pub returns-in-Ok-clause-continues : goal.returns-in-Ok-clause-continues
 returns-in-Ok-clause-continues g c =

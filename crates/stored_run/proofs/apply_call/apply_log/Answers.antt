@@ -4,7 +4,6 @@ use Rattle.std.proofs.KnownBytes.{Consumes-nil}
 use Rattle.gate_log.specs.LogOnDisk.{HoldsPayloads, Stands}
 use Rattle.stored_run.specs.ApplyCall.{ContinuesCall, IsSafeCall, EndsCall}
 use Rattle.gate_log.specs.declared.fault.LogFault.{LogFault}
-use Rattle.stored_run.proofs.Causes.{increased_since}
 use Rattle.stored_run.proofs.ApplyCalls.{at_some, opened_later, safe_unread, safe_later, held_first}
 use Rattle.stored_run.proofs.StoredPayloads.{images_held, reads_held}
 use Rattle.stored_run.proofs.RefusalEnds.{at_log_disk, at_log_other, at_log_unfinished}
@@ -12,6 +11,7 @@ use Rattle.gate_log.specs.CallEnds.{NoBadRecord}
 use Rattle.stored_run.specs.Refusals.{refusal_of_payloads}
 use Rattle.stored_run.proofs.Openings.{unwritten_then, same_room, reading_fails}
 use Rattle.stored_run.proofs.apply_call.apply_log.Goals as goal
+use Rattle.lens_io.proofs.Increases.{increased_since}
 
 pub returns-in-Ok-clause-continues : goal.returns-in-Ok-clause-continues
 returns-in-Ok-clause-continues g c =

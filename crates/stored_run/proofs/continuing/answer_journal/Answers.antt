@@ -6,9 +6,10 @@ use Rattle.stored_run.specs.Journal.{EndsJournal, StopsJournal}
 use Rattle.stored_run.specs.Stopping.{IsOwnStop}
 use Rattle.stored_run.proofs.Ends.{stops_at_once, ends_journal, stops_last}
 use Rattle.stored_run.proofs.AnsweredLines.{progress_at}
-use Rattle.stored_run.proofs.Outcomes.{if_ok, if_err2}
+use Rattle.stored_run.proofs.Outcomes.{if_err2}
 use Rattle.stored_run.proofs.StoredPayloads.{images_held}
 use Rattle.stored_run.proofs.continuing.answer_journal.Goals as goal
+use Rattle.journal_input.proofs.Outcomes.{if_ok}
 
 pub returns-in_default-clause-stopped : goal.returns-in_default-clause-stopped
 returns-in_default-clause-stopped g c =

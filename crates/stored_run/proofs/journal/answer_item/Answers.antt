@@ -3,9 +3,10 @@ use Rattle.std.specs.Prelude.{option_to_list, is_some}
 use Rattle.stored_run.specs.Answered.{Answers, StopsAmong}
 use Rattle.stored_run.specs.Effects.{Adds, Stops}
 use Rattle.stored_run.proofs.AnsweredLines.{answers_one, stops_before, stops_at}
-use Rattle.stored_run.proofs.Outcomes.{if_err, on_ok3}
+use Rattle.stored_run.proofs.Outcomes.{if_err}
 use Rattle.stored_run.proofs.StoredPayloads.{images_held}
 use Rattle.stored_run.proofs.journal.answer_item.Goals as goal
+use Rattle.texts.proofs.Outcomes.{on_ok_of_three}
 
 pub returns-in_default-clause-stopped : goal.returns-in_default-clause-stopped
 returns-in_default-clause-stopped g c =
@@ -39,7 +40,7 @@ returns-clause-answered g c =
     let p = c.args.progress.now in
     let p' = c.finish_item.new.progress in
     let line = c.args.line.now in
-    on_ok3 c.finish_item.result (Adds held disk.content disk.images disk.moment disk.images_since disk.room k d l k' d' l' a.line (option_to_list a.payload)) (p'.number ≡ p.number + 1) (p'.refused ≡ (p.refused || not (is_some a.payload)))
+    on_ok_of_three c.finish_item.result (Adds held disk.content disk.images disk.moment disk.images_since disk.room k d l k' d' l' a.line (option_to_list a.payload)) (p'.number ≡ p.number + 1) (p'.refused ≡ (p.refused || not (is_some a.payload)))
     (Answers held disk.content disk.images disk.moment disk.images_since disk.room answer is_step k d l k' d' l' t p (line ∷ []) t' p')
     (λ adds number refused. answers_one held disk.content disk.images disk.moment disk.images_since disk.room answer is_step only hold k k' d d' l l' t t' p p' line a c.requires.item c.in-Ok.ensures.answer c.in-Ok.ensures.step c.in-Ok.ensures.is_answer number refused adds)
     c.finish_item.ensures.added c.finish_item.ensures.number c.finish_item.ensures.refused

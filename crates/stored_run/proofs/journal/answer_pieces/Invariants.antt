@@ -1,4 +1,5 @@
-use Rattle.std.proofs.Common.{◌≡◌, ◌+◌, ◌-◌, ◌^◌, ◌≤◌, length, false, None}
+use Rattle.std.proofs.Common.{◌≡◌, ◌+◌, ◌-◌, ◌≤◌, length, false, None}
+use Rattle.journal_input.specs.declared.limits.TheConstants.{MOST_BYTES}
 use Rattle.stored_run.specs.Answered.{ComesOn}
 use Rattle.stored_run.specs.Causes.{Counted}
 use Rattle.stored_run.proofs.AnsweredLines.{progress_at}
@@ -16,9 +17,9 @@ invariant-pieces g l =
       counted : Counted g.K.Sink.faults g.K.Sink.empty_takes g.K.Sink.room g.K.Sink.held disk.faults l.fn.sink l.fn.disk l.sink l.disk None;
       source_later : source.faults l.fn.source ≤ source.faults l.source;
       number : l.progress.number + length l.input.lines.ended ≤ l.input.taken;
-      at_most : l.input.taken ≤ 2 ^ 30 + 1;
+      at_most : l.input.taken ≤ MOST_BYTES + 1;
       piece : length l.piece ≡ length l.fn.piece;
     }
 
 abbrev pub decreases-pieces : goal.decreases-pieces
-decreases-pieces g l = 2 ^ 30 + 1 - l.input.taken
+decreases-pieces g l = MOST_BYTES + 1 - l.input.taken

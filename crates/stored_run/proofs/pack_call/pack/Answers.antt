@@ -4,7 +4,6 @@ use Rattle.gate_log.specs.LogOnDisk.{HoldsPayloads, Stands}
 use Rattle.stored_run.proofs.Rooms.{pack_cause, pack_complete}
 use Rattle.stored_run.proofs.Effects.{first_none}
 use Rattle.gate_log.specs.declared.fault.LogFault.{LogFault}
-use Rattle.stored_run.proofs.Causes.{increased_since}
 use Rattle.stored_run.proofs.ApplyCalls.{same_held, only_disk, synced_holds}
 use Rattle.stored_run.proofs.PackCalls.{safe_kept, safe_after, packed_later}
 use Rattle.stored_run.proofs.StoredPayloads.{images_held, reads_held}
@@ -13,6 +12,7 @@ use Rattle.gate_log.specs.LogBytes.{payloads, log_of}
 use Rattle.stored_run.specs.Refusals.{refusal_of_log}
 use Rattle.stored_run.proofs.Openings.{at_content, unwritten_then, same_room, log_refused}
 use Rattle.stored_run.proofs.pack_call.pack.Goals as goal
+use Rattle.lens_io.proofs.Increases.{increased_since}
 
 pub returns-in-Ok-clause-packs : goal.returns-in-Ok-clause-packs
 returns-in-Ok-clause-packs g c =

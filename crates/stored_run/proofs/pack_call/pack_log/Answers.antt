@@ -3,7 +3,6 @@ use Rattle.std.proofs.Common.{Option, ◌≡◌, inl, ℕ, List, Err, ap, sym, s
 use Rattle.gate_log.specs.LogOnDisk.{HoldsPayloads, Stands}
 use Rattle.stored_run.specs.PackCall.{PacksCall, IsSafePack, EndsPacked}
 use Rattle.gate_log.specs.declared.fault.LogFault.{LogFault}
-use Rattle.stored_run.proofs.Causes.{increased_since}
 use Rattle.stored_run.proofs.ApplyCalls.{at_some}
 use Rattle.stored_run.proofs.PackCalls.{safe_kept, safe_after, packed_later}
 use Rattle.stored_run.proofs.StoredPayloads.{images_held, reads_held}
@@ -12,6 +11,7 @@ use Rattle.gate_log.specs.CallEnds.{NoBadRecord}
 use Rattle.stored_run.specs.Refusals.{refusal_of_payloads}
 use Rattle.stored_run.proofs.Openings.{unwritten_then, same_room, reading_fails}
 use Rattle.stored_run.proofs.pack_call.pack_log.Goals as goal
+use Rattle.lens_io.proofs.Increases.{increased_since}
 
 pub returns-in-Ok-clause-packs : goal.returns-in-Ok-clause-packs
 returns-in-Ok-clause-packs g c =

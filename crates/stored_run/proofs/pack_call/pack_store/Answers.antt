@@ -2,9 +2,10 @@ use Rattle.std.proofs.Common.{◌⊎◌, inr, [], ◌∷◌, ◌++◌}
 use Rattle.std.specs.Prelude.{option_to_list}
 use Rattle.stored_run.specs.Effects.{Adds, Stops}
 use Rattle.stored_run.proofs.Effects.{packs, packs_short}
-use Rattle.stored_run.proofs.Outcomes.{on_ok, if_err}
+use Rattle.stored_run.proofs.Outcomes.{if_err}
 use Rattle.stored_run.proofs.StoredPayloads.{images_held}
 use Rattle.stored_run.proofs.pack_call.pack_store.Goals as goal
+use Rattle.texts.proofs.Outcomes.{on_ok}
 
 pub returns-clause-packed : goal.returns-clause-packed
 returns-clause-packed g c =

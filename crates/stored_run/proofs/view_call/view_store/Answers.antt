@@ -5,11 +5,11 @@ use Rattle.gate_log.specs.declared.fault.LogFault.{LogFault}
 use Rattle.stored_run.specs.Refusals.{refusal_of_log}
 use Rattle.std.specs.Prelude.{Option, IsNone}
 use Rattle.stored_run.proofs.ApplyCalls.{same_held, only_disk}
-use Rattle.stored_run.proofs.Causes.{increased_since}
 use Rattle.stored_run.proofs.Moments.{leaves_then}
 use Rattle.stored_run.proofs.Openings.{at_content, unwritten_then, same_room, log_refused}
 use Rattle.stored_run.proofs.RefusalEnds.{at_disk_fault, at_log_disk, at_log_sourceless}
 use Rattle.stored_run.proofs.view_call.view_store.Goals as goal
+use Rattle.lens_io.proofs.Increases.{increased_since}
 
 pub returns-in-Ok-clause-views : goal.returns-in-Ok-clause-views
 returns-in-Ok-clause-views g c =

@@ -1,12 +1,12 @@
 use Rattle.std.proofs.Common.{map, sym, ap, ◌∙◌, arith}
 use Rattle.edit_module.specs.Views.{primitive_tree}
 use Rattle.edit_module.specs.Words.{word_of, joined}
-use Rattle.edit_inverse.proofs.Building.{joined-none}
 use Rattle.undo_words.specs.Stepping.{joined_all}
 use Rattle.undo_words.specs.Undone.{BothTrees}
 use Rattle.undo_words.specs.Views.{both_trees}
 use Rattle.undo_words.proofs.Parts.{same_both, all_pushed, all_none}
 use Rattle.undo_words.proofs.both.join_all.Goals as goal
+use Rattle.edit_module.proofs.JoinedWords.{joined_nothing}
 
 pub words-preserved : goal.words-preserved
 words-preserved c =
@@ -26,5 +26,5 @@ returns c =
     let right = word_of (map primitive_tree l.right.items) in
     let none = all_none l.parts.items (omega (arith, c.in_default.ensures.cases.0)) in
     same_both _ _ _ _
-    (c.from_vec.ensures ∙ (sym (joined-none left) ∙ (ap (joined left) (sym (ap (λ (b : BothTrees). b.left) none)) ∙ l.invariant.left_words)))
-    (c.from_vec-2.ensures ∙ (sym (joined-none right) ∙ (ap (joined right) (sym (ap (λ (b : BothTrees). b.right) none)) ∙ l.invariant.right_words)))
+    (c.from_vec.ensures ∙ (sym (joined_nothing left) ∙ (ap (joined left) (sym (ap (λ (b : BothTrees). b.left) none)) ∙ l.invariant.left_words)))
+    (c.from_vec-2.ensures ∙ (sym (joined_nothing right) ∙ (ap (joined right) (sym (ap (λ (b : BothTrees). b.right) none)) ∙ l.invariant.right_words)))

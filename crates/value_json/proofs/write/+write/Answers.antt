@@ -12,8 +12,9 @@ use Rattle.hold_shapes.proofs.SharedItems.{item-at}
 use Rattle.value_json.specs.DocumentJson.{tree_of_document, field_members, key_members, content_items, all_hold_i64s}
 use Rattle.doc_values.proofs.FieldPlaces.{lookup_field-height, lookup_field-well_formed}
 use Rattle.doc_values.proofs.Heights.{field_height}
-use Rattle.value_json.proofs.Writing.{same_many, field_typed, field_formed, each_typed, put_field, put_key, whole_more, push_item, items_of_contents, tag_is_there, content_typed, content_tree}
+use Rattle.value_json.proofs.Writing.{same_many, field_typed, field_formed, each_typed, put_field, put_key, whole_more, push_item, items_of_contents, content_tree}
 use Rattle.value_json.proofs.write.+write.Goals as goal
+use Rattle.doc_values.proofs.TagContents.{content_typed, tag_is_there}
 
 -- ---- records
 

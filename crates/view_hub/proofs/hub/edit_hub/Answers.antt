@@ -9,11 +9,11 @@ use Rattle.view_hub.proofs.hub.edit_hub.Goals as goal
 
 pub lower_all-requires : goal.lower_all-requires
 lower_all-requires g c =
-    let some = some_lens g.L.EditLens.left_type g.L.EditLens.right_type g.L.EditLens.start g.L.EditLens.holds g.L.EditLens.carried
+    let some = some_lens g.L.EditLens
     g.met.L.EditLens.left_edits_carry g.met.L.EditLens.right_edits_carry c.args.lenses.now (hub_tree c.args.parts.now) c.requires.in_step in
     let first = slice_get_read c.args.lenses.now (length c.args.lenses.now) 0 c.index-lenses-0.result refl some c.index-lenses-0.is in
-    subst (λ vs. CanLower g.L.EditLens.left_type g.L.EditLens.right_type g.L.EditLens.carried (word_tree c.args.word.now) c.args.lenses.now (view_trees vs)) (sym c.deref.ensures.value)
-    (hub_can g.L.EditLens.left_type g.L.EditLens.right_type g.L.EditLens.start g.L.EditLens.holds g.L.EditLens.carried
+    subst (λ vs. CanLower g.L.EditLens (word_tree c.args.word.now) c.args.lenses.now (view_trees vs)) (sym c.deref.ensures.value)
+    (hub_can g.L.EditLens
     g.met.L.EditLens.left_edits_carry g.met.L.EditLens.right_edits_carry g.met.L.EditLens.consistent_is_typed
     c.args.lenses.now (hub_tree c.args.parts.now) c.index-lenses-0.result (word_tree c.args.word.now) (doc_tree c.in_ok-hub.hub.value)
     c.requires.in_step first c.in_ok-hub.ensures)

@@ -9,5 +9,5 @@ pub returns-then-at-views : goal.returns-then-at-views
 returns-then-at-views g c =
     let items = c.args.parts.now.views.items in
     let count : length (map view_tree items) ≡ c.len-views.result = omega (arith, length-map items view_tree, c.args.parts.now.views.ok.0) in
-    rw c.in-View.is (past_refuses g.L.EditLens.left_type g.L.EditLens.right_type g.L.EditLens.carried c.args.lenses.now (hub_tree c.args.parts.now)
+    rw c.in-View.is (past_refuses g.L.EditLens c.args.lenses.now (hub_tree c.args.parts.now)
     c.in-View.at (word_tree c.args.word.now) c.len-views.result count c.if-at-views.true)

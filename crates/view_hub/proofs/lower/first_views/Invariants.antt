@@ -5,5 +5,4 @@ use Rattle.view_hub.proofs.lower.first_views.Given as goal
 
 abbrev pub invariant-loop-lens : goal.invariant-loop-lens
 invariant-loop-lens g l =
-    let of = g.L.EditLens in
-    view_trees l.views.items ≡ map (first_view of.left_type of.right_type of.start) (take l.lens-index l.lenses)
+    view_trees l.views.items ≡ map (first_view g.L.EditLens) (take l.lens-index l.lenses)

@@ -7,31 +7,31 @@ use Rattle.view_hub.proofs.lower.lower_each.Goals as goal
 pub offset_bounds-lenses-place : goal.offset_bounds-lenses-place
 offset_bounds-lenses-place g c =
     let within : c.loop-place.place < length c.args.views.now = omega arith in
-    omega (arith, lens_within g.L.EditLens.left_type g.L.EditLens.right_type g.L.EditLens.carried view_tree word_tree (word_tree c.args.word.now) c.args.lenses.now c.args.views.now c.loop-place.place c.requires within)
+    omega (arith, lens_within g.L.EditLens view_tree word_tree (word_tree c.args.word.now) c.args.lenses.now c.args.views.now c.loop-place.place c.requires within)
 
 pub bounds-lenses-place : goal.bounds-lenses-place
 bounds-lenses-place g c =
     let within : c.loop-place.place < length c.args.views.now = omega arith in
-    lens_within g.L.EditLens.left_type g.L.EditLens.right_type g.L.EditLens.carried view_tree word_tree (word_tree c.args.word.now) c.args.lenses.now c.args.views.now c.loop-place.place c.requires within
+    lens_within g.L.EditLens view_tree word_tree (word_tree c.args.word.now) c.args.lenses.now c.args.views.now c.loop-place.place c.requires within
 
 pub lower-requires-clause-typed : goal.lower-requires-clause-typed
 lower-requires-clause-typed g c =
     let within : c.loop-place.place < length c.args.views.now = omega arith in
-    (can_read g.L.EditLens.left_type g.L.EditLens.right_type g.L.EditLens.carried view_tree word_tree
+    (can_read g.L.EditLens view_tree word_tree
     (word_tree c.args.word.now) c.args.lenses.now c.args.views.now c.loop-place.place c.index-lenses-place.result c.index-views-place.result
     c.requires within c.index-lenses-place.is c.index-views-place.is).0
 
 pub lower-requires-clause-lowers : goal.lower-requires-clause-lowers
 lower-requires-clause-lowers g c =
     let within : c.loop-place.place < length c.args.views.now = omega arith in
-    (can_read g.L.EditLens.left_type g.L.EditLens.right_type g.L.EditLens.carried view_tree word_tree
+    (can_read g.L.EditLens view_tree word_tree
     (word_tree c.args.word.now) c.args.lenses.now c.args.views.now c.loop-place.place c.index-lenses-place.result c.index-views-place.result
     c.requires within c.index-lenses-place.is c.index-views-place.is).1
 
 pub loop-place-preserved : goal.loop-place-preserved
 loop-place-preserved g c =
     let within : c.loop-place.place < length c.args.views.now = omega arith in
-    adds-read g.L.EditLens.left_type g.L.EditLens.right_type g.L.EditLens.carried view_tree word_tree
+    adds-read g.L.EditLens view_tree word_tree
     (word_tree c.args.word.now) c.args.lenses.now c.args.views.now c.loop-place.place c.index-lenses-place.result c.index-views-place.result
     (view_trees c.args.out.now.views.items) (word_trees c.args.out.now.words.items)
     c.loop-place.out.views.items c.push.new.self.items c.loop-place.out.words.items c.push-in-loop-place.new.self.items
@@ -42,6 +42,6 @@ pub returns : goal.returns
 returns g c =
     let past : length c.args.views.now ≤ c.loop-place.place = omega arith in
     let end : c.loop-place.place ≤ length c.args.views.now = omega arith in
-    adds-end g.L.EditLens.left_type g.L.EditLens.right_type g.L.EditLens.carried view_tree word_tree
+    adds-end g.L.EditLens view_tree word_tree
     (word_tree c.args.word.now) c.args.lenses.now c.args.views.now c.loop-place.place (view_trees c.args.out.now.views.items) (word_trees c.args.out.now.words.items)
     (view_trees c.loop-place.out.views.items) (word_trees c.loop-place.out.words.items) c.requires past end c.loop-place.invariant

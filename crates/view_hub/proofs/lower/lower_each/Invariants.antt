@@ -8,6 +8,5 @@ use Rattle.view_hub.proofs.lower.lower_each.Given as goal
 -- the views before this place were lowered
 abbrev pub invariant-loop-place : goal.invariant-loop-place
 invariant-loop-place g l =
-    let of = g.L.EditLens in
-    Adds (lower_all of.left_type of.right_type of.carried (word_tree l.word) (take l.place l.lenses) (take l.place (view_trees l.views)))
+    Adds (lower_all g.L.EditLens (word_tree l.word) (take l.place l.lenses) (take l.place (view_trees l.views)))
     (view_trees l.fn.out.views.items) (word_trees l.fn.out.words.items) (view_trees l.out.views.items) (word_trees l.out.words.items)

@@ -6,17 +6,17 @@ use Rattle.view_hub.proofs.lower.lower_others.Goals as goal
 
 pub lower_each-requires : goal.lower_each-requires
 lower_each-requires g c =
-    can_before g.L.EditLens.left_type g.L.EditLens.right_type g.L.EditLens.carried view_tree word_tree
+    can_before g.L.EditLens view_tree word_tree
     (word_tree c.args.word.now) c.args.lenses.now c.args.views.now c.args.place c.requires.lowers
 
 pub lower_each-requires-2 : goal.lower_each-requires-2
 lower_each-requires-2 g c =
-    can_behind g.L.EditLens.left_type g.L.EditLens.right_type g.L.EditLens.carried view_tree word_tree
+    can_behind g.L.EditLens view_tree word_tree
     (word_tree c.args.word.now) c.args.lenses.now c.args.views.now (c.args.place + 1) c.requires.lowers
 
 pub returns : goal.returns
 returns g c =
-    adds-others g.L.EditLens.left_type g.L.EditLens.right_type g.L.EditLens.carried view_tree word_tree
+    adds-others g.L.EditLens view_tree word_tree
     (word_tree c.args.word.now) c.args.lenses.now c.args.views.now c.args.place c.args.own.view c.args.own.word
     c.new.result.items c.lower_each.new.out.views.items c.push.new.self.items c.new-2.result.items c.lower_each.new.out.words.items c.push-2.new.self.items
     (view_trees c.lower_each-2.new.out.views.items) (word_trees c.lower_each-2.new.out.words.items)

@@ -1,6 +1,6 @@
 use Rattle.std.proofs.Common.{◌++◌, ap, ◌∙◌, nat_lt, arith}
 use borrow.Author.Tests.{ltb-true, ltb-false}
-use Rattle.script_parts.specs.declared.script.TheConstants.{LONGEST}
+use Rattle.lens_syntax.specs.declared.reading.TheConstants.{MOST_PROGRAM_BYTES}
 use Rattle.script_parts.proofs.ProgramTexts.{still_long, added}
 use Rattle.script_parts.proofs.script.ProgramText.add_text.Goals as goal
 
@@ -9,7 +9,7 @@ returns-then-self c = λ part h. still_long c.args.self.now.is_long c.args.self.
 
 pub returns : goal.returns
 returns c = λ part h.
-    added c.args.self.now.is_long (nat_lt LONGEST c.len.result) c.args.self.now.text.items c.extend_from_slice-2.new.self.items part c.args.bytes.now c.args.end.now c.if-self.false h
+    added c.args.self.now.is_long (nat_lt MOST_PROGRAM_BYTES c.len.result) c.args.self.now.text.items c.extend_from_slice-2.new.self.items part c.args.bytes.now c.args.end.now c.if-self.false h
     (c.in_ok-extend_from_slice-2.ensures.items ∙ ap (λ t. t ++ c.args.end.now) c.in_ok-extend_from_slice.ensures.items)
-    (λ e. omega (arith, ltb-true LONGEST c.len.result e, c.len.ensures))
-    (λ e. omega (arith, ltb-false LONGEST c.len.result e, c.len.ensures))
+    (λ e. omega (arith, ltb-true MOST_PROGRAM_BYTES c.len.result e, c.len.ensures))
+    (λ e. omega (arith, ltb-false MOST_PROGRAM_BYTES c.len.result e, c.len.ensures))

@@ -14,7 +14,7 @@ invariant_of-self g c =
     let here = rw c.deref.ensures.value at c.in-Some.ensures in
     let address = rw (← c.self.view_is) at c.requires.addressed in
     let packet = addressed (map packet_tree c.self.inside.packets.items) c.args.place Left (packet_tree c.in-Some.packet.now) address here in
-    at-lens g.L.EditLens.holds g.L.EditLens.left_type g.L.EditLens.right_type g.L.EditLens.start g.L.EditLens.carried c.receive.new.self.lens c.self.inside.left.lens c.receive.ensures.lens
+    at-lens g.L.EditLens c.receive.new.self.lens c.self.inside.left.lens c.receive.ensures.lens
     (call-deliver_left (g.L.EditLens.holds c.self.inside.left.lens) (g.L.EditLens.left_type c.self.inside.left.lens)
     (g.L.EditLens.right_type c.self.inside.left.lens) (g.L.EditLens.start c.self.inside.left.lens) (g.L.EditLens.carried c.self.inside.left.lens) (ty_tree c.self.inside.right.ty)
     (map entry_tree c.self.inside.made.items) (left_tree c.self.inside.left.parts) (right_tree c.self.inside.right.parts)

@@ -5,6 +5,6 @@ use Rattle.view_hub.proofs.hub.Hub.start.Goals as goal
 pub invariant_of-result : goal.invariant_of-result
 invariant_of-result g c =
     let started = rw c.deref.ensures.value at c.in_ok-parts.ensures in
-    starts_in_step g.L.EditLens.left_type g.L.EditLens.right_type g.L.EditLens.start g.L.EditLens.holds g.L.EditLens.carried
+    starts_in_step g.L.EditLens
     g.met.L.EditLens.left_edits_carry g.met.L.EditLens.right_edits_carry g.met.L.EditLens.starts_consistent
     c.args.lenses.items (hub_tree c.in_ok-parts.parts) c.requires started

@@ -7,20 +7,20 @@ use Rattle.view_hub.proofs.hub.Hub.step.Goals as goal
 
 pub invariant_of-self : goal.invariant_of-self
 invariant_of-self g c =
-    stays g.L.EditLens.left_type g.L.EditLens.right_type g.L.EditLens.start g.L.EditLens.holds g.L.EditLens.carried
+    stays g.L.EditLens
     g.met.L.EditLens.left_edits_carry g.met.L.EditLens.right_edits_carry
     c.self.inside.lenses.items (hub_tree c.self.inside.parts) (hub_tree c.in_ok-parts.parts)
     (place_of c.args.side, word_tree c.args.word.now) (carried_tree c.in_ok-parts.carried) c.self.invariant
-    (subst (λ ls. step g.L.EditLens.left_type g.L.EditLens.right_type g.L.EditLens.carried
+    (subst (λ ls. step g.L.EditLens
     ls (hub_tree c.self.inside.parts) (place_of c.args.side, word_tree c.args.word.now)
     ≡ Some (Ok (hub_tree c.in_ok-parts.parts, carried_tree c.in_ok-parts.carried))) c.deref.ensures.value c.in_ok-parts.ensures)
 
 pub returns-clause-in_step : goal.returns-clause-in_step
 returns-clause-in_step g c =
-    stays g.L.EditLens.left_type g.L.EditLens.right_type g.L.EditLens.start g.L.EditLens.holds g.L.EditLens.carried
+    stays g.L.EditLens
     g.met.L.EditLens.left_edits_carry g.met.L.EditLens.right_edits_carry
     c.self.inside.lenses.items (hub_tree c.self.inside.parts) (hub_tree c.in_ok-parts.parts)
     (place_of c.args.side, word_tree c.args.word.now) (carried_tree c.in_ok-parts.carried) c.self.invariant
-    (subst (λ ls. step g.L.EditLens.left_type g.L.EditLens.right_type g.L.EditLens.carried
+    (subst (λ ls. step g.L.EditLens
     ls (hub_tree c.self.inside.parts) (place_of c.args.side, word_tree c.args.word.now)
     ≡ Some (Ok (hub_tree c.in_ok-parts.parts, carried_tree c.in_ok-parts.carried))) c.deref.ensures.value c.in_ok-parts.ensures)

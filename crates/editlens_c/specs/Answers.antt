@@ -1,0 +1,60 @@
+-- What an answer says: a status with its numbers, and the length of the text. Read it from the end: `IsWritten`, `part_of`, `IsAnswer`.
+use Rattle.std.specs.Prelude.{◌≡◌, ◌<◌, ◌==◌, ℕ, List, ◌++◌, length, drop, Bool, true, false, Option, None, Some, if◌then◌else◌}
+use Rattle.kept_sessions.specs.Kept.{text_of}
+use Rattle.kept_sessions.specs.declared.kept.Kept.{Kept}
+use Rattle.kept_sessions.specs.declared.kept.Kept.TheVariants as kept
+use Rattle.kept_sessions.specs.declared.outcome.Outcome.{Outcome}
+use Rattle.kept_sessions.specs.declared.outcome.Outcome.TheVariants as outcome
+use Rattle.kept_sessions.specs.declared.outcome.Part.{Part}
+use Rattle.kept_sessions.specs.declared.outcome.Part.TheVariants.{State, Left, Complement, Right, LeftType, RightType}
+use Rattle.editlens_c.specs.declared.answer.Answer.{Answer}
+use Rattle.editlens_c.specs.declared.codes.TheConstants as code
+use Rattle.editlens_c.specs.declared.reasons.Reason.{Reason}
+
+-- why there is no session, or that there is one
+abbrev pub closed_status : Kept → ℕ
+closed_status (kept.Open r) = code.DONE
+closed_status (kept.Refused refused line) = code.PROGRAM_REFUSED
+closed_status (kept.StateRefused fault) = code.STATE_REFUSED
+closed_status kept.NoMemory = code.NO_SESSION
+
+abbrev pub status_of : Outcome → Kept → ℕ
+status_of outcome.Done k = code.DONE
+status_of outcome.Blank k = code.BLANK
+status_of (outcome.NoApply part at cause) k = code.REFUSED
+status_of (outcome.NotAChange fault) k = code.REFUSED
+status_of outcome.LineFeed k = code.LINE_FEED
+status_of outcome.Full k = code.FULL
+status_of outcome.NoMemory k = code.NO_MEMORY
+status_of outcome.NoSession k = closed_status k
+
+-- how many items were given
+abbrev pub number_of : Kept → ℕ
+number_of (kept.Open r) = r.number
+number_of (kept.Refused refused line) = 0
+number_of (kept.StateRefused fault) = 0
+number_of kept.NoMemory = 0
+
+-- the answer has this status and this reason, the number of items of what is kept, and the length of its text
+pub record IsAnswer (status : ℕ) (reason : Reason) (k : Kept) (answer : Answer) : Type 0 where
+  pub status_is : answer.status ≡ status
+  pub cause_is : answer.cause ≡ reason.cause
+  pub part_is : answer.part ≡ reason.part
+  pub at_is : answer.at ≡ reason.at
+  pub number_is : answer.number ≡ number_of k
+  pub len_is : answer.len ≡ length (text_of k)
+
+-- the part of a state that has this number
+abbrev pub part_of : ℕ → Option Part
+part_of n = if n == code.STATE then Some State
+    else if n == code.LEFT then Some Left
+    else if n == code.COMPLEMENT then Some Complement
+    else if n == code.RIGHT then Some Right
+    else if n == code.LEFT_TYPE then Some LeftType
+    else if n == code.RIGHT_TYPE then Some RightType
+    else None
+
+-- a text has room: it is at the head of the buffer, and the rest is as it was; or the buffer is too small, and as it was
+abbrev pub IsWritten : List ℕ → List ℕ → Bool → List ℕ → Type 0
+IsWritten text old true new = new ≡ text ++ drop (length text) old
+IsWritten text old false new = (length old < length text) × (new ≡ old)

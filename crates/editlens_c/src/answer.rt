@@ -1,0 +1,134 @@
+//! What a call answers.
+ghost use Rattle.std.specs.Prelude.{◌≡◌};
+ghost use Rattle.editlens_c.specs.Answers.{IsAnswer, IsWritten, closed_status, status_of, part_of, number_of};
+ghost use Rattle.editlens_c.specs.Reasons.{no_place, closed_reason, reason_of};
+
+use crate::codes::*;
+use crate::reasons::{Reason, closed_reason, reason_of};
+use kept_sessions::{Kept, Outcome, Part};
+
+/// A status with its numbers, and the number of bytes of the text.
+#[repr(C)]
+#[derive(Clone, Copy, Drop)]
+pub struct Answer {
+    /// How the call ended: one of the constants of `editlens.h`.
+    pub status: u32,
+    /// The cause of a refusal, or 0.
+    pub cause: u32,
+    /// How many items the session was given.
+    pub number: u64,
+    /// The number of the entry of a group that does not apply, from 0, or 0.
+    pub part: u64,
+    /// The number, from 0, of the first primitive that fails; or the offset in a program that its refusal names; or 0.
+    pub at: u64,
+    /// How many bytes the text has that answers the last call.
+    pub len: usize,
+}
+
+// The answer to a call that ended so.
+pub(crate) fn answer_to(outcome: Outcome, kept: &Kept) -> Answer
+    ensures { IsAnswer (status_of outcome kept.now) (reason_of outcome kept.now) kept.now result }
+{
+    answer_with(status_of(outcome, kept), reason_of(outcome, kept), kept)
+}
+
+// The answer to the question of whether there is a session.
+pub(crate) fn standing_of(kept: &Kept) -> Answer
+    ensures { IsAnswer (closed_status kept.now) (closed_reason kept.now) kept.now result }
+{
+    answer_with(closed_status(kept), closed_reason(kept), kept)
+}
+
+// An answer with no cause.
+pub(crate) fn plain_answer(status: u32, kept: &Kept) -> Answer
+    ensures { IsAnswer status (no_place NO_CAUSE) kept.now result }
+{
+    let none = Reason {
+        cause: NO_CAUSE,
+        part: 0,
+        at: 0,
+    };
+    answer_with(status, none, kept)
+}
+
+fn answer_with(status: u32, reason: Reason, kept: &Kept) -> Answer
+    ensures { IsAnswer status reason kept.now result }
+{
+    Answer {
+        status,
+        cause: reason.cause,
+        number: number_of(kept),
+        part: reason.part,
+        at: reason.at,
+        len: kept.text().len(),
+    }
+}
+
+fn status_of(outcome: Outcome, kept: &Kept) -> u32
+    ensures { result ≡ status_of outcome kept.now }
+{
+    match outcome {
+        Outcome::Done => DONE,
+        Outcome::Blank => BLANK,
+        Outcome::NoApply { .. } | Outcome::NotAChange(_) => REFUSED,
+        Outcome::LineFeed => LINE_FEED,
+        Outcome::Full => FULL,
+        Outcome::NoMemory => NO_MEMORY,
+        Outcome::NoSession => closed_status(kept),
+    }
+}
+
+// Why there is no session, or that there is one.
+fn closed_status(kept: &Kept) -> u32
+    ensures { result ≡ closed_status kept.now }
+{
+    match kept {
+        Kept::Open(_) => DONE,
+        Kept::Refused(_, _) => PROGRAM_REFUSED,
+        Kept::StateRefused(_) => STATE_REFUSED,
+        Kept::NoMemory => NO_SESSION,
+    }
+}
+
+// How many items were given.
+fn number_of(kept: &Kept) -> u64
+    ensures { result ≡ number_of kept.now }
+{
+    match kept {
+        Kept::Open(running) => running.number,
+        Kept::Refused(_, _) | Kept::StateRefused(_) | Kept::NoMemory => 0,
+    }
+}
+
+// The part of the state that has this number.
+pub(crate) fn part_of(number: u32) -> Option<Part>
+    ensures { result ≡ part_of number }
+{
+    if number == STATE {
+        Some(Part::State)
+    } else if number == LEFT {
+        Some(Part::Left)
+    } else if number == COMPLEMENT {
+        Some(Part::Complement)
+    } else if number == RIGHT {
+        Some(Part::Right)
+    } else if number == LEFT_TYPE {
+        Some(Part::LeftType)
+    } else if number == RIGHT_TYPE {
+        Some(Part::RightType)
+    } else {
+        None
+    }
+}
+
+// Copies a text to the head of a buffer that has room for it, and says so.
+pub(crate) fn is_written(text: &[u8], out: &mut [u8]) -> bool
+    ensures { IsWritten text.now out.old result out.new }
+{
+    let len = text.len();
+    if out.len() < len {
+        return false;
+    }
+    out[..len].copy_from_slice(text);
+    true
+}

@@ -1,0 +1,4 @@
+pub mod GivenLines
+pub mod PartTexts
+pub mod RefusedPrograms
+pub mod SameStates

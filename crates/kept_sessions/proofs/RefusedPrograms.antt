@@ -1,0 +1,17 @@
+-- A program that is refused is refused by every call that opens a session.
+use Rattle.std.proofs.Common.{ℕ, List}
+use Rattle.kept_sessions.specs.Kept.{IsRefusedProgram, IsOpened, IsResumed}
+use Rattle.kept_sessions.specs.declared.kept.Kept.{Kept}
+use Rattle.kept_sessions.specs.declared.kept.Kept.TheVariants as kept
+
+pub refused_opened : (program : List ℕ) (k : Kept) → IsRefusedProgram program k → IsOpened program k
+refused_opened program (kept.Open r) h = absurd h
+refused_opened program (kept.Refused refused line) h = h
+refused_opened program (kept.StateRefused why) h = absurd h
+refused_opened program kept.NoMemory h = tt
+
+pub refused_resumed : (program left comp right : List ℕ) (k : Kept) → IsRefusedProgram program k → IsResumed program left comp right k
+refused_resumed program left comp right (kept.Open r) h = absurd h
+refused_resumed program left comp right (kept.Refused refused line) h = h
+refused_resumed program left comp right (kept.StateRefused why) h = absurd h
+refused_resumed program left comp right kept.NoMemory h = tt

@@ -1,0 +1,4 @@
+pub mod Journals
+pub mod Kept
+pub mod States
+pub mod Steps

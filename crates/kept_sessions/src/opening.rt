@@ -1,0 +1,55 @@
+//! The session over a program, or the line of its refusal.
+ghost use Rattle.std.specs.Prelude.{◌≡◌, List, ℕ, IfOk, Ok};
+ghost use Rattle.accepted_programs.specs.Program.{lens_of};
+ghost use Rattle.accepted_programs.specs.Refused.{IsKnown, IsRefusal};
+ghost use Rattle.edit_session.specs.Views.{triple_tree};
+ghost use Rattle.journal_answers.specs.Runs.{first_of};
+ghost use Rattle.lens_forms.specs.Forms.{form_tree};
+ghost use Rattle.kept_sessions.specs.Kept.{IsOpened, IsRefusedProgram};
+
+use crate::kept::Kept;
+use crate::running::Running;
+use accepted_programs::{Refused, read_lens};
+use answer_text::refused_part_line;
+use edit_session::Session;
+use lens_flat::Flat;
+use lens_types::Typed;
+use std::alloc::{AllocError, Global};
+
+// The session over a program, or why there is none.
+pub(crate) fn open(alloc: Global, program: &[u8]) -> Kept
+    ensures { IsOpened program.now result }
+{
+    match read_lens(alloc, program) {
+        Ok(typed) => started(alloc, typed),
+        Err(refused) => closed(alloc, refused),
+    }
+}
+
+fn started(alloc: Global, typed: Typed) -> Kept
+    ensures { (program : List ℕ) → lens_of program ≡ Ok (form_tree typed) → IsOpened program result }
+{
+    match first_session(alloc, &typed) {
+        Ok(session) => Kept::Open(Running::new(alloc, session)),
+        Err(_) => Kept::NoMemory,
+    }
+}
+
+fn first_session(alloc: Global, typed: &Typed) -> Result<Session<Flat>, AllocError>
+    ensures form { IfOk result (λ s. form_tree s.lens.typed ≡ form_tree typed.now) }
+    ensures first { IfOk result (λ s. triple_tree s.triple ≡ first_of (form_tree typed.now)) }
+{
+    let lens = Flat::compile(alloc, typed)?;
+    Session::start(alloc, lens)
+}
+
+// What is kept of a program that is refused.
+pub(crate) fn closed(alloc: Global, refused: Refused) -> Kept
+    requires { IsKnown refused }
+    ensures { (program : List ℕ) → IsRefusal (lens_of program) refused → IsRefusedProgram program result }
+{
+    match refused_part_line(alloc, &refused) {
+        Ok(line) => Kept::Refused(refused, line.into_vec()),
+        Err(_) => Kept::NoMemory,
+    }
+}

@@ -1,0 +1,170 @@
+//! The session that goes on from a state, or why there is none.
+ghost use Rattle.std.specs.Prelude.{◌≡◌, List, ℕ, Ok, MatchResult, MatchOption, IfOk};
+ghost use Rattle.serde_json.specs.View.{view};
+ghost use Rattle.accepted_programs.specs.Program.{lens_of};
+ghost use Rattle.doc_values.specs.Documents.{DocTree, doc_tree};
+ghost use Rattle.doc_values.specs.Types.{ty_tree};
+ghost use Rattle.edit_session.specs.Views.{triple_tree};
+ghost use Rattle.journal_answers.specs.Runs.{IsInStepFor};
+ghost use Rattle.lens_core.specs.Complements.{CompTree, comp_tree};
+ghost use Rattle.lens_forms.specs.Forms.{form_tree};
+ghost use Rattle.kept_sessions.specs.Kept.{IsResumed};
+ghost use Rattle.kept_sessions.specs.States.{IsDocumentTree, IsDocumentText, IsComplementTree, IsComplementText, IsStateText, IsStateFault};
+
+use crate::kept::Kept;
+use crate::opening::closed;
+use crate::outcome::StateFault;
+use crate::running::Running;
+use accepted_programs::read_lens;
+use complement_file::{CompFault, read_comp};
+use doc_values::{Doc, Ty};
+use edit_session::{Session, Triple};
+use lens_check::consistent;
+use lens_core::Comp;
+use lens_flat::Flat;
+use lens_types::Typed;
+use serde_json::Value;
+use std::alloc::{AllocError, Global};
+use stored_records::read_tree;
+use value_json::{DocFault, read_doc};
+
+// The session over a program that goes on from the state of these texts, or why there is none.
+pub(crate) fn resume(alloc: Global, program: &[u8], left: &[u8], comp: &[u8], right: &[u8]) -> Kept
+    ensures { IsResumed program.now left.now comp.now right.now result }
+{
+    match read_lens(alloc, program) {
+        Ok(typed) => resumed(alloc, typed, left, comp, right),
+        Err(refused) => closed(alloc, refused),
+    }
+}
+
+fn resumed(alloc: Global, typed: Typed, left: &[u8], comp: &[u8], right: &[u8]) -> Kept
+    ensures { (program : List ℕ) → lens_of program ≡ Ok (form_tree typed)
+        → IsResumed program left.now comp.now right.now result }
+{
+    match read_state(alloc, &typed, left, comp, right) {
+        Ok(triple) => going_on(alloc, &typed, triple),
+        Err(StateFault::NoMemory) => Kept::NoMemory,
+        Err(fault) => Kept::StateRefused(fault),
+    }
+}
+
+// The session of a triple that is consistent.
+fn going_on(alloc: Global, typed: &Typed, triple: Triple) -> Kept
+    requires in_step { IsInStepFor (form_tree typed.now) (triple_tree triple) }
+    ensures { (program left comp right : List ℕ) → lens_of program ≡ Ok (form_tree typed.now)
+        → IsStateText (form_tree typed.now) left comp right (triple_tree triple)
+        → IsResumed program left comp right result }
+{
+    match session_at(alloc, typed, triple) {
+        Ok(session) => Kept::Open(Running::new(alloc, session)),
+        Err(_) => Kept::NoMemory,
+    }
+}
+
+fn session_at(alloc: Global, typed: &Typed, triple: Triple) -> Result<Session<Flat>, AllocError>
+    requires in_step { IsInStepFor (form_tree typed.now) (triple_tree triple) }
+    ensures form { IfOk result (λ s. form_tree s.lens.typed ≡ form_tree typed.now) }
+    ensures triple { IfOk result (λ s. triple_tree s.triple ≡ triple_tree triple) }
+    ensures in_step { IfOk result (λ s. IsInStepFor (form_tree s.lens.typed) (triple_tree s.triple)) }
+{
+    let lens = Flat::compile(alloc, typed)?;
+    let Triple { left, comp, right } = triple;
+    Ok(Session::resume(alloc, lens, left, comp, right))
+}
+
+// The triple of these texts, which is consistent, or why there is none.
+fn read_state(
+    alloc: Global,
+    typed: &Typed,
+    left: &[u8],
+    comp: &[u8],
+    right: &[u8],
+) -> Result<Triple, StateFault>
+    ensures state { MatchResult result
+        (λ triple. IsStateText (form_tree typed.now) left.now comp.now right.now (triple_tree triple))
+        (IsStateFault (form_tree typed.now) left.now comp.now right.now) }
+    ensures in_step { IfOk result (λ triple. IsInStepFor (form_tree typed.now) (triple_tree triple)) }
+{
+    let triple = read_triple(alloc, typed, left, comp, right)?;
+    if !consistent(alloc, typed, &triple.left, &triple.comp, &triple.right)? {
+        return Err(StateFault::NotConsistent);
+    }
+    Ok(triple)
+}
+
+// The triple of these texts, consistent or not, or which of them is the first that the lens does not have.
+fn read_triple(
+    alloc: Global,
+    typed: &Typed,
+    left: &[u8],
+    comp: &[u8],
+    right: &[u8],
+) -> Result<Triple, StateFault>
+    ensures { MatchResult result
+        (λ triple. IsStateText (form_tree typed.now) left.now comp.now right.now (triple_tree triple))
+        (IsStateFault (form_tree typed.now) left.now comp.now right.now) }
+{
+    let Some(left) = document_of_text(alloc, typed.left(), left)? else {
+        return Err(StateFault::NotLeft);
+    };
+    let Some(comp) = complement_of_text(alloc, typed, comp)? else {
+        return Err(StateFault::NotComplement);
+    };
+    let Some(right) = document_of_text(alloc, typed.right(), right)? else {
+        return Err(StateFault::NotRight);
+    };
+    Ok(Triple { left, comp, right })
+}
+
+// The document of a type that a text is the JSON of. None if and only if there is none.
+fn document_of_text(alloc: Global, ty: &Ty, text: &[u8]) -> Result<Option<Doc>, AllocError>
+    ensures { IfOk result (λ found. MatchOption found
+        ((doc : DocTree) → IsDocumentText (ty_tree ty.now) text.now doc → ⊥)
+        (λ doc. IsDocumentText (ty_tree ty.now) text.now (doc_tree doc))) }
+{
+    match read_tree(alloc, text)? {
+        Some(tree) => document_of_tree(alloc, ty, &tree),
+        None => Ok(None),
+    }
+}
+
+fn document_of_tree(alloc: Global, ty: &Ty, tree: &Value) -> Result<Option<Doc>, AllocError>
+    ensures { IfOk result (λ found. MatchOption found
+        ((doc : DocTree) → IsDocumentTree (ty_tree ty.now) (view tree.now) doc → ⊥)
+        (λ doc. IsDocumentTree (ty_tree ty.now) (view tree.now) (doc_tree doc))) }
+{
+    match read_doc(alloc, ty, tree) {
+        Ok(doc) => Ok(Some(doc)),
+        Err(DocFault::NotOfType) => Ok(None),
+        Err(DocFault::NoMemory) => Err(AllocError),
+    }
+}
+
+// The complement of a lens that a text is the JSON of. None if and only if there is none.
+fn complement_of_text(alloc: Global, typed: &Typed, text: &[u8]) -> Result<Option<Comp>, AllocError>
+    ensures { IfOk result (λ found. MatchOption found
+        ((comp : CompTree) → IsComplementText (form_tree typed.now) text.now comp → ⊥)
+        (λ comp. IsComplementText (form_tree typed.now) text.now (comp_tree comp))) }
+{
+    match read_tree(alloc, text)? {
+        Some(tree) => complement_of_tree(alloc, typed, &tree),
+        None => Ok(None),
+    }
+}
+
+fn complement_of_tree(
+    alloc: Global,
+    typed: &Typed,
+    tree: &Value,
+) -> Result<Option<Comp>, AllocError>
+    ensures { IfOk result (λ found. MatchOption found
+        ((comp : CompTree) → IsComplementTree (form_tree typed.now) (view tree.now) comp → ⊥)
+        (λ comp. IsComplementTree (form_tree typed.now) (view tree.now) (comp_tree comp))) }
+{
+    match read_comp(alloc, typed, tree) {
+        Ok(comp) => Ok(Some(comp)),
+        Err(CompFault::NotAComplement) => Ok(None),
+        Err(CompFault::NoMemory) => Err(AllocError),
+    }
+}
