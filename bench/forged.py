@@ -10,29 +10,20 @@ The program is built first if it is not there: `rt run` in crates/fault_cases. I
 """
 
 import glob
-import json
 import os
 import random
 import subprocess
 import sys
 import tempfile
 
-CRATES = os.path.join(os.path.dirname(os.path.abspath(__file__)), "../crates")
+TOP = os.path.dirname(os.path.dirname(os.path.abspath(__file__)))
+sys.path.insert(0, TOP)
+
+from reference.steps import read_steps  # noqa: E402
+
+CRATES = os.path.join(TOP, "crates")
 FOLDER = os.path.join(CRATES, "fault_cases")
 PROGRAM = os.path.join(FOLDER, "out/fault_cases")
-
-
-def steps(name):
-    """The steps of a file of docs/CASES.md, each with its line."""
-    with open(name, "rb") as file:
-        held = file.read()
-    at = 0
-    while at < len(held):
-        body = held.index(b"\n", at) + 1
-        line = json.loads(held[at:body])
-        end = body + sum(line.get(part, 0) for part in ("input", "output", "store_before", "store_after")) + 1
-        yield line, held[at:end]
-        at = end
 
 
 def main():
@@ -41,7 +32,11 @@ def main():
     if not os.path.exists(PROGRAM):
         subprocess.run(["rt", "run"], cwd=FOLDER, check=True, stdout=subprocess.DEVNULL)
     names = sorted(glob.glob(os.path.join(CRATES, "command_cases/data/*.cases")))
-    found = [step for name in names for step in steps(name) if step[0]["words"] == ["verify"] and step[0].get("store_before")]
+    found = []
+    for name in names:
+        with open(name, "rb") as file:
+            steps = read_steps(file.read())
+            found += [(line, step) for line, _, step in steps if line["words"] == ["verify"] and line.get("store_before")]
     random.Random(seed).shuffle(found)
     with tempfile.TemporaryDirectory() as room:
         with open(os.path.join(room, "forged.cases"), "wb") as out:

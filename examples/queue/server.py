@@ -52,7 +52,7 @@ class Server:
         self._start()
 
     def _connected(self):
-        for _ in range(200):
+        for _ in range(1200):
             try:
                 queue = Redis(self.port)
                 queue.call("PING")

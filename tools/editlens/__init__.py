@@ -1,35 +1,67 @@
 """Tools around editlens, in Python's standard library alone. They are tested (tools/check) and not proved.
 
 Session     a client: the program as a co-process, one edit in and one answer out
-Hub         the same for a hub and its views
-Store       a client over the commands of a store, each a run of the program
+Hub, Link   the same for a hub and its views, and for two sites that take turns
+Store       a client over the commands of a store, each a run of the program; `Store.open` keeps one open, as an OpenStore
+StoreLock   the lock on the folder of a store, for tools that change its file
 types       the types that `check` prints, and what a token of a lens program is
 documents   a JSON document held against a type
+plans       the shapes of lists, maps and trees, and what an edit does to them
 edits       what an edit does to a document, and why it is refused
 construct   the edits that build a document
 patches     JSON Patch (RFC 6902) to edits, and back
+natural     users' files as they are: form files, documents and patches both ways
+private     what the other side would lose by a patch
+named       edits that name an item or a node by what it has
 load        the journal that builds two documents that exist
+log         the records in the file of a store
+upkeep      what one does with a store from day to day; also checkup, relens, replacement, copies
 explain     what a refusal means, with the place in the text or in the document
+lenses      the lens of a program, and `sharing`: which places of both documents it ties
+changes     the places that an edit changed, and `sentences`: an edit in words
+desk        both documents on a page in the browser; `browser` drives one for its tests and pictures
 
 No tool computes an edit from two versions of a document.
 """
 
-from .answers import Accepted, Refused, ProgramRefused, RunEnded, read_answer
+from .answers import Accepted, NoAnswer, NotAnAnswer, ProgramRefused, Refused, RunEnded, read_answer
+from .checked import check
 from .hub import Hub, HubAccepted
+from .link import Link, LinkAccepted
+from .lock import StoreBusy, StoreLock
+from .named import NotFound
+from .natural import DoesNotFit, FormFault, NoCounterpart, NotWritable
+from .open_store import OpenStore
+from .private import PrivateLoss
 from .program import NoProgram, find_program
-from .session import Session, check
-from .store import Store, StoreRefused
+from .session import DocumentsDiffer, Session
+from .store import ImportRefused, Store, StoreRefused
 
 __all__ = [
     "Accepted",
+    "DocumentsDiffer",
+    "DoesNotFit",
+    "FormFault",
     "Hub",
     "HubAccepted",
+    "ImportRefused",
+    "Link",
+    "LinkAccepted",
+    "NoAnswer",
+    "NoCounterpart",
     "NoProgram",
+    "NotAnAnswer",
+    "NotFound",
+    "NotWritable",
+    "OpenStore",
+    "PrivateLoss",
     "ProgramRefused",
     "Refused",
     "RunEnded",
     "Session",
     "Store",
+    "StoreBusy",
+    "StoreLock",
     "StoreRefused",
     "check",
     "find_program",

@@ -4,6 +4,7 @@ from dataclasses import dataclass
 
 from .json_text import read_json
 
+FAULTS = ("line-too-long", "not-json", "not-an-entry", "not-an-edit", "no-view")
 OTHER = {"left": "right", "right": "left"}
 STATUSES = {
     0: "every entry was accepted",
@@ -13,7 +14,7 @@ STATUSES = {
     4: "the store is refused",
     5: "the input failed",
     6: "the output failed",
-    7: "the disk failed",
+    7: "another program is writing to the store, or the disk failed",
     8: "more than 2^30 bytes came",
     9: "there was not enough memory",
     20: "the program could not be run",
@@ -22,10 +23,14 @@ STATUSES = {
 
 @dataclass(frozen=True)
 class Accepted:
-    """An accepted line: its number, and each side with the word that goes to it. A single entry has one, a group one for each entry."""
+    """An accepted line: its number, and each side with the word that goes to it. A single entry has one, a group one for each entry.
+
+    `places` are the positions of the items and nodes that an edit named by what they have, in the order in which it names them.
+    """
 
     number: int
     words: tuple
+    places: tuple = ()
 
     @property
     def side(self):
@@ -38,8 +43,26 @@ class Accepted:
         return self.words[0][1]
 
 
+class Explained(Exception):
+    """An exception that says, behind its first line, what is wrong and what to do: `explanation` has those lines."""
+
+    explain = None
+    """A call without arguments that returns the lines. It is made where they are asked for, since it may take its time."""
+
+    @property
+    def explanation(self):
+        """The lines that explain it."""
+        return list(self.explain()) if self.explain else []
+
+    def __str__(self):
+        try:
+            return "\n".join([self.said(), *self.explanation])
+        except Exception as why:
+            return f"{self.said()}\n(no explanation: {why})"
+
+
 @dataclass
-class Refused(Exception):
+class Refused(Explained):
     """A refused line: its number and its cause. `at` is the primitive that fails, and `part` the entry of a group, or None."""
 
     number: int
@@ -47,40 +70,99 @@ class Refused(Exception):
     at: "int | None" = None
     part: "int | None" = None
 
-    def __str__(self):
+    @property
+    def written(self):
+        """The line, as the program writes it."""
+        part = f"group {self.part} " if self.part is not None else ""
+        cause = self.cause if self.at is None else f"no-apply {self.at} {self.cause}"
+        return f"refused {self.number} {part}{cause}"
+
+    def said(self):
+        """The line without its explanation."""
         place = f" at primitive {self.at}" if self.at is not None else ""
         part = f" of entry {self.part} of the group" if self.part is not None else ""
         return f"line {self.number} is refused: {self.cause}{place}{part}"
 
 
-class ProgramRefused(Exception):
+class ProgramRefused(Explained):
     """The lens program is refused. `reason` is what stands behind `program refused:`."""
 
-    def __init__(self, reason):
-        super().__init__(f"program refused: {reason}")
-        self.reason = reason
+    def __init__(self, reason, explain=None):
+        super().__init__(reason)
+        self.reason, self.explain = reason, explain
+
+    def said(self):
+        """The line without its explanation."""
+        return f"program refused: {self.reason}"
 
 
 class RunEnded(Exception):
-    """The program ended before it answered."""
+    """The program ended before it answered, with `status`, which is negative where a signal ended it.
+
+    For a store that is kept open, `stored` is how many changes it had at the last answer. The change that was sent then is stored as well,
+    or it is not: the count of the store, when it is opened again, is `stored` + 1 or `stored`.
+    """
+
+    stored = None
 
     def __init__(self, status):
-        super().__init__(f"the program ended with status {status}: {STATUSES.get(status, 'unknown')}")
+        super().__init__(status)
         self.status = status
+
+    def said(self):
+        """What happened to the run."""
+        if self.status is not None and self.status < 0:
+            return f"the program was ended by signal {-self.status}"
+        return f"the program ended with status {self.status}: {STATUSES.get(self.status, 'unknown')}"
+
+    def __str__(self):
+        if self.stored is None:
+            return self.said()
+        certain = f"{self.stored} changes are stored for certain; the change that was sent may be stored too"
+        return f"{self.said()}\n{certain}. Open the store again: it has {self.stored} or {self.stored + 1} changes"
+
+
+class NoAnswer(RunEnded):
+    """No answer came within `timeout` seconds, and the run was stopped."""
+
+    def __init__(self, timeout):
+        super().__init__(None)
+        self.timeout = timeout
+
+    def said(self):
+        return f"no answer came within {self.timeout} seconds, and the run was stopped"
+
+
+class NotAnAnswer(RunEnded):
+    """What came is not an answer, and the run was stopped. `line` is what came."""
+
+    def __init__(self, line):
+        super().__init__(None)
+        self.line = line
+
+    def said(self):
+        return f"what came is not an answer, and the run was stopped: {self.line[:100]!r}"
 
 
 def read_answer(line):
     """The answer of a line `ok ..` or `refused ..`: an Accepted or a Refused, which is not raised."""
     words = line.rstrip("\n").split(" ")
+    try:
+        return _read_words(line, words)
+    except (ValueError, IndexError, KeyError, TypeError):
+        raise NotAnAnswer(line) from None
+
+
+def _read_words(line, words):
     if words[0] == "ok" and words[2] == "group":
         carried = read_json(line.split(" ", 3)[3])
         return Accepted(int(words[1]), tuple((it["side"], it["edit"]) for it in carried))
     if words[0] == "ok" and words[2] in OTHER:
         return Accepted(int(words[1]), ((words[2], read_json(line.split(" ", 3)[3])),))
-    if words[0] == "refused" and len(words) == 3:
+    if words[0] == "refused" and len(words) == 3 and words[2] in FAULTS:
         return Refused(int(words[1]), words[2])
     if words[0] == "refused" and words[2] == "no-apply" and len(words) == 5:
         return Refused(int(words[1]), words[4], at=int(words[3]))
     if words[0] == "refused" and words[2] == "group" and len(words) == 7:
         return Refused(int(words[1]), words[6], at=int(words[5]), part=int(words[3]))
-    raise ValueError(f"not an answer: {line!r}")
+    raise NotAnAnswer(line)

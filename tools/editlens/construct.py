@@ -3,7 +3,7 @@
 import copy
 
 from .edits import MOST_ITEMS, paths_of
-from .json_text import write_json
+from .json_text import read_json, write_json
 from .types import initial
 
 MOST_BYTES = 4_000
@@ -11,7 +11,10 @@ MOST_BYTES = 4_000
 
 
 def set_steps(ty, document, path=()):
-    """Steps that make the initial document of a type this one: each a path, of pairs of a primitive and a name, and a primitive."""
+    """Steps that make the initial document of a type this one: each a path, of pairs of a primitive and a name, and a primitive.
+
+    Keys come in the order in which the document has them.
+    """
     if ty.kind == "record":
         for name, inner in ty.fields:
             yield from set_steps(inner, document[name], (*path, ("at", name)))
@@ -25,7 +28,7 @@ def set_steps(ty, document, path=()):
         for place, item in enumerate(document):
             yield from set_steps(ty.inner, item, (*path, ("mod", place)))
     elif ty.kind == "keyed":
-        for key in sorted(document):
+        for key in document:
             yield path, {"put": key}
             yield from set_steps(ty.inner, document[key], (*path, ("mod", key)))
     elif ty.kind == "tree":
@@ -52,14 +55,19 @@ def _counted(name, count, path):
 
 
 def _tree_steps(ty, document, path):
-    for place in paths_of(document["depths"])[1:]:
-        yield path, {"graft": place[:-1]}
     for place, item in zip(paths_of(document["depths"]), document["items"]):
+        if place:
+            yield path, {"graft": place[:-1]}
         yield from set_steps(ty.inner, item, (*path, ("mod", place)))
 
 
 def replace_steps(ty, old, new, path=()):
-    """Steps that replace a value as a whole: a record field by field, alternatives, lists, maps and trees by new contents."""
+    """Steps that replace a value as a whole: a record field by field, alternatives, lists, maps and trees by new contents.
+
+    What is the same as a whole has no steps. Equal items inside are not looked for.
+    """
+    if old == new:
+        return
     if ty.kind == "record":
         for name, inner in ty.fields:
             yield from replace_steps(inner, old[name], new[name], (*path, ("at", name)))
@@ -85,7 +93,7 @@ def replace_steps(ty, old, new, path=()):
             yield path, {"graft": place[:-1]}
         for place, item in list(zip(paths_of(new["depths"]), new["items"]))[1:]:
             yield from set_steps(ty.inner, item, (*path, ("mod", place)))
-    elif old != new:
+    else:
         yield path, {"set": new}
 
 
@@ -128,5 +136,5 @@ def words_of(steps, most=MOST_BYTES):
 
 
 def construct(ty, document):
-    """The word that makes the initial document of a type this one."""
-    return word_of(set_steps(ty, document))
+    """The word that makes the initial document of a type this one, with its keys in byte order."""
+    return word_of(set_steps(ty, read_json(write_json(document))))

@@ -3,9 +3,8 @@
 from dataclasses import dataclass
 
 from .json_text import pointer, shown
+from .plans import MOST_DEPTH
 from .types import LEAST_INT, MOST_INT, write_name, write_type
-
-MOST_DEPTH = 15
 
 
 @dataclass(frozen=True)

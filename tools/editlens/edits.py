@@ -6,13 +6,13 @@ they are never changed, and an edit makes a new one.
 
 from dataclasses import dataclass
 
-from .documents import MOST_DEPTH, is_int
+from .documents import is_int
 from .json_text import pointer, shown
+from .plans import MOST_ITEMS, PLANS, NoPlan, contents, form_of, hold, item_at, in_byte_order, key_at, listed, need_node, plan, quoted
+from .plans import children_of, node_at, paths_of  # noqa: F401 (places of trees, which go with edits of trees)
 from .types import LEAST_INT, MOST_INT, initial, write_name
 
-MOST_ITEMS = 65_536
 MOST_COUNT = 2**64 - 1
-MANY = 8
 
 ALLOWED = {
     "unit": "null has no primitive",
@@ -46,12 +46,14 @@ class NotAnEdit(ValueError):
     """A tree that is not an edit."""
 
 
-def _is_count(tree):
+def is_count(tree):
+    """Whether a tree is a whole number from 0 below 2^64."""
     return type(tree) is int and 0 <= tree <= MOST_COUNT
 
 
-def _is_path(tree):
-    return isinstance(tree, list) and all(_is_count(it) for it in tree)
+def is_path(tree):
+    """Whether a tree is a list of counts, as a path in a tree is."""
+    return isinstance(tree, list) and all(is_count(it) for it in tree)
 
 
 def _is_row(tree, *tests):
@@ -69,22 +71,22 @@ def _is_any(_):
 FORMS = {
     "set": (lambda it: isinstance(it, (bool, str)) or is_int(it), "true, false, a whole number or a string"),
     "add": (is_int, "a whole number"),
-    "splice": (lambda it: _is_row(it, _is_count, _is_count, _is_text), '[PLACE,COUNT,"TEXT"]'),
+    "splice": (lambda it: _is_row(it, is_count, is_count, _is_text), '[PLACE,COUNT,"TEXT"]'),
     "at": (lambda it: _is_row(it, _is_text, _is_any), '["FIELD",EDIT]'),
     "stay": (lambda it: _is_row(it, _is_text, _is_any), '["TAG",EDIT]'),
     "switch": (lambda it: _is_row(it, _is_text, _is_text, _is_any), '["TAG","TAG",EDIT]'),
-    "mod": (lambda it: _is_row(it, lambda place: _is_count(place) or _is_text(place) or _is_path(place), _is_any), "[PLACE,EDIT]"),
+    "mod": (lambda it: _is_row(it, lambda place: is_count(place) or _is_text(place) or is_path(place), _is_any), "[PLACE,EDIT]"),
     "ins": (lambda it: type(it) is int and 1 <= it <= MOST_ITEMS, f"a number from 1 to {MOST_ITEMS}"),
     "del": (lambda it: type(it) is int and 1 <= it <= MOST_ITEMS, f"a number from 1 to {MOST_ITEMS}"),
-    "move": (lambda it: _is_row(it, _is_count, _is_count), "[FROM,TO]"),
-    "reorder": (_is_path, "[PLACE,PLACE,..]"),
+    "move": (lambda it: _is_row(it, is_count, is_count), "[FROM,TO]"),
+    "reorder": (is_path, "[PLACE,PLACE,..]"),
     "put": (_is_text, '"KEY"'),
     "drop": (_is_text, '"KEY"'),
     "rename": (lambda it: _is_row(it, _is_text, _is_text), '["KEY","KEY"]'),
-    "graft": (_is_path, "a path, as [0,1]"),
-    "prune": (_is_path, "a path, as [0,1]"),
-    "shift": (lambda it: _is_row(it, _is_path, _is_count, _is_count), "[PATH,FROM,TO]"),
-    "hang": (lambda it: _is_row(it, _is_path, _is_path), "[PATH,PATH]"),
+    "graft": (is_path, "a path, as [0,1]"),
+    "prune": (is_path, "a path, as [0,1]"),
+    "shift": (lambda it: _is_row(it, is_path, is_count, is_count), "[PATH,FROM,TO]"),
+    "hang": (lambda it: _is_row(it, is_path, is_path), "[PATH,PATH]"),
 }
 WITH_EDIT = ("at", "stay", "switch", "mod")
 
@@ -131,11 +133,6 @@ def _kind(ty, value, path):
     return NoApply("kind", path, value, ALLOWED[ty.kind])
 
 
-def _listed(names):
-    some = ", ".join(write_name(it) for it in names[:MANY])
-    return some + (f" and {len(names) - MANY} more" if len(names) > MANY else "")
-
-
 def _on_unit(ty, value, name, content, path):
     raise _kind(ty, value, path)
 
@@ -170,7 +167,7 @@ def _on_text(ty, value, name, content, path):
 def _on_enum(ty, value, name, content, path):
     if name == "set" and isinstance(content, str):
         if content not in ty.members:
-            raise NoApply("value", path, value, "the members " + ", ".join(f'"{it}"' for it in ty.members))
+            raise NoApply("value", path, value, "the members " + ", ".join(map(quoted, ty.members)))
         return content
     raise _kind(ty, value, path)
 
@@ -180,7 +177,7 @@ def _on_record(ty, value, name, content, path):
         raise _kind(ty, value, path)
     field, inner = content
     if not ty.field(field):
-        raise NoApply("place", path, value, f"the fields {_listed(ty.names())}; {write_name(field)} is none of them")
+        raise NoApply("place", path, value, f"the fields {listed(ty.names())}; {write_name(field)} is none of them")
     return {**value, field: _act(ty.field(field), value[field], inner, (*path, field))}
 
 
@@ -194,178 +191,46 @@ def _on_alternatives(ty, value, name, content, path):
         return {tag: _act(ty.field(tag), value[tag], content[1], (*path, tag))}
     other = content[1]
     if not ty.field(other):
-        raise NoApply("tag", path, value, f"the tags {_listed(ty.names())}; {write_name(other)} is none of them")
+        raise NoApply("tag", path, value, f"the tags {listed(ty.names())}; {write_name(other)} is none of them")
     return {other: _act(ty.field(other), initial(ty.field(other)), content[2], (*path, other))}
 
 
-def _on_list(ty, value, name, content, path):
-    count = len(value)
-    if name == "mod" and _is_count(content[0]):
-        place, inner = content
-        if place >= count:
-            raise NoApply("place", path, value, _places(count))
-        changed = _act(ty.inner, value[place], inner, (*path, place))
-        return [*value[:place], changed, *value[place + 1 :]]
-    if name == "ins":
-        return value + [initial(ty.inner) for _ in range(content)]
-    if name == "del":
-        if content > count:
-            raise NoApply("range", path, value, f"from 1 to {count} items, which is all that it has" if count else "nothing: the list is empty")
-        return value[: count - content]
-    if name == "move":
-        if max(content) >= count:
-            raise NoApply("place", path, value, _places(count))
-        rest = value[: content[0]] + value[content[0] + 1 :]
-        return [*rest[: content[1]], value[content[0]], *rest[content[1] :]]
-    if name == "reorder":
-        if len(content) != count:
-            raise NoApply("length", path, value, f"{count} numbers, one for each item")
-        if sorted(content) != list(range(count)):
-            raise NoApply("range", path, value, f"each number below {count} once")
-        return [value[it] for it in content]
-    raise _kind(ty, value, path)
+def _inside(ty, value, place, inner, path):
+    """A list, a keyed map or a tree after an edit of what it holds at a place."""
+    if ty.kind == "list":
+        item_at(len(value), place)
+        return [*value[:place], _act(ty.inner, value[place], inner, (*path, place)), *value[place + 1 :]]
+    if ty.kind == "keyed":
+        key_at(value, place)
+        return {**value, place: _act(ty.inner, value[place], inner, (*path, place))}
+    node, items = need_node(value["depths"], place), value["items"]
+    changed = _act(ty.inner, items[node], inner, (*path, "items", node))
+    return {"depths": value["depths"], "items": [*items[:node], changed, *items[node + 1 :]]}
 
 
-def _places(count):
-    return f"items from 0 to {count - 1}" if count else "no item: the list is empty"
+def _on_container(ty, value, name, content, path):
+    try:
+        if name == "mod" and isinstance(content[0], _PLACES[ty.kind]):
+            return _inside(ty, value, *content, path)
+        if name not in PLANS[ty.kind]:
+            raise _kind(ty, value, path)
+        form, origins = plan(ty.kind, form_of(ty.kind, value), name, content)
+    except NoPlan as why:
+        raise NoApply(why.cause, path, value, why.allowed) from None
+    held = contents(ty.kind, value)
+    changed = hold(ty.kind, form, [initial(ty.inner) if it is None else held[it] for it in origins])
+    return _as_before(value, changed, origins) if ty.kind == "keyed" else changed
 
 
-def _on_keyed(ty, value, name, content, path):
-    if name == "mod" and isinstance(content[0], str):
-        key, inner = content
-        _need_key(value, key, path)
-        return {**value, key: _act(ty.inner, value[key], inner, (*path, key))}
-    if name == "put":
-        if content in value:
-            raise NoApply("present", path, value, f"a key that it does not have; it has {_keys(value)}")
-        return {**value, content: initial(ty.inner)}
-    if name == "drop":
-        _need_key(value, content, path)
-        return {key: inner for key, inner in value.items() if key != content}
-    if name == "rename":
-        old, new = content
-        _need_key(value, old, path)
-        if new != old and new in value:
-            raise NoApply("present", path, value, f"a key that it does not have; it has {_keys(value)}")
-        return {new if key == old else key: inner for key, inner in value.items()}
-    raise _kind(ty, value, path)
+def _as_before(value, changed, origins):
+    """A map with its keys in the order that they had, and a new key behind them."""
+    rank = {key: number for number, key in enumerate(value)}
+    old = [rank[key] for key in in_byte_order(value)]
+    rows = zip((len(old) if it is None else old[it] for it in origins), changed.items())
+    return dict(row for _, row in sorted(rows, key=lambda it: it[0]))
 
 
-def _keys(value):
-    names = sorted(value)
-    some = ", ".join(f'"{it}"' for it in names[:MANY])
-    return some + (f" and {len(names) - MANY} more" if len(names) > MANY else "")
-
-
-def _need_key(value, key, path):
-    if key not in value:
-        raise NoApply("place", path, value, f"the keys {_keys(value)}" if value else "no key: the map is empty")
-
-
-def node_at(depths, path):
-    """The number of the node at a path in preorder, or None."""
-    node = 0
-    for child in path:
-        children = children_of(depths, node)
-        if child >= len(children):
-            return None
-        node = children[child]
-    return node
-
-
-def end_of(depths, node):
-    """The number behind the last node of a subtree."""
-    end = node + 1
-    while end < len(depths) and depths[end] > depths[node]:
-        end += 1
-    return end
-
-
-def children_of(depths, node):
-    """The numbers of the children of a node."""
-    inside = range(node + 1, end_of(depths, node))
-    return [it for it in inside if depths[it] == depths[node] + 1]
-
-
-def paths_of(depths):
-    """The path of each node, in preorder."""
-    paths, children = [], []
-    for depth in depths:
-        del children[depth + 1 :]
-        if len(children) <= depth:
-            children.append(0)
-        else:
-            children[depth] += 1
-        paths.append(children[1 : depth + 1])
-    return paths
-
-
-def _need_node(value, place, path):
-    node = node_at(value["depths"], place)
-    if node is None:
-        raise NoApply("place", path, value, f"a path of child numbers from the root, which has {len(children_of(value['depths'], 0))} children")
-    return node
-
-
-def _on_tree(ty, value, name, content, path):
-    depths, items = value["depths"], value["items"]
-    if name == "mod" and isinstance(content[0], list):
-        node = _need_node(value, content[0], path)
-        changed = _act(ty.inner, items[node], content[1], (*path, "items", node))
-        return {"depths": depths, "items": [*items[:node], changed, *items[node + 1 :]]}
-    nodes = list(zip(depths, items))
-    if name == "graft":
-        node = _need_node(value, content, path)
-        if depths[node] == MOST_DEPTH:
-            raise NoApply("deep", path, value, f"at most {MOST_DEPTH + 1} levels")
-        end = end_of(depths, node)
-        nodes[end:end] = [(depths[node] + 1, initial(ty.inner))]
-    elif name == "prune":
-        node = _need_node(value, content, path)
-        children = children_of(depths, node)
-        if not children:
-            raise NoApply("range", path, value, "a node that has a child")
-        del nodes[children[-1] : end_of(depths, children[-1])]
-    elif name == "shift":
-        nodes = _shifted(value, nodes, content, path)
-    elif name == "hang":
-        nodes = _hung(value, nodes, content, path)
-    else:
-        raise _kind(ty, value, path)
-    return {"depths": [depth for depth, _ in nodes], "items": [item for _, item in nodes]}
-
-
-def _shifted(value, nodes, content, path):
-    place, old, new = content
-    depths = value["depths"]
-    node = _need_node(value, place, path)
-    children = children_of(depths, node)
-    if max(old, new) >= len(children):
-        raise NoApply("range", path, value, f"children from 0 to {len(children) - 1}" if children else "nothing: the node has no child")
-    blocks = [nodes[it : end_of(depths, it)] for it in children]
-    blocks.insert(new, blocks.pop(old))
-    inside = [it for block in blocks for it in block]
-    return nodes[: node + 1] + inside + nodes[end_of(depths, node) :]
-
-
-def _hung(value, nodes, content, path):
-    place, to = content
-    depths = value["depths"]
-    node = _need_node(value, place, path)
-    if not place:
-        raise NoApply("place", path, value, "any node but the root")
-    block, rest = nodes[node : end_of(depths, node)], nodes[:node] + nodes[end_of(depths, node) :]
-    left = [depth for depth, _ in rest]
-    target = node_at(left, to)
-    if target is None:
-        raise NoApply("place", path, value, "a path in the tree that remains when the subtree is taken off")
-    rise = left[target] + 1 - depths[node]
-    if any(depth + rise > MOST_DEPTH for depth, _ in block):
-        raise NoApply("deep", path, value, f"at most {MOST_DEPTH + 1} levels")
-    end = end_of(left, target)
-    return rest[:end] + [(depth + rise, item) for depth, item in block] + rest[end:]
-
-
+_PLACES = {"list": int, "keyed": str, "tree": list}
 _RULES = {
     "unit": _on_unit,
     "bool": _on_bool,
@@ -374,7 +239,7 @@ _RULES = {
     "enum": _on_enum,
     "record": _on_record,
     "alternatives": _on_alternatives,
-    "list": _on_list,
-    "keyed": _on_keyed,
-    "tree": _on_tree,
+    "list": _on_container,
+    "keyed": _on_container,
+    "tree": _on_container,
 }

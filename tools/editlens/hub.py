@@ -3,33 +3,15 @@
 import json
 from dataclasses import dataclass
 
-from .answers import ProgramRefused, Refused, RunEnded, read_answer
+from .answers import NotAnAnswer, Refused, RunEnded, read_answer
+from .causes import Before, explain_refusal
+from .checked import check, program_refused
 from .edits import act
 from .json_text import read_json, write_json
+from .parts import HUB, joined, program_of
 from .program import find_program
-from .session import Run, check, program_of
+from .session import DocumentsDiffer, Run
 from .types import initial
-
-BETWEEN = "+++"
-HUB = "hub"
-
-
-def views_of(program_part):
-    """The lens programs of a program part: what is between the lines `+++`, numbered from 0."""
-    views, lines = [], []
-    for line in program_part.splitlines(keepends=True):
-        if line.removesuffix("\n").removesuffix("\r") == BETWEEN:
-            views.append("".join(lines))
-            lines = []
-        else:
-            lines.append(line)
-    return [*views, "".join(lines)]
-
-
-def joined(programs):
-    """The program part of some lens programs."""
-    return f"{BETWEEN}\n".join(it if it.endswith("\n") else it + "\n" for it in programs)
-
 
 @dataclass(frozen=True)
 class HubAccepted:
@@ -44,9 +26,12 @@ def read_hub_answer(line):
     """The answer of a line of a hub: a HubAccepted, or a Refused that is not raised."""
     if not line.startswith("ok "):
         return read_answer(line)
-    _, number, words = line.rstrip("\n").split(" ", 2)
-    hub, end = json.JSONDecoder().raw_decode(words)
-    return HubAccepted(int(number), hub, read_json(words[end:]))
+    try:
+        _, number, words = line.rstrip("\n").split(" ", 2)
+        hub, end = json.JSONDecoder().raw_decode(words)
+        return HubAccepted(int(number), hub, read_json(words[end:]))
+    except ValueError:
+        raise NotAnAnswer(line) from None
 
 
 class Hub(Run):
@@ -57,22 +42,22 @@ class Hub(Run):
     are followed here by the rules of docs/EDITS.md, and `close` compares them with what the program writes at its end.
     """
 
-    def __init__(self, programs, path=None):
+    def __init__(self, programs, path=None, timeout=None):
         path, programs = path or find_program(), [program_of(it) for it in programs]
         part = joined(programs)
-        self._judge(Run("hub", part, path))
+        self._judge(Run("hub", part, path, timeout), part)
         pairs = [check(it, path) for it in programs]
         self.types = {HUB: pairs[0][0], **{number: right for number, (_, right) in enumerate(pairs)}}
         self.documents = {at: initial(ty) for at, ty in self.types.items()}
-        super().__init__("hub", part, path)
+        super().__init__("hub", part, path, timeout)
 
     @staticmethod
-    def _judge(run):
-        said, _ = run.child.communicate()
-        if run.child.returncode == 3:
-            raise ProgramRefused(said.decode().rstrip("\n").removeprefix("program refused: "))
-        if run.child.returncode:
-            raise RunEnded(run.child.returncode)
+    def _judge(run, part):
+        status, lines = run.process.end()
+        if status == 3:
+            raise program_refused(part, lines[0])
+        if status:
+            raise RunEnded(status)
 
     def edit(self, at, edit):
         """Sends an edit of the hub, or of the view with this number."""
@@ -83,11 +68,15 @@ class Hub(Run):
 
     def line(self, text):
         """Sends a line that is not blank, and returns its answer: a HubAccepted, or a Refused that is not raised."""
-        answer = read_hub_answer(self.said(text))
-        if isinstance(answer, HubAccepted):
-            for at, word in ((HUB, answer.hub), *enumerate(answer.views)):
-                self.documents[at] = act(self.types[at], self.documents[at], word)
-        return answer
+        with self.lock:
+            answer = self.answered(text, read_hub_answer)
+            if isinstance(answer, HubAccepted):
+                words = ((HUB, answer.hub), *enumerate(answer.views))
+                self.documents = {at: act(self.types[at], self.documents[at], word) for at, word in words}
+            else:
+                before = Before("hub", self.types, self.documents)
+                answer.explain = lambda: explain_refusal(before, text, answer)
+            return answer
 
     def close(self):
         """Ends the run. Returns the documents as the program writes them, by "hub" and the numbers of the views."""
@@ -100,5 +89,5 @@ class Hub(Run):
                 number, text = rest.split(" ", 1)
                 documents[int(number)] = read_json(text)
         if documents != self.documents:
-            raise AssertionError("the documents that were followed are not those of the program")
+            raise DocumentsDiffer
         return documents

@@ -55,6 +55,11 @@ def pointer(path):
     return "".join("/" + str(step).replace("~", "~0").replace("/", "~1") for step in path)
 
 
+def place_name(path):
+    """A place as a message has it: its pointer, or that it is the document."""
+    return pointer(path) or "(the document)"
+
+
 def read_pointer(text):
     """The steps of a JSON Pointer, each a string."""
     if text == "":

@@ -9,7 +9,7 @@ from dataclasses import dataclass
 from .construct import replace_steps, set_steps, word_of, words_of
 from .documents import misfits
 from .edits import paths_of
-from .json_text import pointer, shown, write_json
+from .json_text import pointer, read_json, shown, write_json
 from .session import Session
 from .store import ImportRefused, Store
 
@@ -52,6 +52,8 @@ class _Loader:
             wrong = list(misfits(self.session.types[side], document))
             if wrong:
                 raise DoesNotFit(side, wrong)
+        # As the program writes them, with keys in byte order.
+        left, right = read_json(write_json(left)), read_json(write_json(right))
         self.left = list(words_of(set_steps(self.session.types["left"], left)))
         for word in self.left:
             self.session.left(word)

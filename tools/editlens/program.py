@@ -4,17 +4,17 @@ import os
 import shutil
 
 TOP = os.path.dirname(os.path.dirname(os.path.dirname(os.path.abspath(__file__))))
-PROVED = os.path.join(TOP, "crates", "editlens", "out", "editlens")
+INSTALLED = os.path.join(TOP, "editlens-program")
+PROVED = INSTALLED if os.path.exists(INSTALLED) else os.path.join(TOP, "crates", "editlens", "out", "editlens")
 KEPT = os.path.join(TOP, ".unproved", "editlens")
 NOT_SOURCES = ("out", "must-fail")
 
 
 class NoProgram(Exception):
-    """There is no program to run, or none that is let near a store."""
+    """There is no program to run."""
 
-    def __init__(self, is_stored=False):
-        stored = "a store is left to the proved program: run ./build, or name another program by EDITLENS"
-        super().__init__(stored if is_stored else "there is no program: run ./build, or ./editlens run once, which builds an unproved one")
+    def __init__(self):
+        super().__init__("there is no program: run ./build, or ./editlens run once, which builds an unproved one, or name one by EDITLENS")
 
 
 def newest_source():
@@ -27,19 +27,16 @@ def newest_source():
     return newest
 
 
-def find_program(is_stored=False):
-    """The path of the program: what EDITLENS names, the proved one, the unproved one if no source is newer, or one on the PATH.
-
-    If `is_stored`, it is for a store, and the unproved one is passed over.
-    """
+def find_program():
+    """The path of the program: what EDITLENS names, the proved one, the unproved one if no source is newer, or one on the PATH."""
     named = os.environ.get("EDITLENS")
     if named:
         return named
     if os.access(PROVED, os.X_OK):
         return PROVED
-    if not is_stored and os.access(KEPT, os.X_OK) and os.path.getmtime(KEPT) > newest_source():
+    if os.access(KEPT, os.X_OK) and os.path.getmtime(KEPT) > newest_source():
         return KEPT
     found = shutil.which("editlens")
     if found:
         return found
-    raise NoProgram(is_stored)
+    raise NoProgram()

@@ -6,7 +6,9 @@ import sys
 from .answers import ProgramRefused, RunEnded
 from .explain import explain_program
 from .json_text import NotJson
+from .lock import StoreBusy
 from .program import NoProgram
+from .version import version
 
 
 HOW = {
@@ -14,6 +16,13 @@ HOW = {
     "views": {"nargs": "+", "metavar": "PROGRAM VIEW"},
     "--store": {"metavar": "FOLDER"},
     "--link": {"action": "store_true"},
+    "--import": {"action": "store_true", "dest": "document"},
+    "script": {"nargs": "?"},
+    "--form": {"metavar": "FILE"},
+    "--left-form": {"metavar": "FILE"},
+    "--right-form": {"metavar": "FILE"},
+    "--drop-private": {"action": "store_true"},
+    "way": {"choices": ["to", "from"]},
 }
 
 
@@ -22,6 +31,7 @@ def words(about, *arguments):
     parser = argparse.ArgumentParser(description=about, formatter_class=argparse.RawDescriptionHelpFormatter)
     for name, told in arguments:
         parser.add_argument(name, help=told, **HOW.get(name, {}))
+    parser.add_argument("--version", action="version", version=f"editlens {version()}")
     return parser.parse_args()
 
 
@@ -44,6 +54,6 @@ def run(main, program_text):
     except ProgramRefused as why:
         print(*explain_program(program_text, why.reason), sep="\n", file=sys.stderr)
         sys.exit(3)
-    except (NoProgram, RunEnded, NotJson, OSError) as why:
+    except (NoProgram, RunEnded, StoreBusy, NotJson, OSError) as why:
         print(why, file=sys.stderr)
         sys.exit(2)

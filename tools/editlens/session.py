@@ -1,52 +1,39 @@
 """A client: the program as a co-process. One line goes in, and one answer comes out."""
 
-import subprocess
+import threading
+from dataclasses import replace
 
-from .answers import Accepted, ProgramRefused, Refused, RunEnded, read_answer
+from .answers import Accepted, NotAnAnswer, Refused, RunEnded, read_answer
+from .causes import Before, explain_refusal
+from .checked import check
 from .edits import act
 from .json_text import read_json, write_json
+from .named import with_places
+from .natural.files import Files
+from .parts import SEPARATOR, program_of
+from .process import Process
 from .program import find_program
-from .types import initial, read_type
-
-SEPARATOR = "---"
+from .types import initial
 
 
-def program_of(script):
-    """The program part of a script: all before the first line that is the separator."""
-    lines = script.split("\n")
-    for number, line in enumerate(lines):
-        if line.removesuffix("\r") == SEPARATOR:
-            return "".join(it + "\n" for it in lines[:number])
-    return script
+class DocumentsDiffer(Exception):
+    """The documents that a client follows are not those of the program: one of the two does not follow docs/EDITS.md."""
 
-
-def journal_of(script):
-    """The lines of the journal of a script that are not blank."""
-    lines = script.split("\n")
-    for number, line in enumerate(lines):
-        if line.removesuffix("\r") == SEPARATOR:
-            return [it for it in lines[number + 1 :] if it.strip(" \t\r")]
-    return []
-
-
-def check(program_text, path=None):
-    """The types of the left and of the right document. Raises ProgramRefused."""
-    path = path or find_program()
-    ran = subprocess.run([path, "check"], input=program_text.encode(), stdout=subprocess.PIPE, check=False)
-    lines = ran.stdout.decode().splitlines()
-    if ran.returncode == 3:
-        raise ProgramRefused(lines[0].removeprefix("program refused: "))
-    if ran.returncode:
-        raise RunEnded(ran.returncode)
-    return read_type(lines[0].removeprefix("left ")), read_type(lines[1].removeprefix("right "))
+    def __init__(self):
+        super().__init__("the documents that were followed are not those of the program")
 
 
 class Run:
-    """A run of a command over a script: its program part is sent at once, and then line after line is answered."""
+    """A run of a command over a script: its program part is sent at once, and then line after line is answered.
 
-    def __init__(self, command, program_part, path):
-        self.child = subprocess.Popen([path, command], stdin=subprocess.PIPE, stdout=subprocess.PIPE)
-        self._send(program_part.rstrip("\n") + "\n" + SEPARATOR)
+    Threads may share it: a line is sent and answered before the next one is sent. Where `timeout` is given, an answer that takes longer
+    than so many seconds ends the run, and NoAnswer is raised.
+    """
+
+    def __init__(self, command, program_part, path, timeout=None):
+        self.lock = threading.RLock()
+        self.process = Process([path, command], timeout=timeout)
+        self.process.send((program_part.rstrip("\n") + "\n" + SEPARATOR + "\n").encode())
 
     def __enter__(self):
         return self
@@ -55,53 +42,44 @@ class Run:
         if kind is None:
             self.close()
         else:
-            self.child.kill()
-            self.child.communicate()
+            self.stop()
+
+    def stop(self):
+        """Stops the run at once. What it would still say is lost."""
+        self.process.stop()
 
     def said(self, text):
         """Sends a line that is not blank, and returns the line that answers it."""
         if "\n" in text or not text.strip(" \t\r"):
             raise ValueError("a line that is not blank, without a line feed, is wanted")
-        self._send(text)
-        said = self.child.stdout.readline().decode()
-        if not said.endswith("\n"):
-            raise RunEnded(self.child.wait())
-        return said
+        return self.process.ask(text.encode())
 
-    def _send(self, text):
+    def answered(self, text, read):
+        """Sends a line, and returns its answer, read by a function. What is no answer ends the run."""
         try:
-            self.child.stdin.write(text.encode() + b"\n")
-            self.child.stdin.flush()
-        except BrokenPipeError:
-            raise RunEnded(self.child.wait()) from None
+            return read(self.said(text))
+        except NotAnAnswer:
+            self.stop()
+            raise
 
     def state(self):
         """Ends the run, and returns the lines of its state."""
-        said, _ = self.child.communicate()
-        if self.child.returncode not in (0, 1):
-            raise RunEnded(self.child.returncode)
-        return said.decode().splitlines()
+        with self.lock:
+            status, lines = self.process.end()
+        if status not in (0, 1):
+            raise RunEnded(status)
+        return lines
 
     def close(self):
         """Ends the run."""
         return self.state()
 
 
-class Session(Run):
-    """A run of a lens program, from its initial documents on.
+class Editing:
+    """What a client of a lens has: edits of both sides, and groups of them. `line` sends one.
 
-    `left`, `right` and `group` send an edit and return the answer, an Accepted; a refused one is raised as Refused, and nothing has
-    changed then. `documents` has both documents after each answer. They are followed here by the rules of docs/EDITS.md, and `close`
-    compares them with what the program writes at its end. A run keeps nothing: what is to last must be written down by the caller.
+    `files` has the users' files of both sides, and takes patches of them.
     """
-
-    def __init__(self, program_text, path=None):
-        self.path = path or find_program()
-        left, right = check(program_of(program_text), self.path)
-        self.types = {"left": left, "right": right}
-        self.documents = {side: initial(ty) for side, ty in self.types.items()}
-        self.complement = None
-        super().__init__("run", program_of(program_text), self.path)
 
     def left(self, edit):
         """Sends an edit of the left document."""
@@ -112,30 +90,72 @@ class Session(Run):
         return self.entry("right", edit)
 
     def entry(self, side, edit):
-        """Sends an edit of a side."""
-        return self._accepted(write_json({"side": side, "edit": edit}))
+        """Sends an edit of a side. It may name an item or a node by what it has: `{"where": {"id": "t7"}}` in place of a number or a path.
+
+        Such a name is read by the document of this moment. The answer has the positions as `places`; NotFound is raised where there is no
+        such place, or where there are several.
+        """
+        with self.lock:
+            edit, places = with_places(self.types[side], self.documents[side], edit)
+            return replace(self.accepted({"side": side, "edit": edit}), places=tuple(places))
 
     def group(self, *entries):
         """Sends entries, each a side and an edit, that are accepted together or not at all."""
-        return self._accepted(write_json({"group": [{"side": side, "edit": edit} for side, edit in entries]}))
+        return self.accepted({"group": [{"side": side, "edit": edit} for side, edit in entries]})
 
-    def _accepted(self, text):
-        answer = self.line(text)
+    def accepted(self, change):
+        """Sends a change, and returns its answer; a Refused is raised."""
+        answer = self.line(write_json(change))
         if isinstance(answer, Refused):
             raise answer
         return answer
 
-    def line(self, text):
-        """Sends a line of a journal that is not blank, and returns its answer: an Accepted, or a Refused that is not raised."""
-        answer = read_answer(self.said(text))
-        if isinstance(answer, Accepted):
-            self._follow(read_json(text), answer)
-        return answer
-
-    def _follow(self, change, answer):
+    def follow(self, change, answer):
+        """Takes an accepted change over into the documents."""
+        documents = dict(self.documents)
         for entry, (other, word) in zip(change.get("group", [change]), answer.words):
             for side, edit in ((entry["side"], entry["edit"]), (other, word)):
-                self.documents[side] = act(self.types[side], self.documents[side], edit)
+                documents[side] = act(self.types[side], documents[side], edit)
+        self.documents = documents
+
+    def another(self):
+        """A run of the same lens program from its initial documents on."""
+        return Session(self.program, self.path)
+
+    def explained(self, text, answer):
+        """A refusal that explains itself by the documents of now."""
+        before = Before("run", self.types, self.documents)
+        answer.explain = lambda: explain_refusal(before, text, answer)
+        return answer
+
+
+class Session(Editing, Run):
+    """A run of a lens program, from its initial documents on.
+
+    `left`, `right` and `group` send an edit and return the answer, an Accepted; a refused one is raised as Refused, and nothing has
+    changed then. `documents` has both documents after each answer. They are followed here by the rules of docs/EDITS.md, and `close`
+    compares them with what the program writes at its end. A run keeps nothing: `Store.open` is the same for a session that is to last.
+
+    `forms` has the form files of the sides, each a tree of JSON under "left" or "right": docs/TOOLS.md.
+    """
+
+    def __init__(self, program_text, path=None, timeout=None, forms=None):
+        self.path, self.program = path or find_program(), program_of(program_text)
+        left, right = check(self.program, self.path)
+        self.types = {"left": left, "right": right}
+        self.documents = {side: initial(ty) for side, ty in self.types.items()}
+        self.complement = None
+        self.files = Files(self, forms)
+        super().__init__("run", self.program, self.path, timeout)
+
+    def line(self, text):
+        """Sends a line of a journal that is not blank, and returns its answer: an Accepted, or a Refused that is not raised."""
+        with self.lock:
+            answer = self.answered(text, read_answer)
+            if not isinstance(answer, Accepted):
+                return self.explained(text, answer)
+            self.follow(read_json(text), answer)
+            return answer
 
     def close(self):
         """Ends the run. Returns the left document, the right document and the complement, as the program writes them."""
@@ -143,5 +163,5 @@ class Session(Run):
         left, right = read_json(state["left"]), read_json(state["right"])
         self.complement = read_json(state["complement"])
         if {"left": left, "right": right} != self.documents:
-            raise AssertionError("the documents that were followed are not those of the program")
+            raise DocumentsDiffer
         return left, right, self.complement

@@ -3,29 +3,56 @@
 import os
 import subprocess
 
-from .answers import ProgramRefused, Refused, RunEnded, read_answer
+from .answers import Explained, Refused, RunEnded, read_answer
+from .checked import check, program_refused
+from .documents import misfits
 from .json_text import read_json, write_json
+from .lock import StoreBusy, is_busy
+from .open_store import OpenStore
+from .parts import SEPARATOR, program_of
 from .program import find_program
-from .session import SEPARATOR, program_of
 
 NAME = "editlens.store"
 MOST_UNDONE = 10_000
+ADVICE = {
+    "not-a-log": "the file is not a store",
+    "log-exists": "there is a store already; another one begins in a folder of its own",
+    "bad-record": "the file is damaged, or its making was stopped: tools/store check says what can be read",
+    "not-consistent": "the file is damaged: tools/store check says what can be read",
+    "log-full": "the file has no more room: tools/store compact makes a shorter one",
+    "nothing-to-undo": "fewer changes stand behind the last snapshot, and pack and undo store one: tools/store back goes further",
+}
 
 
-class StoreRefused(Exception):
+class StoreRefused(Explained):
     """The store is refused. `reason` is what stands behind `store refused:`."""
 
-    def __init__(self, reason):
-        super().__init__(f"store refused: {reason}")
-        self.reason = reason
+    def __init__(self, reason, file=None):
+        super().__init__(reason)
+        self.reason, self.file = reason, file
+        self.explain = self._explanation
+
+    def said(self):
+        """The line without its explanation."""
+        return f"store refused: {self.reason}"
+
+    def _explanation(self):
+        if self.reason == "not-a-log" and self.file and not os.path.exists(self.file):
+            yield f"there is no {self.file}: init, import or tools/load --store make a store"
+        elif self.reason.split(" ")[0] in ADVICE:
+            yield ADVICE[self.reason.split(" ")[0]]
 
 
-class ImportRefused(Exception):
+class ImportRefused(Explained):
     """The document that a store was to begin with is refused. `reason` is what stands behind `import refused:`."""
 
-    def __init__(self, reason):
-        super().__init__(f"import refused: {reason}")
-        self.reason = reason
+    def __init__(self, reason, explain=None):
+        super().__init__(reason)
+        self.reason, self.explain = reason, explain
+
+    def said(self):
+        """The line without its explanation."""
+        return f"import refused: {self.reason}"
 
 
 class Store:
@@ -33,12 +60,14 @@ class Store:
 
     `Store.init` and `Store.begin` make one. `left`, `right` and `group` send an edit and return the answer, an Accepted; a refused one
     is raised as Refused, and nothing has changed then. Each is a run of `apply`, so what was accepted is on the disk when the call
-    returns. `apply` sends many lines in one run. Two programs must not write one store at once.
+    returns. `apply` sends many lines in one run. `Store.open` keeps one run open for edits that come one after another.
+
+    One program at a time writes to a store: StoreBusy is raised where another one does, and nothing was read or written.
     """
 
     def __init__(self, folder, path=None):
         self.folder = folder
-        self.path = path or find_program(is_stored=True)
+        self.path = path or find_program()
 
     @classmethod
     def init(cls, folder, program_text, path=None):
@@ -50,9 +79,23 @@ class Store:
     @classmethod
     def begin(cls, folder, program_text, left, path=None):
         """Makes a store that begins with this left document, by the command `import`. Its first change makes the document."""
-        store = cls._placed(folder, path)
-        store._run(["import"], program_of(program_text).rstrip("\n") + f"\n{SEPARATOR}\n{write_json(left)}\n")
+        store, program = cls._placed(folder, path), program_of(program_text).rstrip("\n")
+        try:
+            store._run(["import"], f"{program}\n{SEPARATOR}\n{write_json(left)}\n")
+        except ImportRefused as why:
+            if why.reason == "not-of-type":
+                why.explain = lambda: (f"  {it}" for it in misfits(check(program, store.path)[0], left))
+            raise
         return store
+
+    @classmethod
+    def open(cls, folder, path=None, wait=0.0, timeout=None, forms=None):
+        """Keeps the store in a folder open, as an OpenStore. Another program that writes to it is waited for `wait` seconds.
+
+        Where `timeout` is given, no answer to an edit is waited for longer than so many seconds. Opening takes as long as it takes to read
+        the store. `forms` has the form files of the sides, each a tree of JSON under "left" or "right": docs/TOOLS.md.
+        """
+        return OpenStore(cls(folder, path), wait, timeout, forms)
 
     @classmethod
     def _placed(cls, folder, path):
@@ -90,7 +133,7 @@ class Store:
         status, said = self._called(["apply"], text)
         answers = [read_answer(it) for it in said if it.startswith(("ok ", "refused "))]
         try:
-            self._judge(status, said)
+            self.judge(status, said)
         except RunEnded as ended:
             ended.answers = answers
             raise
@@ -98,7 +141,7 @@ class Store:
 
     def show(self):
         """The left document, the right document and the complement."""
-        return self._state(self._run(["show"]))
+        return self.state(self._run(["show"]))
 
     def verify(self):
         """How many changes were accepted."""
@@ -123,26 +166,30 @@ class Store:
         """The path of the store."""
         return os.path.join(self.folder, NAME)
 
-    def _state(self, said):
-        state = dict(line.split(" ", 1) for line in said)
+    def state(self, said):
+        """The left document, the right document and the complement of the lines of a state, which may stand behind others."""
+        state = dict(line.split(" ", 1) for line in said[-3:])
         return read_json(state["left"]), read_json(state["right"]), read_json(state["complement"])
+
+    def judge(self, status, said):
+        """Raises the exception of a status, by the lines that the program has written."""
+        last = said[-1] if said else ""
+        if status == 4:
+            raise StoreRefused(last.removeprefix("store refused: "), self.file)
+        if status == 1 and last.startswith("import refused: "):
+            raise ImportRefused(last.removeprefix("import refused: "))
+        if status == 7 and not said and is_busy(self.folder):
+            raise StoreBusy(self.folder)
+        if status not in (0, 1):
+            raise RunEnded(status)
 
     def _run(self, words, text=""):
         status, said = self._called(words, text)
-        self._judge(status, said)
+        if status == 3:
+            raise program_refused(program_of(text), said[-1])
+        self.judge(status, said)
         return said
 
     def _called(self, words, text):
         ran = subprocess.run([self.path, *words], input=text.encode(), stdout=subprocess.PIPE, cwd=self.folder, check=False)
         return ran.returncode, ran.stdout.decode().splitlines()
-
-    def _judge(self, status, said):
-        last = said[-1] if said else ""
-        if status == 3:
-            raise ProgramRefused(last.removeprefix("program refused: "))
-        if status == 4:
-            raise StoreRefused(last.removeprefix("store refused: "))
-        if status == 1 and last.startswith("import refused: "):
-            raise ImportRefused(last.removeprefix("import refused: "))
-        if status not in (0, 1):
-            raise RunEnded(status)

@@ -31,7 +31,7 @@ def token_at(data, at):
         return Token("bad", rest.decode(errors="replace"), at)
     text = found.group().decode(errors="replace")
     if text[0] == '"':
-        is_string = 1 <= len(text) - 2 <= 64 and all(it >= " " for it in text)
+        is_string = text.encode() == found.group() and 1 <= len(text) - 2 <= 64 and all(it >= " " for it in text)
         return Token("string" if is_string else "bad", text, at)
     if text[0] == "-" or text[0].isdigit():
         is_number = len(text.lstrip("-")) <= 19 and LEAST_INT <= int(text) <= MOST_INT
@@ -79,7 +79,9 @@ class NotAType(ValueError):
     """A text that is not a type."""
 
 
-class _Reader:
+class TypeReader:
+    """Reads types, token by token."""
+
     def __init__(self, text):
         self.tokens = tokens(text.encode())
         self.next = 0
@@ -159,7 +161,7 @@ class _Reader:
 
 def read_type(text):
     """The type of a text without names of other types, as `check` prints it."""
-    reader = _Reader(text)
+    reader = TypeReader(text)
     found = reader.type()
     if reader.tokens[reader.next].sort != "end":
         raise NotAType(f"the end is wanted at byte {reader.tokens[reader.next].at}")
@@ -168,7 +170,7 @@ def read_type(text):
 
 def read_types(text):
     """The types at the beginning of a text, with a space between them."""
-    reader, found = _Reader(text), []
+    reader, found = TypeReader(text), []
     while reader.tokens[reader.next].sort != "end":
         found.append(reader.type())
     return found

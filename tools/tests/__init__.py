@@ -1,5 +1,8 @@
 """Tests of the tools, run by tools/check."""
 
+PATIENCE = 180
+"""How many seconds a test waits for what must come, also on a busy machine."""
+
 
 class Skipped(Exception):
     """A test that cannot run here, with the reason."""

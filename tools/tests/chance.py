@@ -1,10 +1,10 @@
-"""Random types, documents, edits and patches."""
+"""Random types, lenses, documents, edits and patches."""
 
 import random
 
 from editlens.edits import paths_of
 from editlens.json_text import pointer
-from editlens.types import Ty, initial
+from editlens.types import Ty, initial, write_name, write_type
 
 NAMES = ["a", "b", "left", "x y", "a/b", "m~n", "é"]
 LETTERS = ["", "x", "aé€z", "open", "two words", '"quoted"', "\n"]
@@ -142,6 +142,38 @@ def places(ty, value, path=()):
     elif ty.kind == "tree":
         for number, item in enumerate(value["items"]):
             yield from places(ty.inner, item, (*path, "items", number))
+
+
+def some_lens(depth=3):
+    """The text of a random lens."""
+    kinds = ["id", "bij", "disc"]
+    if depth:
+        kinds += ["record", "alternatives", "each", "keyed", "tree", "part", "inv"] * 2
+    kind = random.choice(kinds)
+    if kind == "bij":
+        return 'bij["up"="1", "down"="2"]'
+    if kind in ("id", "disc"):
+        return " ".join([kind, *(write_type(some_type(min(depth, 1))) for _ in range(1 + (kind == "disc")))])
+    if kind == "record":
+        rows = ", ".join(_some_rows(depth))
+        return f"{{{rows}}}"
+    names = random.sample(NAMES, random.randint(1, 3))
+    if kind == "alternatives":
+        arms = (f"{write_name(it)} ~ {write_name(it + 'z')}: {some_lens(depth - 1)}" for it in names)
+        return f"<{', '.join(arms)}>"
+    if kind == "part":
+        tags = (f"{write_name(it)}: {write_type(some_type(1))}" for it in names)
+        return f"part <{', '.join(tags)}>"
+    return f"{kind} {some_lens(depth - 1)}"
+
+
+def _some_rows(depth):
+    for name in random.sample(NAMES, random.randint(0, 4)):
+        kind = random.choice(["both", "both", "left", "right"])
+        if kind == "both":
+            yield f"{write_name(name)} ~ {write_name(name + 'z')}: {some_lens(depth - 1)}"
+        else:
+            yield f"{kind} {write_name(name)}: {write_type(some_type(1))}"
 
 
 def some_operation(ty, document):

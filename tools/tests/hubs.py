@@ -5,7 +5,7 @@ import os
 
 from editlens import Hub, HubAccepted, ProgramRefused, Refused
 from editlens.explain import explain_program, explain_script
-from editlens.hub import joined, views_of
+from editlens.parts import joined, views_of
 from editlens.program import TOP
 
 VIEWS = ["main {a ~ x: id int, left b: int}\n", "main {a ~ p: id int, b ~ q: id int}"]

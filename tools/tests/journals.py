@@ -12,7 +12,7 @@ from editlens.grammar import wanted_at
 from editlens.json_text import write_json
 from editlens.load import DoesNotFit, load
 from editlens.program import TOP
-from editlens.session import journal_of, program_of
+from editlens.parts import journal_of, program_of
 from editlens.types import write_type
 
 from .chance import some_document, some_edit, some_type
@@ -77,12 +77,11 @@ def test_refusals_are_exceptions():
 
 def test_a_run_that_ends_is_told():
     session = Session(TASKS)
-    session.child.kill()
+    session.process.child.kill()
     try:
         session.left([])
         session.left([])
     except RunEnded:
-        session.child.communicate()
         return
     raise AssertionError
 

@@ -94,10 +94,10 @@ def test_what_has_no_counterpart():
     ty = read_type("{a: int, k: keyed int, l: list int, p: <none: unit, some: int>, t: tree int}")
     document = {"a": 1, "k": {"x": 1}, "l": [1, 2], "p": {"none": None}, "t": {"depths": [0], "items": [5]}}
     for op, reason in (
-        ({"op": "remove", "path": "/a"}, "a record has all its fields"),
-        ({"op": "add", "path": "/b", "value": 1}, "there is no b here"),
-        ({"op": "replace", "path": "/a", "value": "x"}, "the value does not fit"),
-        ({"op": "add", "path": "/p/some", "value": 1}, "alternatives have exactly one member"),
+        ({"op": "remove", "path": "/a"}, "/a: wanted a whole number within 64 bits, without fraction or exponent, found nothing"),
+        ({"op": "add", "path": "/b", "value": 1}, "/b: wanted no such member, found 1"),
+        ({"op": "replace", "path": "/a", "value": "x"}, '/a: wanted a whole number within 64 bits, without fraction or exponent, found "x"'),
+        ({"op": "add", "path": "/p/some", "value": 1}, "/p: wanted an object with exactly one member, one of none, some, found"),
         ({"op": "add", "path": "/t/depths/-", "value": 1}, "the nodes of a tree"),
         ({"op": "remove", "path": "/l/2"}, "there is no place 2"),
         ({"op": "test", "path": "/a", "value": 2}, "the test fails"),

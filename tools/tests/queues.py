@@ -11,7 +11,7 @@ from contextlib import contextmanager
 from editlens.program import TOP
 from editlens.store import Store
 
-from . import Skipped
+from . import PATIENCE, Skipped
 
 HERE = os.path.join(TOP, "examples", "queue")
 sys.path.insert(0, HERE)
@@ -116,7 +116,7 @@ def test_killed_at_any_moment():
         for turn in range(8):
             keeper = here.keep()
             seen = len(here.answers())
-            deadline = time.monotonic() + 20
+            deadline = time.monotonic() + PATIENCE
             while len(here.answers()) < min(seen + 1, len(here.given)) and time.monotonic() < deadline:
                 time.sleep(0.002)
             time.sleep(random.random() / 50)
@@ -128,12 +128,17 @@ def test_killed_at_any_moment():
 def test_redis_is_killed():
     """The keeper ends with Redis, and goes on with it."""
     with queue(is_lasting=True) as here:
-        for enough in (3, 8):
+        for more in (3, 5):
+            # (a keeper that has nothing to answer may only come to Redis after it was killed, and then stays)
+            seen = len(here.answers())
+            if seen == len(here.given):
+                break
             keeper = here.keep()
-            while len(here.answers()) < enough:
+            while len(here.answers()) < min(seen + more, len(here.given)):
+                assert keeper.poll() is None, keeper.communicate()
                 time.sleep(0.002)
             here.server.restart()
-            said = keeper.communicate()[1]
+            said = keeper.communicate(timeout=PATIENCE)[1]
             assert keeper.returncode == 1 and said.count(b"\n") == 1, said
         here.ends()
         assert here.is_whole()
@@ -146,7 +151,7 @@ def test_a_keeper_waits_for_the_run_of_another():
         second = here.keep("--once")
         time.sleep(0.5)
         server.kill(first, is_group=False)
-        assert second.wait(60) == 0, second.communicate()
+        assert second.wait(PATIENCE) == 0, second.communicate()
         second.communicate()
         assert here.is_whole()
 

@@ -2,12 +2,15 @@
 
 import json
 import os
+import signal
 import subprocess
 import sys
 import tempfile
 
 from editlens.program import TOP
 from editlens.store import Store
+
+from . import PATIENCE
 
 TOOLS = os.path.join(TOP, "tools")
 PROGRAM = "main keyed {title ~ card: id text, left hours: int, right color: text}\n"
@@ -32,7 +35,7 @@ def files(folder, **texts):
 
 
 def test_help():
-    for tool in ("fits", "load", "load-hub", "explain", "patch-to-edit", "edit-to-patch", "check"):
+    for tool in ("fits", "load", "load-hub", "explain", "types", "patch-to-edit", "edit-to-patch", "check"):
         status, out, _ = called(TOP, tool, "--help")
         assert status == 0 and out.startswith("usage: "), tool
 
@@ -103,10 +106,45 @@ def test_load_a_store():
         assert called(folder, "load", "--store", "kept", *words) == (0, "", "")
         store = Store(os.path.join(folder, "kept"))
         assert store.show()[:2] == (left, right) and store.verify() == 2
-        assert called(folder, "load", "--store", "kept", *words) == (4, "", "store refused: log-exists\n")
+        status, out, err = called(folder, "load", "--store", "kept", *words)
+        assert (status, out) == (4, "") and err.startswith("store refused: log-exists\nthere is a store already"), err
         status, out, err = called(folder, "load", "--store", "again", "lens", "left", "other")
-        assert status == 1 and not out and '/door/card: by the left document "Paint", here "Draw"' in err, err
+        assert status == 0 and not out and '/door/card: by the left document "Paint", here "Draw"' in err, err
         assert Store(os.path.join(folder, "again")).show()[1] == {"door": {"card": "Paint", "color": "blue"}}
+
+
+def test_patches_of_a_store():
+    """Each line has its answer, and what is refused changes nothing."""
+    with tempfile.TemporaryDirectory() as folder:
+        files(folder, form={"": {"key": "id"}, "/*/hours": {"missing": "none"}})
+        lens = "main keyed {title ~ card: id text, left hours: <none: unit, some: int>, right color: text}\n"
+        store = Store.init(os.path.join(folder, "kept"), lens)
+        store.right([{"put": "gate"}, {"mod": ["gate", [{"at": ["color", [{"set": "red"}]]}]]}])
+        add = {"op": "add", "path": "/-", "value": {"id": "door", "title": "Paint"}}
+        lines = [json.dumps([it]) for it in (add, {**add, "path": "/x"}, {"op": "replace", "path": "", "value": []}, {"op": "test", "path": "", "value": []})]
+        status, out, err = called(folder, "patch", "--left-form", "form", "kept", "left", given="\n".join([*lines, "[", '{"op":"test"}', ""]))
+        assert (status, err) == (1, "") and out.splitlines() == [
+            'ok 1 [{"op":"add","path":"/door","value":{"card":"","color":""}},{"op":"replace","path":"/door/card","value":"Paint"}]',
+            "refused 2 operation 0: /x: x is no place of a list",
+            "refused 3 operation 0: by this replace of the document the right side would lose what it alone has at /*/color",
+            'refused 4 operation 0: (the document): the test fails, here is [{"id":"gate","title":""},{"id":"door","title":"Paint"}]',
+            "refused 5 not JSON: Expecting value: line 1 column 2 (char 1)",
+            "refused 6 operation 0: a patch is an array of operations",
+        ], out
+        assert store.show()[1] == {"door": {"card": "Paint", "color": ""}, "gate": {"card": "", "color": "red"}} and store.verify() == 2
+
+
+def test_explain_a_store():
+    """The entry is given as a word, in a file, or on the standard input, and each is explained as the others are."""
+    with tempfile.TemporaryDirectory() as folder:
+        Store.init(os.path.join(folder, "kept"), PROGRAM)
+        entry = '{"side":"left","edit":[{"drop":"door"}]}'
+        files(folder, journal=entry + "\n")
+        said = called(folder, "explain", "--store", "kept", entry)
+        assert said[0] == 1 and said[1].startswith("refused 1 no-apply 0 place\n") and said[2] == "", said
+        for words, given in ((["journal"], ""), (["-"], entry), ([], entry + "\n")):
+            assert called(folder, "explain", "--store", "kept", *words, given=given) == said, words
+        assert called(folder, "explain")[0] == 2 and Store(os.path.join(folder, "kept")).verify() == 0
 
 
 def test_load_a_store_of_a_long_document():
@@ -136,6 +174,16 @@ def test_line_ends_of_another_system():
         assert status == 3 and "line 2, column 17:" in err.splitlines(), err
 
 
+def test_types():
+    """One field a line, and with the line feeds taken out it is what `check` writes."""
+    with tempfile.TemporaryDirectory() as folder:
+        lens = 'main {a ~ b: each <p ~ q: keyed id int, r ~ s: {}>, left c: enum["x", "y"] = "y"}\n'
+        files(folder, lens=lens)
+        status, out, _ = called(folder, "types", "lens")
+        assert status == 0 and out.splitlines()[:8] == ["left {", "  a: list <", "    p: keyed int,", "    r: {}", "  >,", '  c: enum["x", "y"] = "y"', "}", "right {"], out
+        assert "".join(out.split()) == "".join(written("check", lens).split())
+
+
 def test_patch_and_back():
     with tempfile.TemporaryDirectory() as folder:
         files(folder, lens=PROGRAM, left={"door": {"hours": 3, "title": "Paint"}}, patch=[{"op": "move", "from": "/door", "path": "/gate"}])
@@ -162,9 +210,14 @@ def test_the_examples_in_python():
     assert said == [
         "[{'at': ['people', [{'ins': 1}]]}]",
         "range 0",
+        "  allowed here: from 1 to 1 items, which is all that it has",
         "{'firms': [], 'people': [{'name': '', 'note': ''}]}",
-        "{'firms': ['Acme'], 'people': [{'name': '', 'note': ''}]} 2",
+        "1 2",
+        "{'firms': ['Acme'], 'people': [{'name': '', 'note': ''}]}",
         "([{'del': 1}], [{'at': ['people', [{'del': 1}]]}])",
+        "[{'op': 'add', 'path': '/people/-', 'value': {'name': '', 'note': ''}}, {'op': 'remove', 'path': '/people/0'}, "
+        "{'op': 'add', 'path': '/firms/-', 'value': ''}, {'op': 'replace', 'path': '/firms/0', 'value': 'Acme'}] "
+        "[{'type': 'firm', 'is': 'Acme'}]",
     ], said
 
 
@@ -172,3 +225,15 @@ def test_the_picture_is_drawn_anew():
     drawn = subprocess.run([os.path.join(TOP, "docs", "draw"), "--print"], capture_output=True, text=True, check=True)
     with open(os.path.join(TOP, "docs", "lens.svg"), encoding="utf-8") as file:
         assert file.read() == drawn.stdout, "run docs/draw"
+
+
+def test_the_tests_run_in_the_background():
+    """A shell may start them with signals ignored: the programs that they start can be ended by these signals all the same."""
+    for it in (signal.SIGINT, signal.SIGHUP):
+        child = subprocess.Popen(["sleep", "600"])
+        child.send_signal(it)
+        assert child.wait(PATIENCE) == -it
+    if "EDITLENS_IGNORED" not in os.environ:
+        command = f"trap '' INT HUP; exec {os.path.join(TOOLS, 'check')} --only the_tests_run_in_the_background"
+        ran = subprocess.run(["bash", "-c", command], env={**os.environ, "EDITLENS_IGNORED": "1"}, capture_output=True, text=True, check=False)
+        assert (ran.returncode, ran.stdout) == (0, "tools: 1 tests passed, 0 failed\n"), ran

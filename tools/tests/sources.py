@@ -1,14 +1,25 @@
-"""The pages that must agree with the sources: that of refusals, the number of edits, the map of crates. And how calls are found."""
+"""What must agree with the sources: the table of refusals, the number of edits, the map of crates. And how calls are found."""
 
 import os
 import re
+import subprocess
+import sys
 import tempfile
 
-from editlens.contracts import enums, libraries, public_calls
-from editlens.must_fail import page_with_table, table_of
 from editlens.program import TOP
-from editlens.refusals import PAGE, Line, faults_of, lacking, page_of, read_table, rows_of, said, unshown
 
+sys.path.insert(0, os.path.join(TOP, "dev"))
+
+from repository import promises  # noqa: E402
+from repository.contracts import enums, libraries, public_calls  # noqa: E402
+from repository.crates import direct, head_of, levels, read_crates  # noqa: E402
+from repository.edits import by_crate, page_with_table, table_of  # noqa: E402
+from repository.lemmas import renamed  # noqa: E402
+from repository.map import above_its_group, page_with_map, picture, tables  # noqa: E402
+from repository.map import faults_of as faults_of_map  # noqa: E402
+from repository.refusals import Line, faults_of, lacking, read_table, report, rows_of, said, unshown  # noqa: E402
+
+NEEDS_PROGRAM = False
 CRATES = """# Base: one crate.
 low:
 
@@ -82,11 +93,17 @@ def small_crate(folder):
             file.write(text)
 
 
-def test_the_page_is_up_to_date():
-    page, faults = page_of()
+def read(path):
+    """The text of a file of the repository."""
+    with open(os.path.join(TOP, path), encoding="utf-8") as file:
+        return file.read()
+
+
+def test_every_refusal_is_in_the_table():
+    text, faults = report()
     assert not faults, faults
-    with open(PAGE, encoding="utf-8") as file:
-        assert file.read() == page, "docs/REFUSALS.md is out of date: run tools/refusals"
+    part, faults = report(["gate_log"])
+    assert not faults and part.startswith("== gate_log\ncreate_log  crates/gate_log/src/log.rt:") and part in text, part
 
 
 def test_public_calls_are_found():
@@ -126,19 +143,79 @@ def test_why_nothing_can_show_a_refusal():
             file.write(table)
         lines = read_table(path)[0]
         assert unshown(lines) == [("low Kept::take", "Small")], unshown(lines)
-        none, why = rows_of(take, lines["low Kept::take"])
-        assert none.endswith("| none |") and why.endswith("| cannot: no number is |"), (none, why)
+        head, small, none, large, why = rows_of(take, lines["low Kept::take"])
+        assert (head, small, large) == ("Kept::take  crates/low/src/inner.rt:18", "    Small: if it is", "    Large: if it is"), (head, small, large)
+        assert none.endswith("; shown by nothing") and why.endswith("clause small; cannot: no number is"), (none, why)
 
 
 def test_the_edits_are_counted():
-    page, wanted = page_with_table()
-    assert table_of() in page and page == wanted, "docs/TRUST.md counts other edits: run tools/refusals"
+    page = read("docs/TRUST.md")
+    assert table_of() in page and page == page_with_table(), "docs/TRUST.md counts other edits: run dev/edits --write"
 
 
-def test_every_crate_is_on_the_map():
-    with open(os.path.join(TOP, "crates.txt"), encoding="utf-8") as file:
-        crates = re.findall(r"(?m)^(\w+):", file.read())
-    with open(os.path.join(TOP, "docs", "ARCHITECTURE.md"), encoding="utf-8") as file:
-        text = file.read()
-    missing = [it for it in crates if f"`{it}`" not in text]
-    assert not missing, missing
+def test_the_promises_are_those_of_the_records():
+    page = read(promises.PAGE)
+    assert promises.table_of() in page, "docs/TRUST.md has other promises: run dev/promises --write"
+
+
+def test_edits_are_counted_in_both_folders():
+    with tempfile.TemporaryDirectory() as folder:
+        with open(os.path.join(folder, "crates.txt"), "w", encoding="utf-8") as file:
+            file.write("# Base: some.\nlow:\nmiddle: low\n\n# Top.\nhigh: low\n\n# Tests.\ntests: high\n")
+        for path in ("crates/low/must-fail/a", "crates/low/must-fail/b", "crates/high/must-fail/c", "plants/middle/d", "plants/low/e"):
+            os.makedirs(os.path.dirname(os.path.join(folder, path)), exist_ok=True)
+            open(os.path.join(folder, path + ".edit"), "w", encoding="utf-8").close()
+        said_now = table_of(folder).splitlines()
+        assert said_now[0] == "There are 3 that the gate tries, and 2 in `plants/`:", said_now
+        assert said_now[-2:] == ["| Base | 2 | 2 |", "| Top | 1 | 0 |"], said_now
+        each = list(by_crate(folder))
+        assert each[0] == "low: 2 in the gate, 1 in plants/" and len(each) == 3, each
+
+
+def test_levels_of_crates():
+    with tempfile.TemporaryDirectory() as folder:
+        with open(os.path.join(folder, "crates.txt"), "w", encoding="utf-8") as file:
+            file.write("# Base.\nlow:\nmiddle: low kit_library\n\n# Top.\nhigh: middle low\n")
+        crates = read_crates(folder)
+        assert levels(crates) == {"low": 1, "middle": 2, "high": 3}
+        assert crates["middle"].below == ("low",) and crates["high"].group == "Top."
+        assert direct(crates, "high") == ["middle"]
+        os.makedirs(os.path.join(folder, "crates/low/src"))
+        with open(os.path.join(folder, "crates/low/src/lib.rt"), "w", encoding="utf-8") as file:
+            file.write("//! Small values, of 3.5 kinds: the rest\n//! needs them. More.\n//!\n//! Other.\nmod a;\n")
+        assert head_of("low", folder) == "Small values, of 3.5 kinds: the rest needs them"
+
+
+def test_statements_are_compared_without_names_of_variables():
+    assert renamed("(a b : Nat) → plus a b ≡ plus b a") == renamed("(n m : Nat) → plus n m ≡ plus m n")
+    assert renamed("(a b : Nat) → plus a b ≡ plus b a") != renamed("(n m : Nat) → plus n m ≡ plus n m")
+
+
+def test_the_map_of_a_small_repository():
+    with tempfile.TemporaryDirectory() as folder:
+        small_crate(folder)
+        crates = read_crates(folder)
+        assert picture(crates) == ["Tests", "   2  low_tests", "", "Base", "   1  low"], picture(crates)
+        assert "One crate." in list(tables(crates, folder)), list(tables(crates, folder))
+        wrong = list(faults_of_map(crates, folder))
+        assert wrong == ["crates/low_tests is not there", "the head of crates/low does not say what it is"], wrong
+        with open(os.path.join(folder, "crates.txt"), "a", encoding="utf-8") as file:
+            file.write("\n# Laws.\nlaws: low\n\n# Last.\nlast:\nfirst: laws\n")
+        assert not list(above_its_group(read_crates(folder)))
+        with open(os.path.join(folder, "crates.txt"), "a", encoding="utf-8") as file:
+            file.write("\n# Base: one crate.\nhigh: last laws\n")
+        assert list(above_its_group(read_crates(folder))) == [("high", "last")]
+
+
+def test_the_map_is_up_to_date():
+    page = read("docs/ARCHITECTURE.md")
+    assert page == page_with_map() and not list(faults_of_map(read_crates())), "docs/ARCHITECTURE.md has another map: run dev/map --write"
+
+
+def test_the_case_files_are_what_their_writers_make():
+    ran = subprocess.run([sys.executable, os.path.join(TOP, "reference", "write_all"), "--check"], stdout=subprocess.PIPE, text=True)
+    assert ran.returncode == 0 and ran.stdout.endswith(" 0 differ\n"), ran.stdout
+    said = read("reference/CASES.md")
+    names = re.findall(r"(?m)^(\w+)\.cases$", read("crates/command_cases/args"))
+    assert names, "command_cases reads no file"
+    assert not [it for it in names if f"`{it}`" not in said], "CASES.md does not say where each file of command_cases comes from"

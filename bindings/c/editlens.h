@@ -1,0 +1,119 @@
+/* editlens as a library: a session that keeps two JSON documents in step, for programs in C and whatever calls C.
+
+   docs/EMBEDDING.md has an example. A caller has memory for a session, of editlens_session_size() bytes and aligned to 16, opens a session in
+   it, and closes it at the end; also one that is refused. The memory stays where it is in between. A session belongs to the thread that opened
+   it. Any number of sessions may be open, each in a thread of its own if wanted. The library has no state of its own, starts no thread, reads
+   and writes no file, and ends no process. Of the C library it wants malloc, realloc, free, memcpy, memmove and memset.
+
+   A text is an address and a number of bytes, and needs no byte 0 at its end. The address may be NULL where the number is 0. */
+#ifndef EDITLENS_H
+#define EDITLENS_H
+
+#include <stddef.h>
+#include <stdint.h>
+
+#ifdef __cplusplus
+extern "C" {
+#endif
+
+/* How a call ended: the member `status` of its answer. */
+#define EDITLENS_DONE 0            /* the call did what it was asked; the item was accepted */
+#define EDITLENS_BLANK 1           /* the line is blank, and so it is not an item */
+#define EDITLENS_REFUSED 2         /* the item is refused, for the cause beside it, and the documents are as before */
+#define EDITLENS_PROGRAM_REFUSED 3 /* there is no session: its program is refused, for the cause beside it */
+#define EDITLENS_STATE_REFUSED 4   /* there is no session: the texts of its state are refused, for the cause beside it */
+#define EDITLENS_NO_SESSION 5      /* there is no session: memory ran out when it was opened */
+#define EDITLENS_NO_MEMORY 6       /* memory ran out, and the session is as before: the call may be made again */
+#define EDITLENS_SMALL_BUFFER 7    /* the buffer is too small for the text, and as before */
+#define EDITLENS_LINE_FEED 8       /* a line feed is in the line, and nothing changed */
+#define EDITLENS_UNKNOWN_PART 9    /* the number is not one of what can be shown, and nothing changed */
+#define EDITLENS_FULL 10           /* no further item has a number, and nothing changed */
+
+/* What editlens_session_show can show. */
+#define EDITLENS_STATE 0      /* the three lines `left JSON`, `right JSON` and `complement JSON` */
+#define EDITLENS_LEFT 1       /* the left document, as JSON */
+#define EDITLENS_COMPLEMENT 2 /* the complement, as JSON */
+#define EDITLENS_RIGHT 3      /* the right document, as JSON */
+#define EDITLENS_LEFT_TYPE 4  /* the left type, in canonical text */
+#define EDITLENS_RIGHT_TYPE 5 /* the right type, in canonical text */
+
+/* Why something is refused: the member `cause` of an answer. docs/FORMATS.md and docs/LANGUAGE.md say when each comes. */
+#define EDITLENS_NO_CAUSE 0
+
+/* A change that does not apply (EDITLENS_REFUSED): `part` is the entry in its group, and `at` the first primitive of it that fails. */
+#define EDITLENS_KIND 1
+#define EDITLENS_PLACE 2
+#define EDITLENS_TAG 3
+#define EDITLENS_RANGE 4
+#define EDITLENS_OVERFLOW 5
+#define EDITLENS_VALUE 6
+#define EDITLENS_PRESENT 7
+#define EDITLENS_LENGTH 8
+#define EDITLENS_DEEP 9
+
+/* A line that is not a change (EDITLENS_REFUSED). */
+#define EDITLENS_LINE_TOO_LONG 11
+#define EDITLENS_NOT_JSON 12
+#define EDITLENS_NOT_AN_ENTRY 13
+#define EDITLENS_NOT_AN_EDIT 14
+
+/* A program (EDITLENS_PROGRAM_REFUSED): `at` is an offset in it for the causes 22, 23 and 24. */
+#define EDITLENS_PROGRAM_TOO_LONG 21
+#define EDITLENS_NOT_A_PROGRAM 22
+#define EDITLENS_UNKNOWN_NAME 23
+#define EDITLENS_REPEATED_NAME 24
+#define EDITLENS_MIDDLE_DIFFERS 25
+#define EDITLENS_REPEATED_FIELD 26
+#define EDITLENS_REPEATED_TAG 27
+#define EDITLENS_REPEATED_MEMBER 28
+#define EDITLENS_NOT_A_MEMBER 29
+#define EDITLENS_TOO_LARGE 30
+#define EDITLENS_TOO_DEEP 31
+
+/* The texts of a state (EDITLENS_STATE_REFUSED). */
+#define EDITLENS_NOT_LEFT 41
+#define EDITLENS_NOT_COMPLEMENT 42
+#define EDITLENS_NOT_RIGHT 43
+#define EDITLENS_NOT_CONSISTENT 44
+
+struct editlens_answer {
+    uint32_t status; /* how the call ended */
+    uint32_t cause;  /* why something is refused, or 0 */
+    uint64_t number; /* how many items the session was given */
+    uint64_t part;   /* the number, from 0, of the entry of a group that does not apply, or 0 */
+    uint64_t at;     /* the number, from 0, of the first primitive that fails; or an offset in a program; or 0 */
+    size_t len;      /* how many bytes the text has that answers the last call */
+};
+
+/* How many bytes a session takes. */
+size_t editlens_session_size(void);
+
+/* Puts the session over a program, or why there is none, into the memory at `at`. editlens_session_status says which. */
+void editlens_session_open(void *at, const uint8_t *program, size_t program_len);
+
+/* The same for a session that goes on from a state: the texts that editlens_session_show gave for EDITLENS_LEFT, EDITLENS_COMPLEMENT and
+   EDITLENS_RIGHT, or others. They are refused if they are not consistent. Items are numbered from 1 on. */
+void editlens_session_resume(void *at, const uint8_t *program, size_t program_len, const uint8_t *left, size_t left_len,
+                             const uint8_t *complement, size_t complement_len, const uint8_t *right, size_t right_len);
+
+/* EDITLENS_DONE if there is a session; else EDITLENS_PROGRAM_REFUSED, EDITLENS_STATE_REFUSED or EDITLENS_NO_SESSION. */
+struct editlens_answer editlens_session_status(void *at);
+
+/* Gives a session a line of a journal, without its line feed. The text is then the answer line, with one. */
+struct editlens_answer editlens_session_step(void *at, const uint8_t *line, size_t line_len);
+
+/* Makes a part of the state the text. */
+struct editlens_answer editlens_session_show(void *at, uint32_t part);
+
+/* Writes the text that answers the last call to the head of `out`: an answer line, what was shown, or the line of a program that is refused.
+   EDITLENS_SMALL_BUFFER if it has more than `out_len` bytes; `len` then says how many are wanted. The text can be asked for again. */
+struct editlens_answer editlens_session_text(void *at, uint8_t *out, size_t out_len);
+
+/* Ends a session, and gives back all that it holds but the memory at `at`, which is the caller's. */
+void editlens_session_close(void *at);
+
+#ifdef __cplusplus
+}
+#endif
+
+#endif

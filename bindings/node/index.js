@@ -1,0 +1,58 @@
+'use strict';
+// editlens as a library in this process: a class over the addon editlens.node, which bindings/check builds from editlens.c.
+
+const addon = require(process.env.EDITLENS_ADDON || './editlens.node');
+
+const STATUS = ['done', 'blank', 'refused', 'program-refused', 'state-refused', 'no-session', 'no-memory', 'small-buffer', 'line-feed', 'unknown-part', 'full'];
+const PARTS = {state: 0, left: 1, complement: 2, right: 3, leftType: 4, rightType: 5};
+
+/** A call that did not do what it was asked. `status` is a name, and `cause`, `part` and `at` are the numbers of editlens.h. */
+class EditlensError extends Error {
+  constructor(answer) {
+    const line = answer.text.toString().trimEnd();
+    const status = STATUS[answer.status];
+    super(status === 'program-refused' ? line : status);
+    Object.assign(this, {name: 'EditlensError', status, cause: answer.cause, part: answer.part, at: answer.at});
+  }
+}
+
+/** Two documents that a lens keeps in step. `state` has the texts `left`, `complement` and `right` of a session before it. */
+class Session {
+  #held;
+
+  constructor(program, state) {
+    const texts = state ? [program, state.left, state.complement, state.right] : [program];
+    this.#held = addon.open(...texts.map((it) => Buffer.from(it)));
+    const answer = addon.status(this.#held);
+    if (answer.status !== 0) {
+      this.close();
+      throw new EditlensError(answer);
+    }
+  }
+
+  /** Takes a line of a journal, without its line feed. Returns whether it was accepted, the answer line, and the numbers of a refusal. */
+  step(line) {
+    const answer = addon.step(this.#held, Buffer.from(line));
+    if (answer.status > 2) throw new EditlensError(answer);
+    return {accepted: answer.status === 0, line: answer.text.toString(), cause: answer.cause, part: answer.part, at: answer.at};
+  }
+
+  /** A part of the state: `state`, `left`, `complement`, `right`, `leftType` or `rightType`. */
+  show(part) {
+    const answer = addon.show(this.#held, PARTS[part] ?? 99);
+    if (answer.status !== 0) throw new EditlensError(answer);
+    return answer.text.toString();
+  }
+
+  /** The texts from which another session can go on. */
+  state() {
+    return {left: this.show('left'), complement: this.show('complement'), right: this.show('right')};
+  }
+
+  /** Ends the session. One that is not closed ends when it is collected. */
+  close() {
+    addon.close(this.#held);
+  }
+}
+
+module.exports = {Session, EditlensError};

@@ -1,0 +1,181 @@
+"""editlens as a library in this process, by ctypes.
+
+`Kept` is a session over bytes, as `editlens.h` declares it, and needs this file alone. `Session` is the class of tools/editlens/session.py with
+the same calls and the same exceptions, over the library in place of a process: where tools/ is on the path,
+
+    from editlens_library import Session
+
+takes the place of `from editlens.session import Session`.
+
+A session stays on the thread that opened it. The library is proved to keep to its header, but this module is only tested.
+"""
+
+import ctypes
+import os
+import threading
+
+HERE = os.path.dirname(os.path.abspath(__file__))
+
+DONE, BLANK, REFUSED, PROGRAM_REFUSED, STATE_REFUSED, NO_SESSION, NO_MEMORY, SMALL_BUFFER, LINE_FEED, UNKNOWN_PART, FULL = range(11)
+STATE, LEFT, COMPLEMENT, RIGHT, LEFT_TYPE, RIGHT_TYPE = range(6)
+NOT_LEFT, NOT_COMPLEMENT, NOT_RIGHT, NOT_CONSISTENT = range(41, 45)
+
+STATE_FAULTS = {
+    NOT_LEFT: "the left text is not the JSON of a left document",
+    NOT_COMPLEMENT: "the text of the complement is not the JSON of one",
+    NOT_RIGHT: "the right text is not the JSON of a right document",
+    NOT_CONSISTENT: "the documents and the complement are not consistent",
+}
+
+
+class Answer(ctypes.Structure):
+    """What a call answers: the struct of `editlens.h`."""
+
+    _fields_ = [
+        ("status", ctypes.c_uint32),
+        ("cause", ctypes.c_uint32),
+        ("number", ctypes.c_uint64),
+        ("part", ctypes.c_uint64),
+        ("at", ctypes.c_uint64),
+        ("len", ctypes.c_size_t),
+    ]
+
+
+class NoLibrary(Exception):
+    """There is no libeditlens.so."""
+
+    def __init__(self):
+        super().__init__("there is no libeditlens.so: run ./build --library, or name one by EDITLENS_LIBRARY_PATH")
+
+
+class Unopened(Exception):
+    """There is no session: the program is refused (`line` says why), or the state is (`cause`), or neither, where `line` is empty."""
+
+    def __init__(self, answer, line):
+        super().__init__(line.decode().rstrip("\n") or STATE_FAULTS.get(answer.cause, "memory ran out"))
+        self.status, self.cause, self.at, self.line = answer.status, answer.cause, answer.at, line
+
+
+def find_library():
+    """The path of libeditlens.so: what EDITLENS_LIBRARY_PATH names, or the one beside this file, or the one that ./build --library makes."""
+    top = os.path.dirname(os.path.dirname(HERE))
+    beside, built = os.path.join(HERE, "libeditlens.so"), os.path.join(top, ".library", "lib", "libeditlens.so")
+    for path in (os.environ.get("EDITLENS_LIBRARY_PATH"), beside, built):
+        if path and os.path.exists(path):
+            return path
+    raise NoLibrary
+
+
+_loaded = {}
+
+
+def load(path=None):
+    """The library, with the types of its functions."""
+    path = path or find_library()
+    if path not in _loaded:
+        library = ctypes.CDLL(path)
+        at, text, size = ctypes.c_void_p, ctypes.c_char_p, ctypes.c_size_t
+        for name, given, answer in (
+            ("size", [], size),
+            ("open", [at, text, size], None),
+            ("resume", [at, *[text, size] * 4], None),
+            ("status", [at], Answer),
+            ("step", [at, text, size], Answer),
+            ("show", [at, ctypes.c_uint32], Answer),
+            ("text", [at, text, size], Answer),
+            ("close", [at], None),
+        ):
+            function = getattr(library, f"editlens_session_{name}")
+            function.argtypes, function.restype = given, answer
+        _loaded[path] = library
+    return _loaded[path]
+
+
+class Kept:
+    """A session over bytes. `state` is None, or the texts of a left document, a complement and a right document. Raises Unopened."""
+
+    def __init__(self, program, state=None, path=None):
+        self.library, self.thread, self.at = load(path), threading.get_ident(), None
+        size = self.library.editlens_session_size()
+        self.room = ctypes.create_string_buffer(size + 15)
+        self.buffer = ctypes.create_string_buffer(4096)
+        at = (ctypes.addressof(self.room) + 15) & ~15
+        if state is None:
+            self.library.editlens_session_open(at, program, len(program))
+        else:
+            self.library.editlens_session_resume(at, program, len(program), *[it for text in state for it in (text, len(text))])
+        self.at = at
+        answer = self.library.editlens_session_status(at)
+        if answer.status != DONE:
+            line = self.text()
+            self.close()
+            raise Unopened(answer, line)
+
+    def __enter__(self):
+        return self
+
+    def __exit__(self, kind, value, trace):
+        self.close()
+
+    def here(self):
+        """The address of the session, on its thread."""
+        if self.at is None:
+            raise ValueError("the session is closed")
+        if threading.get_ident() != self.thread:
+            raise ValueError("a session stays on the thread that opened it")
+        return self.at
+
+    def text(self):
+        """The bytes that answer the last call."""
+        answer = self.library.editlens_session_text(self.here(), self.buffer, len(self.buffer))
+        if answer.status == SMALL_BUFFER:
+            self.buffer = ctypes.create_string_buffer(answer.len)
+            answer = self.library.editlens_session_text(self.here(), self.buffer, answer.len)
+        return ctypes.string_at(self.buffer, answer.len)
+
+    def step(self, line):
+        """Takes a line of a journal, without its LF. Returns the answer and its bytes, which are none for a blank line."""
+        answer = self.library.editlens_session_step(self.here(), line, len(line))
+        return self.answered(answer), self.text()
+
+    def show(self, part):
+        """The bytes of a part of the state: STATE, LEFT, COMPLEMENT, RIGHT, LEFT_TYPE or RIGHT_TYPE."""
+        self.answered(self.library.editlens_session_show(self.here(), part))
+        return self.text()
+
+    @property
+    def items(self):
+        """How many items the session was given."""
+        return self.library.editlens_session_status(self.here()).number
+
+    def state(self):
+        """The texts from which a session can go on: those of the left document, the complement and the right document."""
+        return tuple(self.show(part) for part in (LEFT, COMPLEMENT, RIGHT))
+
+    def answered(self, answer):
+        """The answer, if the call did what it was asked, or refused an item."""
+        if answer.status == NO_MEMORY:
+            raise MemoryError("memory ran out, and the session is as before")
+        if answer.status > REFUSED:
+            reasons = {LINE_FEED: "a line feed is in the line", UNKNOWN_PART: "this is not a part of the state", FULL: "no further item has a number"}
+            raise ValueError(reasons[answer.status])
+        return answer
+
+    def close(self):
+        """Ends the session. It may be closed twice."""
+        if self.at is not None:
+            at, self.at = self.here(), None
+            self.library.editlens_session_close(at)
+
+    def __del__(self):
+        if getattr(self, "at", None) is not None and threading.get_ident() == self.thread:
+            self.close()
+
+
+def __getattr__(name):
+    """`Session` is made where it is asked for, since it needs tools/ on the path."""
+    if name == "Session":
+        from library_session import Session
+
+        return Session
+    raise AttributeError(f"module {__name__!r} has no attribute {name!r}")

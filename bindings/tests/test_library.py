@@ -1,0 +1,142 @@
+"""Tests of the module for Python, over the library that EDITLENS_LIBRARY_PATH names. bindings/check runs them."""
+
+import json
+import os
+import sys
+import threading
+import unittest
+
+HERE = os.path.dirname(os.path.abspath(__file__))
+TOP = os.path.dirname(os.path.dirname(HERE))
+sys.path[:0] = [os.path.join(TOP, "bindings", "python"), os.path.join(TOP, "tools")]
+sys.dont_write_bytecode = True
+
+import editlens_library as library  # noqa: E402
+from editlens.answers import ProgramRefused, Refused  # noqa: E402
+from editlens_library import Session  # noqa: E402
+
+SMALL = "main {hours ~ time: id int, left done: bool}\n"
+
+
+def read(*path):
+    with open(os.path.join(TOP, *path), "rb") as file:
+        return file.read()
+
+
+def report(script):
+    """What `editlens run` writes for a script, by a session."""
+    lines = script.split(b"\n")
+    at = next((number for number, line in enumerate(lines) if line in (b"---", b"---\r")), None)
+    program = script if at is None else b"".join(it + b"\n" for it in lines[:at])
+    try:
+        kept = library.Kept(program)
+    except library.Unopened as why:
+        return why.line
+    with kept:
+        answers = [kept.step(it)[1] for it in ([] if at is None else lines[at + 1 :])]
+        return b"".join(answers) + kept.show(library.STATE)
+
+
+def cases(name, words):
+    """The input and the output of each step of a file that has these words."""
+    data, at = read("crates", "command_cases", "data", name), 0
+    while at < len(data):
+        end = data.index(b"\n", at)
+        step, begin = json.loads(data[at:end]), end + 1
+        middle = begin + step["input"]
+        if step["words"] == words:
+            yield data[begin:middle], data[middle : middle + step["output"]]
+        at = middle + step["output"] + 1
+
+
+class OverBytes(unittest.TestCase):
+    def test_example_of_the_tasks(self):
+        self.assertEqual(report(read("examples", "tasks.script")), read("examples", "tasks.out"))
+
+    def test_five_hundred_cases(self):
+        tried = 0
+        for given, wanted in cases("runs.cases", ["run"]):
+            self.assertEqual(report(given), wanted)
+            tried += 1
+            if tried == 500:
+                break
+        self.assertEqual(tried, 500)
+
+    def test_a_refusal_has_its_numbers(self):
+        with library.Kept(SMALL.encode()) as kept:
+            answer, line = kept.step(b'{"side":"left","edit":[{"at":["hours",[{"set":1}]]},{"at":["none",[]]}]}')
+            self.assertEqual((answer.status, answer.cause, answer.number, answer.part, answer.at), (library.REFUSED, 2, 1, 0, 1))
+            self.assertEqual(line, b"refused 1 no-apply 1 place\n")
+            self.assertEqual(kept.step(b"")[0].status, library.BLANK)
+            with self.assertRaises(ValueError):
+                kept.step(b"a\nb")
+            with self.assertRaises(ValueError):
+                kept.show(6)
+            self.assertEqual(kept.items, 1)
+        with self.assertRaises(ValueError):
+            kept.step(b"{}")
+
+    def test_a_program_that_is_refused_has_its_numbers(self):
+        with self.assertRaises(library.Unopened) as caught:
+            library.Kept(b"main {")
+        self.assertEqual((caught.exception.status, caught.exception.cause, caught.exception.at), (library.PROGRAM_REFUSED, 22, 6))
+        self.assertEqual(caught.exception.line, b"program refused: not-a-program 6\n")
+
+    def test_a_state_is_resumed_if_it_is_consistent(self):
+        with library.Kept(SMALL.encode()) as kept:
+            kept.step(b'{"side":"left","edit":[{"at":["hours",[{"set":8}]]}]}')
+            state, shown = kept.state(), kept.show(library.STATE)
+        with library.Kept(SMALL.encode(), state) as kept:
+            self.assertEqual(kept.show(library.STATE), shown)
+        left, comp, right = state
+        for texts, cause in (
+            ((b"{}", comp, right), library.NOT_LEFT),
+            ((left, b"7", right), library.NOT_COMPLEMENT),
+            ((left, comp, b""), library.NOT_RIGHT),
+            ((left, comp, b'{"time":9}'), library.NOT_CONSISTENT),
+            # (the first of those that are wrong is named)
+            ((b"{}", b"7", b""), library.NOT_LEFT),
+            ((left, b"7", b""), library.NOT_COMPLEMENT),
+        ):
+            with self.assertRaises(library.Unopened) as caught:
+                library.Kept(SMALL.encode(), texts)
+            self.assertEqual((caught.exception.status, caught.exception.cause), (library.STATE_REFUSED, cause))
+
+    def test_a_session_stays_on_its_thread(self):
+        caught = []
+
+        def work():
+            try:
+                kept.step(b"")
+            except ValueError as why:
+                caught.append(why)
+
+        with library.Kept(SMALL.encode()) as kept:
+            thread = threading.Thread(target=work)
+            thread.start()
+            thread.join()
+        self.assertEqual(len(caught), 1)
+
+
+class AsTheToolsHaveIt(unittest.TestCase):
+    def test_the_class_of_the_tools(self):
+        with Session(SMALL) as session:
+            answer = session.left([{"at": ["hours", [{"set": 8}]]}])
+            self.assertEqual((answer.number, answer.side, answer.word), (1, "right", [{"at": ["time", [{"set": 8}]]}]))
+            self.assertEqual(session.documents, {"left": {"done": False, "hours": 8}, "right": {"time": 8}})
+            with self.assertRaises(Refused) as caught:
+                session.right([{"at": ["none", []]}])
+            self.assertEqual((caught.exception.cause, caught.exception.at), ("place", 0))
+            state = session.state()
+            self.assertEqual(session.close()[:2], ({"done": False, "hours": 8}, {"time": 8}))
+        with Session(SMALL, state=state) as session:
+            self.assertEqual(session.documents["right"], {"time": 8})
+
+    def test_a_program_that_is_refused(self):
+        with self.assertRaises(ProgramRefused) as caught:
+            Session("main {")
+        self.assertEqual(caught.exception.reason, "not-a-program 6")
+
+
+if __name__ == "__main__":
+    unittest.main()

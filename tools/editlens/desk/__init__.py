@@ -1,0 +1,11 @@
+"""The desk: a page in the browser on which a person sees both documents of a session, edits either, and watches the other follow.
+
+keepers     where the session is kept: in a run of the program, or in a store
+desk        the session as all windows share it: its state, its edits one after another, its history
+replay      a script, step by step
+drawing     documents and types in the form in which the page reads them
+complement  what the lens remembers, in a sentence
+loading     documents carried over to another lens program
+server      the page and its calls over HTTP, on the loopback address alone
+page/       the page itself
+"""

@@ -1,0 +1,225 @@
+"""The session of a desk, as all its windows share it: edits are taken one after another, and each window sees each change."""
+
+import threading
+import time
+
+from ..answers import ProgramRefused, Refused, RunEnded
+from ..causes import CAUSES
+from ..changes import changed_places
+from ..edits import NoApply, act, form_fault
+from ..json_text import pointer, shown, write_json
+from ..lenses import read_lens
+from ..lock import StoreBusy
+from ..sentences import sentences
+from ..session import DocumentsDiffer
+from ..store import StoreRefused
+from .complement import remembered
+from .drawing import drawn_changes, drawn_document, drawn_lens, drawn_types
+from .keepers import RunKeeper
+from .loading import carried_over, judged
+
+MOST_HISTORY = 200
+MOST_SENTENCES = 5
+MOST_REST = 30
+
+
+class Desk:
+    """The session of a desk. Its version is the number of changes since it began; an edit names the version that it was made for.
+
+    `state` is what a window draws. `edit`, `undo` and `load` return what came of them, and change nothing where they refuse. `wait`
+    returns when there is something new.
+    """
+
+    can_edit = True
+
+    def __init__(self, keeper, title, notices=()):
+        self.keeper, self.title, self.notices = keeper, title, list(notices)
+        self.version = self.session = self.signal = 0
+        self.history, self.changes = [], {}
+        self.complement = None
+        self.fault, self.is_closed = None, False
+        self.news = threading.Condition(threading.RLock())
+        self.lens = read_lens(keeper.program)
+        threading.Thread(target=self._follow_complement, daemon=True).start()
+
+    def state(self, _step=0):
+        """Everything that a window draws. Steps are those of a replay."""
+        with self.news:
+            keeper = self.keeper
+            types = drawn_types(keeper.types, self.lens)
+            return {
+                "mode": "store" if keeper.has_undo else "session",
+                "title": self.title,
+                "version": self.version,
+                "session": self.session,
+                "program": keeper.program,
+                "lens": drawn_lens(self.lens),
+                "sides": {side: {"type": types[side], **self._drawn(side)} for side in types},
+                "complement": self.complement,
+                "history": self.history,
+                "notices": self.notices,
+                "fault": self.fault,
+                "undo": {"can": keeper.has_undo, "why": keeper.why_no_undo},
+            }
+
+    def _drawn(self, side):
+        document = drawn_document(self.keeper.types[side], self.keeper.documents[side])
+        return {"document": document, "changes": drawn_changes(self.changes.get(side, ()))}
+
+    def edit(self, base, side, edit):
+        """Sends an edit of a side that was made for a version."""
+        with self.news:
+            stale = self._stale(base)
+            if stale:
+                return stale
+            before = dict(self.keeper.documents)
+            try:
+                answer = self.keeper.entry(side, edit)
+            except Refused as why:
+                return self._refused(side, edit, why)
+            except (RunEnded, DocumentsDiffer, OSError, ValueError) as why:
+                return self._failed(why)
+            words = {side: edit, answer.side: answer.word}
+            self._changed(before, words, {"side": side, "edit": write_json(edit), "other": answer.side, "word": write_json(answer.word)})
+            return {"ok": True, "version": self.version}
+
+    def undo(self, base):
+        """Takes the last change back."""
+        with self.news:
+            stale = self._stale(base)
+            if stale:
+                return stale
+            if not self.keeper.has_undo:
+                return {"ok": False, "sentence": self.keeper.why_no_undo}
+            before = dict(self.keeper.documents)
+            try:
+                words = self.keeper.undo()
+            except StoreRefused as why:
+                return {"ok": False, "sentence": _no_undo(why)}
+            except (RunEnded, StoreBusy, DocumentsDiffer, OSError) as why:
+                return self._failed(why)
+            left, right = (write_json(words[it]) for it in ("left", "right"))
+            self._changed(before, words, {"side": "left", "edit": left, "other": "right", "word": right, "undo": True})
+            return {"ok": True, "version": self.version}
+
+    def check(self, program_text):
+        """What the program says of another lens program."""
+        return judged(program_text)
+
+    def load(self, base, program_text):
+        """Begins a session of another lens program with the documents as they are."""
+        with self.news:
+            stale = self._stale(base)
+            if stale:
+                return stale
+            if self.keeper.has_undo:
+                return {"ok": False, "sentence": "A store keeps the lens program that it was made with. tools/load --store makes a new store."}
+            try:
+                keeper = RunKeeper(program_text)
+                notices = carried_over(keeper, self.keeper.documents)
+            except ProgramRefused as why:
+                return {"ok": False, "sentence": why.said()}
+            except (RunEnded, Refused, OSError) as why:
+                return {"ok": False, "sentence": f"The documents could not be carried over: {why}. Nothing has changed."}
+            self.keeper.close()
+            self.keeper, self.lens = keeper, read_lens(keeper.program)
+            self.notices, self.history, self.changes, self.fault = notices, [], {}, None
+            self.session += 1
+            self._moved()
+            return {"ok": True, "version": self.version, "notices": notices}
+
+    def wait(self, signal, seconds):
+        """The signal when there is something newer than another one, or the same one after some seconds."""
+        with self.news:
+            self.news.wait_for(lambda: self.signal != signal, seconds)
+            return self.signal
+
+    def close(self):
+        """Ends the session."""
+        with self.news:
+            self.keeper.close()
+            self.is_closed = True
+            self.news.notify_all()
+
+    def _stale(self, base):
+        """The refusal of what was made for another version than this one, with what changed since."""
+        if base == self.version:
+            return None
+        since = [it for it in self.history if it["version"] > base]
+        said = [line for it in since for line in it["sentences"]]
+        more = [f"and {len(said) - MOST_SENTENCES} more changes"] if len(said) > MOST_SENTENCES else []
+        return {
+            "ok": False,
+            "stale": True,
+            "cause": "stale",
+            "version": self.version,
+            "sentence": "The documents changed after you began this edit, so it was not sent. Nothing of it was applied.",
+            "since": said[:MOST_SENTENCES] + more or ["another lens program was loaded"],
+        }
+
+    def _changed(self, before, words, entry):
+        types = self.keeper.types
+        self.changes = {side: changed_places(types[side], before[side], word) for side, word in words.items()}
+        said = list(sentences(words[entry["side"]])) or ["nothing"]
+        self._moved()
+        kept = said[:MOST_SENTENCES] + ([f"and {len(said) - MOST_SENTENCES} more"] if len(said) > MOST_SENTENCES else [])
+        for older in self.history[-1:]:
+            # A person reads the edits of the last change alone, and those of a long history are long.
+            del older["edit"], older["word"]
+        del self.history[: 1 - MOST_HISTORY]
+        self.history.append({"version": self.version, "sentences": [f"{entry['side']}: {it}" for it in kept], **entry})
+
+    def _moved(self):
+        self.version += 1
+        self._notify()
+
+    def _notify(self):
+        self.signal += 1
+        self.news.notify_all()
+
+    def _refused(self, side, edit, why):
+        said = {"ok": False, "cause": why.cause, "at": why.at, "side": side, "version": self.version, "edit": write_json(edit)}
+        if why.at is None:
+            fault = form_fault(edit)
+            return {**said, "place": None, "sentence": fault or why.cause.replace("-", " "), "allowed": None}
+        try:
+            act(self.keeper.types[side], self.keeper.documents[side], edit)
+        except NoApply as here:
+            sentence = f"{CAUSES[why.cause]}; it is {shown(here.value)}"
+            return {**said, "place": pointer(here.path), "sentence": sentence, "allowed": here.allowed}
+        return {**said, "place": None, "sentence": CAUSES[why.cause], "allowed": None}
+
+    def _failed(self, why):
+        self.fault = f"{why}. Start the desk again."
+        self._notify()
+        return {"ok": False, "cause": "failed", "sentence": self.fault}
+
+    def _follow_complement(self):
+        """Finds the complement after each change, as the program writes it. What is found for an older version is thrown away.
+
+        Between two readings it rests as long as the last one took, so a long session has half of a processor left.
+        """
+        done = -1
+        while True:
+            with self.news:
+                self.news.wait_for(lambda: self.version != done or self.is_closed)
+                if self.is_closed:
+                    return
+                done, read, lens = self.version, self.keeper.reader(), self.lens
+            begin = time.monotonic()
+            try:
+                tree = read()
+            except (RunEnded, StoreRefused, OSError):
+                # The complement of the state before stays on the page, marked as older, until the next change.
+                continue
+            with self.news:
+                if self.version == done:
+                    self.complement = {"version": done, "tree": tree, "text": write_json(tree), "sentence": remembered(lens, tree)}
+                    self._notify()
+            time.sleep(min(MOST_REST, time.monotonic() - begin))
+
+
+def _no_undo(why):
+    if why.reason == "nothing-to-undo":
+        return "There is nothing to take back: changes before the last undo or the last snapshot stay."
+    return why.said()

@@ -1,0 +1,60 @@
+"""Documents, types and lenses in the form in which the page reads them.
+
+JavaScript reads no 64-bit numbers and puts the keys of an object into an order of its own. So numbers are sent as strings, and records
+and maps as arrays. The type says which is which.
+"""
+
+from ..json_text import pointer
+from ..sharing import INSIDE, is_shared, shared_places
+
+
+def drawn_document(ty, document):
+    """A document as arrays and strings."""
+    if ty.kind == "int":
+        return str(document)
+    if ty.kind == "record":
+        return [drawn_document(inner, document[name]) for name, inner in ty.fields]
+    if ty.kind == "alternatives":
+        tag = next(iter(document))
+        return [tag, drawn_document(ty.field(tag), document[tag])]
+    if ty.kind == "list":
+        return [drawn_document(ty.inner, it) for it in document]
+    if ty.kind == "keyed":
+        return [[key, drawn_document(ty.inner, document[key])] for key in sorted(document, key=str.encode)]
+    if ty.kind == "tree":
+        return [[depth, drawn_document(ty.inner, it)] for depth, it in zip(document["depths"], document["items"])]
+    return document
+
+
+def drawn_type(ty, shared, path=()):
+    """A type with a mark at each place: whether the other side knows something of it."""
+    drawn = {"kind": ty.kind, "shared": is_shared(ty, path, shared)}
+    if ty.kind in ("record", "alternatives"):
+        step = "at" if ty.kind == "record" else "stay"
+        drawn["fields"] = [[name, drawn_type(inner, shared, (*path, (step, name)))] for name, inner in ty.fields]
+    elif ty.inner:
+        drawn["inner"] = drawn_type(ty.inner, shared, (*path, INSIDE))
+    elif ty.kind == "enum":
+        drawn["members"] = list(ty.members)
+    return drawn
+
+
+def drawn_types(types, lens):
+    """The types of both sides, marked by what the lens ties."""
+    shared = shared_places(lens)
+    return {side: drawn_type(ty, shared[side]) for side, ty in types.items()}
+
+
+def drawn_lens(lens):
+    """A lens as far as the page needs it to find what a place is tied to."""
+    drawn = {"kind": lens.kind, "inner": [drawn_lens(it) for it in lens.inner]}
+    if lens.rows:
+        drawn["rows"] = [[row.left, row.right, drawn_lens(row.lens)] for row in lens.rows if row.lens]
+    if lens.tags:
+        drawn["tags"] = list(lens.tags)
+    return drawn
+
+
+def drawn_changes(changes):
+    """The places that changed, as JSON Pointers, each with what was done there."""
+    return [[pointer(path), sort] for path, sort in changes]

@@ -1,0 +1,118 @@
+"""Where the session of a desk is kept: in a run of the program, which keeps nothing, or in a store.
+
+Both have the program's text, both types, both documents and the complement. `entry` sends an edit of a side; a refused one is raised as
+Refused. `undo` takes the last change back where there is a store.
+"""
+
+import subprocess
+
+from ..answers import RunEnded
+from ..construct import set_steps, words_of
+from ..documents import misfits
+from ..json_text import read_json, write_json
+from ..load import DoesNotFit, load_words
+from ..open_store import stored_program
+from ..parts import SEPARATOR, program_of
+from ..session import Session
+from ..store import Store
+
+
+class RunKeeper:
+    """A session in one run of the program. The lines that were accepted are kept, since a run writes its complement only at its end."""
+
+    why_no_undo = "Nothing can be undone: this session is in no store. Open one with --store."
+    has_undo = False
+
+    def __init__(self, program_text, path=None):
+        self.program = program_of(program_text)
+        self.session = Session(self.program, path)
+        self.lines = []
+
+    @property
+    def types(self):
+        """The types of both sides."""
+        return self.session.types
+
+    @property
+    def documents(self):
+        """Both documents."""
+        return self.session.documents
+
+    def entry(self, side, edit):
+        """Sends an edit, and returns its answer."""
+        answer = self.session.entry(side, edit)
+        self.lines.append(write_json({"side": side, "edit": edit}))
+        return answer
+
+    def begin(self, left=None, right=None):
+        """Builds documents that exist, and returns where they disagree. Raises DoesNotFit."""
+        disagreements = []
+        if right is not None:
+            loaded = load_words(self.program, left, right, self.session.path)
+            entries, disagreements = [("left", it) for it in loaded.left] + [("right", it) for it in loaded.right], loaded.disagreements
+        elif left is not None:
+            wrong = list(misfits(self.types["left"], left))
+            if wrong:
+                raise DoesNotFit("left", wrong)
+            entries = [("left", word) for word in words_of(set_steps(self.types["left"], left))]
+        else:
+            entries = []
+        for side, word in entries:
+            self.entry(side, word)
+        return disagreements
+
+    def reader(self):
+        """A call that finds the complement of the session as it is now. It may run beside later edits."""
+        lines = list(self.lines)
+        return lambda: state_after(self.program, lines, self.session.path)["complement"]
+
+    def close(self):
+        """Ends the run."""
+        self.session.process.stop()
+
+
+def state_after(program, lines, path):
+    """What the program says at the end of a run over some lines: both documents and the complement."""
+    text = "\n".join([program.rstrip("\n"), SEPARATOR, *lines, ""])
+    ran = subprocess.run([path, "run"], input=text.encode(), stdout=subprocess.PIPE, check=False)
+    if ran.returncode not in (0, 1):
+        raise RunEnded(ran.returncode)
+    return {name: read_json(rest) for name, rest in (it.split(" ", 1) for it in ran.stdout.decode().splitlines()[-3:])}
+
+
+class StoreKeeper:
+    """A session in a store, which is kept open: no other program writes to it until `close`."""
+
+    why_no_undo = ""
+    has_undo = True
+
+    def __init__(self, folder, path=None):
+        self.client = Store.open(folder, path)
+        self.program = stored_program(self.client.store.file)
+
+    @property
+    def types(self):
+        """The types of both sides."""
+        return self.client.types
+
+    @property
+    def documents(self):
+        """Both documents."""
+        return self.client.documents
+
+    def entry(self, side, edit):
+        """Sends an edit, and returns its answer. It is on the disk then."""
+        return self.client.entry(side, edit)
+
+    def undo(self):
+        """Takes the last change back, and returns the edits that did so, by their sides."""
+        return dict(zip(("left", "right"), self.client.undo()))
+
+    def reader(self):
+        """A call that finds the complement as it is when it runs."""
+        return lambda: self.client.store.show()[2]
+
+    def close(self):
+        """Gives the store back. Each change is on the disk already."""
+        if self.client.is_open:
+            self.client.close()

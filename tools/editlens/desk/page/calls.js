@@ -1,0 +1,28 @@
+// Calls of the desk's server. The token is in the address of the page, so each path is relative to it.
+
+import { writeJson } from "./words.js";
+
+async function answered(request) {
+  try {
+    const said = await request;
+    if (said.ok) return await said.json();
+    return { ok: false, cause: "failed", sentence: `The desk refused the request: ${(await said.text()).trim()}` };
+  } catch {
+    return { ok: false, cause: "failed", sentence: "The desk does not answer. Is the program that printed the address still there?" };
+  }
+}
+
+/** What a window draws. In a replay, at a step. */
+export const stateAt = (step) => answered(fetch(step === null ? "state" : `state?step=${step}`));
+
+/** A call with a body, whose numbers may be whole numbers of 64 bits. */
+export const call = (name, body) =>
+  answered(fetch(name, { method: "POST", headers: { "Content-Type": "application/json" }, body: writeJson(body) }));
+
+/** Calls `changed` whenever there is something new, and `connected` with whether the desk is there. */
+export function follow(changed, connected) {
+  const stream = new EventSource("events");
+  stream.addEventListener("open", () => connected(true));
+  stream.addEventListener("error", () => connected(false));
+  stream.addEventListener("message", changed);
+}

@@ -1,0 +1,306 @@
+// The page: draws the state that the server has, and sends each action as one edit.
+
+import { call, follow, stateAt } from "./calls.js";
+import { drawDocument } from "./documents.js";
+import { startDrag } from "./dragging.js";
+import { byId, element } from "./elements.js";
+import { Steps, drawComplement, drawHistory, drawLast, drawNotices, refusalLines } from "./panels.js";
+import { ProgramEditor } from "./program.js";
+import { partners } from "./ties.js";
+import { Versions } from "./versions.js";
+import { Verbatim, editAt, pathWithout, pointer } from "./words.js";
+
+const SIDES = ["left", "right"];
+const OTHER = { left: "right", right: "left" };
+const MARKS = { set: "changed", new: "new", moved: "moved" };
+
+/** One side of the page: it draws its document, and finds the places in it. */
+class Side {
+  constructor(name, desk) {
+    this.side = name;
+    this.desk = desk;
+    this.pages = new Map();
+    this.refusal = null;
+    this.root = byId(name).querySelector(".document");
+    this.root.addEventListener("pointerover", (event) => desk.pointedAt(this, event.target));
+    this.root.addEventListener("pointerleave", () => desk.pointedAt(this, null));
+    this.root.addEventListener("focusin", (event) => desk.pointedAt(this, event.target));
+    const byHand = byId(name).querySelector(".by-hand");
+    byHand.querySelector("button").addEventListener("click", () => desk.sendText(this, byHand.querySelector("textarea").value));
+    byHand.hidden = true;
+  }
+
+  get version() { return this.desk.state.version; }
+  get canEdit() { return this.desk.state.mode !== "replay"; }
+
+  /** Sends an edit of a place. */
+  send(place, word, focus) {
+    // A browser may say that a text was left when its field is drawn anew. It was not sent by a person then.
+    if (this.isDrawing) return null;
+    return this.desk.send(this, editAt(place.steps, word), { place: pointer(place.path), ...focus });
+  }
+
+  hang(place, from, to) {
+    const target = pathWithout(from, to);
+    if (target) this.send(place, [{ hang: [from, target] }], { into: pointer(place.path) });
+    else this.desk.say({ cause: "failed", sentence: "A node is not hung below itself" });
+  }
+
+  drag(event, { drop }, list) {
+    startDrag(event, this.root, list, drop);
+  }
+
+  redraw() {
+    const held = this.held();
+    const { type, document, changes } = this.desk.state.sides[this.side];
+    this.isDrawing = true;
+    this.root.replaceChildren(drawDocument(type, document, this));
+    this.isDrawing = false;
+    byId(this.side).querySelector(".by-hand").hidden = !this.canEdit;
+    this.markChanges(changes);
+    this.showRefusal();
+    this.hold(held);
+  }
+
+  /** The element of a place, or of the nearest one around it that is drawn. */
+  at(place) {
+    const names = place.split("/");
+    while (names.length) {
+      const found = this.root.querySelector(`[data-place="${CSS.escape(names.join("/"))}"]`);
+      if (found) return found;
+      names.pop();
+    }
+    return this.root;
+  }
+
+  markChanges(changes) {
+    for (const [place, sort] of changes) {
+      const found = this.root.querySelector(`[data-place="${CSS.escape(place)}"]`);
+      const mark = element("span", { class: "mark" }, MARKS[sort]);
+      const head = found?.querySelector(":scope > .row-head");
+      if (found?.matches(".row.compact")) found.append(mark);
+      else if (head) head.append(mark);
+      else if (found?.matches(".entry")) found.insertBefore(mark, found.querySelector(":scope > .tools, :scope.wide > .control"));
+      else found?.closest(".row, .entry")?.querySelector(":scope > .row-head")?.append(mark);
+    }
+  }
+
+  showRefusal() {
+    const box = byId(this.side).querySelector(".refusal");
+    box.replaceChildren();
+    if (!this.refusal) return;
+    const lines = refusalLines(this.refusal);
+    const close = element("button", { type: "button", onclick: () => { this.refusal = null; this.redraw(); } }, "Close");
+    const said = element("div", { class: "refused here" }, ...lines, close);
+    const { place } = this.refusal;
+    if (place === null || place === undefined) box.append(said);
+    else {
+      const found = this.at(place);
+      found.classList.add("refused-here");
+      found.append(said);
+    }
+  }
+
+  /** What has the focus now, with a text that was typed and not sent yet. */
+  held() {
+    const active = document.activeElement;
+    if (!this.root.contains(active) || !active.dataset.key) return null;
+    const place = active.dataset.key.slice(0, active.dataset.key.lastIndexOf("|"));
+    const { base } = active.dataset;
+    const typed = base === undefined ? null : { text: active.value, base: this.desk.rebased(this, Number(base), place) };
+    return { key: active.dataset.key, typed, from: active.selectionStart, to: active.selectionEnd };
+  }
+
+  hold(held) {
+    const found = held && this.root.querySelector(`[data-key="${CSS.escape(held.key)}"]`);
+    if (!found) return;
+    if (held.typed) {
+      found.value = held.typed.text;
+      found.dataset.base = held.typed.base;
+    }
+    found.focus({ preventScroll: true });
+    if (typeof held.from === "number" && found.setSelectionRange) found.setSelectionRange(held.from, held.to);
+  }
+
+  /** Puts the focus on a control by its key, or on the first one of a place. */
+  focus({ key, into, from }) {
+    // A person who went on to another control meanwhile is left there.
+    const active = document.activeElement?.dataset.key;
+    if (active !== undefined && active !== from) return;
+    const byKey = key && this.root.querySelector(`[data-key="${CSS.escape(key)}"]`);
+    const around = into !== undefined ? this.at(into) : byKey?.closest(".entry");
+    const found = byKey && !byKey.disabled ? byKey : around?.querySelector("input, select, textarea, button:not(:disabled)");
+    found?.focus();
+    found?.scrollIntoView({ block: "nearest" });
+  }
+}
+
+/** The page as a whole. */
+class Page {
+  constructor() {
+    this.state = null;
+    this.step = null;
+    this.refusal = null;
+    this.versions = new Versions();
+    this.turn = Promise.resolve();
+    this.sides = Object.fromEntries(SIDES.map((it) => [it, new Side(it, this)]));
+    this.steps = new Steps((step) => this.go(step));
+    this.program = new ProgramEditor((text) => call("check", { program: text }), (text) => this.load(text));
+    byId("undo").addEventListener("click", () => this.ask("undo", {}));
+    byId("message-close").addEventListener("click", () => { byId("message").hidden = true; });
+    document.addEventListener("keydown", (event) => event.key === "Escape" && this.dismiss());
+    follow(() => this.refresh(), (isThere) => this.connected(isThere));
+    this.refresh();
+  }
+
+  connected(isThere) {
+    byId("connection").textContent = isThere ? "" : "The desk does not answer";
+    document.body.classList.toggle("lost", !isThere);
+  }
+
+  async refresh(focus = null) {
+    const state = await stateAt(this.step);
+    if (state.sides) this.draw(state, focus);
+    else this.say(state);
+  }
+
+  go(step) {
+    this.step = Math.max(0, Math.min(step, this.steps.steps));
+    return this.refresh();
+  }
+
+  draw(state, focus) {
+    const isSame = this.state !== null && this.state.version === state.version;
+    if (this.state && state.version < this.state.version && state.mode !== "replay") return;
+    const isNewer = !isSame && this.state !== null;
+    if (!isSame) this.versions.drawn(this.state, state);
+    this.state = state;
+    byId("title").textContent = state.title;
+    byId("undo").hidden = !state.undo.can;
+    if (state.fault) this.say({ cause: "failed", sentence: state.fault });
+    if (isNewer) this.forget();
+    if (state.mode === "replay") this.showReplayRefusal();
+    if (!isSame) SIDES.forEach((it) => this.sides[it].redraw());
+    this.steps.draw(state);
+    this.drawPanels();
+    if (focus) focus.side.focus(focus);
+    this.pointedAt(this.pointedSide, this.pointedElement);
+    // A script that measures the page reads when a version was painted.
+    if (!isSame) requestAnimationFrame(() => setTimeout(() => performance.mark("painted")));
+  }
+
+  drawPanels() {
+    drawLast(this.state, this.refusal);
+    drawComplement(this.state);
+    drawHistory(this.state);
+    drawNotices(this.state);
+    this.program.show(this.state.program);
+    byId("program").classList.toggle("fixed", this.state.mode !== "session");
+  }
+
+  forget() {
+    this.refusal = null;
+    SIDES.forEach((it) => { this.sides[it].refusal = null; });
+  }
+
+  dismiss() {
+    byId("message").hidden = true;
+    if (!SIDES.some((it) => this.sides[it].refusal)) return;
+    this.forget();
+    SIDES.forEach((it) => this.sides[it].redraw());
+    drawLast(this.state, null);
+  }
+
+  showReplayRefusal() {
+    const { refused } = this.state.done;
+    SIDES.forEach((it) => { this.sides[it].refusal = refused && refused.side === it ? refused : null; });
+  }
+
+  /** Says something that belongs to no place. */
+  say(said) {
+    byId("message-text").replaceChildren(...refusalLines(said));
+    byId("message").hidden = false;
+  }
+
+  /** The version that an edit, begun at a base, may name. */
+  rebased(side, base, place, isFree = false) {
+    return this.versions.rebased(base, this.state.version, side.side, place, isFree);
+  }
+
+  /** Sends an edit of a side, behind those that are on their way. */
+  send(side, edit, focus = {}) {
+    const base = focus.base ?? this.state.version;
+    const from = document.activeElement?.dataset.key;
+    this.turn = this.turn.then(() => this.sendNow(side, edit, base, { from, ...focus }));
+    return this.turn;
+  }
+
+  /** Sends an edit. A refusal is shown at its place, and the document is drawn as it is. */
+  async sendNow(side, edit, base, focus) {
+    const now = focus.place === undefined ? base : this.rebased(side, base, focus.place, focus.isFree);
+    await this.answered(side, await call("edit", { base: new Verbatim(String(now)), side: side.side, edit }), focus);
+  }
+
+  async answered(side, said, focus = {}) {
+    if (said.ok) {
+      await this.refresh({ side, ...focus });
+      return;
+    }
+    this.forget();
+    if (said.cause === "stale" || said.cause === "failed" || !said.cause) {
+      await this.refresh();
+      side.redraw();
+      this.say({ ...said, typed: focus.typed });
+      return;
+    }
+    this.refusal = said;
+    side.refusal = { ...said, typed: focus.typed };
+    side.redraw();
+    drawLast(this.state, said);
+    side.at(said.place ?? "").querySelector(".refused")?.scrollIntoView({ block: "nearest" });
+  }
+
+  /** Sends an edit that was written by hand, as it is. */
+  async sendText(side, text) {
+    try {
+      JSON.parse(text);
+    } catch (why) {
+      await this.answered(side, { cause: "not-json", place: null, sentence: `This is not JSON: ${why.message}`, side: side.side });
+      return;
+    }
+    await this.send(side, new Verbatim(text));
+  }
+
+  async ask(name, body) {
+    const said = await call(name, { base: new Verbatim(String(this.state.version)), ...body });
+    if (said.ok) await this.refresh();
+    else this.say(said);
+    return said;
+  }
+
+  async load(text) {
+    const said = await this.ask("load", { program: text });
+    if (said.ok) this.program.show(text, true);
+  }
+
+  /** Marks a place, and what belongs to it on the other side. */
+  pointedAt(side, target) {
+    this.pointedSide = side;
+    this.pointedElement = target;
+    document.querySelectorAll(".tied").forEach((it) => it.classList.remove("tied"));
+    const place = target?.isConnected ? target.closest("[data-place]") : null;
+    const { complement, version } = this.state ?? {};
+    if (!place || !complement || complement.version !== version || place.dataset.place === "") return;
+    const path = pathOf(place.dataset.place);
+    const others = partners(this.state.lens, complement.tree, side.side, path);
+    const found = others.map((it) => this.sides[OTHER[side.side]].root.querySelector(`[data-place="${CSS.escape(it)}"]`)).filter(Boolean);
+    if (found.length) [place, ...found].forEach((it) => it.closest(".entry, .row")?.classList.add("tied"));
+  }
+}
+
+/** The names and places of a JSON Pointer. */
+function pathOf(place) {
+  return place.split("/").slice(1).map((it) => it.replaceAll("~1", "/").replaceAll("~0", "~"));
+}
+
+window.page = new Page();

@@ -1,0 +1,235 @@
+"""The file of a store: its records, read and written. docs/FORMATS.md has the form of the log.
+
+A `Log` reads a file as the program does. `found` reads on where the program stops, for a store that is refused or cut short by a changed
+byte.
+"""
+
+import json
+import os
+from dataclasses import dataclass
+
+from .json_text import NotJson, read_json, write_json
+
+MARK = b"EDLENS1\n"
+OPEN, CLOSED = b"\x01", b"\x00"
+FIRST = len(MARK)
+LENGTH = 8
+MOST_READ = 2**30
+"""More bytes than a record of a store has."""
+KINDS = {"program", "version", "entry", "group", "snapshot"}
+
+
+def kind_of(payload):
+    """The kind of a record by the form of its payload, or None if it has that of no record. Its contents are not looked at."""
+    try:
+        tree = read_json(payload.decode())
+    except (NotJson, UnicodeDecodeError):
+        return None
+    if not isinstance(tree, dict):
+        return None
+    if set(tree) == {"program", "version"}:
+        return "program"
+    return next(iter(tree)) if len(tree) == 1 and set(tree) <= KINDS else None
+
+
+def is_change(payload):
+    """Whether a record is a change, which the program counts."""
+    return kind_of(payload) in ("entry", "group")
+
+
+def printable(data):
+    """Bytes as text, with a ? for what a terminal would not show."""
+    return "".join(it if it.isprintable() else "?" for it in data.decode(errors="replace"))
+
+
+def number_of(count, name):
+    """A count with the name of what is counted."""
+    return f"{count} {name}" if count == 1 else f"{count} {name}s"
+
+
+def told(payload, most=100):
+    """What a record says, in a line of so many characters at most, or of any number if that is None."""
+    kind = kind_of(payload)
+    if kind is None:
+        said = "not a record: " + printable(payload)
+    else:
+        said = _told(kind, read_json(payload.decode())[kind])
+    return said if most is None or len(said) <= most else said[: most - 2] + ".."
+
+
+def _told(kind, content):
+    if kind in ("program", "version"):
+        return f"{kind} {content}".replace("\n", " ")
+    if kind == "snapshot":
+        return "snapshot " + write_json(content)
+    try:
+        entries = [content] if kind == "entry" else content
+        return kind + "".join(f" {it['side']} {write_json(it['edit'])}" for it in entries)
+    except (TypeError, KeyError):
+        return f"{kind} {write_json(content)}"
+
+
+@dataclass(frozen=True)
+class Span:
+    """Where a record is: the place of its gate, and the length of its payload."""
+
+    at: int
+    length: int
+
+    @property
+    def payload(self):
+        """The place of the payload."""
+        return self.at + 1 + LENGTH
+
+    @property
+    def end(self):
+        """The place of the next gate."""
+        return self.payload + self.length
+
+
+@dataclass(frozen=True)
+class Found:
+    """A record that was found in a file: its payload, or None where that is not readable, and what was wrong around it."""
+
+    span: Span
+    payload: "bytes | None"
+    faults: tuple = ()
+
+
+class Log:
+    """The records of a file that is a store, and where they are.
+
+    A record is read after its gate was seen open. A writer opens a gate when the record behind it is complete. So the records are those
+    that the store had at one moment, also if a program stores more of them meanwhile.
+    """
+
+    def __init__(self, path):
+        self._file = open(path, "rb", buffering=0)
+        try:
+            self.has_mark = self.read(0, FIRST) == MARK
+            self.spans, self.end, self.is_cut = self._walk()
+        except BaseException:
+            self.close()
+            raise
+
+    def __enter__(self):
+        return self
+
+    def __exit__(self, *_):
+        self.close()
+
+    def close(self):
+        """Closes the file."""
+        self._file.close()
+
+    def read(self, at, count):
+        """The bytes from a place on: fewer than `count` if the file ends."""
+        parts = []
+        while count:
+            part = os.pread(self._file.fileno(), min(count, MOST_READ), at)
+            if not part:
+                break
+            parts.append(part)
+            at, count = at + len(part), count - len(part)
+        return b"".join(parts)
+
+    @property
+    def size(self):
+        """How many bytes the file has now."""
+        return os.fstat(self._file.fileno()).st_size
+
+    def _walk(self):
+        spans, at = [], FIRST
+        while True:
+            gate = self.read(at, 1)
+            if gate != OPEN:
+                return spans, at, not gate
+            span = self._span(at)
+            if span is None or span.end >= self.size:
+                return spans, at, True
+            spans.append(span)
+            at = span.end
+
+    def _span(self, at):
+        length = self.read(at + 1, LENGTH)
+        return Span(at, int.from_bytes(length, "little")) if len(length) == LENGTH else None
+
+    def gate(self, at):
+        """The byte at a place."""
+        return self.read(at, 1)[0]
+
+    def payload(self, span):
+        """The payload of a record."""
+        if span.length > MOST_READ:
+            raise OSError(f"the record at byte {span.at} has {span.length:,} bytes, and a record has no more than {MOST_READ:,}")
+        return self.read(span.payload, span.length)
+
+    def payloads(self, count=None):
+        """The payloads of the first records, or of all."""
+        return (self.payload(it) for it in self.spans[:count])
+
+    def length_at(self, at):
+        """What the length behind a gate says, or None if the file ends in it."""
+        span = self._span(at)
+        return span and span.length
+
+    def found(self):
+        """The records that can be read, as Found, where a changed length or a changed gate is passed over."""
+        at = FIRST
+        while True:
+            gate = self.read(at, 1)
+            record = self._found(at, gate)
+            if record is None:
+                return
+            yield record
+            at = record.span.end
+
+    def _found(self, at, gate):
+        """The record behind a gate. One that is not readable is passed over only if its gate is open and its length leads to a gate."""
+        faults = () if gate == OPEN else ("gate",)
+        span = self._span(at)
+        if not gate or span is None:
+            return None
+        is_framed = span.end < self.size
+        if is_framed and span.length <= MOST_READ:
+            payload = self.payload(span)
+            if kind_of(payload):
+                return Found(span, payload, faults)
+        payload = self._by_json(span.payload)
+        if payload is not None:
+            return Found(Span(at, len(payload)), payload, (*faults, "length"))
+        if is_framed and not faults and self.read(span.end, 1) in (OPEN, CLOSED):
+            return Found(span, None, ("payload",))
+        return None
+
+    def _by_json(self, at):
+        """The payload that begins at a place, by where its JSON text ends; or None if no record's payload begins there."""
+        if self.read(at, 1) != b"{":
+            return None
+        rest = self.read(at, min(self.size - at, MOST_READ)).decode(errors="surrogateescape")
+        try:
+            _, count = json.JSONDecoder().raw_decode(rest)
+        except (ValueError, RecursionError):
+            return None
+        payload = rest[:count].encode(errors="surrogateescape")
+        return payload if kind_of(payload) and self.read(at + len(payload), 1) else None
+
+
+def write_log(path, payloads):
+    """Writes a new file with these records, and syncs it. The file must not be there."""
+    with open(path, "xb") as file:
+        file.write(MARK)
+        for payload in payloads:
+            file.write(OPEN + len(payload).to_bytes(LENGTH, "little") + payload)
+        file.write(CLOSED)
+        file.flush()
+        os.fsync(file.fileno())
+
+
+def sync_folder(folder):
+    """Syncs a folder, so that the names in it last."""
+    held = os.open(folder, os.O_RDONLY)
+    try:
+        os.fsync(held)
+    finally:
+        os.close(held)

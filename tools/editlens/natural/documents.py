@@ -1,0 +1,243 @@
+"""Documents of users' files: a file held against the shape of a type, and the document that it shows."""
+
+from ..documents import MOST_DEPTH, Misfit, is_depth_list, is_int
+from ..json_text import pointer
+from ..types import write_name
+from .forms import is_object, names, open_field, sorts
+from .places import Place, content, members
+from .text import is_equal, number_text, shown, sort_of, write_file
+
+NOTHING = object()
+"""What a record has for a member that is not there."""
+
+
+class DoesNotFit(ValueError):
+    """A file that does not fit: every place, as a Misfit."""
+
+    def __init__(self, places):
+        super().__init__("\n".join(map(str, places)))
+        self.places = places
+
+
+def to_document(shape, tree, path=()):
+    """The document that a user's file shows. Raises DoesNotFit with every place that does not fit."""
+    return _all_of(lambda reader: reader.read(shape, tree, tuple(path)))
+
+
+def lost_orders(shape, document):
+    """The places of the lists by key whose order is not kept, and is not the byte order of their keys. Raises NotWritable."""
+    return sorted(_lost_orders(Place(shape, document), ()))
+
+
+def _lost_orders(place, path):
+    inside, there = members(place), content(place)
+    if not there.role and there.shape.is_key_list() and "order" not in there.shape.form and list(there.value) != sorted(there.value, key=str.encode):
+        yield pointer(path)
+    for step, it in inside.items() if isinstance(inside, dict) else enumerate(inside or []):
+        yield from _lost_orders(it, (*path, step))
+
+
+def item_of(shape, tree, path=()):
+    """The key and the content of an item of a list by key. Raises DoesNotFit."""
+    return _all_of(lambda reader: reader.item(shape, tree, tuple(path)))
+
+
+def nodes_of(shape, trees, path=(), depth=0):
+    """The nodes of nested trees in preorder, each a depth and a content. Raises DoesNotFit."""
+    nodes = []
+
+    def read(reader):
+        for number, tree in enumerate(trees):
+            reader.node(shape, tree, (*path, number), depth, nodes)
+        return nodes
+
+    return _all_of(read)
+
+
+def _all_of(read):
+    reader = _Reader()
+    found = read(reader)
+    if reader.misfits:
+        raise DoesNotFit(reader.misfits)
+    return found
+
+
+def wanted(shape):
+    """What a place of a file wants, for a person."""
+    kind, form = shape.ty.kind, shape.form
+    if shape.is_untagged():
+        return "one of: " + "; ".join(wanted(it) for tag, it in shape.inner.items() if form.get("missing") != tag)
+    if kind == "enum":
+        return "one of " + ", ".join(write_file(form.get("members", {}).get(it, it)) for it in shape.ty.members)
+    if kind == "text" and "number" in form:
+        return "a number"
+    if kind == "list" or shape.is_key_list():
+        return "an array" + (f" of objects with the member {form['key']}" if shape.is_key_list() else "")
+    if "kind" in form:
+        return f"an object with the member {form['kind']}, one of " + ", ".join(f'"{it}"' for it in shape.inner)
+    if "children" in form:
+        return f"an object with the member {form['children']}"
+    if kind == "alternatives":
+        return "an object with exactly one member, " + ("one of " if len(shape.inner) > 1 else "") + ", ".join(map(write_name, shape.inner))
+    if kind == "record":
+        return "an object with the members " + (", ".join(map(write_name, names(shape) or shape.inner)) or "of an empty record")
+    simple = {"unit": "null", "bool": "true or false", "text": "a string", "int": "a whole number within 64 bits, without fraction or exponent"}
+    return {**simple, "keyed": "an object, used as a map", "tree": "an object with exactly the members depths and items"}[kind]
+
+
+class _Reader:
+    """Reads a file by a shape, and collects what does not fit. Where something does not, what is read means nothing."""
+
+    def __init__(self):
+        self.misfits = []
+
+    def wrong(self, path, wanted_there, found):
+        self.misfits.append(Misfit(path, wanted_there, found if isinstance(found, str) else shown(found[0])))
+
+    def read(self, shape, tree, path):
+        if shape.is_untagged():
+            return self.untagged(shape, tree, path)
+        if tree is NOTHING or sort_of(tree) not in sorts(shape):
+            self.wrong(path, wanted(shape), "nothing" if tree is NOTHING else (tree,))
+            return None
+        if shape.is_key_list():
+            return self.key_list(shape, tree, path)
+        return getattr(self, shape.ty.kind, self.simple)(shape, tree, path)
+
+    def untagged(self, shape, tree, path):
+        form, sort = shape.form, "missing" if tree is NOTHING else sort_of(tree)
+        if sort in form:
+            return {form[sort]: None}
+        for tag, inner in shape.inner.items():
+            if tag not in (form.get("missing"), form.get("null")) and sort in sorts(inner):
+                return {tag: self.read(inner, tree, path)}
+        self.wrong(path, wanted(shape), "nothing" if tree is NOTHING else (tree,))
+        return None
+
+    def simple(self, shape, tree, path):
+        form, kind = shape.form, shape.ty.kind
+        if "number" in form:
+            return number_text(tree)
+        if "json" in form:
+            return write_file(tree)
+        if kind == "enum":
+            found = next((it for it in shape.ty.members if is_equal(form.get("members", {}).get(it, it), tree)), None)
+            if found is None:
+                self.wrong(path, wanted(shape), (tree,))
+            return found
+        if kind == "int" and not is_int(tree):
+            self.wrong(path, wanted(shape), (tree,))
+        return tree
+
+    def record(self, shape, tree, path):
+        """A record. What no field takes goes to the flat field whose members are not known, where there is one."""
+        found, left, rest = {}, dict(tree), open_field(shape)
+        for name, inner in shape.inner.items():
+            if "flat" not in inner.form:
+                found[name] = self.read(inner, left.pop(name, NOTHING), (*path, name))
+            elif name != rest:
+                found[name] = self.read(inner, {it: left.pop(it) for it in names(inner) if it in left}, path)
+        if rest is None:
+            self.unknown(left, path)
+        else:
+            found[rest] = self.read(shape.inner[rest], left, path)
+        return found
+
+    def unknown(self, left, path):
+        for name in sorted(left):
+            self.wrong((*path, name), "no such member", (left[name],))
+
+    def list(self, shape, tree, path):
+        return [self.read(shape.inner["*"], item, (*path, number)) for number, item in enumerate(tree)]
+
+    def keyed(self, shape, tree, path):
+        return {key: self.read(shape.inner["*"], tree[key], (*path, key)) for key in tree}
+
+    def alternatives(self, shape, tree, path):
+        form, left = shape.form, dict(tree)
+        if "kind" not in form:
+            if len(tree) != 1 or next(iter(tree)) not in shape.inner:
+                self.wrong(path, wanted(shape), (tree,))
+                return None
+            tag = next(iter(tree))
+            return {tag: self.read(shape.inner[tag], tree[tag], (*path, tag))}
+        tag = left.pop(form["kind"], NOTHING)
+        if tag is NOTHING or not isinstance(tag, str) or tag not in shape.inner:
+            tags = "one of " + ", ".join(f'"{it}"' for it in shape.inner)
+            self.wrong((*path, form["kind"]), tags, "nothing" if tag is NOTHING else (tag,))
+            return None
+        return {tag: self.content(shape, shape.inner[tag], left, path)}
+
+    def content(self, shape, inner, left, path):
+        """A content without the members that a form adds to it."""
+        if "content" in shape.form:
+            name = shape.form["content"]
+            found = self.read(inner, left.pop(name, NOTHING), (*path, name))
+            self.unknown(left, path)
+            return found
+        if is_object(inner):
+            return self.read(inner, left, path)
+        self.unknown(left, path)
+        return None
+
+    def tree(self, shape, tree, path):
+        if "children" in shape.form:
+            nodes = []
+            self.node(shape, tree, path, 0, nodes)
+            return {"depths": [depth for depth, _ in nodes], "items": [item for _, item in nodes]}
+        if set(tree) != {"depths", "items"}:
+            self.wrong(path, wanted(shape), (tree,))
+            return None
+        if not is_depth_list(tree["depths"]):
+            text = f"depths in preorder: 0 first, then from 1 to one more than the depth before, at most {MOST_DEPTH}"
+            self.wrong((*path, "depths"), text, (tree["depths"],))
+        if not isinstance(tree["items"], list):
+            self.wrong((*path, "items"), "an array", (tree["items"],))
+            return None
+        if isinstance(tree["depths"], list) and len(tree["depths"]) != len(tree["items"]):
+            self.wrong((*path, "items"), f"{len(tree['depths'])} contents, one for each depth", str(len(tree["items"])))
+        items = [self.read(shape.inner["*"], item, (*path, "items", number)) for number, item in enumerate(tree["items"])]
+        return {"depths": tree["depths"], "items": items}
+
+    def node(self, shape, tree, path, depth, nodes):
+        """A node of a nested tree with all below it, appended to the nodes."""
+        form = shape.form
+        if not isinstance(tree, dict) or depth > MOST_DEPTH:
+            self.wrong(path, wanted(shape) if depth <= MOST_DEPTH else f"at most {MOST_DEPTH + 1} levels", (tree,))
+            return
+        left = dict(tree)
+        below = left.pop(form["children"], NOTHING)
+        if below is NOTHING and "leaf" in form:
+            below = []
+        elif not isinstance(below, list) or not below and form.get("leaf") == "missing":
+            text = "an array" + (" that is not empty, or no such member" if "leaf" in form else "")
+            self.wrong((*path, form["children"]), text, "nothing" if below is NOTHING else (below,))
+            below = []
+        nodes.append((depth, self.content(shape, shape.inner["*"], left, path)))
+        for number, item in enumerate(below):
+            self.node(shape, item, (*path, form["children"], number), depth + 1, nodes)
+
+    def key_list(self, shape, tree, path):
+        form, found = shape.form, {}
+        for number, item in enumerate(tree):
+            key, value = self.item(shape, item, (*path, number))
+            if key in found:
+                self.wrong((*path, number, form["key"]), "a key that no other item has", (item[form["key"]],))
+            found[key] = value
+        if "order" not in form:
+            return found
+        return {shape.map_field(): found, form["order"]: list(found)}
+
+    def item(self, shape, tree, path):
+        """The key and the content of an item of a list by key."""
+        form = shape.form
+        if not isinstance(tree, dict):
+            self.wrong(path, f"an object with the member {form['key']}", (tree,))
+            return path, None
+        left = dict(tree)
+        key = left.pop(form["key"], NOTHING)
+        text = number_text(key) if "number" in form else key
+        if not isinstance(text, str):
+            self.wrong((*path, form["key"]), "a number" if "number" in form else "a string", "nothing" if key is NOTHING else (key,))
+            text = path
+        return text, self.content(shape, shape.content(), left, path)

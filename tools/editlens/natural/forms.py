@@ -1,0 +1,317 @@
+"""Form files: how a user's file writes the places of a type. docs/TOOLS.md has the forms."""
+
+from dataclasses import dataclass, field
+
+from ..json_text import NotJson, pointer, read_json_file, read_pointer, shown
+from ..types import Ty, write_type
+from .text import read_file, read_number, sort_of
+
+OPTIONS = {
+    "key": ("keyed", {"content": str, "number": bool, "order": str}),
+    "number": ("text", {}),
+    "json": ("text", {}),
+    "members": ("enum", {}),
+    "untagged": ("alternatives", {}),
+    "missing": ("alternatives", {"null": str}),
+    "null": ("alternatives", {"missing": str}),
+    "kind": ("alternatives", {"content": str, "flat": bool}),
+    "children": ("tree", {"content": str, "leaf": str}),
+    "flat": ("record", {}),
+}
+KINDS = {
+    "alternatives": "alternatives",
+    "enum": "an enum",
+    "keyed": "a keyed map",
+    "record": "a record",
+    "text": "a text",
+    "tree": "a tree",
+}
+WORDS = ("number", "json", "untagged", "flat")
+SCALARS = ("null", "bool", "number", "string")
+
+
+class FormFault(ValueError):
+    """A form file that says nothing of its type: every fault, each with its place."""
+
+    def __init__(self, faults):
+        super().__init__("\n".join(f"{pointer(path) or '(the document)'}: {reason}" for path, reason in faults))
+        self.faults = faults
+
+
+@dataclass(frozen=True)
+class Shape:
+    """A type with the forms of its places: `inner` has the shapes of fields and tags, or the shape of all contents as `*`."""
+
+    ty: Ty
+    form: dict = field(default_factory=dict)
+    inner: dict = field(default_factory=dict)
+
+    def is_untagged(self):
+        """Whether the content of alternatives is written alone."""
+        return any(it in self.form for it in ("untagged", "missing", "null"))
+
+    def is_key_list(self):
+        """Whether a keyed map is written as a list of objects, each with its key."""
+        return "key" in self.form
+
+    def keeps_orders(self):
+        """Whether every list by key in it keeps its order."""
+        return not (self.is_key_list() and "order" not in self.form) and all(it.keeps_orders() for it in self.inner.values())
+
+    def loosened(self):
+        """The same shape, in which a leaf may have an empty list of children or none."""
+        form = {**self.form, "leaf": "either"} if "leaf" in self.form else self.form
+        return Shape(self.ty, form, {name: it.loosened() for name, it in self.inner.items()})
+
+    def has_bare_leaves(self):
+        """Whether the leaves of a tree in it have no list of children."""
+        return self.form.get("leaf") == "missing" or any(it.has_bare_leaves() for it in self.inner.values())
+
+    def map_field(self):
+        """The field that has the map, where a record of a map and an order is written as a list."""
+        return next(name for name in self.inner if name != self.form["order"])
+
+    def content(self):
+        """The shape of the contents of a container. For a map with an order it is that of the map's."""
+        return self.inner[self.map_field()].inner["*"] if self.ty.kind == "record" else self.inner["*"]
+
+
+def plain(ty):
+    """The shape of a type without any form: its documents are written as they are."""
+    return _built(ty, {}, (), set(), [])
+
+
+def read_form(ty, tree):
+    """The shape of a type by a form file. Raises FormFault with every fault."""
+    faults, used = [], set()
+    if not isinstance(tree, dict):
+        raise FormFault([((), f"a form file is an object from places to forms, and not {shown(tree)}")])
+    forms = {}
+    for place, form in tree.items():
+        try:
+            forms[tuple(read_pointer(place))] = form
+        except ValueError as why:
+            faults.append(((), str(why)))
+    shape = _built(ty, forms, (), used, faults)
+    faults += [(path, "the type has no such place") for path in forms if path not in used]
+    if faults:
+        raise FormFault(faults)
+    return shape
+
+
+def read_form_at(ty, path):
+    """The shape of a type by the form file at a path. Raises FormFault."""
+    return read_form(ty, read_json_file(path))
+
+
+def _built(ty, forms, path, used, faults):
+    inner = {name: _built(it, forms, (*path, name), used, faults) for name, it in ty.fields}
+    if ty.inner:
+        inner["*"] = _built(ty.inner, forms, (*path, "*"), used, faults)
+    form = forms.get(path, {})
+    if path in forms:
+        used.add(path)
+    if isinstance(form, str):
+        form = {form: True} if form in WORDS else {"": form}
+    reason = _form_fault(ty, form)
+    shape = Shape(ty, {} if reason else form, inner)
+    reason = reason or _shape_fault(shape, path)
+    if reason:
+        faults.append((path, reason))
+        return Shape(ty, {}, inner)
+    return shape
+
+
+def _form_fault(ty, form):
+    """What is wrong with a form by itself, or None."""
+    if form == {}:
+        return None
+    name = next((it for it in OPTIONS if isinstance(form, dict) and it in form), None)
+    if name is None:
+        return f"{shown(form.get('', form) if isinstance(form, dict) else form)} is not a form: one of {', '.join(OPTIONS)} is wanted"
+    kind, options = OPTIONS[name]
+    kinds = ("record",) if name == "key" and "order" in form else ("record", "keyed") if name == "flat" else (kind,)
+    if ty.kind not in kinds:
+        wanted = "a record of a map and an order" if "order" in form else " or ".join(KINDS[it] for it in kinds)
+        return f"{name} is a form of {wanted}, and not of {write_type(ty)}"
+    wanted = {name: bool if name in WORDS else dict if name == "members" else str, **options}
+    for option, value in form.items():
+        if option not in wanted:
+            return f"{name} has no option {option}"
+        if not isinstance(value, wanted[option]) or value is False:
+            return f"{option} cannot be {shown(value)}"
+    return None
+
+
+def _shape_fault(shape, path):
+    """What is wrong with a form at its place, or None. The forms inside are right."""
+    form, ty = shape.form, shape.ty
+    for name, test in _TESTS.items():
+        reason = test(shape) if name in form and (name != "number" or ty.kind == "text") else None
+        if reason:
+            return reason
+    if ty.kind == "record" and not shape.is_key_list():
+        flat = [name for name, inner in shape.inner.items() if "flat" in inner.form]
+        unknown = [name for name in flat if names(shape.inner[name]) is None]
+        if any(not is_object(shape.inner[name]) for name in flat):
+            return "what is flat is written as an object"
+        if len(unknown) > 1:
+            return f"{unknown[0]} and {unknown[1]} would both take the members that have no other place"
+        return _clash([*_record_names(shape)])
+    if ty.kind in ("list", "keyed", "tree", "alternatives") and not shape.is_untagged():
+        for name, inner in shape.inner.items():
+            if "flat" in inner.form:
+                return f"{name} cannot be flat: only a field of a record can"
+            if "missing" in inner.form:
+                return f"{name} cannot be missing: only a field of a record can"
+    if shape.is_untagged() and any("flat" in it.form or "missing" in it.form for it in shape.inner.values()):
+        return "what is written alone cannot be missing or flat itself"
+    if not path and ("flat" in form or "missing" in form):
+        return "the document itself cannot be missing or flat"
+    return None
+
+
+def _clash(found):
+    twice = next((it for it in found if found.count(it) > 1), None)
+    return None if twice is None else f"the member {twice} would come twice"
+
+
+def _record_names(shape):
+    """The names of the members of a record that are known, those of flat fields among them."""
+    for name, inner in shape.inner.items():
+        if "flat" in inner.form:
+            yield from names(inner) or ()
+        else:
+            yield name
+
+
+def names(shape):
+    """The names that the members of a written object may have, or None where they are not known or it is not an object."""
+    if shape.ty.kind == "unit":
+        return []
+    if shape.ty.kind == "record" and not shape.is_key_list():
+        return None if open_field(shape) else list(_record_names(shape))
+    if shape.ty.kind == "alternatives" and not shape.is_untagged():
+        if "kind" not in shape.form:
+            return list(shape.inner)
+        inside = [names(it) for it in shape.inner.values()] if "content" not in shape.form else [[shape.form["content"]]]
+        return None if None in inside else list(dict.fromkeys([shape.form["kind"], *sum(inside, [])]))
+    if shape.ty.kind == "tree":
+        if "children" not in shape.form:
+            return ["depths", "items"]
+        inside = names(shape.inner["*"]) if "content" not in shape.form else [shape.form["content"]]
+        return None if inside is None else [shape.form["children"], *inside]
+    return None
+
+
+def open_field(shape):
+    """The flat field of a record that takes the members which have no other place, or None."""
+    return next((name for name, it in shape.inner.items() if "flat" in it.form and names(it) is None), None)
+
+
+def is_object(shape):
+    """Whether what is written is always an object."""
+    return shape.ty.kind != "unit" and sorts(shape) == {"object"}
+
+
+def sorts(shape):
+    """The sorts of JSON that may be written for a shape, `missing` among them."""
+    kind, form = shape.ty.kind, shape.form
+    if kind in ("unit", "bool", "int"):
+        return {{"unit": "null", "int": "number", "bool": "bool"}[kind]}
+    if kind == "text":
+        return {"number"} if "number" in form else {*SCALARS, "array", "object"} if "json" in form else {"string"}
+    if kind == "enum":
+        return {sort_of(form.get("members", {}).get(it, it)) for it in shape.ty.members}
+    if shape.is_untagged():
+        given = {it: name for name, it in form.items() if name in ("missing", "null")}
+        return set().union(*({given[tag]} if tag in given else sorts(it) for tag, it in shape.inner.items()))
+    return {"array"} if kind == "list" or shape.is_key_list() else {"object"}
+
+
+def _number_fault(shape):
+    if read_number(shape.ty.start) is None:
+        return f'what is new begins with "{shape.ty.start}", which is not a number: declare another initial value, as text = "0"'
+    return None
+
+
+def _json_fault(shape):
+    try:
+        read_file(shape.ty.start)
+    except NotJson:
+        return f'what is new begins with "{shape.ty.start}", which is not JSON: declare another initial value, as text = "null"'
+    return None
+
+
+def _untagged_fault(shape):
+    given = [shape.form[it] for it in ("missing", "null") if it in shape.form]
+    for tag in given:
+        if tag not in shape.inner or shape.inner[tag].ty.kind != "unit":
+            return f"{tag} is not a tag with null as its content"
+    if len(set(given)) < len(given):
+        return "one tag cannot be both missing and null"
+    found = ["null"] * ("null" in shape.form)
+    for tag, inner in shape.inner.items():
+        found += [] if tag in given else sorts(inner)
+    twice = next((it for it in found if found.count(it) > 1), None)
+    return f"two tags are written as {twice}, so nothing tells them apart" if twice else None
+
+
+def _kind_fault(shape):
+    form = shape.form
+    if "content" in form:
+        return _clash([form["kind"], form["content"]])
+    for tag, inner in shape.inner.items():
+        if not is_object(inner) and inner.ty.kind != "unit":
+            return f"the content of {tag} is not written as an object: name a member for it by content"
+        reason = _clash([form["kind"], *(names(inner) or ())])
+        if reason:
+            return reason
+    return None
+
+
+def _merged_fault(shape, extra, content):
+    if "content" in shape.form:
+        return _clash([extra, shape.form["content"]])
+    if not is_object(content) and content.ty.kind != "unit":
+        return "the contents are not written as objects: name a member for them by content"
+    return _clash([extra, *(names(content) or ())])
+
+
+def _children_fault(shape):
+    if shape.form.get("leaf", "missing") != "missing":
+        return "leaf is missing, or not given"
+    return _merged_fault(shape, shape.form["children"], shape.inner["*"])
+
+
+def _key_fault(shape):
+    if "order" in shape.form:
+        order, others = shape.form["order"], [name for name in shape.inner if name != shape.form["order"]]
+        if order not in shape.inner or len(others) != 1 or shape.inner[others[0]].ty.kind != "keyed" or shape.inner[others[0]].form:
+            return "a record of exactly a keyed map and of its order is wanted"
+        if write_type(shape.inner[order].ty) != "list text" or shape.inner[order].inner["*"].form:
+            return f"{order} is not a list text"
+    return _merged_fault(shape, shape.form["key"], shape.content())
+
+
+def _members_fault(shape):
+    written = [shape.form["members"].get(it, it) for it in shape.ty.members]
+    if any(sort_of(it) not in SCALARS or isinstance(it, float) for it in written):
+        return "a member is written as a text, a whole number, true, false or null"
+    if any(it not in shape.ty.members for it in shape.form["members"]):
+        return "a name in members is not a member"
+    # True == 1 in Python, so each is compared with its sort.
+    return _clash([f"{sort_of(it)} {shown(it)}" for it in written])
+
+
+_TESTS = {
+    "number": _number_fault,
+    "json": _json_fault,
+    "untagged": _untagged_fault,
+    "missing": _untagged_fault,
+    "null": _untagged_fault,
+    "kind": _kind_fault,
+    "children": _children_fault,
+    "key": _key_fault,
+    "members": _members_fault,
+}

@@ -1,0 +1,260 @@
+"""The places of a user's file, each with the place of the document that it shows and the way of an edit there."""
+
+from dataclasses import dataclass, replace as changed
+
+from ..edits import children_of, node_at, paths_of
+from ..json_text import pointer
+from .forms import Shape, open_field
+from .text import read_file, read_number
+
+
+class NotWritable(ValueError):
+    """A document that no file of this form shows: the place in the document, and why."""
+
+    def __init__(self, path, reason):
+        steps = [it for name, place in path for it in (("items", place) if name == "mod" and isinstance(place, list) else (place,))]
+        super().__init__(f"{pointer(steps) or '(the document)'}: {reason}")
+
+
+@dataclass(frozen=True)
+class Place:
+    """A place of a user's file. `value` is what the document has for it, and `path` the way of an edit there.
+
+    Some members belong to a form and not to the document. Their `role` says what they are, and `owner` is the place with the form:
+    `kind` and `key` are the members that say a tag or a key, `item` an object of a list by key, `children` the list of a node's children,
+    `node` a node, `depths` and `items` the members of a tree without a form, and `entry` a member of a map. `name` is the key or the
+    path of a node.
+    """
+
+    shape: Shape
+    value: object
+    path: tuple = ()
+    role: str = ""
+    owner: "Place | None" = None
+    name: object = None
+
+    def is_missing(self):
+        """Whether the file has no such member now."""
+        if self.role == "children":
+            return self.owner.shape.form.get("leaf") == "missing" and not child_nodes(self)
+        return not self.role and "missing" in self.shape.form and self.shape.form["missing"] in self.value
+
+    def at(self, primitive, step, shape, value, **more):
+        """A place inside this one."""
+        return Place(shape, value, (*self.path, (primitive, step)), **more)
+
+
+def content(place):
+    """The place itself, or the content of alternatives that are written by their content alone."""
+    while place.shape.is_untagged() and place.role in ("", "entry"):
+        tag = next(iter(place.value))
+        place = place.at("stay", tag, place.shape.inner[tag], place.value[tag])
+    return place
+
+
+def members(place):
+    """What a place of a file has inside: the places of members by their names, a list of the places of items, or None for a simple value.
+
+    Members that are missing now are among them.
+    """
+    place = content(place)
+    shape, value = place.shape, place.value
+    if place.role in _BY_ROLE:
+        return _BY_ROLE[place.role](place)
+    if shape.is_key_list():
+        return _key_items(place)
+    if shape.ty.kind == "record":
+        return _fields(place)
+    if shape.ty.kind == "list":
+        return [place.at("mod", number, shape.inner["*"], item) for number, item in enumerate(value)]
+    if shape.ty.kind == "keyed":
+        return {key: place.at("mod", key, shape.inner["*"], item, role="entry", owner=place, name=key) for key, item in value.items()}
+    if shape.ty.kind == "alternatives" and "kind" not in shape.form:
+        tag = next(iter(value))
+        return {tag: place.at("stay", tag, shape.inner[tag], value[tag])}
+    if shape.ty.kind == "alternatives":
+        return _joined(place, shape.form, {shape.form["kind"]: changed(place, role="kind", owner=place)})
+    if shape.ty.kind == "tree" and "children" in shape.form:
+        return _node_members(changed(place, owner=place, name=[]))
+    if shape.ty.kind == "tree":
+        return {role: changed(place, role=role, owner=place) for role in ("depths", "items")}
+    return None
+
+
+def core(place):
+    """The place of the content that a form adds members to, in an object of alternatives, of a node or of a list by key. Or None."""
+    shape, value = place.shape, place.value
+    if place.role == "item":
+        return changed(place, role="", owner=None)
+    if place.role == "node" or "children" in shape.form:
+        tree, path = (place.owner, place.name) if place.role == "node" else (place, [])
+        return tree.at("mod", path, tree.shape.inner["*"], tree.value["items"][node_at(tree.value["depths"], path)])
+    if "kind" in shape.form:
+        tag = next(iter(value))
+        return place.at("stay", tag, shape.inner[tag], value[tag])
+    return None
+
+
+def taker(place):
+    """The map that takes the members of an object for which there is no place yet, or None."""
+    place = content(place)
+    inside, owner = core(place), place.owner if place.role in ("item", "node") else place
+    if inside:
+        return None if "content" in owner.shape.form else taker(inside)
+    if place.role not in ("", "entry") or place.shape.is_key_list():
+        return None
+    name = open_field(place.shape) if place.shape.ty.kind == "record" else None
+    if name is not None:
+        return taker(place.at("at", name, place.shape.inner[name], place.value[name]))
+    return place if place.shape.ty.kind == "keyed" else None
+
+
+def _joined(place, form, own):
+    """The members that a form adds to a content, and those of the content."""
+    inside = core(place)
+    if "content" in form:
+        return {**own, form["content"]: inside}
+    return {**own, **_apart(place, own, members(inside) or {})}
+
+
+def _apart(place, own, more):
+    twice = next((name for name in more if name in own), None)
+    if twice is not None:
+        raise NotWritable(place.path, f"the member {twice} would come twice")
+    return more
+
+
+def _fields(place):
+    found = {}
+    for name, inner in place.shape.inner.items():
+        there = place.at("at", name, inner, place.value[name])
+        if "flat" in inner.form:
+            found.update(_apart(place, found, members(there)))
+        else:
+            _apart(place, found, {name: there})
+            found[name] = there
+    return found
+
+
+def key_order(shape, value):
+    """The keys of a map that is written as a list, in the order of the list."""
+    if "order" not in shape.form:
+        return list(value)
+    keys = value[shape.map_field()]
+    listed = [key for key in dict.fromkeys(value[shape.form["order"]]) if key in keys]
+    return listed + sorted(set(keys) - set(listed), key=str.encode)
+
+
+def map_place(place):
+    """The place of the map itself of a list by key."""
+    if place.shape.ty.kind == "keyed":
+        return place
+    name = place.shape.map_field()
+    return place.at("at", name, place.shape.inner[name], place.value[name])
+
+
+def _key_items(place):
+    inside, shape = map_place(place), place.shape.content()
+    keys = key_order(place.shape, place.value)
+    return [inside.at("mod", key, shape, inside.value[key], role="item", owner=place, name=key) for key in keys]
+
+
+def _item_members(place):
+    form = place.owner.shape.form
+    return _joined(place, form, {form["key"]: changed(place, role="key")})
+
+
+def _node_members(place):
+    form = place.owner.shape.form
+    return _joined(changed(place, role="node"), form, {form["children"]: changed(place, role="children")})
+
+
+def child_nodes(place):
+    """The numbers of the children of a place of the role `children`."""
+    depths = place.owner.value["depths"]
+    return children_of(depths, node_at(depths, place.name))
+
+
+def _children(place):
+    return [changed(place, role="node", name=[*place.name, number]) for number in range(len(child_nodes(place)))]
+
+
+def _items(place):
+    paths, inner = paths_of(place.value["depths"]), place.shape.inner["*"]
+    return [place.owner.at("mod", path, inner, item) for path, item in zip(paths, place.value["items"])]
+
+
+_BY_ROLE = {
+    "kind": lambda place: None,
+    "key": lambda place: None,
+    "depths": lambda place: None,
+    "item": _item_members,
+    "node": _node_members,
+    "children": _children,
+    "items": _items,
+}
+
+
+def written(place):
+    """What the file has at a place. Raises NotWritable."""
+    place = content(place)
+    if place.role in ("", "entry") and "children" in place.shape.form:
+        return _nested(place)
+    inside = members(place)
+    if isinstance(inside, dict):
+        return {name: written(it) for name, it in inside.items() if not it.is_missing()}
+    if isinstance(inside, list):
+        return [written(it) for it in inside]
+    return _simple(place)
+
+
+def nodes(tree):
+    """The nodes of a nested tree in preorder: the path of each, and the members of its content."""
+    inner, form = tree.shape.inner["*"], tree.shape.form
+    for path, item in zip(paths_of(tree.value["depths"]), tree.value["items"]):
+        inside = tree.at("mod", path, inner, item)
+        yield path, {form["content"]: inside} if "content" in form else members(inside) or {}
+
+
+def _nested(tree):
+    """The nested objects of a tree, made in one pass."""
+    name, is_bare, made = tree.shape.form["children"], tree.shape.form.get("leaf") == "missing", {}
+    for path, inside in nodes(tree):
+        _apart(tree, {name: None}, inside)
+        node = {it: written(place) for it, place in inside.items() if not place.is_missing()}
+        if not is_bare:
+            node[name] = []
+        made[tuple(path)] = node
+        if path:
+            made[tuple(path[:-1])].setdefault(name, []).append(node)
+    return made[()]
+
+
+def _simple(place):
+    if place.role == "kind":
+        return next(iter(place.value))
+    if place.role == "key":
+        return _number(place, place.name) if "number" in place.owner.shape.form else place.name
+    if place.role == "depths":
+        return place.value["depths"]
+    form = place.shape.form
+    if "number" in form:
+        return _number(place, place.value)
+    if "json" in form:
+        try:
+            return read_file(place.value)
+        except ValueError:
+            raise NotWritable(place.path, f"{place.value!r} is not the text of a JSON value") from None
+    return form["members"].get(place.value, place.value) if "members" in form else place.value
+
+
+def _number(place, text):
+    number = read_number(text)
+    if number is None:
+        raise NotWritable(place.path, f"{text!r} is not the text of a number")
+    return number
+
+
+def to_file(shape, document):
+    """The user's file of a document. Raises NotWritable where no file of this form shows the document."""
+    return written(Place(shape, document))

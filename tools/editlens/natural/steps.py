@@ -1,0 +1,288 @@
+"""The steps of an edit that do to the document what one operation of a JSON Patch does to the file."""
+
+from ..construct import replace_steps, set_steps, word_of
+from ..edits import act, paths_of
+from ..json_text import place_name, pointer
+from .documents import item_of, nodes_of, to_document
+from .operations import Stop, need_apart, need_equal, number_in, steps_of, value_at
+from .places import Place, content, key_order, map_place, members, taker, written
+from .text import number_text
+
+BY_PRIMITIVES = "the nodes of a tree come and go by graft, prune, shift and hang, or as children where a form writes them so"
+
+
+def step(place, steps):
+    """The place inside this one at the last of some steps."""
+    inside = members(place)
+    if isinstance(inside, list):
+        return inside[number_in(steps, len(inside))]
+    if isinstance(inside, dict) and steps[-1] in inside and not inside[steps[-1]].is_missing():
+        return inside[steps[-1]]
+    # An operation inside a value that is kept as a text of JSON is done to the whole text.
+    raise Stop(f"{place_name(steps)}: there is no such place", may_wait="json" in content(place).shape.form)
+
+
+def walk(place, steps):
+    """The place at some steps."""
+    for number in range(1, len(steps) + 1):
+        place = step(place, steps[:number])
+    return place
+
+
+def _value(place, steps):
+    """What the file has at some steps."""
+    for number in range(len(steps)):
+        if members(place) is None:
+            return value_at(written(place), steps[number:], steps[:number])
+        place = step(place, steps[: number + 1])
+    return written(place)
+
+
+def steps_for(root, op):
+    """The steps of one operation. Raises Stop or DoesNotFit where there are none."""
+    name, steps = op["op"], steps_of(op["path"])
+    if name == "test":
+        need_equal(_value(root, steps), op, steps)
+        return []
+    if name == "replace":
+        return replaced(walk(root, steps), op["value"], steps)
+    if name == "add":
+        return _added(root, steps, op["value"])
+    if name == "remove":
+        return _removed(root, steps)
+    origin = steps_of(op["from"])
+    if name == "copy":
+        return _added(root, steps, _value(root, origin))
+    return _moved(root, origin, steps)
+
+
+def replaced(place, value, steps):
+    """Replaces what is at a place of the file."""
+    path = tuple(steps)
+    if place.role in ("", "entry"):
+        return list(replace_steps(place.shape.ty, place.value, to_document(place.shape, value, path), place.path))
+    if place.role == "key":
+        return _renamed(place, _key(place.owner, value, path), path)
+    if place.role == "item":
+        key, inside = item_of(place.owner.shape, value, path)
+        renamed = _renamed(place, key, path)
+        path = (*place.path[:-1], ("mod", key))
+        return [*renamed, *replace_steps(place.shape.ty, place.value, inside, path)]
+    if place.role == "children":
+        return _new_children(place, value, path)
+    if place.role == "node":
+        return _new_node(place, value, path)
+    if place.role == "kind":
+        raise Stop(f"{place_name(path)}: with this kind the rest of the object does not fit", may_wait=True)
+    raise Stop(f"{place_name(path)}: {BY_PRIMITIVES}")
+
+
+def _key(owner, value, path):
+    text = number_text(value) if "number" in owner.shape.form else value
+    if not isinstance(text, str):
+        raise Stop(f"{place_name(path)}: a key is a {'number' if 'number' in owner.shape.form else 'text'}")
+    return text
+
+
+def _renamed(place, key, path):
+    """Gives an item of a list by key another key."""
+    owner, there, steps = place.owner, map_place(place.owner), []
+    if key == place.name:
+        return []
+    if key in there.value:
+        raise Stop(f"{place_name(path)}: another item has the key {key}", may_wait=True)
+    if "order" in owner.shape.form:
+        tidied, order = _tidied(owner)
+        number = key_order(owner.shape, owner.value).index(place.name)
+        steps = [*tidied, ((*order, ("mod", number)), {"set": key})]
+    return [*steps, (there.path, {"rename": [place.name, key]})]
+
+
+def _tidied(owner):
+    """The steps that make the order of a list by key name each key once, and the way to it."""
+    name = owner.shape.form["order"]
+    path, keys = (*owner.path, ("at", name)), key_order(owner.shape, owner.value)
+    return list(replace_steps(owner.shape.inner[name].ty, owner.value[name], keys, path)), path
+
+
+def _added(root, steps, value):
+    if not steps:
+        return replaced(root, value, steps)
+    parent, path = walk(root, steps[:-1]), tuple(steps)
+    inside = members(parent)
+    if isinstance(inside, list):
+        return _inserted(parent, inside, number_in(steps, len(inside), True), value, path)
+    if parent.role == "depths":
+        raise Stop(f"{place_name(path)}: {BY_PRIMITIVES}")
+    if inside is None:
+        raise Stop(f"{place_name(path)}: there is no such place", may_wait="json" in content(parent).shape.form)
+    if steps[-1] in inside:
+        return replaced(inside[steps[-1]], value, steps)
+    there = taker(parent)
+    if there is None:
+        raise Stop(f"{place_name(path)}: there is no such member", may_wait=True)
+    inner, key = there.shape.inner["*"], steps[-1]
+    return [(there.path, {"put": key}), *set_steps(inner.ty, to_document(inner, value, path), (*there.path, ("mod", key)))]
+
+
+def _inserted(parent, inside, number, value, path):
+    parent, count = content(parent), len(inside)
+    if parent.role == "children":
+        owner = parent.owner
+        return _grafted(owner, parent.name, number, count, nodes_of(owner.shape, [value], path[:-1]))
+    if parent.role == "items":
+        raise Stop(f"{place_name(path)}: {BY_PRIMITIVES}")
+    if parent.shape.is_key_list():
+        return _inserted_key(parent, number, count, value, path)
+    inner = parent.shape.inner["*"]
+    document = to_document(inner, value, path)
+    return [*_new_item(parent.path, number, count), *set_steps(inner.ty, document, (*parent.path, ("mod", number)))]
+
+
+def _new_item(path, number, count):
+    return [(path, {"ins": 1}), *([(path, {"move": [count, number]})] if number < count else [])]
+
+
+def _gone_item(path, number, count):
+    return [*([(path, {"move": [number, count - 1]})] if number < count - 1 else []), (path, {"del": 1})]
+
+
+def _inserted_key(parent, number, count, value, path):
+    key, inside = item_of(parent.shape, value, path)
+    there, steps = map_place(parent), []
+    if key in there.value:
+        raise Stop(f"{place_name(path)}: another item has the key {key}", may_wait=True)
+    if "order" in parent.shape.form:
+        tidied, order = _tidied(parent)
+        steps = [*tidied, *_new_item(order, number, count), ((*order, ("mod", number)), {"set": key})]
+    elif number < count:
+        raise Stop(f"{place_name(path)}: this list by key keeps no order, so items are added at its end")
+    return [*steps, (there.path, {"put": key}), *set_steps(parent.shape.content().ty, inside, (*there.path, ("mod", key)))]
+
+
+def _grafted(tree, parent, number, count, nodes):
+    """New nodes in preorder, of which the first becomes a child of a node."""
+    top, inner = [*parent, number], tree.shape.inner["*"].ty
+    steps = [(tree.path, {"graft": parent})]
+    if number < count:
+        steps.append((tree.path, {"shift": [parent, count, number]}))
+    paths = paths_of([depth for depth, _ in nodes])
+    steps += [(tree.path, {"graft": [*top, *path[:-1]]}) for path in paths[1:]]
+    for path, (_, item) in zip(paths, nodes):
+        steps += set_steps(inner, item, (*tree.path, ("mod", [*top, *path])))
+    return steps
+
+
+def _new_children(place, value, path):
+    if not isinstance(value, list) or not value and place.owner.shape.form.get("leaf") == "missing":
+        raise Stop(f"{place_name(path)}: an array is wanted" + (" that is not empty" if value == [] else ""), may_wait=True)
+    tree, steps = place.owner, []
+    for number, item in enumerate(value):
+        steps += _grafted(tree, place.name, number, number, nodes_of(tree.shape, [item], path))
+    return [*_no_children(place), *steps]
+
+
+def _no_children(place):
+    return [(place.owner.path, {"prune": place.name}) for _ in members(place)]
+
+
+def _new_node(place, value, path):
+    tree = place.owner
+    nodes = nodes_of(tree.shape, [value], path[:-1])
+    below = members(members(place)[tree.shape.form["children"]])
+    old = tree.value["items"][_number_of(tree, place.name)]
+    steps = [(tree.path, {"prune": place.name}) for _ in below]
+    steps += replace_steps(tree.shape.inner["*"].ty, old, nodes[0][1], (*tree.path, ("mod", place.name)))
+    paths = paths_of([depth for depth, _ in nodes])
+    steps += [(tree.path, {"graft": [*place.name, *it[:-1]]}) for it in paths[1:]]
+    for it, (_, item) in list(zip(paths, nodes))[1:]:
+        steps += set_steps(tree.shape.inner["*"].ty, item, (*tree.path, ("mod", [*place.name, *it])))
+    return steps
+
+
+def _number_of(tree, path):
+    return paths_of(tree.value["depths"]).index(path)
+
+
+def _removed(root, steps):
+    if not steps:
+        raise Stop("a document cannot be removed")
+    place, path = walk(root, steps), tuple(steps)
+    parent = content(walk(root, steps[:-1]))
+    inside = members(parent)
+    if isinstance(inside, list):
+        return _taken_out(parent, int(steps[-1]), len(inside), path)
+    if place.role == "entry":
+        return [(place.owner.path, {"drop": place.name})]
+    if place.role == "children" and "leaf" in place.owner.shape.form:
+        return _no_children(place)
+    if place.role == "" and "missing" in place.shape.form:
+        return list(replace_steps(place.shape.ty, place.value, {place.shape.form["missing"]: None}, place.path))
+    raise Stop(f"{place_name(path)}: this member is never missing", may_wait=True)
+
+
+def _taken_out(parent, number, count, path):
+    if parent.role == "children":
+        if count == 1 and parent.owner.shape.form.get("leaf") == "missing":
+            raise Stop(f"{place_name(path)}: the last child: remove {pointer(path[:-1])}, which a node without children does not have", may_wait=True)
+        shifted = [(parent.owner.path, {"shift": [parent.name, number, count - 1]})] if number < count - 1 else []
+        return [*shifted, (parent.owner.path, {"prune": parent.name})]
+    if parent.role == "items":
+        raise Stop(f"{place_name(path)}: {BY_PRIMITIVES}")
+    if not parent.shape.is_key_list():
+        return _gone_item(parent.path, number, count)
+    key = key_order(parent.shape, parent.value)[number]
+    dropped = (map_place(parent).path, {"drop": key})
+    if "order" not in parent.shape.form:
+        return [dropped]
+    tidied, order = _tidied(parent)
+    return [*tidied, *_gone_item(order, number, count), dropped]
+
+
+def _moved(root, origin, steps):
+    need_apart(origin, steps)
+    place = walk(root, origin)
+    if origin == steps:
+        return []
+    if not steps:
+        return replaced(root, written(place), steps)
+    parent = content(walk(root, origin[:-1]))
+    if origin[:-1] == steps[:-1] and isinstance(members(parent), list):
+        count = len(members(parent))
+        return _moved_inside(parent, int(origin[-1]), number_in(steps, count - 1, True), count, steps)
+    if origin[:-1] == steps[:-1] and place.role == "entry" and taker(parent) is not None:
+        other = members(parent).get(steps[-1])
+        if other is None or other.role == "entry":
+            gone = [(place.owner.path, {"drop": steps[-1]})] if other is not None else []
+            return [*gone, (place.owner.path, {"rename": [origin[-1], steps[-1]]})]
+    value, removed = written(place), _removed(root, origin)
+    after = Place(root.shape, act(root.shape.ty, root.value, word_of(removed)))
+    if place.role == "node":
+        target = content(walk(after, steps[:-1]))
+        if target.role == "children" and target.owner.path == place.owner.path:
+            count = len(members(target))
+            return _hung(place, target, number_in(steps, count, True), count)
+    return removed + _added(after, steps, value)
+
+
+def _moved_inside(parent, number, to, count, steps):
+    if number == to:
+        return []
+    if parent.role == "children":
+        return [(parent.owner.path, {"shift": [parent.name, number, to]})]
+    if parent.role == "items":
+        raise Stop(f"{place_name(steps)}: {BY_PRIMITIVES}")
+    if not parent.shape.is_key_list():
+        return [(parent.path, {"move": [number, to]})]
+    if "order" not in parent.shape.form:
+        raise Stop(f"{place_name(steps)}: this list by key keeps no order, so nothing moves in it")
+    tidied, order = _tidied(parent)
+    return [*tidied, (order, {"move": [number, to]})]
+
+
+def _hung(place, target, number, count):
+    """Moves a node with all below it below another node. The path of that one is read when the subtree is taken off."""
+    steps = [(place.owner.path, {"hang": [place.name, target.name]})]
+    if number < count:
+        steps.append((place.owner.path, {"shift": [target.name, count, number]}))
+    return steps

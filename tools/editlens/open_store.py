@@ -1,0 +1,219 @@
+"""A store that is kept open: one run of `apply`, which holds the lock on the folder."""
+
+import contextlib
+import dataclasses
+import json
+import subprocess
+import threading
+import time
+
+from .answers import Accepted, NotAnAnswer, RunEnded, read_answer
+from .checked import check
+from .json_text import read_json
+from .lock import StoreBusy, StoreLock, is_busy
+from .natural.files import Files
+from .process import Process
+from .session import DocumentsDiffer, Editing
+
+PROBE = b"{}"
+"""A line that is refused and changes nothing. Its answer shows that the store was read and that the run has the lock."""
+TURNS = 4
+"""How often a run is started that does not get the lock, though nobody has it afterwards."""
+MARK = b"EDLENS1\n\x01"
+
+
+def stored_program(path):
+    """The text of the lens program of a store: its first record, as docs/FORMATS.md has it."""
+    with open(path, "rb") as file:
+        start = file.read(len(MARK) + 8)
+        if not start.startswith(MARK):
+            raise ValueError(f"{path} has no first record")
+        payload = file.read(int.from_bytes(start[len(MARK) :], "little"))
+    return json.loads(payload.decode())["program"]
+
+
+class OpenStore(Editing):
+    """A store that one run of `apply` keeps open, for a program that sends edits as they come. `Store.open` makes it.
+
+    `left`, `right` and `group` send an edit and return the answer, an Accepted, when the change is on the disk; a refused one is raised as
+    Refused, and nothing has changed then. `documents` has both documents after each answer. They are followed here by the rules of
+    docs/EDITS.md; `compare` and `close` compare them with the program's own. `stored` is how many changes the store has.
+
+    The run holds the lock on the folder, so no other program writes to the store until `close`. Threads may share the object.
+
+    Where an answer does not come, RunEnded is raised (NoAnswer after `timeout` seconds, NotAnAnswer where it is something else), and the
+    run is over. Its `stored` is how many changes are stored for certain. `reopen` opens the store again; then `stored` shows whether the
+    change that was sent is stored as well.
+    """
+
+    def __init__(self, store, wait=0.0, timeout=None, forms=None):
+        self.store, self.path, self.wait, self.timeout = store, store.path, wait, timeout
+        self.lock = threading.RLock()
+        self.types, self.documents, self.complement = {}, {}, None
+        self.program, self.stored, self._number, self._run = "", 0, 0, None
+        self.reopen()
+        try:
+            self.files = Files(self, forms)
+        except ValueError:
+            self._leave()
+            raise
+
+    def __enter__(self):
+        return self
+
+    def __exit__(self, kind, value, trace):
+        if kind is None and self.is_open:
+            self.close()
+        else:
+            self._leave()
+
+    @property
+    def is_open(self):
+        """Whether a run keeps the store open."""
+        return self._run is not None
+
+    def reopen(self):
+        """Opens the store again, after a run that was lost or after `close`, and returns how many changes it has."""
+        with self.lock:
+            self._leave()
+            self._run = self._until_free(self._started)
+            try:
+                self.program = stored_program(self.store.file)
+                left, right = check(self.program, self.path)
+                self.types = {"left": left, "right": right}
+                self._read_state()
+            except BaseException:
+                self._leave()
+                raise
+            return self.stored
+
+    def _started(self):
+        """A run of `apply` that has the lock. Where it has not, and nobody else has it by now, it is tried again: nothing was read."""
+        for turn in range(TURNS):
+            try:
+                return self._try_to_start()
+            except RunEnded as why:
+                if why.status != 7 or turn == TURNS - 1:
+                    raise
+                if is_busy(self.store.folder):
+                    raise StoreBusy(self.store.folder) from None
+
+    def _try_to_start(self):
+        run = Process([self.store.path, "apply"], folder=self.store.folder)
+        try:
+            said = run.ask(PROBE)
+            if said.startswith("refused "):
+                run.timeout = self.timeout
+                return run
+            status, _ = run.end()
+            self.store.judge(status, [said.rstrip("\n")])
+            raise NotAnAnswer(said)
+        except BaseException:
+            run.stop()
+            raise
+
+    def _read_state(self):
+        verify = subprocess.Popen([self.store.path, "verify"], cwd=self.store.folder, stdout=subprocess.PIPE)
+        try:
+            left, right, self.complement = self.store.show()
+        finally:
+            said, _ = verify.communicate()
+        self.store.judge(verify.returncode, said.decode().splitlines())
+        self.documents = {"left": left, "right": right}
+        self.stored = int(said.decode().removeprefix("consistent "))
+
+    def line(self, text):
+        """Sends a line of a journal that is not blank, and returns its answer: an Accepted, or a Refused that is not raised."""
+        return self.answer(text)[1]
+
+    def answer(self, line):
+        """Sends a line that is not blank, as text or as bytes. Returns the line that answers it, as the program wrote it, and what it says.
+
+        The program counts its lines anew in each run, the answer by those of this object.
+        """
+        data = line.encode() if isinstance(line, str) else line
+        if b"\n" in data or not data.strip(b" \t\r"):
+            raise ValueError("a line that is not blank, without a line feed, is wanted")
+        with self.lock:
+            if not self._run:
+                raise ValueError("the store is not open: reopen() opens it again")
+            try:
+                said = self._run.ask(data)
+                answer = read_answer(said)
+            except RunEnded as why:
+                why.stored = self.stored
+                self._abandon()
+                raise
+            self._number += 1
+            answer = self._taken(data, dataclasses.replace(answer, number=self._number))
+            return said.rstrip("\n"), answer
+
+    def _taken(self, data, answer):
+        if not isinstance(answer, Accepted):
+            return self.explained(data.decode(errors="replace"), answer)
+        self.stored += 1
+        self.follow(read_json(data.decode()), answer)
+        return answer
+
+    def compare(self):
+        """Compares the documents with those of the program, by `show`. Raises DocumentsDiffer."""
+        with self.lock:
+            left, right, self.complement = self.store.show()
+            self._need_same(left, right)
+
+    def undo(self, count=1):
+        """Takes the last changes back, as `Store.undo` does: the run is closed for it, and another one is opened."""
+        return self._between(lambda: self.store.undo(count))
+
+    def pack(self):
+        """Stores a snapshot, as `Store.pack` does: the run is closed for it, and another one is opened."""
+        return self._between(self.store.pack)
+
+    def close(self):
+        """Ends the run. Returns the left document, the right document and the complement, as the program writes them."""
+        with self.lock:
+            if not self._run:
+                raise ValueError("the store is not open")
+            run, self._run = self._run, None
+            try:
+                status, said = run.end()
+                self.store.judge(status, said)
+            except RunEnded as why:
+                why.stored = self.stored
+                raise
+            left, right, self.complement = self.store.state(said)
+            self._need_same(left, right)
+            return left, right, self.complement
+
+    def _between(self, call):
+        with self.lock:
+            self.close()
+            try:
+                return self._until_free(call)
+            finally:
+                self.reopen()
+
+    def _until_free(self, call):
+        """Makes a call that wants the lock, again when another program that has it gives it back, for as long as `wait` says."""
+        deadline = time.monotonic() + self.wait
+        while True:
+            try:
+                return call()
+            except StoreBusy:
+                with StoreLock(self.store.folder, deadline - time.monotonic()):
+                    pass
+
+    def _need_same(self, left, right):
+        if {"left": left, "right": right} != self.documents:
+            raise DocumentsDiffer
+
+    def _abandon(self):
+        self._run.stop()
+        self._run = None
+
+    def _leave(self):
+        """Ends the run where there is one, whatever it says."""
+        if self._run:
+            with contextlib.suppress(RunEnded):
+                self._run.end()
+            self._run = None

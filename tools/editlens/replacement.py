@@ -1,0 +1,113 @@
+"""A new file for a store: made and verified beside it, and put in its place in one step."""
+
+import os
+import shutil
+import time
+
+from .lock import StoreLock
+from .log import sync_folder
+from .store import Store, StoreRefused
+
+WORK = ".editlens.new"
+"""The folder beside a store in which its new file is made. The lock is held meanwhile, so one is enough."""
+OLD = ".old"
+
+
+class NotDone(Exception):
+    """What was asked for was not done, and the store is as it was. The text says why."""
+
+
+def dated():
+    """The time of now, as a part of a name."""
+    return time.strftime("%Y-%m-%dT%H%M%SZ", time.gmtime())
+
+
+def free_name(begin, end=""):
+    """The first of `begin`, `begin-2`, `begin-3` and so on, each with `end`, that names no file."""
+    number, path = 1, begin + end
+    while os.path.lexists(path):
+        number += 1
+        path = f"{begin}-{number}{end}"
+    return path
+
+
+class Replacement:
+    """The new file of a store, for `with`. The lock of the folder is held until the end.
+
+    `new` is a store in a folder of its own, on the same file system: its file is written there. `put` verifies and syncs it, and renames
+    it over the old one. Until then the store is as it was. A call that is killed leaves no more than the folder `.editlens.new`, which
+    the next call takes away.
+    """
+
+    def __init__(self, folder, path=None, wait=0.0):
+        self.folder, self.work = folder, os.path.join(folder, WORK)
+        self.old = Store(folder, path)
+        self.new = Store(self.work, self.old.path)
+        self._lock = StoreLock(folder, wait)
+
+    def __enter__(self):
+        self._lock.take()
+        try:
+            if os.path.islink(self.old.file):
+                raise NotDone(f"{self.old.file} is a link: work in the folder that it leads to")
+            self._clear()
+            os.mkdir(self.work, 0o700)
+        except BaseException:
+            self._lock.give_back()
+            raise
+        return self
+
+    def __exit__(self, *_):
+        self._clear()
+        self._lock.give_back()
+
+    def _clear(self):
+        if os.path.lexists(self.work):
+            shutil.rmtree(self.work)
+
+    def put(self, count=None, state=None, keeps_old=False):
+        """Puts the new file in place. Returns the path under which the old one is kept, or None.
+
+        The program has to verify it, with this count of changes and this state where they are given. Otherwise NotDone is raised.
+        """
+        try:
+            found = self.new.verify()
+            is_meant = count in (None, found) and (state is None or self.new.show() == state)
+        except StoreRefused as why:
+            raise NotDone(f"the new file is not put in place, since the program says of it: store refused: {why.reason}") from None
+        if not is_meant:
+            raise NotDone("the new file is not put in place, since the program reads something else in it than was meant")
+        kept = None
+        if os.path.exists(self.old.file):
+            self._take_after_old()
+            kept = self._keep() if keeps_old else None
+        _sync(self.new.file)
+        os.replace(self.new.file, self.old.file)
+        sync_folder(self.folder)
+        return kept
+
+    def _take_after_old(self):
+        """Gives the new file the owner and the permissions of the old one."""
+        old, new = os.stat(self.old.file), os.stat(self.new.file)
+        if (old.st_uid, old.st_gid) != (new.st_uid, new.st_gid):
+            try:
+                os.chown(self.new.file, old.st_uid, old.st_gid)
+            except PermissionError:
+                raise NotDone(f"{self.old.file} belongs to user {old.st_uid}, group {old.st_gid}: call this as that user") from None
+        shutil.copymode(self.old.file, self.new.file)
+
+    def _keep(self):
+        """Gives the old file a second name, so that there is a store at every moment."""
+        kept = free_name(f"{self.old.file}.{dated()}", OLD)
+        try:
+            os.link(self.old.file, kept)
+        except OSError:
+            shutil.copy2(self.old.file, kept)
+            _sync(kept)
+        sync_folder(self.folder)
+        return kept
+
+
+def _sync(path):
+    with open(path, "rb") as file:
+        os.fsync(file.fileno())

@@ -1,0 +1,157 @@
+"""What one does with a store from day to day: its history, its size, an earlier state, copies of it."""
+
+import glob
+import os
+import shutil
+import tempfile
+
+from .checkup import readable
+from .copies import snapshot_of, state_of
+from .json_text import read_json, write_json
+from .lock import StoreLock
+from .log import FIRST, Log, is_change, number_of, sync_folder, told, write_log
+from .replacement import OLD, NotDone, Replacement, dated, free_name
+from .store import NAME, Store, StoreRefused
+
+
+def opened(folder):
+    """The log of the file of a store, whatever is in it. Raises NotDone if there is no file."""
+    path = os.path.join(folder, NAME)
+    try:
+        return Log(path)
+    except FileNotFoundError:
+        raise NotDone(f"there is no store here: {path} does not exist") from None
+
+
+def must_be_whole(log):
+    """Raises StoreRefused, as the program does, if a file is not a complete log."""
+    if not log.has_mark or not log.size > FIRST:
+        raise StoreRefused("not-a-log")
+    if log.is_cut:
+        raise StoreRefused(f"bad-record {len(log.spans) + 1}")
+
+
+def state_lines(state):
+    """The lines of a left document, a right document and a complement, as the program writes them."""
+    return [f"{name} {write_json(it)}" for name, it in zip(("left", "right", "complement"), state)]
+
+
+def history(folder, is_full=False):
+    """A line for each record of a store: its number and what it says, cut after 100 characters unless `is_full`."""
+    with opened(folder) as log:
+        for number, payload in enumerate(log.payloads(), 1):
+            yield f"{number} {told(payload, None) if is_full else told(payload)}"
+        must_be_whole(log)
+
+
+def state_at(folder, number, path=None):
+    """The left document, the right document and the complement after a record."""
+    with opened(folder) as log:
+        if not 1 <= number <= len(log.spans):
+            raise NotDone(f"the store has the records 1 to {len(log.spans)}, and no record {number}")
+        return state_of(log.payloads(number), path)
+
+
+def compact(folder, path=None, wait=0.0):
+    """Makes a store of its program and one snapshot, with the same state. Returns what was done, in lines."""
+    with Replacement(folder, path, wait) as made, opened(folder) as log:
+        state, before = made.old.show(), log.size
+        count, first = sum(map(is_change, log.payloads())), next(log.payloads())
+        write_log(made.new.file, [first, snapshot_of(log.payloads(), made.old.path, made.work)])
+        after = os.path.getsize(made.new.file)
+        if after >= before:
+            raise NotDone(f"nothing is gained: the store has {before:,} bytes, and would have {after:,}")
+        kept = made.put(count=0, state=state, keeps_old=True)
+        return [
+            f"{before:,} bytes in {len(log.spans)} records are {after:,} bytes in 2",
+            f"given up: the history, undo, and the count of changes, which was {count} and is 0 now",
+            f"the old store is {os.path.basename(kept)}, until compact --drop-old",
+        ]
+
+
+def drop_old(folder, path=None, wait=0.0):
+    """Removes the old files that were kept beside a store. The store itself has to be good. Returns their names."""
+    with StoreLock(folder, wait):
+        Store(folder, path).verify()
+        names = sorted(glob.glob(os.path.join(glob.escape(folder), f"{NAME}.*{OLD}")))
+        for name in names:
+            os.remove(name)
+        sync_folder(folder)
+    return [os.path.basename(it) for it in names]
+
+
+def back(folder, number, path=None, wait=0.0):
+    """Takes a store to its state after a record, as a new last snapshot. Returns what was done, in lines.
+
+    All records of a store that is not refused stay. Of one that is refused, or cut short by a changed byte, the readable ones are kept
+    up to the first that is not; the old file is kept then.
+    """
+    with Replacement(folder, path, wait) as made, opened(folder) as log:
+        held = readable(log, made.old, number)
+        if not 1 <= number <= len(held.payloads):
+            known = f"the records 1 to {len(held.payloads)} can be read" if held.payloads else "no record can be read"
+            raise NotDone(f"{known}, and there is no state after record {number}")
+        if held.is_all and number == len(held.payloads):
+            return [f"the store is as it was after record {number} already", *state_lines(made.old.show())]
+        payloads, state = list(held.payloads), None
+        if number < len(payloads):
+            payloads.append(snapshot_of(payloads[:number], made.old.path, made.work))
+            state = _state_in(payloads[-1])
+        write_log(made.new.file, payloads)
+        kept = made.put(count=sum(map(is_change, payloads)), state=state, keeps_old=not held.is_all)
+        said = [f"the store is as it was after record {number}, and has {len(payloads)} records"]
+        if kept:
+            said.append(f"the old store is {os.path.basename(kept)}, until compact --drop-old")
+        return said + state_lines(state or made.old.show())
+
+
+def _state_in(snapshot):
+    tree = read_json(snapshot.decode())["snapshot"]
+    return tree["left"], tree["right"], tree["complement"]
+
+
+def backup(folder, to, path=None):
+    """Copies a store, also while a program writes to it. `to` is a new file, or a folder, in which the copy is named by its date.
+
+    The copy has the records that the store had at one moment. Returns its path and its count of changes.
+    """
+    if os.path.isdir(to):
+        to = free_name(os.path.join(to, f"{NAME}.{dated()}"))
+    if os.path.lexists(to):
+        raise NotDone(f"{to} is there already: name a new file")
+    beside = os.path.dirname(os.path.abspath(to))
+    with tempfile.TemporaryDirectory(dir=beside, prefix=".editlens.") as work:
+        copy = Store(work, path)
+        with opened(folder) as log:
+            must_be_whole(log)
+            write_log(copy.file, log.payloads())
+        shutil.copymode(os.path.join(folder, NAME), copy.file)
+        count = copy.verify()
+        os.rename(copy.file, to)
+    sync_folder(beside)
+    return to, count
+
+
+def restore(folder, source, path=None, wait=0.0):
+    """Puts a copy in place of a store, or in a folder without one. Returns what was done, in lines."""
+    with Log(source) as log:
+        try:
+            must_be_whole(log)
+        except StoreRefused as why:
+            raise NotDone(f"{source} is not the complete file of a store: {why.reason}") from None
+        os.makedirs(folder, exist_ok=True)
+        with Replacement(folder, path, wait) as made:
+            if os.path.exists(made.old.file) and os.path.samefile(source, made.old.file):
+                raise NotDone(f"{source} is the store itself")
+            write_log(made.new.file, log.payloads())
+            was = _count(made.old) if os.path.exists(made.old.file) else "none"
+            kept = made.put(keeps_old=True)
+            said = [f"the store has {number_of(made.old.verify(), 'change')}; before it had {was}"]
+            return said + ([f"the old store is {os.path.basename(kept)}, until compact --drop-old"] if kept else [])
+
+
+def _count(store):
+    try:
+        return str(store.verify())
+    except StoreRefused as why:
+        return f"none that could be read ({why.reason})"

@@ -1,0 +1,93 @@
+"""The files around the program that say again what the pages say: the manual page, completion, highlighters and the changelog."""
+
+import json
+import os
+import re
+import subprocess
+import sys
+from importlib.util import find_spec
+
+from editlens.program import TOP
+from editlens.types import KEYWORDS
+
+from . import Skipped
+
+sys.path.insert(0, os.path.join(TOP, "dev"))
+
+from repository.manual import PAGE, manual, version  # noqa: E402
+from repository.pages import read_page, roff, section, table_with  # noqa: E402
+
+
+NEEDS_PROGRAM = False
+
+
+def commands():
+    """The words that name a command, by docs/FORMATS.md."""
+    table = table_with(section(read_page("docs/FORMATS.md"), "Commands"), "Words")
+    return {row[0].strip("`").split()[0] for row in table.rows if row[0].startswith("`")}
+
+
+def test_the_manual_page_is_up_to_date():
+    assert read_page(PAGE) == manual(), "docs/editlens.1 is out of date: run dev/manual --write"
+
+
+def test_markdown_for_a_manual_page():
+    assert roff("a `b-c` of [the log](#log), **not** x\\y") == "a \\fBb\\-c\\fR of the log, \\fBnot\\fR x\\ey"
+    assert roff("'quoted'\n.dot") == "\\&'quoted'\n\\&.dot"
+    page = "# P\n\n## One\n\n| A | B |\n|---|---|\n| `x\\|y` | z |\n\n## Two\n\n| A | B |\n|---|---|\n| 1 | 2 |\n"
+    assert table_with(section(page, "One"), "A").rows == (("`x|y`", "z"),)
+    assert table_with(section(page, "Two"), "A").rows == (("1", "2"),)
+
+
+def test_completion_knows_every_command():
+    bash, zsh = read_page("completions/editlens.bash"), read_page("completions/_editlens")
+    offered = set(re.search(r'compgen -W "([^"]*)"', bash)[1].split())
+    assert offered == commands() | {"--help", "--version"}, offered
+    assert set(re.findall(r"(?m)^    '(\w+):", zsh)) == commands()
+    words = "source completions/editlens.bash; COMP_WORDS=(editlens un); COMP_CWORD=1; _editlens; echo ${COMPREPLY[*]}"
+    assert subprocess.run(["bash", "-c", words], cwd=TOP, stdout=subprocess.PIPE, text=True).stdout == "undo\n"
+
+
+def test_highlighters_know_every_keyword():
+    grammar = json.loads(read_page("editors/editlens.tmLanguage.json"))
+    groups = [rule["match"] for rule in grammar["repository"].values() if rule["match"].startswith("\\b(")]
+    assert {word for group in groups for word in group[3:-3].split("|")} == KEYWORDS, groups
+    assert {f"#{name}" for name in grammar["repository"]} == {it["include"] for it in grammar["patterns"]}
+
+
+def test_the_lexer_knows_every_token():
+    try:
+        from pygments.token import Error, Keyword
+    except ImportError:
+        raise Skipped("there is no library pygments") from None
+    sys.path.insert(0, os.path.join(TOP, "editors"))
+    from pygments_editlens import EditlensLexer
+
+    text = 'type t = enum["a b", "c"] = "c"; # a comment\nmain {x ~ y: id t, left z: int = -5, right w: keyed list text}\n'
+    found = list(EditlensLexer().get_tokens(text))
+    assert "".join(piece for _, piece in found) == text
+    assert not [piece for kind, piece in found if kind in Error]
+    every = EditlensLexer().get_tokens(" ".join(sorted(KEYWORDS)))
+    assert {piece for kind, piece in every if kind in Keyword} == KEYWORDS
+
+
+def test_the_picture_of_the_program_is_drawn_anew():
+    if find_spec("pygments") is None:
+        raise Skipped("there is no library pygments")
+    drawn = subprocess.run([os.path.join(TOP, "docs", "highlight"), "--print"], stdout=subprocess.PIPE, text=True, check=True)
+    assert read_page("docs/program.svg") == drawn.stdout, "run docs/highlight"
+
+
+def test_sentences_are_short():
+    ran = subprocess.run([sys.executable, os.path.join(TOP, "dev", "long_sentences")], stdout=subprocess.PIPE, text=True)
+    assert ran.returncode == 0, ran.stdout
+
+
+def test_the_tools_print_the_version():
+    ran = subprocess.run([sys.executable, os.path.join(TOP, "tools", "fits"), "--version"], stdout=subprocess.PIPE, text=True)
+    assert (ran.returncode, ran.stdout) == (0, f"editlens {version()}\n"), ran
+
+
+def test_the_changelog_has_the_version():
+    assert re.fullmatch(r"\d+\.\d+\.\d+", version()), version()
+    assert re.search(rf"(?m)^## {re.escape(version())} - \d{{4}}-\d\d-\d\d$", read_page("CHANGELOG.md")), version()
