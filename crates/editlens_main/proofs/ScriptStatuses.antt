@@ -1,43 +1,44 @@
--- Ends of the commands `hub` and `link`, as the program has them.
-use Rattle.std.proofs.Common.{◌≡◌, inl, inr, ◌≤◌, ℕ, List, length, Option, Some, None, IfSome, Result, refl}
+-- Ends of the commands over a script, as the program has them.
+use Rattle.std.proofs.Common.{◌≡◌, inl, inr, ◌≤◌, ℕ, List, length, Option, Some, None, IfSome, refl}
 use Rattle.journal_input.specs.declared.limits.TheConstants.{MOST_BYTES}
 use Rattle.script_run.specs.Ends.{IsComplete, IsFinished as IsScriptFinished}
+use Rattle.script_run.specs.declared.state.ScriptState as OfScript
 use Rattle.script_run.specs.declared.status.ScriptStatus.{ScriptStatus}
-use Rattle.script_run.specs.declared.status.ScriptStatus.TheVariants as script
-use Rattle.editlens_main.specs.Ends.{IsFinished}
+use Rattle.script_run.specs.declared.status.ScriptStatus.TheVariants as ending
+use Rattle.editlens_main.specs.Statuses.{IsFinished}
 use Rattle.editlens_main.specs.ScriptStatus.{status_of_script, ScriptAs}
 use Rattle.editlens_main.specs.declared.status.Status.{Status}
 use Rattle.editlens_main.specs.declared.status.Status.TheVariants.{NoMemory}
 
 -- a command that came to its end did so as a command over a script
 pub finished_script : (status : Status) (ended : ScriptStatus) → status ≡ status_of_script ended → IsFinished status → IsScriptFinished ended
-finished_script status script.Done is h = inl refl
-finished_script status script.SomeRefused is h = inr refl
-finished_script status script.ProgramRefused is (inl e) = cc
-finished_script status script.ProgramRefused is (inr e) = cc
-finished_script status script.SourceFault is (inl e) = cc
-finished_script status script.SourceFault is (inr e) = cc
-finished_script status script.SinkFault is (inl e) = cc
-finished_script status script.SinkFault is (inr e) = cc
-finished_script status script.InputTooLong is (inl e) = cc
-finished_script status script.InputTooLong is (inr e) = cc
-finished_script status script.NoMemory is (inl e) = cc
-finished_script status script.NoMemory is (inr e) = cc
+finished_script status ending.Done is h = inl refl
+finished_script status ending.SomeRefused is h = inr refl
+finished_script status ending.ProgramRefused is (inl e) = cc
+finished_script status ending.ProgramRefused is (inr e) = cc
+finished_script status ending.SourceFault is (inl e) = cc
+finished_script status ending.SourceFault is (inr e) = cc
+finished_script status ending.SinkFault is (inl e) = cc
+finished_script status ending.SinkFault is (inr e) = cc
+finished_script status ending.InputTooLong is (inl e) = cc
+finished_script status ending.InputTooLong is (inr e) = cc
+finished_script status ending.NoMemory is (inl e) = cc
+finished_script status ending.NoMemory is (inr e) = cc
 
-module _ {Accepted Refusal : Type 0} (accepted : List ℕ → Result Accepted Refusal) (left : Option (List ℕ)) (R F : Type 0) where
+module _ {H : Type 0} (script : OfScript.Ghosts H) (left : Option (List ℕ)) (R F : Type 0) where
   -- the completeness of a command over a script, for its status
   pub script_complete : (ended : ScriptStatus) (status : Status) → status ≡ status_of_script ended
-      → IfSome left (λ bytes. length bytes ≤ MOST_BYTES → (R → ⊥) → (F → ⊥) → IsComplete accepted bytes ended)
-      → IfSome left (λ bytes. length bytes ≤ MOST_BYTES → (R → ⊥) → (F → ⊥) → ScriptAs (IsComplete accepted bytes) status)
+      → IfSome left (λ bytes. length bytes ≤ MOST_BYTES → (R → ⊥) → (F → ⊥) → IsComplete script bytes ended)
+      → IfSome left (λ bytes. length bytes ≤ MOST_BYTES → (R → ⊥) → (F → ⊥) → ScriptAs (IsComplete script bytes) status)
   script_complete ended status is h = by_left left h where
-    by_left : (left : Option (List ℕ)) → IfSome left (λ bytes. length bytes ≤ MOST_BYTES → (R → ⊥) → (F → ⊥) → IsComplete accepted bytes ended)
-        → IfSome left (λ bytes. length bytes ≤ MOST_BYTES → (R → ⊥) → (F → ⊥) → ScriptAs (IsComplete accepted bytes) status)
+    by_left : (left : Option (List ℕ)) → IfSome left (λ bytes. length bytes ≤ MOST_BYTES → (R → ⊥) → (F → ⊥) → IsComplete script bytes ended)
+        → IfSome left (λ bytes. length bytes ≤ MOST_BYTES → (R → ⊥) → (F → ⊥) → ScriptAs (IsComplete script bytes) status)
     by_left None h = tt
     by_left (Some bytes) h = λ few r f. (ended, is, h few r f)
 
   -- the same where memory ran out at the words
-  pub script_never : IfSome left (λ bytes. length bytes ≤ MOST_BYTES → (R → ⊥) → (F → ⊥) → ScriptAs (IsComplete accepted bytes) NoMemory)
+  pub script_never : IfSome left (λ bytes. length bytes ≤ MOST_BYTES → (R → ⊥) → (F → ⊥) → ScriptAs (IsComplete script bytes) NoMemory)
   script_never = by_left left where
-    by_left : (left : Option (List ℕ)) → IfSome left (λ bytes. length bytes ≤ MOST_BYTES → (R → ⊥) → (F → ⊥) → ScriptAs (IsComplete accepted bytes) NoMemory)
+    by_left : (left : Option (List ℕ)) → IfSome left (λ bytes. length bytes ≤ MOST_BYTES → (R → ⊥) → (F → ⊥) → ScriptAs (IsComplete script bytes) NoMemory)
     by_left None = tt
-    by_left (Some bytes) = λ few r f. (script.NoMemory, refl, ((λ program is. inr refl), λ refusal none. inr refl))
+    by_left (Some bytes) = λ few r f. (ending.NoMemory, refl, ((λ program is. inr refl), λ refusal none. inr refl))

@@ -1,13 +1,11 @@
 -- What holds of a status that is among some, and what a command that may end so never ends with.
-use Rattle.std.proofs.Common.{◌≡◌, inl, inr, ℕ, List, [], ◌∷◌, Option, Some, None, false, refl, sym, subst, ◌∙◌}
+use Rattle.std.proofs.Common.{◌≡◌, inl, inr, List, [], ◌∷◌, Option, Some, None, false, refl, sym, subst}
 use Rattle.command_words.specs.declared.orders.Order.{Order}
 use Rattle.command_words.specs.declared.orders.Order.TheVariants as order
 use Rattle.editlens_main.specs.Commands.{uses_disk}
-use Rattle.editlens_main.specs.Ends.{IsCleanStop}
 use Rattle.editlens_main.specs.Statuses.{IsAmong, MayEnd, script_statuses, making_statuses, store_statuses, quiet_statuses, gen_statuses, statuses_of}
-use Rattle.editlens_main.specs.declared.commands.Command.{Command}
 use Rattle.editlens_main.specs.declared.status.Status.{Status}
-use Rattle.editlens_main.specs.declared.status.Status.TheVariants.{Done, SomeRefused, Usage, ProgramRefused, StoreRefused, SourceFault, SinkFault, DiskFault, InputTooLong, NoMemory}
+use Rattle.editlens_main.specs.declared.status.Status.TheVariants.{Usage, SourceFault, DiskFault, NoMemory}
 
 -- each of these has P
 abbrev Each : (Status → Type 0) → List Status → Type 0
@@ -41,20 +39,6 @@ script_stores_nothing status among = each (Not DiskFault) script_statuses status
 
 pub gen_stores_nothing : (status : Status) → IsAmong gen_statuses status → status ≡ DiskFault → ⊥
 gen_stores_nothing status among = each (Not DiskFault) gen_statuses status ((λ e. cc), ((λ e. cc), ((λ e. cc), tt))) among
-
--- a call that stopped cleanly ended as a command over a script may
-pub clean_stop_among : (command : Command) (left left' held held' : Option (List ℕ)) (bytes : List ℕ) (status : Status) → IsCleanStop command left left' held held' bytes status
-    → IsAmong script_statuses status
-clean_stop_among command left left' held held' bytes Done h = inl refl
-clean_stop_among command left left' held held' bytes SomeRefused h = inr (inl refl)
-clean_stop_among command left left' held held' bytes Usage h = absurd h
-clean_stop_among command left left' held held' bytes ProgramRefused h = inr (inr (inl refl))
-clean_stop_among command left left' held held' bytes StoreRefused h = absurd h
-clean_stop_among command left left' held held' bytes SourceFault h = inr (inr (inr (inl refl)))
-clean_stop_among command left left' held held' bytes SinkFault h = inr (inr (inr (inr (inl refl))))
-clean_stop_among command left left' held held' bytes DiskFault h = absurd h
-clean_stop_among command left left' held held' bytes InputTooLong h = inr (inr (inr (inr (inr (inl refl)))))
-clean_stop_among command left left' held held' bytes NoMemory h = inr (inr (inr (inr (inr (inr (inl refl))))))
 
 -- ---- for any words
 

@@ -9,6 +9,7 @@ use Rattle.stored_run.specs.declared.refusals.StoreRefusal.TheVariants.{NotALog,
 use Rattle.stored_run.proofs.Openings.{never_refused}
 use Rattle.stored_sessions.specs.Stands.{Standing, stands}
 use Rattle.store_session.specs.StoredStates.{state_of, version_for, opened_as, stands_for}
+use Rattle.store_session.specs.contracts.instance.StoreSessionStoredSession.TheImpl.{ghosts as sessions}
 use Rattle.store_session.proofs.StatesInStep.{stored_sound}
 use Rattle.store_undo.proofs.Decided.{stands_known}
 use Rattle.editlens_main.specs.StoreBytes.{HoldsState, IsRefusedOrInStep}
@@ -19,8 +20,8 @@ module _ (bytes : List ℕ) where
       let h : stands_for held ≡ Ok (state_of s, version_for s.version) = ap opened_as e in
       record { payloads = held; holds = is; state = state_of s; version = version_for s.version; represents = h; in_step = (stored_sound held (state_of s) (version_for s.version) h).1 }
 
-  refused_by : (held : List (List ℕ)) (r : Result Standing RecordFault) → log_of bytes ≡ payloads held → stands held ≡ r → refusal_in stands_for bytes ≡ refusal_of_payloads (opened_as r)
-  refused_by held r is e = ap (refusal_of_log stands_for) is ∙ ap (λ (x : Result Standing RecordFault). refusal_of_payloads (opened_as x)) e
+  refused_by : (held : List (List ℕ)) (r : Result Standing RecordFault) → log_of bytes ≡ payloads held → stands held ≡ r → refusal_in sessions bytes ≡ refusal_of_payloads (opened_as r)
+  refused_by held r is e = ap (refusal_of_log sessions) is ∙ ap (λ (x : Result Standing RecordFault). refusal_of_payloads (opened_as x)) e
 
   pub refused_or_in_step : IsRefusedOrInStep bytes
   refused_or_in_step = by_log (log_of bytes) refl where
@@ -32,8 +33,8 @@ module _ (bytes : List ℕ) where
 
     by_log : (l : LogContent) → log_of bytes ≡ l → IsRefusedOrInStep bytes
     by_log (payloads held) is = by_payloads held (stands held) is refl
-    by_log not_a_log is = inl (NotALog, ap (refusal_of_log stands_for) is)
-    by_log (bad_record n) is = inl (BadRecord n, ap (refusal_of_log stands_for) is)
+    by_log not_a_log is = inl (NotALog, ap (refusal_of_log sessions) is)
+    by_log (bad_record n) is = inl (BadRecord n, ap (refusal_of_log sessions) is)
 
-  pub never_both : (refusal : StoreRefusal) → refusal_in stands_for bytes ≡ Some refusal → HoldsState bytes → ⊥
-  never_both refusal q h = never_refused (stands_for h.payloads) (h.state, h.version) refusal h.represents (sym (ap (refusal_of_log stands_for) h.holds) ∙ q)
+  pub never_both : (refusal : StoreRefusal) → refusal_in sessions bytes ≡ Some refusal → HoldsState bytes → ⊥
+  never_both refusal q h = never_refused (stands_for h.payloads) (h.state, h.version) refusal h.represents (sym (ap (refusal_of_log sessions) h.holds) ∙ q)

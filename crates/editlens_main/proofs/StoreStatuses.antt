@@ -1,7 +1,9 @@
 -- Ends of commands over a store, as the program has them.
-use Rattle.std.proofs.Common.{◌≡◌, ◌⊎◌, inl, inr, ap, ◌∙◌, ◌<◌, ◌≤◌, ℕ, List, length, Option, Some, None, IfSome, refl}
-use Rattle.journal_input.specs.declared.limits.TheConstants.{MOST_BYTES}
-use Rattle.making_steps.specs.Ends.{GivesLine, IsComplete}
+use Rattle.std.proofs.Common.{◌≡◌, ◌⊎◌, inl, inr, ap, ◌∙◌, ◌<◌, ℕ, List, length, Option, Some, None, IfSome, refl}
+use Rattle.lens_io.specs.declared.disk.Disk as OfDisk
+use Rattle.lens_io.specs.declared.sink.Sink as OfSink
+use Rattle.lens_io.specs.declared.source.Source as OfSource
+use Rattle.making_steps.specs.Ends.{GivesLine, KeepsStore}
 use Rattle.making_steps.specs.declared.status.MakingStatus.{MakingStatus}
 use Rattle.making_steps.specs.declared.status.MakingStatus.TheVariants as making
 use Rattle.stored_run.specs.Refusals.{IsUnwritten, refusal_line}
@@ -9,7 +11,8 @@ use Rattle.stored_run.specs.declared.refusals.StoreRefusal.TheVariants.{LogExist
 use Rattle.stored_run.specs.Ends.{IsFinished as IsStoreFinished}
 use Rattle.stored_run.specs.declared.status.Status.{Status as StoreStatus}
 use Rattle.stored_run.specs.declared.status.Status.TheVariants as store
-use Rattle.editlens_main.specs.Ends.{IsFinished}
+use Rattle.editlens_main.specs.Statuses.{IsFinished}
+use Rattle.editlens_main.specs.MakesStore.{FindsLog}
 use Rattle.editlens_main.specs.StoreStatus.{status_of_store, status_of_making, MakesAs}
 use Rattle.editlens_main.specs.declared.status.Status.{Status}
 use Rattle.editlens_main.specs.declared.status.Status.TheVariants.{Done, StoreRefused, NoMemory}
@@ -58,26 +61,21 @@ unfinished status store.DiskFault is (inr e) = cc
 unfinished status store.InputTooLong is (inl e) = cc
 unfinished status store.InputTooLong is (inr e) = cc
 
-module _ (makes : List ℕ → List (List ℕ) → List ℕ → Type 0) (R F W : Type 0) (ended : MakingStatus) (status : Status) (is : status ≡ status_of_making ended) where
-  -- the completeness of a command that makes a store, for its status
-  pub made_complete : (left : Option (List ℕ)) → IfSome left (λ bytes. length bytes ≤ MOST_BYTES → (R → ⊥) → (F → ⊥) → (W → ⊥) → IsComplete makes bytes ended)
-      → IfSome left (λ bytes. length bytes ≤ MOST_BYTES → (R → ⊥) → (F → ⊥) → (W → ⊥) → MakesAs (IsComplete makes bytes) status)
-  made_complete None h = tt
-  made_complete (Some bytes) h = λ few r f w. (ended, is, h few r f w)
+module _ {S K D : Type 0} (source : OfSource.Ghosts S) (sink : OfSink.Ghosts K) (disk : OfDisk.Ghosts D) (old new : S × K × D)
+    (ended : MakingStatus) (status : Status) (is : status ≡ status_of_making ended) where
+  abbrev Line : MakingStatus → Type 0
+  Line e = GivesLine sink old.1 new.1 (refusal_line LogExists) making.StoreRefused e
 
-module _ {S K D : Type 0} (held : K → Option (List ℕ)) (content : D → Option (List ℕ)) (images : D → List ℕ → Type 0)
-    (s : S) (k : K) (d : D) (s' : S) (k' : K) (d' : D) (ended : MakingStatus) (status : Status) (is : status ≡ status_of_making ended) where
-  -- what such a command does over a disk that is not empty, for its status
-  pub finds_log : (o : Option (List ℕ)) → IfSome o (λ bytes. 0 < length bytes
-      → (s' ≡ s) × IsUnwritten content images d d'
-      × (GivesLine (held k) (held k') (refusal_line LogExists) making.StoreRefused ended ⊎ (ended ≡ making.DiskFault) × (k' ≡ k)))
-      → IfSome o (λ bytes. 0 < length bytes
-      → (s' ≡ s) × IsUnwritten content images d d'
-      × MakesAs (λ e. GivesLine (held k) (held k') (refusal_line LogExists) making.StoreRefused e
-      ⊎ ((e ≡ making.DiskFault) ⊎ (e ≡ making.NoMemory)) × (k' ≡ k)) status)
-  finds_log None h = tt
-  finds_log (Some bytes) h = λ some. let x = h some in (x.0, x.1, (ended, is, given x.2)) where
-    given : GivesLine (held k) (held k') (refusal_line LogExists) making.StoreRefused ended ⊎ (ended ≡ making.DiskFault) × (k' ≡ k)
-        → GivesLine (held k) (held k') (refusal_line LogExists) making.StoreRefused ended ⊎ ((ended ≡ making.DiskFault) ⊎ (ended ≡ making.NoMemory)) × (k' ≡ k)
+  -- what a command that makes a store does over a disk that is not empty, for its status
+  pub finds_log : KeepsStore source sink disk old new ended → FindsLog source sink disk old new status
+  finds_log h = by_content (disk.content old.2) h where
+    given : Line ended ⊎ (ended ≡ making.DiskFault) × (new.1 ≡ old.1) → Line ended ⊎ ((ended ≡ making.DiskFault) ⊎ (ended ≡ making.NoMemory)) × (new.1 ≡ old.1)
     given (inl x) = inl x
     given (inr x) = inr (inl x.0, x.1)
+
+    by_content : (o : Option (List ℕ))
+        → IfSome o (λ bytes. 0 < length bytes → (new.0 ≡ old.0) × IsUnwritten disk old.2 new.2 × (Line ended ⊎ (ended ≡ making.DiskFault) × (new.1 ≡ old.1)))
+        → IfSome o (λ bytes. 0 < length bytes → (new.0 ≡ old.0) × IsUnwritten disk old.2 new.2
+        × MakesAs (λ e. Line e ⊎ ((e ≡ making.DiskFault) ⊎ (e ≡ making.NoMemory)) × (new.1 ≡ old.1)) status)
+    by_content None h = tt
+    by_content (Some bytes) h = λ some. let x = h some in (x.0, x.1, (ended, is, given x.2))

@@ -1,17 +1,12 @@
 pub mod Applies
 pub mod Commands
-pub mod Ending
-pub mod Ends
 pub mod Generated
 pub mod Generates
 pub mod ImportsStore
 pub mod MakesStore
 pub mod OrderEnds
 pub mod Packs
-pub mod Report
 pub mod Runs
-pub mod RunsHub
-pub mod RunsLink
 pub mod ScriptStatus
 pub mod Shows
 pub mod Status

@@ -9,9 +9,7 @@ use Rattle.editlens_main.specs.Generates.{Generates}
 use Rattle.editlens_main.specs.ImportsStore.{ImportsStore}
 use Rattle.editlens_main.specs.MakesStore.{MakesStore}
 use Rattle.editlens_main.specs.Packs.{Packs}
-use Rattle.editlens_main.specs.Runs.{Runs, Checks}
-use Rattle.editlens_main.specs.RunsHub.{RunsHub}
-use Rattle.editlens_main.specs.RunsLink.{RunsLink}
+use Rattle.editlens_main.specs.Runs.{Runs, Checks, RunsHub, RunsLink}
 use Rattle.editlens_main.specs.Shows.{Shows, Verifies}
 use Rattle.editlens_main.specs.Undoes.{Undoes}
 use Rattle.editlens_main.specs.declared.status.Status.{Status}

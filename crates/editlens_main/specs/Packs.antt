@@ -5,51 +5,34 @@ use Rattle.lens_io.specs.declared.disk.Disk as OfDisk
 use Rattle.lens_io.specs.declared.sink.Sink as OfSink
 use Rattle.stored_run.specs.PackCall.{PacksCall, IsUnpacked, IsSafePack, EndsPack}
 use Rattle.stored_run.specs.Rooms.{most_bytes, PackHasNoRoom, IsPackCause}
-use Rattle.stored_run.specs.declared.status.Status.{Status as StoreStatus}
 use Rattle.store_session.specs.Journals.{IsStateInStep}
-use Rattle.store_session.specs.StoredStates.{stands_for, count_of, IsSnapshot}
-use Rattle.editlens_main.specs.Ends.{IsFinished}
+use Rattle.store_session.specs.contracts.instance.StoreSessionStoredSession.TheImpl.{ghosts as sessions}
+use Rattle.editlens_main.specs.Statuses.{IsFinished}
 use Rattle.editlens_main.specs.Stores.{Store, RefusedStore, RefusesStore}
 use Rattle.editlens_main.specs.StoreStatus.{EndsAs}
 use Rattle.editlens_main.specs.declared.status.Status.{Status}
 use Rattle.editlens_main.specs.declared.status.Status.TheVariants.{Done, DiskFault, NoMemory}
 
 module _ {K D : Type 0} (sink : OfSink.Ghosts K) (disk : OfDisk.Ghosts D) (old new : K × D) (status : Status) where
-  -- the snapshot was stored, and its line written
-  abbrev pub StoresSnapshot : Store disk old.1 → Type 0
-  StoresSnapshot store = PacksCall sink.held disk.content disk.images disk.moment disk.images_since disk.room IsSnapshot count_of stands_for
-      old.0 new.0 new.1 store.payloads store.state store.version
-
-  -- what was written and stored
-  abbrev pub Exits : Store disk old.1 → StoreStatus → Type 0
-  Exits store = EndsPack sink.held disk.content disk.images disk.moment disk.images_since disk.room IsSnapshot count_of stands_for
-      old.0 old.1 new.0 new.1 store.payloads store.state store.version
-
   -- the store was not opened, and nothing has changed
   abbrev pub Unopened : Type 0
-  Unopened = ((status ≡ DiskFault) ⊎ (status ≡ NoMemory)) × IsUnpacked sink.held disk.content disk.images disk.moment disk.images_since disk.room IsSnapshot count_of stands_for
-      old.0 old.1 new.0 new.1
-
-  -- an image of a crash was possible before, or represents the same state
-  abbrev pub KeepsState : Store disk old.1 → Type 0
-  KeepsState store = IsSafePack sink.held disk.content disk.images disk.moment disk.images_since disk.room IsSnapshot count_of stands_for
-      (disk.images old.1) old.1 new.1 store.payloads store.state store.version
+  Unopened = ((status ≡ DiskFault) ⊎ (status ≡ NoMemory)) × IsUnpacked sink disk old new
 
   -- over a store
   pub record Keeps (store : Store disk old.1) : Type 0 where
     -- at its end a snapshot is stored, and the store represents the same state with the same number of changes
-    pub continues : IsFinished status → StoresSnapshot store
+    pub continues : IsFinished status → PacksCall sink disk sessions old.0 new store.payloads store.state store.version
     -- the state of the store is in its lens's consistency relation
     pub in_step : IsStateInStep store.state
     -- what was written and stored at every status
-    pub stops : EndsAs (Exits store) status
+    pub stops : EndsAs (EndsPack sink disk sessions old new store.payloads store.state store.version) status
     -- an image of a crash, at each moment of the call and at its end, was possible before the call, or represents the same state
-    pub survives : Unopened ⊎ KeepsState store
+    pub survives : Unopened ⊎ IsSafePack disk sessions old.1 new.1 (disk.images old.1) store.payloads store.state store.version
     -- after StoreRefused the log had no room for what was to be stored, and after DiskFault the disk had none if its room is known
-    pub caused : EndsAs (λ ended. IsPackCause IsSnapshot ended (disk.room old.1) store.payloads store.state store.version) status
+    pub caused : EndsAs (IsPackCause disk sessions old.1 store.payloads store.state store.version) status
     -- it comes to its end, or memory runs out, if no device fails and the log has room
     pub completes : (SinkFailed sink old.0 new.0 → ⊥) → (DiskFailed disk old.1 new.1 → ⊥)
-        → (PackHasNoRoom IsSnapshot most_bytes store.payloads store.state store.version → ⊥) → (status ≡ Done) ⊎ (status ≡ NoMemory)
+        → (PackHasNoRoom sessions most_bytes store.payloads store.state store.version → ⊥) → (status ≡ Done) ⊎ (status ≡ NoMemory)
 
   pub record Packs : Type 0 where
     pub of_store : (store : Store disk old.1) → Keeps store

@@ -1,7 +1,7 @@
 -- What `show` and `verify` promise: they only read a store.
 use Rattle.std.specs.Prelude.{◌≡◌, ◌⊎◌, ℕ, List, IsNone}
 use Rattle.lens_io.specs.Calls.{SinkFailed, DiskFailed}
-use Rattle.lens_io.specs.Disks.{LeavesOnly}
+use Rattle.lens_io.specs.DiskRuns.{LeavesOnly}
 use Rattle.lens_io.specs.declared.disk.Disk as OfDisk
 use Rattle.lens_io.specs.declared.sink.Sink as OfSink
 use Rattle.stored_run.specs.CountLines.{consistent_line}
@@ -26,7 +26,7 @@ module _ {K D : Type 0} (sink : OfSink.Ghosts K) (disk : OfDisk.Ghosts D) (old n
   pub record ReadsStore (text : StoredState → List (List ℕ) → List ℕ) : Type 0 where
     -- over a store `show` has written its state lines, and `verify` the number of its changes; or the sink failed at them, or the disk failed
     -- or memory ran out before
-    pub reports : (store : Store disk old.1) → EndsAs (call.Views (sink.held old.0) (sink.held new.0) (text store.state store.payloads)) status
+    pub reports : (store : Store disk old.1) → EndsAs (call.Views sink old.0 new.0 (text store.state store.payloads)) status
     -- the state of the store is in its lens's consistency relation
     pub in_step : (store : Store disk old.1) → IsStateInStep store.state
     -- over a store it comes to its end, or memory runs out, if no device fails
@@ -34,9 +34,9 @@ module _ {K D : Type 0} (sink : OfSink.Ghosts K) (disk : OfDisk.Ghosts D) (old n
     -- over bytes that are no store the line `store refused: REASON` was written, unless a device failed or memory ran out
     pub refuses : (other : RefusedStore disk old.1) → RefusesStore sink disk old new status other.reason
     -- nothing is written to the disk
-    pub unwritten : IsUnwritten disk.content disk.images old.1 new.1
+    pub unwritten : IsUnwritten disk old.1 new.1
     -- a crash leaves nothing new, at each moment of the call and at its end
-    pub survives : LeavesOnly disk.moment disk.images_since old.1 new.1 (disk.images old.1)
+    pub survives : LeavesOnly disk old.1 new.1 (disk.images old.1)
     -- a disk whose room is known never fails
     pub caused : status ≡ DiskFault → IsNone (disk.room old.1)
 

@@ -1,7 +1,5 @@
--- The exit code of each status, and the status of a call that was stopped.
+-- The exit code of each status.
 use Rattle.std.specs.Prelude.{ℕ}
-use Rattle.journal_stream.specs.declared.stopped.Stopped.{Stopped}
-use Rattle.journal_stream.specs.declared.stopped.Stopped.TheVariants as stop
 use Rattle.editlens_main.specs.declared.status.Status.{Status}
 use Rattle.editlens_main.specs.declared.status.Status.TheVariants.{Done, SomeRefused, Usage, ProgramRefused, StoreRefused, SourceFault, SinkFault, DiskFault, InputTooLong, NoMemory}
 
@@ -16,9 +14,3 @@ code_of SinkFault = 6
 code_of DiskFault = 7
 code_of InputTooLong = 8
 code_of NoMemory = 9
-
-abbrev pub status_of : Stopped → Status
-status_of stop.SourceFault = SourceFault
-status_of stop.TooLong = InputTooLong
-status_of stop.SinkFault = SinkFault
-status_of stop.NoMemory = NoMemory

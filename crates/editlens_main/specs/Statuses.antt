@@ -49,3 +49,7 @@ IsAmong (one ∷ more) status = (status ≡ one) ⊎ IsAmong more status
 
 abbrev pub MayEnd : Option Order → Status → Type 0
 MayEnd order status = IsAmong (statuses_of order) status
+
+-- the command came to its end: nothing stopped it
+abbrev pub IsFinished : Status → Type 0
+IsFinished status = (status ≡ Done) ⊎ (status ≡ SomeRefused)

@@ -3,6 +3,7 @@ use Rattle.std.specs.Prelude.{◌≡◌, ◌⊎◌, ℕ, List, Option, Some, Ok}
 use Rattle.gate_log.specs.LogOnDisk.{HoldsPayloads}
 use Rattle.store_session.specs.Journals.{IsStateInStep}
 use Rattle.store_session.specs.StoredStates.{StoredState, stands_for}
+use Rattle.store_session.specs.contracts.instance.StoreSessionStoredSession.TheImpl.{ghosts as sessions}
 use Rattle.stored_run.specs.Refusals.{refusal_in}
 use Rattle.stored_run.specs.declared.refusals.StoreRefusal.{StoreRefusal}
 
@@ -17,4 +18,4 @@ pub record HoldsState (bytes : List ℕ) : Type 0 where
 
 -- the bytes are refused as a store, or hold such a state
 abbrev pub IsRefusedOrInStep : List ℕ → Type 0
-IsRefusedOrInStep bytes = ((refusal : StoreRefusal) × (refusal_in stands_for bytes ≡ Some refusal)) ⊎ HoldsState bytes
+IsRefusedOrInStep bytes = ((refusal : StoreRefusal) × (refusal_in sessions bytes ≡ Some refusal)) ⊎ HoldsState bytes

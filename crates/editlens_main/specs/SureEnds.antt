@@ -1,6 +1,7 @@
 -- How a command ends over devices that do not fail: the source and the sink are in memory, and the disk fails only at the end of its room.
 -- Read it from the end: `MadeInRoom`, `StoredInRoom`, then `EndsInRoom`.
 use Rattle.std.specs.Prelude.{◌≡◌, ◌⊎◌, ℕ, List}
+use Rattle.making_steps.specs.Command.{Command}
 use Rattle.making_steps.specs.Ends.{IsComplete}
 use Rattle.stored_run.specs.Rooms.{most_bytes}
 use Rattle.editlens_main.specs.StoreStatus.{MakesAs}
@@ -22,5 +23,5 @@ module _ (status : Status) (is_full : Type 0) where
       ⊎ ((status ≡ StoreRefused) × no_room most_bytes)
 
   -- The same of a command that makes a store of these bytes on an empty disk.
-  abbrev pub MadeInRoom : (List ℕ → List (List ℕ) → List ℕ → Type 0) → List ℕ → Type 0 → Type 0
-  MadeInRoom makes bytes no_room = EndsInRoom (MakesAs (IsComplete makes bytes) status) ⊎ ((status ≡ DiskFault) × no_room)
+  abbrev pub MadeInRoom : Command → List ℕ → Type 0 → Type 0
+  MadeInRoom command bytes no_room = EndsInRoom (MakesAs (IsComplete command bytes) status) ⊎ ((status ≡ DiskFault) × no_room)

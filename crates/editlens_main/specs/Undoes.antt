@@ -1,85 +1,57 @@
 -- What `undo` promises. What undoing the last changes comes to is `undoing` of store_undo, and why a store is refused is `refusal_in` there.
--- Read it from the end: `Undoes`, then `TakesBack`, then `Undoable`.
-use Rattle.std.specs.Prelude.{◌≡◌, ◌⊎◌, ℕ, List, Some, option_to_list}
-use Rattle.gate_log.specs.LogOnDisk.{HoldsPayloads}
+-- Read it from the end: `Undoes`, then `TakesBack`.
+use Rattle.std.specs.Prelude.{◌≡◌, ◌⊎◌, ℕ, List, option_to_list}
 use Rattle.lens_io.specs.Calls.{SinkFailed, DiskFailed}
 use Rattle.lens_io.specs.declared.disk.Disk as OfDisk
 use Rattle.lens_io.specs.declared.sink.Sink as OfSink
 use Rattle.stored_run.specs.Refusals.{IsUnwritten, IsOpening, FailsUnopened}
 use Rattle.stored_run.specs.Rooms.{most_bytes}
 use Rattle.stored_run.specs.StoreEnds.{StoresBehind}
-use Rattle.stored_run.specs.declared.refusals.StoreRefusal.{StoreRefusal}
 use Rattle.stored_run.specs.declared.status.Status.{Status as StoreStatus}
-use Rattle.store_undo.specs.Undoing.{Undoing, undoing, refusal_in}
 use Rattle.store_undo.specs.UndoCall.{UndoesCall, IsUntouched, IsSafeUndo, HoldsNow}
 use Rattle.store_undo.specs.UndoCauses.{UndoHasNoRoom, IsUndoCause}
 use Rattle.store_undo.specs.UndoRecords.{undo_text, version_due, snapshot_text}
+use Rattle.store_undo.specs.UndoStores.{StoreToUndo, RefusedToUndo}
 use Rattle.editlens_main.specs.Stores.{RefusesStore}
 use Rattle.editlens_main.specs.StoreStatus.{EndsAs}
 use Rattle.editlens_main.specs.declared.status.Status.{Status}
 use Rattle.editlens_main.specs.declared.status.Status.TheVariants.{Done, StoreRefused, DiskFault, NoMemory}
 
--- The bytes of the disk are told, and hold these payloads. Their last records, so many as the count says, are of changes, and undoing them
--- comes to this.
-pub record Undoable (count : ℕ) {D : Type 0} (disk : OfDisk.Ghosts D) (d : D) : Type 0 where
-  pub bytes : List ℕ
-  pub told : disk.content d ≡ Some bytes
-  pub payloads : List (List ℕ)
-  pub holds : HoldsPayloads payloads bytes
-  pub undone : Undoing
-  pub undoes : undoing count payloads ≡ Some undone
-
--- The bytes of the disk are told, and are no store, or their last records are not so many changes: for this reason.
-pub record NotUndoable (count : ℕ) {D : Type 0} (disk : OfDisk.Ghosts D) (d : D) : Type 0 where
-  pub bytes : List ℕ
-  pub told : disk.content d ≡ Some bytes
-  pub reason : StoreRefusal
-  pub refused : refusal_in count bytes ≡ Some reason
-
 module _ (count : ℕ) {K D : Type 0} (sink : OfSink.Ghosts K) (disk : OfDisk.Ghosts D) (old new : K × D) (status : Status) where
-  -- the snapshot was stored, and the two words and the state lines were written
-  abbrev pub StoresSnapshot : Undoable count disk old.1 → Type 0
-  StoresSnapshot store = UndoesCall sink.held disk.content disk.images disk.moment disk.images_since old.0 new.0 new.1 store.payloads store.undone
-
   -- What was written and stored: the log was opened, and from there its records were stored and its lines written, or the call was
   -- stopped; or it failed before, and nothing was written.
-  abbrev pub Exits : Undoable count disk old.1 → StoreStatus → Type 0
+  abbrev pub Exits : StoreToUndo disk count old.1 → StoreStatus → Type 0
   Exits store ended =
-      StoresBehind sink.held disk.content disk.images disk.moment disk.images_since disk.room
-      (λ d1 _. IsOpening disk.content disk.images disk.moment disk.images_since disk.room old.1 d1) old.0 new.0 new.1 store.payloads
+      StoresBehind sink disk old new (λ d1 _. IsOpening disk old.1 d1) store.payloads
       (undo_text store.undone) (option_to_list (version_due store.undone.now.version)) (snapshot_text store.undone) ended
-      ⊎ IsUnwritten disk.content disk.images old.1 new.1 × FailsUnopened (disk.room old.1) (sink.held old.0) (sink.held new.0) ended
+      ⊎ IsUnwritten disk old.1 new.1 × FailsUnopened sink disk old new ended
 
   -- the store was not opened, and nothing has changed
   abbrev pub Unopened : Type 0
-  Unopened = ((status ≡ DiskFault) ⊎ (status ≡ NoMemory)) × IsUntouched sink.held disk.content disk.images disk.moment disk.images_since old.0 old.1 new.0 new.1
+  Unopened = ((status ≡ DiskFault) ⊎ (status ≡ NoMemory)) × IsUntouched sink disk old new
 
-  -- an image of a crash was possible before, or represents the triple before the last changes or the one from before the call
-  abbrev pub KeepsEither : Undoable count disk old.1 → Type 0
-  KeepsEither store = IsSafeUndo sink.held disk.content disk.images disk.moment disk.images_since (disk.images old.1) old.1 new.1 store.payloads store.undone
-
-  -- over a store whose last changes can be undone
-  pub record TakesBack (store : Undoable count disk old.1) : Type 0 where
+  -- over a store whose last records, so many as the count says, are of changes, which can be undone
+  pub record TakesBack (store : StoreToUndo disk count old.1) : Type 0 where
     -- at its end the store holds one more snapshot, of the consistent triple before the last changes; the two words that were written
     -- take each document back
-    pub continues : status ≡ Done → StoresSnapshot store
+    pub continues : status ≡ Done → UndoesCall sink disk old new store.payloads store.undone
     -- what was written and stored at every status
     pub stops : EndsAs (Exits store) status
     -- an image of a crash, at each moment of the call and at its end, was possible before the call, or represents the triple before the last
     -- changes or the one from before the call
-    pub survives : Unopened ⊎ KeepsEither store
+    pub survives : Unopened ⊎ IsSafeUndo disk old.1 new.1 store.payloads store.undone
     -- After NoMemory and StoreRefused the snapshot is not stored: an image that a crash now may leave represents the triple from before the
     -- call, or was possible before it.
     pub unstored : (status ≡ NoMemory) ⊎ (status ≡ StoreRefused) → (image : List ℕ) → disk.images new.1 image
         → disk.images old.1 image ⊎ HoldsNow store.payloads store.undone image
     -- after StoreRefused the log had no room for a record, and after DiskFault the disk had none if its room is known
-    pub caused : EndsAs (λ ended. IsUndoCause ended (disk.room old.1) store.payloads store.undone) status
+    pub caused : EndsAs (IsUndoCause disk old.1 store.payloads store.undone) status
     -- it comes to its end, or memory runs out, if no device fails and the log has room
     pub completes : (SinkFailed sink old.0 new.0 → ⊥) → (DiskFailed disk old.1 new.1 → ⊥)
         → (UndoHasNoRoom most_bytes store.payloads store.undone → ⊥) → (status ≡ Done) ⊎ (status ≡ NoMemory)
 
   pub record Undoes : Type 0 where
-    pub of_store : (store : Undoable count disk old.1) → TakesBack store
+    pub of_store : (store : StoreToUndo disk count old.1) → TakesBack store
     -- over any other bytes the line `store refused: REASON` was written, unless a device failed or memory ran out; nothing is written to
     -- the disk. The reason is `nothing-to-undo` if they are a store.
-    pub refuses : (other : NotUndoable count disk old.1) → RefusesStore sink disk old new status other.reason
+    pub refuses : (other : RefusedToUndo disk count old.1) → RefusesStore sink disk old new status other.reason

@@ -1,26 +1,15 @@
-//! Laws of runs and of stores. Each function here does nothing: its clauses are the law.
+//! Laws of stores. Each function here does nothing: its clauses are the law.
 ghost use Rattle.std.specs.Prelude.{◌≡◌, ℕ, List, Some, Ok};
 ghost use Rattle.std.specs.declared.option.Option.{Option};
-ghost use Rattle.lens_forms.specs.Forms.{FormTree};
-ghost use Rattle.accepted_programs.specs.Program.{lens_of};
-ghost use Rattle.journal_answers.specs.Runs.{JournalItem};
 ghost use Rattle.store_session.specs.Journals.{IsStateInStep};
 ghost use Rattle.store_session.specs.StoredStates.{StoredState, stands_for};
 ghost use Rattle.stored_run.specs.Refusals.{refusal_in};
 ghost use Rattle.stored_run.specs.declared.refusals.StoreRefusal.{StoreRefusal};
-ghost use Rattle.editlens_main.specs.Ends.{RunStaysInStep};
 ghost use Rattle.editlens_main.specs.StoreBytes.{HoldsState, IsRefusedOrInStep};
 
+use store_session::StoreSession;
 use store_session::laws::stored_is_in_step;
-
-/// Every run of an accepted program stays in step: for any items of a journal the run goes on to its end, and every triple
-/// of it, the first one and those after refused items included, is in the lens's consistency relation.
-///
-/// It does not matter whether or how a call over these items ended.
-#[tactic(auto, using(crate::proofs::RunInStep::accepted_in_step))]
-pub fn every_run_stays_in_step()
-    ensures { (text : List ℕ) (form : FormTree) (items : List JournalItem) → lens_of text ≡ Ok form → RunStaysInStep form items }
-{}
+use stored_run::StoredSession;
 
 /// Every store stays in step: whatever its payloads are, the state that they represent is in the consistency relation of its
 /// lens.
@@ -36,5 +25,5 @@ pub fn every_store_stays_in_step()
 /// - `one`: both are never so.
 pub fn every_disk_is_refused_or_in_step()
     ensures either { (bytes : List ℕ) → IsRefusedOrInStep bytes }
-    ensures one { (bytes : List ℕ) (refusal : StoreRefusal) → refusal_in stands_for bytes ≡ Some refusal → HoldsState bytes → ⊥ }
+    ensures one { (bytes : List ℕ) (refusal : StoreRefusal) → refusal_in ⟦<StoreSession as StoredSession>⟧ bytes ≡ Some refusal → HoldsState bytes → ⊥ }
 {}

@@ -1,15 +1,39 @@
-//! The commands `hub` and `link`, which run a script of their own kind. Each is the call of hub_run or of link_run.
+//! The commands over a script: `run`, `check`, `hub` and `link`. All but `hub`, whose program part has a program for each view, are the call
+//! of script_run for what a script means to them.
 ghost use Rattle.std.specs.Prelude.{◌≡◌};
 ghost use Rattle.lens_io.specs.Calls.{SourceFailed, SinkFailed};
-ghost use Rattle.editlens_main.specs.RunsHub.{RunsHub};
-ghost use Rattle.editlens_main.specs.RunsLink.{RunsLink};
+ghost use Rattle.editlens_main.specs.Runs.{Runs, Checks, RunsHub, RunsLink};
 ghost use Rattle.editlens_main.specs.Statuses.{IsAmong, script_statuses};
 
 use crate::Status;
 use hub_run::run_hub;
 use lens_io::{Sink, Source};
-use link_run::run_link;
+use link_run::LinkRun;
+use pair_run::{PairRun, TypesShown};
+use script_run::run_script;
 use std::alloc::Global;
+
+/// Keeps two documents in step, by the edits of a script.
+pub fn run_pair_script<S: Source, K: Sink>(alloc: Global, source: &mut S, sink: &mut K) -> Status
+    ensures runs { Runs S.Source K.Sink (source.old, sink.old) (source.new, sink.new) result }
+    ensures statuses { IsAmong script_statuses result }
+    ensures source_fault { result ≡ Status.SourceFault → SourceFailed S.Source source.old source.new }
+    ensures sink_fault { result ≡ Status.SinkFault → SinkFailed K.Sink sink.old sink.new }
+{
+    let ended = run_script::<S, K, PairRun>(alloc, source, sink);
+    Status::of_script(ended)
+}
+
+/// Shows the two types of the lens of a script.
+pub fn check_script<S: Source, K: Sink>(alloc: Global, source: &mut S, sink: &mut K) -> Status
+    ensures runs { Checks S.Source K.Sink (source.old, sink.old) (source.new, sink.new) result }
+    ensures statuses { IsAmong script_statuses result }
+    ensures source_fault { result ≡ Status.SourceFault → SourceFailed S.Source source.old source.new }
+    ensures sink_fault { result ≡ Status.SinkFault → SinkFailed K.Sink sink.old sink.new }
+{
+    let ended = run_script::<S, K, TypesShown>(alloc, source, sink);
+    Status::of_script(ended)
+}
 
 /// Keeps one document in step with many views, by the edits of a script.
 pub fn run_hub_script<S: Source, K: Sink>(alloc: Global, source: &mut S, sink: &mut K) -> Status
@@ -29,6 +53,6 @@ pub fn run_link_script<S: Source, K: Sink>(alloc: Global, source: &mut S, sink: 
     ensures source_fault { result ≡ Status.SourceFault → SourceFailed S.Source source.old source.new }
     ensures sink_fault { result ≡ Status.SinkFault → SinkFailed K.Sink sink.old sink.new }
 {
-    let ended = run_link(alloc, source, sink);
+    let ended = run_script::<S, K, LinkRun>(alloc, source, sink);
     Status::of_script(ended)
 }

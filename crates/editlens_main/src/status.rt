@@ -1,11 +1,10 @@
 // How a run ends.
 ghost use Rattle.std.specs.Prelude.{◌≡◌};
 ghost use Rattle.editlens_main.specs.ScriptStatus.{status_of_script};
-ghost use Rattle.editlens_main.specs.Status.{code_of, status_of};
+ghost use Rattle.editlens_main.specs.Status.{code_of};
 ghost use Rattle.editlens_main.specs.Statuses.{IsAmong, making_statuses, script_statuses, store_statuses};
 ghost use Rattle.editlens_main.specs.StoreStatus.{status_of_store, status_of_making};
 
-use journal_stream::Stopped;
 use making_steps::MakingStatus;
 use script_run::ScriptStatus;
 use std::alloc::{AllocError, Global};
@@ -43,18 +42,6 @@ impl Status {
         ensures { result ≡ code_of self }
     {
         self as u8
-    }
-
-    /// The status of a call that this stopped.
-    pub fn of_stop(stopped: Stopped) -> Status
-        ensures { result ≡ status_of stopped }
-    {
-        match stopped {
-            Stopped::SourceFault => Status::SourceFault,
-            Stopped::TooLong => Status::InputTooLong,
-            Stopped::SinkFault => Status::SinkFault,
-            Stopped::NoMemory => Status::NoMemory,
-        }
     }
 
     /// The status of a command over a store that ended so.

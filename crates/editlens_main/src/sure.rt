@@ -1,32 +1,29 @@
 //! The top call over devices that do not fail.
-ghost use Rattle.std.specs.Prelude.{◌≡◌, ◌⊎◌, ◌≤◌, [], List, ℕ, Some, None, Ok, false, length};
-ghost use Rattle.std.specs.declared.option.Option.{Option};
-ghost use Rattle.accepted_programs.specs.Program.{lens_of};
+ghost use Rattle.std.specs.Prelude.{◌≡◌, ◌⊎◌, ◌≤◌, [], ℕ, Some, None, false, length};
 ghost use Rattle.command_words.specs.declared.orders.Order.TheVariants.{Gen, Init, Import, Apply, Show, Verify, Pack, Undo, Hub, Link};
 ghost use Rattle.command_words.specs.declared.orders.Order.TheVariants as order;
-ghost use Rattle.gate_log.specs.LogOnDisk.{HoldsPayloads};
-ghost use Rattle.hub_run.specs.Lenses.{lenses_of};
+ghost use Rattle.hub_run.specs.HubScript.{hub_script};
 ghost use Rattle.journal_input.specs.declared.limits.TheConstants.{MOST_BYTES};
+ghost use Rattle.link_run.specs.LinkScript.{link_script};
 ghost use Rattle.making_steps.specs.Rooms.{ScriptHasNoRoom};
-ghost use Rattle.script_run.specs.Ends.{IsComplete as IsCompleteScript};
-ghost use Rattle.store_import.specs.Import.{Brings};
-ghost use Rattle.store_making.specs.Init.{Begins};
-ghost use Rattle.store_session.specs.StoredStates.{StoredState, stands_for, answer, IsSnapshot};
+ghost use Rattle.pair_run.specs.Scripts.{pair_script, types_script};
+ghost use Rattle.script_run.specs.Ends.{IsComplete as IsCompleteScript, Reports};
+ghost use Rattle.store_import.specs.Import.{import_command};
+ghost use Rattle.store_making.specs.Init.{init_command};
 ghost use Rattle.store_undo.specs.UndoCauses.{UndoHasNoRoom};
-ghost use Rattle.store_undo.specs.Undoing.{Undoing, undoing, refusal_in as refusal_to_undo};
-ghost use Rattle.stored_run.specs.Refusals.{refusal_in};
+ghost use Rattle.store_undo.specs.UndoStores.{StoreToUndo, RefusedToUndo};
 ghost use Rattle.stored_run.specs.Rooms.{RunHasNoRoom, PackHasNoRoom};
-ghost use Rattle.stored_run.specs.declared.refusals.StoreRefusal.{StoreRefusal};
-ghost use Rattle.editlens_main.specs.Ends.{IsFinished, Reports, IsComplete};
-ghost use Rattle.editlens_main.specs.Commands.{command_of, order_named, uses_disk};
+ghost use Rattle.editlens_main.specs.Commands.{order_named, uses_disk};
 ghost use Rattle.editlens_main.specs.ScriptStatus.{ScriptAs};
+ghost use Rattle.editlens_main.specs.Statuses.{IsFinished};
+ghost use Rattle.editlens_main.specs.Stores.{Store, RefusedStore};
 ghost use Rattle.editlens_main.specs.SureEnds.{EndsInRoom, StoredInRoom, MadeInRoom};
-ghost use Rattle.editlens_main.specs.declared.commands.Command.{Command};
-ghost use Rattle.editlens_main.specs.declared.commands.Command.TheVariants.{Run, Check};
 
 use crate::{Status, editlens};
-use lens_io::{SureDisk, SureSink, SureSource};
+use lens_io::{Disk, Sink, Source, SureDisk, SureSink, SureSource};
 use std::alloc::Global;
+use store_session::StoreSession;
+use stored_run::StoredSession;
 
 /// The top call over devices that do not fail: a command is complete, unless the sink or the disk has too little room.
 ///
@@ -34,12 +31,11 @@ use std::alloc::Global;
 ///   sink's room is full.
 /// - `no_usage`: the status is `Usage` only if the words name no command.
 /// - `no_disk_fault`: `show`, `verify` and the commands without a store never end with `DiskFault`.
-/// - `sure`: with at most 2^30 bytes, the status is `Done` or `SomeRefused` if the program part is accepted, and
-///   `ProgramRefused` if it is refused. It is `NoMemory` instead if memory ran out, and `SinkFault` only if the sink's room
-///   is full.
+/// - `run_sure`, `check_sure`, `hub_sure`, `link_sure`: with at most 2^30 bytes, the status is `Done` or `SomeRefused` if the program part
+///   is accepted, and `ProgramRefused` if it is refused. It is `NoMemory` instead if memory ran out, and `SinkFault` only if the sink's
+///   room is full.
 /// - `run_reports`, `check_types`: after `Done` and `SomeRefused` the sink holds what [`editlens`] says.
 /// - `gen_sure`: `gen` ends with `Done`, or with `NoMemory` or `SinkFault` as above.
-/// - `hub_sure`, `link_sure`: the same as `sure` for a hub and a link.
 /// - `init_sure`, `import_sure`: the same on an empty disk. The status is `DiskFault` instead only if the disk has no room for the
 ///   store.
 /// - `views_sure`: over a store `show` and `verify` end with `Done`, or with `NoMemory` or `SinkFault` as above.
@@ -60,46 +56,55 @@ pub fn run_sure(
     ensures sink_fault { result ≡ Status.SinkFault → length sink.new.held ≡ sink.new.room }
     ensures no_disk_fault { (uses_disk (order_named words.now) ≡ false) ⊎ (order_named words.now ≡ Some Show) ⊎ (order_named words.now ≡ Some Verify)
         → result ≡ Status.DiskFault → ⊥ }
-    ensures sure { (command : Command) → command_of words.now ≡ Some command → length source.old ≤ MOST_BYTES
-        → IsComplete command source.old result ⊎ ((result ≡ Status.SinkFault) × (length sink.new.held ≡ sink.new.room)) }
+    ensures run_sure { order_named words.now ≡ Some order.Run → length source.old.left ≤ MOST_BYTES
+        → EndsInRoom result (length sink.new.held ≡ sink.new.room)
+        (ScriptAs (IsCompleteScript pair_script source.old.left) result) }
+    ensures check_sure { order_named words.now ≡ Some order.Check → length source.old.left ≤ MOST_BYTES
+        → EndsInRoom result (length sink.new.held ≡ sink.new.room)
+        (ScriptAs (IsCompleteScript types_script source.old.left) result) }
     ensures run_reports { order_named words.now ≡ Some order.Run → IsFinished result
-        → Reports Run (Some source.old) (Some source.new) (Some sink.old.held) (Some sink.new.held) result }
+        → ScriptAs (Reports pair_script ⟦<SureSource as Source>⟧ ⟦<SureSink as Sink>⟧
+        (source.old, sink.old) (source.new, sink.new)) result }
     ensures check_types { order_named words.now ≡ Some order.Check → IsFinished result
-        → Reports Check (Some source.old) (Some source.new) (Some sink.old.held) (Some sink.new.held) result }
+        → ScriptAs (Reports types_script ⟦<SureSource as Source>⟧ ⟦<SureSink as Sink>⟧
+        (source.old, sink.old) (source.new, sink.new)) result }
     ensures gen_sure { (count seed : ℕ) → order_named words.now ≡ Some (Gen count seed) → (result ≡ Status.Done) ⊎ (result ≡ Status.NoMemory)
         ⊎ ((result ≡ Status.SinkFault) × (length sink.new.held ≡ sink.new.room)) }
-    ensures hub_sure { order_named words.now ≡ Some Hub → length source.old ≤ MOST_BYTES
-        → EndsInRoom result (length sink.new.held ≡ sink.new.room) (ScriptAs (IsCompleteScript lenses_of source.old) result) }
-    ensures link_sure { order_named words.now ≡ Some Link → length source.old ≤ MOST_BYTES
-        → EndsInRoom result (length sink.new.held ≡ sink.new.room) (ScriptAs (IsCompleteScript lens_of source.old) result) }
-    ensures init_sure { order_named words.now ≡ Some Init → disk.old.bytes ≡ [] → length source.old ≤ MOST_BYTES
-        → MadeInRoom result (length sink.new.held ≡ sink.new.room) Begins source.old
-        (ScriptHasNoRoom Begins disk.old.room (Some source.old) (Some source.new)) }
-    ensures import_sure { order_named words.now ≡ Some Import → disk.old.bytes ≡ [] → length source.old ≤ MOST_BYTES
-        → MadeInRoom result (length sink.new.held ≡ sink.new.room) Brings source.old
-        (ScriptHasNoRoom Brings disk.old.room (Some source.old) (Some source.new)) }
+    ensures hub_sure { order_named words.now ≡ Some Hub → length source.old.left ≤ MOST_BYTES
+        → EndsInRoom result (length sink.new.held ≡ sink.new.room)
+        (ScriptAs (IsCompleteScript hub_script source.old.left) result) }
+    ensures link_sure { order_named words.now ≡ Some Link → length source.old.left ≤ MOST_BYTES
+        → EndsInRoom result (length sink.new.held ≡ sink.new.room)
+        (ScriptAs (IsCompleteScript link_script source.old.left) result) }
+    ensures init_sure { order_named words.now ≡ Some Init → disk.old.bytes ≡ [] → length source.old.left ≤ MOST_BYTES
+        → MadeInRoom result (length sink.new.held ≡ sink.new.room) init_command source.old.left
+        (ScriptHasNoRoom ⟦<SureSource as Source>⟧ init_command source.old source.new disk.old.room) }
+    ensures import_sure { order_named words.now ≡ Some Import → disk.old.bytes ≡ [] → length source.old.left ≤ MOST_BYTES
+        → MadeInRoom result (length sink.new.held ≡ sink.new.room) import_command source.old.left
+        (ScriptHasNoRoom ⟦<SureSource as Source>⟧ import_command source.old source.new disk.old.room) }
     ensures views_sure { (order_named words.now ≡ Some Show) ⊎ (order_named words.now ≡ Some Verify)
-        → (before : List (List ℕ)) (t : StoredState) (version : Option (List ℕ)) → HoldsPayloads before disk.old.bytes → stands_for before ≡ Ok (t, version)
+        → Store ⟦<SureDisk as Disk>⟧ disk.old
         → EndsInRoom result (length sink.new.held ≡ sink.new.room) ((result ≡ Status.Done) ⊎ (result ≡ Status.NoMemory)) }
     ensures refused_sure { (order_named words.now ≡ Some Apply) ⊎ (order_named words.now ≡ Some Pack)
         ⊎ (order_named words.now ≡ Some Show) ⊎ (order_named words.now ≡ Some Verify)
-        → (refusal : StoreRefusal) → refusal_in stands_for disk.old.bytes ≡ Some refusal
+        → RefusedStore ⟦<SureDisk as Disk>⟧ disk.old
         → EndsInRoom result (length sink.new.held ≡ sink.new.room) ((result ≡ Status.StoreRefused) ⊎ (result ≡ Status.NoMemory)) }
     ensures undo_refused_sure { (count : ℕ) → order_named words.now ≡ Some (Undo count)
-        → (refusal : StoreRefusal) → refusal_to_undo count disk.old.bytes ≡ Some refusal
+        → RefusedToUndo ⟦<SureDisk as Disk>⟧ count disk.old
         → EndsInRoom result (length sink.new.held ≡ sink.new.room) ((result ≡ Status.StoreRefused) ⊎ (result ≡ Status.NoMemory)) }
-    ensures apply_sure { order_named words.now ≡ Some Apply → length source.old ≤ MOST_BYTES
-        → (before : List (List ℕ)) (t : StoredState) (version : Option (List ℕ)) → HoldsPayloads before disk.old.bytes → stands_for before ≡ Ok (t, version)
+    ensures apply_sure { order_named words.now ≡ Some Apply → length source.old.left ≤ MOST_BYTES
+        → (store : Store ⟦<SureDisk as Disk>⟧ disk.old)
         → StoredInRoom result (length sink.new.held ≡ sink.new.room) (IsFinished result ⊎ (result ≡ Status.NoMemory))
-        (λ most. RunHasNoRoom answer most (Some source.old) (Some source.new) before t version) disk.old.room }
+        (λ most. RunHasNoRoom ⟦<SureSource as Source>⟧ ⟦<StoreSession as StoredSession>⟧ source.old source.new most
+        store.payloads store.state store.version) disk.old.room }
     ensures pack_sure { order_named words.now ≡ Some Pack
-        → (before : List (List ℕ)) (t : StoredState) (version : Option (List ℕ)) → HoldsPayloads before disk.old.bytes → stands_for before ≡ Ok (t, version)
+        → (store : Store ⟦<SureDisk as Disk>⟧ disk.old)
         → StoredInRoom result (length sink.new.held ≡ sink.new.room) ((result ≡ Status.Done) ⊎ (result ≡ Status.NoMemory))
-        (λ most. PackHasNoRoom IsSnapshot most before t version) disk.old.room }
+        (λ most. PackHasNoRoom ⟦<StoreSession as StoredSession>⟧ most store.payloads store.state store.version) disk.old.room }
     ensures undo_sure { (count : ℕ) → order_named words.now ≡ Some (Undo count)
-        → (before : List (List ℕ)) (u : Undoing) → HoldsPayloads before disk.old.bytes → undoing count before ≡ Some u
+        → (store : StoreToUndo ⟦<SureDisk as Disk>⟧ count disk.old)
         → StoredInRoom result (length sink.new.held ≡ sink.new.room) ((result ≡ Status.Done) ⊎ (result ≡ Status.NoMemory))
-        (λ most. UndoHasNoRoom most before u) disk.old.room }
+        (λ most. UndoHasNoRoom most store.payloads store.undone) disk.old.room }
 {
     editlens(alloc, words, source, sink, disk)
 }

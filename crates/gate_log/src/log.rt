@@ -2,7 +2,8 @@
 ghost use Rattle.std.specs.Prelude.{◌≡◌, ◌⊎◌, ◌↔◌, ◌+◌, ◌*◌, ◌-◌, ◌^◌, ◌<◌, ◌≤◌, [], ◌∷◌, ◌++◌, List, ℕ, true, length, IfOk, IfErr, OnOk, OnErr, MatchResult, IsErrOf, IsOk, IsTrue, IfSome, IsNone};
 ghost use Rattle.std.specs.Int.{w64, to_le_bytes};
 ghost use Rattle.lens_io.specs.Causes.{Increased};
-ghost use Rattle.lens_io.specs.Disks.{Steps, Only, SameImages, LeavesOnly, OnlyReads};
+ghost use Rattle.lens_io.specs.DiskRuns.{LeavesOnly, OnlyReads};
+ghost use Rattle.lens_io.specs.Disks.{Steps, Only, SameImages};
 ghost use Rattle.gate_log.specs.CallEnds.{AppendEnds, AppendLeaves, IsAppendFault, IsCreateFault, IsLogRefusal, IsPayloadsFault, IsSynced, NoBadRecord, after_append};
 ghost use Rattle.gate_log.specs.LogBytes.{payloads, mark};
 ghost use Rattle.gate_log.specs.LogOnDisk.{LogState, HoldsOneMore, HoldsPayloads, IsBehind, Stands};
@@ -65,9 +66,9 @@ pub fn create_log<D: Disk>(disk: &mut D) -> Result<Log, LogFault>
     ensures exists { IsErrOf result LogFault.LogExists
         → IfSome (D.content disk.old) (λ bytes. 0 < length bytes) }
     ensures kept { IfSome (D.content disk.old) (λ bytes. 0 < length bytes →
-        OnlyReads D.content D.images D.moment D.images_since D.faults D.room disk.old disk.new) }
+        OnlyReads D.Disk disk.old disk.new) }
     ensures unwritten { IsErrOf result LogFault.LogExists →
-        OnlyReads D.content D.images D.moment D.images_since D.faults D.room disk.old disk.new }
+        OnlyReads D.Disk disk.old disk.new }
 
     ensures faults { D.faults disk.old ≤ D.faults disk.new }
     ensures room { D.room disk.new ≡ D.room disk.old }
@@ -104,7 +105,7 @@ pub fn open_log<D: Disk>(disk: &mut D) -> Result<Log, LogFault>
 
     // A crash leaves what it might have left before, and after the sync what a read gives.
     ensures content { D.content disk.new ≡ D.content disk.old }
-    ensures moments { LeavesOnly D.moment D.images_since disk.old disk.new (D.images disk.old) }
+    ensures moments { LeavesOnly D.Disk disk.old disk.new (D.images disk.old) }
     ensures images { (c : List ℕ) → D.images disk.new c → D.images disk.old c }
     ensures synced { IsSynced (D.content disk.old) (D.images disk.old) (D.images disk.new) result }
 
@@ -125,8 +126,7 @@ pub fn open_log<D: Disk>(disk: &mut D) -> Result<Log, LogFault>
 fn opened<D: Disk>(disk: &mut D) -> Result<Log, LogFault>
     ensures opens { IfSome (D.content disk.old) (λ bytes. Opens bytes result) }
     ensures sound { IfOk result (λ log. log.sound ≡ true) }
-    ensures reads { OnlyReads D.content D.images D.moment D.images_since D.faults D.room
-        disk.old disk.new }
+    ensures reads { OnlyReads D.Disk disk.old disk.new }
     ensures possible { IfErr result IsOpenFault }
     ensures cause { IsErrOf result LogFault.DiskFault
         → Increased (D.faults disk.old) (D.faults disk.new) }
@@ -154,8 +154,7 @@ fn opened_at<D: Disk>(disk: &mut D, end: u64) -> Result<Log, LogFault>
     requires end { IfSome (D.content disk.old) (λ bytes. end ≡ length bytes) }
     ensures opens { IfSome (D.content disk.old) (λ bytes. Opens bytes result) }
     ensures sound { IfOk result (λ log. log.sound ≡ true) }
-    ensures reads { OnlyReads D.content D.images D.moment D.images_since D.faults D.room
-        disk.old disk.new }
+    ensures reads { OnlyReads D.Disk disk.old disk.new }
     ensures possible { IfErr result IsOpenFault }
     ensures cause { IsErrOf result LogFault.DiskFault
         → Increased (D.faults disk.old) (D.faults disk.new) }
@@ -181,8 +180,7 @@ fn walk_gates<D: Disk>(disk: &mut D, buffer: &mut [u8], end: u64) -> Result<Log,
     requires marked { IfSome (D.content disk.old) (IsMarked end) }
     ensures opens { IfSome (D.content disk.old) (λ bytes. Opens bytes result) }
     ensures sound { IfOk result (λ log. log.sound ≡ true) }
-    ensures reads { OnlyReads D.content D.images D.moment D.images_since D.faults D.room
-        disk.old disk.new }
+    ensures reads { OnlyReads D.Disk disk.old disk.new }
     ensures possible { IfErr result IsOpenFault }
     ensures cause { IsErrOf result LogFault.DiskFault
         → Increased (D.faults disk.old) (D.faults disk.new) }
@@ -239,7 +237,7 @@ impl Log {
             → IfSome (D.content disk.new) (HoldsOneMore held payload.now) }
         ensures moments { (held : List (List ℕ))
             → Stands (D.content disk.old) (D.images disk.old) self.old held
-            → LeavesOnly D.moment D.images_since disk.old disk.new
+            → LeavesOnly D.Disk disk.old disk.new
             (AppendLeaves held payload.now result) }
 
         ensures log { self.new ≡ after_append self.old (length payload.now) result }
@@ -273,7 +271,7 @@ impl Log {
             (Steps (IsAppended payload.now) (D.content disk.old) (D.content disk.new)) }
 
         // A crash at any moment of the call leaves the payloads from before it, with the new one or without.
-        ensures any_moment { LeavesOnly D.moment D.images_since disk.old disk.new
+        ensures any_moment { LeavesOnly D.Disk disk.old disk.new
             (λ c. IfSome (D.content disk.old) (λ bytes. IsBeforeOrAfter payload.now bytes c)) }
         ensures now { (c : List ℕ) → D.images disk.new c
             → IfSome (D.content disk.old) (λ bytes. IsBeforeOrAfter payload.now bytes c) }
@@ -319,8 +317,7 @@ impl Log {
         ensures all { IfOk result (λ all. IfSome (D.content disk.old) (HoldsPayloads all)) }
         ensures count { IfOk result (λ all. length all ≡ self.now.count) }
         ensures behind { IsBehind (D.content disk.new) (D.images disk.new) self.now }
-        ensures reads { OnlyReads D.content D.images D.moment D.images_since D.faults D.room
-            disk.old disk.new }
+        ensures reads { OnlyReads D.Disk disk.old disk.new }
 
         // These hold of the payloads that the log has, which are known if the disk's content is.
         ensures payloads { IfOk result (λ all. (held : List (List ℕ))
@@ -331,7 +328,7 @@ impl Log {
             → Stands (D.content disk.new) (D.images disk.new) self.now held }
         ensures moments { (held : List (List ℕ))
             → Stands (D.content disk.old) (D.images disk.old) self.now held
-            → LeavesOnly D.moment D.images_since disk.old disk.new (HoldsPayloads held) }
+            → LeavesOnly D.Disk disk.old disk.new (HoldsPayloads held) }
         ensures content { D.content disk.new ≡ D.content disk.old }
 
         ensures faults { D.faults disk.old ≤ D.faults disk.new }
@@ -354,8 +351,7 @@ impl Log {
         ensures all { IfOk result (λ all. IfSome (D.content disk.old) (HoldsPayloads all)) }
         ensures count { IfOk result (λ all. length all ≡ self.now.count) }
         ensures behind { IsBehind (D.content disk.new) (D.images disk.new) self.now }
-        ensures reads { OnlyReads D.content D.images D.moment D.images_since D.faults D.room
-            disk.old disk.new }
+        ensures reads { OnlyReads D.Disk disk.old disk.new }
         ensures possible { IfErr result IsPayloadsFault }
         ensures never_bad { IfSome (D.content disk.old) (λ _. NoBadRecord result) }
         ensures numbers { (number : ℕ) → IsErrOf result (LogFault.BadRecord number)

@@ -19,7 +19,7 @@ use Rattle.view_hub.proofs.HubSteps.{starts}
 use Rattle.hub_run.specs.Answers.{HubAnswerTree}
 use Rattle.hub_run.specs.EditJson.{edit_of_line}
 use Rattle.hub_run.specs.FormLenses.{form_lens, lens_by}
-use Rattle.hub_run.specs.Lenses.{lenses_of}
+use Rattle.hub_run.specs.HubScript.{hub_script}
 use Rattle.hub_run.specs.Runs.{HubItem, take_item, HubState, answered, answer, hub_of, first_state, IsInStep}
 use Rattle.hub_run.proofs.FoundForms.{AllTyped, accepted_forms}
 use Rattle.hub_run.proofs.MappedLenses.{items_are, first_views}
@@ -113,7 +113,7 @@ forms_start forms all one =
 
 -- ---- all items
 
-pub accepted_in_step : EveryRunStaysInStep lenses_of first_state answer IsInStep
+pub accepted_in_step : EveryRunStaysInStep hub_script
 accepted_in_step part forms is lines =
     let a = accepted_forms part forms is in
     every_run answer (IsInStep forms) (state_stays forms a.0) (first_state forms) (refl, forms_start forms a.0 a.1) lines

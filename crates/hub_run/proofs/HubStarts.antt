@@ -13,6 +13,7 @@ use Rattle.view_hub.specs.Views.{HubOf, hub_tree}
 use Rattle.hub_run.specs.FormLenses.{form_lens}
 use Rattle.hub_run.specs.FoundLenses.{IsRefusalOf, IsRefused}
 use Rattle.hub_run.specs.HubHeads.{HasPieces}
+use Rattle.hub_run.specs.HubScript.{hub_script}
 use Rattle.hub_run.specs.Lenses.{HubRefusal, forms_of, lenses_of, refusal_line}
 use Rattle.hub_run.specs.RunStates.{forms_of_lenses, ready_lens, state_of}
 use Rattle.hub_run.specs.Runs.{hub_of, first_state}
@@ -58,13 +59,13 @@ started_hub (Err e) ls forms same is = tt
 -- ---- a program part that is opened
 
 pub opens : (part : List ℕ) (forms : List FormTree) (r : Result (HubOf ReadyForm) NotOpened) → lenses_of part ≡ Ok forms
-    → MatchResult r (λ h. state_of h ≡ first_state forms) (λ refused. refused ≡ opening.NoMemory) → Opens (lenses_of part) refusal_line first_state state_of r
+    → MatchResult r (λ h. state_of h ≡ first_state forms) (λ refused. refused ≡ opening.NoMemory) → Opens hub_script (lenses_of part) r
 opens part forms (Ok h) is first = record { program = forms; is = is; first = first }
 opens part forms (Err (opening.Refused line)) is none = absurd cc
 opens part forms (Err opening.NoMemory) is none = tt
 
 pub refused_with : (outcome : Result (List FormTree) HubRefusal) (refused : HubRefused) (line : List ℕ) → refused ≢ NoMemory
-    → ((refusal : HubRefusal) → IsRefusalOf refused refusal → line ≡ refusal_line refusal) → IsRefused outcome refused → IsRefusedWith outcome refusal_line first_state line
+    → ((refusal : HubRefusal) → IsRefusalOf refused refusal → line ≡ refusal_line refusal) → IsRefused outcome refused → IsRefusedWith hub_script outcome line
 refused_with outcome TooManyViews line not is h = record { refusal = h.0; is = h.1; is_line = is h.0 h.2 }
 refused_with outcome (InView v refused) line not is h = record { refusal = h.0; is = h.1; is_line = is h.0 h.2 }
 refused_with outcome (ViewsDiffer v) line not is h = record { refusal = h.0; is = h.1; is_line = is h.0 h.2 }

@@ -7,7 +7,6 @@ pub mod FoundViews
 pub mod FrontPieces
 pub mod HeldPieces
 pub mod HubAnswers
-pub mod HubHeads
 pub mod HubLines
 pub mod HubStarts
 pub mod MappedLenses

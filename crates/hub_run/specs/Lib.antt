@@ -5,6 +5,7 @@ pub mod FormLenses
 pub mod FoundLenses
 pub mod HeldPieces
 pub mod HubHeads
+pub mod HubScript
 pub mod Lenses
 pub mod Pieces
 pub mod RunStates

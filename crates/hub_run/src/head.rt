@@ -37,7 +37,7 @@ pub fn read_hub_head<S: Source>(
 ) -> Result<HubHead, TakeFault>
     requires some { 0 < length piece.old }
     requires few { length piece.old ≤ PIECE_BYTES }
-    ensures head { MatchResult result (ReadsHead (S.left source.old) (S.left source.new)) (StopsHead (S.left source.old) (S.left source.new)) }
+    ensures head { MatchResult result (ReadsHead S.Source source.old source.new) (StopsHead S.Source source.old source.new) }
     ensures faults { S.faults source.old ≤ S.faults source.new }
     ensures cause { IsErrOf result TakeFault.SourceFault → Increased (S.faults source.old) (S.faults source.new) }
 {

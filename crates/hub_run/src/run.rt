@@ -8,7 +8,8 @@ ghost use Rattle.view_hub.specs.Views.{hub_tree};
 ghost use Rattle.hub_run.specs.FormLenses.{form_lens};
 ghost use Rattle.hub_run.specs.FoundLenses.{IsRefused, HasRefusalLine};
 ghost use Rattle.hub_run.specs.HubHeads.{HasPieces};
-ghost use Rattle.hub_run.specs.Lenses.{lenses_of, refusal_line};
+ghost use Rattle.hub_run.specs.HubScript.{hub_script};
+ghost use Rattle.hub_run.specs.Lenses.{lenses_of};
 ghost use Rattle.hub_run.specs.RunStates.{state_of, forms_of_lenses};
 ghost use Rattle.hub_run.specs.Runs.{answer, first_state, hub_of};
 
@@ -125,7 +126,7 @@ impl HubRun {
     /// `NoMemory` comes only if memory ran out, and says nothing of the program part.
     pub fn open(alloc: Global, pieces: &Pieces) -> Result<HubRun, NotOpened>
         ensures opens { (part : List ℕ) → HasPieces pieces.now part
-            → Opens (lenses_of part) refusal_line first_state state_of result }
+            → Opens hub_script (lenses_of part) result }
     {
         match pieces.lenses(alloc) {
             Ok(typed) => started(alloc, typed),
@@ -150,7 +151,7 @@ fn started(alloc: Global, typed: Vec<Typed>) -> Result<HubRun, NotOpened>
 fn not_opened(alloc: Global, refused: &HubRefused) -> NotOpened
     requires has_line { HasRefusalLine refused.now }
     ensures { (part : List ℕ) → IsRefused (lenses_of part) refused.now
-        → IsNotOpened (lenses_of part) refusal_line first_state result }
+        → IsNotOpened hub_script (lenses_of part) result }
 {
     match refusal_line(alloc, refused) {
         Ok(line) => NotOpened::Refused(line),

@@ -1,12 +1,10 @@
 //! The call over the script of a hub.
 
 ghost use Rattle.std.specs.Prelude.{◌≡◌, ◌≤◌, IfSome, length};
-ghost use Rattle.lens_io.specs.Causes.{Increased, SinkFailed};
+ghost use Rattle.lens_io.specs.Calls.{SourceFailed, SinkFailed};
 ghost use Rattle.journal_input.specs.declared.limits.TheConstants.{MOST_BYTES};
-ghost use Rattle.script_run.specs.Ending.{Ended};
-ghost use Rattle.script_run.specs.Ends.{IsComplete, IsFinished, Reports, Stops};
-ghost use Rattle.hub_run.specs.Lenses.{lenses_of, refusal_line};
-ghost use Rattle.hub_run.specs.Runs.{IsInStep, answer, first_state, state_text};
+ghost use Rattle.script_run.specs.Ends.{Ended, IsComplete, IsFinished, Reports, Stops};
+ghost use Rattle.hub_run.specs.HubScript.{hub_script};
 
 use crate::head::{HubHead, read_hub_head};
 use crate::run::HubRun;
@@ -17,45 +15,46 @@ use std::alloc::Global;
 
 /// Runs the script of a hub, with its input and its output.
 ///
-/// The source is read in pieces, to its end unless something stops the call before it, and the report of what was read is
-/// written to the sink as it comes. docs/FORMATS.md says what a script is, and docs/MEANING.md what a report says. The status
-/// says how the call ended, and the clauses say what holds then:
+/// The source is read in pieces, to its end unless something stops the call before it, and the report of what was read
+/// is written to the sink as it comes. docs/FORMATS.md says what a script is, and docs/MEANING.md what a report says.
+/// The status says how the call ended, and the clauses say what holds then:
 ///
-/// - `reports`: after `Done` and `SomeRefused` the source was read to its end, the answers to the lines of the journal and the
-///   state lines were written, and in every hub of the run each view is in its lens's consistency relation with the hub.
+/// - `reports`: after `Done` and `SomeRefused` the source was read to its end, the answers to the lines of the journal
+///   and the state lines were written, and in every hub of the run each view is in its lens's consistency relation with
+///   the hub.
 /// - `stops_are_clean`: what was taken from the source, at most 2^30 + 1 bytes, and written to the sink for every other
-///   status. After `SourceFault` and `InputTooLong` these are the answers to exactly the lines of the journal that have ended.
-///   After `SinkFault` and `NoMemory` at most one piece is unanswered. `ProgramRefused` comes only if the program part is
-///   refused, with the piece that ends the separator or at the end of the source.
+///   status. After `SourceFault` and `InputTooLong` these are the answers to exactly the lines of the journal that have
+///   ended. After `SinkFault` and `NoMemory` all lines that had ended when the source was called last are answered.
+///   `ProgramRefused` comes only if the program part is refused, when the source has given the end of the separator, or
+///   is at its end.
 /// - `source_fault`, `sink_fault`: these statuses come only if the source, or the sink, failed.
-/// - `complete`: if neither device failed, the call comes to its end, or the program part is refused, or memory ran out.
+/// - `complete`: if neither device failed, the call comes to its end, or the program part is refused, or memory ran
+///   out.
 ///
 /// `NoMemory` comes only if memory ran out, which no clause can say.
 pub fn run_hub<S: Source, K: Sink>(alloc: Global, source: &mut S, sink: &mut K) -> ScriptStatus
     ensures reports { IsFinished result
-        → Reports lenses_of refusal_line first_state answer state_text IsInStep
-        (S.left source.old) (S.left source.new) (K.held sink.old) (K.held sink.new) result }
-    ensures stops_are_clean { Stops lenses_of refusal_line first_state answer state_text IsInStep
-        (S.left source.old) (S.left source.new) (K.held sink.old) (K.held sink.new) result }
+        → Reports hub_script S.Source K.Sink (source.old, sink.old) (source.new, sink.new) result }
+    ensures stops_are_clean { Stops hub_script S.Source K.Sink
+        (source.old, sink.old) (source.new, sink.new) result }
     ensures source_fault { result ≡ ScriptStatus.SourceFault
-        → Increased (S.faults source.old) (S.faults source.new) }
+        → SourceFailed S.Source source.old source.new }
     ensures sink_fault { result ≡ ScriptStatus.SinkFault
-        → SinkFailed K.faults K.empty_takes K.room K.held sink.old sink.new }
+        → SinkFailed K.Sink sink.old sink.new }
     ensures complete { IfSome (S.left source.old) (λ bytes. length bytes ≤ MOST_BYTES
-        → (Increased (S.faults source.old) (S.faults source.new) → ⊥)
-        → (SinkFailed K.faults K.empty_takes K.room K.held sink.old sink.new → ⊥)
-        → IsComplete lenses_of bytes result) }
+        → (SourceFailed S.Source source.old source.new → ⊥)
+        → (SinkFailed K.Sink sink.old sink.new → ⊥)
+        → IsComplete hub_script bytes result) }
 {
     run_script(alloc, source, sink)
 }
 
 fn run_script<S: Source, K: Sink>(alloc: Global, source: &mut S, sink: &mut K) -> ScriptStatus
-    ensures ended { Ended lenses_of refusal_line first_state answer state_text IsInStep
-        (S.left source.old) (S.left source.new) (K.held sink.old) (K.held sink.new) result }
+    ensures ended { Ended hub_script S.Source K.Sink (source.old, sink.old) (source.new, sink.new) result }
     ensures source_fault { result ≡ ScriptStatus.SourceFault
-        → Increased (S.faults source.old) (S.faults source.new) }
+        → SourceFailed S.Source source.old source.new }
     ensures sink_fault { result ≡ ScriptStatus.SinkFault
-        → SinkFailed K.faults K.empty_takes K.room K.held sink.old sink.new }
+        → SinkFailed K.Sink sink.old sink.new }
 {
     let Ok(mut piece) = piece_buffer(alloc) else {
         return ScriptStatus::NoMemory;

@@ -1,5 +1,4 @@
 pub mod ActingCounts
 pub mod AnswersHaveLines
 pub mod InStep
-pub mod RunReports
 pub mod StepCounts

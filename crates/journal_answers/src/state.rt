@@ -1,5 +1,5 @@
 //! The state of a session as lines, which end a run.
-ghost use Rattle.std.specs.Prelude.{◌≡◌, ◌++◌, IfOk};
+ghost use Rattle.std.specs.Prelude.{◌≡◌, IfOk};
 ghost use Rattle.lens_forms.specs.Forms.{form_tree};
 ghost use Rattle.edit_session.specs.Views.{triple_tree};
 ghost use Rattle.journal_answers.specs.Answers.{state_lines};
@@ -10,27 +10,6 @@ use edit_session::Session;
 use lens_core::EditLens;
 use lens_types::Typed;
 use std::alloc::{AllocError, Global};
-
-/// The end of what a run writes: the answers that are not written yet, and the state lines of its session.
-///
-/// The session's lens is that of the form. The only error is running out of memory.
-pub fn last_text<L: EditLens>(
-    alloc: Global,
-    typed: &Typed,
-    session: &Session<L>,
-    answers: Vec<u8>,
-) -> Result<Vec<u8>, AllocError>
-    requires of_form { IsLensOf (L.left_type session.now.lens) (L.right_type session.now.lens)
-        (L.start session.now.lens) (L.holds session.now.lens) (L.carried session.now.lens)
-        (form_tree typed.now) }
-    ensures text { IfOk result (λ text. text.items
-        ≡ answers.items ++ state_lines (form_tree typed.now) (triple_tree session.now.triple)) }
-{
-    let state = state_lines(alloc, typed, session)?;
-    let mut text = answers;
-    text.extend_from_slice(&state)?;
-    Ok(text)
-}
 
 /// The state lines of a session: the left document, the right document and the complement.
 ///

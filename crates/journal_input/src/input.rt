@@ -1,8 +1,9 @@
 //! An input that is read in pieces, and handed on line by line.
 ghost use Rattle.std.specs.Prelude.{◌≡◌, ◌+◌, ◌<◌, ◌≤◌, [], length, IfOk, OnErr, IsErrOf};
 ghost use Rattle.lens_io.specs.Causes.{Increased};
+ghost use Rattle.lens_io.specs.Takes.{count_of};
 ghost use Rattle.edit_journal.specs.Pieces.{nothing_fed, take_first, last_line};
-ghost use Rattle.journal_input.specs.Taking.{TakenInput, TakesBytes, TakesMore, SkipsMore};
+ghost use Rattle.journal_input.specs.Taking.{CallsOnce, GaveFew, TakenInput, TakesBytes, TakesMore, SkipsMore};
 
 use crate::limits::{MOST_BYTES, PIECE_BYTES};
 use edit_journal::{Line, Lines};
@@ -62,7 +63,9 @@ impl Input {
         piece: &mut [u8],
     ) -> Result<bool, TakeFault>
         requires some { 0 < length piece.old }
-        ensures takes { TakesMore (S.left source.old) (S.left source.new) self.old self.new (length piece.old) result }
+        ensures takes { TakesMore S.Source source.old source.new self.old self.new result }
+        ensures few { GaveFew S.Source source.old source.new (length piece.old) }
+        ensures one_piece { self.new.taken ≤ self.old.taken + length piece.old }
         ensures faults { S.faults source.old ≤ S.faults source.new }
         ensures cause { IsErrOf result TakeFault.SourceFault → Increased (S.faults source.old) (S.faults source.new) }
     {
@@ -111,6 +114,8 @@ fn take_bytes<S: Source>(source: &mut S, piece: &mut [u8], taken: usize) -> Resu
     requires within { taken ≤ MOST_BYTES + 1 }
     requires some { 0 < length piece.old }
     ensures bytes { TakesBytes (S.left source.old) (S.left source.new) piece.new taken result }
+    ensures once { CallsOnce S.Source source.old source.new (count_of result) result }
+    ensures few { GaveFew S.Source source.old source.new (length piece.old) }
     ensures faults { S.faults source.old ≤ S.faults source.new }
     ensures cause { IsErrOf result TakeFault.SourceFault → Increased (S.faults source.old) (S.faults source.new) }
 {

@@ -1,5 +1,5 @@
 -- A call over devices: what they told before it and after it. Each device is given by the record of its ghost members.
-use Rattle.std.specs.Prelude.{ℕ, List}
+use Rattle.std.specs.Prelude.{◌≡◌, ℕ, ◌-◌, List, length, take}
 use Rattle.std.specs.Io.KnownBytes.{Consumes, Appends, IsAtEnd}
 use Rattle.lens_io.specs.Causes as causes
 use Rattle.lens_io.specs.Causes.{Increased}
@@ -16,6 +16,14 @@ module _ {S : Type 0} (source : OfSource.Ghosts S) (old new : S) where
   -- the source is at its end
   abbrev pub IsRead : Type 0
   IsRead = IsAtEnd (source.left new)
+
+  -- of these bytes, which were taken, those that were taken before the last call
+  abbrev pub before_last : List ℕ → List ℕ
+  before_last bytes = take (length bytes - source.last new) bytes
+
+  -- the source was not called
+  abbrev pub IsUnasked : Type 0
+  IsUnasked = new ≡ old
 
   abbrev pub SourceFailed : Type 0
   SourceFailed = Increased (source.faults old) (source.faults new)

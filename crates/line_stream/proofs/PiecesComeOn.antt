@@ -1,9 +1,11 @@
 -- An input as it comes, piece by piece: how far a run has come.
 use Rattle.std.proofs.Common.{◌≡◌, ◌≤◌, ◌+◌, inl, inr, ℕ, List, [], ◌++◌, length, Bool, false, Option, Some, Ok, Err, refl, sym, ap, subst, ◌∙◌, append_assoc, append-nil, length-append, arith}
-use Rattle.std.specs.Io.KnownBytes.{Appends, Consumes}
+use Rattle.std.specs.Io.KnownBytes.{Appends}
 use Rattle.std.proofs.KnownBytes.{Appends-nil, Appends-trans, Consumes-nil, Consumes-trans}
+use Rattle.lens_io.specs.Calls.{Took}
 use Rattle.lens_io.specs.declared.failed.TakeFault.{TakeFault}
 use Rattle.lens_io.specs.declared.failed.TakeFault.TheVariants as taking
+use Rattle.lens_io.specs.declared.source.Source as OfSource
 use Rattle.edit_journal.specs.Pieces.{FedLines, fed}
 use Rattle.edit_journal.specs.declared.line.Line.{Line}
 use Rattle.line_stream.specs.declared.state.Answer.{Answer}
@@ -11,9 +13,10 @@ use Rattle.edit_journal.proofs.Feeding.{lines_at, joins, in_front}
 use Rattle.line_stream.specs.Runs.{Come, come, written, written_after}
 use Rattle.line_stream.specs.declared.progress.Progress.{Progress}
 use Rattle.line_stream.proofs.RunSteps.{at_start, at_end}
-use Rattle.journal_input.specs.Taking.{TakenInput, TakesMore, TakesNone, StopsAt}
+use Rattle.journal_input.specs.Taking as input_taking
+use Rattle.journal_input.specs.Taking.{GaveFew, TakenInput, TakesMore, TakesNone, StopsAt}
 use Rattle.journal_input.specs.declared.limits.TheConstants.{MOST_BYTES}
-use Rattle.line_stream.specs.Answered.{AnswersLines, StopsLines, StopsPiece, AnswersPiece, WritesStopped, AreAnswered, AnswersFirst, StopsRun, AnswersPieces, ComesOn}
+use Rattle.line_stream.specs.Answered.{AnswersLines, StopsLines, StopsPiece, CallsOnce, AnswersPiece, WritesStopped, AreAnswered, AnswersFirst, CutsShort, StopsRun, AnswersPieces, ComesOn}
 use Rattle.line_stream.specs.Stopping.{stop_of}
 use Rattle.line_stream.specs.declared.stopped.Stopped.{Stopped}
 use Rattle.line_stream.specs.declared.stopped.Stopped.TheVariants.{SourceFault, TooLong, SinkFault, NoMemory}
@@ -23,35 +26,46 @@ use Rattle.line_stream.proofs.Prefixes.{stopped_behind}
 abbrev make : ℕ → Bool → List ℕ → Come
 make n r x = record { number = n; refused = r; text = x }
 
+-- the last call gave few, or there was none and the one before it did
+pub few_more : {S : Type 0} (source : OfSource.Ghosts S) (s s' s'' : S) (room room' : ℕ) → room' ≡ room → GaveFew source s s' room → GaveFew source s' s'' room → GaveFew source s s'' room'
+few_more source s s' s'' room room' e before (inr few) = inr (omega (arith, few, e))
+few_more source s s' s'' room room' e (inl same) (inl now) = inl (now ∙ same)
+few_more source s s' s'' room room' e (inr few) (inl now) = inr (subst (λ x. source.last x ≤ room') (sym now) (omega (arith, few, e)))
+
 -- a fault at a piece: nothing was taken, or the bytes are lost since memory ran out
-pub piece_fault : {T : Type 0} (answer : T → ℕ → Line → Option (T × Answer)) (input next : TakenInput) (room : ℕ) (source source' held : Option (List ℕ)) (t t' : T) (p p' : Progress)
-    (fault : TakeFault) → p.text.items ≡ [] → TakesMore source source' input next room (Err fault) → AnswersPiece answer input next room source source' held held t t' p p' (Err (stop_of fault))
-piece_fault answer input next room source source' held t t' p p' fault written m = record {
+pub piece_fault : {S T : Type 0} (source : OfSource.Ghosts S) (s s' : S) (answer : T → ℕ → Line → Option (T × Answer)) (input next : TakenInput) (held : Option (List ℕ)) (t t' : T) (p p' : Progress)
+    (fault : TakeFault) → p.text.items ≡ [] → TakesMore source s s' input next (Err fault) → AnswersPiece answer source s s' input next held held t t' p p' (Err (stop_of fault))
+piece_fault source s s' answer input next held t t' p p' fault written m = record {
   bytes = m.bytes;
   consumes = m.consumes;
-  few = m.few;
+  once = same_call fault m.once;
   taken = m.taken;
   at_most = omega (arith, m.at_most);
   ends = by_fault fault m.stays.none m.stays.stops;
 } where
+  same_call : (fault : TakeFault) → input_taking.CallsOnce {T = Bool} source s s' (length m.bytes) (Err fault) → CallsOnce source s s' (length m.bytes) (Err (stop_of fault))
+  same_call taking.SourceFault h = h
+  same_call taking.TooLong h = h
+  same_call taking.NoMemory h = h
+
   by_fault : (fault : TakeFault) → TakesNone m.bytes fault → StopsAt next.taken fault → StopsPiece answer input next m.bytes held held t p (stop_of fault)
   by_fault taking.SourceFault e n = (e, Appends-nil held, omega (arith, n))
   by_fault taking.TooLong e n = (e, Appends-nil held, omega (arith, n))
   by_fault taking.NoMemory e n = stops_given answer t p (fed input.lines m.bytes).ended held held NoMemory (subst (Appends held held) (sym written) (Appends-nil held))
 
-module _ {T : Type 0} (answer : T → ℕ → Line → Option (T × Answer)) (start : T) where
+module _ {S T : Type 0} (source : OfSource.Ghosts S) (answer : T → ℕ → Line → Option (T × Answer)) (start : T) where
   -- ---- before the first piece
 
-  module _ (before : TakenInput) (source held held' : Option (List ℕ)) (p : Progress) (number : p.number ≡ 0) (refused : p.refused ≡ false) (text : p.text.items ≡ []) where
+  module _ (before : TakenInput) (s : S) (held held' : Option (List ℕ)) (p : Progress) (number : p.number ≡ 0) (refused : p.refused ≡ false) (text : p.text.items ≡ []) where
     from_start : (lines : List Line) → written answer start lines ≡ written_after answer start (come [] p) lines
     from_start lines = sym (at_start answer start (come [] p) lines number refused text)
 
     -- the lines that had ended before are answered
     pub comes_on_first : (input : TakenInput) (t : T) (p' : Progress) → AnswersLines answer start p before.lines.ended held held' t p'
-        → input.lines ≡ lines_at [] before.lines.begun → input.taken ≡ before.taken → p'.text.items ≡ [] → ComesOn answer start before input source source held held' t p'
+        → input.lines ≡ lines_at [] before.lines.begun → input.taken ≡ before.taken → p'.text.items ≡ [] → ComesOn answer start before input (source.left s) (source.left s) held held' t p'
     comes_on_first input t p' a lines taken written = record {
       more = [];
-      consumes = Consumes-nil source;
+      consumes = Consumes-nil (source.left s);
       count = omega (arith, taken);
       given = a.text;
       appends = a.appends;
@@ -61,35 +75,35 @@ module _ {T : Type 0} (answer : T → ℕ → Line → Option (T × Answer)) (st
     }
 
     -- the run stopped at them
-    pub stops_first : (input : TakenInput) (room : ℕ) (t : T) (stopped : Stopped) → before.taken ≤ MOST_BYTES + 1 → StopsLines answer start p before.lines.ended held held' stopped
-        → AnswersPieces answer start before input room source source held held' t (Err stopped)
-    stops_first input room t stopped few s =
-        let part = stopped_behind stopped (before.taken + 0) s.rest held held held' [] s.text (Appends-nil held) s.writes in
+    pub stops_first : (input : TakenInput) (t : T) (stopped : Stopped) → before.taken ≤ MOST_BYTES + 1 → StopsLines answer start p before.lines.ended held held' stopped
+        → AnswersPieces answer start source s s before input held held' t (Err stopped)
+    stops_first input t stopped few stop =
+        let part = stopped_behind stopped (before.taken + 0) stop.rest held held held' [] stop.text (Appends-nil held) stop.writes in
         record {
           more = [];
-          consumes = Consumes-nil source;
+          consumes = Consumes-nil (source.left s);
           at_most = omega (arith, few);
           has_ended = record {
-            lines = s.lines;
-            rest = s.rest;
-            ended = s.parts;
-            text = s.text;
+            lines = stop.lines;
+            rest = stop.rest;
+            ended = stop.parts;
+            text = stop.text;
             answered = record {
-              refused = s.refused;
-              state = s.state;
-              is = ap (λ l. written answer start l) (sym (append-nil s.lines))
-                  ∙ from_start (s.lines ++ []) ∙ s.goes [] [] ∙ at_end answer s.state (make s.number s.refused s.text);
+              refused = stop.refused;
+              state = stop.state;
+              is = ap (λ l. written answer start l) (sym (append-nil stop.lines))
+                  ∙ from_start (stop.lines ++ []) ∙ stop.goes [] [] ∙ at_end answer stop.state (make stop.number stop.refused stop.text);
             };
             count = part.0;
             writes = part.2;
-            answers_first = inl refl;
+            answers_first = λ _. inl (refl, refl);
           };
         }
 
   -- ---- one more piece
 
-  module _ (before input next : TakenInput) (room : ℕ) (source mid_source source' held mid held' : Option (List ℕ)) (t t' : T) (p p' : Progress)
-      (c : ComesOn answer start before input source mid_source held mid t p) where
+  module _ (before input next : TakenInput) (s mid_s s' : S) (held mid held' : Option (List ℕ)) (t t' : T) (p p' : Progress)
+      (c : ComesOn answer start before input (source.left s) (source.left mid_s) held mid t p) where
     -- the lines that have ended so far
     abbrev ended : List Line
     ended = (fed before.lines c.more).ended
@@ -102,8 +116,8 @@ module _ {T : Type 0} (answer : T → ℕ → Line → Option (T × Answer)) (st
         ∙ in_front ended [] (fed before.lines c.more).begun bytes
         ∙ ap (λ l. lines_at (ended ++ (fed l bytes).ended) (fed l bytes).begun) (sym c.lines)
 
-    all_consumed : (bytes : List ℕ) → Consumes mid_source source' bytes → Consumes source source' (c.more ++ bytes)
-    all_consumed bytes h = Consumes-trans source mid_source source' c.more bytes c.consumes h
+    all_consumed : (bytes : List ℕ) → Took source mid_s s' bytes → Took source s s' (c.more ++ bytes)
+    all_consumed bytes h = Consumes-trans (source.left s) (source.left mid_s) (source.left s') c.more bytes c.consumes h
 
     all_answered : AreAnswered answer start ended c.given
     all_answered = record {
@@ -114,7 +128,7 @@ module _ {T : Type 0} (answer : T → ℕ → Line → Option (T × Answer)) (st
           ∙ ap (λ x. Some (x, p.refused, t)) (ap (λ x. c.given ++ x) c.written ∙ append-nil c.given);
     }
 
-    pub comes_on_piece : (more : Bool) → AnswersPiece answer input next room mid_source source' mid held' t t' p p' (Ok more) → ComesOn answer start before next source source' held held' t' p'
+    pub comes_on_piece : (more : Bool) → AnswersPiece answer source mid_s s' input next mid held' t t' p p' (Ok more) → ComesOn answer start before next (source.left s) (source.left s') held held' t' p'
     comes_on_piece more a =
         let e = a.ends in
         let new = (fed input.lines a.bytes).ended in
@@ -133,8 +147,8 @@ module _ {T : Type 0} (answer : T → ℕ → Line → Option (T × Answer)) (st
         }
 
     -- the end of the source
-    pub run_ends : AnswersPiece answer input next room mid_source source' mid held' t t' p p' (Ok false) → (any_room : ℕ) → AnswersPieces answer start before next any_room source source' held held' t' (Ok p')
-    run_ends a any_room =
+    pub run_ends : AnswersPiece answer source mid_s s' input next mid held' t t' p p' (Ok false) → AnswersPieces answer start source s s' before next held held' t' (Ok p')
+    run_ends a =
         let now = comes_on_piece false a in
         let end = a.ends.at_end refl in
         let within : before.taken + length now.more ≤ MOST_BYTES = omega (arith, end.2, c.count, length-append c.more a.bytes, ap length end.0) in
@@ -144,6 +158,7 @@ module _ {T : Type 0} (answer : T → ℕ → Line → Option (T × Answer)) (st
           at_most = omega (arith, within);
           has_ended = record {
             at_end = end.1;
+            gave_nothing = a.once ∙ ap length end.0;
             within = within;
             given = now.given;
             appends = now.appends;
@@ -155,19 +170,19 @@ module _ {T : Type 0} (answer : T → ℕ → Line → Option (T × Answer)) (st
         }
 
     -- a stop at the piece
-    pub run_stops : (stopped : Stopped) (any_state : T) → AnswersPiece answer input next room mid_source source' mid held' t t' p p' (Err stopped)
-        → AnswersPieces answer start before next room source source' held held' any_state (Err stopped)
+    pub run_stops : (stopped : Stopped) (any_state : T) → AnswersPiece answer source mid_s s' input next mid held' t t' p p' (Err stopped)
+        → AnswersPieces answer start source s s' before next held held' any_state (Err stopped)
     run_stops stopped any_state a = record {
       more = c.more ++ a.bytes;
       consumes = all_consumed a.bytes a.consumes;
       at_most = omega (arith, taken, a.at_most);
-      has_ended = by_stop stopped a.ends;
+      has_ended = by_stop stopped a.once a.ends;
     } where
       taken : next.taken ≡ before.taken + length (c.more ++ a.bytes)
       taken = omega (arith, a.taken, c.count, length-append c.more a.bytes)
 
-      first : (count : ℕ) → length c.given ≤ count → AnswersFirst answer start before room (c.more ++ a.bytes) count
-      first count h = inr (record { earlier = c.more; piece = a.bytes; pieces = refl; few = a.few; text = c.given; answered = all_answered; written = h })
+      first : (count : ℕ) → source.last s' ≡ length a.bytes → length c.given ≤ count → AnswersFirst answer start source s s' before (c.more ++ a.bytes) count
+      first count once h = inr (record { earlier = c.more; piece = a.bytes; pieces = refl; by_last = once; text = c.given; answered = all_answered; written = h })
 
       nothing_written : Appends mid held' [] → Appends held held' c.given
       nothing_written h = subst (Appends held held') (append-nil c.given) (Appends-trans held mid held' c.given [] c.appends h)
@@ -179,9 +194,9 @@ module _ {T : Type 0} (answer : T → ℕ → Line → Option (T × Answer)) (st
           ∙ ap (λ (l : FedLines). ended ++ l.ended) c.lines
 
       -- nothing was taken
-      at_fault : (s : Stopped) → a.bytes ≡ [] → Appends mid held' [] → WritesStopped (before.taken + length (c.more ++ a.bytes)) [] c.given (length c.given) held held' s
-          → StopsRun answer start before room (c.more ++ a.bytes) held held' s
-      at_fault s e h writes = record {
+      at_fault : (stop : Stopped) → (CutsShort stop → ⊥) → a.bytes ≡ [] → Appends mid held' [] → WritesStopped (before.taken + length (c.more ++ a.bytes)) [] c.given (length c.given) held held' stop
+          → StopsRun answer start source s s' before (c.more ++ a.bytes) held held' stop
+      at_fault stop whole e h writes = record {
         lines = ended;
         rest = [];
         ended = no_lines e;
@@ -189,31 +204,32 @@ module _ {T : Type 0} (answer : T → ℕ → Line → Option (T × Answer)) (st
         answered = all_answered;
         count = length c.given;
         writes = writes;
-        answers_first = first (length c.given) (omega arith);
+        answers_first = λ short. absurd (whole short);
       }
 
-      at_lines : (stop : Stopped) → StopsLines answer t p (fed input.lines a.bytes).ended mid held' stop
-          → StopsRun answer start before room (c.more ++ a.bytes) held held' stop
-      at_lines stop s =
-          let part = stopped_behind stop (before.taken + length (c.more ++ a.bytes)) s.rest held mid held' c.given s.text c.appends s.writes in
+      at_lines : (stop : Stopped) → source.last s' ≡ length a.bytes → StopsLines answer t p (fed input.lines a.bytes).ended mid held' stop
+          → StopsRun answer start source s s' before (c.more ++ a.bytes) held held' stop
+      at_lines stop once l =
+          let part = stopped_behind stop (before.taken + length (c.more ++ a.bytes)) l.rest held mid held' c.given l.text c.appends l.writes in
           record {
-            lines = ended ++ s.lines;
-            rest = s.rest;
-            ended = ap (λ (l : FedLines). l.ended) (fed_more a.bytes) ∙ ap (λ l. ended ++ l) s.parts ∙ sym (append_assoc ended s.lines s.rest);
-            text = c.given ++ s.text;
+            lines = ended ++ l.lines;
+            rest = l.rest;
+            ended = ap (λ (f : FedLines). f.ended) (fed_more a.bytes) ∙ ap (λ k. ended ++ k) l.parts ∙ sym (append_assoc ended l.lines l.rest);
+            text = c.given ++ l.text;
             answered = record {
-              refused = s.refused;
-              state = s.state;
-              is = ap (λ l. written answer start l) (ap (λ l. ended ++ l) (sym (append-nil s.lines)))
-                  ∙ c.comes (s.lines ++ []) ∙ s.goes c.given [] ∙ at_end answer s.state (make s.number s.refused (c.given ++ s.text));
+              refused = l.refused;
+              state = l.state;
+              is = ap (λ k. written answer start k) (ap (λ k. ended ++ k) (sym (append-nil l.lines)))
+                  ∙ c.comes (l.lines ++ []) ∙ l.goes c.given [] ∙ at_end answer l.state (make l.number l.refused (c.given ++ l.text));
             };
             count = part.0;
             writes = part.2;
-            answers_first = first part.0 part.1;
+            answers_first = λ _. first part.0 once part.1;
           }
 
-      by_stop : (s : Stopped) → StopsPiece answer input next a.bytes mid held' t p s → StopsRun answer start before room (c.more ++ a.bytes) held held' s
-      by_stop SourceFault x = at_fault SourceFault x.0 x.1 (refl, refl, nothing_written x.1, omega (arith, taken, x.2))
-      by_stop TooLong x = at_fault TooLong x.0 x.1 (refl, refl, nothing_written x.1, omega (arith, taken, x.2))
-      by_stop SinkFault x = at_lines SinkFault x
-      by_stop NoMemory x = at_lines NoMemory x
+      by_stop : (stop : Stopped) → CallsOnce source mid_s s' (length a.bytes) (Err stop) → StopsPiece answer input next a.bytes mid held' t p stop
+          → StopsRun answer start source s s' before (c.more ++ a.bytes) held held' stop
+      by_stop SourceFault once x = at_fault SourceFault (λ short. short) x.0 x.1 (refl, refl, nothing_written x.1, omega (arith, taken, x.2))
+      by_stop TooLong once x = at_fault TooLong (λ short. short) x.0 x.1 (refl, refl, nothing_written x.1, omega (arith, taken, x.2))
+      by_stop SinkFault once x = at_lines SinkFault once x
+      by_stop NoMemory once x = at_lines NoMemory once x

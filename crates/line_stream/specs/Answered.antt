@@ -3,7 +3,9 @@
 use Rattle.std.specs.Prelude.{◌≡◌, ◌⊎◌, ℕ, ◌+◌, ◌<◌, ◌≤◌, List, [], ◌++◌, length, take, Bool, true, false, Some, Result, Ok, Err}
 use Rattle.std.specs.declared.option.Option.{Option}
 use Rattle.std.specs.Io.KnownBytes.{Appends, Consumes, IsAtEnd}
+use Rattle.lens_io.specs.Calls.{Took, IsUnasked}
 use Rattle.lens_io.specs.Content.{AppendsFront}
+use Rattle.lens_io.specs.declared.source.Source as OfSource
 use Rattle.edit_journal.specs.Pieces.{fed}
 use Rattle.edit_journal.specs.declared.line.Line.{Line}
 use Rattle.line_stream.specs.declared.state.Answer.{Answer}
@@ -37,6 +39,17 @@ WritesStopped taken rest text count held held' SourceFault = (rest ≡ []) × (c
 WritesStopped taken rest text count held held' TooLong = (rest ≡ []) × (count ≡ length text) × Appends held held' text × (MOST_BYTES < taken)
 WritesStopped taken rest text count held held' SinkFault = (count < length text) × Appends held held' (take count text)
 WritesStopped taken rest text count held held' NoMemory = (count ≡ length text) × Appends held held' text
+
+-- The source is called once, and gives so many bytes. After too many bytes it is not called.
+abbrev pub CallsOnce : {S : Type 0} → OfSource.Ghosts S → S → S → ℕ → Result Bool Stopped → Type 0
+CallsOnce source s s' count (Err TooLong) = s' ≡ s
+CallsOnce source s s' count result = source.last s' ≡ count
+
+-- these leave lines that have ended unanswered
+abbrev pub CutsShort : Stopped → Type 0
+CutsShort SinkFault = Unit {0}
+CutsShort NoMemory = Unit {0}
+CutsShort stopped = ⊥
 
 -- A run of a state that answers lines so.
 module _ {T : Type 0} (answer : T → ℕ → Line → Option (T × Answer)) where
@@ -83,14 +96,14 @@ module _ {T : Type 0} (answer : T → ℕ → Line → Option (T × Answer)) whe
   PieceEnds input input' bytes source' held held' t t' p p' (Ok more) = PieceAnswered input input' bytes source' held held' t t' p p' more
   PieceEnds input input' bytes source' held held' t t' p p' (Err stopped) = StopsPiece input input' bytes held held' t p stopped
 
-  -- These bytes were taken, no more than fit in a piece, and what they have ended was answered.
-  pub record AnswersPiece (input input' : TakenInput) (room : ℕ) (source source' held held' : Option (List ℕ)) (t t' : T) (p p' : Progress) (result : Result Bool Stopped) : Type 0 where
+  -- These bytes were taken by one call of the source, and what they have ended was answered.
+  pub record AnswersPiece {S : Type 0} (source : OfSource.Ghosts S) (s s' : S) (input input' : TakenInput) (held held' : Option (List ℕ)) (t t' : T) (p p' : Progress) (result : Result Bool Stopped) : Type 0 where
     pub bytes : List ℕ
-    pub consumes : Consumes source source' bytes
-    pub few : length bytes ≤ room
+    pub consumes : Took source s s' bytes
+    pub once : CallsOnce source s s' (length bytes) result
     pub taken : input'.taken ≡ input.taken + length bytes
     pub at_most : input'.taken ≤ MOST_BYTES + 1
-    pub ends : PieceEnds input input' bytes source' held held' t t' p p' result
+    pub ends : PieceEnds input input' bytes (source.left s') held held' t t' p p' result
 
   -- ---- a run from a state on
 
@@ -106,24 +119,24 @@ module _ {T : Type 0} (answer : T → ℕ → Line → Option (T × Answer)) whe
     abbrev pub ComesTo : List Line → List ℕ → T → Progress → Type 0
     ComesTo lines given t p = (rest : List Line) → written answer start (lines ++ rest) ≡ written_after answer t (come given p) rest
 
-    -- The answers to all lines that had ended before the last piece were written, as the first of so many bytes: at most one piece is
-    -- unanswered.
-    pub record AnswersBefore (before : TakenInput) (room : ℕ) (more : List ℕ) (count : ℕ) : Type 0 where
+    -- When the source was called last, which gave so many bytes, all lines that had ended were answered, and their answers written, as
+    -- the first of so many bytes.
+    pub record AnswersBefore (before : TakenInput) (last : ℕ) (more : List ℕ) (count : ℕ) : Type 0 where
       pub earlier : List ℕ
       pub piece : List ℕ
       pub pieces : more ≡ earlier ++ piece
-      pub few : length piece ≤ room
+      pub by_last : last ≡ length piece
       pub text : List ℕ
       pub answered : AreAnswered (fed before.lines earlier).ended text
       pub written : length text ≤ count
 
-    -- nothing more was taken, or at most one piece is unanswered
-    abbrev pub AnswersFirst : TakenInput → ℕ → List ℕ → ℕ → Type 0
-    AnswersFirst before room more count = (more ≡ []) ⊎ AnswersBefore before room more count
+    -- the source was not called, and nothing was taken; or all lines that had ended before its last call are answered
+    abbrev pub AnswersFirst : {S : Type 0} → OfSource.Ghosts S → S → S → TakenInput → List ℕ → ℕ → Type 0
+    AnswersFirst source s s' before more count = IsUnasked source s s' × (more ≡ []) ⊎ AnswersBefore before (source.last s') more count
 
     -- A run that stopped after these bytes. Of the lines that have ended all but the rest are answered, and this many bytes of the
     -- answers were written.
-    pub record StopsRun (before : TakenInput) (room : ℕ) (more : List ℕ) (held held' : Option (List ℕ)) (stopped : Stopped) : Type 0 where
+    pub record StopsRun {S : Type 0} (source : OfSource.Ghosts S) (s s' : S) (before : TakenInput) (more : List ℕ) (held held' : Option (List ℕ)) (stopped : Stopped) : Type 0 where
       pub lines : List Line
       pub rest : List Line
       pub ended : (fed before.lines more).ended ≡ lines ++ rest
@@ -131,11 +144,12 @@ module _ {T : Type 0} (answer : T → ℕ → Line → Option (T × Answer)) whe
       pub answered : AreAnswered lines text
       pub count : ℕ
       pub writes : WritesStopped (before.taken + length more) rest text count held held' stopped
-      pub answers_first : AnswersFirst before room more count
+      pub answers_first : CutsShort stopped → AnswersFirst source s s' before more count
 
-    -- A run that came to the end of its input: the answers to all lines that have ended were written.
-    pub record EndsRun (before input : TakenInput) (more : List ℕ) (left' held held' : Option (List ℕ)) (t : T) (p : Progress) : Type 0 where
-      pub at_end : IsAtEnd left'
+    -- A run that came to the end of its input, where the source gave nothing more: the answers to all lines that have ended were written.
+    pub record EndsRun {S : Type 0} (source : OfSource.Ghosts S) (s' : S) (before input : TakenInput) (more : List ℕ) (held held' : Option (List ℕ)) (t : T) (p : Progress) : Type 0 where
+      pub at_end : IsAtEnd (source.left s')
+      pub gave_nothing : source.last s' ≡ 0
       pub within : before.taken + length more ≤ MOST_BYTES
       pub given : List ℕ
       pub appends : Appends held held' given
@@ -144,16 +158,16 @@ module _ {T : Type 0} (answer : T → ℕ → Line → Option (T × Answer)) whe
       pub begun : (fed before.lines more).begun ≡ input.lines.begun
       pub comes : ComesTo (fed before.lines more).ended given t p
 
-    abbrev pub HasEnded : TakenInput → TakenInput → ℕ → List ℕ → Option (List ℕ) → Option (List ℕ) → Option (List ℕ) → T → Result Progress Stopped → Type 0
-    HasEnded before input room more left' held held' t (Ok p) = EndsRun before input more left' held held' t p
-    HasEnded before input room more left' held held' t (Err stopped) = StopsRun before room more held held' stopped
+    abbrev pub HasEnded : {S : Type 0} → OfSource.Ghosts S → S → S → TakenInput → TakenInput → List ℕ → Option (List ℕ) → Option (List ℕ) → T → Result Progress Stopped → Type 0
+    HasEnded source s s' before input more held held' t (Ok p) = EndsRun source s' before input more held held' t p
+    HasEnded source s s' before input more held held' t (Err stopped) = StopsRun source s s' before more held held' stopped
 
     -- Answering the lines of an input took these bytes more.
-    pub record AnswersPieces (before input : TakenInput) (room : ℕ) (source source' held held' : Option (List ℕ)) (t : T) (result : Result Progress Stopped) : Type 0 where
+    pub record AnswersPieces {S : Type 0} (source : OfSource.Ghosts S) (s s' : S) (before input : TakenInput) (held held' : Option (List ℕ)) (t : T) (result : Result Progress Stopped) : Type 0 where
       pub more : List ℕ
-      pub consumes : Consumes source source' more
+      pub consumes : Took source s s' more
       pub at_most : before.taken + length more ≤ MOST_BYTES + 1
-      pub has_ended : HasEnded before input room more source' held held' t result
+      pub has_ended : HasEnded source s s' before input more held held' t result
 
     -- The run as it goes on: these bytes were taken, all lines that have ended are answered, and their answers are written.
     pub record ComesOn (before input : TakenInput) (left' left'' held held' : Option (List ℕ)) (t : T) (p : Progress) : Type 0 where

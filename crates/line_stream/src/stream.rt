@@ -1,8 +1,9 @@
 //! The loop that answers the lines of an input, piece by piece.
 ghost use Rattle.std.specs.Prelude.{◌≡◌, ◌+◌, ◌^◌, ◌<◌, ◌≤◌, ◌∷◌, [], length, IfOk, IfErr, IsErrOf, MatchResult, OnOk, OnErr};
-ghost use Rattle.lens_io.specs.Causes.{Increased, SinkFailed};
+ghost use Rattle.lens_io.specs.Calls.{SinkFailed};
+ghost use Rattle.lens_io.specs.Causes.{Increased};
 ghost use Rattle.lens_io.specs.Content.{AppendsFront};
-ghost use Rattle.journal_input.specs.Taking.{IsWithin};
+ghost use Rattle.journal_input.specs.Taking.{GaveFew, IsWithin};
 ghost use Rattle.journal_input.specs.declared.limits.TheConstants.{MOST_BYTES, MOST_KEPT};
 ghost use Rattle.line_stream.specs.Answered.{GivesAnswers, WritesPart, AnswersLines, StopsLines, AnswersPiece, AnswersPieces};
 
@@ -36,16 +37,16 @@ pub fn answer_pieces<S: Source, K: Sink, A: LineAnswers>(
 ) -> Result<Progress, Stopped>
     requires some { 0 < length piece.old }
     requires within { IsWithin input.old }
-    ensures answers { AnswersPieces A.answer (A.state state.old) input.old input.new
-        (length piece.old) (S.left source.old) (S.left source.new) (K.held sink.old) (K.held sink.new)
-        (A.state state.new) result }
+    ensures answers { AnswersPieces A.answer (A.state state.old) S.Source source.old source.new input.old input.new
+        (K.held sink.old) (K.held sink.new) (A.state state.new) result }
+    ensures few { GaveFew S.Source source.old source.new (length piece.old) }
     ensures number { IfOk result (λ p. p.number ≤ MOST_BYTES + 1) }
     ensures source_fault { IsErrOf result Stopped.SourceFault
         → Increased (S.faults source.old) (S.faults source.new) }
     ensures sink_faults { (K.faults sink.old ≤ K.faults sink.new)
         × (K.empty_takes sink.old ≤ K.empty_takes sink.new) }
     ensures sink_fault { IsErrOf result Stopped.SinkFault
-        → SinkFailed K.faults K.empty_takes K.room K.held sink.old sink.new }
+        → SinkFailed K.Sink sink.old sink.new }
 {
     let mut progress = Progress::new(alloc);
     answer_ended(alloc, state, &mut progress, input, sink)?;
@@ -61,6 +62,7 @@ pub fn answer_pieces<S: Source, K: Sink, A: LineAnswers>(
 /// The errors are those of [`answer_pieces`]. After `SourceFault` and `TooLong` nothing was taken. After `SinkFault` the
 /// answers to some of the lines that the piece has ended are made, and a prefix of them is written, and not all. After
 /// `NoMemory` the answers to some of these lines are written.
+#[tactic(auto, using(journal_input::proofs::EndedLines::few_ended))]
 pub fn answer_piece<S: Source, K: Sink, A: LineAnswers>(
     alloc: Global,
     state: &mut A,
@@ -75,9 +77,10 @@ pub fn answer_piece<S: Source, K: Sink, A: LineAnswers>(
     requires written { progress.old.text.items ≡ [] }
     requires number { progress.old.number ≤ input.old.taken }
     requires within { input.old.taken ≤ MOST_BYTES + 1 }
-    ensures one_piece { AnswersPiece A.answer input.old input.new (length piece.old) (S.left source.old)
-        (S.left source.new) (K.held sink.old) (K.held sink.new) (A.state state.old)
+    ensures one_piece { AnswersPiece A.answer S.Source source.old source.new input.old input.new
+        (K.held sink.old) (K.held sink.new) (A.state state.old)
         (A.state state.new) progress.old progress.new result }
+    ensures few { GaveFew S.Source source.old source.new (length piece.old) }
     ensures answered { OnOk result (input.new.lines.ended ≡ []) }
     ensures written { OnOk result (progress.new.text.items ≡ []) }
     ensures number { OnOk result (progress.new.number ≤ input.new.taken) }
@@ -87,7 +90,7 @@ pub fn answer_piece<S: Source, K: Sink, A: LineAnswers>(
     ensures sink_faults { (K.faults sink.old ≤ K.faults sink.new)
         × (K.empty_takes sink.old ≤ K.empty_takes sink.new) }
     ensures sink_fault { IsErrOf result Stopped.SinkFault
-        → SinkFailed K.faults K.empty_takes K.room K.held sink.old sink.new }
+        → SinkFailed K.Sink sink.old sink.new }
 {
     let more = match input.take_piece(source, piece) {
         Ok(more) => more,
@@ -121,7 +124,7 @@ fn answer_ended<K: Sink, A: LineAnswers>(
     ensures sink_faults { (K.faults sink.old ≤ K.faults sink.new)
         × (K.empty_takes sink.old ≤ K.empty_takes sink.new) }
     ensures sink_fault { IsErrOf result Stopped.SinkFault
-        → SinkFailed K.faults K.empty_takes K.room K.held sink.old sink.new }
+        → SinkFailed K.Sink sink.old sink.new }
 {
     'lines: loop {
         match input.take_line() {
@@ -152,7 +155,7 @@ fn answer_line<K: Sink, A: LineAnswers>(
     ensures sink_faults { (K.faults sink.old ≤ K.faults sink.new)
         × (K.empty_takes sink.old ≤ K.empty_takes sink.new) }
     ensures sink_fault { IsErrOf result Stopped.SinkFault
-        → SinkFailed K.faults K.empty_takes K.room K.held sink.old sink.new }
+        → SinkFailed K.Sink sink.old sink.new }
 {
     match handle_line(alloc, state, progress, line) {
         Ok(()) => give_many(progress, sink),
@@ -170,7 +173,7 @@ fn give_many<K: Sink>(progress: &mut Progress, sink: &mut K) -> Result<(), Stopp
     ensures sink_faults { (K.faults sink.old ≤ K.faults sink.new)
         × (K.empty_takes sink.old ≤ K.empty_takes sink.new) }
     ensures sink_fault { OnErr result
-        (SinkFailed K.faults K.empty_takes K.room K.held sink.old sink.new) }
+        (SinkFailed K.Sink sink.old sink.new) }
 {
     if progress.text.len() < MOST_KEPT {
         return Ok(());
@@ -188,7 +191,7 @@ fn give_answers<K: Sink>(progress: &mut Progress, sink: &mut K) -> Result<(), St
     ensures sink_faults { (K.faults sink.old ≤ K.faults sink.new)
         × (K.empty_takes sink.old ≤ K.empty_takes sink.new) }
     ensures sink_fault { OnErr result
-        (SinkFailed K.faults K.empty_takes K.room K.held sink.old sink.new) }
+        (SinkFailed K.Sink sink.old sink.new) }
 {
     match give_all(sink, &progress.text) {
         Ok(()) => {
@@ -205,7 +208,7 @@ fn out_of_memory<K: Sink>(progress: &Progress, sink: &mut K) -> Stopped
     ensures sink_faults { (K.faults sink.old ≤ K.faults sink.new)
         × (K.empty_takes sink.old ≤ K.empty_takes sink.new) }
     ensures sink_fault { result ≡ Stopped.SinkFault
-        → SinkFailed K.faults K.empty_takes K.room K.held sink.old sink.new }
+        → SinkFailed K.Sink sink.old sink.new }
 {
     match give_all(sink, &progress.text) {
         Ok(()) => Stopped::NoMemory,

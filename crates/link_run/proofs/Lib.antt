@@ -2,5 +2,4 @@ pub mod Events
 pub mod Reading
 pub mod ToldLines
 pub mod ShownState
-pub mod RunsInTurns
 pub mod AnswerSteps

@@ -5,3 +5,5 @@ pub mod Answers
 pub mod Views
 pub mod Linked
 pub mod Runs
+pub mod LinkScript
+pub mod RunsInTurns

@@ -3,10 +3,9 @@
 ghost use Rattle.std.specs.Prelude.{◌≡◌, true, Ok};
 ghost use Rattle.serde_json.specs.Data.{Data};
 ghost use Rattle.turn_link.specs.Links.{EventTree};
-ghost use Rattle.accepted_programs.specs.Program.{lens_of};
 ghost use Rattle.script_run.specs.Ends.{EveryRunStaysInStep};
 ghost use Rattle.link_run.specs.EventJson.{tree_of_event, event_of_tree, event_counts_fit, event_numbers_fit};
-ghost use Rattle.link_run.specs.Runs.{first_link, line_answer, IsInTurnsWith};
+ghost use Rattle.link_run.specs.LinkScript.{link_script};
 
 /// Reading the tree of an event and writing it are inverse.
 pub fn reading_inverts_writing()
@@ -24,5 +23,5 @@ pub fn reading_inverts_writing()
 /// Each link of it is in turns, by `InTurns` of turn_link, and has state lines: also the links after
 /// events that are refused and after lines that are not events.
 pub fn runs_stay_in_turns()
-    ensures { EveryRunStaysInStep lens_of first_link line_answer IsInTurnsWith }
+    ensures { EveryRunStaysInStep link_script }
 {}

@@ -2,13 +2,13 @@
 //!
 //! [`read_event`] returns the event that a line is, by specs/EventJson.antt. The page docs/FORMATS.md has the forms
 //! with examples. [`take_item`] makes the event happen, and returns the answer, whose line is [`answer_line`]. [`state_lines`]
-//! are the lines at the end of a run. [`LinkRun`] answers the journal of a script by these, and [`run_link`] is the command.
+//! are the lines at the end of a run. [`LinkRun`] answers the journal of a script by these; the command is the call `run_script` of
+//! script_run over it.
 //!
 //! specs/Runs.antt defines the run of a link over a script, and specs/Answers.antt what is written for it.
 #![tactic(auto)]
 
 mod answers;
-mod call;
 mod fault;
 mod journal;
 pub mod laws;
@@ -17,7 +17,6 @@ mod script;
 mod state;
 
 pub use crate::answers::{Answer, answer_line};
-pub use crate::call::run_link;
 pub use crate::fault::EventFault;
 pub use crate::journal::take_item;
 pub use crate::read::read_event;

@@ -3,10 +3,9 @@ ghost use Rattle.std.specs.Prelude.{◌≡◌, ℕ, List, IfOk, Result};
 ghost use Rattle.lens_forms.specs.Forms.{FormTree, form_tree};
 ghost use Rattle.accepted_programs.specs.Program.{Refusal, lens_of};
 ghost use Rattle.accepted_programs.specs.Refused.{IsKnown, IsRefusal};
-ghost use Rattle.script_parts.specs.Parts.{HoldsPart};
 ghost use Rattle.script_run.specs.Ending.{Opens, IsNotOpened};
-ghost use Rattle.answer_text.specs.RefusalLines.{refused_part_line};
-ghost use Rattle.link_run.specs.Runs.{first_link, line_answer, state_of, state_text};
+ghost use Rattle.link_run.specs.LinkScript.{link_script};
+ghost use Rattle.link_run.specs.Runs.{first_link, state_of, state_text};
 
 use crate::journal::answer_item;
 use crate::state::state_lines;
@@ -17,7 +16,7 @@ use lens_flat::Flat;
 use lens_types::Typed;
 use line_stream::Answer;
 use script_parts::ProgramText;
-use script_run::{NotOpened, ScriptState};
+use script_run::{NotOpened, ProgramScript, ScriptState};
 use std::alloc::{AllocError, Global};
 use texts::Bytes;
 use turn_link::Link;
@@ -73,21 +72,23 @@ fn text_of_state(alloc: Global, link: &Link<Flat>) -> Result<Bytes, AllocError>
     Ok(Bytes::from_vec(text))
 }
 
-/// The link of a program part before any event, or why there is none.
-pub(crate) fn open_link(alloc: Global, program: &ProgramText) -> Result<LinkRun, NotOpened>
-    ensures { (part : List ℕ) → HoldsPart program.now part
-        → Opens (lens_of part) refused_part_line first_link (λ run. state_of run.link) result }
-{
-    match program.lens(alloc) {
-        Ok(typed) => start_run(alloc, typed),
-        Err(refused) => Err(refusal(alloc, refused)),
+impl ProgramScript for LinkRun {
+    ghost use Rattle.link_run.specs.RunsInTurns.{every_run};
+
+    ghost every_run = { every_run };
+
+    fn open(alloc: Global, program: &ProgramText) -> Result<Self, NotOpened> {
+        match program.lens(alloc) {
+            Ok(typed) => start_run(alloc, typed),
+            Err(refused) => Err(refusal(alloc, refused)),
+        }
     }
 }
 
 // The link of a lens before any event.
 fn start_run(alloc: Global, typed: Typed) -> Result<LinkRun, NotOpened>
     ensures { (part : List ℕ) → lens_of part ≡ Ok (form_tree typed)
-        → Opens (lens_of part) refused_part_line first_link (λ run. state_of run.link) result }
+        → Opens link_script (lens_of part) result }
 {
     let started = first_run(alloc, &typed);
     drop(typed);
@@ -109,7 +110,7 @@ fn first_run(alloc: Global, typed: &Typed) -> Result<LinkRun, AllocError>
 fn refusal(alloc: Global, refused: Refused) -> NotOpened
     requires { IsKnown refused }
     ensures { (outcome : Result FormTree Refusal) → IsRefusal outcome refused
-        → IsNotOpened outcome refused_part_line first_link result }
+        → IsNotOpened link_script outcome result }
 {
     let line = refused_part_line(alloc, &refused);
     drop(refused);

@@ -1,5 +1,6 @@
 -- The storing of payloads in an empty log, and how it stops.
-use Rattle.std.proofs.Common.{◌≡◌, ◌⊎◌, ℕ, suc, ◌+◌, ◌-◌, ◌^◌, ◌<◌, List, [], ◌∷◌, ◌++◌, length, drop, get_or, drop-cons, add-one, Option, Some, Err, IfSome, refl, sym, ap, subst, ◌∙◌, append_assoc, append-nil, arith}
+use Rattle.std.proofs.Common.{◌≡◌, ℕ, suc, ◌+◌, ◌-◌, ◌^◌, ◌<◌, List, [], ◌∷◌, ◌++◌, length, drop, get_or, drop-cons, add-one, Option, Some, Err, IfSome, refl, sym, ap, subst, ◌∙◌, append_assoc, append-nil, arith}
+use Rattle.lens_io.specs.declared.disk.Disk as OfDisk
 use Rattle.gate_log.specs.CallEnds.{AppendEnds}
 use Rattle.gate_log.specs.LogBytes.{closed_gate}
 use Rattle.gate_log.specs.LogOnDisk.{LogState, Stands}
@@ -16,24 +17,24 @@ use Rattle.gate_log.proofs.Heads.{records_length_append}
 pub too_long : (front rest : List (List ℕ)) (payload : List ℕ) (gate : ℕ) → gate ≡ closed_gate front → 2 ^ 63 - 1 < gate + 10 + length payload → IsTooLong (front ++ payload ∷ rest)
 too_long front rest payload gate at full = omega (arith, at, full, records_length_append front (payload ∷ rest))
 
-module _ {D : Type 0} (content : D → Option (List ℕ)) (images : D → List ℕ → Type 0) where
+module _ {D : Type 0} (disk : OfDisk.Ghosts D) where
   -- the first of the payloads are stored, and these are left
   pub record Stored (d : D) (l : LogState) (payloads rest : List (List ℕ)) : Type 0 where
     pub front : List (List ℕ)
     pub parts : payloads ≡ front ++ rest
-    pub stands : Stands (content d) (images d) l front
+    pub stands : Stands (disk.content d) (disk.images d) l front
     pub gate : l.gate ≡ closed_gate front
 
-  pub none_stored : (d : D) (l : LogState) (payloads rest : List (List ℕ)) → rest ≡ payloads → Stands (content d) (images d) l [] → l.gate ≡ 8 → Stored d l payloads rest
+  pub none_stored : (d : D) (l : LogState) (payloads rest : List (List ℕ)) → rest ≡ payloads → Stands (disk.content d) (disk.images d) l [] → l.gate ≡ 8 → Stored d l payloads rest
   none_stored d l payloads rest same stands gate = record { front = []; parts = sym same; stands = stands; gate = gate }
 
-  pub all_stored : (d : D) (l : LogState) (payloads rest : List (List ℕ)) → Stored d l payloads rest → rest ≡ [] → Stands (content d) (images d) l payloads
-  all_stored d l payloads rest s none = subst (Stands (content d) (images d) l) (sym (s.parts ∙ ap (λ r. s.front ++ r) none ∙ append-nil s.front)) s.stands
+  pub all_stored : (d : D) (l : LogState) (payloads rest : List (List ℕ)) → Stored d l payloads rest → rest ≡ [] → Stands (disk.content d) (disk.images d) l payloads
+  all_stored d l payloads rest s none = subst (Stands (disk.content d) (disk.images d) l) (sym (s.parts ∙ ap (λ r. s.front ++ r) none ∙ append-nil s.front)) s.stands
 
   -- one more payload is stored
   pub one_more : (d d' : D) (l l' : LogState) (payloads records : List (List ℕ)) (i : ℕ) (payload : List ℕ) → i < length records → payload ≡ get_or records i payload
       → (s : Stored d l payloads (drop i records))
-      → ((held : List (List ℕ)) → Stands (content d) (images d) l held → Stands (content d') (images d') l' (held ++ payload ∷ []))
+      → ((held : List (List ℕ)) → Stands (disk.content d) (disk.images d) l held → Stands (disk.content d') (disk.images d') l' (held ++ payload ∷ []))
       → l'.gate ≡ l.gate + 9 + length payload
       → Stored d' l' payloads (drop (i + 1) records)
   one_more d d' l l' payloads records i payload some is s stands gate =
@@ -59,17 +60,17 @@ module _ {D : Type 0} (content : D → Option (List ℕ)) (images : D → List �
         over = omega (arith, over, s.gate);
       }) h
 
-  module _ (known : (d : D) (c : List ℕ) → images d c → (bytes : List ℕ) × (content d ≡ Some bytes) × images d bytes) where
-    pub holds : (d : D) (l : LogState) (held : List (List ℕ)) → Stands (content d) (images d) l held → HoldsStore content images d held
-    holds d l held s = record { read = s.read; crash = λ c now. images_held content images known l d held c s now }
+  module _ (known : (d : D) (c : List ℕ) → disk.images d c → (bytes : List ℕ) × (disk.content d ≡ Some bytes) × disk.images d bytes) where
+    pub holds : (d : D) (l : LogState) (held : List (List ℕ)) → Stands (disk.content d) (disk.images d) l held → HoldsStore disk d held
+    holds d l held s = record { read = s.read; crash = λ c now. images_held disk known l d held c s now }
 
-    first_held : (d : D) (l : LogState) (front rest : List (List ℕ)) (payload : List ℕ) → Stands (content d) (images d) l front → HoldsFirst content images d (front ++ payload ∷ rest)
+    first_held : (d : D) (l : LogState) (front rest : List (List ℕ)) (payload : List ℕ) → Stands (disk.content d) (disk.images d) l front → HoldsFirst disk d (front ++ payload ∷ rest)
     first_held d l front rest payload s = record { front = front; rest = payload ∷ rest; parts = refl; some = omega arith; holds = holds d l front s }
 
     stops_behind : (d : D) (l : LogState) (gate : ℕ) (front rest : List (List ℕ)) (payload : List ℕ) (fault : LogFault)
-        → AppendEnds (Stands (content d) (images d) l) (images d) front payload (Err fault) → gate ≡ closed_gate front
+        → AppendEnds (Stands (disk.content d) (disk.images d) l) (disk.images d) front payload (Err fault) → gate ≡ closed_gate front
         → (fault ≡ log.LogFull → 2 ^ 63 - 1 < gate + 10 + length payload)
-        → StopsAppending content images d (front ++ payload ∷ rest) fault
+        → StopsAppending disk d (front ++ payload ∷ rest) fault
     stops_behind d l gate front rest payload log.LogFull ends at full = (too_long front rest payload gate at (full refl), first_held d l front rest payload ends)
     stops_behind d l gate front rest payload log.NoMemory ends at full = first_held d l front rest payload ends
     stops_behind d l gate front rest payload log.DiskFault ends at full = tt
@@ -80,10 +81,10 @@ module _ {D : Type 0} (content : D → Option (List ℕ)) (images : D → List �
     -- the storing stopped at this payload
     pub stopped : (d d' : D) (l l' : LogState) (payloads records : List (List ℕ)) (i : ℕ) (payload : List ℕ) (fault : LogFault) → i < length records → payload ≡ get_or records i payload
         → (s : Stored d l payloads (drop i records))
-        → ((held : List (List ℕ)) → Stands (content d) (images d) l held → AppendEnds (Stands (content d') (images d') l') (images d') held payload (Err fault))
+        → ((held : List (List ℕ)) → Stands (disk.content d) (disk.images d) l held → AppendEnds (Stands (disk.content d') (disk.images d') l') (disk.images d') held payload (Err fault))
         → (fault ≡ log.LogFull → 2 ^ 63 - 1 < l.gate + 10 + length payload)
-        → StopsAppending content images d' payloads fault
+        → StopsAppending disk d' payloads fault
     stopped d d' l l' payloads records i payload fault some is s ends full =
         let next : drop i records ≡ payload ∷ drop (suc i) records = drop-cons records i payload some ∙ ap (λ p. p ∷ drop (suc i) records) (sym is) in
         let parts : payloads ≡ s.front ++ payload ∷ drop (suc i) records = s.parts ∙ ap (λ r. s.front ++ r) next in
-        subst (λ (ps : List (List ℕ)). StopsAppending content images d' ps fault) (sym parts) (stops_behind d' l' l.gate s.front (drop (suc i) records) payload fault (ends s.front s.stands) s.gate full)
+        subst (λ (ps : List (List ℕ)). StopsAppending disk d' ps fault) (sym parts) (stops_behind d' l' l.gate s.front (drop (suc i) records) payload fault (ends s.front s.stands) s.gate full)

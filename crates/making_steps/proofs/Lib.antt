@@ -1,4 +1,5 @@
 pub mod Appending
+pub mod CommandStatuses
 pub mod Commands
 pub mod MakingEnds
 pub mod Reading

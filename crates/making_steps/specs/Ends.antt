@@ -1,89 +1,142 @@
 -- How a command ends that makes a store: what was taken, what was written, and what the disk holds.
--- Read it from the end: `IsComplete`, `Ends`, then its four cases.
-use Rattle.std.specs.Prelude.{◌≡◌, ◌⊎◌, ℕ, ◌+◌, ◌<◌, ◌≤◌, List, [], length, IfSome, Ok, Err}
-use Rattle.std.specs.declared.option.Option.{Option}
-use Rattle.std.specs.Io.KnownBytes.{Appends, Consumes, IsAtEnd}
-use Rattle.lens_io.specs.Content.{AppendsFront}
-use Rattle.lens_forms.specs.Forms.{FormTree}
+-- Read it from the end: `Completes`, `KeepsStore`, `RefusesAtOnce`, `Ends`, then its five cases.
+use Rattle.std.specs.Prelude.{◌≡◌, ◌⊎◌, ℕ, ◌+◌, ◌<◌, ◌≤◌, List, [], length, IfSome, Some, Err, true}
+use Rattle.lens_io.specs.Calls.{Took, IsRead, SourceFailed, Gave, GaveFront, SinkFailed, DiskFailed}
+use Rattle.lens_io.specs.declared.disk.Disk as OfDisk
+use Rattle.lens_io.specs.declared.sink.Sink as OfSink
+use Rattle.lens_io.specs.declared.source.Source as OfSource
 use Rattle.accepted_programs.specs.Program.{Refusal, lens_of}
 use Rattle.journal_input.specs.declared.limits.TheConstants.{MOST_BYTES}
+use Rattle.script_parts.specs.Coming.{has_separator}
 use Rattle.script_parts.specs.Lines.{program_part}
 use Rattle.stored_run.specs.Refusals.{IsUnwritten, refusal_line}
 use Rattle.stored_run.specs.declared.refusals.StoreRefusal.TheVariants.{LogExists}
+use Rattle.making_steps.specs.Command.{Command}
+use Rattle.making_steps.specs.Scripts.{IsAcceptedPart, GoesOn, RefusesPart}
 use Rattle.making_steps.specs.Stores.{IsTooLong, EndsMaking}
 use Rattle.making_steps.specs.declared.status.MakingStatus.{MakingStatus}
-use Rattle.making_steps.specs.declared.status.MakingStatus.TheVariants.{Done, SomeRefused, ProgramRefused, StoreRefused, SourceFault, SinkFault, DiskFault, InputTooLong, NoMemory}
+use Rattle.making_steps.specs.declared.status.MakingStatus.TheVariants.{Done, SomeRefused, ProgramRefused, StoreRefused}
+use Rattle.making_steps.specs.declared.status.MakingStatus.TheVariants.{SourceFault, SinkFault, DiskFault, InputTooLong}
+use Rattle.making_steps.specs.declared.status.MakingStatus.TheVariants.{NoMemory}
 
--- the line of a refusal was written, with this status; or a prefix of it, and the sink failed
-abbrev pub GivesLine : Option (List ℕ) → Option (List ℕ) → List ℕ → MakingStatus → MakingStatus → Type 0
-GivesLine held held' line refusing status =
-    (status ≡ refusing) × Appends held held' line
-    ⊎ (status ≡ SinkFault) × AppendsFront held held' line
+module _ {K : Type 0} (sink : OfSink.Ghosts K) (old new : K) where
+  -- this line was written, and the command ends with this status; or a prefix of it was, and the sink failed
+  abbrev pub GivesLine : List ℕ → MakingStatus → MakingStatus → Type 0
+  GivesLine line ending status =
+      (status ≡ ending) × Gave sink old new line
+      ⊎ (status ≡ SinkFault) × GaveFront sink old new line
 
--- What stopped a command before its script was known, after this many bytes. The disk fails here only before anything is taken.
-abbrev pub StopsAfter : ℕ → MakingStatus → Type 0
-StopsAfter taken SourceFault = taken ≤ MOST_BYTES
-StopsAfter taken InputTooLong = MOST_BYTES < taken
-StopsAfter taken DiskFault = taken ≡ 0
-StopsAfter taken NoMemory = Unit {0}
-StopsAfter taken status = ⊥
+-- What stopped a command before its script was known, after these bytes. A fault of the source, and too many bytes,
+-- come only before the separator or behind a program part that is accepted. The disk fails here only before anything is
+-- taken.
+abbrev pub StopsAfter : List ℕ → MakingStatus → Type 0
+StopsAfter bytes SourceFault = (length bytes ≤ MOST_BYTES) × GoesOn bytes
+StopsAfter bytes InputTooLong = (MOST_BYTES < length bytes) × GoesOn bytes
+StopsAfter bytes DiskFault = bytes ≡ []
+StopsAfter bytes NoMemory = Unit {0}
+StopsAfter bytes status = ⊥
 
--- `refuses` is which refusals a script has, by the bytes of the source that are left and those that were taken: a status and a line.
--- `makes` is which payloads a script makes a store of, and which lines are written then.
-module _ {D : Type 0} (content : D → Option (List ℕ)) (images : D → List ℕ → Type 0)
-    (refuses : Option (List ℕ) → List ℕ → MakingStatus → List ℕ → Type 0) (makes : List ℕ → List (List ℕ) → List ℕ → Type 0) where
-  -- The disk is not empty, and `store refused: log-exists` was written in place of all else. If the content of the disk is known, nothing
-  -- was taken from the source.
-  pub record FindsStore (left left' held held' : Option (List ℕ)) (d d' : D) (status : MakingStatus) : Type 0 where
+-- A command before a call (old) and after it (new): what its source, its sink and its disk tell.
+module _ {S K D : Type 0} (source : OfSource.Ghosts S) (sink : OfSink.Ghosts K) (disk : OfDisk.Ghosts D)
+    (command : Command) (old new : S × K × D) (status : MakingStatus) where
+  -- The disk is not empty, and `store refused: log-exists` was written in place of all else. If the content of the disk
+  -- is known, nothing was taken from the source.
+  pub record FindsStore : Type 0 where
     pub bytes : List ℕ
-    pub consumes : Consumes left left' bytes
+    pub took : Took source old.0 new.0 bytes
     pub within : length bytes ≤ MOST_BYTES
-    pub some : IfSome (content d) (λ before. (0 < length before) × (bytes ≡ []))
-    pub unwritten : IsUnwritten content images d d'
-    pub given : GivesLine held held' (refusal_line LogExists) StoreRefused status
+    pub goes_on : GoesOn bytes
+    pub some : IfSome (disk.content old.2) (λ before. (0 < length before) × (bytes ≡ []))
+    pub unwritten : IsUnwritten disk old.2 new.2
+    pub given : GivesLine sink old.1 new.1 (refusal_line LogExists) StoreRefused status
 
   -- The command stopped before its script was known. It wrote nothing.
-  pub record StopsEarly (left left' held held' : Option (List ℕ)) (d d' : D) (status : MakingStatus) : Type 0 where
+  pub record StopsEarly : Type 0 where
     pub bytes : List ℕ
-    pub consumes : Consumes left left' bytes
+    pub took : Took source old.0 new.0 bytes
     pub at_most : length bytes ≤ MOST_BYTES + 1
-    pub stops : StopsAfter (length bytes) status
-    pub unwritten : IsUnwritten content images d d'
-    pub given : Appends held held' []
+    pub stops : StopsAfter bytes status
+    pub unwritten : IsUnwritten disk old.2 new.2
+    pub given : Gave sink old.1 new.1 []
 
-  -- The script is refused. Its line was written, and nothing to the disk, which was empty.
-  pub record RefusesScript (left left' held held' : Option (List ℕ)) (d d' : D) (status : MakingStatus) : Type 0 where
+  -- The program part is whole and refused. The line of that refusal was written, and nothing to the disk, which was
+  -- empty.
+  pub record RefusesProgram : Type 0 where
     pub bytes : List ℕ
-    pub consumes : Consumes left left' bytes
+    pub took : Took source old.0 new.0 bytes
     pub at_most : length bytes ≤ MOST_BYTES + 1
-    pub refusing : MakingStatus
     pub line : List ℕ
-    pub refused : refuses left' bytes refusing line
-    pub was_empty : IfSome (content d) (λ before. length before ≡ 0)
-    pub unwritten : IsUnwritten content images d d'
-    pub given : GivesLine held held' line refusing status
+    pub refused : RefusesPart source old.0 new.0 bytes line
+    pub was_empty : IfSome (disk.content old.2) (λ before. length before ≡ 0)
+    pub unwritten : IsUnwritten disk old.2 new.2
+    pub given : GivesLine sink old.1 new.1 line ProgramRefused status
+
+  -- The script was read to its end, and the command refuses it. Its line was written, and nothing to the disk, which
+  -- was empty.
+  pub record RefusesScript : Type 0 where
+    pub bytes : List ℕ
+    pub took : Took source old.0 new.0 bytes
+    pub read : IsRead source old.0 new.0
+    pub within : length bytes ≤ MOST_BYTES
+    pub line : List ℕ
+    pub refused : command.refuses bytes line
+    pub was_empty : IfSome (disk.content old.2) (λ before. length before ≡ 0)
+    pub unwritten : IsUnwritten disk old.2 new.2
+    pub given : GivesLine sink old.1 new.1 line SomeRefused status
 
   -- The script was read to its end, the disk was empty, and the making of its store ended so.
-  pub record MakesStore (left left' held held' : Option (List ℕ)) (d d' : D) (status : MakingStatus) : Type 0 where
+  pub record MakesStore : Type 0 where
     pub bytes : List ℕ
-    pub consumes : Consumes left left' bytes
-    pub at_end : IsAtEnd left'
+    pub took : Took source old.0 new.0 bytes
+    pub read : IsRead source old.0 new.0
     pub within : length bytes ≤ MOST_BYTES
-    pub was_empty : IfSome (content d) (λ before. length before ≡ 0)
+    pub was_empty : IfSome (disk.content old.2) (λ before. length before ≡ 0)
     pub payloads : List (List ℕ)
     pub lines : List ℕ
-    pub made : makes bytes payloads lines
-    pub ends : EndsMaking content images held held' d' payloads lines status
+    pub made : command.makes bytes payloads lines
+    pub ends : EndsMaking sink disk (old.1, old.2) (new.1, new.2) payloads lines status
 
   -- how the command ends
-  abbrev pub Ends : Option (List ℕ) → Option (List ℕ) → Option (List ℕ) → Option (List ℕ) → D → D → MakingStatus → Type 0
-  Ends left left' held held' d d' status =
-      FindsStore left left' held held' d d' status
-      ⊎ StopsEarly left left' held held' d d' status
-      ⊎ RefusesScript left left' held held' d d' status
-      ⊎ MakesStore left left' held held' d d' status
+  abbrev pub Ends : Type 0
+  Ends = FindsStore ⊎ StopsEarly ⊎ RefusesProgram ⊎ RefusesScript ⊎ MakesStore
 
--- The command came to its end: the store is made, or the command refused the script by its own rules, or memory ran out.
+-- ---- the refusal of a program part
+
+-- The command refused the program part. Or the sink failed, at its line, or memory ran out.
+abbrev pub MayRefuse : MakingStatus → Type 0
+MayRefuse ProgramRefused = Unit {0}
+MayRefuse SinkFault = Unit {0}
+MayRefuse NoMemory = Unit {0}
+MayRefuse status = ⊥
+
+-- A refusal of the program part is exact and comes at once. The source gave these bytes.
+pub record RefusesAtOnce {S : Type 0} (source : OfSource.Ghosts S) (old new : S) (status : MakingStatus) : Type 0 where
+  pub bytes : List ℕ
+  pub took : Took source old new bytes
+  -- After ProgramRefused the part is whole and refused: if the separator has come, it came with the last call of the
+  -- source.
+  pub only : status ≡ ProgramRefused → (line : List ℕ) × RefusesPart source old new bytes line
+  -- If the separator has come and the part is refused, no other status comes, whatever stands behind the separator.
+  pub whole : has_separator bytes ≡ true → (refusal : Refusal) → lens_of (program_part bytes) ≡ Err refusal
+      → MayRefuse status
+
+-- ---- a disk that is not empty
+
+module _ {S K D : Type 0} (source : OfSource.Ghosts S) (sink : OfSink.Ghosts K) (disk : OfDisk.Ghosts D)
+    (old new : S × K × D) (status : MakingStatus) where
+  -- If the disk is not empty, nothing was taken from the source, and nothing was written to the disk. The line `store
+  -- refused: log-exists` was written, or a prefix of it and the sink failed; or the disk failed, and nothing was
+  -- written.
+  abbrev pub KeepsStore : Type 0
+  KeepsStore = IfSome (disk.content old.2) (λ bytes. 0 < length bytes
+      → (new.0 ≡ old.0) × IsUnwritten disk old.2 new.2
+      × (GivesLine sink old.1 new.1 (refusal_line LogExists) StoreRefused status
+      ⊎ (status ≡ DiskFault) × (new.1 ≡ old.1)))
+
+-- ---- a command without a fault
+
+-- The command came to its end: the store is made, or the command refused the script by its own rules, or memory ran
+-- out.
 abbrev pub IsEnd : MakingStatus → Type 0
 IsEnd Done = Unit {0}
 IsEnd SomeRefused = Unit {0}
@@ -96,9 +149,18 @@ IsRefused ProgramRefused = Unit {0}
 IsRefused NoMemory = Unit {0}
 IsRefused status = ⊥
 
--- A command over these bytes came to its end if the program part is accepted, and there is room for the log; it refused the program
--- part if that is refused. Or memory ran out.
-pub record IsComplete (makes : List ℕ → List (List ℕ) → List ℕ → Type 0) (bytes : List ℕ) (status : MakingStatus) : Type 0 where
-  pub accepted : (form : FormTree) → lens_of (program_part bytes) ≡ Ok form
-      → ((payloads : List (List ℕ)) (lines : List ℕ) → makes bytes payloads lines → IsTooLong payloads → ⊥) → IsEnd status
+-- A command over these bytes came to its end if the program part is accepted, and there is room for the log; it refused
+-- the program part if that is refused. Or memory ran out.
+pub record IsComplete (command : Command) (bytes : List ℕ) (status : MakingStatus) : Type 0 where
+  pub accepted : IsAcceptedPart bytes
+      → ((payloads : List (List ℕ)) (lines : List ℕ) → command.makes bytes payloads lines → IsTooLong payloads → ⊥)
+      → IsEnd status
   pub refused : (refusal : Refusal) → lens_of (program_part bytes) ≡ Err refusal → IsRefused status
+
+module _ {S K D : Type 0} (source : OfSource.Ghosts S) (sink : OfSink.Ghosts K) (disk : OfDisk.Ghosts D)
+    (command : Command) (old new : S × K × D) (status : MakingStatus) where
+  -- over an empty disk and a source of at most 2^30 bytes the command is complete if no device failed
+  abbrev pub Completes : Type 0
+  Completes = disk.content old.2 ≡ Some [] → IfSome (source.left old.0) (λ bytes. length bytes ≤ MOST_BYTES
+      → (SourceFailed source old.0 new.0 → ⊥) → (SinkFailed sink old.1 new.1 → ⊥) → (DiskFailed disk old.2 new.2 → ⊥)
+      → IsComplete command bytes status)

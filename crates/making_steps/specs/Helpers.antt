@@ -1,19 +1,20 @@
 -- For the helpers of the commands: what was read of a script, and how a refusal is written.
-use Rattle.std.specs.Prelude.{◌≡◌, ◌⊎◌, ℕ, ◌+◌, ◌≤◌, List, [], length, Result, Ok}
-use Rattle.std.specs.declared.option.Option.{Option}
-use Rattle.std.specs.Io.KnownBytes.{Appends, Consumes, IsAtEnd}
+use Rattle.std.specs.Prelude.{◌≡◌, ◌⊎◌, ℕ, ◌+◌, ◌≤◌, List, [], length, Result}
 use Rattle.accepted_programs.specs.Program.{Refusal, lens_of}
 use Rattle.accepted_programs.specs.Refused.{IsKnown, IsRefusal}
 use Rattle.accepted_programs.specs.declared.program.Refused.{Refused}
 use Rattle.answer_text.specs.RefusalLines.{IsLineOf}
 use Rattle.lens_forms.specs.Forms.{FormTree}
+use Rattle.lens_io.specs.Calls.{Took, IsRead, Gave}
 use Rattle.lens_io.specs.declared.failed.TakeFault.{TakeFault}
-use Rattle.journal_input.specs.Taking.{StopsAt}
+use Rattle.lens_io.specs.declared.sink.Sink as OfSink
+use Rattle.lens_io.specs.declared.source.Source as OfSource
 use Rattle.journal_input.specs.declared.limits.TheConstants.{MOST_BYTES}
 use Rattle.program_terms.specs.Terms.{ProgramTree}
-use Rattle.script_parts.specs.Coming.{HasPart}
+use Rattle.script_parts.specs.Coming.{IsWhole}
 use Rattle.script_parts.specs.Lines.{program_part}
-use Rattle.making_steps.specs.Ends.{GivesLine}
+use Rattle.making_steps.specs.Ends.{GivesLine, StopsAfter}
+use Rattle.making_steps.specs.Reading.{status_at}
 use Rattle.making_steps.specs.Scripts.{IsAccepted}
 use Rattle.making_steps.specs.declared.scripts.Unread.{Unread}
 use Rattle.making_steps.specs.declared.scripts.Unread.TheVariants.{Refused as IsNoProgram, Stopped}
@@ -22,39 +23,41 @@ use Rattle.making_steps.specs.declared.status.MakingStatus.TheVariants.{ProgramR
 
 -- ---- the refusal of a program part
 
--- The outcome is a refusal, and its line was written; or memory ran out before.
-abbrev pub RefusesWith : Result FormTree Refusal → Option (List ℕ) → Option (List ℕ) → MakingStatus → Type 0
-RefusesWith outcome held held' status =
-    ((line : List ℕ) × IsLineOf outcome line × GivesLine held held' line ProgramRefused status)
-    ⊎ (status ≡ NoMemory) × Appends held held' []
+module _ {K : Type 0} (sink : OfSink.Ghosts K) (old new : K) where
+  -- The outcome is a refusal, and its line was written; or memory ran out before.
+  abbrev pub RefusesWith : Result FormTree Refusal → MakingStatus → Type 0
+  RefusesWith outcome status =
+      ((line : List ℕ) × IsLineOf outcome line × GivesLine sink old new line ProgramRefused status)
+      ⊎ (status ≡ NoMemory) × Gave sink old new []
 
 -- ---- a script
 
--- The source was read to its end, and the program part is accepted.
-pub record ReadsScript (left left' : Option (List ℕ)) (program : ProgramTree) (form : FormTree) : Type 0 where
-  pub bytes : List ℕ
-  pub consumes : Consumes left left' bytes
-  pub at_end : IsAtEnd left'
-  pub within : length bytes ≤ MOST_BYTES
-  pub accepted : IsAccepted (program_part bytes) program form
+module _ {S : Type 0} (source : OfSource.Ghosts S) (old new : S) where
+  -- The source was read to its end, and the program part is accepted.
+  pub record ReadsScript (program : ProgramTree) (form : FormTree) : Type 0 where
+    pub bytes : List ℕ
+    pub took : Took source old new bytes
+    pub read : IsRead source old new
+    pub within : length bytes ≤ MOST_BYTES
+    pub accepted : IsAccepted (program_part bytes) program form
 
--- the program part is known whole and refused; or memory ran out
-pub record ReadsRefused (left left' : Option (List ℕ)) (refused : Refused) : Type 0 where
-  pub bytes : List ℕ
-  pub consumes : Consumes left left' bytes
-  pub at_most : length bytes ≤ MOST_BYTES + 1
-  pub whole : HasPart bytes ⊎ IsAtEnd left'
-  pub is : IsRefusal (lens_of (program_part bytes)) refused
-  pub known : IsKnown refused
+  -- The program part is whole and refused; or memory ran out.
+  pub record ReadsRefused (refused : Refused) : Type 0 where
+    pub bytes : List ℕ
+    pub took : Took source old new bytes
+    pub at_most : length bytes ≤ MOST_BYTES + 1
+    pub whole : IsWhole source old new bytes
+    pub is : IsRefusal (lens_of (program_part bytes)) refused
+    pub known : IsKnown refused
 
--- the reading stopped after these bytes
-pub record ReadsFront (left left' : Option (List ℕ)) (fault : TakeFault) : Type 0 where
-  pub bytes : List ℕ
-  pub consumes : Consumes left left' bytes
-  pub at_most : length bytes ≤ MOST_BYTES + 1
-  pub stops : StopsAt (length bytes) fault
+  -- the reading stopped after these bytes
+  pub record ReadsFront (fault : TakeFault) : Type 0 where
+    pub bytes : List ℕ
+    pub took : Took source old new bytes
+    pub at_most : length bytes ≤ MOST_BYTES + 1
+    pub stops : StopsAfter bytes (status_at fault)
 
--- why a script was not read to its end, or has no program
-abbrev pub IsUnread : Option (List ℕ) → Option (List ℕ) → Unread → Type 0
-IsUnread left left' (IsNoProgram refused) = ReadsRefused left left' refused
-IsUnread left left' (Stopped fault) = ReadsFront left left' fault
+  -- why a script was not read to its end, or has no program
+  abbrev pub IsUnread : Unread → Type 0
+  IsUnread (IsNoProgram refused) = ReadsRefused refused
+  IsUnread (Stopped fault) = ReadsFront fault

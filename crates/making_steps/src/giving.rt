@@ -1,7 +1,6 @@
 // Writing the line that a command ends with.
 ghost use Rattle.std.specs.Prelude.{◌≡◌, ◌⊎◌, Result};
-ghost use Rattle.std.specs.Io.KnownBytes.{Appends};
-ghost use Rattle.lens_io.specs.Causes.{SinkFailed};
+ghost use Rattle.lens_io.specs.Calls.{SinkFailed};
 ghost use Rattle.lens_forms.specs.Forms.{FormTree};
 ghost use Rattle.accepted_programs.specs.Program.{Refusal};
 ghost use Rattle.accepted_programs.specs.Refused.{IsKnown, IsRefusal};
@@ -16,9 +15,9 @@ use std::alloc::Global;
 
 /// Writes these bytes, and ends with the status.
 pub fn give_line<K: Sink>(sink: &mut K, line: &[u8], status: MakingStatus) -> MakingStatus
-    ensures gives { GivesLine (K.held sink.old) (K.held sink.new) line.now status result }
-    ensures sink_fault { result ≡ MakingStatus.SinkFault → (status ≡ MakingStatus.SinkFault)
-        ⊎ SinkFailed K.faults K.empty_takes K.room K.held sink.old sink.new }
+    ensures gives { GivesLine K.Sink sink.old sink.new line.now status result }
+    ensures sink_fault { result ≡ MakingStatus.SinkFault
+        → (status ≡ MakingStatus.SinkFault) ⊎ SinkFailed K.Sink sink.old sink.new }
 {
     match give_all(sink, line) {
         Ok(()) => status,
@@ -30,9 +29,8 @@ pub fn give_line<K: Sink>(sink: &mut K, line: &[u8], status: MakingStatus) -> Ma
 pub fn refuse_program<K: Sink>(alloc: Global, refused: Refused, sink: &mut K) -> MakingStatus
     requires { IsKnown refused }
     ensures refuses { (outcome : Result FormTree Refusal) → IsRefusal outcome refused
-        → RefusesWith outcome (K.held sink.old) (K.held sink.new) result }
-    ensures sink_fault { result ≡ MakingStatus.SinkFault
-        → SinkFailed K.faults K.empty_takes K.room K.held sink.old sink.new }
+        → RefusesWith K.Sink sink.old sink.new outcome result }
+    ensures sink_fault { result ≡ MakingStatus.SinkFault → SinkFailed K.Sink sink.old sink.new }
 {
     let line = refused_part_line(alloc, &refused);
     drop(refused);

@@ -1,8 +1,6 @@
 // Making a store on an empty disk.
 ghost use Rattle.std.specs.Prelude.{◌≡◌, ◌⊎◌, ◌<◌, ◌≤◌, [], List, ℕ, length, IfSome, IfErr, OnOk, OnErr, IsErrOf};
-ghost use Rattle.std.specs.declared.option.Option.{Option};
-ghost use Rattle.std.specs.Io.KnownBytes.{Appends};
-ghost use Rattle.lens_io.specs.Causes.{Increased, SinkFailed};
+ghost use Rattle.lens_io.specs.Calls.{SinkFailed, DiskFailed};
 ghost use Rattle.gate_log.specs.LogOnDisk.{Stands};
 ghost use Rattle.stored_run.specs.Rooms.{HasNoRoom};
 ghost use Rattle.making_steps.specs.Making.{EndsStore, EndsStopped, StopsAppending};
@@ -39,11 +37,10 @@ pub fn make_store<K: Sink, D: Disk>(
     sink: &mut K,
     disk: &mut D,
 ) -> MakingStatus
-    ensures ends { EndsStore D.content D.images (K.held sink.old) (K.held sink.new) disk.old disk.new payloads.now lines.now result }
-    ensures sink_fault { result ≡ MakingStatus.SinkFault
-        → SinkFailed K.faults K.empty_takes K.room K.held sink.old sink.new }
-    ensures disk_fault { result ≡ MakingStatus.DiskFault
-        → Increased (D.faults disk.old) (D.faults disk.new) }
+    ensures ends { EndsStore K.Sink D.Disk (sink.old, disk.old) (sink.new, disk.new)
+        payloads.now lines.now result }
+    ensures sink_fault { result ≡ MakingStatus.SinkFault → SinkFailed K.Sink sink.old sink.new }
+    ensures disk_fault { result ≡ MakingStatus.DiskFault → DiskFailed D.Disk disk.old disk.new }
     ensures faults { D.faults disk.old ≤ D.faults disk.new }
     ensures room { result ≡ MakingStatus.DiskFault
         → IfSome (D.room disk.old) (λ most. HasNoRoomToMake most payloads.now) }
@@ -69,11 +66,10 @@ fn fill_log<K: Sink, D: Disk>(
 ) -> MakingStatus
     requires gate { log.old.gate ≡ 8 }
     requires stands { Stands (D.content disk.old) (D.images disk.old) log.old [] }
-    ensures ends { EndsMaking D.content D.images (K.held sink.old) (K.held sink.new) disk.new payloads.now lines.now result }
-    ensures sink_fault { result ≡ MakingStatus.SinkFault
-        → SinkFailed K.faults K.empty_takes K.room K.held sink.old sink.new }
-    ensures disk_fault { result ≡ MakingStatus.DiskFault
-        → Increased (D.faults disk.old) (D.faults disk.new) }
+    ensures ends { EndsMaking K.Sink D.Disk (sink.old, disk.old) (sink.new, disk.new)
+        payloads.now lines.now result }
+    ensures sink_fault { result ≡ MakingStatus.SinkFault → SinkFailed K.Sink sink.old sink.new }
+    ensures disk_fault { result ≡ MakingStatus.DiskFault → DiskFailed D.Disk disk.old disk.new }
     ensures faults { D.faults disk.old ≤ D.faults disk.new }
     ensures room { result ≡ MakingStatus.DiskFault
         → IfSome (D.room disk.old) (λ most. HasNoRoom most [] payloads.now) }
@@ -86,9 +82,8 @@ fn fill_log<K: Sink, D: Disk>(
 
 // Ends a command whose payloads were not all stored.
 fn end_stopped<K: Sink>(fault: LogFault, sink: &mut K) -> MakingStatus
-    ensures ends { EndsStopped (K.held sink.old) (K.held sink.new) fault result }
-    ensures sink_fault { result ≡ MakingStatus.SinkFault
-        → SinkFailed K.faults K.empty_takes K.room K.held sink.old sink.new }
+    ensures ends { EndsStopped K.Sink sink.old sink.new fault result }
+    ensures sink_fault { result ≡ MakingStatus.SinkFault → SinkFailed K.Sink sink.old sink.new }
 {
     match fault {
         LogFault::LogFull => give_line(sink, LOG_FULL, MakingStatus::StoreRefused),
@@ -107,10 +102,9 @@ fn append_all<D: Disk>(
     requires gate { log.old.gate ≡ 8 }
     requires stands { Stands (D.content disk.old) (D.images disk.old) log.old [] }
     ensures stored { OnOk result (Stands (D.content disk.new) (D.images disk.new) log.new payloads.now) }
-    ensures stopped { IfErr result (StopsAppending D.content D.images disk.new payloads.now) }
+    ensures stopped { IfErr result (StopsAppending D.Disk disk.new payloads.now) }
     ensures faults { D.faults disk.old ≤ D.faults disk.new }
-    ensures cause { IsErrOf result LogFault.DiskFault
-        → Increased (D.faults disk.old) (D.faults disk.new) }
+    ensures cause { IsErrOf result LogFault.DiskFault → DiskFailed D.Disk disk.old disk.new }
     ensures room { IsErrOf result LogFault.DiskFault
         → IfSome (D.room disk.old) (λ most. HasNoRoom most [] payloads.now) }
 {

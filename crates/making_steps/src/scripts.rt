@@ -3,7 +3,7 @@ ghost use Rattle.std.specs.Prelude.{◌≡◌, ◌≤◌, MatchResult, Ok, IfErr
 ghost use Rattle.accepted_programs.specs.Program.{form_of_program, lens_of};
 ghost use Rattle.accepted_programs.specs.Refused.{IsKnown, IsRefusal};
 ghost use Rattle.lens_forms.specs.Forms.{form_tree};
-ghost use Rattle.lens_io.specs.Causes.{Increased};
+ghost use Rattle.lens_io.specs.Calls.{SourceFailed};
 ghost use Rattle.program_terms.specs.Views.{program_tree};
 ghost use Rattle.script_parts.specs.Parts.{HoldsPart};
 ghost use Rattle.making_steps.specs.Helpers.{ReadsScript, IsUnread};
@@ -33,12 +33,14 @@ pub enum Unread {
     Stopped(TakeFault),
 }
 
-/// The program of a script, which is read to its end. The journal part is not looked at.
+/// The program of a script, which is read to its end. The journal part is not looked at. A program part that is whole
+/// and refused is refused at once: behind the block that ended its separator nothing is read.
 pub fn read_script<S: Source>(alloc: Global, source: &mut S) -> Result<Accepted, Unread>
     ensures script { MatchResult result
-        (λ a. ReadsScript (S.left source.old) (S.left source.new) (program_tree a.program) (form_tree a.lens))
-        (IsUnread (S.left source.old) (S.left source.new)) }
-    ensures cause { IsErrOf result (Unread.Stopped TakeFault.SourceFault) → Increased (S.faults source.old) (S.faults source.new) }
+        (λ a. ReadsScript S.Source source.old source.new (program_tree a.program) (form_tree a.lens))
+        (IsUnread S.Source source.old source.new) }
+    ensures cause { IsErrOf result (Unread.Stopped TakeFault.SourceFault)
+        → SourceFailed S.Source source.old source.new }
 {
     let Ok(mut piece) = piece_buffer(alloc) else {
         return Err(Unread::Stopped(TakeFault::NoMemory));

@@ -1,6 +1,6 @@
 -- A script that goes on: what is known of it at some bytes stays so, whatever follows.
 use Rattle.std.proofs.Common.{◌≡◌, ℕ, List, [], ◌∷◌, ◌++◌, Bool, true, false, refl, sym, ap, subst, ◌∙◌, append_assoc, append-nil}
-use Rattle.std.specs.Prelude.{◌==◌, ◌||◌, option_to_list}
+use Rattle.std.specs.Prelude.{◌==◌, option_to_list}
 use Rattle.std.specs.List.{list_any}
 use Rattle.std.proofs.lemmas.Bool.{eqb-true}
 use Rattle.edit_journal.specs.Pieces.{FedLines, nothing_fed, fed, last_line, lines_of, has_no_end}

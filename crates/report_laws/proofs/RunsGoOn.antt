@@ -1,69 +1,46 @@
--- A run over more items answers the first ones first.
-use Rattle.std.proofs.Common.{◌≡◌, ℕ, ◌+◌, List, [], ◌∷◌, ◌++◌, true, false, cond, Option, None, Some, refl, sym, ap, ap₂, subst, ◌∙◌, append_assoc}
+-- A run over more lines answers the first ones first.
+use Rattle.std.proofs.Common.{◌≡◌, ℕ, ◌+◌, List, [], ◌∷◌, ◌++◌, Bool, true, false, cond, Option, None, Some, refl, sym, ap, ◌∙◌, append_assoc}
 use Rattle.std.specs.Prelude.{option_map, option_and_then}
-use Rattle.texts.specs.declared.side.Side.{Side}
-use Rattle.doc_values.specs.Types.{TyTree}
-use Rattle.edit_module.specs.Words.{WordTree}
+use Rattle.value_json.proofs.Facts.{map_some}
 use Rattle.edit_journal.specs.Lines.{is_blank}
-use Rattle.edit_journal.specs.EntryJson.{change_of_line}
 use Rattle.edit_journal.specs.declared.line.Line.{Line}
-use Rattle.lens_core.specs.Complements.{CompTree}
-use Rattle.lens_core.specs.Translation.{Translated}
-use Rattle.edit_session.specs.Step.{TripleTree}
-use Rattle.edit_session.specs.Run.{take_item, run}
-use Rattle.journal_answers.specs.Answers.{answer_line, answer_lines}
-use Rattle.journal_answers.specs.Runs.{JournalItem, JournalAnswer, items_of}
+use Rattle.line_stream.specs.Runs.{answer_lines, run}
+use Rattle.line_stream.specs.declared.state.Answer.{Answer}
 use Rattle.report_laws.specs.Beginnings.{BeginsWith}
 
--- the items of lines and more lines
-pub items-append : (lines more : List Line) → items_of (lines ++ more) ≡ items_of lines ++ items_of more
-items-append [] more = refl
-items-append (line ∷ lines) more =
-    elim (is_blank line) as (λ b. cond b (items_of (lines ++ more)) (change_of_line line ∷ items_of (lines ++ more)) ≡ cond b (items_of lines) (change_of_line line ∷ items_of lines) ++ items_of more)
-    [ true ↦ items-append lines more | false ↦ ap (λ l. change_of_line line ∷ l) (items-append lines more) ]
+module _ {T : Type 0} where
+  -- the answers to the first steps are the first answers
+  pub answers-begin : (steps more : List (T × Answer)) → BeginsWith (answer_lines (steps ++ more)) (answer_lines steps)
+  answers-begin [] more = record { rest = answer_lines more; is = refl }
+  answers-begin (s ∷ steps) more =
+      let on = answers-begin steps more in
+      record { rest = on.rest; is = ap (λ l. s.1.line ++ l) on.is ∙ sym (append_assoc s.1.line (answer_lines steps) on.rest) }
 
--- the answers to the first steps are the first answers
-pub answers-begin : (n : ℕ) (steps more : List (TripleTree × JournalAnswer)) → BeginsWith (answer_lines n (steps ++ more)) (answer_lines n steps)
-answers-begin n [] more = record { rest = answer_lines n more; is = refl }
-answers-begin n (s ∷ steps) more =
-    let on = answers-begin (n + 1) steps more in
-    record { rest = on.rest; is = ap (λ l. answer_line n s.1 ++ l) on.is ∙ sym (append_assoc (answer_line n s.1) (answer_lines (n + 1) steps) on.rest) }
+module _ {T : Type 0} (answer : T → ℕ → Line → Option (T × Answer)) where
+  -- the steps of a run over these lines are the first of those over these and more
+  abbrev Begins : List Line → List Line → Type 0
+  Begins lines more = (t : T) (n : ℕ) (steps whole : List (T × Answer)) → run answer t n lines ≡ Some steps → run answer t n (lines ++ more) ≡ Some whole → BeginsWith whole steps
 
--- one step more in front of both lists
-longer : {X : Type 0} (one other : X) (steps others all rest whole : List X) → whole ≡ one ∷ all → one ≡ other → all ≡ others ++ rest → steps ≡ other ∷ others → whole ≡ steps ++ rest
-longer one other steps others all rest whole w same on st =
-    let front : one ∷ all ≡ other ∷ (others ++ rest) = ap₂ (λ s l. s ∷ l) same on in
-    let back : other ∷ (others ++ rest) ≡ steps ++ rest = ap (λ l. l ++ rest) (sym st) in
-    w ∙ front ∙ back
+  -- a step, and then those over these lines
+  abbrev after : ℕ → List Line → T × Answer → Option (List (T × Answer))
+  after n lines s = option_map (λ all. s ∷ all) (run answer s.0 n lines)
 
-module _ (left right : TyTree) (translation : Side → CompTree → WordTree → Option Translated) where
-  -- the first step of a run, and the others
-  record FirstStep (t : TripleTree) (item : JournalItem) (items : List JournalItem) (steps : List (TripleTree × JournalAnswer)) : Type 0 where
-    step : TripleTree × JournalAnswer
-    taken : take_item left right translation t item ≡ Some step
-    others : List (TripleTree × JournalAnswer)
-    runs : run left right translation step.0 items ≡ Some others
-    same : steps ≡ step ∷ others
+  by_answer : (n : ℕ) (lines more : List Line) → Begins lines more → (o : Option (T × Answer)) (steps whole : List (T × Answer))
+      → option_and_then (after n lines) o ≡ Some steps → option_and_then (after n (lines ++ more)) o ≡ Some whole → BeginsWith whole steps
+  by_answer n lines more rest None steps whole h k = cc
+  by_answer n lines more rest (Some s) steps whole h k =
+      let one = map_some (λ (all : List (T × Answer)). s ∷ all) (run answer s.0 n lines) steps h in
+      let all = map_some (λ (l : List (T × Answer)). s ∷ l) (run answer s.0 n (lines ++ more)) whole k in
+      let on = rest s.0 n one.0 all.0 one.1 all.1 in
+      record { rest = on.rest; is = sym all.2 ∙ ap (λ l. s ∷ l) on.is ∙ ap (λ l. l ++ on.rest) one.2 }
 
-  first_step : (t : TripleTree) (item : JournalItem) (items : List JournalItem) (steps : List (TripleTree × JournalAnswer)) → run left right translation t (item ∷ items) ≡ Some steps → FirstStep t item items steps
-  first_step t item items steps h = by_item (take_item left right translation t item) refl h where
-    by_run : (s : TripleTree × JournalAnswer) → take_item left right translation t item ≡ Some s → (o : Option (List (TripleTree × JournalAnswer))) → run left right translation s.0 items ≡ o
-        → option_map (λ others. s ∷ others) o ≡ Some steps → FirstStep t item items steps
-    by_run s taken None is e = cc
-    by_run s taken (Some others) is e = let same : s ∷ others ≡ steps = cc in record { step = s; taken = taken; others = others; runs = is; same = sym same }
+  by_blank : (lines more : List Line) → Begins lines more → (t : T) (n : ℕ) (line : Line) (blank : Bool) (steps whole : List (T × Answer))
+      → cond blank (run answer t n lines) (option_and_then (after (n + 1) lines) (answer t (n + 1) line)) ≡ Some steps
+      → cond blank (run answer t n (lines ++ more)) (option_and_then (after (n + 1) (lines ++ more)) (answer t (n + 1) line)) ≡ Some whole
+      → BeginsWith whole steps
+  by_blank lines more rest t n line true steps whole h k = rest t n steps whole h k
+  by_blank lines more rest t n line false steps whole h k = by_answer (n + 1) lines more rest (answer t (n + 1) line) steps whole h k
 
-    by_item : (o : Option (TripleTree × JournalAnswer)) → take_item left right translation t item ≡ o
-        → option_and_then (λ s. option_map (λ others. s ∷ others) (run left right translation s.0 items)) o ≡ Some steps → FirstStep t item items steps
-    by_item None taken e = cc
-    by_item (Some s) taken e = by_run s taken (run left right translation s.0 items) refl e
-
-  pub run-begins : (t : TripleTree) (items more : List JournalItem) (steps whole : List (TripleTree × JournalAnswer)) → run left right translation t items ≡ Some steps
-      → run left right translation t (items ++ more) ≡ Some whole → BeginsWith whole steps
-  run-begins t [] more steps whole h k = let same : [] ≡ steps = cc in record { rest = whole; is = ap (λ l. l ++ whole) same }
-  run-begins t (item ∷ items) more steps whole h k =
-      let one = first_step t item items steps h in
-      let all = first_step t item (items ++ more) whole k in
-      let same : all.step ≡ one.step = let e : Some all.step ≡ Some one.step = sym all.taken ∙ one.taken in cc in
-      let rest : run left right translation one.step.0 (items ++ more) ≡ Some all.others = subst (λ (s : TripleTree × JournalAnswer). run left right translation s.0 (items ++ more) ≡ Some all.others) same all.runs in
-      let on = run-begins one.step.0 items more one.others all.others one.runs rest in
-      record { rest = on.rest; is = longer all.step one.step steps one.others all.others on.rest whole all.same same on.is one.same }
+  pub run-begins : (lines more : List Line) → Begins lines more
+  run-begins [] more t n steps whole h k = let same : [] ≡ steps = cc in record { rest = whole; is = ap (λ l. l ++ whole) same }
+  run-begins (line ∷ lines) more t n steps whole h k = by_blank lines more (run-begins lines more) t n line (is_blank line) steps whole h k

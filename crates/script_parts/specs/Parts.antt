@@ -1,14 +1,15 @@
--- What the reading of a script's program part has found when it ends. Read it from the end: `ReadsHead`, then `StopsHead`.
+-- What the reading of a script's program part has found when it ends. Read it from the end: `ReadsHead`, then
+-- `StopsHead`.
 use Rattle.std.specs.Prelude.{◌≡◌, ℕ, ◌+◌, ◌<◌, ◌≤◌, List, [], ◌++◌, length, Bool, true, false}
-use Rattle.std.specs.declared.option.Option.{Option}
-use Rattle.std.specs.Io.KnownBytes.{Consumes, IsAtEnd}
+use Rattle.lens_io.specs.Calls.{Took, IsRead}
 use Rattle.lens_io.specs.declared.failed.TakeFault.{TakeFault}
 use Rattle.lens_io.specs.declared.failed.TakeFault.TheVariants.{SourceFault, TooLong, NoMemory}
+use Rattle.lens_io.specs.declared.source.Source as OfSource
 use Rattle.edit_journal.specs.Pieces.{nothing_fed, fed, lines_of}
-use Rattle.script_parts.specs.Coming.{ended_lines, has_separator, journal_lines}
+use Rattle.script_parts.specs.Coming.{ended_lines, has_separator, journal_lines, HadNoPart}
 use Rattle.script_parts.specs.Lines.{program_part, journal}
 use Rattle.journal_input.specs.Taking.{TakenInput, StopsAt}
-use Rattle.journal_input.specs.declared.limits.TheConstants.{MOST_BYTES, PIECE_BYTES}
+use Rattle.journal_input.specs.declared.limits.TheConstants.{MOST_BYTES}
 use Rattle.script_parts.specs.declared.script.Head.{Head}
 use Rattle.script_parts.specs.declared.script.Head.TheVariants.{Separated, Whole}
 use Rattle.script_parts.specs.declared.script.ProgramText.{ProgramText}
@@ -33,60 +34,80 @@ pub record IsHead (front part : List ℕ) : Type 0 where
 
 -- ---- the source
 
--- The last piece of these bytes, which has at most `PIECE_BYTES`. The separator had not come before it.
-pub record HasLastPiece (bytes : List ℕ) : Type 0 where
-  pub before : List ℕ
-  pub piece : List ℕ
-  pub pieces : bytes ≡ before ++ piece
-  pub few : length piece ≤ PIECE_BYTES
-  pub not_before : has_separator before ≡ false
+module _ {S : Type 0} (source : OfSource.Ghosts S) (old new : S) where
+  -- The bytes that were taken are those whose lines were handled, and the rest, whose lines the input holds. The
+  -- separator had not come when the source was called last.
+  pub record IsTaken (input : TakenInput) (front rest : List ℕ) : Type 0 where
+    -- the source gave these bytes
+    pub consumes : Took source old new (front ++ rest)
+    -- the input holds the lines of the rest
+    pub lines : input.lines ≡ fed nothing_fed rest
+    -- the input counts all of them
+    pub count : input.taken ≡ length (front ++ rest)
+    -- one more than the limit may have come
+    pub few : length (front ++ rest) ≤ MOST_BYTES + 1
+    -- no separator had come when the source was called last
+    pub last : HadNoPart source old new (front ++ rest)
 
--- The bytes that were taken are those whose lines were handled, and the rest, whose lines the input holds. The separator had not come
--- before the last piece of them.
-pub record IsTaken (left left' : Option (List ℕ)) (input : TakenInput) (front rest : List ℕ) : Type 0 where
-  pub consumes : Consumes left left' (front ++ rest)
-  pub lines : input.lines ≡ fed nothing_fed rest
-  pub count : input.taken ≡ length (front ++ rest)
-  pub few : length (front ++ rest) ≤ MOST_BYTES + 1
-  pub last : HasLastPiece (front ++ rest)
+  -- The source came to its end, where its last call gave nothing, and its bytes are a program part alone.
+  pub record EndsWhole (bytes : List ℕ) : Type 0 where
+    -- the source gave these bytes
+    pub consumes : Took source old new bytes
+    -- it has no more
+    pub at_end : IsRead source old new
+    -- so its last call gave nothing
+    pub gave_nothing : source.last new ≡ 0
+    -- they are not too many
+    pub within : length bytes ≤ MOST_BYTES
+    -- no LF has ended a separator in them
+    pub no_separator : has_separator bytes ≡ false
+    -- so they have no journal
+    pub no_journal : journal bytes ≡ []
 
--- ---- the end of the reading
+  -- ---- the end of the reading. What it found in a program part is kept in a value, and `Holds` says of which part.
 
--- the program part was read up to the separator, which came with the last piece
-pub record ReadsPart (left left' : Option (List ℕ)) (program : ProgramText) (input : TakenInput) : Type 0 where
-  pub front : List ℕ
-  pub rest : List ℕ
-  pub part : List ℕ
-  pub taken : IsTaken left left' input front rest
-  pub head : IsHead front part
-  pub holds : HoldsPart program part
+  -- The program part was read up to the separator, which came with the last call of the source.
+  pub record ReadsPart {P : Type 0} (Holds : P → List ℕ → Type 0) (program : P) (input : TakenInput) : Type 0 where
+    -- the lines up to the separator, and what the source gave behind them
+    pub front : List ℕ
+    pub rest : List ℕ
+    -- the program part
+    pub part : List ℕ
+    -- these bytes were taken, and the input holds the rest
+    pub taken : IsTaken input front rest
+    -- the front ends with the separator, and the program part is before it
+    pub head : IsHead front part
+    -- the value keeps what was found in the program part
+    pub holds : Holds program part
 
--- the source came to its end, and no journal is behind the program part
-pub record ReadsAll (left left' : Option (List ℕ)) (program : ProgramText) : Type 0 where
-  pub bytes : List ℕ
-  pub consumes : Consumes left left' bytes
-  pub at_end : IsAtEnd left'
-  pub within : length bytes ≤ MOST_BYTES
-  pub holds : HoldsPart program (program_part bytes)
-  pub no_separator : has_separator bytes ≡ false
-  pub no_journal : journal bytes ≡ []
+  -- The source came to its end, and no journal is behind the program part.
+  pub record ReadsAll {P : Type 0} (Holds : P → List ℕ → Type 0) (program : P) : Type 0 where
+    pub bytes : List ℕ
+    -- they are all bytes of the source, and a program part alone
+    pub whole : EndsWhole bytes
+    -- the value keeps what was found in the program part
+    pub holds : Holds program (program_part bytes)
 
--- what was read when the reading has come to its end
-abbrev pub ReadsHead : Option (List ℕ) → Option (List ℕ) → Head → Type 0
-ReadsHead left left' (Separated program input) = ReadsPart left left' program input
-ReadsHead left left' (Whole program) = ReadsAll left left' program
+  -- what was read when the reading has come to its end
+  abbrev pub ReadsHead : Head → Type 0
+  ReadsHead (Separated program input) = ReadsPart HoldsPart program input
+  ReadsHead (Whole program) = ReadsAll HoldsPart program
 
--- a fault of the source, or too many bytes, before the separator had come; running out of memory says nothing
-abbrev pub NotYet : List ℕ → TakeFault → Type 0
-NotYet bytes SourceFault = has_separator bytes ≡ false
-NotYet bytes TooLong = has_separator bytes ≡ false
-NotYet bytes NoMemory = Unit {0}
+  -- A fault of the source, or too many bytes, come before the separator has. When memory ran out the separator had not
+  -- come when the source was called last.
+  abbrev pub NotYet : List ℕ → TakeFault → Type 0
+  NotYet bytes SourceFault = has_separator bytes ≡ false
+  NotYet bytes TooLong = has_separator bytes ≡ false
+  NotYet bytes NoMemory = HadNoPart source old new bytes
 
--- the reading stopped after these bytes
-pub record StopsHead (left left' : Option (List ℕ)) (fault : TakeFault) : Type 0 where
-  pub bytes : List ℕ
-  pub consumes : Consumes left left' bytes
-  pub at_most : length bytes ≤ MOST_BYTES + 1
-  pub stops : StopsAt (length bytes) fault
-  pub last : HasLastPiece bytes
-  pub not_yet : NotYet bytes fault
+  -- The reading stopped after these bytes.
+  pub record StopsHead (fault : TakeFault) : Type 0 where
+    pub bytes : List ℕ
+    -- the source gave these bytes
+    pub consumes : Took source old new bytes
+    -- one more than the limit may have come
+    pub at_most : length bytes ≤ MOST_BYTES + 1
+    -- what the number of bytes says of the fault
+    pub stops : StopsAt (length bytes) fault
+    -- what the fault says of the separator
+    pub not_yet : NotYet bytes fault

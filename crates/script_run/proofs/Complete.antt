@@ -1,45 +1,59 @@
 -- A call over a script that met no fault is complete.
-use Rattle.std.proofs.Common.{◌≡◌, ◌⊎◌, inl, inr, ℕ, ◌≤◌, List, ◌++◌, length, Option, Some, None, Result, Ok, Err, IfSome, refl, sym, ap, ◌∙◌, arith}
-use Rattle.edit_journal.specs.declared.line.Line.{Line}
+use Rattle.std.proofs.Common.{◌≡◌, inl, inr, ℕ, ◌≤◌, List, length, Option, Some, None, Result, Ok, Err, IfSome, refl, sym, ap, subst, arith}
+use Rattle.std.specs.Io.KnownBytes.{Consumes}
+use Rattle.lens_io.specs.declared.sink.Sink as OfSink
+use Rattle.lens_io.specs.declared.source.Source as OfSource
 use Rattle.journal_input.specs.declared.limits.TheConstants.{MOST_BYTES}
-use Rattle.line_stream.specs.declared.state.Answer.{Answer}
 use Rattle.script_parts.specs.Lines.{program_part}
-use Rattle.script_run.specs.Ends.{IsComplete}
-use Rattle.script_run.specs.Ending.{Ended}
+use Rattle.script_run.specs.Ends.{Ended, IsComplete}
+use Rattle.script_run.specs.declared.state.ScriptState as OfScript
 use Rattle.script_run.specs.declared.status.ScriptStatus.{ScriptStatus}
 use Rattle.script_run.specs.declared.status.ScriptStatus.TheVariants.{Done, SomeRefused, ProgramRefused, SourceFault, SinkFault, InputTooLong, NoMemory}
-use Rattle.script_parts.proofs.TakenParts.{few_taken, part_of_all, all_taken}
+use Rattle.script_parts.proofs.TakenParts.{few_taken, fixed_or_read, part_of_all, all_taken}
 
 -- an outcome is not both
 one_outcome : {Accepted Refusal : Type 0} {X : Type 0} (r s : Result Accepted Refusal) (program : Accepted) (refusal : Refusal) → r ≡ s → r ≡ Ok program → s ≡ Err refusal → X
 one_outcome r s program refusal same some none = cc
 
-module _ {Accepted Refusal T : Type 0} (accepted : List ℕ → Result Accepted Refusal) (refusal_line : Refusal → List ℕ) (start : Accepted → T)
-    (answer : T → ℕ → Line → Option (T × Answer)) (state_text : T → List ℕ) (in_step : Accepted → T → Type 0) where
-  -- R says that the source failed, F that the sink did.
-  pub complete : (left left' held held' : Option (List ℕ)) (status : ScriptStatus) (R F : Type 0) → Ended accepted refusal_line start answer state_text in_step left left' held held' status
-      → (status ≡ SourceFault → R) → (status ≡ SinkFault → F) → IfSome left (λ bytes. length bytes ≤ MOST_BYTES → (R → ⊥) → (F → ⊥) → IsComplete accepted bytes status)
-  complete None left' held held' status R F e source sink = tt
-  complete (Some bytes) left' held held' Done R F e source sink =
-      λ few no_source no_sink. (
-        (λ program is. inl (inl refl)),
-        λ refusal none. let r = e.reports (inl refl) in one_outcome (accepted (program_part r.bytes)) (accepted (program_part bytes)) r.program refusal
-            (ap (λ b. accepted (program_part b)) (sym (all_taken bytes left' r.bytes r.consumes r.at_end))) r.is_accepted none,
-      )
-  complete (Some bytes) left' held held' SomeRefused R F e source sink =
-      λ few no_source no_sink. (
-        (λ program is. inl (inr refl)),
-        λ refusal none. let r = e.reports (inr refl) in one_outcome (accepted (program_part r.bytes)) (accepted (program_part bytes)) r.program refusal
-            (ap (λ b. accepted (program_part b)) (sym (all_taken bytes left' r.bytes r.consumes r.at_end))) r.is_accepted none,
-      )
-  complete (Some bytes) left' held held' ProgramRefused R F e source sink =
-      let s = e.stops in
-      λ few no_source no_sink. (
-        (λ program is. one_outcome (accepted (program_part bytes)) (accepted (program_part s.bytes)) program s.clean.0 (ap accepted (part_of_all bytes left' s.bytes s.consumes s.clean.1.whole)) is s.clean.1.refused),
-        λ refusal none. inl refl,
-      )
-  complete (Some bytes) left' held held' SourceFault R F e source sink = λ few no_source no_sink. absurd (no_source (source refl))
-  complete (Some bytes) left' held held' SinkFault R F e source sink = λ few no_source no_sink. absurd (no_sink (sink refl))
-  complete (Some bytes) left' held held' InputTooLong R F e source sink =
-      λ few no_source no_sink. absurd (omega (arith, e.stops.only_too_long refl, few_taken bytes left' e.stops.bytes e.stops.consumes))
-  complete (Some bytes) left' held held' NoMemory R F e source sink = λ few no_source no_sink. ((λ program is. inr refl), λ refusal none. inr refl)
+-- R says that the source failed, F that the sink did.
+module _ {H S K : Type 0} (script : OfScript.Ghosts H) (source : OfSource.Ghosts S) (sink : OfSink.Ghosts K) (old new : S × K) (R F : Type 0) where
+  -- the source had these bytes
+  module _ (bytes : List ℕ) (known : source.left old.0 ≡ Some bytes) where
+    abbrev CompletesUnless : ScriptStatus → Type 0
+    CompletesUnless status = length bytes ≤ MOST_BYTES → (R → ⊥) → (F → ⊥) → IsComplete script bytes status
+
+    took_known : (taken : List ℕ) → Consumes (source.left old.0) (source.left new.0) taken → Consumes (Some bytes) (source.left new.0) taken
+    took_known taken h = subst (λ o. Consumes o (source.left new.0) taken) known h
+
+    completes : (status : ScriptStatus) → Ended script source sink old new status → (status ≡ SourceFault → R) → (status ≡ SinkFault → F) → CompletesUnless status
+    completes Done e failed_source failed_sink =
+        λ few no_source no_sink. (
+          (λ program is. inl (inl refl)),
+          λ refusal none. let r = e.reports (inl refl) in one_outcome (script.accepted (program_part r.bytes)) (script.accepted (program_part bytes)) r.program refusal
+              (ap (λ b. script.accepted (program_part b)) (sym (all_taken bytes (source.left new.0) r.bytes (took_known r.bytes r.took) r.read))) r.is_accepted none,
+        )
+    completes SomeRefused e failed_source failed_sink =
+        λ few no_source no_sink. (
+          (λ program is. inl (inr refl)),
+          λ refusal none. let r = e.reports (inr refl) in one_outcome (script.accepted (program_part r.bytes)) (script.accepted (program_part bytes)) r.program refusal
+              (ap (λ b. script.accepted (program_part b)) (sym (all_taken bytes (source.left new.0) r.bytes (took_known r.bytes r.took) r.read))) r.is_accepted none,
+        )
+    completes ProgramRefused e failed_source failed_sink =
+        let s = e.stops in
+        λ few no_source no_sink. (
+          (λ program is. one_outcome (script.accepted (program_part bytes)) (script.accepted (program_part s.bytes)) program s.clean.0
+              (ap script.accepted (part_of_all bytes (source.left new.0) s.bytes (took_known s.bytes s.took) (fixed_or_read source old.0 new.0 s.bytes s.clean.1.whole))) is s.clean.1.refused),
+          λ refusal none. inl refl,
+        )
+    completes SourceFault e failed_source failed_sink = λ few no_source no_sink. absurd (no_source (failed_source refl))
+    completes SinkFault e failed_source failed_sink = λ few no_source no_sink. absurd (no_sink (failed_sink refl))
+    completes InputTooLong e failed_source failed_sink =
+        λ few no_source no_sink. absurd (omega (arith, e.stops.only_too_long refl, few_taken bytes (source.left new.0) e.stops.bytes (took_known e.stops.bytes e.stops.took)))
+    completes NoMemory e failed_source failed_sink = λ few no_source no_sink. ((λ program is. inr refl), λ refusal none. inr refl)
+
+  pub complete : (status : ScriptStatus) → Ended script source sink old new status → (status ≡ SourceFault → R) → (status ≡ SinkFault → F)
+      → IfSome (source.left old.0) (λ bytes. length bytes ≤ MOST_BYTES → (R → ⊥) → (F → ⊥) → IsComplete script bytes status)
+  complete status e failed_source failed_sink = by_left (source.left old.0) refl where
+    by_left : (left : Option (List ℕ)) → source.left old.0 ≡ left → IfSome left (λ bytes. length bytes ≤ MOST_BYTES → (R → ⊥) → (F → ⊥) → IsComplete script bytes status)
+    by_left None known = tt
+    by_left (Some bytes) known = completes bytes known status e failed_source failed_sink

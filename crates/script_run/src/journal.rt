@@ -1,12 +1,10 @@
 //! The journal of a script.
 ghost use Rattle.std.specs.Prelude.{◌≡◌, ◌<◌, ◌≤◌, List, ℕ, Ok, length};
-ghost use Rattle.std.specs.declared.option.Option.{Option};
-ghost use Rattle.lens_io.specs.Causes.{Increased, SinkFailed};
+ghost use Rattle.lens_io.specs.Calls.{SourceFailed, SinkFailed};
 ghost use Rattle.journal_input.specs.Taking.{IsWithin};
 ghost use Rattle.journal_input.specs.declared.limits.TheConstants.{PIECE_BYTES};
 ghost use Rattle.script_parts.specs.Parts.{IsTaken, IsHead};
-ghost use Rattle.script_run.specs.Ends.{EveryRunStaysInStep};
-ghost use Rattle.script_run.specs.Ending.{Ended};
+ghost use Rattle.script_run.specs.Ends.{Ended, EveryRunStaysInStep};
 
 use crate::lines::ScriptLines;
 use crate::report::{give_report, last_report};
@@ -17,8 +15,8 @@ use lens_io::{Sink, Source};
 use line_stream::answer_pieces;
 use std::alloc::Global;
 
-/// Answers a journal as it comes, and ends with the state lines. The program part before it is accepted, and the state is that
-/// before the journal.
+/// Answers a journal as it comes, and ends with the state lines. The program part before it is accepted, and the state
+/// is that before the journal. `start` is the source before its first byte was taken.
 ///
 /// The status, and what was read and written then, is said by `Ended`. `NoMemory` comes only if memory ran out.
 pub fn answer_script<S: Source, K: Sink, A: ScriptState>(
@@ -32,16 +30,15 @@ pub fn answer_script<S: Source, K: Sink, A: ScriptState>(
     requires some { 0 < length piece.old }
     requires few { length piece.old ≤ PIECE_BYTES }
     requires within { IsWithin input }
-    requires in_step { EveryRunStaysInStep A.accepted A.start A.answer A.in_step }
-    ensures ended { (left : Option (List ℕ)) (front rest part : List ℕ) (program : A.Accepted)
-        → IsTaken left (S.left source.old) input front rest → IsHead front part
+    requires in_step { EveryRunStaysInStep A.ScriptState }
+    ensures ended { (start : S) (front rest part : List ℕ) (program : A.Accepted)
+        → IsTaken S.Source start source.old input front rest → IsHead front part
         → A.accepted part ≡ Ok program → A.state state ≡ A.start program
-        → Ended A.accepted A.refusal_line A.start A.answer A.state_text A.in_step
-        left (S.left source.new) (K.held sink.old) (K.held sink.new) result }
+        → Ended A.ScriptState S.Source K.Sink (start, sink.old) (source.new, sink.new) result }
     ensures source_fault { result ≡ ScriptStatus.SourceFault
-        → Increased (S.faults source.old) (S.faults source.new) }
+        → SourceFailed S.Source source.old source.new }
     ensures sink_fault { result ≡ ScriptStatus.SinkFault
-        → SinkFailed K.faults K.empty_takes K.room K.held sink.old sink.new }
+        → SinkFailed K.Sink sink.old sink.new }
 {
     let mut lines = ScriptLines { state };
     let status = answer_lines(alloc, &mut lines, input, source, piece, sink);
@@ -61,16 +58,15 @@ fn answer_lines<S: Source, K: Sink, A: ScriptState>(
     requires some { 0 < length piece.old }
     requires few { length piece.old ≤ PIECE_BYTES }
     requires within { IsWithin input }
-    requires in_step { EveryRunStaysInStep A.accepted A.start A.answer A.in_step }
-    ensures ended { (left : Option (List ℕ)) (front rest part : List ℕ) (program : A.Accepted)
-        → IsTaken left (S.left source.old) input front rest → IsHead front part
+    requires in_step { EveryRunStaysInStep A.ScriptState }
+    ensures ended { (start : S) (front rest part : List ℕ) (program : A.Accepted)
+        → IsTaken S.Source start source.old input front rest → IsHead front part
         → A.accepted part ≡ Ok program → A.state lines.old.state ≡ A.start program
-        → Ended A.accepted A.refusal_line A.start A.answer A.state_text A.in_step
-        left (S.left source.new) (K.held sink.old) (K.held sink.new) result }
+        → Ended A.ScriptState S.Source K.Sink (start, sink.old) (source.new, sink.new) result }
     ensures source_fault { result ≡ ScriptStatus.SourceFault
-        → Increased (S.faults source.old) (S.faults source.new) }
+        → SourceFailed S.Source source.old source.new }
     ensures sink_fault { result ≡ ScriptStatus.SinkFault
-        → SinkFailed K.faults K.empty_takes K.room K.held sink.old sink.new }
+        → SinkFailed K.Sink sink.old sink.new }
 {
     let mut input = input;
     match answer_pieces(alloc, lines, &mut input, source, piece, sink) {

@@ -1,13 +1,11 @@
 //! What comes once the program part of a script was read.
 ghost use Rattle.std.specs.Prelude.{◌≡◌, ◌<◌, ◌≤◌, List, ℕ, length};
-ghost use Rattle.std.specs.declared.option.Option.{Option};
-ghost use Rattle.lens_io.specs.Causes.{Increased, SinkFailed};
+ghost use Rattle.lens_io.specs.Calls.{SourceFailed, SinkFailed};
 ghost use Rattle.journal_input.specs.Taking.{IsWithin};
 ghost use Rattle.journal_input.specs.declared.limits.TheConstants.{PIECE_BYTES};
-ghost use Rattle.script_parts.specs.Lines.{program_part};
 ghost use Rattle.script_parts.specs.Parts.{IsTaken, IsHead};
-ghost use Rattle.script_run.specs.Ends.{EveryRunStaysInStep};
-ghost use Rattle.script_run.specs.Ending.{EndsWhole, Ended, Opens};
+ghost use Rattle.script_run.specs.Ends.{Ended, EveryRunStaysInStep};
+ghost use Rattle.script_run.specs.Ending.{GivesAlone, Opens};
 
 use crate::journal::answer_script;
 use crate::report::{first_report, give_report, refusal};
@@ -19,9 +17,9 @@ use std::alloc::Global;
 
 /// Goes on behind a program part and its separator. `opened` is the state before the journal, or why there is none.
 ///
-/// If there is one, the journal is answered as it comes, and the state lines are written at its end. If the program part is
-/// refused, the line of the refusal is written, and nothing more is read. The status, and what was read and written then, is
-/// said by `Ended`:
+/// If there is one, the journal is answered as it comes, and the state lines are written at its end. If the program
+/// part is refused, the line of the refusal is written, and nothing more is read. The status, and what was read and
+/// written since the source gave its first byte, is said by `Ended`:
 ///
 /// - `Done`, `SomeRefused`: the report of the complete input was written, and every state of the run is in step.
 /// - `ProgramRefused`: only if `opened` is a refusal. Its line was written, and nothing more.
@@ -39,16 +37,15 @@ pub fn answer_part<S: Source, K: Sink, A: ScriptState>(
     requires some { 0 < length piece.old }
     requires few { length piece.old ≤ PIECE_BYTES }
     requires within { IsWithin input }
-    requires in_step { EveryRunStaysInStep A.accepted A.start A.answer A.in_step }
-    ensures ended { (left : Option (List ℕ)) (front rest part : List ℕ)
-        → IsTaken left (S.left source.old) input front rest → IsHead front part
-        → Opens (A.accepted part) A.refusal_line A.start A.state opened
-        → Ended A.accepted A.refusal_line A.start A.answer A.state_text A.in_step
-        left (S.left source.new) (K.held sink.old) (K.held sink.new) result }
+    requires in_step { EveryRunStaysInStep A.ScriptState }
+    ensures ended { (start : S) (front rest part : List ℕ)
+        → IsTaken S.Source start source.old input front rest → IsHead front part
+        → Opens A.ScriptState (A.accepted part) opened
+        → Ended A.ScriptState S.Source K.Sink (start, sink.old) (source.new, sink.new) result }
     ensures source_fault { result ≡ ScriptStatus.SourceFault
-        → Increased (S.faults source.old) (S.faults source.new) }
+        → SourceFailed S.Source source.old source.new }
     ensures sink_fault { result ≡ ScriptStatus.SinkFault
-        → SinkFailed K.faults K.empty_takes K.room K.held sink.old sink.new }
+        → SinkFailed K.Sink sink.old sink.new }
 {
     match opened {
         Ok(state) => answer_script(alloc, state, input, source, piece, sink),
@@ -58,10 +55,10 @@ pub fn answer_part<S: Source, K: Sink, A: ScriptState>(
 
 /// Ends a script that is a program part alone. `opened` is the state before the journal, or why there is none.
 ///
-/// If there is one, its state lines are written. If the program part is refused, the line of the refusal is written. The
-/// status, and what was written then, is said by `Ended`:
+/// If there is one, its state lines are written. If the program part is refused, the line of the refusal is written.
+/// The status, and what was written then, is said by `GivesAlone`:
 ///
-/// - `Done`: the report of the complete input was written, and the state is in step.
+/// - `Done`: the state lines were written.
 /// - `ProgramRefused`: only if `opened` is a refusal. Its line was written, and nothing more.
 /// - `SinkFault`: only if the sink failed.
 /// - `NoMemory`: only if memory ran out, or had when the state was made.
@@ -71,14 +68,11 @@ pub fn answer_alone<K: Sink, A: ScriptState>(
     opened: Result<A, NotOpened>,
     sink: &mut K,
 ) -> ScriptStatus
-    requires in_step { EveryRunStaysInStep A.accepted A.start A.answer A.in_step }
-    ensures ended { (left left' : Option (List ℕ)) (bytes : List ℕ) → EndsWhole left left' bytes
-        → Opens (A.accepted (program_part bytes)) A.refusal_line A.start A.state opened
-        → Ended A.accepted A.refusal_line A.start A.answer A.state_text A.in_step
-        left left' (K.held sink.old) (K.held sink.new) result }
+    ensures gives { (part : List ℕ) → Opens A.ScriptState (A.accepted part) opened
+        → GivesAlone A.ScriptState K.Sink sink.old sink.new (A.accepted part) result }
     ensures no_fault { result ≡ ScriptStatus.SourceFault → ⊥ }
     ensures sink_fault { result ≡ ScriptStatus.SinkFault
-        → SinkFailed K.faults K.empty_takes K.room K.held sink.old sink.new }
+        → SinkFailed K.Sink sink.old sink.new }
 {
     match opened {
         Ok(state) => {

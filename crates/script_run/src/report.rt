@@ -1,6 +1,6 @@
 //! What is written at the end of an input, and the status.
 ghost use Rattle.std.specs.Prelude.{◌≡◌, ◌+◌, ◌^◌, ◌<◌, ◌++◌, [], IfOk};
-ghost use Rattle.lens_io.specs.Causes.{SinkFailed};
+ghost use Rattle.lens_io.specs.Calls.{SinkFailed};
 ghost use Rattle.script_run.specs.Ending.{EndsReport, Gives, HasEnd};
 
 use crate::lines::ScriptLines;
@@ -18,8 +18,8 @@ pub struct Report {
     pub status: ScriptStatus,
 }
 
-/// The end of the report of a run whose input is at its end: the answers that are not written yet, with that to the last
-/// line, which no LF ends, and the state lines. The only error is running out of memory.
+/// The end of the report of a run whose input is at its end: the answers that are not written yet, with that to the
+/// last line, which no LF ends, and the state lines. The only error is running out of memory.
 pub fn last_report<A: ScriptState>(
     alloc: Global,
     lines: &mut ScriptLines<A>,
@@ -28,7 +28,7 @@ pub fn last_report<A: ScriptState>(
 ) -> Result<Report, AllocError>
     requires none { input.lines.ended ≡ [] }
     requires fits { progress.number + 1 < 2 ^ 64 }
-    ensures report { IfOk result (EndsReport A.answer A.state_text (A.state lines.old.state) progress input.lines.begun) }
+    ensures report { IfOk result (EndsReport A.ScriptState (A.state lines.old.state) progress input.lines.begun) }
     ensures end { HasEnd result }
 {
     let mut progress = progress;
@@ -65,7 +65,8 @@ pub fn first_report<A: ScriptState>(alloc: Global, state: &A) -> Result<Report, 
     })
 }
 
-/// The report of a program part that is refused: the line of the refusal alone. The only error is running out of memory.
+/// The report of a program part that is refused: the line of the refusal alone. The only error is running out of
+/// memory.
 pub fn refusal(refused: NotOpened) -> Result<Report, AllocError>
     ensures line { IfOk result (λ r. refused ≡ NotOpened.Refused r.text.items) }
     ensures status { IfOk result (λ r. r.status ≡ ScriptStatus.ProgramRefused) }
@@ -83,9 +84,9 @@ pub fn refusal(refused: NotOpened) -> Result<Report, AllocError>
 /// Writes a report, and ends with its status. Out of memory there is none.
 pub fn give_report<K: Sink>(report: Result<Report, AllocError>, sink: &mut K) -> ScriptStatus
     requires { HasEnd report }
-    ensures gives { Gives report (K.held sink.old) (K.held sink.new) result }
+    ensures gives { Gives K.Sink sink.old sink.new report result }
     ensures no_fault { result ≡ ScriptStatus.SourceFault → ⊥ }
-    ensures sink_fault { result ≡ ScriptStatus.SinkFault → SinkFailed K.faults K.empty_takes K.room K.held sink.old sink.new }
+    ensures sink_fault { result ≡ ScriptStatus.SinkFault → SinkFailed K.Sink sink.old sink.new }
 {
     let Ok(report) = report else {
         return ScriptStatus::NoMemory;

@@ -1,12 +1,14 @@
 -- For the helpers of `import`: which lines of a journal part were found, and the document of them.
-use Rattle.std.specs.Prelude.{◌≡◌, ℕ, ◌+◌, ◌≤◌, List, [], ◌∷◌, ◌++◌, length, Option, Some, None, Result, Err, if◌then◌else◌, option_to_list}
-use Rattle.std.specs.Io.KnownBytes.{Consumes, IsAtEnd}
+use Rattle.std.specs.Prelude.{◌≡◌, ℕ, ◌+◌, ◌≤◌, List, [], ◌∷◌, ◌++◌, length, Option, Some, None, Result, Err}
+use Rattle.std.specs.Prelude.{if◌then◌else◌, option_to_list}
 use Rattle.doc_values.specs.Documents.{DocTree}
 use Rattle.doc_values.specs.Types.{TyTree}
 use Rattle.edit_journal.specs.Lines.{is_blank}
 use Rattle.edit_journal.specs.Pieces.{FedLines, fed, last_line}
 use Rattle.edit_journal.specs.declared.line.Line.{Line}
+use Rattle.lens_io.specs.Calls.{Took, IsRead}
 use Rattle.lens_io.specs.declared.failed.TakeFault.{TakeFault}
+use Rattle.lens_io.specs.declared.source.Source as OfSource
 use Rattle.journal_input.specs.Taking.{TakenInput, StopsAt}
 use Rattle.journal_input.specs.declared.limits.TheConstants.{MOST_BYTES}
 use Rattle.store_import.specs.Import.{document_of_line}
@@ -41,20 +43,21 @@ added_last found None = found
 abbrev pub all_fed : FedLines → List Line
 all_fed lines = lines.ended ++ option_to_list (last_line lines.begun)
 
--- The rest of the input was read, up to the end. Its lines behind those that the input had were added.
-pub record FindsRest (left left' : Option (List ℕ)) (input : TakenInput) (found : Found) : Type 0 where
-  pub more : List ℕ
-  pub consumes : Consumes left left' more
-  pub at_end : IsAtEnd left'
-  pub within : input.taken + length more ≤ MOST_BYTES
-  pub is : found ≡ added_all Nothing (all_fed (fed input.lines more))
+module _ {S : Type 0} (source : OfSource.Ghosts S) (old new : S) (input : TakenInput) where
+  -- The rest of the input was read, up to the end. Its lines behind those that the input had were added.
+  pub record FindsRest (found : Found) : Type 0 where
+    pub more : List ℕ
+    pub took : Took source old new more
+    pub read : IsRead source old new
+    pub within : input.taken + length more ≤ MOST_BYTES
+    pub is : found ≡ added_all Nothing (all_fed (fed input.lines more))
 
--- the reading of the rest stopped
-pub record StopsRest (left left' : Option (List ℕ)) (input : TakenInput) (fault : TakeFault) : Type 0 where
-  pub more : List ℕ
-  pub consumes : Consumes left left' more
-  pub at_most : input.taken + length more ≤ MOST_BYTES + 1
-  pub stops : StopsAt (input.taken + length more) fault
+  -- the reading of the rest stopped
+  pub record StopsRest (fault : TakeFault) : Type 0 where
+    pub more : List ℕ
+    pub took : Took source old new more
+    pub at_most : input.taken + length more ≤ MOST_BYTES + 1
+    pub stops : StopsAt (input.taken + length more) fault
 
 -- ---- the document
 

@@ -1,7 +1,11 @@
 -- What the command `import` makes of a script.
--- Read it from the end: `Imports`, `Refuses`, `Brings`, then `document_of_script`.
-use Rattle.std.specs.Prelude.{◌≡◌, ◌⊎◌, ℕ, ◌≤◌, List, [], ◌∷◌, ◌++◌, length, codes, Option, Some, None, Result, Ok, Err, IfSome, if◌then◌else◌}
-use Rattle.std.specs.Io.KnownBytes.{Appends, Consumes, IsAtEnd}
+-- Read it from the end: `Imports`, `RefusesImport`, `import_command`, `Brings`, then `document_of_script`.
+use Rattle.std.specs.Prelude.{◌≡◌, ℕ, ◌≤◌, List, [], ◌∷◌, ◌++◌, length, codes, Option, Some, None, Result, Ok, Err}
+use Rattle.std.specs.Prelude.{IfSome, if◌then◌else◌}
+use Rattle.lens_io.specs.Calls.{Took, IsRead, Gave}
+use Rattle.lens_io.specs.declared.disk.Disk as OfDisk
+use Rattle.lens_io.specs.declared.sink.Sink as OfSink
+use Rattle.lens_io.specs.declared.source.Source as OfSource
 use Rattle.serde_json.specs.Data.{Data}
 use Rattle.serde_json.specs.Written.{compact_text}
 use Rattle.answer_text.specs.Lines.{ok_line}
@@ -28,12 +32,12 @@ use Rattle.stored_run.specs.Refusals.{IsUnwritten}
 use Rattle.texts.specs.declared.side.Side.TheVariants.{Left, Right}
 use Rattle.value_json.specs.DocumentJson.{document_of}
 use Rattle.store_making.specs.Init.{program_payload}
-use Rattle.making_steps.specs.Scripts.{IsAccepted, RefusesPart}
+use Rattle.making_steps.specs.Command.{Command}
+use Rattle.making_steps.specs.Scripts.{IsAccepted}
 use Rattle.making_steps.specs.Stores.{HoldsStore}
 use Rattle.store_import.specs.declared.refused.ImportRefusal.{ImportRefusal}
-use Rattle.store_import.specs.declared.refused.ImportRefusal.TheVariants.{NoDocument, ExtraLine, LineTooLong, NotJson, NotOfType}
-use Rattle.making_steps.specs.declared.status.MakingStatus.{MakingStatus}
-use Rattle.making_steps.specs.declared.status.MakingStatus.TheVariants.{SomeRefused, ProgramRefused}
+use Rattle.store_import.specs.declared.refused.ImportRefusal.TheVariants.{NoDocument, ExtraLine, LineTooLong, NotJson}
+use Rattle.store_import.specs.declared.refused.ImportRefusal.TheVariants.{NotOfType}
 
 -- ---- the document of a script
 
@@ -80,10 +84,9 @@ import_reason NotOfType = codes "not-of-type"
 abbrev pub import_line : ImportRefusal → List ℕ
 import_line refusal = codes "import refused: " ++ import_reason refusal ++ codes "\n"
 
--- The script was read to its end, its program part is accepted, and its journal part is no document of the left type, for this reason.
-pub record RefusesDocument (left' : Option (List ℕ)) (bytes line : List ℕ) : Type 0 where
-  pub at_end : IsAtEnd left'
-  pub within : length bytes ≤ MOST_BYTES
+-- The program part is accepted, and the journal part is no document of the left type, for this reason. The line says
+-- so.
+pub record RefusesDocument (bytes line : List ℕ) : Type 0 where
   pub program : ProgramTree
   pub form : FormTree
   pub accepted : IsAccepted (program_part bytes) program form
@@ -91,21 +94,15 @@ pub record RefusesDocument (left' : Option (List ℕ)) (bytes line : List ℕ) :
   pub refused : document_of_script (left_type form) bytes ≡ Err refusal
   pub is_line : line ≡ import_line refusal
 
--- `import` refuses a script for its program part, or for its document
-abbrev pub Refuses : Option (List ℕ) → List ℕ → MakingStatus → List ℕ → Type 0
-Refuses left' bytes refusing line =
-    (refusing ≡ ProgramRefused) × RefusesPart left' bytes line
-    ⊎ (refusing ≡ SomeRefused) × RefusesDocument left' bytes line
-
 -- ---- its store
 
 -- the payload of an entry of the left side
 abbrev pub entry_payload : WordTree → List ℕ
 entry_payload word = compact_text (tree_of_change_record (one (Left, word)))
 
--- The program is that of the script, and the document is that of its journal part. The word that makes the document from the initial
--- one steps the first triple to this one, whose left document it is, and is translated to this word of the right side. The triple is
--- consistent, and the two payloads stand for it.
+-- The program is that of the script, and the document is that of its journal part. The word that makes the document
+-- from the initial one steps the first triple to this one, whose left document it is, and is translated to this word of
+-- the right side. The triple is consistent, and the two payloads stand for it.
 pub record IsImported (bytes : List ℕ) (program : ProgramTree) (form : FormTree) (doc : DocTree) (after : TripleTree) (word : WordTree) : Type 0 where
   pub accepted : IsAccepted (program_part bytes) program form
   pub is_document : document_of_script (left_type form) bytes ≡ Ok doc
@@ -114,8 +111,8 @@ pub record IsImported (bytes : List ℕ) (program : ProgramTree) (form : FormTre
   pub in_step : IsInStepFor form after
   pub stand : stands (program_payload program ∷ entry_payload (construct (left_type form) doc) ∷ []) ≡ Ok (standing form after 1 2)
 
--- The store of a script: the payload of its program, of version 2, and that of the entry of the left side that makes the document. The
--- lines are `ok 1 right WORD`, with the translated word, and the state lines of the triple after it.
+-- The store of a script: the payload of its program, of version 2, and that of the entry of the left side that makes
+-- the document. The lines are `ok 1 right WORD`, with the translated word, and the state lines of the triple after it.
 pub record Brings (bytes : List ℕ) (payloads : List (List ℕ)) (lines : List ℕ) : Type 0 where
   pub program : ProgramTree
   pub form : FormTree
@@ -126,29 +123,40 @@ pub record Brings (bytes : List ℕ) (payloads : List (List ℕ)) (lines : List 
   pub are : payloads ≡ program_payload program ∷ entry_payload (construct (left_type form) doc) ∷ []
   pub written : lines ≡ ok_line 1 Right word ++ state_lines form after
 
--- The source was read to its end, and gave these bytes. The disk was empty, and holds the two payloads of `Brings`. The line `ok 1` and
--- the state lines were written.
-pub record Imports {D : Type 0} (content : D → Option (List ℕ)) (images : D → List ℕ → Type 0) (left left' held held' : Option (List ℕ)) (d d' : D) : Type 0 where
-  pub bytes : List ℕ
-  pub consumes : Consumes left left' bytes
-  pub at_end : IsAtEnd left'
-  pub within : length bytes ≤ MOST_BYTES
-  pub was_empty : IfSome (content d) (λ before. length before ≡ 0)
-  pub program : ProgramTree
-  pub form : FormTree
-  pub doc : DocTree
-  pub after : TripleTree
-  pub word : WordTree
-  pub imported : IsImported bytes program form doc after word
-  pub stored : HoldsStore content images d' (program_payload program ∷ entry_payload (construct (left_type form) doc) ∷ [])
-  pub given : Appends held held' (ok_line 1 Right word ++ state_lines form after)
+-- `import` makes such a store, or refuses the document
+abbrev pub import_command : Command
+import_command = record { makes = Brings; refuses = RefusesDocument }
 
--- The script was read to its end, and its document is refused: the line of that refusal was written. The disk was empty, and is as before.
-pub record RefusesImport {D : Type 0} (content : D → Option (List ℕ)) (images : D → List ℕ → Type 0) (left left' held held' : Option (List ℕ)) (d d' : D) : Type 0 where
-  pub bytes : List ℕ
-  pub consumes : Consumes left left' bytes
-  pub line : List ℕ
-  pub refused : RefusesDocument left' bytes line
-  pub was_empty : IfSome (content d) (λ before. length before ≡ 0)
-  pub unwritten : IsUnwritten content images d d'
-  pub given : Appends held held' line
+-- ---- a call
+
+module _ {S K D : Type 0} (source : OfSource.Ghosts S) (sink : OfSink.Ghosts K) (disk : OfDisk.Ghosts D)
+    (old new : S × K × D) where
+  -- The source was read to its end, and gave these bytes. The disk was empty, and holds the two payloads of `Brings`.
+  -- The line `ok 1` and the state lines were written.
+  pub record Imports : Type 0 where
+    pub bytes : List ℕ
+    pub took : Took source old.0 new.0 bytes
+    pub read : IsRead source old.0 new.0
+    pub within : length bytes ≤ MOST_BYTES
+    pub was_empty : IfSome (disk.content old.2) (λ before. length before ≡ 0)
+    pub program : ProgramTree
+    pub form : FormTree
+    pub doc : DocTree
+    pub after : TripleTree
+    pub word : WordTree
+    pub imported : IsImported bytes program form doc after word
+    pub stored : HoldsStore disk new.2 (program_payload program ∷ entry_payload (construct (left_type form) doc) ∷ [])
+    pub given : Gave sink old.1 new.1 (ok_line 1 Right word ++ state_lines form after)
+
+  -- The script was read to its end, and its document is refused: the line of that refusal was written. The disk was
+  -- empty, and is as before.
+  pub record RefusesImport : Type 0 where
+    pub bytes : List ℕ
+    pub took : Took source old.0 new.0 bytes
+    pub read : IsRead source old.0 new.0
+    pub within : length bytes ≤ MOST_BYTES
+    pub line : List ℕ
+    pub refused : RefusesDocument bytes line
+    pub was_empty : IfSome (disk.content old.2) (λ before. length before ≡ 0)
+    pub unwritten : IsUnwritten disk old.2 new.2
+    pub given : Gave sink old.1 new.1 line

@@ -1,6 +1,8 @@
 -- For the helpers of `import`: what it stores and writes, from its program and its document.
-use Rattle.std.specs.Prelude.{◌≡◌, ◌⊎◌, ℕ, List, [], ◌∷◌, ◌++◌, Option, Some, Result, Ok, Err, true}
-use Rattle.std.specs.Io.KnownBytes.{Appends}
+use Rattle.std.specs.Prelude.{◌≡◌, ◌⊎◌, ℕ, List, [], ◌∷◌, ◌++◌, Some, Result, Ok, Err, true}
+use Rattle.lens_io.specs.Calls.{Gave}
+use Rattle.lens_io.specs.declared.disk.Disk as OfDisk
+use Rattle.lens_io.specs.declared.sink.Sink as OfSink
 use Rattle.answer_text.specs.Lines.{ok_line}
 use Rattle.doc_values.specs.Documents.{DocTree}
 use Rattle.doc_values.specs.Initial.{initial}
@@ -35,8 +37,8 @@ pub record MakesDocument (form : FormTree) (doc : DocTree) (entry : Side × Word
   pub acts : act (left_type form) (construct (left_type form) doc) (initial (left_type form)) ≡ Ok doc
   pub counts : counts_fit (construct (left_type form) doc) ≡ true
 
--- The word that makes the document steps the first triple to this one, with this translated word. The payload is that of the entry,
--- and reads as its tree; the lines are those that are written once it is stored.
+-- The word that makes the document steps the first triple to this one, with this translated word. The payload is that
+-- of the entry, and reads as its tree; the lines are those that are written once it is stored.
 pub record IsEntryText (form : FormTree) (doc : DocTree) (payload lines : List ℕ) : Type 0 where
   pub after : TripleTree
   pub word : WordTree
@@ -61,16 +63,17 @@ pub record IsFoundStore (program : ProgramTree) (form : FormTree) (outcome : Res
   pub is : outcome ≡ Ok doc
   pub store : IsImportStore program form doc payloads lines
 
--- the line of a refusal of the document was written, or a prefix of it
-pub record RefusesIt (held held' : Option (List ℕ)) (outcome : Result DocTree ImportRefusal) (status : MakingStatus) : Type 0 where
-  pub refusal : ImportRefusal
-  pub is : outcome ≡ Err refusal
-  pub given : GivesLine held held' (import_line refusal) SomeRefused status
+module _ {K : Type 0} (sink : OfSink.Ghosts K) (old new : K) where
+  -- the line of a refusal of the document was written, or a prefix of it
+  pub record RefusesIt (outcome : Result DocTree ImportRefusal) (status : MakingStatus) : Type 0 where
+    pub refusal : ImportRefusal
+    pub is : outcome ≡ Err refusal
+    pub given : GivesLine sink old new (import_line refusal) SomeRefused status
 
--- The document is refused and nothing is written to the disk, or its store was made, or its making stopped.
-abbrev pub EndsImport : {D : Type 0} (content : D → Option (List ℕ)) (images : D → List ℕ → Type 0) → Option (List ℕ) → Option (List ℕ) → D → D
-    → ProgramTree → FormTree → Result DocTree ImportRefusal → MakingStatus → Type 0
-EndsImport content images held held' d d' program form outcome status =
-    RefusesIt held held' outcome status × (d' ≡ d)
-    ⊎ ((doc : DocTree) × (outcome ≡ Ok doc) × EndsPlan content images (IsImportStore program form doc) held held' d d' status)
-    ⊎ (status ≡ NoMemory) × (d' ≡ d) × Appends held held' []
+module _ {K D : Type 0} (sink : OfSink.Ghosts K) (disk : OfDisk.Ghosts D) (old new : K × D) where
+  -- The document is refused and nothing is written to the disk, or its store was made, or its making stopped.
+  abbrev pub EndsImport : ProgramTree → FormTree → Result DocTree ImportRefusal → MakingStatus → Type 0
+  EndsImport program form outcome status =
+      RefusesIt sink old.0 new.0 outcome status × (new.1 ≡ old.1)
+      ⊎ ((doc : DocTree) × (outcome ≡ Ok doc) × EndsPlan sink disk old new (IsImportStore program form doc) status)
+      ⊎ (status ≡ NoMemory) × (new.1 ≡ old.1) × Gave sink old.0 new.0 []

@@ -4,7 +4,7 @@ ghost use Rattle.doc_values.specs.Documents.{doc_tree};
 ghost use Rattle.doc_values.specs.Types.{ty_tree};
 ghost use Rattle.doc_values.specs.Typing.{has};
 ghost use Rattle.edit_journal.specs.EntryJson.{tree_of_text};
-ghost use Rattle.lens_io.specs.Causes.{Increased};
+ghost use Rattle.lens_io.specs.Calls.{SourceFailed};
 ghost use Rattle.journal_input.specs.Taking.{IsWithin};
 ghost use Rattle.store_import.specs.Found.{added, added_last, added_all, document_of_found, IsDocumentFault, FindsRest, StopsRest};
 ghost use Rattle.store_import.specs.Import.{document_of_line, if_json, if_typed};
@@ -74,11 +74,10 @@ pub(crate) fn find_lines<S: Source>(
     requires some { 0 < length piece.old }
     requires within { IsWithin input }
     ensures found { MatchResult result
-        (FindsRest (S.left source.old) (S.left source.new) input)
-        (StopsRest (S.left source.old) (S.left source.new) input) }
+        (FindsRest S.Source source.old source.new input)
+        (StopsRest S.Source source.old source.new input) }
     ensures faults { S.faults source.old ≤ S.faults source.new }
-    ensures cause { IsErrOf result TakeFault.SourceFault
-        → Increased (S.faults source.old) (S.faults source.new) }
+    ensures cause { IsErrOf result TakeFault.SourceFault → SourceFailed S.Source source.old source.new }
 {
     let mut input = input;
     let mut found = Found::Nothing;
@@ -104,8 +103,8 @@ fn add_lines(found: Found, input: &mut Input) -> Result<Found, AllocError>
     Ok(found)
 }
 
-/// The document of the lines that were found, or why there is none: the first of the refusals that holds, in the order of
-/// [`ImportRefusal`]. Running out of memory says nothing of the lines.
+/// The document of the lines that were found, or why there is none: the first of the refusals that holds, in the order
+/// of [`ImportRefusal`]. Running out of memory says nothing of the lines.
 pub(crate) fn document_of(alloc: Global, ty: &Ty, found: &Found) -> Result<Doc, DocumentFault>
     ensures document { MatchResult result
         (λ doc. document_of_found (ty_tree ty.now) found.now ≡ Ok (doc_tree doc))

@@ -1,5 +1,5 @@
 //! The command `import`.
-ghost use Rattle.std.specs.Prelude.{◌≡◌, ◌⊎◌, ◌<◌, ◌≤◌, ◌++◌, [], length, true, IfOk, IfSome, IsErrOf, MatchResult, Ok, Some};
+ghost use Rattle.std.specs.Prelude.{◌≡◌, ◌≤◌, ◌++◌, length, true, IfOk, IfSome, IsErrOf, MatchResult, Ok, Some};
 ghost use Rattle.answer_text.specs.Lines.{ok_line};
 ghost use Rattle.doc_values.specs.Documents.{DocTree, doc_tree};
 ghost use Rattle.doc_values.specs.Types.{height};
@@ -17,15 +17,12 @@ ghost use Rattle.lens_forms.specs.Forms.{form_tree, left_type, right_type};
 ghost use Rattle.lens_forms.specs.declared.limits.TheConstants.{GREATEST_HEIGHT};
 ghost use Rattle.program_terms.specs.Views.{program_tree};
 ghost use Rattle.texts.specs.declared.side.Side.TheVariants.{Right};
-ghost use Rattle.lens_io.specs.Causes.{Increased, SinkFailed};
-ghost use Rattle.journal_input.specs.declared.limits.TheConstants.{MOST_BYTES};
-ghost use Rattle.stored_run.specs.Refusals.{IsUnwritten, refusal_line};
-ghost use Rattle.stored_run.specs.declared.refusals.StoreRefusal.TheVariants.{LogExists};
-ghost use Rattle.making_steps.specs.Ends.{Ends, GivesLine, IsComplete};
+ghost use Rattle.lens_io.specs.Calls.{SourceFailed, SinkFailed, DiskFailed};
+ghost use Rattle.making_steps.specs.Ends.{Completes, Ends, KeepsStore, RefusesAtOnce};
 ghost use Rattle.store_import.specs.Found.{document_of_found};
 ghost use Rattle.store_import.specs.Helpers.{ReadsImport};
 ghost use Rattle.making_steps.specs.Helpers.{IsUnread};
-ghost use Rattle.store_import.specs.Import.{Brings, Refuses, Imports, RefusesImport};
+ghost use Rattle.store_import.specs.Import.{Imports, RefusesImport, import_command};
 ghost use Rattle.making_steps.specs.Making.{EndsPlan};
 ghost use Rattle.making_steps.specs.Rooms.{PlanHasNoRoom, ScriptHasNoRoom};
 ghost use Rattle.store_import.specs.Plans.{EndsImport, IsEntryText, IsFoundStore, IsImportStore, MakesDocument};
@@ -67,9 +64,10 @@ struct EntryText {
 
 /// Makes a store that represents the left document of a script, and writes its answer line and its state lines.
 ///
-/// The disk is tested before anything is read, and the script is read to its end. Its journal part has one line that is not
-/// blank: a document of the left type. The store then holds two payloads: the program, as after `init`, and the entry of the
-/// left side whose word makes the document from the initial one.
+/// The disk is tested before anything is read, and the script is read to its end, unless its program part is refused,
+/// which is done as soon as that is whole. Its journal part has one line that is not blank: a document of the left
+/// type. The store then holds two payloads: the program, as after `init`, and the entry of the left side whose word
+/// makes the document from the initial one.
 ///
 /// - `imports`: after `Done` the script was read to its end, the disk was empty, it holds the two payloads, and each image that
 ///   a crash now may leave does, too. They represent a consistent triple, whose left document is the one that was read. The line
@@ -81,6 +79,10 @@ struct EntryText {
 ///   or holds a log without a record or with the program alone. The same is so at the line `store refused: log-full`, which comes
 ///   if the log would have more than 2^63 - 1 bytes. At each other refusal line the disk is as before. After `DiskFault` it may
 ///   hold any bytes. After `SinkFault` at a line that is not a refusal the store is made with both records.
+/// - `at_once`: `ProgramRefused` comes only if the program part is whole and refused: the separator has come with the last
+///   call of the source, so that at most the rest of its block was read, or the source is at its end. If the separator has
+///   come and the part is refused, the status is `ProgramRefused`, or the sink failed or memory ran out, whatever stands
+///   behind the separator.
 /// - `exists`: if the disk is not empty, nothing is taken from the source, and nothing is written to the disk. The line
 ///   `store refused: log-exists` is written, unless the disk or the sink fails.
 /// - `source_fault`, `sink_fault`, `disk_fault`: these statuses come only if that device failed.
@@ -94,29 +96,22 @@ pub fn import<S: Source, K: Sink, D: Disk>(
     sink: &mut K,
     disk: &mut D,
 ) -> MakingStatus
-    ensures imports { result ≡ MakingStatus.Done → Imports D.content D.images
-        (S.left source.old) (S.left source.new) (K.held sink.old) (K.held sink.new) disk.old disk.new }
-    ensures refuses { result ≡ MakingStatus.SomeRefused → RefusesImport D.content D.images
-        (S.left source.old) (S.left source.new) (K.held sink.old) (K.held sink.new) disk.old disk.new }
-    ensures ends { Ends D.content D.images Refuses Brings
-        (S.left source.old) (S.left source.new) (K.held sink.old) (K.held sink.new) disk.old disk.new result }
-    ensures exists { IfSome (D.content disk.old) (λ bytes. 0 < length bytes
-        → (source.new ≡ source.old) × IsUnwritten D.content D.images disk.old disk.new
-        × (GivesLine (K.held sink.old) (K.held sink.new) (refusal_line LogExists) MakingStatus.StoreRefused result
-        ⊎ (result ≡ MakingStatus.DiskFault) × (sink.new ≡ sink.old))) }
-    ensures source_fault { result ≡ MakingStatus.SourceFault
-        → Increased (S.faults source.old) (S.faults source.new) }
-    ensures sink_fault { result ≡ MakingStatus.SinkFault
-        → SinkFailed K.faults K.empty_takes K.room K.held sink.old sink.new }
-    ensures disk_fault { result ≡ MakingStatus.DiskFault
-        → Increased (D.faults disk.old) (D.faults disk.new) }
-    ensures room { result ≡ MakingStatus.DiskFault → IfSome (D.room disk.old)
-        (λ most. ScriptHasNoRoom Brings most (S.left source.old) (S.left source.new)) }
-    ensures complete { D.content disk.old ≡ Some [] → IfSome (S.left source.old) (λ bytes. length bytes ≤ MOST_BYTES
-        → (Increased (S.faults source.old) (S.faults source.new) → ⊥)
-        → (SinkFailed K.faults K.empty_takes K.room K.held sink.old sink.new → ⊥)
-        → (Increased (D.faults disk.old) (D.faults disk.new) → ⊥)
-        → IsComplete Brings bytes result) }
+    ensures imports { result ≡ MakingStatus.Done
+        → Imports S.Source K.Sink D.Disk (source.old, sink.old, disk.old) (source.new, sink.new, disk.new) }
+    ensures refuses { result ≡ MakingStatus.SomeRefused
+        → RefusesImport S.Source K.Sink D.Disk (source.old, sink.old, disk.old) (source.new, sink.new, disk.new) }
+    ensures ends { Ends S.Source K.Sink D.Disk import_command
+        (source.old, sink.old, disk.old) (source.new, sink.new, disk.new) result }
+    ensures at_once { RefusesAtOnce S.Source source.old source.new result }
+    ensures exists { KeepsStore S.Source K.Sink D.Disk
+        (source.old, sink.old, disk.old) (source.new, sink.new, disk.new) result }
+    ensures source_fault { result ≡ MakingStatus.SourceFault → SourceFailed S.Source source.old source.new }
+    ensures sink_fault { result ≡ MakingStatus.SinkFault → SinkFailed K.Sink sink.old sink.new }
+    ensures disk_fault { result ≡ MakingStatus.DiskFault → DiskFailed D.Disk disk.old disk.new }
+    ensures room { result ≡ MakingStatus.DiskFault
+        → IfSome (D.room disk.old) (ScriptHasNoRoom S.Source import_command source.old source.new) }
+    ensures complete { Completes S.Source K.Sink D.Disk import_command
+        (source.old, sink.old, disk.old) (source.new, sink.new, disk.new) result }
 {
     match disk.len() {
         Ok(0) => import_empty(alloc, source, sink, disk),
@@ -133,16 +128,13 @@ fn import_empty<S: Source, K: Sink, D: Disk>(
     disk: &mut D,
 ) -> MakingStatus
     requires empty { IfSome (D.content disk.old) (λ bytes. length bytes ≡ 0) }
-    ensures ends { Ends D.content D.images Refuses Brings
-        (S.left source.old) (S.left source.new) (K.held sink.old) (K.held sink.new) disk.old disk.new result }
-    ensures source_fault { result ≡ MakingStatus.SourceFault
-        → Increased (S.faults source.old) (S.faults source.new) }
-    ensures sink_fault { result ≡ MakingStatus.SinkFault
-        → SinkFailed K.faults K.empty_takes K.room K.held sink.old sink.new }
-    ensures disk_fault { result ≡ MakingStatus.DiskFault
-        → Increased (D.faults disk.old) (D.faults disk.new) }
-    ensures room { result ≡ MakingStatus.DiskFault → IfSome (D.room disk.old)
-        (λ most. ScriptHasNoRoom Brings most (S.left source.old) (S.left source.new)) }
+    ensures ends { Ends S.Source K.Sink D.Disk import_command
+        (source.old, sink.old, disk.old) (source.new, sink.new, disk.new) result }
+    ensures source_fault { result ≡ MakingStatus.SourceFault → SourceFailed S.Source source.old source.new }
+    ensures sink_fault { result ≡ MakingStatus.SinkFault → SinkFailed K.Sink sink.old sink.new }
+    ensures disk_fault { result ≡ MakingStatus.DiskFault → DiskFailed D.Disk disk.old disk.new }
+    ensures room { result ≡ MakingStatus.DiskFault
+        → IfSome (D.room disk.old) (ScriptHasNoRoom S.Source import_command source.old source.new) }
 {
     match read_import(alloc, source) {
         Ok(script) => import_script(alloc, &script, sink, disk),
@@ -154,9 +146,11 @@ fn import_empty<S: Source, K: Sink, D: Disk>(
 // The program of a script and the lines of its journal part that are not blank. It is read to its end.
 fn read_import<S: Source>(alloc: Global, source: &mut S) -> Result<ImportScript, Unread>
     ensures script { MatchResult result
-        (λ s. ReadsImport (S.left source.old) (S.left source.new) (program_tree s.accepted.program) (form_tree s.accepted.lens) s.found)
-        (IsUnread (S.left source.old) (S.left source.new)) }
-    ensures cause { IsErrOf result (Unread.Stopped TakeFault.SourceFault) → Increased (S.faults source.old) (S.faults source.new) }
+        (λ s. ReadsImport S.Source source.old source.new
+        (program_tree s.accepted.program) (form_tree s.accepted.lens) s.found)
+        (IsUnread S.Source source.old source.new) }
+    ensures cause { IsErrOf result (Unread.Stopped TakeFault.SourceFault)
+        → SourceFailed S.Source source.old source.new }
 {
     let Ok(mut piece) = piece_buffer(alloc) else {
         return Err(Unread::Stopped(TakeFault::NoMemory));
@@ -187,15 +181,13 @@ fn import_script<K: Sink, D: Disk>(
     sink: &mut K,
     disk: &mut D,
 ) -> MakingStatus
-    ensures ends { EndsImport D.content D.images (K.held sink.old) (K.held sink.new) disk.old disk.new
+    ensures ends { EndsImport K.Sink D.Disk (sink.old, disk.old) (sink.new, disk.new)
         (program_tree script.now.accepted.program) (form_tree script.now.accepted.lens)
         (document_of_found (left_type (form_tree script.now.accepted.lens)) script.now.found) result }
-    ensures sink_fault { result ≡ MakingStatus.SinkFault
-        → SinkFailed K.faults K.empty_takes K.room K.held sink.old sink.new }
-    ensures disk_fault { result ≡ MakingStatus.DiskFault
-        → Increased (D.faults disk.old) (D.faults disk.new) }
+    ensures sink_fault { result ≡ MakingStatus.SinkFault → SinkFailed K.Sink sink.old sink.new }
+    ensures disk_fault { result ≡ MakingStatus.DiskFault → DiskFailed D.Disk disk.old disk.new }
     ensures room { result ≡ MakingStatus.DiskFault → IfSome (D.room disk.old)
-        (λ most. PlanHasNoRoom most (IsFoundStore (program_tree script.now.accepted.program) (form_tree script.now.accepted.lens)
+        (PlanHasNoRoom (IsFoundStore (program_tree script.now.accepted.program) (form_tree script.now.accepted.lens)
         (document_of_found (left_type (form_tree script.now.accepted.lens)) script.now.found))) }
 {
     match document_of(alloc, script.accepted.lens.left(), &script.found) {
@@ -216,14 +208,12 @@ fn bring<K: Sink, D: Disk>(
     disk: &mut D,
 ) -> MakingStatus
     requires typed { has (left_type (form_tree accepted.now.lens)) (doc_tree doc.now) ≡ true }
-    ensures ends { EndsPlan D.content D.images (IsImportStore (program_tree accepted.now.program) (form_tree accepted.now.lens) (doc_tree doc.now))
-        (K.held sink.old) (K.held sink.new) disk.old disk.new result }
-    ensures sink_fault { result ≡ MakingStatus.SinkFault
-        → SinkFailed K.faults K.empty_takes K.room K.held sink.old sink.new }
-    ensures disk_fault { result ≡ MakingStatus.DiskFault
-        → Increased (D.faults disk.old) (D.faults disk.new) }
+    ensures ends { EndsPlan K.Sink D.Disk (sink.old, disk.old) (sink.new, disk.new)
+        (IsImportStore (program_tree accepted.now.program) (form_tree accepted.now.lens) (doc_tree doc.now)) result }
+    ensures sink_fault { result ≡ MakingStatus.SinkFault → SinkFailed K.Sink sink.old sink.new }
+    ensures disk_fault { result ≡ MakingStatus.DiskFault → DiskFailed D.Disk disk.old disk.new }
     ensures room { result ≡ MakingStatus.DiskFault → IfSome (D.room disk.old)
-        (λ most. PlanHasNoRoom most (IsImportStore (program_tree accepted.now.program) (form_tree accepted.now.lens) (doc_tree doc.now))) }
+        (PlanHasNoRoom (IsImportStore (program_tree accepted.now.program) (form_tree accepted.now.lens) (doc_tree doc.now))) }
 {
     let Ok(store) = import_store(alloc, accepted, doc) else {
         return MakingStatus::NoMemory;

@@ -1,7 +1,9 @@
--- What the command `init` makes of a script. Read it from the end: `Starts`, then `Begins`.
+-- What the command `init` makes of a script. Read it from the end: `Starts`, `init_command`, then `Begins`.
 use Rattle.std.specs.Prelude.{◌≡◌, ℕ, ◌≤◌, List, [], ◌∷◌, length, IfSome, Ok}
-use Rattle.std.specs.declared.option.Option.{Option}
-use Rattle.std.specs.Io.KnownBytes.{Appends, Consumes, IsAtEnd}
+use Rattle.lens_io.specs.Calls.{Took, IsRead, Gave}
+use Rattle.lens_io.specs.declared.disk.Disk as OfDisk
+use Rattle.lens_io.specs.declared.sink.Sink as OfSink
+use Rattle.lens_io.specs.declared.source.Source as OfSource
 use Rattle.serde_json.specs.Written.{compact_text}
 use Rattle.lens_forms.specs.Forms.{FormTree}
 use Rattle.journal_answers.specs.Answers.{state_lines}
@@ -12,21 +14,16 @@ use Rattle.program_writing.specs.Canonical.{canonical}
 use Rattle.script_parts.specs.Lines.{program_part}
 use Rattle.stored_records.specs.RecordJson.{tree_of_program}
 use Rattle.stored_sessions.specs.Stands.{at_start, stands}
-use Rattle.making_steps.specs.Scripts.{IsAccepted, RefusesPart}
+use Rattle.making_steps.specs.Command.{Command}
+use Rattle.making_steps.specs.Scripts.{IsAccepted}
 use Rattle.making_steps.specs.Stores.{HoldsStore}
-use Rattle.making_steps.specs.declared.status.MakingStatus.{MakingStatus}
-use Rattle.making_steps.specs.declared.status.MakingStatus.TheVariants.{ProgramRefused}
 
 -- the payload of a program: its canonical text, in a store of version 2
 abbrev pub program_payload : ProgramTree → List ℕ
 program_payload program = compact_text (tree_of_program (canonical program))
 
--- `init` refuses a script only for its program part
-abbrev pub Refuses : Option (List ℕ) → List ℕ → MakingStatus → List ℕ → Type 0
-Refuses left' bytes refusing line = (refusing ≡ ProgramRefused) × RefusesPart left' bytes line
-
--- The store of a script whose program part is accepted: the payload of its program alone, of version 2. The lines are the state lines
--- of the first triple of its lens, and the payload stands for that triple.
+-- The store of a script whose program part is accepted: the payload of its program alone, of version 2. The lines are
+-- the state lines of the first triple of its lens, and the payload stands for that triple.
 pub record Begins (bytes : List ℕ) (payloads : List (List ℕ)) (lines : List ℕ) : Type 0 where
   pub program : ProgramTree
   pub form : FormTree
@@ -35,17 +32,22 @@ pub record Begins (bytes : List ℕ) (payloads : List (List ℕ)) (lines : List 
   pub written : lines ≡ state_lines form (first_of form)
   pub stand : stands payloads ≡ Ok (at_start (form, 2))
 
--- The source was read to its end, and gave these bytes. The disk was empty, and holds the payload of the program alone. The state lines
--- of the first triple were written, for which the payload stands.
-pub record Starts {D : Type 0} (content : D → Option (List ℕ)) (images : D → List ℕ → Type 0) (left left' held held' : Option (List ℕ)) (d d' : D) : Type 0 where
+-- `init` refuses no script whose program part is accepted
+abbrev pub init_command : Command
+init_command = record { makes = Begins; refuses = λ bytes line. ⊥ }
+
+-- The source was read to its end, and gave these bytes. The disk was empty, and holds the payload of the program alone.
+-- The state lines of the first triple were written, for which the payload stands.
+pub record Starts {S K D : Type 0} (source : OfSource.Ghosts S) (sink : OfSink.Ghosts K) (disk : OfDisk.Ghosts D)
+    (old new : S × K × D) : Type 0 where
   pub bytes : List ℕ
-  pub consumes : Consumes left left' bytes
-  pub at_end : IsAtEnd left'
+  pub took : Took source old.0 new.0 bytes
+  pub read : IsRead source old.0 new.0
   pub within : length bytes ≤ MOST_BYTES
-  pub was_empty : IfSome (content d) (λ before. length before ≡ 0)
+  pub was_empty : IfSome (disk.content old.2) (λ before. length before ≡ 0)
   pub program : ProgramTree
   pub form : FormTree
   pub accepted : IsAccepted (program_part bytes) program form
-  pub stored : HoldsStore content images d' (program_payload program ∷ [])
-  pub given : Appends held held' (state_lines form (first_of form))
+  pub stored : HoldsStore disk new.2 (program_payload program ∷ [])
+  pub given : Gave sink old.1 new.1 (state_lines form (first_of form))
   pub stand : stands (program_payload program ∷ []) ≡ Ok (at_start (form, 2))

@@ -1,8 +1,6 @@
 //! The command `init`.
-ghost use Rattle.std.specs.Prelude.{◌≡◌, ◌⊎◌, ◌<◌, ◌≤◌, [], List, ℕ, length, IfOk, IfSome, Some};
-ghost use Rattle.std.specs.Io.KnownBytes.{Appends};
-ghost use Rattle.lens_io.specs.Causes.{Increased, SinkFailed};
-ghost use Rattle.journal_input.specs.declared.limits.TheConstants.{MOST_BYTES};
+ghost use Rattle.std.specs.Prelude.{◌≡◌, List, ℕ, length, IfOk, IfSome};
+ghost use Rattle.lens_io.specs.Calls.{SourceFailed, SinkFailed, DiskFailed};
 ghost use Rattle.edit_session.specs.Views.{triple_tree};
 ghost use Rattle.lens_forms.specs.Forms.{form_tree, left_type, right_type};
 ghost use Rattle.lens_core.specs.Complements.{missing};
@@ -12,10 +10,8 @@ ghost use Rattle.lens_core.specs.Translation.{translate};
 ghost use Rattle.journal_answers.specs.Answers.{state_lines};
 ghost use Rattle.journal_answers.specs.Runs.{first_of};
 ghost use Rattle.program_terms.specs.Views.{program_tree};
-ghost use Rattle.stored_run.specs.Refusals.{IsUnwritten, refusal_line};
-ghost use Rattle.stored_run.specs.declared.refusals.StoreRefusal.TheVariants.{LogExists};
-ghost use Rattle.making_steps.specs.Ends.{Ends, GivesLine, IsComplete};
-ghost use Rattle.store_making.specs.Init.{Begins, Refuses, Starts};
+ghost use Rattle.making_steps.specs.Ends.{Completes, Ends, KeepsStore, RefusesAtOnce};
+ghost use Rattle.store_making.specs.Init.{Starts, init_command};
 ghost use Rattle.making_steps.specs.Making.{EndsPlan};
 ghost use Rattle.making_steps.specs.Rooms.{PlanHasNoRoom, ScriptHasNoRoom};
 ghost use Rattle.store_making.specs.Plans.{IsFirstStore};
@@ -34,8 +30,9 @@ use stored_records::program_payload;
 
 /// Makes a store with the program of a script, and writes the state lines of its first triple.
 ///
-/// The disk is tested before anything is read. The script is read to its end, and its journal part is not looked at. A program
-/// part is refused as soon as it is known whole. The store then holds one payload: the program in canonical text, of version 2.
+/// The disk is tested before anything is read. The script is read to its end, and its journal part is not looked at. A
+/// program part is refused as soon as it is whole. The store then holds one payload: the program in canonical text, of
+/// version 2.
 ///
 /// - `starts`: after `Done` the script was read to its end, the disk was empty, it holds that payload alone, and each image
 ///   that a crash now may leave does, too. The payload stands for the first triple, whose state lines were written.
@@ -43,6 +40,10 @@ use stored_records::program_payload;
 ///   `store refused: log-exists`, the disk is as before. After `NoMemory` it is as before or holds a log without a record, and so at
 ///   the line `store refused: log-full`, which would come at more than 2^63 - 1 bytes. After `DiskFault` it may hold any bytes. After
 ///   `SinkFault` at the state lines the store is made.
+/// - `at_once`: `ProgramRefused` comes only if the program part is whole and refused: the separator has come with the last
+///   call of the source, so that at most the rest of its block was read, or the source is at its end. If the separator has
+///   come and the part is refused, the status is `ProgramRefused`, or the sink failed or memory ran out, whatever stands
+///   behind the separator.
 /// - `exists`: if the disk is not empty, nothing is taken from the source, and nothing is written to the disk. The line
 ///   `store refused: log-exists` is written, unless the disk or the sink fails.
 /// - `document`: the status is never `SomeRefused`.
@@ -57,28 +58,21 @@ pub fn init<S: Source, K: Sink, D: Disk>(
     sink: &mut K,
     disk: &mut D,
 ) -> MakingStatus
-    ensures starts { result ≡ MakingStatus.Done → Starts D.content D.images
-        (S.left source.old) (S.left source.new) (K.held sink.old) (K.held sink.new) disk.old disk.new }
-    ensures ends { Ends D.content D.images Refuses Begins
-        (S.left source.old) (S.left source.new) (K.held sink.old) (K.held sink.new) disk.old disk.new result }
-    ensures exists { IfSome (D.content disk.old) (λ bytes. 0 < length bytes
-        → (source.new ≡ source.old) × IsUnwritten D.content D.images disk.old disk.new
-        × (GivesLine (K.held sink.old) (K.held sink.new) (refusal_line LogExists) MakingStatus.StoreRefused result
-        ⊎ (result ≡ MakingStatus.DiskFault) × (sink.new ≡ sink.old))) }
+    ensures starts { result ≡ MakingStatus.Done
+        → Starts S.Source K.Sink D.Disk (source.old, sink.old, disk.old) (source.new, sink.new, disk.new) }
+    ensures ends { Ends S.Source K.Sink D.Disk init_command
+        (source.old, sink.old, disk.old) (source.new, sink.new, disk.new) result }
+    ensures at_once { RefusesAtOnce S.Source source.old source.new result }
+    ensures exists { KeepsStore S.Source K.Sink D.Disk
+        (source.old, sink.old, disk.old) (source.new, sink.new, disk.new) result }
     ensures document { result ≡ MakingStatus.SomeRefused → ⊥ }
-    ensures source_fault { result ≡ MakingStatus.SourceFault
-        → Increased (S.faults source.old) (S.faults source.new) }
-    ensures sink_fault { result ≡ MakingStatus.SinkFault
-        → SinkFailed K.faults K.empty_takes K.room K.held sink.old sink.new }
-    ensures disk_fault { result ≡ MakingStatus.DiskFault
-        → Increased (D.faults disk.old) (D.faults disk.new) }
-    ensures room { result ≡ MakingStatus.DiskFault → IfSome (D.room disk.old)
-        (λ most. ScriptHasNoRoom Begins most (S.left source.old) (S.left source.new)) }
-    ensures complete { D.content disk.old ≡ Some [] → IfSome (S.left source.old) (λ bytes. length bytes ≤ MOST_BYTES
-        → (Increased (S.faults source.old) (S.faults source.new) → ⊥)
-        → (SinkFailed K.faults K.empty_takes K.room K.held sink.old sink.new → ⊥)
-        → (Increased (D.faults disk.old) (D.faults disk.new) → ⊥)
-        → IsComplete Begins bytes result) }
+    ensures source_fault { result ≡ MakingStatus.SourceFault → SourceFailed S.Source source.old source.new }
+    ensures sink_fault { result ≡ MakingStatus.SinkFault → SinkFailed K.Sink sink.old sink.new }
+    ensures disk_fault { result ≡ MakingStatus.DiskFault → DiskFailed D.Disk disk.old disk.new }
+    ensures room { result ≡ MakingStatus.DiskFault
+        → IfSome (D.room disk.old) (ScriptHasNoRoom S.Source init_command source.old source.new) }
+    ensures complete { Completes S.Source K.Sink D.Disk init_command
+        (source.old, sink.old, disk.old) (source.new, sink.new, disk.new) result }
 {
     match disk.len() {
         Ok(0) => init_empty(alloc, source, sink, disk),
@@ -95,16 +89,13 @@ fn init_empty<S: Source, K: Sink, D: Disk>(
     disk: &mut D,
 ) -> MakingStatus
     requires empty { IfSome (D.content disk.old) (λ bytes. length bytes ≡ 0) }
-    ensures ends { Ends D.content D.images Refuses Begins
-        (S.left source.old) (S.left source.new) (K.held sink.old) (K.held sink.new) disk.old disk.new result }
-    ensures source_fault { result ≡ MakingStatus.SourceFault
-        → Increased (S.faults source.old) (S.faults source.new) }
-    ensures sink_fault { result ≡ MakingStatus.SinkFault
-        → SinkFailed K.faults K.empty_takes K.room K.held sink.old sink.new }
-    ensures disk_fault { result ≡ MakingStatus.DiskFault
-        → Increased (D.faults disk.old) (D.faults disk.new) }
-    ensures room { result ≡ MakingStatus.DiskFault → IfSome (D.room disk.old)
-        (λ most. ScriptHasNoRoom Begins most (S.left source.old) (S.left source.new)) }
+    ensures ends { Ends S.Source K.Sink D.Disk init_command
+        (source.old, sink.old, disk.old) (source.new, sink.new, disk.new) result }
+    ensures source_fault { result ≡ MakingStatus.SourceFault → SourceFailed S.Source source.old source.new }
+    ensures sink_fault { result ≡ MakingStatus.SinkFault → SinkFailed K.Sink sink.old sink.new }
+    ensures disk_fault { result ≡ MakingStatus.DiskFault → DiskFailed D.Disk disk.old disk.new }
+    ensures room { result ≡ MakingStatus.DiskFault
+        → IfSome (D.room disk.old) (ScriptHasNoRoom S.Source init_command source.old source.new) }
 {
     match read_script(alloc, source) {
         Ok(accepted) => begin(alloc, &accepted, sink, disk),
@@ -120,14 +111,12 @@ fn begin<K: Sink, D: Disk>(
     sink: &mut K,
     disk: &mut D,
 ) -> MakingStatus
-    ensures ends { EndsPlan D.content D.images (IsFirstStore (program_tree accepted.now.program) (form_tree accepted.now.lens))
-        (K.held sink.old) (K.held sink.new) disk.old disk.new result }
-    ensures sink_fault { result ≡ MakingStatus.SinkFault
-        → SinkFailed K.faults K.empty_takes K.room K.held sink.old sink.new }
-    ensures disk_fault { result ≡ MakingStatus.DiskFault
-        → Increased (D.faults disk.old) (D.faults disk.new) }
+    ensures ends { EndsPlan K.Sink D.Disk (sink.old, disk.old) (sink.new, disk.new)
+        (IsFirstStore (program_tree accepted.now.program) (form_tree accepted.now.lens)) result }
+    ensures sink_fault { result ≡ MakingStatus.SinkFault → SinkFailed K.Sink sink.old sink.new }
+    ensures disk_fault { result ≡ MakingStatus.DiskFault → DiskFailed D.Disk disk.old disk.new }
     ensures room { result ≡ MakingStatus.DiskFault → IfSome (D.room disk.old)
-        (λ most. PlanHasNoRoom most (IsFirstStore (program_tree accepted.now.program) (form_tree accepted.now.lens))) }
+        (PlanHasNoRoom (IsFirstStore (program_tree accepted.now.program) (form_tree accepted.now.lens))) }
 {
     let Ok(store) = first_store(alloc, accepted) else {
         return MakingStatus::NoMemory;

@@ -17,7 +17,7 @@ use Rattle.lens_forms.specs.Typing.{is_typed}
 use Rattle.stored_run.specs.Runs.{run, kept_of, any_refused}
 use Rattle.stored_run.specs.declared.session.Answer.{Answer}
 use Rattle.store_session.specs.Journals.{accepted_change, accepted_changes, IsStateInStep, IsRunOfItems, IsJournalRun}
-use Rattle.store_session.specs.StoredStates.{StoredState, state_with, change_text, payload_of, stored_answer, taken, answer_item, answer}
+use Rattle.store_session.specs.StoredStates.{StoredState, state_with, change_text, payload_of, stored_answer, taken, answer_item, answer, stored_session}
 use Rattle.store_session.proofs.AnswerLines.{has_payload}
 use Rattle.store_session.proofs.StatesInStep.{item_in_step}
 
@@ -65,45 +65,47 @@ module _ (s : StoredState) (n : ℕ) (item : JournalItem) (u : TripleTree) (x : 
 abbrev HasRun : StoredState → ℕ → Option (List (StoredState × Answer)) → List JournalItem → Type 0
 HasRun s n o items = (steps : List (StoredState × Answer)) × (o ≡ Some steps) × IsRunOfItems s n items steps
 
--- a line that is not blank, and the lines behind it
-abbrev first_and_others : StoredState → ℕ → Line → List Line → Option (List (StoredState × Answer))
-first_and_others s n line lines =
-    option_and_then (λ (m : StoredState × Answer). option_map (λ (steps : List (StoredState × Answer)). m ∷ steps) (run answer m.0 (n + 1) lines)) (answer s (n + 1) line)
+-- `view` is the state of a value that answers, of which nothing is used here
+module _ {A : Type 0} (view : A → StoredState) where
+  -- a line that is not blank, and the lines behind it
+  abbrev first_and_others : StoredState → ℕ → Line → List Line → Option (List (StoredState × Answer))
+  first_and_others s n line lines =
+      option_and_then (λ (m : StoredState × Answer). option_map (λ (steps : List (StoredState × Answer)). m ∷ steps) (run (stored_session view) m.0 (n + 1) lines)) (answer s (n + 1) line)
 
-first_run : (s : StoredState) (n : ℕ) (line : Line) (lines : List Line)
-    → (k : (m : TripleTree × JournalAnswer) × (taken s (change_of_line line) ≡ Some m) × IsInStepFor s.form m.0)
-    → HasRun (state_with s.form k.0.0) (n + 1) (run answer (state_with s.form k.0.0) (n + 1) lines) (items_of lines)
-    → HasRun s n (first_and_others s n line lines) (change_of_line line ∷ items_of lines)
-first_run s n line lines k rest =
-    let item = change_of_line line in
-    let a = answered s n item k.0.0 k.0.1 k.1 k.2 in (
-      made s n item k.0.0 k.0.1 k.1 k.2 ∷ rest.0,
-      rw a (rw rest.1 refl),
-      run_more s n item k.0.0 k.0.1 k.1 k.2 (items_of lines) rest.0 rest.2,
-    )
+  first_run : (s : StoredState) (n : ℕ) (line : Line) (lines : List Line)
+      → (k : (m : TripleTree × JournalAnswer) × (taken s (change_of_line line) ≡ Some m) × IsInStepFor s.form m.0)
+      → HasRun (state_with s.form k.0.0) (n + 1) (run (stored_session view) (state_with s.form k.0.0) (n + 1) lines) (items_of lines)
+      → HasRun s n (first_and_others s n line lines) (change_of_line line ∷ items_of lines)
+  first_run s n line lines k rest =
+      let item = change_of_line line in
+      let a = answered s n item k.0.0 k.0.1 k.1 k.2 in (
+        made s n item k.0.0 k.0.1 k.1 k.2 ∷ rest.0,
+        rw a (rw rest.1 refl),
+        run_more s n item k.0.0 k.0.1 k.1 k.2 (items_of lines) rest.0 rest.2,
+      )
 
-by_blank : (s : StoredState) (n : ℕ) (line : Line) (lines : List Line) (b : Bool) → HasRun s n (run answer s n lines) (items_of lines)
-    → HasRun s n (first_and_others s n line lines) (change_of_line line ∷ items_of lines)
-    → HasRun s n (cond b (run answer s n lines) (first_and_others s n line lines)) (cond b (items_of lines) (change_of_line line ∷ items_of lines))
-by_blank s n line lines true skipped first = skipped
-by_blank s n line lines false skipped first = first
+  by_blank : (s : StoredState) (n : ℕ) (line : Line) (lines : List Line) (b : Bool) → HasRun s n (run (stored_session view) s n lines) (items_of lines)
+      → HasRun s n (first_and_others s n line lines) (change_of_line line ∷ items_of lines)
+      → HasRun s n (cond b (run (stored_session view) s n lines) (first_and_others s n line lines)) (cond b (items_of lines) (change_of_line line ∷ items_of lines))
+  by_blank s n line lines true skipped first = skipped
+  by_blank s n line lines false skipped first = first
 
-pub runs : (s : StoredState) (n : ℕ) (lines : List Line) → is_typed s.form ≡ true → IsStateInStep s
-    → (steps : List (StoredState × Answer)) × (run answer s n lines ≡ Some steps) × IsJournalRun s n lines steps
-runs s n [] typed h = ([], refl, record { journal = []; is_run = refl; text = refl; at_last = refl; refused = refl; kept = refl; in_step = tt })
-runs s n (line ∷ lines) typed h =
-    let k = item_in_step s.form typed s.triple (change_of_line line) h in
-    by_blank s n line lines (is_blank line) (runs s n lines typed h)
-    (first_run s n line lines k (runs (state_with s.form k.0.0) (n + 1) lines typed k.2))
+  pub runs : (s : StoredState) (n : ℕ) (lines : List Line) → is_typed s.form ≡ true → IsStateInStep s
+      → (steps : List (StoredState × Answer)) × (run (stored_session view) s n lines ≡ Some steps) × IsJournalRun s n lines steps
+  runs s n [] typed h = ([], refl, record { journal = []; is_run = refl; text = refl; at_last = refl; refused = refl; kept = refl; in_step = tt })
+  runs s n (line ∷ lines) typed h =
+      let k = item_in_step s.form typed s.triple (change_of_line line) h in
+      by_blank s n line lines (is_blank line) (runs s n lines typed h)
+      (first_run s n line lines k (runs (state_with s.form k.0.0) (n + 1) lines typed k.2))
 
-pub runs_to_the_end : (s : StoredState) (n : ℕ) (lines : List Line) → is_typed s.form ≡ true → IsStateInStep s
-    → (steps : List (StoredState × Answer)) × (run answer s n lines ≡ Some steps)
-runs_to_the_end s n lines typed h = let r = runs s n lines typed h in (r.0, r.1)
+  pub runs_to_the_end : (s : StoredState) (n : ℕ) (lines : List Line) → is_typed s.form ≡ true → IsStateInStep s
+      → (steps : List (StoredState × Answer)) × (run (stored_session view) s n lines ≡ Some steps)
+  runs_to_the_end s n lines typed h = let r = runs s n lines typed h in (r.0, r.1)
 
-pub runs_alike : (s : StoredState) (n : ℕ) (lines : List Line) (steps : List (StoredState × Answer)) → is_typed s.form ≡ true → IsStateInStep s
-    → run answer s n lines ≡ Some steps → IsJournalRun s n lines steps
-runs_alike s n lines steps typed h e =
-    let r = runs s n lines typed h in
-    let is = r.1 in
-    let same : r.0 ≡ steps = cc in
-    subst (IsJournalRun s n lines) same r.2
+  pub runs_alike : (s : StoredState) (n : ℕ) (lines : List Line) (steps : List (StoredState × Answer)) → is_typed s.form ≡ true → IsStateInStep s
+      → run (stored_session view) s n lines ≡ Some steps → IsJournalRun s n lines steps
+  runs_alike s n lines steps typed h e =
+      let r = runs s n lines typed h in
+      let is = r.1 in
+      let same : r.0 ≡ steps = cc in
+      subst (IsJournalRun s n lines) same r.2

@@ -1,6 +1,8 @@
--- A session of the program as a store has it: its state, what payloads stand for, and the answer to a line.
--- In order: `StoredState`, `stands_for` and `count_of`, `answer` with `IsStep`, and `state_text` with `IsSnapshot`.
-use Rattle.std.specs.Prelude.{◌≡◌, ℕ, List, true, Option, Some, None, option_map, Result, Ok, Err, if◌then◌else◌, nat_eq, IfSome}
+-- A session of the program as a store has it: its state, what payloads stand for, and the answer to a line. In order:
+-- `StoredState`, `stands_for` and `count_of`, `answer` with `IsStep`, `state_text` with `IsSnapshot`, and all of them
+-- as `stored_session`.
+use Rattle.std.specs.Prelude.{◌≡◌, ℕ, List, true, Option, Some, None, option_map, Result, Ok, Err, if◌then◌else◌}
+use Rattle.std.specs.Prelude.{nat_eq, IfSome}
 use Rattle.serde_json.specs.Written.{compact_text}
 use Rattle.value_json.specs.DocumentJson.{holds_i64s}
 use Rattle.edit_module.specs.Changes.{ChangeTree}
@@ -18,6 +20,7 @@ use Rattle.stored_records.specs.declared.fault.ReopenFault.TheVariants as of_rec
 use Rattle.stored_run.specs.declared.session.Answer.{Answer}
 use Rattle.stored_run.specs.declared.session.ReopenFault.{ReopenFault}
 use Rattle.stored_run.specs.declared.session.ReopenFault.TheVariants as of_stores
+use Rattle.stored_run.specs.declared.session.StoredSession as OfSession
 use Rattle.stored_sessions.specs.Stands.{Standing, stands}
 
 -- the form of the lens, and the triple
@@ -106,10 +109,25 @@ IsStep s n line made = IfSome made.1.payload (ReadsAsChange (change_of_line line
 abbrev pub state_text : StoredState → List ℕ
 state_text s = lines.state_lines s.form s.triple
 
--- The payload is a snapshot of the state: it is read back as the record of the state's triple. The triple is consistent, and its
--- ints are i64, as all ints of the program.
+-- The payload is a snapshot of the state: it is read back as the record of the state's triple. The triple is
+-- consistent, and its ints are i64, as all ints of the program.
 pub record IsSnapshot (s : StoredState) (payload : List ℕ) : Type 0 where
   pub reads : tree_of_text payload ≡ Some (tree_of_snapshot s.form s.triple.left s.triple.comp s.triple.right)
   pub consistent : IsInStepFor s.form s.triple
   pub left_whole : holds_i64s s.triple.left ≡ true
   pub right_whole : holds_i64s s.triple.right ≡ true
+
+-- ---- all of it
+
+-- the session of a store as the commands over stores see it; `view` is the state of a value
+abbrev pub stored_session : {A : Type 0} → (A → StoredState) → OfSession.Ghosts A
+stored_session view = record {
+  State = StoredState;
+  state = view;
+  answer = answer;
+  is_step = IsStep;
+  state_text = state_text;
+  is_snapshot = IsSnapshot;
+  count_of = count_of;
+  stands_for = stands_for;
+}

@@ -10,6 +10,9 @@ ghost use Rattle.stored_run.specs.declared.session.Answer.{Answer};
 ghost use Rattle.store_session.specs.Journals.{IsStateInStep, IsJournalRun};
 ghost use Rattle.store_session.specs.StoredStates.{StoredState, stands_for, answer};
 
+use crate::session::StoreSession;
+use stored_run::StoredSession;
+
 /// What payloads stand for is in step, whatever their bytes are: the form of its lens is typed, and its triple is consistent. So a
 /// store of any bytes is refused, or it stands for a consistent triple.
 pub fn stored_is_in_step()
@@ -24,9 +27,11 @@ pub fn stored_is_in_step()
 pub fn answers_are_the_run()
     ensures ends { (state : StoredState) (number : ℕ) (lines : List Line)
         → is_typed state.form ≡ true → IsStateInStep state
-        → (steps : List (StoredState × Answer)) × (run answer state number lines ≡ Some steps) }
+        → (steps : List (StoredState × Answer))
+        × (run ⟦<StoreSession as StoredSession>⟧ state number lines ≡ Some steps) }
     ensures same { (state : StoredState) (number : ℕ) (lines : List Line) (steps : List (StoredState × Answer))
-        → is_typed state.form ≡ true → IsStateInStep state → run answer state number lines ≡ Some steps
+        → is_typed state.form ≡ true → IsStateInStep state
+        → run ⟦<StoreSession as StoredSession>⟧ state number lines ≡ Some steps
         → IsJournalRun state number lines steps }
 {}
 

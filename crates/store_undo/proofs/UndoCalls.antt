@@ -1,12 +1,14 @@
 -- The whole call of `undo`, from how it ends over a log that stands.
 use Rattle.std.proofs.Common.{◌≡◌, ◌⊎◌, inl, inr, ℕ, List, [], ◌∷◌, ◌++◌, Option, Some, None, Result, Ok, Err, refl, sym, ap, subst, ◌∙◌, append-nil}
 use Rattle.std.specs.Prelude.{option_to_list, option_map, option_and_then, IfSome, IsNone}
-use Rattle.lens_io.specs.Disks.{LeavesOnly}
-use Rattle.gate_log.specs.LogOnDisk.{LogState, HoldsPayloads, Stands}
+use Rattle.lens_io.specs.DiskRuns.{LeavesOnly}
+use Rattle.lens_io.specs.declared.disk.Disk as OfDisk
+use Rattle.lens_io.specs.declared.sink.Sink as OfSink
+use Rattle.gate_log.specs.LogOnDisk.{LogState, HoldsPayloads}
 use Rattle.edit_module.specs.Changes.{ChangeTree}
 use Rattle.edit_session.specs.Step.{TripleTree}
 use Rattle.stored_records.specs.declared.fault.ReopenFault.{ReopenFault}
-use Rattle.stored_run.specs.Effects.{HoldsFirst, Stops}
+use Rattle.stored_run.specs.Effects.{HoldsFirst, StandsOn, Stops}
 use Rattle.stored_run.specs.Refusals.{IsUnwritten, IsOpening, FailsUnopened}
 use Rattle.stored_run.specs.StoreEnds.{StoreEnds, StoresBehind}
 use Rattle.stored_run.specs.declared.status.Status.{Status}
@@ -89,10 +91,9 @@ image_before held u c h holds =
 
 -- ---- the call
 
-module _ {K D : Type 0} (held : K → Option (List ℕ)) (content : D → Option (List ℕ)) (images : D → List ℕ → Type 0)
-    (moment : D → ℕ) (images_since : D → ℕ → List ℕ → Type 0) (room : D → Option ℕ)
-    (images_hold : (l : LogState) (d : D) (base : List (List ℕ)) (c : List ℕ) → Stands (content d) (images d) l base → images d c → HoldsPayloads base c)
-    (read_holds : (l : LogState) (d : D) (base : List (List ℕ)) → Stands (content d) (images d) l base → IfSome (content d) (HoldsPayloads base))
+module _ {K D : Type 0} (sink : OfSink.Ghosts K) (disk : OfDisk.Ghosts D)
+    (images_hold : (l : LogState) (d : D) (base : List (List ℕ)) (c : List ℕ) → StandsOn disk d l base → disk.images d c → HoldsPayloads base c)
+    (read_holds : (l : LogState) (d : D) (base : List (List ℕ)) → StandsOn disk d l base → IfSome (disk.content d) (HoldsPayloads base))
     (k k' : K) (d d' : D) (before : List (List ℕ)) (u : Undoing) where
   abbrev version : List (List ℕ)
   version = option_to_list (version_due u.now.version)
@@ -100,81 +101,81 @@ module _ {K D : Type 0} (held : K → Option (List ℕ)) (content : D → Option
   abbrev records : List (List ℕ)
   records = version ++ snapshot_text u ∷ []
 
-  stored_done : (d1 : D) (l l' : LogState) (status : Status) → status ≡ ending.Done → TakesBack before u → Stands (content d1) (images d1) l before
-      → StoreEnds held content images moment images_since room k d1 l k' d' l' (undo_text u) version (snapshot_text u) status
-      → UndoesCall held content images moment images_since k k' d' before u
+  stored_done : (d1 : D) (l l' : LogState) (status : Status) → status ≡ ending.Done → TakesBack before u → StandsOn disk d1 l before
+      → StoreEnds sink disk (k, d1, l) (k', d', l') (undo_text u) version (snapshot_text u) status
+      → UndoesCall sink disk (k, d) (k', d') before u
   stored_done d1 l l' status is back st (inl e) = record { given = e.1.given; kept = read_holds l' d' (before ++ records) (e.1.stored before st); takes_back = back }
   stored_done d1 l l' status is back st (inr s) = elim s.status_is [ inl e ↦ absurd (never_finished s.stop status e.0 (inl is)) | inr e ↦ cc ]
 
   -- after Done the records are stored and the lines written
-  pub undoes_call : (status : Status) → status ≡ ending.Done → UndoEnds held content images moment images_since room k d k' d' before u status
-      → UndoesCall held content images moment images_since k k' d' before u
+  pub undoes_call : (status : Status) → status ≡ ending.Done → UndoEnds sink disk (k, d) (k', d') before u status
+      → UndoesCall sink disk (k, d) (k', d') before u
   undoes_call status is (inl e) = stored_done e.d1 e.log e.log' status is e.takes_back e.stands e.ends
   undoes_call status is (inr e) = elim e.fails.0.0 [ inl f ↦ cc | inr f ↦ cc ]
 
   -- how it ends, with no word of what the records are worth
-  pub exits_of : (status : Status) → UndoEnds held content images moment images_since room k d k' d' before u status
-      → StoresBehind held content images moment images_since room (λ d1 _. IsOpening content images moment images_since room d d1) k k' d' before (undo_text u) version (snapshot_text u) status
-      ⊎ IsUnwritten content images d d' × FailsUnopened (room d) (held k) (held k') status
+  pub exits_of : (status : Status) → UndoEnds sink disk (k, d) (k', d') before u status
+      → StoresBehind sink disk (k, d) (k', d') (λ d1 _. IsOpening disk d d1) before (undo_text u) version (snapshot_text u) status
+      ⊎ IsUnwritten disk d d' × FailsUnopened sink disk (k, d) (k', d') status
   exits_of status (inl e) = inl (record { d1 = e.d1; log = e.log; log' = e.log'; opens = e.opens; stands = e.stands; ends = e.ends })
   exits_of status (inr e) = inr (e.opens.unwritten, e.fails)
 
   -- ---- images
 
   module _ (h : stands before ≡ Ok u.now) where
-    safe_of : (d1 : D) → LeavesOnly moment images_since d d1 (images d) → TakesBack before u → ((c : List ℕ) → images d' c → HoldsFirst before records c)
-        → LeavesOnly moment images_since d1 d' (HoldsFirst before records) → IsSafeUndo held content images moment images_since (images d) d d' before u
+    safe_of : (d1 : D) → LeavesOnly disk d d1 (disk.images d) → TakesBack before u → ((c : List ℕ) → disk.images d' c → HoldsFirst before records c)
+        → LeavesOnly disk d1 d' (HoldsFirst before records) → IsSafeUndo disk d d' before u
     safe_of d1 reached back now moments = record {
       now = λ c is. image_of before u c h back (now c is);
-      moments = leaves_then moment images_since d d1 d' (images d) (HoldsFirst before records) (λ c. images d c ⊎ IsImage before u c)
+      moments = leaves_then disk d d1 d' (disk.images d) (HoldsFirst before records) (λ c. disk.images d c ⊎ IsImage before u c)
           (λ c p. inl p) (λ c f. inr (image_of before u c h back f)) reached moments;
     }
 
-    stopped_safe : (d1 : D) (l l' : LogState) (k1 : K) (stop : Stop) → LeavesOnly moment images_since d d1 (images d) → TakesBack before u → Stands (content d1) (images d1) l before
-        → Stops held content images moment images_since room k d1 l k1 d' l' stop [] [] [] version
-        ⊎ Stops held content images moment images_since room k d1 l k1 d' l' stop [] (undo_text u) version (snapshot_text u ∷ [])
-        → IsSafeUndo held content images moment images_since (images d) d d' before u
+    stopped_safe : (d1 : D) (l l' : LogState) (k1 : K) (stop : Stop) → LeavesOnly disk d d1 (disk.images d) → TakesBack before u → StandsOn disk d1 l before
+        → Stops sink disk (k, d1, l) (k1, d', l') stop [] [] [] version
+        ⊎ Stops sink disk (k, d1, l) (k1, d', l') stop [] (undo_text u) version (snapshot_text u ∷ [])
+        → IsSafeUndo disk d d' before u
     stopped_safe d1 l l' k1 stop reached back st (inl s) =
         safe_of d1 reached back
-        (now_at held content images moment images_since room images_hold stop k k1 d1 d' l l' before records [] [] [] version (snapshot_text u ∷ []) refl s st)
-        (moments_at held content images moment images_since room images_hold stop k k1 d1 d' l l' before records [] [] [] version (snapshot_text u ∷ []) refl s st)
+        (now_at sink disk images_hold stop k k1 d1 d' l l' before records [] [] [] version (snapshot_text u ∷ []) refl s st)
+        (moments_at sink disk images_hold stop k k1 d1 d' l l' before records [] [] [] version (snapshot_text u ∷ []) refl s st)
     stopped_safe d1 l l' k1 stop reached back st (inr s) =
         safe_of d1 reached back
-        (now_at held content images moment images_since room images_hold stop k k1 d1 d' l l' before records [] (undo_text u) version (snapshot_text u ∷ []) [] (append-nil records) s st)
-        (moments_at held content images moment images_since room images_hold stop k k1 d1 d' l l' before records [] (undo_text u) version (snapshot_text u ∷ []) [] (append-nil records) s st)
+        (now_at sink disk images_hold stop k k1 d1 d' l l' before records [] (undo_text u) version (snapshot_text u ∷ []) [] (append-nil records) s st)
+        (moments_at sink disk images_hold stop k k1 d1 d' l l' before records [] (undo_text u) version (snapshot_text u ∷ []) [] (append-nil records) s st)
 
-    stored_safe : (d1 : D) (l l' : LogState) (status : Status) → LeavesOnly moment images_since d d1 (images d) → TakesBack before u → Stands (content d1) (images d1) l before
-        → StoreEnds held content images moment images_since room k d1 l k' d' l' (undo_text u) version (snapshot_text u) status
-        → IsSafeUndo held content images moment images_since (images d) d d' before u
+    stored_safe : (d1 : D) (l l' : LogState) (status : Status) → LeavesOnly disk d d1 (disk.images d) → TakesBack before u → StandsOn disk d1 l before
+        → StoreEnds sink disk (k, d1, l) (k', d', l') (undo_text u) version (snapshot_text u) status
+        → IsSafeUndo disk d d' before u
     stored_safe d1 l l' status reached back st (inl e) =
         safe_of d1 reached back (λ c is. first_all before records c (images_hold l' d' (before ++ records) c (e.1.stored before st) is)) (e.1.moments before st)
     stored_safe d1 l l' status reached back st (inr s) = stopped_safe d1 l l' s.k1 s.stop reached back st s.stops
 
     -- the store is as it was
-    pub safe_kept : ((c : List ℕ) → images d' c → HoldsPayloads before c) → LeavesOnly moment images_since d d' (images d) → IsSafeUndo held content images moment images_since (images d) d d' before u
+    pub safe_kept : ((c : List ℕ) → disk.images d' c → HoldsPayloads before c) → LeavesOnly disk d d' (disk.images d) → IsSafeUndo disk d d' before u
     safe_kept holds moments = record {
       now = λ c is. image_before before u c h (holds c is);
-      moments = leaves_more moment images_since d d' (images d) (λ c. images d c ⊎ IsImage before u c) (λ c p. inl p) moments;
+      moments = leaves_more disk d d' (disk.images d) (λ c. disk.images d c ⊎ IsImage before u c) (λ c p. inl p) moments;
     }
 
-    pub safe_of_ends : (status : Status) → UndoEnds held content images moment images_since room k d k' d' before u status → IsSafeUndo held content images moment images_since (images d) d d' before u
+    pub safe_of_ends : (status : Status) → UndoEnds sink disk (k, d) (k', d') before u status → IsSafeUndo disk d d' before u
     safe_of_ends status (inl e) = stored_safe e.d1 e.log e.log' status e.opens.moments e.takes_back e.stands e.ends
     safe_of_ends status (inr e) = safe_kept e.holds e.opens.moments
 
   -- behind calls of the disk that only read
-  pub ends_behind : (d0 : D) (status : Status) → content d ≡ content d0 → ((c : List ℕ) → images d c → images d0 c) → LeavesOnly moment images_since d0 d (images d0) → room d ≡ room d0
-      → UndoEnds held content images moment images_since room k d k' d' before u status → UndoEnds held content images moment images_since room k d0 k' d' before u status
+  pub ends_behind : (d0 : D) (status : Status) → disk.content d ≡ disk.content d0 → ((c : List ℕ) → disk.images d c → disk.images d0 c) → LeavesOnly disk d0 d (disk.images d0) → disk.room d ≡ disk.room d0
+      → UndoEnds sink disk (k, d) (k', d') before u status → UndoEnds sink disk (k, d0) (k', d') before u status
   ends_behind d0 status same only moments roomy (inl e) = inl (record {
     d1 = e.d1;
     log = e.log;
     log' = e.log';
-    opens = opening_then content images moment images_since room d0 d e.d1 same only moments roomy e.opens;
+    opens = opening_then disk d0 d e.d1 same only moments roomy e.opens;
     stands = e.stands;
     takes_back = e.takes_back;
     ends = e.ends;
   })
   ends_behind d0 status same only moments roomy (inr e) = inr (record {
-    opens = opening_then content images moment images_since room d0 d d' same only moments roomy e.opens;
+    opens = opening_then disk d0 d d' same only moments roomy e.opens;
     holds = e.holds;
     fails = (e.fails.0, λ x. subst (λ (o : Option ℕ). IsNone o) roomy (e.fails.1 x));
   })

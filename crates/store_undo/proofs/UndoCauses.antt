@@ -2,8 +2,10 @@
 use Rattle.std.proofs.Common.{◌≡◌, ◌⊎◌, inl, inr, ℕ, ◌+◌, ◌<◌, List, [], ◌∷◌, ◌++◌, length, Option, Some, Ok, refl, sym, subst, ◌∙◌, append-nil, arith}
 use Rattle.std.specs.Prelude.{option_to_list}
 use Rattle.gate_log.specs.LogBytes.{records_length, closed_gate}
-use Rattle.gate_log.specs.LogOnDisk.{LogState, HoldsPayloads, Stands}
-use Rattle.stored_run.specs.Effects.{IsOver, Stops}
+use Rattle.lens_io.specs.declared.disk.Disk as OfDisk
+use Rattle.lens_io.specs.declared.sink.Sink as OfSink
+use Rattle.gate_log.specs.LogOnDisk.{LogState, HoldsPayloads}
+use Rattle.stored_run.specs.Effects.{IsOver, StandsOn, Stops}
 use Rattle.stored_run.specs.Ends.{status_of}
 use Rattle.stored_run.specs.Refusals.{Refuses, IsUnwritten, IsOpening, FailsUnopened}
 use Rattle.stored_run.specs.Rooms.{most_bytes, HasNoRoom}
@@ -18,17 +20,17 @@ use Rattle.stored_run.proofs.Effects.{records_append, room_over}
 use Rattle.stored_run.proofs.Rooms.{gate_of, none_some}
 use Rattle.stored_sessions.specs.Stands.{stands}
 use Rattle.store_undo.specs.UndoCall.{HoldsNow}
-use Rattle.store_undo.specs.UndoCauses.{UndoHasNoRoom, IsUndoCause}
+use Rattle.store_undo.specs.UndoCauses.{UndoHasNoRoom, IsCauseInRoom}
 use Rattle.store_undo.specs.UndoEnds.{UndoEnds}
 use Rattle.store_undo.specs.UndoRecords.{version_due, snapshot_text, undo_text}
 use Rattle.store_undo.specs.Undoing.{Undoing}
 use Rattle.store_undo.proofs.VersionRecords.{front_stands}
 
 -- a refusal is no fault of a source
-pub refuses_sourceless : (old new : Option (List ℕ)) (refusal : StoreRefusal) (status : Status) → Refuses old new refusal status → status ≡ ending.SourceFault → ⊥
-refuses_sourceless old new refusal status (inl h) e = cc
-refuses_sourceless old new refusal status (inr (inl h)) e = cc
-refuses_sourceless old new refusal status (inr (inr h)) e = cc
+pub refuses_sourceless : {K : Type 0} (sink : OfSink.Ghosts K) (old new : K) (refusal : StoreRefusal) (status : Status) → Refuses sink old new refusal status → status ≡ ending.SourceFault → ⊥
+refuses_sourceless sink old new refusal status (inl h) e = cc
+refuses_sourceless sink old new refusal status (inr (inl h)) e = cc
+refuses_sourceless sink old new refusal status (inr (inr h)) e = cc
 
 -- ---- no room
 
@@ -49,11 +51,11 @@ over_more : (most gate : ℕ) (begun more : List (List ℕ)) → IsOver most gat
 over_more most gate [] more h = absurd h
 over_more most gate (p ∷ rest) more h = h
 
-cause_at : (status other : Status) (o : Option ℕ) (before : List (List ℕ)) (u : Undoing) → status ≡ other → IsUndoCause other o before u → IsUndoCause status o before u
-cause_at status other o before u e h = subst (λ (s : Status). IsUndoCause s o before u) (sym e) h
+cause_at : (status other : Status) (o : Option ℕ) (before : List (List ℕ)) (u : Undoing) → status ≡ other → IsCauseInRoom o before u other → IsCauseInRoom o before u status
+cause_at status other o before u e h = subst (IsCauseInRoom o before u) (sym e) h
 
 -- a status that has no cause does not come
-pub undo_complete : (status : Status) (o : Option ℕ) (before : List (List ℕ)) (u : Undoing) → IsUndoCause status o before u
+pub undo_complete : (status : Status) (o : Option ℕ) (before : List (List ℕ)) (u : Undoing) → IsCauseInRoom o before u status
     → (status ≡ ending.SinkFault → ⊥) → (status ≡ ending.DiskFault → ⊥) → (UndoHasNoRoom most_bytes before u → ⊥) → (status ≡ ending.Done) ⊎ (status ≡ ending.NoMemory)
 undo_complete ending.Done o before u h sink disk none = inl refl
 undo_complete ending.NoMemory o before u h sink disk none = inr refl
@@ -78,8 +80,7 @@ other_status status A (inr e) (inl f) = cc
 other_status status A (inr e) (inr (inl f)) = cc
 other_status status A (inr e) (inr (inr f)) = cc
 
-module _ {K D : Type 0} (held : K → Option (List ℕ)) (content : D → Option (List ℕ)) (images : D → List ℕ → Type 0)
-    (moment : D → ℕ) (images_since : D → ℕ → List ℕ → Type 0) (room : D → Option ℕ) (before : List (List ℕ)) (u : Undoing) where
+module _ {K D : Type 0} (sink : OfSink.Ghosts K) (disk : OfDisk.Ghosts D) (before : List (List ℕ)) (u : Undoing) where
   abbrev version : List (List ℕ)
   version = option_to_list (version_due u.now.version)
 
@@ -89,8 +90,8 @@ module _ {K D : Type 0} (held : K → Option (List ℕ)) (content : D → Option
   -- the call was stopped at the version record, or at the snapshot
   abbrev StopsAt : K → D → LogState → K → D → LogState → Stop → Type 0
   StopsAt k d l k' d' l' stop =
-      Stops held content images moment images_since room k d l k' d' l' stop [] [] [] version
-      ⊎ Stops held content images moment images_since room k d l k' d' l' stop [] (undo_text u) version last
+      Stops sink disk (k, d, l) (k', d', l') stop [] [] [] version
+      ⊎ Stops sink disk (k, d, l) (k', d', l') stop [] (undo_text u) version last
 
   -- ---- causes
 
@@ -101,39 +102,39 @@ module _ {K D : Type 0} (held : K → Option (List ℕ)) (content : D → Option
     over_snapshot : (most : ℕ) → IsOver most (l.gate + records_length version) last → UndoHasNoRoom most before u
     over_snapshot most h = no_room_of most (l.gate + records_length version) before version last (version ++ last) (gate_behind l.gate before version g) refl h
 
-    stop_cause : (stop : Stop) → IsOwnStop stop → StopsAt k d l k1 d' l' stop → IsUndoCause (status_of stop) (room d) before u
+    stop_cause : (stop : Stop) → IsOwnStop stop → StopsAt k d l k1 d' l' stop → IsCauseInRoom (disk.room d) before u (status_of stop)
     stop_cause LogFull own (inl s) = over_version most_bytes s.full
     stop_cause LogFull own (inr s) = over_snapshot most_bytes s.full
-    stop_cause DiskFault own (inl s) = room_over (room d) (λ most. IsOver most (l.gate + records_length []) version) (λ most. UndoHasNoRoom most before u) over_version s.full
-    stop_cause DiskFault own (inr s) = room_over (room d) (λ most. IsOver most (l.gate + records_length version) last) (λ most. UndoHasNoRoom most before u) over_snapshot s.full
+    stop_cause DiskFault own (inl s) = room_over (disk.room d) (λ most. IsOver most (l.gate + records_length []) version) (λ most. UndoHasNoRoom most before u) over_version s.full
+    stop_cause DiskFault own (inr s) = room_over (disk.room d) (λ most. IsOver most (l.gate + records_length version) last) (λ most. UndoHasNoRoom most before u) over_snapshot s.full
     stop_cause SinkFault own s = tt
     stop_cause NoMemory own s = tt
     stop_cause SourceFault own s = absurd own
     stop_cause TooLong own s = absurd own
 
   ends_cause : (k k' : K) (d d' : D) (l l' : LogState) (status : Status) → l.gate ≡ closed_gate before
-      → StoreEnds held content images moment images_since room k d l k' d' l' (undo_text u) version (snapshot_text u) status → IsUndoCause status (room d) before u
-  ends_cause k k' d d' l l' status g (inl h) = cause_at status ending.Done (room d) before u h.0 tt
+      → StoreEnds sink disk (k, d, l) (k', d', l') (undo_text u) version (snapshot_text u) status → IsCauseInRoom (disk.room d) before u status
+  ends_cause k k' d d' l l' status g (inl h) = cause_at status ending.Done (disk.room d) before u h.0 tt
   ends_cause k k' d d' l l' status g (inr s) = elim s.status_is [
-    | inl e ↦ cause_at status (status_of s.stop) (room d) before u e.0 (stop_cause k s.k1 d d' l l' g s.stop s.own s.stops)
-    | inr e ↦ cause_at status ending.SinkFault (room d) before u e.1 tt
+    | inl e ↦ cause_at status (status_of s.stop) (disk.room d) before u e.0 (stop_cause k s.k1 d d' l l' g s.stop s.own s.stops)
+    | inr e ↦ cause_at status ending.SinkFault (disk.room d) before u e.1 tt
   ]
 
-  pub undo_cause : (k k' : K) (d d' : D) (bytes : List ℕ) (status : Status) → content d ≡ Some bytes
-      → StoresBehind held content images moment images_since room (λ d1 _. IsOpening content images moment images_since room d d1) k k' d' before (undo_text u) version (snapshot_text u) status
-      ⊎ IsUnwritten content images d d' × FailsUnopened (room d) (held k) (held k') status
-      → IsUndoCause status (room d) before u
+  pub undo_cause : (k k' : K) (d d' : D) (bytes : List ℕ) (status : Status) → disk.content d ≡ Some bytes
+      → StoresBehind sink disk (k, d) (k', d') (λ d1 _. IsOpening disk d d1) before (undo_text u) version (snapshot_text u) status
+      ⊎ IsUnwritten disk d d' × FailsUnopened sink disk (k, d) (k', d') status
+      → IsCauseInRoom (disk.room d) before u status
   undo_cause k k' d d' bytes status told (inl e) =
-      let g = gate_of (content e.d1) (images e.d1) e.log before bytes (e.opens.unwritten.same ∙ told) e.stands in
-      subst (λ (o : Option ℕ). IsUndoCause status o before u) e.opens.same_room (ends_cause k k' e.d1 d' e.log e.log' status g e.ends)
+      let g = gate_of (disk.content e.d1) (disk.images e.d1) e.log before bytes (e.opens.unwritten.same ∙ told) e.stands in
+      subst (λ (o : Option ℕ). IsCauseInRoom o before u status) e.opens.same_room (ends_cause k k' e.d1 d' e.log e.log' status g e.ends)
   undo_cause k k' d d' bytes status told (inr e) = elim e.1.0.0 [
-    | inl f ↦ cause_at status ending.DiskFault (room d) before u f (none_some (room d) (λ most. UndoHasNoRoom most before u) (e.1.1 f))
-    | inr f ↦ cause_at status ending.NoMemory (room d) before u f tt
+    | inl f ↦ cause_at status ending.DiskFault (disk.room d) before u f (none_some (disk.room d) (λ most. UndoHasNoRoom most before u) (e.1.1 f))
+    | inr f ↦ cause_at status ending.NoMemory (disk.room d) before u f tt
   ]
 
   -- ---- the snapshot is not stored
 
-  module _ (images_hold : (l : LogState) (d : D) (base : List (List ℕ)) (c : List ℕ) → Stands (content d) (images d) l base → images d c → HoldsPayloads base c)
+  module _ (images_hold : (l : LogState) (d : D) (base : List (List ℕ)) (c : List ℕ) → StandsOn disk d l base → disk.images d c → HoldsPayloads base c)
       (h : stands before ≡ Ok u.now) where
     holds_now : (front rest : List (List ℕ)) (c : List ℕ) → version ≡ front ++ rest → HoldsPayloads (before ++ front) c → HoldsNow before u c
     holds_now front rest c e holds =
@@ -143,8 +144,8 @@ module _ {K D : Type 0} (held : K → Option (List ℕ)) (content : D → Option
     holds_before : (c : List ℕ) → HoldsPayloads before c → HoldsNow before u c
     holds_before c holds = holds_now [] version c refl (subst (λ (x : List (List ℕ)). HoldsPayloads x c) (sym (append-nil before)) holds)
 
-    stop_unstored : (k k1 : K) (d d' : D) (l l' : LogState) (stop : Stop) → StoresNone (status_of stop) → Stands (content d) (images d) l before → StopsAt k d l k1 d' l' stop
-        → (c : List ℕ) → images d' c → HoldsNow before u c
+    stop_unstored : (k k1 : K) (d d' : D) (l l' : LogState) (stop : Stop) → StoresNone (status_of stop) → StandsOn disk d l before → StopsAt k d l k1 d' l' stop
+        → (c : List ℕ) → disk.images d' c → HoldsNow before u c
     stop_unstored k k1 d d' l l' LogFull is st (inl s) c now = holds_now [] version c refl (images_hold l' d' (before ++ []) c (s.stored before st) now)
     stop_unstored k k1 d d' l l' LogFull is st (inr s) c now = holds_now version [] c (sym (append-nil version)) (images_hold l' d' (before ++ version) c (s.stored before st) now)
     stop_unstored k k1 d d' l l' NoMemory is st (inl s) c now = holds_now [] version c refl (images_hold l' d' (before ++ []) c (s.stored before st) now)
@@ -154,14 +155,14 @@ module _ {K D : Type 0} (held : K → Option (List ℕ)) (content : D → Option
     stop_unstored k k1 d d' l l' SourceFault is st s c now = elim is [ inl e ↦ cc | inr e ↦ cc ]
     stop_unstored k k1 d d' l l' TooLong is st s c now = elim is [ inl e ↦ cc | inr e ↦ cc ]
 
-    ends_unstored : (k k' : K) (d d' : D) (l l' : LogState) (status : Status) → StoresNone status → Stands (content d) (images d) l before
-        → StoreEnds held content images moment images_since room k d l k' d' l' (undo_text u) version (snapshot_text u) status → (c : List ℕ) → images d' c → HoldsNow before u c
+    ends_unstored : (k k' : K) (d d' : D) (l l' : LogState) (status : Status) → StoresNone status → StandsOn disk d l before
+        → StoreEnds sink disk (k, d, l) (k', d', l') (undo_text u) version (snapshot_text u) status → (c : List ℕ) → disk.images d' c → HoldsNow before u c
     ends_unstored k k' d d' l l' status is st (inl e) c now = other_status status (HoldsNow before u c) is (inl e.0)
     ends_unstored k k' d d' l l' status is st (inr s) c now = elim s.status_is [
       | inl e ↦ stop_unstored k s.k1 d d' l l' s.stop (subst StoresNone e.0 is) st s.stops c now
       | inr e ↦ other_status status (HoldsNow before u c) is (inr (inl e.1))
     ]
 
-    pub unstored_of : (k k' : K) (d d' : D) (status : Status) → StoresNone status → UndoEnds held content images moment images_since room k d k' d' before u status → (c : List ℕ) → images d' c → HoldsNow before u c
+    pub unstored_of : (k k' : K) (d d' : D) (status : Status) → StoresNone status → UndoEnds sink disk (k, d) (k', d') before u status → (c : List ℕ) → disk.images d' c → HoldsNow before u c
     unstored_of k k' d d' status is (inl e) c now = ends_unstored k k' e.d1 d' e.log e.log' status is e.stands e.ends c now
     unstored_of k k' d d' status is (inr e) c now = holds_before c (e.holds c now)

@@ -2,6 +2,8 @@
 use Rattle.std.proofs.Common.{◌≡◌, inl, inr, ℕ, List, Option, Some, None, Result, Ok, Err, refl, sym, ap, subst, ◌∙◌}
 use Rattle.std.proofs.lemmas.Option.{same_Some}
 use Rattle.std.specs.Prelude.{option_and_then, IsNone}
+use Rattle.lens_io.specs.declared.disk.Disk as OfDisk
+use Rattle.lens_io.specs.declared.sink.Sink as OfSink
 use Rattle.gate_log.specs.CallEnds.{IsLogRefusal}
 use Rattle.gate_log.specs.LogBytes.{not_a_log, bad_record, log_of}
 use Rattle.gate_log.specs.declared.fault.LogFault.{LogFault}
@@ -16,17 +18,17 @@ use Rattle.stored_run.proofs.Openings.{at_content}
 use Rattle.stored_sessions.specs.Stands.{Standing, stands}
 use Rattle.store_undo.specs.Undoing.{Undoing, undoing_from, undoing_of, undoing, last_changes, payloads_before, refusal_of, refusal_of_log, refusal_in, undo_refusal}
 
-module _ (room : Option ℕ) (old new : Option (List ℕ)) (status : Status) where
+module _ {K D : Type 0} (sink : OfSink.Ghosts K) (disk : OfDisk.Ghosts D) (k k' : K) (d d' : D) (status : Status) where
   -- the line of a refusal that is the one that there is
-  pub same_refusal : (r r' : StoreRefusal) (o : Option StoreRefusal) → o ≡ Some r → o ≡ Some r' → Refuses old new r status → EndsRefused room old new r' status
+  pub same_refusal : (r r' : StoreRefusal) (o : Option StoreRefusal) → o ≡ Some r → o ≡ Some r' → Refuses sink k k' r status → EndsRefused sink disk (k, d) (k', d') r' status
   same_refusal r r' o is q ends =
       let same : r ≡ r' = same_Some r r' (sym is ∙ q) in
-      inl (subst (λ (x : StoreRefusal). Refuses old new x status) same ends)
+      inl (subst (λ (x : StoreRefusal). Refuses sink k k' x status) same ends)
 
   -- the opening of bytes that are refused
   pub log_refused : (count : ℕ) (fault : LogFault) (o : Option (List ℕ)) (bytes : List ℕ) (refusal : StoreRefusal)
-      → o ≡ Some bytes → IsLogRefusal o fault → refusal_in count bytes ≡ Some refusal → (fault ≡ log.DiskFault → IsNone room) → EndsAtLog old new fault status
-      → EndsRefused room old new refusal status
+      → o ≡ Some bytes → IsLogRefusal o fault → refusal_in count bytes ≡ Some refusal → (fault ≡ log.DiskFault → IsNone (disk.room d)) → EndsAtLog sink k k' fault status
+      → EndsRefused sink disk (k, d) (k', d') refusal status
   log_refused count log.NotALog o bytes refusal e r q sure ends =
       let is = at_content o bytes (λ b. log_of b ≡ not_a_log) e r in
       same_refusal NotALog refusal (refusal_in count bytes) (ap (refusal_of_log count) is) q ends

@@ -4,3 +4,4 @@ pub mod UndoCall
 pub mod Making
 pub mod UndoEnds
 pub mod UndoCauses
+pub mod UndoStores

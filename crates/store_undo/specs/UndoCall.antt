@@ -1,8 +1,10 @@
 -- The whole command `undo`: what it comes to, and what a crash leaves of it.
 -- Read it from the end: `IsUntouched`, `IsSafeUndo`, `UndoesCall`, then `IsImage`.
-use Rattle.std.specs.Prelude.{◌≡◌, ◌⊎◌, ℕ, List, [], ◌++◌, Option, option_to_list, Ok, IfSome}
-use Rattle.std.specs.Io.KnownBytes.{Appends}
-use Rattle.lens_io.specs.Disks.{LeavesOnly}
+use Rattle.std.specs.Prelude.{◌≡◌, ◌⊎◌, ℕ, List, [], ◌++◌, option_to_list, Ok, IfSome}
+use Rattle.lens_io.specs.Calls.{Gave}
+use Rattle.lens_io.specs.DiskRuns.{LeavesOnly}
+use Rattle.lens_io.specs.declared.disk.Disk as OfDisk
+use Rattle.lens_io.specs.declared.sink.Sink as OfSink
 use Rattle.gate_log.specs.LogOnDisk.{HoldsPayloads}
 use Rattle.stored_sessions.specs.Stands.{stands}
 use Rattle.store_undo.specs.Undoing.{Undoing}
@@ -10,7 +12,8 @@ use Rattle.store_undo.specs.UndoRecords.{version_due, new_records, undo_text, Ta
 
 -- ---- an image
 
--- The image holds the payloads from before the call, or these and the version record. They represent the triple from before the call.
+-- The image holds the payloads from before the call, or these and the version record. They represent the triple from
+-- before the call.
 pub record HoldsNow (held : List (List ℕ)) (u : Undoing) (image : List ℕ) : Type 0 where
   pub front : List (List ℕ)
   pub rest : List (List ℕ)
@@ -30,24 +33,24 @@ IsImage held u image = HoldsNow held u image ⊎ HoldsUndone held u image
 
 -- ---- the call
 
--- A sink and a disk, before a call (k, d) and after it (k', d'). These payloads are held before the call.
-module _ {K D : Type 0} (held : K → Option (List ℕ)) (content : D → Option (List ℕ)) (images : D → List ℕ → Type 0)
-    (moment : D → ℕ) (images_since : D → ℕ → List ℕ → Type 0) where
-  -- The lines were written. The payloads held are those from before, the version record if it was to be stored, and the snapshot. The
-  -- words take the documents back, and the store represents the triple before the last changes.
-  pub record UndoesCall (k k' : K) (d' : D) (before : List (List ℕ)) (u : Undoing) : Type 0 where
-    pub given : Appends (held k) (held k') (undo_text u)
-    pub kept : IfSome (content d') (HoldsPayloads (before ++ new_records u))
+-- A sink and a disk, before the call and after it. These payloads are held before the call.
+module _ {K D : Type 0} (sink : OfSink.Ghosts K) (disk : OfDisk.Ghosts D) (old new : K × D) where
+  -- The lines were written. The payloads held are those from before, the version record if it was to be stored, and the
+  -- snapshot. The words take the documents back, and the store represents the triple before the last changes.
+  pub record UndoesCall (before : List (List ℕ)) (u : Undoing) : Type 0 where
+    pub given : Gave sink old.0 new.0 (undo_text u)
+    pub kept : IfSome (disk.content new.1) (HoldsPayloads (before ++ new_records u))
     pub takes_back : TakesBack before u
 
-  -- An image that a crash now may leave represents the triple from before the call, or with the snapshot for the one before the last
-  -- changes. An image of a moment since the start of the call is one of those, or was possible then.
-  pub record IsSafeUndo (past : List ℕ → Type 0) (d d' : D) (before : List (List ℕ)) (u : Undoing) : Type 0 where
-    pub now : (c : List ℕ) → images d' c → IsImage before u c
-    pub moments : LeavesOnly moment images_since d d' (λ c. past c ⊎ IsImage before u c)
-
   -- The sync of the opening failed. Nothing was written, and there is no image that was not possible before.
-  pub record IsUntouched (k : K) (d : D) (k' : K) (d' : D) : Type 0 where
-    pub given : Appends (held k) (held k') []
-    pub only : (c : List ℕ) → images d' c → images d c
-    pub moments : LeavesOnly moment images_since d d' (images d)
+  pub record IsUntouched : Type 0 where
+    pub given : Gave sink old.0 new.0 []
+    pub only : (c : List ℕ) → disk.images new.1 c → disk.images old.1 c
+    pub moments : LeavesOnly disk old.1 new.1 (disk.images old.1)
+
+module _ {D : Type 0} (disk : OfDisk.Ghosts D) (old new : D) where
+  -- An image that a crash now may leave represents the triple from before the call, or with the snapshot for the one
+  -- before the last changes. An image of a moment since the start of the call is one of those, or was possible then.
+  pub record IsSafeUndo (before : List (List ℕ)) (u : Undoing) : Type 0 where
+    pub now : (c : List ℕ) → disk.images new c → IsImage before u c
+    pub moments : LeavesOnly disk old new (λ c. disk.images old c ⊎ IsImage before u c)

@@ -1,6 +1,7 @@
--- Why the command `undo` ended so: the record for which there was no room. Read it from the end: `IsUndoCause` by the status, then
--- `UndoHasNoRoom`.
+-- Why the command `undo` ended so: the record for which there was no room. Read it from the end: `IsUndoCause`,
+-- `IsCauseInRoom` by the status, then `UndoHasNoRoom`.
 use Rattle.std.specs.Prelude.{ℕ, List, Option, IfSome}
+use Rattle.lens_io.specs.declared.disk.Disk as OfDisk
 use Rattle.stored_run.specs.Rooms.{most_bytes, HasNoRoom}
 use Rattle.stored_run.specs.declared.status.Status.{Status}
 use Rattle.stored_run.specs.declared.status.Status.TheVariants as ending
@@ -11,11 +12,16 @@ use Rattle.store_undo.specs.UndoRecords.{new_records}
 abbrev pub UndoHasNoRoom : ℕ → List (List ℕ) → Undoing → Type 0
 UndoHasNoRoom most before u = HasNoRoom most before (new_records u)
 
--- What holds after each status of `undo` over payloads whose last changes are undone; it never is one of the last three.
-abbrev pub IsUndoCause : Status → Option ℕ → List (List ℕ) → Undoing → Type 0
-IsUndoCause ending.StoreRefused room before u = UndoHasNoRoom most_bytes before u
-IsUndoCause ending.DiskFault room before u = IfSome room (λ most. UndoHasNoRoom most before u)
-IsUndoCause ending.SourceFault room before u = ⊥
-IsUndoCause ending.InputTooLong room before u = ⊥
-IsUndoCause ending.SomeRefused room before u = ⊥
-IsUndoCause status room before u = Unit {0}
+-- What holds after each status of `undo` over payloads whose last changes are undone; it never is one of the last
+-- three. The room of the disk is given, if it is known.
+abbrev pub IsCauseInRoom : Option ℕ → List (List ℕ) → Undoing → Status → Type 0
+IsCauseInRoom room before u ending.StoreRefused = UndoHasNoRoom most_bytes before u
+IsCauseInRoom room before u ending.DiskFault = IfSome room (λ most. UndoHasNoRoom most before u)
+IsCauseInRoom room before u ending.SourceFault = ⊥
+IsCauseInRoom room before u ending.InputTooLong = ⊥
+IsCauseInRoom room before u ending.SomeRefused = ⊥
+IsCauseInRoom room before u status = Unit {0}
+
+-- the same over this disk
+abbrev pub IsUndoCause : {D : Type 0} → OfDisk.Ghosts D → D → List (List ℕ) → Undoing → Status → Type 0
+IsUndoCause disk d before u status = IsCauseInRoom (disk.room d) before u status

@@ -1,29 +1,35 @@
--- For the helpers of `undo`: how a call ends over a log that stands. Read it from the end: `UndoEnds`, `EndsUnwritten`, then `EndsStored`.
-use Rattle.std.specs.Prelude.{◌⊎◌, ℕ, List, Option, option_to_list}
-use Rattle.gate_log.specs.LogOnDisk.{LogState, HoldsPayloads, Stands}
+-- For the helpers of `undo`: how a call ends over a log that stands. Read it from the end: `UndoEnds`, `EndsUnwritten`,
+-- then `EndsStored`.
+use Rattle.std.specs.Prelude.{◌⊎◌, ℕ, List, option_to_list}
+use Rattle.lens_io.specs.declared.disk.Disk as OfDisk
+use Rattle.lens_io.specs.declared.sink.Sink as OfSink
+use Rattle.gate_log.specs.LogOnDisk.{LogState, HoldsPayloads}
+use Rattle.stored_run.specs.Effects.{StandsOn}
 use Rattle.stored_run.specs.Refusals.{IsOpening, FailsUnopened}
 use Rattle.stored_run.specs.StoreEnds.{StoreEnds}
 use Rattle.stored_run.specs.declared.status.Status.{Status}
 use Rattle.store_undo.specs.Undoing.{Undoing}
 use Rattle.store_undo.specs.UndoRecords.{undo_text, version_due, snapshot_text, TakesBack}
 
-module _ {K D : Type 0} (held : K → Option (List ℕ)) (content : D → Option (List ℕ)) (images : D → List ℕ → Type 0)
-    (moment : D → ℕ) (images_since : D → ℕ → List ℕ → Type 0) (room : D → Option ℕ) where
-  -- The log was opened on the disk d1. From there the records were stored and the lines written, or the call was stopped.
-  pub record EndsStored (k : K) (d : D) (k' : K) (d' : D) (before : List (List ℕ)) (u : Undoing) (status : Status) : Type 0 where
+-- A sink and a disk, before the call and after it.
+module _ {K D : Type 0} (sink : OfSink.Ghosts K) (disk : OfDisk.Ghosts D) (old new : K × D) where
+  -- The log was opened on the disk d1. From there the records were stored and the lines written, or the call was
+  -- stopped.
+  pub record EndsStored (before : List (List ℕ)) (u : Undoing) (status : Status) : Type 0 where
     pub d1 : D
     pub log : LogState
     pub log' : LogState
-    pub opens : IsOpening content images moment images_since room d d1
-    pub stands : Stands (content d1) (images d1) log before
+    pub opens : IsOpening disk old.1 d1
+    pub stands : StandsOn disk d1 log before
     pub takes_back : TakesBack before u
-    pub ends : StoreEnds held content images moment images_since room k d1 log k' d' log' (undo_text u) (option_to_list (version_due u.now.version)) (snapshot_text u) status
+    pub ends : StoreEnds sink disk (old.0, d1, log) (new.0, new.1, log')
+        (undo_text u) (option_to_list (version_due u.now.version)) (snapshot_text u) status
 
   -- The call failed before anything was written.
-  pub record EndsUnwritten (k : K) (d : D) (k' : K) (d' : D) (before : List (List ℕ)) (status : Status) : Type 0 where
-    pub opens : IsOpening content images moment images_since room d d'
-    pub holds : (c : List ℕ) → images d' c → HoldsPayloads before c
-    pub fails : FailsUnopened (room d) (held k) (held k') status
+  pub record EndsUnwritten (before : List (List ℕ)) (status : Status) : Type 0 where
+    pub opens : IsOpening disk old.1 new.1
+    pub holds : (c : List ℕ) → disk.images new.1 c → HoldsPayloads before c
+    pub fails : FailsUnopened sink disk old new status
 
-  abbrev pub UndoEnds : K → D → K → D → List (List ℕ) → Undoing → Status → Type 0
-  UndoEnds k d k' d' before u status = EndsStored k d k' d' before u status ⊎ EndsUnwritten k d k' d' before status
+  abbrev pub UndoEnds : List (List ℕ) → Undoing → Status → Type 0
+  UndoEnds before u status = EndsStored before u status ⊎ EndsUnwritten before status

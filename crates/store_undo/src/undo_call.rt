@@ -1,7 +1,7 @@
 //! The command `undo`, from its first call of the disk on.
 ghost use Rattle.std.specs.Prelude.{◌≡◌, ◌⊎◌, List, ℕ, Some, option_to_list};
-ghost use Rattle.lens_io.specs.Causes.{Increased, SinkFailed};
-ghost use Rattle.gate_log.specs.LogOnDisk.{HoldsPayloads, Stands};
+ghost use Rattle.lens_io.specs.Calls.{SinkFailed, DiskFailed};
+ghost use Rattle.stored_run.specs.Effects.{StandsOn};
 ghost use Rattle.stored_run.specs.Refusals.{IsUnwritten, IsOpening, EndsRefused, FailsUnopened};
 ghost use Rattle.stored_run.specs.Rooms.{most_bytes};
 ghost use Rattle.stored_run.specs.StoreEnds.{StoresBehind, StoreEnds};
@@ -9,7 +9,8 @@ ghost use Rattle.stored_run.specs.declared.refusals.StoreRefusal.{StoreRefusal};
 ghost use Rattle.store_undo.specs.UndoCall.{HoldsNow, UndoesCall, IsSafeUndo, IsUntouched};
 ghost use Rattle.store_undo.specs.UndoCauses.{UndoHasNoRoom, IsUndoCause};
 ghost use Rattle.store_undo.specs.UndoEnds.{UndoEnds};
-ghost use Rattle.store_undo.specs.Undoing.{Undoing, undoing, undo_refusal, refusal_in};
+ghost use Rattle.store_undo.specs.UndoStores.{StoreToUndo, RefusedToUndo};
+ghost use Rattle.store_undo.specs.Undoing.{Undoing, undoing, undo_refusal};
 ghost use Rattle.store_undo.specs.UndoRecords.{version_due, snapshot_text, undo_text};
 
 use crate::making::{Making, MakingFault, make};
@@ -20,9 +21,9 @@ use stored_run::{Status, give_stop, pack_store, refuse, refuse_log};
 
 /// Opens a store, and takes its documents and its complement back to what they were before the last `count` changes.
 ///
-/// It stores a snapshot of that triple behind the payloads, in a store of version 1 the version record before it, and then writes
-/// the lines `undo left WORD` and `undo right WORD` and the state lines. Each word takes the document of its side back. The payloads
-/// and the lines are made before anything is stored.
+/// It stores a snapshot of that triple behind the payloads, in a store of version 1 the version record before it, and
+/// then writes the lines `undo left WORD` and `undo right WORD` and the state lines. Each word takes the document of
+/// its side back. The payloads and the lines are made before anything is stored.
 ///
 /// - `undoes`: after `Done` the payloads are those from before, the version record if there was one to store, and the snapshot.
 ///   They represent the triple before the last changes, which is consistent. The lines were written, and the word of each line
@@ -40,53 +41,33 @@ use stored_run::{Status, give_stop, pack_store, refuse, refuse_log};
 ///   payloads represent a session, and their last `count` records are not all of changes or there are not so many.
 /// - `no_source`, `sink_fault`, `disk_fault`: there is no fault of a source, and these statuses come only if that device failed.
 pub fn undo<K: Sink, D: Disk>(alloc: Global, count: u64, sink: &mut K, disk: &mut D) -> Status
-    ensures undoes { (before : List (List ℕ)) (bytes : List ℕ) (u : Undoing)
-        → D.content disk.old ≡ Some bytes → HoldsPayloads before bytes
-        → undoing count before ≡ Some u → result ≡ Status.Done
-        → UndoesCall K.held D.content D.images D.moment D.images_since
-        sink.old sink.new disk.new before u }
-    ensures safe { (before : List (List ℕ)) (bytes : List ℕ) (u : Undoing)
-        → D.content disk.old ≡ Some bytes → HoldsPayloads before bytes
-        → undoing count before ≡ Some u
-        → (result ≡ Status.DiskFault)
-        × IsUntouched K.held D.content D.images D.moment D.images_since
-        sink.old disk.old sink.new disk.new
-        ⊎ IsSafeUndo K.held D.content D.images D.moment D.images_since
-        (D.images disk.old) disk.old disk.new before u }
-    ensures exits { (before : List (List ℕ)) (bytes : List ℕ) (u : Undoing)
-        → D.content disk.old ≡ Some bytes → HoldsPayloads before bytes
-        → undoing count before ≡ Some u
-        → StoresBehind K.held D.content D.images D.moment D.images_since D.room
-        (λ d1 _. IsOpening D.content D.images D.moment D.images_since D.room disk.old d1)
-        sink.old sink.new disk.new
-        before (undo_text u) (option_to_list (version_due u.now.version)) (snapshot_text u) result
-        ⊎ IsUnwritten D.content D.images disk.old disk.new
-        × FailsUnopened (D.room disk.old) (K.held sink.old) (K.held sink.new) result }
-    ensures unstored { (before : List (List ℕ)) (bytes : List ℕ) (u : Undoing)
-        → D.content disk.old ≡ Some bytes → HoldsPayloads before bytes
-        → undoing count before ≡ Some u
+    ensures undoes { (store : StoreToUndo D.Disk count disk.old) → result ≡ Status.Done
+        → UndoesCall K.Sink D.Disk (sink.old, disk.old) (sink.new, disk.new) store.payloads store.undone }
+    ensures safe { (store : StoreToUndo D.Disk count disk.old)
+        → (result ≡ Status.DiskFault) × IsUntouched K.Sink D.Disk (sink.old, disk.old) (sink.new, disk.new)
+        ⊎ IsSafeUndo D.Disk disk.old disk.new store.payloads store.undone }
+    ensures exits { (store : StoreToUndo D.Disk count disk.old)
+        → StoresBehind K.Sink D.Disk (sink.old, disk.old) (sink.new, disk.new)
+        (λ d1 _. IsOpening D.Disk disk.old d1) store.payloads (undo_text store.undone)
+        (option_to_list (version_due store.undone.now.version)) (snapshot_text store.undone) result
+        ⊎ IsUnwritten D.Disk disk.old disk.new
+        × FailsUnopened K.Sink D.Disk (sink.old, disk.old) (sink.new, disk.new) result }
+    ensures unstored { (store : StoreToUndo D.Disk count disk.old)
         → (result ≡ Status.NoMemory) ⊎ (result ≡ Status.StoreRefused)
-        → (image : List ℕ) → D.images disk.new image → HoldsNow before u image }
-    ensures causes { (before : List (List ℕ)) (bytes : List ℕ) (u : Undoing)
-        → D.content disk.old ≡ Some bytes → HoldsPayloads before bytes
-        → undoing count before ≡ Some u
-        → IsUndoCause result (D.room disk.old) before u }
-    ensures complete { (before : List (List ℕ)) (bytes : List ℕ) (u : Undoing)
-        → D.content disk.old ≡ Some bytes → HoldsPayloads before bytes
-        → undoing count before ≡ Some u
-        → (SinkFailed K.faults K.empty_takes K.room K.held sink.old sink.new → ⊥)
-        → (Increased (D.faults disk.old) (D.faults disk.new) → ⊥)
-        → (UndoHasNoRoom most_bytes before u → ⊥)
+        → (image : List ℕ) → D.images disk.new image → HoldsNow store.payloads store.undone image }
+    ensures causes { (store : StoreToUndo D.Disk count disk.old)
+        → IsUndoCause D.Disk disk.old store.payloads store.undone result }
+    ensures complete { (store : StoreToUndo D.Disk count disk.old)
+        → (SinkFailed K.Sink sink.old sink.new → ⊥)
+        → (DiskFailed D.Disk disk.old disk.new → ⊥)
+        → (UndoHasNoRoom most_bytes store.payloads store.undone → ⊥)
         → (result ≡ Status.Done) ⊎ (result ≡ Status.NoMemory) }
-    ensures refused { (bytes : List ℕ) (refusal : StoreRefusal)
-        → D.content disk.old ≡ Some bytes → refusal_in count bytes ≡ Some refusal
-        → IsUnwritten D.content D.images disk.old disk.new
-        × EndsRefused (D.room disk.old) (K.held sink.old) (K.held sink.new) refusal result }
+    ensures refused { (other : RefusedToUndo D.Disk count disk.old)
+        → IsUnwritten D.Disk disk.old disk.new
+        × EndsRefused K.Sink D.Disk (sink.old, disk.old) (sink.new, disk.new) other.reason result }
     ensures no_source { result ≡ Status.SourceFault → ⊥ }
-    ensures sink_fault { result ≡ Status.SinkFault
-        → SinkFailed K.faults K.empty_takes K.room K.held sink.old sink.new }
-    ensures disk_fault { result ≡ Status.DiskFault
-        → Increased (D.faults disk.old) (D.faults disk.new) }
+    ensures sink_fault { result ≡ Status.SinkFault → SinkFailed K.Sink sink.old sink.new }
+    ensures disk_fault { result ≡ Status.DiskFault → DiskFailed D.Disk disk.old disk.new }
 {
     match open_log(disk) {
         Ok(log) => {
@@ -105,22 +86,19 @@ fn undo_log<K: Sink, D: Disk>(
     sink: &mut K,
     disk: &mut D,
 ) -> Status
-    requires stands { (base : List (List ℕ)) × Stands (D.content disk.old) (D.images disk.old) log.old base }
+    requires stands { (base : List (List ℕ)) × StandsOn D.Disk disk.old log.old base }
     ensures ends { (before : List (List ℕ)) (bytes : List ℕ) (u : Undoing)
-        → D.content disk.old ≡ Some bytes → Stands (D.content disk.old) (D.images disk.old) log.old before
+        → D.content disk.old ≡ Some bytes → StandsOn D.Disk disk.old log.old before
         → undoing count before ≡ Some u
-        → UndoEnds K.held D.content D.images D.moment D.images_since D.room
-        sink.old disk.old sink.new disk.new before u result }
+        → UndoEnds K.Sink D.Disk (sink.old, disk.old) (sink.new, disk.new) before u result }
     ensures refused { (before : List (List ℕ)) (bytes : List ℕ) (refusal : StoreRefusal)
-        → D.content disk.old ≡ Some bytes → Stands (D.content disk.old) (D.images disk.old) log.old before
+        → D.content disk.old ≡ Some bytes → StandsOn D.Disk disk.old log.old before
         → undo_refusal count before ≡ Some refusal
-        → IsUnwritten D.content D.images disk.old disk.new
-        × EndsRefused (D.room disk.old) (K.held sink.old) (K.held sink.new) refusal result }
+        → IsUnwritten D.Disk disk.old disk.new
+        × EndsRefused K.Sink D.Disk (sink.old, disk.old) (sink.new, disk.new) refusal result }
     ensures no_source { result ≡ Status.SourceFault → ⊥ }
-    ensures sink_fault { result ≡ Status.SinkFault
-        → SinkFailed K.faults K.empty_takes K.room K.held sink.old sink.new }
-    ensures disk_fault { result ≡ Status.DiskFault
-        → Increased (D.faults disk.old) (D.faults disk.new) }
+    ensures sink_fault { result ≡ Status.SinkFault → SinkFailed K.Sink sink.old sink.new }
+    ensures disk_fault { result ≡ Status.DiskFault → DiskFailed D.Disk disk.old disk.new }
 {
     match log.payloads(alloc, disk) {
         Ok(payloads) => undo_payloads(alloc, count, payloads, log, sink, disk),
@@ -137,19 +115,16 @@ fn undo_payloads<K: Sink, D: Disk>(
     sink: &mut K,
     disk: &mut D,
 ) -> Status
-    requires stands { (base : List (List ℕ)) × Stands (D.content disk.old) (D.images disk.old) log.old base }
-    ensures ends { (u : Undoing) → Stands (D.content disk.old) (D.images disk.old) log.old payloads
+    requires stands { (base : List (List ℕ)) × StandsOn D.Disk disk.old log.old base }
+    ensures ends { (u : Undoing) → StandsOn D.Disk disk.old log.old payloads
         → undoing count payloads ≡ Some u
-        → UndoEnds K.held D.content D.images D.moment D.images_since D.room
-        sink.old disk.old sink.new disk.new payloads u result }
+        → UndoEnds K.Sink D.Disk (sink.old, disk.old) (sink.new, disk.new) payloads u result }
     ensures refused { (refusal : StoreRefusal) → undo_refusal count payloads ≡ Some refusal
-        → IsUnwritten D.content D.images disk.old disk.new
-        × EndsRefused (D.room disk.old) (K.held sink.old) (K.held sink.new) refusal result }
+        → IsUnwritten D.Disk disk.old disk.new
+        × EndsRefused K.Sink D.Disk (sink.old, disk.old) (sink.new, disk.new) refusal result }
     ensures no_source { result ≡ Status.SourceFault → ⊥ }
-    ensures sink_fault { result ≡ Status.SinkFault
-        → SinkFailed K.faults K.empty_takes K.room K.held sink.old sink.new }
-    ensures disk_fault { result ≡ Status.DiskFault
-        → Increased (D.faults disk.old) (D.faults disk.new) }
+    ensures sink_fault { result ≡ Status.SinkFault → SinkFailed K.Sink sink.old sink.new }
+    ensures disk_fault { result ≡ Status.DiskFault → DiskFailed D.Disk disk.old disk.new }
 {
     match make(alloc, count, payloads) {
         Ok(making) => store_making(alloc, &making, log, sink, disk),
@@ -166,15 +141,12 @@ fn store_making<K: Sink, D: Disk>(
     sink: &mut K,
     disk: &mut D,
 ) -> Status
-    requires stands { (base : List (List ℕ)) × Stands (D.content disk.old) (D.images disk.old) log.old base }
-    ensures ends { StoreEnds K.held D.content D.images D.moment D.images_since D.room
-        sink.old disk.old log.old sink.new disk.new log.new
+    requires stands { (base : List (List ℕ)) × StandsOn D.Disk disk.old log.old base }
+    ensures ends { StoreEnds K.Sink D.Disk (sink.old, disk.old, log.old) (sink.new, disk.new, log.new)
         making.now.texts.lines (option_to_list making.now.version) making.now.texts.snapshot result }
     ensures no_source { result ≡ Status.SourceFault → ⊥ }
-    ensures sink_fault { result ≡ Status.SinkFault
-        → SinkFailed K.faults K.empty_takes K.room K.held sink.old sink.new }
-    ensures disk_fault { result ≡ Status.DiskFault
-        → Increased (D.faults disk.old) (D.faults disk.new) }
+    ensures sink_fault { result ≡ Status.SinkFault → SinkFailed K.Sink sink.old sink.new }
+    ensures disk_fault { result ≡ Status.DiskFault → DiskFailed D.Disk disk.old disk.new }
 {
     let snapshot = making.texts.snapshot.as_slice();
     let lines = making.texts.lines.as_slice();

@@ -16,3 +16,5 @@ pub mod ApplyCalls
 pub mod PackCalls
 pub mod Causes
 pub mod Rooms
+pub mod InTime
+pub mod InTimeEnds

@@ -1,10 +1,11 @@
 -- Runs of disk calls, one after another.
 use Rattle.std.proofs.Common.{inl, inr, ℕ, List, arith}
-use Rattle.lens_io.specs.Disks.{LeavesOnly}
+use Rattle.lens_io.specs.DiskRuns.{LeavesOnly}
+use Rattle.lens_io.specs.declared.disk.Disk as OfDisk
 
-module _ {D : Type 0} (moment : D → ℕ) (images_since : D → ℕ → List ℕ → Type 0) where
+module _ {D : Type 0} (disk : OfDisk.Ghosts D) where
   -- each image has what it has, and more
-  pub leaves_more : (old new : D) (P Q : List ℕ → Type 0) → ((c : List ℕ) → P c → Q c) → LeavesOnly moment images_since old new P → LeavesOnly moment images_since old new Q
+  pub leaves_more : (old new : D) (P Q : List ℕ → Type 0) → ((c : List ℕ) → P c → Q c) → LeavesOnly disk old new P → LeavesOnly disk old new Q
   leaves_more old new P Q f h = record {
     later = h.later;
     each = λ c was. f c (h.each c was);
@@ -12,15 +13,15 @@ module _ {D : Type 0} (moment : D → ℕ) (images_since : D → ℕ → List �
   }
 
   -- no call at all
-  pub leaves_same : (d : D) (P : List ℕ → Type 0) → ((c : List ℕ) → images_since d (moment d) c → P c) → LeavesOnly moment images_since d d P
+  pub leaves_same : (d : D) (P : List ℕ → Type 0) → ((c : List ℕ) → disk.images_since d (disk.moment d) c → P c) → LeavesOnly disk d d P
   leaves_same d P f = record { later = omega arith; each = f; before = λ t c le was. inl was }
 
   -- one run and then another
   pub leaves_then : (d0 d1 d2 : D) (P Q R : List ℕ → Type 0) → ((c : List ℕ) → P c → R c) → ((c : List ℕ) → Q c → R c)
-      → LeavesOnly moment images_since d0 d1 P → LeavesOnly moment images_since d1 d2 Q → LeavesOnly moment images_since d0 d2 R
+      → LeavesOnly disk d0 d1 P → LeavesOnly disk d1 d2 Q → LeavesOnly disk d0 d2 R
   leaves_then d0 d1 d2 P Q R f g h k = record {
     later = omega (arith, h.later, k.later);
-    each = λ c was. elim (k.before (moment d0) c h.later was) [ inl past ↦ f c (h.each c past) | inr now ↦ g c now ];
+    each = λ c was. elim (k.before (disk.moment d0) c h.later was) [ inl past ↦ f c (h.each c past) | inr now ↦ g c now ];
     before = λ t c le was. elim (k.before t c (omega (arith, le, h.later)) was) [
       | inl past ↦ elim (h.before t c le past) [ inl earlier ↦ inl earlier | inr now ↦ inr (f c now) ]
       | inr now ↦ inr (g c now)

@@ -1,7 +1,10 @@
 -- Why the commands over a store ended so.
 use Rattle.std.proofs.Common.{◌≡◌, ◌⊎◌, inl, inr, ℕ, ◌+◌, ◌<◌, List, [], ◌∷◌, ◌++◌, length, Bool, true, false, Option, Some, None, refl, sym, ap, subst, ◌∙◌, append_assoc, append-nil, arith}
-use Rattle.std.specs.Prelude.{option_to_list, IfSome, IsNone, Result}
-use Rattle.std.specs.Io.KnownBytes.{Consumes}
+use Rattle.std.specs.Prelude.{option_to_list, IfSome, IsNone}
+use Rattle.lens_io.specs.Calls.{Took}
+use Rattle.lens_io.specs.declared.source.Source as OfSource
+use Rattle.lens_io.specs.declared.sink.Sink as OfSink
+use Rattle.lens_io.specs.declared.disk.Disk as OfDisk
 use Rattle.edit_journal.specs.Pieces.{nothing_fed, fed, last_line, lines_of}
 use Rattle.edit_journal.specs.declared.line.Line.{Line}
 use Rattle.edit_journal.proofs.Feeding.{all_lines_given}
@@ -14,18 +17,18 @@ use Rattle.stored_run.specs.Effects.{IsOver, IsFullAt, Stops}
 use Rattle.stored_run.specs.Ends.{IsFinished, end_of, status_of, StopsStored, Exits}
 use Rattle.stored_run.specs.Journal.{StopsJournal}
 use Rattle.stored_run.specs.PackCall.{EndsPack}
-use Rattle.stored_run.specs.Rooms.{most_bytes, HasNoRoom, TakesWithin, TakesTooMany, RunHasNoRoom, IsApplyCause, PackHasNoRoom, IsPackCause}
+use Rattle.stored_run.specs.Rooms.{most_bytes, HasNoRoom, TakesWithin, TakesTooMany, RunHasNoRoom, IsCauseInRoom, PackHasNoRoom, IsPackCauseInRoom}
 use Rattle.stored_run.specs.Runs.{any_refused, kept_of}
 use Rattle.stored_run.specs.StoreEnds.{StoreEnds}
 use Rattle.stored_run.specs.Stopping.{IsOwnStop}
 use Rattle.stored_run.specs.ViewCall.{Views}
-use Rattle.stored_run.specs.declared.session.Answer.{Answer}
-use Rattle.stored_run.specs.declared.session.ReopenFault.{ReopenFault}
+use Rattle.stored_run.specs.declared.session.StoredSession as OfSession
 use Rattle.stored_run.specs.declared.status.Status.{Status}
 use Rattle.stored_run.specs.declared.status.Status.TheVariants as ending
 use Rattle.stored_run.specs.declared.stop.Stop.{Stop}
 use Rattle.stored_run.specs.declared.stop.Stop.TheVariants.{LogFull, SourceFault, SinkFault, DiskFault, TooLong, NoMemory}
 use Rattle.stored_run.proofs.Effects.{records_append, room_over}
+use Rattle.stored_run.proofs.InTime.{took_none}
 use Rattle.stored_run.proofs.RunParts.{kept_append, goes_run}
 
 abbrev Payloads : Type 0
@@ -80,15 +83,14 @@ none_some (Some n) P h = cc
 
 -- ---- `apply`
 
-module _ {K D State : Type 0} (held : K → Option (List ℕ)) (content : D → Option (List ℕ)) (images : D → List ℕ → Type 0)
-    (moment : D → ℕ) (images_since : D → ℕ → List ℕ → Type 0) (room : D → Option ℕ) (answer : State → ℕ → Line → Option (State × Answer)) (is_step : State → ℕ → Line → State × Answer → Type 0)
-    (left left' : Option (List ℕ)) (before : Payloads) (t : State) (version : Option (List ℕ)) where
+module _ {S K D A : Type 0} (source : OfSource.Ghosts S) (sink : OfSink.Ghosts K) (disk : OfDisk.Ghosts D) (session : OfSession.Ghosts A)
+    (i i' : S) (before : Payloads) (t : session.State) (version : Option (List ℕ)) where
   abbrev NoRoom : ℕ → Type 0
-  NoRoom most = RunHasNoRoom answer most left left' before t version
+  NoRoom most = RunHasNoRoom source session i i' most before t version
 
   over_among : (most : ℕ) (k k1 : K) (d d' : D) (l l' : LogState) (stop : Stop) (bytes : List ℕ) (ended more : List Line)
-      → l.gate ≡ closed_gate (before ++ option_to_list version) → Consumes left left' bytes → lines_of bytes ≡ ended ++ more
-      → (s : StopsAmong held content images moment images_since room answer is_step k d l k1 d' l' t 0 ended stop)
+      → l.gate ≡ closed_gate (before ++ option_to_list version) → Took source i i' bytes → lines_of bytes ≡ ended ++ more
+      → (s : StopsAmong sink disk session (k, d, l) (k1, d', l') t 0 ended stop)
       → IsOver most (l.gate + records_length (kept_of s.done)) (kept_of s.begun) → NoRoom most
   over_among most k k1 d d' l l' stop bytes ended more g consumes whole s over =
       let v = option_to_list version in
@@ -99,7 +101,7 @@ module _ {K D State : Type 0} (held : K → Option (List ℕ)) (content : D → 
         rest = s.rest ++ more;
         parts = whole ∙ ap (λ (x : List Line). x ++ more) s.parts ∙ append_assoc s.lines s.rest more;
         steps = s.done ++ s.begun;
-        is_run = goes_run answer t s.t' 0 s.n' s.lines (s.done ++ s.begun) s.goes;
+        is_run = goes_run session t s.t' 0 s.n' s.lines (s.done ++ s.begun) s.goes;
         no_room = no_room_of most (l.gate + records_length (kept_of s.done)) before (v ++ kept_of s.done) (kept_of s.begun) (v ++ kept_of (s.done ++ s.begun))
             (gate_behind l.gate (before ++ v) (kept_of s.done) g ∙ ap closed_gate (append_assoc before v (kept_of s.done)))
             (ap (λ (x : Payloads). v ++ x) (kept_append s.done s.begun) ∙ sym (append_assoc v (kept_of s.done) (kept_of s.begun)))
@@ -107,25 +109,25 @@ module _ {K D State : Type 0} (held : K → Option (List ℕ)) (content : D → 
       }
 
   over_journal : (k k1 : K) (d d' : D) (l l' : LogState) (stop : Stop) → l.gate ≡ closed_gate (before ++ option_to_list version)
-      → StopsJournal held content images moment images_since room answer is_step left left' k d l k1 d' l' t 0 stop → IfSome (room_at stop (room d)) NoRoom
+      → StopsJournal source sink disk session (i, k, d, l) (i', k1, d', l') t 0 stop → IfSome (room_at stop (disk.room d)) NoRoom
   over_journal k k1 d d' l l' stop g (inl j) =
-      room_over (room_at stop (room d)) (λ most. IsOver most (l.gate + records_length (kept_of j.among.done)) (kept_of j.among.begun)) NoRoom
+      room_over (room_at stop (disk.room d)) (λ most. IsOver most (l.gate + records_length (kept_of j.among.done)) (kept_of j.among.begun)) NoRoom
       (λ most over. over_among most k k1 d d' l l' stop j.bytes (ended_lines j.bytes) (option_to_list (last_line (fed nothing_fed j.bytes).begun)) g j.consumes (sym (all_lines_given j.bytes)) j.among over)
-      (full_room stop (room d) (l.gate + records_length (kept_of j.among.done)) (kept_of j.among.begun) j.among.stops.full)
+      (full_room stop (disk.room d) (l.gate + records_length (kept_of j.among.done)) (kept_of j.among.begun) j.among.stops.full)
   over_journal k k1 d d' l l' stop g (inr j) =
-      room_over (room_at stop (room d)) (λ most. IsOver most (l.gate + records_length (kept_of j.among.done)) (kept_of j.among.begun)) NoRoom
+      room_over (room_at stop (disk.room d)) (λ most. IsOver most (l.gate + records_length (kept_of j.among.done)) (kept_of j.among.begun)) NoRoom
       (λ most over. over_among most k k1 d d' l l' stop j.bytes (lines_of j.bytes) [] g j.consumes (sym (append-nil (lines_of j.bytes))) j.among over)
-      (full_room stop (room d) (l.gate + records_length (kept_of j.among.done)) (kept_of j.among.begun) j.among.stops.full)
+      (full_room stop (disk.room d) (l.gate + records_length (kept_of j.among.done)) (kept_of j.among.begun) j.among.stops.full)
 
   module _ (k k1 : K) (d d' : D) (l l' : LogState) (g : l.gate ≡ closed_gate before) where
-    over_stored : (stop : Stop) → StopsStored held content images moment images_since room answer is_step left left' k d l k1 d' l' (option_to_list version) t stop
-        → IfSome (room_at stop (room d)) NoRoom
+    over_stored : (stop : Stop) → StopsStored source sink disk session (i, k, d, l) (i', k1, d', l') (option_to_list version) t stop
+        → IfSome (room_at stop (disk.room d)) NoRoom
     over_stored stop (inl s) =
         let v = option_to_list version in
-        room_over (room_at stop (room d)) (λ most. IsOver most (l.gate + records_length []) v) NoRoom
+        room_over (room_at stop (disk.room d)) (λ most. IsOver most (l.gate + records_length []) v) NoRoom
         (λ most over. record {
           bytes = [];
-          consumes = s.1;
+          consumes = took_none source i i' s.1;
           lines = [];
           rest = [];
           parts = refl;
@@ -133,13 +135,13 @@ module _ {K D State : Type 0} (held : K → Option (List ℕ)) (content : D → 
           is_run = refl;
           no_room = no_room_of most (l.gate + records_length []) before [] v (v ++ []) (gate_behind l.gate before [] g) (append-nil v) over;
         })
-        (full_room stop (room d) (l.gate + records_length []) v s.2.full)
+        (full_room stop (disk.room d) (l.gate + records_length []) v s.2.full)
     over_stored stop (inr s) =
         subst (λ (o : Option ℕ). IfSome (room_at stop o) NoRoom) s.adds.same_room
         (over_journal k k1 s.d1 d' s.l1 l' stop (s.adds.gate ∙ gate_behind l.gate before (option_to_list version) g) s.goes_on)
 
-    at_stop : (stop : Stop) → StopsStored held content images moment images_since room answer is_step left left' k d l k1 d' l' (option_to_list version) t stop
-        → IsApplyCause answer (status_of stop) (room d) left left' before t version
+    at_stop : (stop : Stop) → StopsStored source sink disk session (i, k, d, l) (i', k1, d', l') (option_to_list version) t stop
+        → IsCauseInRoom source session i i' (disk.room d) before t version (status_of stop)
     at_stop LogFull s = over_stored LogFull s
     at_stop DiskFault s = over_stored DiskFault s
     at_stop SinkFault s = tt
@@ -149,66 +151,65 @@ module _ {K D State : Type 0} (held : K → Option (List ℕ)) (content : D → 
     at_stop TooLong (inl s) = absurd s.0
     at_stop TooLong (inr s) = elim s.goes_on [ inl j ↦ record { bytes = j.bytes; consumes = j.consumes; over = omega (arith, j.all.1, j.at_most) } | inr j ↦ absurd j.own ]
 
-  at_end : (b : Bool) (o : Option ℕ) → TakesWithin left left' → IsApplyCause answer (end_of b) o left left' before t version
+  at_end : (b : Bool) (o : Option ℕ) → TakesWithin source i i' → IsCauseInRoom source session i i' o before t version (end_of b)
   at_end true o h = h
   at_end false o h = h
 
-  at_status : (status other : Status) (o : Option ℕ) → status ≡ other → IsApplyCause answer other o left left' before t version → IsApplyCause answer status o left left' before t version
-  at_status status other o e h = subst (λ (s : Status). IsApplyCause answer s o left left' before t version) (sym e) h
+  at_status : (status other : Status) (o : Option ℕ) → status ≡ other → IsCauseInRoom source session i i' o before t version other → IsCauseInRoom source session i i' o before t version status
+  at_status status other o e h = subst (λ (s : Status). IsCauseInRoom source session i i' o before t version s) (sym e) h
 
-  at_exit : (state_text : State → List ℕ) (k k' : K) (d d' : D) (l l' : LogState) (t' : State) (status : Status) → l.gate ≡ closed_gate before
-      → Exits held content images moment images_since room answer is_step left left' k d l k' d' l' (option_to_list version) state_text t t' status
-      → IsApplyCause answer status (room d) left left' before t version
-  at_exit state_text k k' d d' l l' t' status g (inl c) = at_status status (end_of (any_refused c.steps)) (room d) c.ended (at_end (any_refused c.steps) (room d) (record { bytes = c.bytes; consumes = c.consumes; within = c.within }))
-  at_exit state_text k k' d d' l l' t' status g (inr (inl e)) = elim e.short [
-    | inl x ↦ at_status status ending.NoMemory (room d) x.0 tt
-    | inr x ↦ at_status status ending.SinkFault (room d) x.0 tt
+  at_exit : (k k' : K) (d d' : D) (l l' : LogState) (t' : session.State) (status : Status) → l.gate ≡ closed_gate before
+      → Exits source sink disk session (i, k, d, l) (i', k', d', l') (option_to_list version) t t' status
+      → IsCauseInRoom source session i i' (disk.room d) before t version status
+  at_exit k k' d d' l l' t' status g (inl c) = at_status status (end_of (any_refused c.steps)) (disk.room d) c.ended (at_end (any_refused c.steps) (disk.room d) (record { bytes = c.bytes; consumes = c.consumes; within = c.within }))
+  at_exit k k' d d' l l' t' status g (inr (inl e)) = elim e.short [
+    | inl x ↦ at_status status ending.NoMemory (disk.room d) x.0 tt
+    | inr x ↦ at_status status ending.SinkFault (disk.room d) x.0 tt
   ]
-  at_exit state_text k k' d d' l l' t' status g (inr (inr e)) = elim e.status_is [
-    | inl x ↦ at_status status (status_of e.stop) (room d) x.0 (at_stop k e.k1 d d' l l' g e.stop e.stops)
-    | inr x ↦ at_status status ending.SinkFault (room d) x.1 tt
+  at_exit k k' d d' l l' t' status g (inr (inr e)) = elim e.status_is [
+    | inl x ↦ at_status status (status_of e.stop) (disk.room d) x.0 (at_stop k e.k1 d d' l l' g e.stop e.stops)
+    | inr x ↦ at_status status ending.SinkFault (disk.room d) x.1 tt
   ]
 
-  pub apply_cause : (state_text : State → List ℕ) (stands_for : Payloads → Result (State × Option (List ℕ)) ReopenFault) (count_of : Payloads → ℕ) (k k' : K) (d d' : D) (bytes : List ℕ) (status : Status) → content d ≡ Some bytes
-      → EndsCall held content images moment images_since room answer is_step state_text stands_for count_of left left' k d k' d' before t version status
-      → IsApplyCause answer status (room d) left left' before t version
-  apply_cause state_text stands_for count_of k k' d d' bytes status told (inl o) =
-      let g = gate_of (content o.d1) (images o.d1) o.log before bytes (o.opens.unwritten.same ∙ told) o.stands in
-      subst (λ (x : Option ℕ). IsApplyCause answer status x left left' before t version) o.opens.same_room (at_exit state_text k k' o.d1 d' o.log o.log' o.t' status g o.exits)
-  apply_cause state_text stands_for count_of k k' d d' bytes status told (inr u) = elim u.2.0.0 [
-    | inl e ↦ at_status status ending.DiskFault (room d) e (none_some (room d) NoRoom (u.2.1 e))
-    | inr e ↦ at_status status ending.NoMemory (room d) e tt
+  pub apply_cause : (k k' : K) (d d' : D) (bytes : List ℕ) (status : Status) → disk.content d ≡ Some bytes
+      → EndsCall source sink disk session (i, k, d) (i', k', d') before t version status
+      → IsCauseInRoom source session i i' (disk.room d) before t version status
+  apply_cause k k' d d' bytes status told (inl o) =
+      let g = gate_of (disk.content o.d1) (disk.images o.d1) o.log before bytes (o.opens.unwritten.same ∙ told) o.stands in
+      subst (λ (x : Option ℕ). IsCauseInRoom source session i i' x before t version status) o.opens.same_room (at_exit k k' o.d1 d' o.log o.log' o.t' status g o.exits)
+  apply_cause k k' d d' bytes status told (inr u) = elim u.2.0.0 [
+    | inl e ↦ at_status status ending.DiskFault (disk.room d) e (none_some (disk.room d) NoRoom (u.2.1 e))
+    | inr e ↦ at_status status ending.NoMemory (disk.room d) e tt
   ]
 
   -- a status that has no cause does not come
-  pub apply_complete : (status : Status) (o : Option ℕ) → IsApplyCause answer status o left left' before t version
-      → (status ≡ ending.SourceFault → ⊥) → (status ≡ ending.SinkFault → ⊥) → (status ≡ ending.DiskFault → ⊥) → (TakesTooMany left left' → ⊥) → (NoRoom most_bytes → ⊥)
+  pub apply_complete : (status : Status) (o : Option ℕ) → IsCauseInRoom source session i i' o before t version status
+      → (status ≡ ending.SourceFault → ⊥) → (status ≡ ending.SinkFault → ⊥) → (status ≡ ending.DiskFault → ⊥) → (TakesTooMany source i i' → ⊥) → (NoRoom most_bytes → ⊥)
       → IsFinished status ⊎ (status ≡ ending.NoMemory)
-  apply_complete ending.Done o h source sink disk many none = inl (inl refl)
-  apply_complete ending.SomeRefused o h source sink disk many none = inl (inr refl)
-  apply_complete ending.StoreRefused o h source sink disk many none = absurd (none h)
-  apply_complete ending.SourceFault o h source sink disk many none = absurd (source refl)
-  apply_complete ending.SinkFault o h source sink disk many none = absurd (sink refl)
-  apply_complete ending.DiskFault o h source sink disk many none = absurd (disk refl)
-  apply_complete ending.InputTooLong o h source sink disk many none = absurd (many h)
-  apply_complete ending.NoMemory o h source sink disk many none = inr refl
+  apply_complete ending.Done o h at_source at_sink at_disk many none = inl (inl refl)
+  apply_complete ending.SomeRefused o h at_source at_sink at_disk many none = inl (inr refl)
+  apply_complete ending.StoreRefused o h at_source at_sink at_disk many none = absurd (none h)
+  apply_complete ending.SourceFault o h at_source at_sink at_disk many none = absurd (at_source refl)
+  apply_complete ending.SinkFault o h at_source at_sink at_disk many none = absurd (at_sink refl)
+  apply_complete ending.DiskFault o h at_source at_sink at_disk many none = absurd (at_disk refl)
+  apply_complete ending.InputTooLong o h at_source at_sink at_disk many none = absurd (many h)
+  apply_complete ending.NoMemory o h at_source at_sink at_disk many none = inr refl
 
 -- ---- a payload behind others, and a line
 
-module _ {K D : Type 0} (held : K → Option (List ℕ)) (content : D → Option (List ℕ)) (images : D → List ℕ → Type 0)
-    (moment : D → ℕ) (images_since : D → ℕ → List ℕ → Type 0) (room : D → Option ℕ) where
+module _ {K D : Type 0} (sink : OfSink.Ghosts K) (disk : OfDisk.Ghosts D) where
   over_stops : (k k1 : K) (d d' : D) (l l' : LogState) (before front : Payloads) (payload line : List ℕ) (stop : Stop) → l.gate ≡ closed_gate before
-      → Stops held content images moment images_since room k d l k1 d' l' stop [] [] [] front
-      ⊎ Stops held content images moment images_since room k d l k1 d' l' stop [] line front (payload ∷ [])
-      → IfSome (room_at stop (room d)) (λ most. HasNoRoom most before (front ++ payload ∷ []))
+      → Stops sink disk (k, d, l) (k1, d', l') stop [] [] [] front
+      ⊎ Stops sink disk (k, d, l) (k1, d', l') stop [] line front (payload ∷ [])
+      → IfSome (room_at stop (disk.room d)) (λ most. HasNoRoom most before (front ++ payload ∷ []))
   over_stops k k1 d d' l l' before front payload line stop g (inl s) =
-      room_over (room_at stop (room d)) (λ most. IsOver most (l.gate + records_length []) front) (λ most. HasNoRoom most before (front ++ payload ∷ []))
+      room_over (room_at stop (disk.room d)) (λ most. IsOver most (l.gate + records_length []) front) (λ most. HasNoRoom most before (front ++ payload ∷ []))
       (λ most over. no_room_of most (l.gate + records_length []) before [] (front ++ payload ∷ []) (front ++ payload ∷ []) (gate_behind l.gate before [] g) refl (over_more most (l.gate + records_length []) front (payload ∷ []) over))
-      (full_room stop (room d) (l.gate + records_length []) front s.full)
+      (full_room stop (disk.room d) (l.gate + records_length []) front s.full)
   over_stops k k1 d d' l l' before front payload line stop g (inr s) =
-      room_over (room_at stop (room d)) (λ most. IsOver most (l.gate + records_length front) (payload ∷ [])) (λ most. HasNoRoom most before (front ++ payload ∷ []))
+      room_over (room_at stop (disk.room d)) (λ most. IsOver most (l.gate + records_length front) (payload ∷ [])) (λ most. HasNoRoom most before (front ++ payload ∷ []))
       (λ most over. no_room_of most (l.gate + records_length front) before front (payload ∷ []) (front ++ payload ∷ []) (gate_behind l.gate before front g) refl over)
-      (full_room stop (room d) (l.gate + records_length front) (payload ∷ []) s.full)
+      (full_room stop (disk.room d) (l.gate + records_length front) (payload ∷ []) s.full)
 
   -- what each status says of the payload that had no room; P and Q say it
   abbrev IsStoreCause : Status → Type 0 → Type 0 → Type 0
@@ -231,25 +232,25 @@ module _ {K D : Type 0} (held : K → Option (List ℕ)) (content : D → Option
   at_other status other P Q e h = subst (λ (s : Status). IsStoreCause s P Q) (sym e) h
 
   store_cause : (k k' : K) (d d' : D) (l l' : LogState) (before front : Payloads) (payload line : List ℕ) (status : Status) → l.gate ≡ closed_gate before
-      → StoreEnds held content images moment images_since room k d l k' d' l' line front payload status
-      → IsStoreCause status (HasNoRoom most_bytes before (front ++ payload ∷ [])) (IfSome (room d) (λ most. HasNoRoom most before (front ++ payload ∷ [])))
+      → StoreEnds sink disk (k, d, l) (k', d', l') line front payload status
+      → IsStoreCause status (HasNoRoom most_bytes before (front ++ payload ∷ [])) (IfSome (disk.room d) (λ most. HasNoRoom most before (front ++ payload ∷ [])))
   store_cause k k' d d' l l' before front payload line status g (inl h) =
-      at_other status ending.Done (HasNoRoom most_bytes before (front ++ payload ∷ [])) (IfSome (room d) (λ most. HasNoRoom most before (front ++ payload ∷ []))) h.0 tt
+      at_other status ending.Done (HasNoRoom most_bytes before (front ++ payload ∷ [])) (IfSome (disk.room d) (λ most. HasNoRoom most before (front ++ payload ∷ []))) h.0 tt
   store_cause k k' d d' l l' before front payload line status g (inr s) =
       let P = HasNoRoom most_bytes before (front ++ payload ∷ []) in
-      let Q = IfSome (room d) (λ most. HasNoRoom most before (front ++ payload ∷ [])) in
+      let Q = IfSome (disk.room d) (λ most. HasNoRoom most before (front ++ payload ∷ [])) in
       elim s.status_is [
-        | inl x ↦ at_other status (status_of s.stop) P Q x.0 (store_stop s.stop (room d) (λ most. HasNoRoom most before (front ++ payload ∷ [])) s.own (over_stops k s.k1 d d' l l' before front payload line s.stop g s.stops))
+        | inl x ↦ at_other status (status_of s.stop) P Q x.0 (store_stop s.stop (disk.room d) (λ most. HasNoRoom most before (front ++ payload ∷ [])) s.own (over_stops k s.k1 d d' l l' before front payload line s.stop g s.stops))
         | inr x ↦ at_other status ending.SinkFault P Q x.1 tt
       ]
 
   -- ---- `pack`
 
-  module _ {State : Type 0} (is_snapshot : State → List ℕ → Type 0) (before : Payloads) (t : State) (version : Option (List ℕ)) where
-    pack_of : (s : Status) (o : Option ℕ) (p : List ℕ) → is_snapshot t p
-        → IsStoreCause s (HasNoRoom most_bytes before (option_to_list version ++ p ∷ [])) (IfSome o (λ most. HasNoRoom most before (option_to_list version ++ p ∷ []))) → IsPackCause is_snapshot s o before t version
+  module _ {A : Type 0} (session : OfSession.Ghosts A) (before : Payloads) (t : session.State) (version : Option (List ℕ)) where
+    pack_of : (s : Status) (o : Option ℕ) (p : List ℕ) → session.is_snapshot t p
+        → IsStoreCause s (HasNoRoom most_bytes before (option_to_list version ++ p ∷ [])) (IfSome o (λ most. HasNoRoom most before (option_to_list version ++ p ∷ []))) → IsPackCauseInRoom session o before t version s
     pack_of ending.StoreRefused o p made h = (p, made, h)
-    pack_of ending.DiskFault o p made h = room_over o (λ most. HasNoRoom most before (option_to_list version ++ p ∷ [])) (λ most. PackHasNoRoom is_snapshot most before t version) (λ most n. (p, made, n)) h
+    pack_of ending.DiskFault o p made h = room_over o (λ most. HasNoRoom most before (option_to_list version ++ p ∷ [])) (λ most. PackHasNoRoom session most before t version) (λ most n. (p, made, n)) h
     pack_of ending.SourceFault o p made h = h
     pack_of ending.InputTooLong o p made h = h
     pack_of ending.SomeRefused o p made h = h
@@ -257,34 +258,33 @@ module _ {K D : Type 0} (held : K → Option (List ℕ)) (content : D → Option
     pack_of ending.SinkFault o p made h = tt
     pack_of ending.NoMemory o p made h = tt
 
-    pub pack_cause : (count_of : Payloads → ℕ) (stands_for : Payloads → Result (State × Option (List ℕ)) ReopenFault)
-        (k k' : K) (d d' : D) (bytes : List ℕ) (status : Status) → content d ≡ Some bytes
-        → EndsPack held content images moment images_since room is_snapshot count_of stands_for k d k' d' before t version status
-        → IsPackCause is_snapshot status (room d) before t version
-    pack_cause count_of stands_for k k' d d' bytes status told (inl p) =
+    pub pack_cause : (k k' : K) (d d' : D) (bytes : List ℕ) (status : Status) → disk.content d ≡ Some bytes
+        → EndsPack sink disk session (k, d) (k', d') before t version status
+        → IsPackCauseInRoom session (disk.room d) before t version status
+    pack_cause k k' d d' bytes status told (inl p) =
         let e = p.ends in
-        let g = gate_of (content e.d1) (images e.d1) e.log before bytes (e.opens.unwritten.same ∙ told) e.stands in
-        subst (λ (o : Option ℕ). IsPackCause is_snapshot status o before t version) e.opens.same_room
-        (pack_of status (room e.d1) p.snapshot p.is (store_cause k k' e.d1 d' e.log e.log' before (option_to_list version) p.snapshot (packed_line (count_of before)) status g e.ends))
-    pack_cause count_of stands_for k k' d d' bytes status told (inr u) = elim u.1.0.0 [
-      | inl e ↦ subst (λ (s : Status). IsPackCause is_snapshot s (room d) before t version) (sym e) (none_some (room d) (λ most. PackHasNoRoom is_snapshot most before t version) (u.1.1 e))
-      | inr e ↦ subst (λ (s : Status). IsPackCause is_snapshot s (room d) before t version) (sym e) tt
+        let g = gate_of (disk.content e.d1) (disk.images e.d1) e.log before bytes (e.opens.unwritten.same ∙ told) e.stands in
+        subst (λ (o : Option ℕ). IsPackCauseInRoom session o before t version status) e.opens.same_room
+        (pack_of status (disk.room e.d1) p.snapshot p.is (store_cause k k' e.d1 d' e.log e.log' before (option_to_list version) p.snapshot (packed_line (session.count_of before)) status g e.ends))
+    pack_cause k k' d d' bytes status told (inr u) = elim u.1.0.0 [
+      | inl e ↦ subst (λ (s : Status). IsPackCauseInRoom session (disk.room d) before t version s) (sym e) (none_some (disk.room d) (λ most. PackHasNoRoom session most before t version) (u.1.1 e))
+      | inr e ↦ subst (λ (s : Status). IsPackCauseInRoom session (disk.room d) before t version s) (sym e) tt
     ]
 
 -- ---- a status that has no cause does not come
 
-pub pack_complete : {State : Type 0} (is_snapshot : State → List ℕ → Type 0) (status : Status) (o : Option ℕ) (before : Payloads) (t : State) (version : Option (List ℕ)) → IsPackCause is_snapshot status o before t version
-    → (status ≡ ending.SinkFault → ⊥) → (status ≡ ending.DiskFault → ⊥) → (PackHasNoRoom is_snapshot most_bytes before t version → ⊥) → (status ≡ ending.Done) ⊎ (status ≡ ending.NoMemory)
-pack_complete is_snapshot ending.Done o before t version h sink disk none = inl refl
-pack_complete is_snapshot ending.NoMemory o before t version h sink disk none = inr refl
-pack_complete is_snapshot ending.StoreRefused o before t version h sink disk none = absurd (none h)
-pack_complete is_snapshot ending.SinkFault o before t version h sink disk none = absurd (sink refl)
-pack_complete is_snapshot ending.DiskFault o before t version h sink disk none = absurd (disk refl)
-pack_complete is_snapshot ending.SomeRefused o before t version h sink disk none = absurd h
-pack_complete is_snapshot ending.SourceFault o before t version h sink disk none = absurd h
-pack_complete is_snapshot ending.InputTooLong o before t version h sink disk none = absurd h
+pub pack_complete : {A : Type 0} (session : OfSession.Ghosts A) (status : Status) (o : Option ℕ) (before : Payloads) (t : session.State) (version : Option (List ℕ)) → IsPackCauseInRoom session o before t version status
+    → (status ≡ ending.SinkFault → ⊥) → (status ≡ ending.DiskFault → ⊥) → (PackHasNoRoom session most_bytes before t version → ⊥) → (status ≡ ending.Done) ⊎ (status ≡ ending.NoMemory)
+pack_complete session ending.Done o before t version h at_sink at_disk none = inl refl
+pack_complete session ending.NoMemory o before t version h at_sink at_disk none = inr refl
+pack_complete session ending.StoreRefused o before t version h at_sink at_disk none = absurd (none h)
+pack_complete session ending.SinkFault o before t version h at_sink at_disk none = absurd (at_sink refl)
+pack_complete session ending.DiskFault o before t version h at_sink at_disk none = absurd (at_disk refl)
+pack_complete session ending.SomeRefused o before t version h at_sink at_disk none = absurd h
+pack_complete session ending.SourceFault o before t version h at_sink at_disk none = absurd h
+pack_complete session ending.InputTooLong o before t version h at_sink at_disk none = absurd h
 
-pub views_complete : (old new : Option (List ℕ)) (text : List ℕ) (status : Status) → Views old new text status → (status ≡ ending.SinkFault → ⊥) → (status ≡ ending.DiskFault → ⊥) → (status ≡ ending.Done) ⊎ (status ≡ ending.NoMemory)
-views_complete old new text status (inl h) sink disk = inl h.0
-views_complete old new text status (inr (inl h)) sink disk = absurd (sink h.0)
-views_complete old new text status (inr (inr h)) sink disk = elim h.0 [ inl e ↦ absurd (disk e) | inr e ↦ inr e ]
+pub views_complete : {K : Type 0} (sink : OfSink.Ghosts K) (old new : K) (text : List ℕ) (status : Status) → Views sink old new text status → (status ≡ ending.SinkFault → ⊥) → (status ≡ ending.DiskFault → ⊥) → (status ≡ ending.Done) ⊎ (status ≡ ending.NoMemory)
+views_complete sink old new text status (inl h) at_sink at_disk = inl h.0
+views_complete sink old new text status (inr (inl h)) at_sink at_disk = absurd (at_sink h.0)
+views_complete sink old new text status (inr (inr h)) at_sink at_disk = elim h.0 [ inl e ↦ absurd (at_disk e) | inr e ↦ inr e ]

@@ -5,6 +5,7 @@ use Rattle.edit_journal.specs.Lines.{is_blank}
 use Rattle.edit_journal.specs.declared.line.Line.{Line}
 use Rattle.stored_run.specs.Runs.{run, GoesOver, AreSteps, AreAnswers, last, any_refused, text_of, kept_of}
 use Rattle.stored_run.specs.declared.session.Answer.{Answer}
+use Rattle.stored_run.specs.declared.session.StoredSession as OfSession
 use Rattle.texts.proofs.Tests.{or_grouped}
 
 module _ {State : Type 0} where
@@ -40,31 +41,30 @@ module _ {State : Type 0} where
   map_steps xs ys None = refl
   map_steps xs ys (Some steps) = ap (λ (l : List (State × Answer)). Some l) (sym (append_assoc xs ys steps))
 
-  module _ (answer : State → ℕ → Line → Option (State × Answer)) where
-    pub goes_none : (t : State) (n : ℕ) → GoesOver answer t n [] [] t n
-    goes_none t n = λ more. map_nil (run answer t n more)
+module _ {A : Type 0} (session : OfSession.Ghosts A) where
+  pub goes_none : (t : session.State) (n : ℕ) → GoesOver session t n [] [] t n
+  goes_none t n = λ more. map_nil (run session t n more)
 
-    pub goes_then : (t t' t'' : State) (n n' n'' : ℕ) (lines more : List Line) (xs ys : List (State × Answer)) → GoesOver answer t n lines xs t' n' → GoesOver answer t' n' more ys t'' n''
-        → GoesOver answer t n (lines ++ more) (xs ++ ys) t'' n''
-    goes_then t t' t'' n n' n'' lines more xs ys h k = λ rest.
-        ap (run answer t n) (append_assoc lines more rest) ∙ h (more ++ rest) ∙ ap (option_map (λ (l : List (State × Answer)). xs ++ l)) (k rest) ∙ map_steps xs ys (run answer t'' n'' rest)
+  pub goes_then : (t t' t'' : session.State) (n n' n'' : ℕ) (lines more : List Line) (xs ys : List (session.State × Answer)) → GoesOver session t n lines xs t' n' → GoesOver session t' n' more ys t'' n''
+      → GoesOver session t n (lines ++ more) (xs ++ ys) t'' n''
+  goes_then t t' t'' n n' n'' lines more xs ys h k = λ rest.
+      ap (run session t n) (append_assoc lines more rest) ∙ h (more ++ rest) ∙ ap (option_map (λ (l : List (session.State × Answer)). xs ++ l)) (k rest) ∙ map_steps xs ys (run session t'' n'' rest)
 
-    pub goes_blank : (t : State) (n : ℕ) (line : Line) → is_blank line ≡ true → GoesOver answer t n (line ∷ []) [] t n
-    goes_blank t n line blank = λ more.
-        ap (λ b. cond b (run answer t n more) (option_and_then (λ s. option_map (λ steps. s ∷ steps) (run answer s.0 (n + 1) more)) (answer t (n + 1) line))) blank ∙ map_nil (run answer t n more)
+  pub goes_blank : (t : session.State) (n : ℕ) (line : Line) → is_blank line ≡ true → GoesOver session t n (line ∷ []) [] t n
+  goes_blank t n line blank = λ more.
+      ap (λ b. cond b (run session t n more) (option_and_then (λ s. option_map (λ steps. s ∷ steps) (run session s.0 (n + 1) more)) (session.answer t (n + 1) line))) blank ∙ map_nil (run session t n more)
 
-    pub goes_one : (t t' : State) (n : ℕ) (line : Line) (a : Answer) → is_blank line ≡ false → answer t (n + 1) line ≡ Some (t', a) → GoesOver answer t n (line ∷ []) ((t', a) ∷ []) t' (n + 1)
-    goes_one t t' n line a full e = λ more.
-        ap (λ b. cond b (run answer t n more) (option_and_then (λ s. option_map (λ steps. s ∷ steps) (run answer s.0 (n + 1) more)) (answer t (n + 1) line))) full
-        ∙ ap (option_and_then (λ (s : State × Answer). option_map (λ (steps : List (State × Answer)). s ∷ steps) (run answer s.0 (n + 1) more))) e
+  pub goes_one : (t t' : session.State) (n : ℕ) (line : Line) (a : Answer) → is_blank line ≡ false → session.answer t (n + 1) line ≡ Some (t', a) → GoesOver session t n (line ∷ []) ((t', a) ∷ []) t' (n + 1)
+  goes_one t t' n line a full e = λ more.
+      ap (λ b. cond b (run session t n more) (option_and_then (λ s. option_map (λ steps. s ∷ steps) (run session s.0 (n + 1) more)) (session.answer t (n + 1) line))) full
+      ∙ ap (option_and_then (λ (s : session.State × Answer). option_map (λ (steps : List (session.State × Answer)). s ∷ steps) (run session s.0 (n + 1) more))) e
 
-    -- with no lines behind, the steps are the run
-    pub goes_run : (t t' : State) (n n' : ℕ) (lines : List Line) (steps : List (State × Answer)) → GoesOver answer t n lines steps t' n' → run answer t n lines ≡ Some steps
-    goes_run t t' n n' lines steps h =
-        ap (run answer t n) (sym (append-nil lines)) ∙ h [] ∙ ap (λ (l : List (State × Answer)). Some l) (append-nil steps)
+  -- with no lines behind, the steps are the run
+  pub goes_run : (t t' : session.State) (n n' : ℕ) (lines : List Line) (steps : List (session.State × Answer)) → GoesOver session t n lines steps t' n' → run session t n lines ≡ Some steps
+  goes_run t t' n n' lines steps h =
+      ap (run session t n) (sym (append-nil lines)) ∙ h [] ∙ ap (λ (l : List (session.State × Answer)). Some l) (append-nil steps)
 
-  module _ (answer : State → ℕ → Line → Option (State × Answer)) (is_step : State → ℕ → Line → State × Answer → Type 0) where
-    -- steps and then others from the triple behind them
-    pub chain_append : (t t' : State) (xs ys : List (State × Answer)) → last t xs ≡ t' → AreSteps answer is_step t xs → AreSteps answer is_step t' ys → AreSteps answer is_step t (xs ++ ys)
-    chain_append t t' [] ys e h k = subst (λ (u : State). AreSteps answer is_step u ys) (sym e) k
-    chain_append t t' (x ∷ xs) ys e h k = (h.0, chain_append x.0 t' xs ys e h.1 k)
+  -- steps and then others from the triple behind them
+  pub chain_append : (t t' : session.State) (xs ys : List (session.State × Answer)) → last t xs ≡ t' → AreSteps session t xs → AreSteps session t' ys → AreSteps session t (xs ++ ys)
+  chain_append t t' [] ys e h k = subst (λ (u : session.State). AreSteps session u ys) (sym e) k
+  chain_append t t' (x ∷ xs) ys e h k = (h.0, chain_append x.0 t' xs ys e h.1 k)

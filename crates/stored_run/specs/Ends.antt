@@ -1,14 +1,17 @@
--- How `apply` ends over a session that was opened, and what holds then. Read it from the end: `IsSafeFrom`, `Exits`, then `Continues`.
-use Rattle.std.specs.Prelude.{◌≡◌, ◌⊎◌, ℕ, ◌≤◌, List, [], ◌++◌, length, Bool, true, false, Some, Option}
-use Rattle.std.specs.Io.KnownBytes.{Appends, Consumes, IsAtEnd}
-use Rattle.lens_io.specs.Content.{AppendsFront}
+-- How `apply` ends over a session that was opened, and what holds then. Read it from the end: `IsSafeFrom`, `Exits`,
+-- then `Continues`.
+use Rattle.std.specs.Prelude.{◌≡◌, ◌⊎◌, ℕ, ◌≤◌, List, [], ◌++◌, length, Bool, true, false, Some}
+use Rattle.lens_io.specs.Calls.{Took, IsRead, IsUnasked, Gave, GaveFront}
+use Rattle.lens_io.specs.DiskRuns.{LeavesOnly}
+use Rattle.lens_io.specs.declared.source.Source as OfSource
+use Rattle.lens_io.specs.declared.sink.Sink as OfSink
+use Rattle.lens_io.specs.declared.disk.Disk as OfDisk
 use Rattle.edit_journal.specs.Pieces.{lines_of}
 use Rattle.edit_journal.specs.declared.line.Line.{Line}
-use Rattle.lens_io.specs.Disks.{LeavesOnly}
-use Rattle.gate_log.specs.LogOnDisk.{LogState, HoldsPayloads, Stands}
+use Rattle.gate_log.specs.LogOnDisk.{LogState, HoldsPayloads}
 use Rattle.journal_input.specs.declared.limits.TheConstants.{MOST_BYTES}
 use Rattle.stored_run.specs.Crash.{IsAcknowledged}
-use Rattle.stored_run.specs.Effects.{HoldsFirst, Adds, Stops}
+use Rattle.stored_run.specs.Effects.{HoldsFirst, StandsOn, Adds, Stops}
 use Rattle.stored_run.specs.Journal.{EndsJournal, StopsJournal}
 use Rattle.stored_run.specs.OkLines.{ok_lines}
 use Rattle.stored_run.specs.Refusals.{refusal_line}
@@ -16,6 +19,7 @@ use Rattle.stored_run.specs.declared.refusals.StoreRefusal.TheVariants as refusi
 use Rattle.stored_run.specs.Runs.{run, AreSteps, last, any_refused, text_of, kept_of}
 use Rattle.stored_run.specs.Stopping.{IsOwnStop}
 use Rattle.stored_run.specs.declared.session.Answer.{Answer}
+use Rattle.stored_run.specs.declared.session.StoredSession as OfSession
 use Rattle.stored_run.specs.declared.journal.Progress.{Progress}
 use Rattle.stored_run.specs.declared.status.Status.{Status}
 use Rattle.stored_run.specs.declared.status.Status.TheVariants as ending
@@ -49,88 +53,98 @@ status_of DiskFault = ending.DiskFault
 status_of TooLong = ending.InputTooLong
 status_of NoMemory = ending.NoMemory
 
-module _ {K D State : Type 0} (held : K → Option (List ℕ)) (content : D → Option (List ℕ)) (images : D → List ℕ → Type 0)
-    (moment : D → ℕ) (images_since : D → ℕ → List ℕ → Type 0) (room : D → Option ℕ) (answer : State → ℕ → Line → Option (State × Answer)) (is_step : State → ℕ → Line → State × Answer → Type 0) where
-  -- The version record, if there is one to store, was stored, and from there on P holds.
-  pub record AfterVersion (k : K) (d : D) (l : LogState) (version : List (List ℕ)) (P : D → LogState → Type 0) : Type 0 where
-    pub d1 : D
-    pub l1 : LogState
-    pub adds : Adds held content images moment images_since room k d l k d1 l1 [] version
-    pub goes_on : P d1 l1
+-- what is written at the end of the call, behind a stop: nothing, or the line of a full log, or a prefix of it where
+-- the sink failed
+abbrev pub SaysStop : {K : Type 0} → OfSink.Ghosts K → K → K → Stop → Status → Type 0
+SaysStop sink old new stop status =
+    (status ≡ status_of stop) × Gave sink old new (said_at stop)
+    ⊎ (stop ≡ LogFull) × (status ≡ ending.SinkFault) × GaveFront sink old new log_full_line
 
+-- The version record, if there is one to store, was stored, and from there on P holds.
+pub record AfterVersion {K D : Type 0} (sink : OfSink.Ghosts K) (disk : OfDisk.Ghosts D) (old : K × D × LogState)
+    (version : List (List ℕ)) (P : D → LogState → Type 0) : Type 0 where
+  pub d1 : D
+  pub l1 : LogState
+  pub adds : Adds sink disk old (old.0, d1, l1) [] version
+  pub goes_on : P d1 l1
+
+-- A source, a sink, a disk and the log on it, before the call and after it.
+module _ {S K D A : Type 0} (source : OfSource.Ghosts S) (sink : OfSink.Ghosts K) (disk : OfDisk.Ghosts D)
+    (session : OfSession.Ghosts A) (old new : S × K × D × LogState) where
   -- The journal came to its end. All its lines are answered, and their payloads are stored behind the version record.
-  abbrev pub EndsStored : Option (List ℕ) → Option (List ℕ) → K → D → LogState → K → D → LogState
-      → List (List ℕ) → State → State → Progress → Type 0
-  EndsStored left left' k d l k' d' l' version t t' p' =
-      AfterVersion k d l version (λ d1 l1. EndsJournal held content images moment images_since room answer is_step
-      left left' k d1 l1 k' d' l' t (record { number = 0; refused = false }) t' p')
+  abbrev pub EndsStored : List (List ℕ) → session.State → session.State → Progress → Type 0
+  EndsStored version t t' p' = AfterVersion sink disk (old.1, old.2, old.3) version (λ d1 l1.
+      EndsJournal source sink disk session (old.0, old.1, d1, l1) new t (record { number = 0; refused = false }) t' p')
 
-  -- The answering of the journal stopped, or the storing of the version record before it.
-  abbrev pub StopsStored : Option (List ℕ) → Option (List ℕ) → K → D → LogState → K → D → LogState → List (List ℕ) → State → Stop → Type 0
-  StopsStored left left' k d l k' d' l' version t stop =
-      IsOwnStop stop × Consumes left left' [] × Stops held content images moment images_since room k d l k' d' l' stop [] [] [] version
-      ⊎ AfterVersion k d l version (λ d1 l1. StopsJournal held content images moment images_since room answer is_step
-      left left' k d1 l1 k' d' l' t 0 stop)
+  -- The answering of the journal stopped, or the storing of the version record before it: then the source was not
+  -- called.
+  abbrev pub StopsStored : List (List ℕ) → session.State → Stop → Type 0
+  StopsStored version t stop =
+      IsOwnStop stop × IsUnasked source old.0 new.0
+      × Stops sink disk (old.1, old.2, old.3) (new.1, new.2, new.3) stop [] [] [] version
+      ⊎ AfterVersion sink disk (old.1, old.2, old.3) version (λ d1 l1.
+      StopsJournal source sink disk session (old.0, old.1, d1, l1) new t 0 stop)
 
-  -- The source was read to its end, and gave these bytes. The answer lines of their run, and then the state lines of its last state, were
-  -- written. The payloads held are those from before, the version record if it was to be stored, and those of the changes that were
-  -- accepted, in order.
-  pub record Continues (left left' : Option (List ℕ)) (k : K) (d : D) (l : LogState) (k' : K) (d' : D) (l' : LogState)
-      (version : List (List ℕ)) (state_text : State → List ℕ) (t t' : State) (status : Status) : Type 0 where
+module _ {S K D A : Type 0} (source : OfSource.Ghosts S) (sink : OfSink.Ghosts K) (disk : OfDisk.Ghosts D)
+    (session : OfSession.Ghosts A) (old new : S × K × D × LogState) where
+  -- The source was read to its end, and gave these bytes. The answer lines of their run, and then the state lines of
+  -- its last state, were written. The payloads held are those from before, the version record if it was to be stored,
+  -- and those of the changes that were accepted, in order.
+  pub record Continues (version : List (List ℕ)) (t t' : session.State) (status : Status) : Type 0 where
     pub bytes : List ℕ
-    pub consumes : Consumes left left' bytes
-    pub at_end : IsAtEnd left'
+    pub consumes : Took source old.0 new.0 bytes
+    pub at_end : IsRead source old.0 new.0
     pub within : length bytes ≤ MOST_BYTES
-    pub steps : List (State × Answer)
-    pub is_run : run answer t 0 (lines_of bytes) ≡ Some steps
+    pub steps : List (session.State × Answer)
+    pub is_run : run session t 0 (lines_of bytes) ≡ Some steps
     pub at_last : last t steps ≡ t'
-    pub chain : AreSteps answer is_step t steps
-    pub given : Appends (held k) (held k') (text_of steps ++ state_text t')
-    pub stored : (base : List (List ℕ)) → Stands (content d) (images d) l base
-        → Stands (content d') (images d') l' ((base ++ version) ++ kept_of steps)
+    pub chain : AreSteps session t steps
+    pub given : Gave sink old.1 new.1 (text_of steps ++ session.state_text t')
+    pub stored : (base : List (List ℕ)) → StandsOn disk old.2 old.3 base
+        → StandsOn disk new.2 new.3 ((base ++ version) ++ kept_of steps)
     pub ended : status ≡ end_of (any_refused steps)
 
-  -- The end of the journal was reached, and not all of the state lines were written: memory ran out before them, or the sink failed.
-  pub record EndsShort (left left' : Option (List ℕ)) (k : K) (d : D) (l : LogState) (k' : K) (d' : D) (l' : LogState)
-      (version : List (List ℕ)) (state_text : State → List ℕ) (t t' : State) (status : Status) : Type 0 where
+  -- The end of the journal was reached, and not all of the state lines were written: memory ran out before them, or
+  -- the sink failed.
+  pub record EndsShort (version : List (List ℕ)) (t t' : session.State) (status : Status) : Type 0 where
     pub k1 : K
     pub progress : Progress
-    pub ends : EndsStored left left' k d l k1 d' l' version t t' progress
-    pub short : (status ≡ ending.NoMemory) × Appends (held k1) (held k') []
-        ⊎ (status ≡ ending.SinkFault) × AppendsFront (held k1) (held k') (state_text t')
+    pub ends : EndsStored source sink disk session old (new.0, k1, new.2, new.3) version t t' progress
+    pub short : (status ≡ ending.NoMemory) × Gave sink k1 new.1 []
+        ⊎ (status ≡ ending.SinkFault) × GaveFront sink k1 new.1 (session.state_text t')
 
-  -- The call was stopped. If the log was full, the line that says so was written behind, or a prefix of it, and the sink failed.
-  pub record StopsShort (left left' : Option (List ℕ)) (k : K) (d : D) (l : LogState) (k' : K) (d' : D) (l' : LogState)
-      (version : List (List ℕ)) (t : State) (status : Status) : Type 0 where
+  -- The call was stopped. If the log was full, the line that says so was written behind, or a prefix of it, and the
+  -- sink failed.
+  pub record StopsShort (version : List (List ℕ)) (t : session.State) (status : Status) : Type 0 where
     pub k1 : K
     pub stop : Stop
-    pub stops : StopsStored left left' k d l k1 d' l' version t stop
-    pub status_is : (status ≡ status_of stop) × Appends (held k1) (held k') (said_at stop)
-        ⊎ (stop ≡ LogFull) × (status ≡ ending.SinkFault) × AppendsFront (held k1) (held k') log_full_line
+    pub stops : StopsStored source sink disk session old (new.0, k1, new.2, new.3) version t stop
+    pub status_is : SaysStop sink k1 new.1 stop status
 
   -- how the call ends
-  abbrev pub Exits : Option (List ℕ) → Option (List ℕ) → K → D → LogState → K → D → LogState
-      → List (List ℕ) → (State → List ℕ) → State → State → Status → Type 0
-  Exits left left' k d l k' d' l' version state_text t t' status =
-      Continues left left' k d l k' d' l' version state_text t t' status
-      ⊎ EndsShort left left' k d l k' d' l' version state_text t t' status
-      ⊎ StopsShort left left' k d l k' d' l' version t status
+  abbrev pub Exits : List (List ℕ) → session.State → session.State → Status → Type 0
+  Exits version t t' status = Continues version t t' status ⊎ EndsShort version t t' status
+      ⊎ StopsShort version t status
 
-  -- What a crash leaves. These bytes were taken, and these were written. Of the lines taken the first ones were handled, by these steps of
-  -- the run. An image that a crash now may leave holds the payloads of the changes whose `ok` lines were written, and at most one more; or,
-  -- if no `ok` line was written, the payloads from before. An image of a moment since the start holds the payloads from before and the
-  -- first of those that follow: the version record, and then those of the changes.
-  pub record IsSafeFrom (left left' : Option (List ℕ)) (k : K) (d : D) (l : LogState) (k' : K) (d' : D) (version : List (List ℕ)) (t : State) : Type 0 where
+module _ {S K D A : Type 0} (source : OfSource.Ghosts S) (sink : OfSink.Ghosts K) (disk : OfDisk.Ghosts D)
+    (session : OfSession.Ghosts A) (old : S × K × D × LogState) (new : S × K × D) where
+  -- What a crash leaves. These bytes were taken, and these were written. Of the lines taken the first ones were
+  -- handled, by these steps of the run. An image that a crash now may leave holds the payloads of the changes whose
+  -- `ok` lines were written, and at most one more; or, if no `ok` line was written, the payloads from before. An
+  -- image of a moment since the start holds the payloads from before and the first of those that follow: the version
+  -- record, and then those of the changes.
+  pub record IsSafeFrom (version : List (List ℕ)) (t : session.State) : Type 0 where
     pub bytes : List ℕ
-    pub consumes : Consumes left left' bytes
+    pub consumes : Took source old.0 new.0 bytes
     pub lines : List Line
     pub rest : List Line
     pub parts : lines_of bytes ≡ lines ++ rest
-    pub steps : List (State × Answer)
-    pub is_run : run answer t 0 lines ≡ Some steps
-    pub chain : AreSteps answer is_step t steps
+    pub steps : List (session.State × Answer)
+    pub is_run : run session t 0 lines ≡ Some steps
+    pub chain : AreSteps session t steps
     pub given : List ℕ
-    pub appends : Appends (held k) (held k') given
-    pub now : (base : List (List ℕ)) → Stands (content d) (images d) l base → (c : List ℕ) → images d' c
+    pub appends : Gave sink old.1 new.1 given
+    pub now : (base : List (List ℕ)) → StandsOn disk old.2 old.3 base → (c : List ℕ) → disk.images new.2 c
         → (ok_lines given ≡ 0) × HoldsPayloads base c ⊎ IsAcknowledged (base ++ version) (kept_of steps) given c
-    pub moments : (base : List (List ℕ)) → Stands (content d) (images d) l base → LeavesOnly moment images_since d d' (HoldsFirst base (version ++ kept_of steps))
+    pub moments : (base : List (List ℕ)) → StandsOn disk old.2 old.3 base
+        → LeavesOnly disk old.2 new.2 (HoldsFirst base (version ++ kept_of steps))

@@ -1,39 +1,41 @@
 -- How the answering of a whole journal ends: `EndsJournal` or `StopsJournal`.
-use Rattle.std.specs.Prelude.{◌⊎◌, ℕ, ◌≤◌, List, length, Option}
-use Rattle.std.specs.Io.KnownBytes.{Consumes, IsAtEnd}
+use Rattle.std.specs.Prelude.{◌⊎◌, ℕ, ◌≤◌, List, length}
+use Rattle.lens_io.specs.Calls.{Took, IsRead}
+use Rattle.lens_io.specs.declared.source.Source as OfSource
+use Rattle.lens_io.specs.declared.sink.Sink as OfSink
+use Rattle.lens_io.specs.declared.disk.Disk as OfDisk
 use Rattle.edit_journal.specs.Pieces.{lines_of}
-use Rattle.edit_journal.specs.declared.line.Line.{Line}
 use Rattle.journal_input.specs.declared.limits.TheConstants.{MOST_BYTES}
-use Rattle.stored_run.specs.Answered.{Answers, StopsAmong, StopsPieces}
+use Rattle.stored_run.specs.Answered.{ended_lines, Answers, StopsAmong, StopsPieces}
+use Rattle.stored_run.specs.Runs.{AreAnsweredIn, text_of}
 use Rattle.stored_run.specs.Stopping.{IsOwnStop}
-use Rattle.stored_run.specs.declared.session.Answer.{Answer}
+use Rattle.stored_run.specs.declared.session.StoredSession as OfSession
 use Rattle.stored_run.specs.declared.journal.Progress.{Progress}
 use Rattle.gate_log.specs.LogOnDisk.{LogState}
 use Rattle.stored_run.specs.declared.stop.Stop.{Stop}
 
-module _ {K D State : Type 0} (held : K → Option (List ℕ)) (content : D → Option (List ℕ)) (images : D → List ℕ → Type 0)
-    (moment : D → ℕ) (images_since : D → ℕ → List ℕ → Type 0) (room : D → Option ℕ) (answer : State → ℕ → Line → Option (State × Answer)) (is_step : State → ℕ → Line → State × Answer → Type 0) where
+module _ {S K D A : Type 0} (source : OfSource.Ghosts S) (sink : OfSink.Ghosts K) (disk : OfDisk.Ghosts D)
+    (session : OfSession.Ghosts A) (old new : S × K × D × LogState) where
   -- The source was read to its end, and gave these bytes. All their lines are answered.
-  pub record EndsJournal (left left' : Option (List ℕ)) (k : K) (d : D) (l : LogState) (k' : K) (d' : D) (l' : LogState)
-      (t : State) (p : Progress) (t' : State) (p' : Progress) : Type 0 where
+  pub record EndsJournal (t : session.State) (p : Progress) (t' : session.State) (p' : Progress) : Type 0 where
     pub bytes : List ℕ
-    pub consumes : Consumes left left' bytes
-    pub at_end : IsAtEnd left'
+    pub consumes : Took source old.0 new.0 bytes
+    pub at_end : IsRead source old.0 new.0
     pub within : length bytes ≤ MOST_BYTES
-    pub answers : Answers held content images moment images_since room answer is_step k d l k' d' l' t p (lines_of bytes) t' p'
+    pub answers : Answers sink disk session (old.1, old.2, old.3) (new.1, new.2, new.3) t p (lines_of bytes) t' p'
 
-  -- The source was read to its end, and the answering stopped at the last line, which no LF ends.
-  pub record StopsLast (left left' : Option (List ℕ)) (k : K) (d : D) (l : LogState) (k' : K) (d' : D) (l' : LogState)
-      (t : State) (n : ℕ) (stop : Stop) : Type 0 where
+  -- The source was read to its end, and the answering stopped at the last line, which no LF ends. All others are
+  -- answered.
+  pub record StopsLast (t : session.State) (n : ℕ) (stop : Stop) : Type 0 where
     pub bytes : List ℕ
-    pub consumes : Consumes left left' bytes
-    pub at_end : IsAtEnd left'
+    pub consumes : Took source old.0 new.0 bytes
+    pub at_end : IsRead source old.0 new.0
     pub within : length bytes ≤ MOST_BYTES
     pub own : IsOwnStop stop
-    pub among : StopsAmong held content images moment images_since room answer is_step k d l k' d' l' t n (lines_of bytes) stop
+    pub among : StopsAmong sink disk session (old.1, old.2, old.3) (new.1, new.2, new.3) t n (lines_of bytes) stop
+    pub first : AreAnsweredIn session t n (ended_lines bytes) (text_of among.done)
 
   -- the answering stopped at a line that has ended or at a piece, or at the last line
-  abbrev pub StopsJournal : Option (List ℕ) → Option (List ℕ) → K → D → LogState → K → D → LogState → State → ℕ → Stop → Type 0
-  StopsJournal left left' k d l k' d' l' t n stop =
-      StopsPieces held content images moment images_since room answer is_step left left' k d l k' d' l' t n stop
-      ⊎ StopsLast left left' k d l k' d' l' t n stop
+  abbrev pub StopsJournal : session.State → ℕ → Stop → Type 0
+  StopsJournal t n stop =
+      StopsPieces source sink disk session old new t n stop ⊎ StopsLast t n stop

@@ -8,7 +8,9 @@ pub mod Journal
 pub mod CountLines
 pub mod Crash
 pub mod Refusals
+pub mod Stores
 pub mod Ends
+pub mod InTime
 pub mod Reopening
 pub mod Rooms
 pub mod ApplyCall

@@ -4,7 +4,8 @@ use Rattle.std.specs.List.{onto_first, concat}
 use Rattle.edit_journal.specs.Pieces.{has_no_end}
 use Rattle.stored_run.specs.declared.session.Answer.{Answer}
 
--- The bytes cut behind each LF, which stays at the end of its line. What follows the last LF is one more line if it is not empty.
+-- The bytes cut behind each LF, which stays at the end of its line. What follows the last LF is one more line if it
+-- is not empty.
 abbrev pub cut : List ℕ → List (List ℕ)
 cut [] = []
 cut (byte ∷ bytes) = if byte == 10 then (byte ∷ []) ∷ cut bytes else onto_first byte (cut bytes)

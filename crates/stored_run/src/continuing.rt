@@ -1,13 +1,14 @@
 //! Going on with a session that was opened, by a journal: what comes before the lines and behind them.
-ghost use Rattle.std.specs.Prelude.{◌≡◌, ◌⊎◌, ◌+◌, ◌^◌, ◌<◌, ◌≤◌, [], false, List, ℕ, OnOk, IfOk, IfErr, IsErrOf, option_to_list};
-ghost use Rattle.std.specs.Io.KnownBytes.{Appends};
-ghost use Rattle.lens_io.specs.Causes.{Increased, SinkFailed};
-ghost use Rattle.lens_io.specs.Content.{AppendsFront};
-ghost use Rattle.gate_log.specs.LogOnDisk.{Stands};
+ghost use Rattle.std.specs.Prelude.{◌≡◌, ◌⊎◌, ◌+◌, ◌^◌, ◌<◌, ◌≤◌, [], false, List, ℕ, IfOk, IfErr, IsErrOf, option_to_list};
+ghost use Rattle.lens_io.specs.Calls.{Gave, GaveFront, SourceFailed, SinkFailed, DiskFailed};
 ghost use Rattle.edit_journal.specs.Pieces.{last_line};
+ghost use Rattle.journal_input.specs.Taking.{GaveFew};
+ghost use Rattle.journal_input.specs.declared.limits.TheConstants.{PIECE_BYTES};
 ghost use Rattle.stored_run.specs.Answered.{Answers, StopsAmong};
 ghost use Rattle.stored_run.specs.Causes.{Counted, stop_in};
+ghost use Rattle.stored_run.specs.Effects.{StandsOn};
 ghost use Rattle.stored_run.specs.Ends.{EndsStored, StopsStored, Exits, IsSafeFrom, end_of};
+ghost use Rattle.stored_run.specs.InTime.{AnswersInTime};
 ghost use Rattle.stored_run.specs.Journal.{EndsJournal, StopsJournal};
 ghost use Rattle.stored_run.specs.OkLines.{AreOtherLines};
 ghost use Rattle.stored_run.specs.Stopping.{IsOwnStop};
@@ -33,22 +34,22 @@ pub fn answer_journal<S: Source, A: StoredSession, K: Sink, D: Disk>(
     disk: &mut D,
     sink: &mut K,
 ) -> Result<Progress, Stop>
-    requires stands { (base : List (List ℕ))
-        × Stands (D.content disk.old) (D.images disk.old) log.old base }
+    requires stands { (base : List (List ℕ)) × StandsOn D.Disk disk.old log.old base }
     ensures ended { IfOk result
-        (EndsJournal K.held D.content D.images D.moment D.images_since D.room A.answer A.is_step
-        (S.left source.old) (S.left source.new)
-        sink.old disk.old log.old sink.new disk.new log.new
+        (EndsJournal S.Source K.Sink D.Disk A.StoredSession
+        (source.old, sink.old, disk.old, log.old)
+        (source.new, sink.new, disk.new, log.new)
         (A.state session.old) (record { number = 0; refused = false }) (A.state session.new)) }
     ensures stopped { IfErr result
-        (StopsJournal K.held D.content D.images D.moment D.images_since D.room A.answer A.is_step
-        (S.left source.old) (S.left source.new)
-        sink.old disk.old log.old sink.new disk.new log.new (A.state session.old) 0) }
-    ensures counted { Counted K.faults K.empty_takes K.room K.held D.faults
-        sink.old disk.old sink.new disk.new (stop_in result) }
+        (StopsJournal S.Source K.Sink D.Disk A.StoredSession
+        (source.old, sink.old, disk.old, log.old)
+        (source.new, sink.new, disk.new, log.new) (A.state session.old) 0) }
+    ensures counted { Counted K.Sink D.Disk (sink.old, disk.old) (sink.new, disk.new)
+        (stop_in result) }
+    ensures few { GaveFew S.Source source.old source.new PIECE_BYTES }
     ensures source_later { S.faults source.old ≤ S.faults source.new }
     ensures source_fault { IsErrOf result Stop.SourceFault
-        → Increased (S.faults source.old) (S.faults source.new) }
+        → SourceFailed S.Source source.old source.new }
 {
     let Ok(mut piece) = piece_buffer(alloc) else {
         return Err(Stop::NoMemory);
@@ -72,20 +73,19 @@ fn answer_last<A: StoredSession, K: Sink, D: Disk>(
 ) -> Result<Progress, Stop>
     requires fits { progress.number + 1 < 2 ^ 64 }
     requires none { input.lines.ended ≡ [] }
-    requires stands { (base : List (List ℕ))
-        × Stands (D.content disk.old) (D.images disk.old) log.old base }
+    requires stands { (base : List (List ℕ)) × StandsOn D.Disk disk.old log.old base }
     ensures answered { IfOk result
-        (Answers K.held D.content D.images D.moment D.images_since D.room A.answer A.is_step
-        sink.old disk.old log.old sink.new disk.new log.new
+        (Answers K.Sink D.Disk A.StoredSession
+        (sink.old, disk.old, log.old) (sink.new, disk.new, log.new)
         (A.state session.old) progress (option_to_list (last_line input.lines.begun))
         (A.state session.new)) }
     ensures stopped { IfErr result
-        (StopsAmong K.held D.content D.images D.moment D.images_since D.room A.answer A.is_step
-        sink.old disk.old log.old sink.new disk.new log.new
+        (StopsAmong K.Sink D.Disk A.StoredSession
+        (sink.old, disk.old, log.old) (sink.new, disk.new, log.new)
         (A.state session.old) progress.number (option_to_list (last_line input.lines.begun))) }
     ensures own { IfErr result IsOwnStop }
-    ensures counted { Counted K.faults K.empty_takes K.room K.held D.faults
-        sink.old disk.old sink.new disk.new (stop_in result) }
+    ensures counted { Counted K.Sink D.Disk (sink.old, disk.old) (sink.new, disk.new)
+        (stop_in result) }
 {
     let mut progress = progress;
     let Some(line) = input.last() else {
@@ -105,23 +105,23 @@ fn answer_stored<S: Source, A: StoredSession, K: Sink, D: Disk>(
     disk: &mut D,
     sink: &mut K,
 ) -> Result<Progress, Stop>
-    requires stands { (base : List (List ℕ))
-        × Stands (D.content disk.old) (D.images disk.old) log.old base }
+    requires stands { (base : List (List ℕ)) × StandsOn D.Disk disk.old log.old base }
     ensures ended { IfOk result
-        (EndsStored K.held D.content D.images D.moment D.images_since D.room A.answer A.is_step
-        (S.left source.old) (S.left source.new)
-        sink.old disk.old log.old sink.new disk.new log.new
+        (EndsStored S.Source K.Sink D.Disk A.StoredSession
+        (source.old, sink.old, disk.old, log.old)
+        (source.new, sink.new, disk.new, log.new)
         (option_to_list version.now) (A.state session.old) (A.state session.new)) }
     ensures stopped { IfErr result
-        (StopsStored K.held D.content D.images D.moment D.images_since D.room A.answer A.is_step
-        (S.left source.old) (S.left source.new)
-        sink.old disk.old log.old sink.new disk.new log.new
+        (StopsStored S.Source K.Sink D.Disk A.StoredSession
+        (source.old, sink.old, disk.old, log.old)
+        (source.new, sink.new, disk.new, log.new)
         (option_to_list version.now) (A.state session.old)) }
-    ensures counted { Counted K.faults K.empty_takes K.room K.held D.faults
-        sink.old disk.old sink.new disk.new (stop_in result) }
+    ensures counted { Counted K.Sink D.Disk (sink.old, disk.old) (sink.new, disk.new)
+        (stop_in result) }
+    ensures few { GaveFew S.Source source.old source.new PIECE_BYTES }
     ensures source_later { S.faults source.old ≤ S.faults source.new }
     ensures source_fault { IsErrOf result Stop.SourceFault
-        → Increased (S.faults source.old) (S.faults source.new) }
+        → SourceFailed S.Source source.old source.new }
 {
     store_version(alloc, log, disk, sink, version)?;
     answer_journal(alloc, session, source, log, disk, sink)
@@ -134,6 +134,9 @@ fn answer_stored<S: Source, A: StoredSession, K: Sink, D: Disk>(
 ///   as the definition says.
 /// - `safe`: whatever the status, each image that a crash now may leave holds the payload of each change whose `ok` line was
 ///   written, and at most one more. Each image of a moment since the start of the call holds the first of these payloads.
+/// - `in_time`: whatever the status, when the source was called last, every line that had ended was answered, and its answer
+///   was written. After `SourceFault` and `InputTooLong` every line that has ended is answered.
+/// - `few`: the last call of the source gave no more than a piece, of 2^16 bytes.
 /// - `source_fault`, `sink_fault`, `disk_fault`: these statuses come only if that device failed.
 pub fn continue_store<S: Source, A: StoredSession, K: Sink, D: Disk>(
     alloc: Global,
@@ -144,23 +147,22 @@ pub fn continue_store<S: Source, A: StoredSession, K: Sink, D: Disk>(
     disk: &mut D,
     sink: &mut K,
 ) -> Status
-    requires stands { (base : List (List ℕ))
-        × Stands (D.content disk.old) (D.images disk.old) log.old base }
-    ensures exits { Exits K.held D.content D.images D.moment D.images_since D.room A.answer A.is_step
-        (S.left source.old) (S.left source.new)
-        sink.old disk.old log.old sink.new disk.new log.new
-        (option_to_list version.now) A.state_text (A.state session.old)
+    requires stands { (base : List (List ℕ)) × StandsOn D.Disk disk.old log.old base }
+    ensures exits { Exits S.Source K.Sink D.Disk A.StoredSession
+        (source.old, sink.old, disk.old, log.old)
+        (source.new, sink.new, disk.new, log.new)
+        (option_to_list version.now) (A.state session.old)
         (A.state session.new) result }
-    ensures safe { IsSafeFrom K.held D.content D.images D.moment D.images_since D.room A.answer A.is_step
-        (S.left source.old) (S.left source.new)
-        sink.old disk.old log.old sink.new disk.new
+    ensures safe { IsSafeFrom S.Source K.Sink D.Disk A.StoredSession
+        (source.old, sink.old, disk.old, log.old) (source.new, sink.new, disk.new)
         (option_to_list version.now) (A.state session.old) }
+    ensures in_time { AnswersInTime S.Source K.Sink A.StoredSession
+        (source.old, sink.old) (source.new, sink.new) (A.state session.old) result }
+    ensures few { GaveFew S.Source source.old source.new PIECE_BYTES }
     ensures source_fault { result ≡ Status.SourceFault
-        → Increased (S.faults source.old) (S.faults source.new) }
-    ensures sink_fault { result ≡ Status.SinkFault
-        → SinkFailed K.faults K.empty_takes K.room K.held sink.old sink.new }
-    ensures disk_fault { result ≡ Status.DiskFault
-        → Increased (D.faults disk.old) (D.faults disk.new) }
+        → SourceFailed S.Source source.old source.new }
+    ensures sink_fault { result ≡ Status.SinkFault → SinkFailed K.Sink sink.old sink.new }
+    ensures disk_fault { result ≡ Status.DiskFault → DiskFailed D.Disk disk.old disk.new }
 {
     match answer_stored(alloc, session, version, source, log, disk, sink) {
         Ok(progress) => give_state(alloc, session, progress, sink),
@@ -177,13 +179,12 @@ fn give_state<A: StoredSession, K: Sink>(
 ) -> Status
     ensures gives { (result ≡ end_of progress.refused)
         × AreOtherLines (A.state_text (A.state session.now))
-        × Appends (K.held sink.old) (K.held sink.new) (A.state_text (A.state session.now))
+        × Gave K.Sink sink.old sink.new (A.state_text (A.state session.now))
         ⊎ (result ≡ Status.SinkFault)
         × AreOtherLines (A.state_text (A.state session.now))
-        × AppendsFront (K.held sink.old) (K.held sink.new) (A.state_text (A.state session.now))
-        ⊎ (result ≡ Status.NoMemory) × Appends (K.held sink.old) (K.held sink.new) [] }
-    ensures sink_fault { result ≡ Status.SinkFault
-        → SinkFailed K.faults K.empty_takes K.room K.held sink.old sink.new }
+        × GaveFront K.Sink sink.old sink.new (A.state_text (A.state session.now))
+        ⊎ (result ≡ Status.NoMemory) × Gave K.Sink sink.old sink.new [] }
+    ensures sink_fault { result ≡ Status.SinkFault → SinkFailed K.Sink sink.old sink.new }
     ensures no_source { result ≡ Status.SourceFault → ⊥ }
     ensures no_disk { result ≡ Status.DiskFault → ⊥ }
 {

@@ -4,6 +4,9 @@
 //! payload of each change that it accepts, and only then writes its answer. [`pack`] stores a snapshot of the session.
 //! [`show`] and [`verify`] only read.
 //!
+//! However `apply` ends, each line that had ended when the source was called last is answered, and its answer was written:
+//! `AnswersInTime` in specs/InTime.antt. So a line is answered before more is asked for.
+//!
 //! A crash at any moment leaves a disk that holds the payload of each change whose `ok` line was written: `IsAcknowledged`
 //! in specs/Crash.antt, and `IsSafeCall` in specs/ApplyCall.antt for the complete call. `ContinuesCall` beside it is what a
 //! call that came to its end has done. The clauses are proved over any source, sink and disk, and over any session with the

@@ -1,16 +1,17 @@
 //! The command `pack`, from its first call of the disk on.
 ghost use Rattle.std.specs.Prelude.{◌≡◌, ◌⊎◌, ◌∷◌, ◌++◌, [], List, ℕ, Ok, Some, OnOk, IfOk, IfErr, option_to_list};
 ghost use Rattle.std.specs.declared.option.Option.{Option};
-ghost use Rattle.lens_io.specs.Causes.{Increased, SinkFailed};
-ghost use Rattle.gate_log.specs.LogOnDisk.{HoldsPayloads, Stands};
+ghost use Rattle.lens_io.specs.Calls.{SinkFailed, DiskFailed};
+ghost use Rattle.gate_log.specs.LogOnDisk.{HoldsPayloads};
 ghost use Rattle.stored_run.specs.Causes.{Counted, stop_in};
 ghost use Rattle.stored_run.specs.CountLines.{packed_line};
-ghost use Rattle.stored_run.specs.Effects.{Adds, Stops};
+ghost use Rattle.stored_run.specs.Effects.{StandsOn, Adds, Stops};
 ghost use Rattle.stored_run.specs.Ends.{IsFinished};
 ghost use Rattle.stored_run.specs.PackCall.{PacksCall, IsSafePack, IsUnpacked, EndsPack};
-ghost use Rattle.stored_run.specs.Refusals.{IsUnwritten, EndsRefused, refusal_in, refusal_of_payloads};
+ghost use Rattle.stored_run.specs.Refusals.{IsUnwritten, EndsRefused, refusal_of_payloads};
 ghost use Rattle.stored_run.specs.Rooms.{most_bytes, PackHasNoRoom, IsPackCause};
 ghost use Rattle.stored_run.specs.Stopping.{IsOwnStop};
+ghost use Rattle.stored_run.specs.Stores.{Store, RefusedStore};
 ghost use Rattle.stored_run.specs.declared.refusals.StoreRefusal.{StoreRefusal};
 
 use crate::count_lines::packed_line;
@@ -43,54 +44,32 @@ pub fn pack<A: StoredSession + Drop, K: Sink, D: Disk>(
     sink: &mut K,
     disk: &mut D,
 ) -> Status
-    ensures packs { (before : List (List ℕ)) (bytes : List ℕ) (t : A.State)
-        (version : Option (List ℕ))
-        → D.content disk.old ≡ Some bytes → HoldsPayloads before bytes
-        → A.stands_for before ≡ Ok (t, version)
-        → IsFinished result
-        → PacksCall K.held D.content D.images D.moment D.images_since D.room
-        A.is_snapshot A.count_of A.stands_for
-        sink.old sink.new disk.new before t version }
-    ensures safe { (before : List (List ℕ)) (bytes : List ℕ) (t : A.State)
-        (version : Option (List ℕ))
-        → D.content disk.old ≡ Some bytes → HoldsPayloads before bytes
-        → A.stands_for before ≡ Ok (t, version)
+    ensures packs { (store : Store D.Disk A.StoredSession disk.old) → IsFinished result
+        → PacksCall K.Sink D.Disk A.StoredSession sink.old (sink.new, disk.new)
+        store.payloads store.state store.version }
+    ensures safe { (store : Store D.Disk A.StoredSession disk.old)
         → (result ≡ Status.DiskFault)
-        × IsUnpacked K.held D.content D.images D.moment D.images_since D.room
-        A.is_snapshot A.count_of A.stands_for
-        sink.old disk.old sink.new disk.new
-        ⊎ IsSafePack K.held D.content D.images D.moment D.images_since D.room
-        A.is_snapshot A.count_of A.stands_for
-        (D.images disk.old) disk.old disk.new before t version }
-    ensures exits { (before : List (List ℕ)) (bytes : List ℕ) (t : A.State)
-        (version : Option (List ℕ))
-        → D.content disk.old ≡ Some bytes → HoldsPayloads before bytes
-        → A.stands_for before ≡ Ok (t, version)
-        → EndsPack K.held D.content D.images D.moment D.images_since D.room
-        A.is_snapshot A.count_of A.stands_for
-        sink.old disk.old sink.new disk.new before t version result }
-    ensures causes { (before : List (List ℕ)) (bytes : List ℕ) (t : A.State)
-        (version : Option (List ℕ))
-        → D.content disk.old ≡ Some bytes → HoldsPayloads before bytes
-        → A.stands_for before ≡ Ok (t, version)
-        → IsPackCause A.is_snapshot result (D.room disk.old) before t version }
-    ensures complete { (before : List (List ℕ)) (bytes : List ℕ) (t : A.State)
-        (version : Option (List ℕ))
-        → D.content disk.old ≡ Some bytes → HoldsPayloads before bytes
-        → A.stands_for before ≡ Ok (t, version)
-        → (SinkFailed K.faults K.empty_takes K.room K.held sink.old sink.new → ⊥)
-        → (Increased (D.faults disk.old) (D.faults disk.new) → ⊥)
-        → (PackHasNoRoom A.is_snapshot most_bytes before t version → ⊥)
+        × IsUnpacked K.Sink D.Disk (sink.old, disk.old) (sink.new, disk.new)
+        ⊎ IsSafePack D.Disk A.StoredSession disk.old disk.new
+        (D.images disk.old) store.payloads store.state store.version }
+    ensures exits { (store : Store D.Disk A.StoredSession disk.old)
+        → EndsPack K.Sink D.Disk A.StoredSession (sink.old, disk.old) (sink.new, disk.new)
+        store.payloads store.state store.version result }
+    ensures causes { (store : Store D.Disk A.StoredSession disk.old)
+        → IsPackCause D.Disk A.StoredSession disk.old
+        store.payloads store.state store.version result }
+    ensures complete { (store : Store D.Disk A.StoredSession disk.old)
+        → (SinkFailed K.Sink sink.old sink.new → ⊥)
+        → (DiskFailed D.Disk disk.old disk.new → ⊥)
+        → (PackHasNoRoom A.StoredSession most_bytes
+        store.payloads store.state store.version → ⊥)
         → (result ≡ Status.Done) ⊎ (result ≡ Status.NoMemory) }
-    ensures refused { (bytes : List ℕ) (refusal : StoreRefusal)
-        → D.content disk.old ≡ Some bytes → refusal_in A.stands_for bytes ≡ Some refusal
-        → IsUnwritten D.content D.images disk.old disk.new
-        × EndsRefused (D.room disk.old) (K.held sink.old) (K.held sink.new) refusal result }
+    ensures refused { (other : RefusedStore D.Disk A.StoredSession disk.old)
+        → IsUnwritten D.Disk disk.old disk.new
+        × EndsRefused K.Sink D.Disk (sink.old, disk.old) (sink.new, disk.new) other.reason result }
     ensures no_source { result ≡ Status.SourceFault → ⊥ }
-    ensures sink_fault { result ≡ Status.SinkFault
-        → SinkFailed K.faults K.empty_takes K.room K.held sink.old sink.new }
-    ensures disk_fault { result ≡ Status.DiskFault
-        → Increased (D.faults disk.old) (D.faults disk.new) }
+    ensures sink_fault { result ≡ Status.SinkFault → SinkFailed K.Sink sink.old sink.new }
+    ensures disk_fault { result ≡ Status.DiskFault → DiskFailed D.Disk disk.old disk.new }
 {
     match open_log(disk) {
         Ok(log) => {
@@ -108,43 +87,33 @@ fn pack_log<A: StoredSession + Drop, K: Sink, D: Disk>(
     sink: &mut K,
     disk: &mut D,
 ) -> Status
-    requires stands { (base : List (List ℕ))
-        × Stands (D.content disk.old) (D.images disk.old) log.old base }
+    requires stands { (base : List (List ℕ)) × StandsOn D.Disk disk.old log.old base }
     ensures packs { (before : List (List ℕ)) (bytes : List ℕ) (t : A.State)
         (version : Option (List ℕ))
-        → D.content disk.old ≡ Some bytes → Stands (D.content disk.old) (D.images disk.old)
-        log.old before
+        → D.content disk.old ≡ Some bytes → StandsOn D.Disk disk.old log.old before
         → A.stands_for before ≡ Ok (t, version) → IsFinished result
-        → PacksCall K.held D.content D.images D.moment D.images_since D.room
-        A.is_snapshot A.count_of A.stands_for
-        sink.old sink.new disk.new before t version }
+        → PacksCall K.Sink D.Disk A.StoredSession sink.old (sink.new, disk.new)
+        before t version }
     ensures safe { (before : List (List ℕ)) (bytes : List ℕ) (t : A.State)
         (version : Option (List ℕ))
-        → D.content disk.old ≡ Some bytes → Stands (D.content disk.old) (D.images disk.old)
-        log.old before
+        → D.content disk.old ≡ Some bytes → StandsOn D.Disk disk.old log.old before
         → A.stands_for before ≡ Ok (t, version)
-        → IsSafePack K.held D.content D.images D.moment D.images_since D.room
-        A.is_snapshot A.count_of A.stands_for
-        (HoldsPayloads before) disk.old disk.new before t version }
+        → IsSafePack D.Disk A.StoredSession disk.old disk.new
+        (HoldsPayloads before) before t version }
     ensures exits { (before : List (List ℕ)) (bytes : List ℕ) (t : A.State)
         (version : Option (List ℕ))
-        → D.content disk.old ≡ Some bytes → Stands (D.content disk.old) (D.images disk.old)
-        log.old before
+        → D.content disk.old ≡ Some bytes → StandsOn D.Disk disk.old log.old before
         → A.stands_for before ≡ Ok (t, version)
-        → EndsPack K.held D.content D.images D.moment D.images_since D.room
-        A.is_snapshot A.count_of A.stands_for
-        sink.old disk.old sink.new disk.new before t version result }
+        → EndsPack K.Sink D.Disk A.StoredSession (sink.old, disk.old) (sink.new, disk.new)
+        before t version result }
     ensures refused { (before : List (List ℕ)) (bytes : List ℕ) (refusal : StoreRefusal)
-        → D.content disk.old ≡ Some bytes → Stands (D.content disk.old) (D.images disk.old)
-        log.old before
+        → D.content disk.old ≡ Some bytes → StandsOn D.Disk disk.old log.old before
         → refusal_of_payloads (A.stands_for before) ≡ Some refusal
-        → IsUnwritten D.content D.images disk.old disk.new
-        × EndsRefused (D.room disk.old) (K.held sink.old) (K.held sink.new) refusal result }
+        → IsUnwritten D.Disk disk.old disk.new
+        × EndsRefused K.Sink D.Disk (sink.old, disk.old) (sink.new, disk.new) refusal result }
     ensures no_source { result ≡ Status.SourceFault → ⊥ }
-    ensures sink_fault { result ≡ Status.SinkFault
-        → SinkFailed K.faults K.empty_takes K.room K.held sink.old sink.new }
-    ensures disk_fault { result ≡ Status.DiskFault
-        → Increased (D.faults disk.old) (D.faults disk.new) }
+    ensures sink_fault { result ≡ Status.SinkFault → SinkFailed K.Sink sink.old sink.new }
+    ensures disk_fault { result ≡ Status.DiskFault → DiskFailed D.Disk disk.old disk.new }
 {
     match log.payloads(alloc, disk) {
         Ok(payloads) => pack_payloads::<A, K, D>(alloc, log, &payloads, sink, disk),
@@ -160,35 +129,29 @@ fn pack_payloads<A: StoredSession + Drop, K: Sink, D: Disk>(
     sink: &mut K,
     disk: &mut D,
 ) -> Status
-    requires stands { (base : List (List ℕ))
-        × Stands (D.content disk.old) (D.images disk.old) log.old base }
+    requires stands { (base : List (List ℕ)) × StandsOn D.Disk disk.old log.old base }
     ensures packs { (t : A.State) (version : Option (List ℕ))
-        → Stands (D.content disk.old) (D.images disk.old) log.old payloads.now
+        → StandsOn D.Disk disk.old log.old payloads.now
         → A.stands_for payloads.now ≡ Ok (t, version) → IsFinished result
-        → PacksCall K.held D.content D.images D.moment D.images_since D.room
-        A.is_snapshot A.count_of A.stands_for
-        sink.old sink.new disk.new payloads.now t version }
+        → PacksCall K.Sink D.Disk A.StoredSession sink.old (sink.new, disk.new)
+        payloads.now t version }
     ensures safe { (t : A.State) (version : Option (List ℕ))
-        → Stands (D.content disk.old) (D.images disk.old) log.old payloads.now
+        → StandsOn D.Disk disk.old log.old payloads.now
         → A.stands_for payloads.now ≡ Ok (t, version)
-        → IsSafePack K.held D.content D.images D.moment D.images_since D.room
-        A.is_snapshot A.count_of A.stands_for
-        (HoldsPayloads payloads.now) disk.old disk.new payloads.now t version }
+        → IsSafePack D.Disk A.StoredSession disk.old disk.new
+        (HoldsPayloads payloads.now) payloads.now t version }
     ensures exits { (t : A.State) (version : Option (List ℕ))
-        → Stands (D.content disk.old) (D.images disk.old) log.old payloads.now
+        → StandsOn D.Disk disk.old log.old payloads.now
         → A.stands_for payloads.now ≡ Ok (t, version)
-        → EndsPack K.held D.content D.images D.moment D.images_since D.room
-        A.is_snapshot A.count_of A.stands_for
-        sink.old disk.old sink.new disk.new payloads.now t version result }
+        → EndsPack K.Sink D.Disk A.StoredSession (sink.old, disk.old) (sink.new, disk.new)
+        payloads.now t version result }
     ensures refused { (refusal : StoreRefusal)
         → refusal_of_payloads (A.stands_for payloads.now) ≡ Some refusal
-        → IsUnwritten D.content D.images disk.old disk.new
-        × EndsRefused (D.room disk.old) (K.held sink.old) (K.held sink.new) refusal result }
+        → IsUnwritten D.Disk disk.old disk.new
+        × EndsRefused K.Sink D.Disk (sink.old, disk.old) (sink.new, disk.new) refusal result }
     ensures no_source { result ≡ Status.SourceFault → ⊥ }
-    ensures sink_fault { result ≡ Status.SinkFault
-        → SinkFailed K.faults K.empty_takes K.room K.held sink.old sink.new }
-    ensures disk_fault { result ≡ Status.DiskFault
-        → Increased (D.faults disk.old) (D.faults disk.new) }
+    ensures sink_fault { result ≡ Status.SinkFault → SinkFailed K.Sink sink.old sink.new }
+    ensures disk_fault { result ≡ Status.DiskFault → DiskFailed D.Disk disk.old disk.new }
 {
     match A::reopen(alloc, payloads) {
         Ok(opened) => {
@@ -216,33 +179,27 @@ fn pack_session<A: StoredSession, K: Sink, D: Disk>(
     sink: &mut K,
     disk: &mut D,
 ) -> Status
-    requires stands { (base : List (List ℕ))
-        × Stands (D.content disk.old) (D.images disk.old) log.old base }
+    requires stands { (base : List (List ℕ)) × StandsOn D.Disk disk.old log.old base }
     ensures packs { (before : List (List ℕ))
-        → Stands (D.content disk.old) (D.images disk.old) log.old before
+        → StandsOn D.Disk disk.old log.old before
         → A.stands_for before ≡ Ok (A.state session.now, version.now)
         → count ≡ A.count_of before → IsFinished result
-        → PacksCall K.held D.content D.images D.moment D.images_since D.room
-        A.is_snapshot A.count_of A.stands_for
-        sink.old sink.new disk.new before (A.state session.now) version.now }
+        → PacksCall K.Sink D.Disk A.StoredSession sink.old (sink.new, disk.new)
+        before (A.state session.now) version.now }
     ensures safe { (before : List (List ℕ))
-        → Stands (D.content disk.old) (D.images disk.old) log.old before
+        → StandsOn D.Disk disk.old log.old before
         → A.stands_for before ≡ Ok (A.state session.now, version.now)
-        → IsSafePack K.held D.content D.images D.moment D.images_since D.room
-        A.is_snapshot A.count_of A.stands_for
-        (HoldsPayloads before) disk.old disk.new before (A.state session.now) version.now }
+        → IsSafePack D.Disk A.StoredSession disk.old disk.new
+        (HoldsPayloads before) before (A.state session.now) version.now }
     ensures exits { (before : List (List ℕ))
-        → Stands (D.content disk.old) (D.images disk.old) log.old before
+        → StandsOn D.Disk disk.old log.old before
         → A.stands_for before ≡ Ok (A.state session.now, version.now)
         → count ≡ A.count_of before
-        → EndsPack K.held D.content D.images D.moment D.images_since D.room
-        A.is_snapshot A.count_of A.stands_for
-        sink.old disk.old sink.new disk.new before (A.state session.now) version.now result }
+        → EndsPack K.Sink D.Disk A.StoredSession (sink.old, disk.old) (sink.new, disk.new)
+        before (A.state session.now) version.now result }
     ensures no_source { result ≡ Status.SourceFault → ⊥ }
-    ensures sink_fault { result ≡ Status.SinkFault
-        → SinkFailed K.faults K.empty_takes K.room K.held sink.old sink.new }
-    ensures disk_fault { result ≡ Status.DiskFault
-        → Increased (D.faults disk.old) (D.faults disk.new) }
+    ensures sink_fault { result ≡ Status.SinkFault → SinkFailed K.Sink sink.old sink.new }
+    ensures disk_fault { result ≡ Status.DiskFault → DiskFailed D.Disk disk.old disk.new }
 {
     let Ok(packing) = packing_of(alloc, session, count) else {
         return Status::NoMemory;
@@ -288,22 +245,18 @@ pub fn pack_store<K: Sink, D: Disk>(
     snapshot: &[u8],
     line: &[u8],
 ) -> Result<(), Stop>
-    requires stands { (base : List (List ℕ))
-        × Stands (D.content disk.old) (D.images disk.old) log.old base }
+    requires stands { (base : List (List ℕ)) × StandsOn D.Disk disk.old log.old base }
     ensures packed { OnOk result
-        (Adds K.held D.content D.images D.moment D.images_since D.room
-        sink.old disk.old log.old sink.new disk.new log.new
+        (Adds K.Sink D.Disk (sink.old, disk.old, log.old) (sink.new, disk.new, log.new)
         line.now (option_to_list version.now ++ snapshot.now ∷ [])) }
     ensures stopped { IfErr result (λ stop.
-        Stops K.held D.content D.images D.moment D.images_since D.room
-        sink.old disk.old log.old sink.new disk.new log.new
+        Stops K.Sink D.Disk (sink.old, disk.old, log.old) (sink.new, disk.new, log.new)
         stop [] [] [] (option_to_list version.now)
-        ⊎ Stops K.held D.content D.images D.moment D.images_since D.room
-        sink.old disk.old log.old sink.new disk.new log.new
+        ⊎ Stops K.Sink D.Disk (sink.old, disk.old, log.old) (sink.new, disk.new, log.new)
         stop [] line.now (option_to_list version.now) (snapshot.now ∷ [])) }
     ensures own { IfErr result IsOwnStop }
-    ensures counted { Counted K.faults K.empty_takes K.room K.held D.faults
-        sink.old disk.old sink.new disk.new (stop_in result) }
+    ensures counted { Counted K.Sink D.Disk (sink.old, disk.old) (sink.new, disk.new)
+        (stop_in result) }
 {
     store_version(alloc, log, disk, sink, version)?;
     store_and_answer(alloc, log, disk, sink, snapshot, line)

@@ -1,10 +1,7 @@
 //! The refusals of a store.
-ghost use Rattle.std.specs.Prelude.{◌≡◌, ◌⊎◌, List, ℕ, [], IfOk};
-ghost use Rattle.std.specs.Io.KnownBytes.{Appends};
-ghost use Rattle.lens_io.specs.Causes.{SinkFailed};
-ghost use Rattle.lens_io.specs.Content.{AppendsFront};
-ghost use Rattle.stored_run.specs.Ends.{status_of, said_at, log_full_line};
-ghost use Rattle.stored_run.specs.OkLines.{ok_lines};
+ghost use Rattle.std.specs.Prelude.{◌≡◌, ◌⊎◌, IfOk};
+ghost use Rattle.lens_io.specs.Calls.{Gave, GaveFront, SinkFailed};
+ghost use Rattle.stored_run.specs.Ends.{SaysStop};
 ghost use Rattle.stored_run.specs.Refusals.{refusal_line, Refuses, EndsAtLog, EndsAtPayloads};
 
 use crate::session::ReopenFault;
@@ -35,9 +32,8 @@ pub enum StoreRefusal {
 /// Ends a command at a fault of the log. A fault of the disk, and running out of memory, write no line; of any other the line
 /// `store refused: REASON` is written.
 pub fn refuse_log<K: Sink>(alloc: Global, fault: LogFault, sink: &mut K) -> Status
-    ensures ends { EndsAtLog (K.held sink.old) (K.held sink.new) fault result }
-    ensures sink_fault { result ≡ Status.SinkFault
-        → SinkFailed K.faults K.empty_takes K.room K.held sink.old sink.new }
+    ensures ends { EndsAtLog K.Sink sink.old sink.new fault result }
+    ensures sink_fault { result ≡ Status.SinkFault → SinkFailed K.Sink sink.old sink.new }
 {
     match fault {
         LogFault::NotALog => refuse(alloc, StoreRefusal::NotALog, sink),
@@ -51,9 +47,8 @@ pub fn refuse_log<K: Sink>(alloc: Global, fault: LogFault, sink: &mut K) -> Stat
 
 /// Ends a command at payloads that stand for no session. Running out of memory writes no line.
 pub(crate) fn refuse_payloads<K: Sink>(alloc: Global, fault: ReopenFault, sink: &mut K) -> Status
-    ensures ends { EndsAtPayloads (K.held sink.old) (K.held sink.new) fault result }
-    ensures sink_fault { result ≡ Status.SinkFault
-        → SinkFailed K.faults K.empty_takes K.room K.held sink.old sink.new }
+    ensures ends { EndsAtPayloads K.Sink sink.old sink.new fault result }
+    ensures sink_fault { result ≡ Status.SinkFault → SinkFailed K.Sink sink.old sink.new }
 {
     match fault {
         ReopenFault::BadRecord { number } => {
@@ -68,9 +63,8 @@ pub(crate) fn refuse_payloads<K: Sink>(alloc: Global, fault: ReopenFault, sink: 
 
 /// Ends a command by a refusal: its line `store refused: REASON` is written. Only a line with the number of a record allocates.
 pub fn refuse<K: Sink>(alloc: Global, refusal: StoreRefusal, sink: &mut K) -> Status
-    ensures refuses { Refuses (K.held sink.old) (K.held sink.new) refusal result }
-    ensures sink_fault { result ≡ Status.SinkFault
-        → SinkFailed K.faults K.empty_takes K.room K.held sink.old sink.new }
+    ensures refuses { Refuses K.Sink sink.old sink.new refusal result }
+    ensures sink_fault { result ≡ Status.SinkFault → SinkFailed K.Sink sink.old sink.new }
 {
     match refusal {
         StoreRefusal::NotALog => give_refusal(sink, b"store refused: not-a-log\n"),
@@ -101,9 +95,8 @@ fn not_consistent_line(alloc: Global, number: u64) -> Result<Bytes, AllocError>
 // Writes the line of a refusal that was made, if there was memory.
 fn give_made<K: Sink>(sink: &mut K, line: Result<Bytes, AllocError>) -> Status
     ensures refuses { (refusal : StoreRefusal) → IfOk line (λ text. text ≡ refusal_line refusal)
-        → Refuses (K.held sink.old) (K.held sink.new) refusal result }
-    ensures sink_fault { result ≡ Status.SinkFault
-        → SinkFailed K.faults K.empty_takes K.room K.held sink.old sink.new }
+        → Refuses K.Sink sink.old sink.new refusal result }
+    ensures sink_fault { result ≡ Status.SinkFault → SinkFailed K.Sink sink.old sink.new }
 {
     match line {
         Ok(line) => give_refusal(sink, line.as_slice()),
@@ -113,11 +106,9 @@ fn give_made<K: Sink>(sink: &mut K, line: Result<Bytes, AllocError>) -> Status
 
 // Writes the line of a refusal.
 fn give_refusal<K: Sink>(sink: &mut K, line: &[u8]) -> Status
-    ensures gives { (result ≡ Status.StoreRefused) × Appends (K.held sink.old) (K.held sink.new)
-        line.now
-        ⊎ (result ≡ Status.SinkFault) × AppendsFront (K.held sink.old) (K.held sink.new) line.now }
-    ensures sink_fault { result ≡ Status.SinkFault
-        → SinkFailed K.faults K.empty_takes K.room K.held sink.old sink.new }
+    ensures gives { (result ≡ Status.StoreRefused) × Gave K.Sink sink.old sink.new line.now
+        ⊎ (result ≡ Status.SinkFault) × GaveFront K.Sink sink.old sink.new line.now }
+    ensures sink_fault { result ≡ Status.SinkFault → SinkFailed K.Sink sink.old sink.new }
 {
     match give_all(sink, line) {
         Ok(()) => Status::StoreRefused,
@@ -127,13 +118,10 @@ fn give_refusal<K: Sink>(sink: &mut K, line: &[u8]) -> Status
 
 /// Ends a command that was stopped. If the log is full, the line that says so is written.
 pub fn give_stop<K: Sink>(stop: Stop, sink: &mut K) -> Status
-    ensures gives { (result ≡ status_of stop) × Appends
-        (K.held sink.old) (K.held sink.new) (said_at stop)
-        ⊎ (stop ≡ Stop.LogFull) × (result ≡ Status.SinkFault)
-        × AppendsFront (K.held sink.old) (K.held sink.new) log_full_line }
+    ensures gives { SaysStop K.Sink sink.old sink.new stop result }
     ensures sink_fault { result ≡ Status.SinkFault
         → (stop ≡ Stop.SinkFault) × (sink.new ≡ sink.old)
-        ⊎ SinkFailed K.faults K.empty_takes K.room K.held sink.old sink.new }
+        ⊎ SinkFailed K.Sink sink.old sink.new }
     ensures source { result ≡ Status.SourceFault → stop ≡ Stop.SourceFault }
     ensures disk { result ≡ Status.DiskFault → stop ≡ Stop.DiskFault }
 {

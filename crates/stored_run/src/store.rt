@@ -1,11 +1,8 @@
 //! Storing a payload, and then writing its answer.
-ghost use Rattle.std.specs.Prelude.{◌≡◌, ◌≤◌, ◌∷◌, ◌++◌, [], List, ℕ, OnOk, IfErr, IsErrOf, option_to_list};
-ghost use Rattle.std.specs.Io.KnownBytes.{Appends};
-ghost use Rattle.lens_io.specs.Causes.{SinkFailed};
-ghost use Rattle.lens_io.specs.Content.{AppendsFront};
-ghost use Rattle.gate_log.specs.LogOnDisk.{Stands};
+ghost use Rattle.std.specs.Prelude.{◌≡◌, ◌≤◌, ◌∷◌, [], List, ℕ, OnOk, IfErr, IsErrOf, option_to_list};
+ghost use Rattle.lens_io.specs.Calls.{Gave, GaveFront, SinkFailed};
 ghost use Rattle.stored_run.specs.Causes.{Counted, stop_in};
-ghost use Rattle.stored_run.specs.Effects.{Adds, Stops};
+ghost use Rattle.stored_run.specs.Effects.{StandsOn, Adds, Stops};
 ghost use Rattle.stored_run.specs.Stopping.{IsOwnStop};
 
 use crate::stop::Stop;
@@ -28,18 +25,16 @@ pub fn store_and_answer<K: Sink, D: Disk>(
     payload: &[u8],
     line: &[u8],
 ) -> Result<(), Stop>
-    requires stands { (base : List (List ℕ))
-        × Stands (D.content disk.old) (D.images disk.old) log.old base }
+    requires stands { (base : List (List ℕ)) × StandsOn D.Disk disk.old log.old base }
     ensures stored { OnOk result
-        (Adds K.held D.content D.images D.moment D.images_since D.room
-        sink.old disk.old log.old sink.new disk.new log.new line.now (payload.now ∷ [])) }
+        (Adds K.Sink D.Disk (sink.old, disk.old, log.old) (sink.new, disk.new, log.new)
+        line.now (payload.now ∷ [])) }
     ensures stopped { IfErr result (λ stop.
-        Stops K.held D.content D.images D.moment D.images_since D.room
-        sink.old disk.old log.old sink.new disk.new log.new stop []
+        Stops K.Sink D.Disk (sink.old, disk.old, log.old) (sink.new, disk.new, log.new) stop []
         line.now [] (payload.now ∷ [])) }
     ensures own { IfErr result IsOwnStop }
-    ensures counted { Counted K.faults K.empty_takes K.room K.held D.faults
-        sink.old disk.old sink.new disk.new (stop_in result) }
+    ensures counted { Counted K.Sink D.Disk (sink.old, disk.old) (sink.new, disk.new)
+        (stop_in result) }
 {
     match log.append(alloc, disk, payload) {
         Ok(()) => give_line(sink, line),
@@ -49,14 +44,14 @@ pub fn store_and_answer<K: Sink, D: Disk>(
 
 // Writes an answer line.
 pub(crate) fn give_line<K: Sink>(sink: &mut K, line: &[u8]) -> Result<(), Stop>
-    ensures given { OnOk result (Appends (K.held sink.old) (K.held sink.new) line.now) }
+    ensures given { OnOk result (Gave K.Sink sink.old sink.new line.now) }
     ensures front { IfErr result (λ stop. (stop ≡ Stop.SinkFault)
-        × AppendsFront (K.held sink.old) (K.held sink.new) line.now) }
+        × GaveFront K.Sink sink.old sink.new line.now) }
     ensures own { IfErr result IsOwnStop }
     ensures sink_faults { (K.faults sink.old ≤ K.faults sink.new)
         × (K.empty_takes sink.old ≤ K.empty_takes sink.new) }
     ensures sink_fault { IsErrOf result Stop.SinkFault
-        → SinkFailed K.faults K.empty_takes K.room K.held sink.old sink.new }
+        → SinkFailed K.Sink sink.old sink.new }
 {
     match give_all(sink, line) {
         Ok(()) => Ok(()),
@@ -75,18 +70,16 @@ pub fn store_version<K: Sink, D: Disk>(
     _sink: &K,
     version: &Option<Bytes>,
 ) -> Result<(), Stop>
-    requires stands { (base : List (List ℕ))
-        × Stands (D.content disk.old) (D.images disk.old) log.old base }
+    requires stands { (base : List (List ℕ)) × StandsOn D.Disk disk.old log.old base }
     ensures stored { OnOk result
-        (Adds K.held D.content D.images D.moment D.images_since D.room
-        _sink.now disk.old log.old _sink.now disk.new log.new [] (option_to_list version.now)) }
+        (Adds K.Sink D.Disk (_sink.now, disk.old, log.old) (_sink.now, disk.new, log.new)
+        [] (option_to_list version.now)) }
     ensures stopped { IfErr result (λ stop.
-        Stops K.held D.content D.images D.moment D.images_since D.room
-        _sink.now disk.old log.old _sink.now disk.new log.new stop [] [] []
-        (option_to_list version.now)) }
+        Stops K.Sink D.Disk (_sink.now, disk.old, log.old) (_sink.now, disk.new, log.new)
+        stop [] [] [] (option_to_list version.now)) }
     ensures own { IfErr result IsOwnStop }
-    ensures counted { Counted K.faults K.empty_takes K.room K.held D.faults
-        _sink.now disk.old _sink.now disk.new (stop_in result) }
+    ensures counted { Counted K.Sink D.Disk (_sink.now, disk.old) (_sink.now, disk.new)
+        (stop_in result) }
 {
     match version {
         Some(payload) => match log.append(alloc, disk, payload.as_slice()) {

@@ -1,11 +1,12 @@
 //! The commands `show` and `verify`, which only read a store.
 ghost use Rattle.std.specs.Prelude.{◌≡◌, ◌⊎◌, List, ℕ, Ok, Some, IfOk, IsNone};
 ghost use Rattle.std.specs.declared.option.Option.{Option};
-ghost use Rattle.lens_io.specs.Causes.{Increased, SinkFailed};
-ghost use Rattle.lens_io.specs.Disks.{LeavesOnly};
-ghost use Rattle.gate_log.specs.LogOnDisk.{HoldsPayloads, Stands};
+ghost use Rattle.lens_io.specs.Calls.{SinkFailed, DiskFailed};
+ghost use Rattle.lens_io.specs.DiskRuns.{LeavesOnly};
 ghost use Rattle.stored_run.specs.CountLines.{consistent_line};
-ghost use Rattle.stored_run.specs.Refusals.{IsUnwritten, EndsRefused, refusal_in, refusal_of_payloads};
+ghost use Rattle.stored_run.specs.Effects.{StandsOn};
+ghost use Rattle.stored_run.specs.Refusals.{IsUnwritten, Refuses, EndsRefused, refusal_of_payloads};
+ghost use Rattle.stored_run.specs.Stores.{Store, RefusedStore};
 ghost use Rattle.stored_run.specs.ViewCall.{Views, view_text};
 ghost use Rattle.stored_run.specs.declared.refusals.StoreRefusal.{StoreRefusal};
 
@@ -40,28 +41,20 @@ pub fn show<A: StoredSession + Drop, K: Sink, D: Disk>(
     sink: &mut K,
     disk: &mut D,
 ) -> Status
-    ensures views { (before : List (List ℕ)) (bytes : List ℕ) (t : A.State)
-        (version : Option (List ℕ))
-        → D.content disk.old ≡ Some bytes → HoldsPayloads before bytes
-        → A.stands_for before ≡ Ok (t, version)
-        → Views (K.held sink.old) (K.held sink.new) (A.state_text t) result }
-    ensures refused { (bytes : List ℕ) (refusal : StoreRefusal)
-        → D.content disk.old ≡ Some bytes → refusal_in A.stands_for bytes ≡ Some refusal
-        → EndsRefused (D.room disk.old) (K.held sink.old) (K.held sink.new) refusal result }
-    ensures unwritten { IsUnwritten D.content D.images disk.old disk.new }
-    ensures moments { LeavesOnly D.moment D.images_since disk.old disk.new (D.images disk.old) }
-    ensures complete { (before : List (List ℕ)) (bytes : List ℕ) (t : A.State)
-        (version : Option (List ℕ))
-        → D.content disk.old ≡ Some bytes → HoldsPayloads before bytes
-        → A.stands_for before ≡ Ok (t, version)
-        → (SinkFailed K.faults K.empty_takes K.room K.held sink.old sink.new → ⊥)
-        → (Increased (D.faults disk.old) (D.faults disk.new) → ⊥)
+    ensures views { (store : Store D.Disk A.StoredSession disk.old)
+        → Views K.Sink sink.old sink.new (A.state_text store.state) result }
+    ensures refused { (other : RefusedStore D.Disk A.StoredSession disk.old)
+        → EndsRefused K.Sink D.Disk (sink.old, disk.old) (sink.new, disk.new)
+        other.reason result }
+    ensures unwritten { IsUnwritten D.Disk disk.old disk.new }
+    ensures moments { LeavesOnly D.Disk disk.old disk.new (D.images disk.old) }
+    ensures complete { (store : Store D.Disk A.StoredSession disk.old)
+        → (SinkFailed K.Sink sink.old sink.new → ⊥)
+        → (DiskFailed D.Disk disk.old disk.new → ⊥)
         → (result ≡ Status.Done) ⊎ (result ≡ Status.NoMemory) }
     ensures no_source { result ≡ Status.SourceFault → ⊥ }
-    ensures sink_fault { result ≡ Status.SinkFault
-        → SinkFailed K.faults K.empty_takes K.room K.held sink.old sink.new }
-    ensures disk_fault { result ≡ Status.DiskFault
-        → Increased (D.faults disk.old) (D.faults disk.new) }
+    ensures sink_fault { result ≡ Status.SinkFault → SinkFailed K.Sink sink.old sink.new }
+    ensures disk_fault { result ≡ Status.DiskFault → DiskFailed D.Disk disk.old disk.new }
     ensures sure { result ≡ Status.DiskFault → IsNone (D.room disk.old) }
 {
     view_store::<A, K, D>(alloc, StoreView::State, sink, disk)
@@ -80,28 +73,21 @@ pub fn verify<A: StoredSession + Drop, K: Sink, D: Disk>(
     sink: &mut K,
     disk: &mut D,
 ) -> Status
-    ensures views { (before : List (List ℕ)) (bytes : List ℕ) (t : A.State)
-        (version : Option (List ℕ))
-        → D.content disk.old ≡ Some bytes → HoldsPayloads before bytes
-        → A.stands_for before ≡ Ok (t, version)
-        → Views (K.held sink.old) (K.held sink.new) (consistent_line (A.count_of before)) result }
-    ensures refused { (bytes : List ℕ) (refusal : StoreRefusal)
-        → D.content disk.old ≡ Some bytes → refusal_in A.stands_for bytes ≡ Some refusal
-        → EndsRefused (D.room disk.old) (K.held sink.old) (K.held sink.new) refusal result }
-    ensures unwritten { IsUnwritten D.content D.images disk.old disk.new }
-    ensures moments { LeavesOnly D.moment D.images_since disk.old disk.new (D.images disk.old) }
-    ensures complete { (before : List (List ℕ)) (bytes : List ℕ) (t : A.State)
-        (version : Option (List ℕ))
-        → D.content disk.old ≡ Some bytes → HoldsPayloads before bytes
-        → A.stands_for before ≡ Ok (t, version)
-        → (SinkFailed K.faults K.empty_takes K.room K.held sink.old sink.new → ⊥)
-        → (Increased (D.faults disk.old) (D.faults disk.new) → ⊥)
+    ensures views { (store : Store D.Disk A.StoredSession disk.old)
+        → Views K.Sink sink.old sink.new
+        (consistent_line (A.count_of store.payloads)) result }
+    ensures refused { (other : RefusedStore D.Disk A.StoredSession disk.old)
+        → EndsRefused K.Sink D.Disk (sink.old, disk.old) (sink.new, disk.new)
+        other.reason result }
+    ensures unwritten { IsUnwritten D.Disk disk.old disk.new }
+    ensures moments { LeavesOnly D.Disk disk.old disk.new (D.images disk.old) }
+    ensures complete { (store : Store D.Disk A.StoredSession disk.old)
+        → (SinkFailed K.Sink sink.old sink.new → ⊥)
+        → (DiskFailed D.Disk disk.old disk.new → ⊥)
         → (result ≡ Status.Done) ⊎ (result ≡ Status.NoMemory) }
     ensures no_source { result ≡ Status.SourceFault → ⊥ }
-    ensures sink_fault { result ≡ Status.SinkFault
-        → SinkFailed K.faults K.empty_takes K.room K.held sink.old sink.new }
-    ensures disk_fault { result ≡ Status.DiskFault
-        → Increased (D.faults disk.old) (D.faults disk.new) }
+    ensures sink_fault { result ≡ Status.SinkFault → SinkFailed K.Sink sink.old sink.new }
+    ensures disk_fault { result ≡ Status.DiskFault → DiskFailed D.Disk disk.old disk.new }
     ensures sure { result ≡ Status.DiskFault → IsNone (D.room disk.old) }
 {
     view_store::<A, K, D>(alloc, StoreView::Count, sink, disk)
@@ -114,22 +100,17 @@ fn view_store<A: StoredSession + Drop, K: Sink, D: Disk>(
     sink: &mut K,
     disk: &mut D,
 ) -> Status
-    ensures views { (before : List (List ℕ)) (bytes : List ℕ) (t : A.State)
-        (version : Option (List ℕ))
-        → D.content disk.old ≡ Some bytes → HoldsPayloads before bytes
-        → A.stands_for before ≡ Ok (t, version)
-        → Views (K.held sink.old) (K.held sink.new) (view_text
-        A.state_text view t (A.count_of before)) result }
-    ensures refused { (bytes : List ℕ) (refusal : StoreRefusal)
-        → D.content disk.old ≡ Some bytes → refusal_in A.stands_for bytes ≡ Some refusal
-        → EndsRefused (D.room disk.old) (K.held sink.old) (K.held sink.new) refusal result }
-    ensures unwritten { IsUnwritten D.content D.images disk.old disk.new }
-    ensures moments { LeavesOnly D.moment D.images_since disk.old disk.new (D.images disk.old) }
+    ensures views { (store : Store D.Disk A.StoredSession disk.old)
+        → Views K.Sink sink.old sink.new
+        (view_text A.StoredSession view store.state (A.count_of store.payloads)) result }
+    ensures refused { (other : RefusedStore D.Disk A.StoredSession disk.old)
+        → EndsRefused K.Sink D.Disk (sink.old, disk.old) (sink.new, disk.new)
+        other.reason result }
+    ensures unwritten { IsUnwritten D.Disk disk.old disk.new }
+    ensures moments { LeavesOnly D.Disk disk.old disk.new (D.images disk.old) }
     ensures no_source { result ≡ Status.SourceFault → ⊥ }
-    ensures sink_fault { result ≡ Status.SinkFault
-        → SinkFailed K.faults K.empty_takes K.room K.held sink.old sink.new }
-    ensures disk_fault { result ≡ Status.DiskFault
-        → Increased (D.faults disk.old) (D.faults disk.new) }
+    ensures sink_fault { result ≡ Status.SinkFault → SinkFailed K.Sink sink.old sink.new }
+    ensures disk_fault { result ≡ Status.DiskFault → DiskFailed D.Disk disk.old disk.new }
     ensures sure { result ≡ Status.DiskFault → IsNone (D.room disk.old) }
 {
     match open_log(disk) {
@@ -146,27 +127,24 @@ fn view_log<A: StoredSession + Drop, K: Sink, D: Disk>(
     sink: &mut K,
     disk: &mut D,
 ) -> Status
-    requires stands { (base : List (List ℕ))
-        × Stands (D.content disk.old) (D.images disk.old) log.now base }
+    requires stands { (base : List (List ℕ)) × StandsOn D.Disk disk.old log.now base }
     ensures views { (before : List (List ℕ)) (bytes : List ℕ) (t : A.State)
         (version : Option (List ℕ))
         → D.content disk.old ≡ Some bytes
-        → Stands (D.content disk.old) (D.images disk.old) log.now before
+        → StandsOn D.Disk disk.old log.now before
         → A.stands_for before ≡ Ok (t, version)
-        → Views (K.held sink.old) (K.held sink.new) (view_text
-        A.state_text view t (A.count_of before)) result }
+        → Views K.Sink sink.old sink.new
+        (view_text A.StoredSession view t (A.count_of before)) result }
     ensures refused { (before : List (List ℕ)) (bytes : List ℕ) (refusal : StoreRefusal)
         → D.content disk.old ≡ Some bytes
-        → Stands (D.content disk.old) (D.images disk.old) log.now before
+        → StandsOn D.Disk disk.old log.now before
         → refusal_of_payloads (A.stands_for before) ≡ Some refusal
-        → EndsRefused (D.room disk.old) (K.held sink.old) (K.held sink.new) refusal result }
-    ensures unwritten { IsUnwritten D.content D.images disk.old disk.new }
-    ensures moments { LeavesOnly D.moment D.images_since disk.old disk.new (D.images disk.old) }
+        → EndsRefused K.Sink D.Disk (sink.old, disk.old) (sink.new, disk.new) refusal result }
+    ensures unwritten { IsUnwritten D.Disk disk.old disk.new }
+    ensures moments { LeavesOnly D.Disk disk.old disk.new (D.images disk.old) }
     ensures no_source { result ≡ Status.SourceFault → ⊥ }
-    ensures sink_fault { result ≡ Status.SinkFault
-        → SinkFailed K.faults K.empty_takes K.room K.held sink.old sink.new }
-    ensures disk_fault { result ≡ Status.DiskFault
-        → Increased (D.faults disk.old) (D.faults disk.new) }
+    ensures sink_fault { result ≡ Status.SinkFault → SinkFailed K.Sink sink.old sink.new }
+    ensures disk_fault { result ≡ Status.DiskFault → DiskFailed D.Disk disk.old disk.new }
     ensures sure { result ≡ Status.DiskFault → IsNone (D.room disk.old) }
 {
     match log.payloads(alloc, disk) {
@@ -184,14 +162,13 @@ fn view_payloads<A: StoredSession + Drop, K: Sink>(
 ) -> Status
     ensures views { (t : A.State) (version : Option (List ℕ))
         → A.stands_for payloads.now ≡ Ok (t, version)
-        → Views (K.held sink.old) (K.held sink.new) (view_text
-        A.state_text view t (A.count_of payloads.now)) result }
-    ensures refused { (room : Option ℕ) (refusal : StoreRefusal)
+        → Views K.Sink sink.old sink.new
+        (view_text A.StoredSession view t (A.count_of payloads.now)) result }
+    ensures refused { (refusal : StoreRefusal)
         → refusal_of_payloads (A.stands_for payloads.now) ≡ Some refusal
-        → EndsRefused room (K.held sink.old) (K.held sink.new) refusal result }
+        → Refuses K.Sink sink.old sink.new refusal result }
     ensures no_source { result ≡ Status.SourceFault → ⊥ }
-    ensures sink_fault { result ≡ Status.SinkFault
-        → SinkFailed K.faults K.empty_takes K.room K.held sink.old sink.new }
+    ensures sink_fault { result ≡ Status.SinkFault → SinkFailed K.Sink sink.old sink.new }
     ensures no_disk { result ≡ Status.DiskFault → ⊥ }
 {
     match A::reopen(alloc, payloads) {
@@ -208,11 +185,10 @@ fn give_view<A: StoredSession, K: Sink>(
     view: StoreView,
     sink: &mut K,
 ) -> Status
-    ensures views { Views (K.held sink.old) (K.held sink.new)
-        (view_text A.state_text view (A.state session.now) count) result }
+    ensures views { Views K.Sink sink.old sink.new
+        (view_text A.StoredSession view (A.state session.now) count) result }
     ensures no_source { result ≡ Status.SourceFault → ⊥ }
-    ensures sink_fault { result ≡ Status.SinkFault
-        → SinkFailed K.faults K.empty_takes K.room K.held sink.old sink.new }
+    ensures sink_fault { result ≡ Status.SinkFault → SinkFailed K.Sink sink.old sink.new }
     ensures no_disk { result ≡ Status.DiskFault → ⊥ }
 {
     let Ok(text) = text_of_view(alloc, session, count, view) else {
@@ -230,7 +206,8 @@ fn text_of_view<A: StoredSession>(
     count: u64,
     view: StoreView,
 ) -> Result<Bytes, AllocError>
-    ensures { IfOk result (λ text. text ≡ view_text A.state_text view (A.state session.now) count) }
+    ensures { IfOk result
+        (λ text. text ≡ view_text A.StoredSession view (A.state session.now) count) }
 {
     match view {
         StoreView::State => session.state_lines(alloc),

@@ -2,4 +2,4 @@ use Rattle.report_laws.proofs.ReportsGoOn.{refusal_stays}
 use Rattle.report_laws.proofs.a_refusal_stays.Goals as goal
 
 pub returns : goal.returns
-returns c = refusal_stays
+returns g c = refusal_stays g.A.ScriptState

@@ -2,4 +2,4 @@ use Rattle.report_laws.proofs.ReportsGoOn.{answers_first}
 use Rattle.report_laws.proofs.answers_come_first.Goals as goal
 
 pub returns : goal.returns
-returns c = answers_first
+returns g c = answers_first g.A.ScriptState

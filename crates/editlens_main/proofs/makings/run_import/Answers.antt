@@ -1,5 +1,4 @@
-use Rattle.store_import.specs.Import.{Brings}
-use Rattle.editlens_main.proofs.StoreStatuses.{made_complete, finds_log}
+use Rattle.editlens_main.proofs.StoreStatuses.{finds_log}
 use Rattle.editlens_main.proofs.makings.run_import.Goals as goal
 
 pub returns-clause-imports : goal.returns-clause-imports
@@ -11,11 +10,11 @@ returns-clause-imports g c =
       brings = λ h. e.imports (c.of_making.ensures.done h);
       declines = λ h. e.refuses (c.of_making.ensures.refused h);
       stops = (ended, is, e.ends);
+      at_once = (ended, is, e.at_once);
       caused = λ h. e.room (c.of_making.ensures.disk h);
-      completes = λ empty. made_complete Brings _ _ _ ended c.of_making.result is _ (e.complete empty);
-      refuses = finds_log g.K.Sink.held g.D.Disk.content g.D.Disk.images c.args.source.now c.args.sink.now c.args.disk.now
-          c.import-ended.new.source c.import-ended.new.sink c.import-ended.new.disk
-          ended c.of_making.result is (g.D.Disk.content c.args.disk.now) e.exists;
+      completes = (ended, is, e.complete);
+      refuses = finds_log g.S.Source g.K.Sink g.D.Disk (c.args.source.now, c.args.sink.now, c.args.disk.now)
+          (c.import-ended.new.source, c.import-ended.new.sink, c.import-ended.new.disk) ended c.of_making.result is e.exists;
     }
 
 pub returns-clause-source_fault : goal.returns-clause-source_fault

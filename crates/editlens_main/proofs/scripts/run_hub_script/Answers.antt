@@ -1,4 +1,4 @@
-use Rattle.hub_run.specs.Lenses.{lenses_of}
+use Rattle.hub_run.specs.HubScript.{hub_script}
 use Rattle.editlens_main.proofs.ScriptStatuses.{finished_script, script_complete}
 use Rattle.editlens_main.proofs.scripts.run_hub_script.Goals as goal
 
@@ -11,7 +11,7 @@ returns-clause-runs g c =
     record {
       reports = λ h. (ended, is, e.reports (finished_script status ended is h));
       stops = (ended, is, e.stops_are_clean);
-      completes = script_complete lenses_of _ _ _ ended status is e.complete;
+      completes = script_complete hub_script _ _ _ ended status is e.complete;
     }
 
 pub returns-clause-source_fault : goal.returns-clause-source_fault

@@ -11,14 +11,15 @@ returns-clause-applies g c =
     let is = c.of_store.ensures.is in
     record {
       of_store = λ s. record {
-        continues = λ f. (ended, is, e.continues s.payloads s.bytes s.state s.version s.told s.holds s.stands (finished_store c.of_store.result ended is f));
+        continues = λ f. (ended, is, e.continues s (finished_store c.of_store.result ended is f));
         in_step = stays_in_step s.payloads s.state s.version s.stands;
-        stops = (ended, is, e.exits s.payloads s.bytes s.state s.version s.told s.holds s.stands);
-        survives = elim (e.safe s.payloads s.bytes s.state s.version s.told s.holds s.stands) [ inl h ↦ inl (inl (is ∙ ap status_of_store h.0), h.1) | inr h ↦ inr h ];
-        caused = (ended, is, e.causes s.payloads s.bytes s.state s.version s.told s.holds s.stands);
-        completes = λ r f w many full. finishes c.of_store.result ended is (e.complete s.payloads s.bytes s.state s.version s.told s.holds s.stands r f w many full);
+        in_time = (ended, is, e.in_time s);
+        stops = (ended, is, e.exits s);
+        survives = elim (e.safe s) [ inl h ↦ inl (inl (is ∙ ap status_of_store h.0), h.1) | inr h ↦ inr h ];
+        caused = (ended, is, e.causes s);
+        completes = λ r f w many full. finishes c.of_store.result ended is (e.complete s r f w many full);
       };
-      refuses = λ other. let x = e.refused other.bytes other.reason other.told other.refused in ((x.0, (ended, is, x.2)), x.1);
+      refuses = λ other. let x = e.refused other in ((x.0, (ended, is, x.2)), x.1);
     }
 
 pub returns-clause-source_fault : goal.returns-clause-source_fault

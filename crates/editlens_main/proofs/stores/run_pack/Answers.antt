@@ -12,14 +12,14 @@ returns-clause-packs g c =
     let is = c.of_store.ensures.is in
     record {
       of_store = λ s. record {
-        continues = λ f. e.packs s.payloads s.bytes s.state s.version s.told s.holds s.stands (finished_store c.of_store.result ended is f);
+        continues = λ f. e.packs s (finished_store c.of_store.result ended is f);
         in_step = (stored_sound s.payloads s.state s.version s.stands).1;
-        stops = (ended, is, e.exits s.payloads s.bytes s.state s.version s.told s.holds s.stands);
-        survives = elim (e.safe s.payloads s.bytes s.state s.version s.told s.holds s.stands) [ inl h ↦ inl (inl (is ∙ ap status_of_store h.0), h.1) | inr h ↦ inr h ];
-        caused = (ended, is, e.causes s.payloads s.bytes s.state s.version s.told s.holds s.stands);
-        completes = λ f w full. ends_done c.of_store.result ended is (e.complete s.payloads s.bytes s.state s.version s.told s.holds s.stands f w full);
+        stops = (ended, is, e.exits s);
+        survives = elim (e.safe s) [ inl h ↦ inl (inl (is ∙ ap status_of_store h.0), h.1) | inr h ↦ inr h ];
+        caused = (ended, is, e.causes s);
+        completes = λ f w full. ends_done c.of_store.result ended is (e.complete s f w full);
       };
-      refuses = λ other. let x = e.refused other.bytes other.reason other.told other.refused in (x.0, (ended, is, x.1));
+      refuses = λ other. let x = e.refused other in (x.0, (ended, is, x.1));
     }
 
 pub returns-clause-statuses : goal.returns-clause-statuses

@@ -11,14 +11,14 @@ returns-clause-undoes g c =
     let is = c.of_store.ensures.is in
     record {
       of_store = λ s. record {
-        continues = λ h. e.undoes s.payloads s.bytes s.undone s.told s.holds s.undoes (c.of_store.ensures.done h);
-        stops = (ended, is, e.exits s.payloads s.bytes s.undone s.told s.holds s.undoes);
-        survives = elim (e.safe s.payloads s.bytes s.undone s.told s.holds s.undoes) [ inl h ↦ inl (inl (is ∙ ap status_of_store h.0), h.1) | inr h ↦ inr h ];
-        unstored = λ h image now. inr (e.unstored s.payloads s.bytes s.undone s.told s.holds s.undoes (unfinished c.of_store.result ended is h) image now);
-        caused = (ended, is, e.causes s.payloads s.bytes s.undone s.told s.holds s.undoes);
-        completes = λ f w full. ends_done c.of_store.result ended is (e.complete s.payloads s.bytes s.undone s.told s.holds s.undoes f w full);
+        continues = λ h. e.undoes s (c.of_store.ensures.done h);
+        stops = (ended, is, e.exits s);
+        survives = elim (e.safe s) [ inl h ↦ inl (inl (is ∙ ap status_of_store h.0), h.1) | inr h ↦ inr h ];
+        unstored = λ h image now. inr (e.unstored s (unfinished c.of_store.result ended is h) image now);
+        caused = (ended, is, e.causes s);
+        completes = λ f w full. ends_done c.of_store.result ended is (e.complete s f w full);
       };
-      refuses = λ other. let x = e.refused other.bytes other.reason other.told other.refused in (x.0, (ended, is, x.1));
+      refuses = λ other. let x = e.refused other in (x.0, (ended, is, x.1));
     }
 
 pub returns-clause-statuses : goal.returns-clause-statuses

@@ -9,10 +9,10 @@ returns-clause-verifies g c =
     let ended = c.verify-ended.result in
     let is = c.of_store.ensures.is in
     record {
-      reports = λ s. (ended, is, e.views s.payloads s.bytes s.state s.version s.told s.holds s.stands);
+      reports = λ s. (ended, is, e.views s);
       in_step = λ s. (stored_sound s.payloads s.state s.version s.stands).1;
-      completes = λ s f w. ends_done c.of_store.result ended is (e.complete s.payloads s.bytes s.state s.version s.told s.holds s.stands f w);
-      refuses = λ other. (e.unwritten, (ended, is, e.refused other.bytes other.reason other.told other.refused));
+      completes = λ s f w. ends_done c.of_store.result ended is (e.complete s f w);
+      refuses = λ other. (e.unwritten, (ended, is, e.refused other));
       unwritten = e.unwritten;
       survives = e.moments;
       caused = λ h. e.sure (c.of_store.ensures.disk h);

@@ -1,10 +1,15 @@
-use Rattle.std.proofs.Common.{Some, sym, ap, subst, ◌∙◌}
+use Rattle.std.proofs.Common.{sym, ap, subst, ◌∙◌}
 use Rattle.command_words.specs.declared.orders.Order.TheVariants.{Run, Check, Gen, Init, Import, Apply, Show, Verify, Pack, Undo, Hub, Link}
 use Rattle.editlens_main.specs.Commands.{reads_source, uses_disk, order_named}
 use Rattle.editlens_main.specs.Shows.{shown, verified}
 use Rattle.editlens_main.specs.Statuses.{MayEnd}
-use Rattle.editlens_main.specs.declared.commands.Command.TheVariants as command
-use Rattle.editlens_main.proofs.OrderClauses.{not_none, at_order, never_script, never_gen, never_init, never_import, never_apply, never_pack, never_undo, never_view, never_hub, never_link}
+use Rattle.hub_run.proofs.FormsInStep.{accepted_in_step}
+use Rattle.hub_run.specs.HubScript.{hub_script}
+use Rattle.link_run.specs.RunsInTurns.{every_run as every_link}
+use Rattle.link_run.specs.LinkScript.{link_script}
+use Rattle.pair_run.specs.RunsInStep.{every_run, every_check}
+use Rattle.pair_run.specs.Scripts.{pair_script, types_script}
+use Rattle.editlens_main.proofs.OrderClauses.{not_none, at_order, never_script, never_gen, never_init, never_import, never_apply, never_pack, never_undo, never_view}
 use Rattle.editlens_main.proofs.Statuses.{memory_may_end}
 use Rattle.editlens_main.proofs.top.editlens.Goals as goal
 
@@ -92,10 +97,10 @@ returns-in-Ok-clause-causes g c = record {
 -- ---- memory ran out at the words
 
 pub returns-in-Err-NoMemory-clause-run : goal.returns-in-Err-NoMemory-clause-run
-returns-in-Err-NoMemory-clause-run g c = λ e. never_script g.S.Source g.K.Sink (c.args.source.now, c.args.sink.now) command.Run
+returns-in-Err-NoMemory-clause-run g c = λ e. never_script g.S.Source g.K.Sink (c.args.source.now, c.args.sink.now) pair_script every_run
 
 pub returns-in-Err-NoMemory-clause-check : goal.returns-in-Err-NoMemory-clause-check
-returns-in-Err-NoMemory-clause-check g c = λ e. never_script g.S.Source g.K.Sink (c.args.source.now, c.args.sink.now) command.Check
+returns-in-Err-NoMemory-clause-check g c = λ e. never_script g.S.Source g.K.Sink (c.args.source.now, c.args.sink.now) types_script every_check
 
 pub returns-in-Err-NoMemory-clause-generate : goal.returns-in-Err-NoMemory-clause-generate
 returns-in-Err-NoMemory-clause-generate g c = λ count seed e. never_gen g.K.Sink c.args.sink.now count seed
@@ -122,10 +127,10 @@ pub returns-in-Err-NoMemory-clause-undo : goal.returns-in-Err-NoMemory-clause-un
 returns-in-Err-NoMemory-clause-undo g c = λ count e. never_undo g.K.Sink g.D.Disk (c.args.sink.now, c.args.disk.now) g.met.D.Disk.only_now count
 
 pub returns-in-Err-NoMemory-clause-hub : goal.returns-in-Err-NoMemory-clause-hub
-returns-in-Err-NoMemory-clause-hub g c = λ e. never_hub g.S.Source g.K.Sink (c.args.source.now, c.args.sink.now)
+returns-in-Err-NoMemory-clause-hub g c = λ e. never_script g.S.Source g.K.Sink (c.args.source.now, c.args.sink.now) hub_script accepted_in_step
 
 pub returns-in-Err-NoMemory-clause-link : goal.returns-in-Err-NoMemory-clause-link
-returns-in-Err-NoMemory-clause-link g c = λ e. never_link g.S.Source g.K.Sink (c.args.source.now, c.args.sink.now)
+returns-in-Err-NoMemory-clause-link g c = λ e. never_script g.S.Source g.K.Sink (c.args.source.now, c.args.sink.now) link_script every_link
 
 pub returns-in-Err-NoMemory-clause-statuses : goal.returns-in-Err-NoMemory-clause-statuses
 returns-in-Err-NoMemory-clause-statuses g c = memory_may_end (order_named c.args.words.now)

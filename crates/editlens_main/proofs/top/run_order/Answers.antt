@@ -9,31 +9,31 @@ use Rattle.editlens_main.proofs.top.run_order.Goals as goal
 
 pub returns-in-Run-clause-ends : goal.returns-in-Run-clause-ends
 returns-in-Run-clause-ends g c =
-    subst (EndsOrder g.S.Source g.K.Sink g.D.Disk (c.args.source.now, c.args.sink.now, c.args.disk.now) (c.run.new.source, c.run.new.sink, c.args.disk.now) c.run.result)
-    (sym c.in-Run.is) c.run.ensures.runs
+    subst (EndsOrder g.S.Source g.K.Sink g.D.Disk (c.args.source.now, c.args.sink.now, c.args.disk.now) (c.run_pair_script.new.source, c.run_pair_script.new.sink, c.args.disk.now) c.run_pair_script.result)
+    (sym c.in-Run.is) c.run_pair_script.ensures.runs
 
 pub returns-in-Run-clause-statuses : goal.returns-in-Run-clause-statuses
-returns-in-Run-clause-statuses g c = subst (λ o. MayEnd (Some o) c.run.result) (sym c.in-Run.is) c.run.ensures.statuses
+returns-in-Run-clause-statuses g c = subst (λ o. MayEnd (Some o) c.run_pair_script.result) (sym c.in-Run.is) c.run_pair_script.ensures.statuses
 
 pub returns-in-Run-clause-unread : goal.returns-in-Run-clause-unread
 returns-in-Run-clause-unread g c = λ h. absurd (not_reading c.args.order Run c.in-Run.is refl h)
 
 pub returns-in-Run-clause-disk_fault : goal.returns-in-Run-clause-disk_fault
-returns-in-Run-clause-disk_fault g c = λ e. absurd (script_stores_nothing c.run.result c.run.ensures.statuses e)
+returns-in-Run-clause-disk_fault g c = λ e. absurd (script_stores_nothing c.run_pair_script.result c.run_pair_script.ensures.statuses e)
 
 pub returns-in-Check-clause-ends : goal.returns-in-Check-clause-ends
 returns-in-Check-clause-ends g c =
-    subst (EndsOrder g.S.Source g.K.Sink g.D.Disk (c.args.source.now, c.args.sink.now, c.args.disk.now) (c.run-in-Check.new.source, c.run-in-Check.new.sink, c.args.disk.now) c.run-in-Check.result)
-    (sym c.in-Check.is) c.run-in-Check.ensures.runs
+    subst (EndsOrder g.S.Source g.K.Sink g.D.Disk (c.args.source.now, c.args.sink.now, c.args.disk.now) (c.check_script.new.source, c.check_script.new.sink, c.args.disk.now) c.check_script.result)
+    (sym c.in-Check.is) c.check_script.ensures.runs
 
 pub returns-in-Check-clause-statuses : goal.returns-in-Check-clause-statuses
-returns-in-Check-clause-statuses g c = subst (λ o. MayEnd (Some o) c.run-in-Check.result) (sym c.in-Check.is) c.run-in-Check.ensures.statuses
+returns-in-Check-clause-statuses g c = subst (λ o. MayEnd (Some o) c.check_script.result) (sym c.in-Check.is) c.check_script.ensures.statuses
 
 pub returns-in-Check-clause-unread : goal.returns-in-Check-clause-unread
 returns-in-Check-clause-unread g c = λ h. absurd (not_reading c.args.order Check c.in-Check.is refl h)
 
 pub returns-in-Check-clause-disk_fault : goal.returns-in-Check-clause-disk_fault
-returns-in-Check-clause-disk_fault g c = λ e. absurd (script_stores_nothing c.run-in-Check.result c.run-in-Check.ensures.statuses e)
+returns-in-Check-clause-disk_fault g c = λ e. absurd (script_stores_nothing c.check_script.result c.check_script.ensures.statuses e)
 
 pub returns-in-Gen-clause-ends : goal.returns-in-Gen-clause-ends
 returns-in-Gen-clause-ends g c =

@@ -1,4 +1,5 @@
 use Rattle.std.proofs.Common.{◌≡◌, ◌+◌, ◌-◌, ◌≤◌, length}
+use Rattle.journal_input.specs.Taking.{GaveFew}
 use Rattle.journal_input.specs.declared.limits.TheConstants.{MOST_BYTES}
 use Rattle.line_stream.specs.Answered.{ComesOn}
 use Rattle.line_stream.proofs.stream.answer_pieces.Given as goal
@@ -14,6 +15,7 @@ invariant-pieces g l =
     record {
       comes : ComesOn answer (state start) l.fn.input l.input
           (source.left l.fn.source) (source.left l.source) (sink.held l.fn.sink) (sink.held l.sink) (state l.state) l.progress;
+      few : GaveFew source l.fn.source l.source (length l.piece);
       number : l.progress.number ≤ l.input.taken;
       at_most : l.input.taken ≤ MOST_BYTES + 1;
       source_faults : source.faults l.fn.source ≤ source.faults l.source;

@@ -14,8 +14,8 @@ returns-in_err-append-clause-stopped g c =
     let payload = c.as_slice.result.now in
     let fault = c.in_err-append.field-0.0 in
     let is = subst (λ p. p ≡ get_or records l.next p) (sym c.as_slice.ensures) c.index-records-next.is in
-    passed_on c.from_residual.result (StopsAppending disk.content disk.images c.append.new.disk c.args.payloads.now) fault
-    (stopped disk.content disk.images g.met.D.Disk.content_is_image l.disk c.append.new.disk l.log c.append.new.self c.args.payloads.now records l.next payload fault c.loop-next-test.true is l.invariant.stored
+    passed_on c.from_residual.result (StopsAppending disk c.append.new.disk c.args.payloads.now) fault
+    (stopped disk g.met.D.Disk.content_is_image l.disk c.append.new.disk l.log c.append.new.self c.args.payloads.now records l.next payload fault c.loop-next-test.true is l.invariant.stored
     c.in_err-append.ensures.ends (λ e. c.in_err-append.ensures.full.0 (ap (λ (x : LogFault). Err x) e)))
     c.from_residual.ensures.1
 
@@ -27,7 +27,7 @@ loop-next-preserved g c =
     let payload = c.as_slice.result.now in
     let is = subst (λ p. p ≡ get_or records l.next p) (sym c.as_slice.ensures) c.index-records-next.is in
     record {
-      stored = one_more disk.content disk.images l.disk c.append.new.disk l.log c.append.new.self c.args.payloads.now records l.next payload c.loop-next-test.true is l.invariant.stored
+      stored = one_more disk l.disk c.append.new.disk l.log c.append.new.self c.args.payloads.now records l.next payload c.loop-next-test.true is l.invariant.stored
           c.in_ok-append.ensures.ends (ap (λ (x : LogState). x.gate) c.in_ok-append.ensures.log);
       faults = omega (arith, l.invariant.faults, c.in_ok-append.ensures.faults);
       room = c.append.ensures.room ∙ l.invariant.room;

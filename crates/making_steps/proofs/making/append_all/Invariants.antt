@@ -7,7 +7,7 @@ abbrev pub invariant-loop-next : goal.invariant-loop-next
 invariant-loop-next g l =
     let disk = g.D.Disk in
     record {
-      stored : Stored disk.content disk.images l.disk l.log l.payloads (drop l.next l.records);
+      stored : Stored disk l.disk l.log l.payloads (drop l.next l.records);
       faults : disk.faults l.fn.disk ≤ disk.faults l.disk;
       room : disk.room l.disk ≡ disk.room l.fn.disk;
     }

@@ -1,7 +1,7 @@
 use Rattle.std.proofs.Common.{Ok, Err, length, sym, subst, arith}
 use Rattle.lens_io.specs.Content.{IsFull}
 use Rattle.line_stream.specs.Answered.{AnswersPieces}
-use Rattle.script_run.specs.Ending.{Ended}
+use Rattle.script_run.specs.Ends.{Ended}
 use Rattle.script_run.proofs.JournalEnds.{run_ends, run_stops}
 use Rattle.script_run.proofs.journal.answer_lines.Goals as goal
 use Rattle.lens_io.proofs.Increases.{sink_failed_since}
@@ -13,34 +13,34 @@ pub last_report-requires-clause-fits : goal.last_report-requires-clause-fits
 last_report-requires-clause-fits g c = omega (arith, c.in-Ok.ensures.number)
 
 pub returns-in-Ok-clause-ended : goal.returns-in-Ok-clause-ended
-returns-in-Ok-clause-ended g c = λ left front rest part program t head is first.
-    let a = g.A.ScriptState in
-    let room = length c.args.piece.now in
+returns-in-Ok-clause-ended g c = λ start front rest part program t head is first.
+    let script = g.A.ScriptState in
+    let sink = g.K.Sink in
     let input = c.args.input in
     let next = c.answer_pieces.new.input in
-    let source = g.S.Source.left c.args.source.now in
-    let source' = g.S.Source.left c.answer_pieces.new.source in
-    let held = g.K.Sink.held c.args.sink.now in
-    let held' = g.K.Sink.held c.answer_pieces.new.sink in
-    let end = a.state c.answer_pieces.new.state.state in
-    let p = subst (λ u. AnswersPieces a.answer u input next room source source' held held' end (Ok c.in-Ok.progress)) first c.in-Ok.ensures.answers in
-    run_ends a.accepted a.refusal_line a.start a.answer a.state_text a.in_step c.requires.in_step left source input front rest part t head program is next source' held held' (g.K.Sink.held c.give_report.new.sink) p.more end
-    c.in-Ok.progress c.last_report.result c.give_report.result p.consumes p.has_ended c.last_report.ensures.report c.give_report.ensures.gives
+    let now = c.args.source.now in
+    let now' = c.answer_pieces.new.source in
+    let k = c.args.sink.now in
+    let mid = c.answer_pieces.new.sink in
+    let end = script.state c.answer_pieces.new.state.state in
+    let p = subst (λ u. AnswersPieces script.answer u g.S.Source now now' input next (sink.held k) (sink.held mid) end (Ok c.in-Ok.progress)) first c.in-Ok.ensures.answers in
+    run_ends script c.requires.in_step g.S.Source sink start now now' input front rest part t head program is next k mid c.give_report.new.sink p.more end c.in-Ok.progress p.has_ended
+    c.last_report.result c.give_report.result p.consumes c.last_report.ensures.report c.give_report.ensures.gives
 
 pub returns-in-Err-clause-ended : goal.returns-in-Err-clause-ended
-returns-in-Err-clause-ended g c = λ left front rest part program t head is first.
-    let a = g.A.ScriptState in
-    let room = length c.args.piece.now in
+returns-in-Err-clause-ended g c = λ start front rest part program t head is first.
+    let script = g.A.ScriptState in
+    let sink = g.K.Sink in
     let input = c.args.input in
     let next = c.answer_pieces.new.input in
-    let source = g.S.Source.left c.args.source.now in
-    let source' = g.S.Source.left c.answer_pieces.new.source in
-    let held = g.K.Sink.held c.args.sink.now in
-    let held' = g.K.Sink.held c.answer_pieces.new.sink in
-    let end = a.state c.answer_pieces.new.state.state in
-    let p = subst (λ u. AnswersPieces a.answer u input next room source source' held held' end (Err c.in-Err.stopped)) first c.in-Err.ensures.answers in
-    subst (Ended a.accepted a.refusal_line a.start a.answer a.state_text a.in_step left source' held held') (sym c.of_stop.ensures)
-    (run_stops a.accepted a.refusal_line a.start a.answer a.state_text a.in_step c.requires.in_step left source input front rest part t head program is room c.requires.few source' held held' p.more c.in-Err.stopped p.consumes p.at_most
+    let now = c.args.source.now in
+    let now' = c.answer_pieces.new.source in
+    let k = c.args.sink.now in
+    let k' = c.answer_pieces.new.sink in
+    let end = script.state c.answer_pieces.new.state.state in
+    let p = subst (λ u. AnswersPieces script.answer u g.S.Source now now' input next (sink.held k) (sink.held k') end (Err c.in-Err.stopped)) first c.in-Err.ensures.answers in
+    subst (Ended script g.S.Source sink (start, k) (now', k')) (sym c.of_stop.ensures)
+    (run_stops script c.requires.in_step g.S.Source sink start now now' input front rest part t head program is (length c.args.piece.now) c.requires.few c.in-Err.ensures.few k k' p.more c.in-Err.stopped p.consumes p.at_most
     p.has_ended)
 
 pub returns-in-Ok-clause-sink_fault : goal.returns-in-Ok-clause-sink_fault

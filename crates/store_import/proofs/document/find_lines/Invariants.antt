@@ -6,7 +6,7 @@ use Rattle.store_import.proofs.document.find_lines.Given as goal
 -- the lines that were taken were added
 abbrev pub invariant-pieces : goal.invariant-pieces
 invariant-pieces g l = record {
-  finds : FindsOn (g.S.Source.left l.fn.source) (g.S.Source.left l.source) l.fn.input l.input l.found;
+  finds : FindsOn g.S.Source l.fn.source l.source l.fn.input l.input l.found;
   faults : g.S.Source.faults l.fn.source ≤ g.S.Source.faults l.source;
   at_most : l.input.taken ≤ MOST_BYTES + 1;
   piece : length l.piece ≡ length l.fn.piece;

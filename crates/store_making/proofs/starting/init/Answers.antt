@@ -1,54 +1,64 @@
 use Rattle.std.proofs.Common.{arith}
-use Rattle.making_steps.proofs.Commands.{complete, ends_behind, finds_store, unwritten_by}
-use Rattle.store_making.specs.Init.{Refuses, Begins}
-use Rattle.store_making.proofs.InitEnds.{accepts, kinds, starts}
-use Rattle.store_making.proofs.starting.init.Goals as goal
 use Rattle.lens_io.proofs.Increases.{increased_since}
+use Rattle.making_steps.proofs.Commands.{ends_behind, finds_store, unwritten_by}
+use Rattle.making_steps.proofs.CommandStatuses.{complete, other_line, refuses_at_once, refuses_nothing}
+use Rattle.making_steps.specs.declared.status.MakingStatus.TheVariants.{DiskFault}
+use Rattle.store_making.specs.Init.{init_command}
+use Rattle.store_making.proofs.InitEnds.{accepts, refuses, starts}
+use Rattle.store_making.proofs.starting.init.Goals as goal
 
 pub returns-in-Ok-eq0-clause-starts : goal.returns-in-Ok-eq0-clause-starts
 returns-in-Ok-eq0-clause-starts g c =
     let disk = g.D.Disk in
-    let held = g.K.Sink.held in
-    let left = g.S.Source.left in
+    let s = c.args.source.now in
+    let s' = c.init_empty.new.source in
+    let k = c.args.sink.now in
+    let k' = c.init_empty.new.sink in
     let d = c.args.disk.now in
     let d1 = c.len.new.self in
     let d' = c.init_empty.new.disk in
-    let u = unwritten_by disk.content disk.images d d1 c.len.ensures.content c.len.ensures.images in
-    let ends = ends_behind disk.content disk.images Refuses Begins (left c.args.source.now) (left c.init_empty.new.source) (held c.args.sink.now) (held c.init_empty.new.sink) d d1 d' c.init_empty.result u c.init_empty.ensures.ends in
-    starts disk.content disk.images (left c.args.source.now) (left c.init_empty.new.source) (held c.args.sink.now) (held c.init_empty.new.sink) d d' c.init_empty.result ends
+    let status = c.init_empty.result in
+    let ends = ends_behind g.S.Source g.K.Sink disk init_command s s' k k' d d1 d' status (unwritten_by disk d d1 c.len.ensures.content c.len.ensures.images) c.init_empty.ensures.ends in
+    starts g.S.Source g.K.Sink disk s s' k k' d d' status ends
 
 pub returns-in-Ok-eq0-clause-ends : goal.returns-in-Ok-eq0-clause-ends
 returns-in-Ok-eq0-clause-ends g c =
     let disk = g.D.Disk in
-    let held = g.K.Sink.held in
-    let left = g.S.Source.left in
     let d = c.args.disk.now in
     let d1 = c.len.new.self in
-    let d' = c.init_empty.new.disk in
-    let u = unwritten_by disk.content disk.images d d1 c.len.ensures.content c.len.ensures.images in
-    let ends = ends_behind disk.content disk.images Refuses Begins (left c.args.source.now) (left c.init_empty.new.source) (held c.args.sink.now) (held c.init_empty.new.sink) d d1 d' c.init_empty.result u c.init_empty.ensures.ends in
-    ends
+    ends_behind g.S.Source g.K.Sink disk init_command c.args.source.now c.init_empty.new.source c.args.sink.now c.init_empty.new.sink d d1 c.init_empty.new.disk c.init_empty.result
+    (unwritten_by disk d d1 c.len.ensures.content c.len.ensures.images) c.init_empty.ensures.ends
+
+pub returns-in-Ok-eq0-clause-at_once : goal.returns-in-Ok-eq0-clause-at_once
+returns-in-Ok-eq0-clause-at_once g c =
+    refuses_at_once g.S.Source g.K.Sink g.D.Disk init_command accepts refuses c.args.source.now c.init_empty.new.source c.args.sink.now c.init_empty.new.sink c.len.new.self c.init_empty.new.disk c.init_empty.result c.init_empty.ensures.ends
 
 pub returns-in-Ok-eq0-clause-complete : goal.returns-in-Ok-eq0-clause-complete
 returns-in-Ok-eq0-clause-complete g c =
     let disk = g.D.Disk in
-    let held = g.K.Sink.held in
-    let left = g.S.Source.left in
+    let s = c.args.source.now in
+    let s' = c.init_empty.new.source in
+    let k = c.args.sink.now in
+    let k' = c.init_empty.new.sink in
     let d = c.args.disk.now in
     let d1 = c.len.new.self in
     let d' = c.init_empty.new.disk in
-    let u = unwritten_by disk.content disk.images d d1 c.len.ensures.content c.len.ensures.images in
-    let ends = ends_behind disk.content disk.images Refuses Begins (left c.args.source.now) (left c.init_empty.new.source) (held c.args.sink.now) (held c.init_empty.new.sink) d d1 d' c.init_empty.result u c.init_empty.ensures.ends in
-    λ empty.
-    complete disk.content disk.images Refuses Begins kinds accepts (left c.args.source.now) (left c.init_empty.new.source) (held c.args.sink.now) (held c.init_empty.new.sink) d d' c.init_empty.result _ _ _ ends
-    c.init_empty.ensures.source_fault c.init_empty.ensures.sink_fault (λ e. increased_since (disk.faults d) (disk.faults d1) (disk.faults d') c.len.ensures.cause.later (c.init_empty.ensures.disk_fault e)) empty
+    let status = c.init_empty.result in
+    let ends = ends_behind g.S.Source g.K.Sink disk init_command s s' k k' d d1 d' status (unwritten_by disk d d1 c.len.ensures.content c.len.ensures.images) c.init_empty.ensures.ends in
+    complete g.S.Source g.K.Sink disk init_command accepts refuses s s' k k' d d' status ends c.init_empty.ensures.source_fault c.init_empty.ensures.sink_fault
+    (λ e. increased_since (disk.faults d) (disk.faults d1) (disk.faults d') c.len.ensures.cause.later (c.init_empty.ensures.disk_fault e))
 
 pub returns-in-Ok-clause-ends : goal.returns-in-Ok-clause-ends
 returns-in-Ok-clause-ends g c =
     let disk = g.D.Disk in
-    let held = g.K.Sink.held in
     let d = c.args.disk.now in
     let d1 = c.len.new.self in
-    let u = unwritten_by disk.content disk.images d d1 c.len.ensures.content c.len.ensures.images in
-    finds_store disk.content disk.images Refuses Begins (g.S.Source.left c.args.source.now) (held c.args.sink.now) (held c.give_line.new.sink) d d1 c.in-Ok.field-0 c.give_line.result c.in-Ok.ensures.count
-    (λ e. omega (arith, e, c.in-Ok.field-0-test)) u c.give_line.ensures.gives
+    finds_store g.S.Source g.K.Sink disk init_command c.args.source.now c.args.sink.now c.give_line.new.sink d d1 c.in-Ok.field-0 c.give_line.result c.in-Ok.ensures.count
+    (λ e. omega (arith, e, c.in-Ok.field-0-test)) (unwritten_by disk d d1 c.len.ensures.content c.len.ensures.images) c.give_line.ensures.gives
+
+pub returns-in-Ok-clause-at_once : goal.returns-in-Ok-clause-at_once
+returns-in-Ok-clause-at_once g c =
+    refuses_nothing g.S.Source c.args.source.now c.give_line.result (λ is. other_line g.K.Sink c.args.sink.now c.give_line.new.sink c.give_line.result c.give_line.ensures.gives is)
+
+pub returns-in-Err-clause-at_once : goal.returns-in-Err-clause-at_once
+returns-in-Err-clause-at_once g c = refuses_nothing g.S.Source c.args.source.now DiskFault (λ is. cc)

@@ -9,7 +9,6 @@ use Rattle.store_undo.proofs.undo_call.store_making.Goals as goal
 pub returns-in-Ok-clause-ends : goal.returns-in-Ok-clause-ends
 returns-in-Ok-clause-ends g c =
     let disk = g.D.Disk in
-    let held = g.K.Sink.held in
     let k = c.args.sink.now in
     let k' = c.pack_store.new.sink in
     let d = c.args.disk.now in
@@ -21,14 +20,13 @@ returns-in-Ok-clause-ends g c =
     let made = c.args.making.now.texts in
     inl (
       refl,
-      subst (λ (y : List ℕ). Adds held disk.content disk.images disk.moment disk.images_since disk.room k d l k' d' l' y (version ++ made.snapshot ∷ [])) c.as_slice-lines.ensures
-          (subst (λ (x : List ℕ). Adds held disk.content disk.images disk.moment disk.images_since disk.room k d l k' d' l' lines (version ++ x ∷ [])) c.as_slice-snapshot.ensures c.in-Ok.ensures.packed),
+      subst (λ (y : List ℕ). Adds g.K.Sink disk (k, d, l) (k', d', l') y (version ++ made.snapshot ∷ [])) c.as_slice-lines.ensures
+          (subst (λ (x : List ℕ). Adds g.K.Sink disk (k, d, l) (k', d', l') lines (version ++ x ∷ [])) c.as_slice-snapshot.ensures c.in-Ok.ensures.packed),
     )
 
 pub returns-in-Err-clause-ends : goal.returns-in-Err-clause-ends
 returns-in-Err-clause-ends g c =
     let disk = g.D.Disk in
-    let held = g.K.Sink.held in
     let k = c.args.sink.now in
     let k1 = c.pack_store.new.sink in
     let d = c.args.disk.now in
@@ -44,22 +42,21 @@ returns-in-Err-clause-ends g c =
       stop = stop;
       own = c.in-Err.ensures.own;
       stops =
-          subst (λ (y : List ℕ). Stops held disk.content disk.images disk.moment disk.images_since disk.room k d l k1 d' l' stop [] [] [] version ⊎ Stops held disk.content disk.images disk.moment disk.images_since disk.room k d l k1 d' l' stop [] y version (made.snapshot ∷ [])) c.as_slice-lines.ensures
-          (subst (λ (x : List ℕ). Stops held disk.content disk.images disk.moment disk.images_since disk.room k d l k1 d' l' stop [] [] [] version ⊎ Stops held disk.content disk.images disk.moment disk.images_since disk.room k d l k1 d' l' stop [] lines version (x ∷ [])) c.as_slice-snapshot.ensures c.in-Err.ensures.stopped);
+          subst (λ (y : List ℕ). Stops g.K.Sink disk (k, d, l) (k1, d', l') stop [] [] [] version ⊎ Stops g.K.Sink disk (k, d, l) (k1, d', l') stop [] y version (made.snapshot ∷ [])) c.as_slice-lines.ensures
+          (subst (λ (x : List ℕ). Stops g.K.Sink disk (k, d, l) (k1, d', l') stop [] [] [] version ⊎ Stops g.K.Sink disk (k, d, l) (k1, d', l') stop [] lines version (x ∷ [])) c.as_slice-snapshot.ensures c.in-Err.ensures.stopped);
       status_is = c.give_stop.ensures.gives;
     })
 
 pub returns-in-Err-clause-sink_fault : goal.returns-in-Err-clause-sink_fault
 returns-in-Err-clause-sink_fault g c =
     let disk = g.D.Disk in
-    let held = g.K.Sink.held in
-    λ e. caused_sink g.K.Sink.faults g.K.Sink.empty_takes g.K.Sink.room held disk.faults (Some c.in-Err.stop) c.args.sink.now c.pack_store.new.sink c.give_stop.new.sink c.args.disk.now c.pack_store.new.disk c.in-Err.ensures.counted
+    λ e. caused_sink g.K.Sink disk (Some c.in-Err.stop) c.args.sink.now c.pack_store.new.sink c.give_stop.new.sink c.args.disk.now c.pack_store.new.disk c.in-Err.ensures.counted
     (elim (c.give_stop.ensures.sink_fault e) [ inl s ↦ inl (ap (λ (x : Stop). Some x) s.0, s.1) | inr f ↦ inr f ])
 
 pub returns-in-Err-clause-disk_fault : goal.returns-in-Err-clause-disk_fault
 returns-in-Err-clause-disk_fault g c =
     let disk = g.D.Disk in
-    λ e. caused_disk g.K.Sink.faults g.K.Sink.empty_takes g.K.Sink.room g.K.Sink.held disk.faults c.in-Err.stop c.args.sink.now c.pack_store.new.sink c.args.disk.now c.pack_store.new.disk (c.give_stop.ensures.disk e) c.in-Err.ensures.counted
+    λ e. caused_disk g.K.Sink disk c.in-Err.stop c.args.sink.now c.pack_store.new.sink c.args.disk.now c.pack_store.new.disk (c.give_stop.ensures.disk e) c.in-Err.ensures.counted
 
 pub returns-in-Err-clause-no_source : goal.returns-in-Err-clause-no_source
 returns-in-Err-clause-no_source g c = λ e. subst IsOwnStop (c.give_stop.ensures.source e) c.in-Err.ensures.own

@@ -1,6 +1,6 @@
 use Rattle.std.proofs.Common.{inr, ℕ, List, Err, ap, subst, ◌∙◌, ◌≡◌, sym, Some}
 use Rattle.gate_log.specs.CallEnds.{NoBadRecord}
-use Rattle.gate_log.specs.LogOnDisk.{Stands}
+use Rattle.stored_run.specs.Effects.{StandsOn}
 use Rattle.gate_log.specs.declared.fault.LogFault.{LogFault}
 use Rattle.stored_run.proofs.ApplyCalls.{at_some}
 use Rattle.stored_run.proofs.Openings.{unwritten_then, same_room, reading_fails}
@@ -15,9 +15,8 @@ use Rattle.lens_io.proofs.Increases.{increased_since}
 pub returns-in-Ok-clause-ends : goal.returns-in-Ok-clause-ends
 returns-in-Ok-clause-ends g c =
     let disk = g.D.Disk in
-    let held = g.K.Sink.held in
-    let hold = images_held disk.content disk.images g.met.D.Disk.content_is_image in
-    let reads = reads_held disk.content disk.images in
+    let hold = images_held disk g.met.D.Disk.content_is_image in
+    let reads = reads_held disk in
     let k = c.args.sink.now in
     let k' = c.undo_payloads.new.sink in
     let d = c.args.disk.now in
@@ -29,16 +28,15 @@ returns-in-Ok-clause-ends g c =
     let status = c.undo_payloads.result in
     λ before bytes u told st h.
     let same : read ≡ before = at_some (disk.content d) bytes (read ≡ before) told (c.in-Ok.ensures.payloads before st) in
-    let st1 = subst (λ (x : List (List ℕ)). Stands (disk.content d1) (disk.images d1) l x) (sym same) (c.in-Ok.ensures.stands before st) in
+    let st1 = subst (λ (x : List (List ℕ)). StandsOn disk d1 l x) (sym same) (c.in-Ok.ensures.stands before st) in
     let h1 = subst (λ (x : List (List ℕ)). undoing c.args.count x ≡ Some u) (sym same) h in
-    ends_behind held disk.content disk.images disk.moment disk.images_since disk.room hold reads k k' d1 d' before u d status
+    ends_behind g.K.Sink disk hold reads k k' d1 d' before u d status
     reading.same_content (λ x now. (reading.same_images x).1 now) reading.crash reading.same_room
-    (subst (λ (x : List (List ℕ)). UndoEnds held disk.content disk.images disk.moment disk.images_since disk.room k d1 k' d' x u status) same (c.undo_payloads.ensures.ends u st1 h1))
+    (subst (λ (x : List (List ℕ)). UndoEnds g.K.Sink disk (k, d1) (k', d') x u status) same (c.undo_payloads.ensures.ends u st1 h1))
 
 pub returns-in-Ok-clause-refused : goal.returns-in-Ok-clause-refused
 returns-in-Ok-clause-refused g c =
     let disk = g.D.Disk in
-    let held = g.K.Sink.held in
     let d = c.args.disk.now in
     let d1 = c.payloads.new.disk in
     let d' = c.undo_payloads.new.disk in
@@ -47,8 +45,8 @@ returns-in-Ok-clause-refused g c =
     λ before bytes refusal told st q.
     let same : read ≡ before = at_some (disk.content d) bytes (read ≡ before) told (c.in-Ok.ensures.payloads before st) in
     let e = c.undo_payloads.ensures.refused refusal (ap (undo_refusal c.args.count) same ∙ q) in (
-      unwritten_then disk.content disk.images d d1 d' reading.same_content (λ x now. (reading.same_images x).1 now) e.0,
-      same_room (disk.room d1) (disk.room d) (held c.args.sink.now) (held c.undo_payloads.new.sink) refusal c.undo_payloads.result reading.same_room e.1,
+      unwritten_then disk d d1 d' reading.same_content (λ x now. (reading.same_images x).1 now) e.0,
+      same_room g.K.Sink disk c.args.sink.now c.undo_payloads.new.sink d d' c.undo_payloads.result d1 refusal reading.same_room e.1,
     )
 
 pub returns-in-Ok-clause-disk_fault : goal.returns-in-Ok-clause-disk_fault
@@ -59,14 +57,13 @@ returns-in-Ok-clause-disk_fault g c =
 pub returns-in-Err-clause-ends : goal.returns-in-Err-clause-ends
 returns-in-Err-clause-ends g c =
     let disk = g.D.Disk in
-    let held = g.K.Sink.held in
-    let hold = images_held disk.content disk.images g.met.D.Disk.content_is_image in
+    let hold = images_held disk g.met.D.Disk.content_is_image in
     let d = c.args.disk.now in
     let d1 = c.payloads.new.disk in
     let l = c.args.log.now in
     let reading = c.in-Err.ensures.reads in
     λ before bytes u told st h.
-    let fails = reading_fails (disk.room d) (held c.args.sink.now) (held c.refuse_log.new.sink) c.refuse_log.result c.in-Err.fault c.payloads.result c.in-Err.is
+    let fails = reading_fails g.K.Sink disk c.args.sink.now c.refuse_log.new.sink d c.payloads.new.disk c.refuse_log.result c.in-Err.fault c.payloads.result c.in-Err.is
     (at_some (disk.content d) bytes (NoBadRecord c.payloads.result) told c.payloads.ensures.never_bad) c.in-Err.ensures.possible (λ e. c.in-Err.ensures.sure (ap (λ (x : LogFault). Err x) e)) c.refuse_log.ensures.ends in
     inr (record {
       opens = record { unwritten = record { same = reading.same_content; only = λ x now. (reading.same_images x).1 now }; moments = reading.crash; same_room = reading.same_room };
@@ -77,18 +74,17 @@ returns-in-Err-clause-ends g c =
 pub returns-in-Err-clause-refused : goal.returns-in-Err-clause-refused
 returns-in-Err-clause-refused g c =
     let disk = g.D.Disk in
-    let held = g.K.Sink.held in
     let d = c.args.disk.now in
     let reading = c.in-Err.ensures.reads in
     λ before bytes refusal told st q. (
       record { same = reading.same_content; only = λ x now. (reading.same_images x).1 now },
-      inr (reading_fails (disk.room d) (held c.args.sink.now) (held c.refuse_log.new.sink) c.refuse_log.result c.in-Err.fault c.payloads.result c.in-Err.is
+      inr (reading_fails g.K.Sink disk c.args.sink.now c.refuse_log.new.sink d c.payloads.new.disk c.refuse_log.result c.in-Err.fault c.payloads.result c.in-Err.is
           (at_some (disk.content d) bytes (NoBadRecord c.payloads.result) told c.payloads.ensures.never_bad) c.in-Err.ensures.possible (λ e. c.in-Err.ensures.sure (ap (λ (x : LogFault). Err x) e)) c.refuse_log.ensures.ends),
     )
 
 pub returns-in-Err-clause-disk_fault : goal.returns-in-Err-clause-disk_fault
 returns-in-Err-clause-disk_fault g c =
-    λ e. c.in-Err.ensures.cause (ap (λ (x : LogFault). Err x) (at_log_disk (g.K.Sink.held c.args.sink.now) (g.K.Sink.held c.refuse_log.new.sink) c.refuse_log.result c.in-Err.fault c.refuse_log.ensures.ends e))
+    λ e. c.in-Err.ensures.cause (ap (λ (x : LogFault). Err x) (at_log_disk g.K.Sink c.args.sink.now c.refuse_log.new.sink c.refuse_log.result c.in-Err.fault c.refuse_log.ensures.ends e))
 
 pub returns-in-Err-clause-no_source : goal.returns-in-Err-clause-no_source
-returns-in-Err-clause-no_source g c = λ e. at_log_sourceless (g.K.Sink.held c.args.sink.now) (g.K.Sink.held c.refuse_log.new.sink) c.refuse_log.result c.in-Err.fault c.refuse_log.ensures.ends e
+returns-in-Err-clause-no_source g c = λ e. at_log_sourceless g.K.Sink c.args.sink.now c.refuse_log.new.sink c.refuse_log.result c.in-Err.fault c.refuse_log.ensures.ends e

@@ -15,9 +15,7 @@ use Rattle.store_undo.proofs.undo_call.undo_payloads.Goals as goal
 pub returns-in-Ok-clause-ends : goal.returns-in-Ok-clause-ends
 returns-in-Ok-clause-ends g c =
     let disk = g.D.Disk in
-    let held = g.K.Sink.held in
     let only = g.met.D.Disk.only_now in
-    let hold = images_held disk.content disk.images g.met.D.Disk.content_is_image in
     let k = c.args.sink.now in
     let k' = c.store_making.new.sink in
     let d = c.args.disk.now in
@@ -30,18 +28,18 @@ returns-in-Ok-clause-ends g c =
     let status = c.store_making.result in
     λ u st h.
     let same = same_undoing (undoing c.args.count before) made.u u made.is h in
-    subst (λ (x : Undoing). UndoEnds held disk.content disk.images disk.moment disk.images_since disk.room k d k' d' before x status) same
+    subst (λ (x : Undoing). UndoEnds g.K.Sink disk (k, d) (k', d') before x status) same
     (inl (record {
       d1 = d;
       log = l;
       log' = l';
       stands = st;
-      opens = opening_none disk.content disk.images disk.moment disk.images_since disk.room only d;
+      opens = opening_none disk only d;
       takes_back = made.takes_back;
       ends =
-          subst (λ (y : List ℕ). StoreEnds held disk.content disk.images disk.moment disk.images_since disk.room k d l k' d' l' y (option_to_list (version_due made.u.now.version)) (snapshot_text made.u) status) made.lines
-          (subst (λ (v : Option (List ℕ)). StoreEnds held disk.content disk.images disk.moment disk.images_since disk.room k d l k' d' l' making.texts.lines (option_to_list v) (snapshot_text made.u) status) made.version
-          (subst (λ (x : List ℕ). StoreEnds held disk.content disk.images disk.moment disk.images_since disk.room k d l k' d' l' making.texts.lines (option_to_list making.version) x status) made.snapshot
+          subst (λ (y : List ℕ). StoreEnds g.K.Sink disk (k, d, l) (k', d', l') y (option_to_list (version_due made.u.now.version)) (snapshot_text made.u) status) made.lines
+          (subst (λ (v : Option (List ℕ)). StoreEnds g.K.Sink disk (k, d, l) (k', d', l') making.texts.lines (option_to_list v) (snapshot_text made.u) status) made.version
+          (subst (λ (x : List ℕ). StoreEnds g.K.Sink disk (k, d, l) (k', d', l') making.texts.lines (option_to_list making.version) x status) made.snapshot
           c.store_making.ensures.ends));
     }))
 
@@ -54,10 +52,9 @@ returns-in-Err-Refused-clause-ends g c = λ u st h. absurd (never_refused c.args
 pub returns-in-Err-Refused-clause-refused : goal.returns-in-Err-Refused-clause-refused
 returns-in-Err-Refused-clause-refused g c =
     let disk = g.D.Disk in
-    let held = g.K.Sink.held in
     λ refusal q. (
-      unwritten_none disk.content disk.images c.args.disk.now,
-      same_refusal (disk.room c.args.disk.now) (held c.args.sink.now) (held c.refuse.new.sink) c.refuse.result c.in-Err-Refused.refusal refusal (undo_refusal c.args.count c.args.payloads)
+      unwritten_none disk c.args.disk.now,
+      same_refusal g.K.Sink disk c.args.sink.now c.refuse.new.sink c.args.disk.now c.args.disk.now c.refuse.result c.in-Err-Refused.refusal refusal (undo_refusal c.args.count c.args.payloads)
           (subst (IsMakingFault (undo_refusal c.args.count c.args.payloads)) c.in-Err-Refused.field-0-is c.in-Err-Refused.ensures) q c.refuse.ensures.refuses,
     )
 
@@ -66,13 +63,13 @@ returns-in-Err-NoMemory-clause-ends g c =
     let disk = g.D.Disk in
     let held = g.K.Sink.held in
     let only = g.met.D.Disk.only_now in
-    let hold = images_held disk.content disk.images g.met.D.Disk.content_is_image in
+    let hold = images_held disk g.met.D.Disk.content_is_image in
     let d = c.args.disk.now in
     let l = c.args.log.now in
     let before = c.args.payloads in
     λ u st h.
     inr (record {
-      opens = opening_none disk.content disk.images disk.moment disk.images_since disk.room only d;
+      opens = opening_none disk only d;
       holds = λ x now. hold l d before x st now;
       fails = ((inr refl, Appends-nil (held c.args.sink.now)), λ e. cc);
     })
@@ -80,7 +77,7 @@ returns-in-Err-NoMemory-clause-ends g c =
 pub returns-in-Err-NoMemory-clause-refused : goal.returns-in-Err-NoMemory-clause-refused
 returns-in-Err-NoMemory-clause-refused g c =
     let disk = g.D.Disk in
-    λ refusal q. (unwritten_none disk.content disk.images c.args.disk.now, inr ((inr refl, Appends-nil (g.K.Sink.held c.args.sink.now)), λ e. cc))
+    λ refusal q. (unwritten_none disk c.args.disk.now, inr ((inr refl, Appends-nil (g.K.Sink.held c.args.sink.now)), λ e. cc))
 
 pub returns-in-Err-Refused-clause-no_source : goal.returns-in-Err-Refused-clause-no_source
-returns-in-Err-Refused-clause-no_source g c = λ e. refuses_sourceless (g.K.Sink.held c.args.sink.now) (g.K.Sink.held c.refuse.new.sink) c.in-Err-Refused.refusal c.refuse.result c.refuse.ensures.refuses e
+returns-in-Err-Refused-clause-no_source g c = λ e. refuses_sourceless g.K.Sink c.args.sink.now c.refuse.new.sink c.in-Err-Refused.refusal c.refuse.result c.refuse.ensures.refuses e

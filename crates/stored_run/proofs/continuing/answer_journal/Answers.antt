@@ -13,24 +13,24 @@ use Rattle.journal_input.proofs.Outcomes.{if_ok}
 
 pub returns-in_default-clause-stopped : goal.returns-in_default-clause-stopped
 returns-in_default-clause-stopped g c =
+    let source = g.S.Source in
     let disk = g.D.Disk in
-    let held = g.K.Sink.held in
+    let sink = g.K.Sink in
     let only = g.met.D.Disk.only_now in
-    let hold = images_held disk.content disk.images g.met.D.Disk.content_is_image in
-    let answer = g.A.StoredSession.answer in
-    let is_step = g.A.StoredSession.is_step in
-    let state = g.A.StoredSession.state in
-    stops_at_once held disk.content disk.images disk.moment disk.images_since disk.room answer is_step only hold (g.S.Source.left c.args.source.now) c.args.sink.now c.args.disk.now c.args.log.now (state c.args.session.now)
+    let hold = images_held disk g.met.D.Disk.content_is_image in
+    let session = g.A.StoredSession in
+    let state = session.state in
+    stops_at_once source sink disk session only hold c.args.source.now c.args.sink.now c.args.disk.now c.args.log.now (state c.args.session.now)
 
 pub returns-clause-ended : goal.returns-clause-ended
 returns-clause-ended g c =
+    let source = g.S.Source in
     let disk = g.D.Disk in
-    let held = g.K.Sink.held in
+    let sink = g.K.Sink in
     let only = g.met.D.Disk.only_now in
-    let hold = images_held disk.content disk.images g.met.D.Disk.content_is_image in
-    let answer = g.A.StoredSession.answer in
-    let is_step = g.A.StoredSession.is_step in
-    let state = g.A.StoredSession.state in
+    let hold = images_held disk g.met.D.Disk.content_is_image in
+    let session = g.A.StoredSession in
+    let state = session.state in
     let k = c.args.sink.now in
     let d = c.args.disk.now in
     let l = c.args.log.now in
@@ -45,23 +45,23 @@ returns-clause-ended g c =
     let d'' = c.answer_last.new.disk in
     let l'' = c.answer_last.new.log in
     let t'' = state c.answer_last.new.session in
-    let left = g.S.Source.left c.args.source.now in
-    let left' = g.S.Source.left c.answer_pieces.new.source in
+    let i = c.args.source.now in
+    let i' = c.answer_pieces.new.source in
     let input = c.answer_pieces.new.input in
     let lines = option_to_list (last_line input.lines.begun) in
-    if_ok c.answer_last.result (Answers held disk.content disk.images disk.moment disk.images_since disk.room answer is_step k' d' l' k'' d'' l'' t' p' lines t'') (EndsJournal held disk.content disk.images disk.moment disk.images_since disk.room answer is_step left left' k d l k'' d'' l'' t p t'')
-    (λ p'' a. ends_journal held disk.content disk.images disk.moment disk.images_since disk.room answer is_step only hold left left' input k k' d d' l l' t t' p p' c.in_ok-progress.ensures.ended k'' d'' l'' t'' p'' a)
+    if_ok c.answer_last.result (Answers sink disk session (k', d', l') (k'', d'', l'') t' p' lines t'') (EndsJournal source sink disk session (i, k, d, l) (i', k'', d'', l'') t p t'')
+    (λ p'' a. ends_journal source sink disk session only hold i i' input k k' d d' l l' t t' p p' c.in_ok-progress.ensures.ended k'' d'' l'' t'' p'' a)
     c.answer_last.ensures.answered
 
 pub returns-clause-stopped : goal.returns-clause-stopped
 returns-clause-stopped g c =
+    let source = g.S.Source in
     let disk = g.D.Disk in
-    let held = g.K.Sink.held in
+    let sink = g.K.Sink in
     let only = g.met.D.Disk.only_now in
-    let hold = images_held disk.content disk.images g.met.D.Disk.content_is_image in
-    let answer = g.A.StoredSession.answer in
-    let is_step = g.A.StoredSession.is_step in
-    let state = g.A.StoredSession.state in
+    let hold = images_held disk g.met.D.Disk.content_is_image in
+    let session = g.A.StoredSession in
+    let state = session.state in
     let k = c.args.sink.now in
     let d = c.args.disk.now in
     let l = c.args.log.now in
@@ -76,10 +76,10 @@ returns-clause-stopped g c =
     let d'' = c.answer_last.new.disk in
     let l'' = c.answer_last.new.log in
     let t'' = state c.answer_last.new.session in
-    let left = g.S.Source.left c.args.source.now in
-    let left' = g.S.Source.left c.answer_pieces.new.source in
+    let i = c.args.source.now in
+    let i' = c.answer_pieces.new.source in
     let input = c.answer_pieces.new.input in
     let lines = option_to_list (last_line input.lines.begun) in
-    if_err2 c.answer_last.result IsOwnStop (StopsAmong held disk.content disk.images disk.moment disk.images_since disk.room answer is_step k' d' l' k'' d'' l'' t' p'.number lines) (StopsJournal held disk.content disk.images disk.moment disk.images_since disk.room answer is_step left left' k d l k'' d'' l'' t 0)
-    (λ stop own s. stops_last held disk.content disk.images disk.moment disk.images_since disk.room answer is_step only hold left left' input k k' d d' l l' t t' p p' c.in_ok-progress.ensures.ended k'' d'' l'' stop own s)
+    if_err2 c.answer_last.result IsOwnStop (StopsAmong sink disk session (k', d', l') (k'', d'', l'') t' p'.number lines) (StopsJournal source sink disk session (i, k, d, l) (i', k'', d'', l'') t 0)
+    (λ stop own s. stops_last source sink disk session only hold i i' input k k' d d' l l' t t' p p' c.in_ok-progress.ensures.ended k'' d'' l'' stop own s)
     c.answer_last.ensures.own c.answer_last.ensures.stopped

@@ -11,23 +11,21 @@ use Rattle.texts.proofs.Outcomes.{on_ok_of_three}
 pub returns-in_default-clause-stopped : goal.returns-in_default-clause-stopped
 returns-in_default-clause-stopped g c =
     let disk = g.D.Disk in
-    let held = g.K.Sink.held in
+    let sink = g.K.Sink in
     let only = g.met.D.Disk.only_now in
-    let hold = images_held disk.content disk.images g.met.D.Disk.content_is_image in
-    let answer = g.A.StoredSession.answer in
-    let is_step = g.A.StoredSession.is_step in
-    let state = g.A.StoredSession.state in
-    stops_before held disk.content disk.images disk.moment disk.images_since disk.room answer is_step only hold c.args.sink.now c.args.disk.now c.args.log.now (state c.args.session.now) c.args.progress.now.number (c.args.line.now ∷ [])
+    let hold = images_held disk g.met.D.Disk.content_is_image in
+    let session = g.A.StoredSession in
+    let state = session.state in
+    stops_before sink disk session only hold c.args.sink.now c.args.disk.now c.args.log.now (state c.args.session.now) c.args.progress.now.number (c.args.line.now ∷ [])
 
 pub returns-clause-answered : goal.returns-clause-answered
 returns-clause-answered g c =
     let disk = g.D.Disk in
-    let held = g.K.Sink.held in
+    let sink = g.K.Sink in
     let only = g.met.D.Disk.only_now in
-    let hold = images_held disk.content disk.images g.met.D.Disk.content_is_image in
-    let answer = g.A.StoredSession.answer in
-    let is_step = g.A.StoredSession.is_step in
-    let state = g.A.StoredSession.state in
+    let hold = images_held disk g.met.D.Disk.content_is_image in
+    let session = g.A.StoredSession in
+    let state = session.state in
     let a = c.in-Ok.answer in
     let k = c.args.sink.now in
     let d = c.args.disk.now in
@@ -40,20 +38,19 @@ returns-clause-answered g c =
     let p = c.args.progress.now in
     let p' = c.finish_item.new.progress in
     let line = c.args.line.now in
-    on_ok_of_three c.finish_item.result (Adds held disk.content disk.images disk.moment disk.images_since disk.room k d l k' d' l' a.line (option_to_list a.payload)) (p'.number ≡ p.number + 1) (p'.refused ≡ (p.refused || not (is_some a.payload)))
-    (Answers held disk.content disk.images disk.moment disk.images_since disk.room answer is_step k d l k' d' l' t p (line ∷ []) t' p')
-    (λ adds number refused. answers_one held disk.content disk.images disk.moment disk.images_since disk.room answer is_step only hold k k' d d' l l' t t' p p' line a c.requires.item c.in-Ok.ensures.answer c.in-Ok.ensures.step c.in-Ok.ensures.is_answer number refused adds)
+    on_ok_of_three c.finish_item.result (Adds sink disk (k, d, l) (k', d', l') a.line (option_to_list a.payload)) (p'.number ≡ p.number + 1) (p'.refused ≡ (p.refused || not (is_some a.payload)))
+    (Answers sink disk session (k, d, l) (k', d', l') t p (line ∷ []) t' p')
+    (λ adds number refused. answers_one sink disk session only hold k k' d d' l l' t t' p p' line a c.requires.item c.in-Ok.ensures.answer c.in-Ok.ensures.step c.in-Ok.ensures.is_answer number refused adds)
     c.finish_item.ensures.added c.finish_item.ensures.number c.finish_item.ensures.refused
 
 pub returns-clause-stopped : goal.returns-clause-stopped
 returns-clause-stopped g c =
     let disk = g.D.Disk in
-    let held = g.K.Sink.held in
+    let sink = g.K.Sink in
     let only = g.met.D.Disk.only_now in
-    let hold = images_held disk.content disk.images g.met.D.Disk.content_is_image in
-    let answer = g.A.StoredSession.answer in
-    let is_step = g.A.StoredSession.is_step in
-    let state = g.A.StoredSession.state in
+    let hold = images_held disk g.met.D.Disk.content_is_image in
+    let session = g.A.StoredSession in
+    let state = session.state in
     let a = c.in-Ok.answer in
     let k = c.args.sink.now in
     let d = c.args.disk.now in
@@ -65,6 +62,6 @@ returns-clause-stopped g c =
     let t' = state c.answer.new.self in
     let n = c.args.progress.now.number in
     let line = c.args.line.now in
-    if_err c.finish_item.result (λ stop. Stops held disk.content disk.images disk.moment disk.images_since disk.room k d l k' d' l' stop [] a.line [] (option_to_list a.payload)) (StopsAmong held disk.content disk.images disk.moment disk.images_since disk.room answer is_step k d l k' d' l' t n (line ∷ []))
-    (λ stop stops. stops_at held disk.content disk.images disk.moment disk.images_since disk.room answer is_step only hold k k' d d' l l' t t' n line a stop c.requires.item c.in-Ok.ensures.answer c.in-Ok.ensures.step c.in-Ok.ensures.is_answer stops)
+    if_err c.finish_item.result (λ stop. Stops sink disk (k, d, l) (k', d', l') stop [] a.line [] (option_to_list a.payload)) (StopsAmong sink disk session (k, d, l) (k', d', l') t n (line ∷ []))
+    (λ stop stops. stops_at sink disk session only hold k k' d d' l l' t t' n line a stop c.requires.item c.in-Ok.ensures.answer c.in-Ok.ensures.step c.in-Ok.ensures.is_answer stops)
     c.finish_item.ensures.stopped

@@ -6,10 +6,9 @@ use Rattle.stored_run.proofs.journal.answer_line.Goals as goal
 pub returns-then-is_blank-clause-answered : goal.returns-then-is_blank-clause-answered
 returns-then-is_blank-clause-answered g c =
     let disk = g.D.Disk in
-    let held = g.K.Sink.held in
+    let sink = g.K.Sink in
     let only = g.met.D.Disk.only_now in
-    let hold = images_held disk.content disk.images g.met.D.Disk.content_is_image in
-    let answer = g.A.StoredSession.answer in
-    let is_step = g.A.StoredSession.is_step in
-    let state = g.A.StoredSession.state in
-    answers_blank held disk.content disk.images disk.moment disk.images_since disk.room answer is_step only hold c.args.sink.now c.args.disk.now c.args.log.now (state c.args.session.now) c.args.progress.now c.args.line.now (sym c.is_blank.ensures ∙ c.if-is_blank.true)
+    let hold = images_held disk g.met.D.Disk.content_is_image in
+    let session = g.A.StoredSession in
+    let state = session.state in
+    answers_blank sink disk session only hold c.args.sink.now c.args.disk.now c.args.log.now (state c.args.session.now) c.args.progress.now c.args.line.now (sym c.is_blank.ensures ∙ c.if-is_blank.true)

@@ -12,15 +12,14 @@ use Rattle.stored_run.proofs.journal.answer_lines.Goals as goal
 pub lines-init : goal.lines-init
 lines-init g c =
     let disk = g.D.Disk in
-    let held = g.K.Sink.held in
+    let sink = g.K.Sink in
     let only = g.met.D.Disk.only_now in
-    let hold = images_held disk.content disk.images g.met.D.Disk.content_is_image in
-    let answer = g.A.StoredSession.answer in
-    let is_step = g.A.StoredSession.is_step in
-    let state = g.A.StoredSession.state in
+    let hold = images_held disk g.met.D.Disk.content_is_image in
+    let session = g.A.StoredSession in
+    let state = session.state in
     record {
-      answers = ([], refl, answers_none held disk.content disk.images disk.moment disk.images_since disk.room answer is_step only hold c.args.sink.now c.args.disk.now c.args.log.now (state c.args.session.now) c.args.progress.now);
-      counted = counted_none g.K.Sink.faults g.K.Sink.empty_takes g.K.Sink.room held disk.faults c.args.sink.now c.args.disk.now;
+      answers = ([], refl, answers_none sink disk session only hold c.args.sink.now c.args.disk.now c.args.log.now (state c.args.session.now) c.args.progress.now);
+      counted = counted_none sink disk c.args.sink.now c.args.disk.now;
       begun = refl;
       count = refl;
       number = omega arith;
@@ -29,25 +28,23 @@ lines-init g c =
 pub returns-in_default-clause-stopped : goal.returns-in_default-clause-stopped
 returns-in_default-clause-stopped g c =
     let disk = g.D.Disk in
-    let held = g.K.Sink.held in
+    let sink = g.K.Sink in
     let only = g.met.D.Disk.only_now in
-    let hold = images_held disk.content disk.images g.met.D.Disk.content_is_image in
-    let answer = g.A.StoredSession.answer in
-    let is_step = g.A.StoredSession.is_step in
-    let state = g.A.StoredSession.state in
+    let hold = images_held disk g.met.D.Disk.content_is_image in
+    let session = g.A.StoredSession in
+    let state = session.state in
     let h = c.lines.invariant.answers in
-    subst (λ (x : List Line). StopsAmong held disk.content disk.images disk.moment disk.images_since disk.room answer is_step c.args.sink.now c.args.disk.now c.args.log.now c.lines.sink c.lines.disk c.lines.log (state c.args.session.now) c.args.progress.now.number x NoMemory) (sym h.1)
-    (stops_out held disk.content disk.images disk.moment disk.images_since disk.room answer is_step only hold c.args.sink.now c.lines.sink c.args.disk.now c.lines.disk c.args.log.now c.lines.log (state c.args.session.now) (state c.lines.session) c.args.progress.now c.lines.progress h.0 c.lines.input.lines.ended h.2)
+    subst (λ (x : List Line). StopsAmong sink disk session (c.args.sink.now, c.args.disk.now, c.args.log.now) (c.lines.sink, c.lines.disk, c.lines.log) (state c.args.session.now) c.args.progress.now.number x NoMemory) (sym h.1)
+    (stops_out sink disk session only hold c.args.sink.now c.lines.sink c.args.disk.now c.lines.disk c.args.log.now c.lines.log (state c.args.session.now) (state c.lines.session) c.args.progress.now c.lines.progress h.0 c.lines.input.lines.ended h.2)
 
 pub returns-in_err-answer_line-clause-stopped : goal.returns-in_err-answer_line-clause-stopped
 returns-in_err-answer_line-clause-stopped g c =
     let disk = g.D.Disk in
-    let held = g.K.Sink.held in
+    let sink = g.K.Sink in
     let only = g.met.D.Disk.only_now in
-    let hold = images_held disk.content disk.images g.met.D.Disk.content_is_image in
-    let answer = g.A.StoredSession.answer in
-    let is_step = g.A.StoredSession.is_step in
-    let state = g.A.StoredSession.state in
+    let hold = images_held disk g.met.D.Disk.content_is_image in
+    let session = g.A.StoredSession in
+    let state = session.state in
     let h = c.lines.invariant.answers in
     let line = c.in-Some.line in
     let new = c.take_line.new.self in
@@ -61,21 +58,20 @@ returns-in_err-answer_line-clause-stopped g c =
     let l'' = c.answer_line.new.log in
     let t = state c.args.session.now in
     let p = c.args.progress.now in
-    passed_on c.from_residual.result (StopsAmong held disk.content disk.images disk.moment disk.images_since disk.room answer is_step k d l k'' d'' l'' t p.number c.args.input.now.lines.ended) stop
-    (subst (λ (x : List Line). StopsAmong held disk.content disk.images disk.moment disk.images_since disk.room answer is_step k d l k'' d'' l'' t p.number x stop) (sym (h.1 ∙ ap (λ (x : List Line). h.0 ++ x) taken.0))
-    (stops_behind held disk.content disk.images disk.moment disk.images_since disk.room answer is_step only hold k c.lines.sink k'' d c.lines.disk d'' l c.lines.log l'' t (state c.lines.session) p c.lines.progress h.0 (line ∷ new.lines.ended) stop h.2
-    (stops_longer held disk.content disk.images disk.moment disk.images_since disk.room answer is_step only hold c.lines.sink k'' c.lines.disk d'' c.lines.log l'' (state c.lines.session) c.lines.progress.number (line ∷ []) new.lines.ended stop c.in_err-answer_line.ensures.stopped)))
+    passed_on c.from_residual.result (StopsAmong sink disk session (k, d, l) (k'', d'', l'') t p.number c.args.input.now.lines.ended) stop
+    (subst (λ (x : List Line). StopsAmong sink disk session (k, d, l) (k'', d'', l'') t p.number x stop) (sym (h.1 ∙ ap (λ (x : List Line). h.0 ++ x) taken.0))
+    (stops_behind sink disk session only hold k c.lines.sink k'' d c.lines.disk d'' l c.lines.log l'' t (state c.lines.session) p c.lines.progress h.0 (line ∷ new.lines.ended) stop h.2
+    (stops_longer sink disk session only hold c.lines.sink k'' c.lines.disk d'' c.lines.log l'' (state c.lines.session) c.lines.progress.number (line ∷ []) new.lines.ended stop c.in_err-answer_line.ensures.stopped)))
     c.from_residual.ensures.1
 
 pub lines-preserved-in_ok-answer_line : goal.lines-preserved-in_ok-answer_line
 lines-preserved-in_ok-answer_line g c =
     let disk = g.D.Disk in
-    let held = g.K.Sink.held in
+    let sink = g.K.Sink in
     let only = g.met.D.Disk.only_now in
-    let hold = images_held disk.content disk.images g.met.D.Disk.content_is_image in
-    let answer = g.A.StoredSession.answer in
-    let is_step = g.A.StoredSession.is_step in
-    let state = g.A.StoredSession.state in
+    let hold = images_held disk g.met.D.Disk.content_is_image in
+    let session = g.A.StoredSession in
+    let state = session.state in
     let h = c.lines.invariant.answers in
     let line = c.in-Some.line in
     let new = c.take_line.new.self in
@@ -84,10 +80,10 @@ lines-preserved-in_ok-answer_line g c =
       answers = (
         h.0 ++ line ∷ [],
         h.1 ∙ ap (λ (l : List Line). h.0 ++ l) taken.0 ∙ sym (append_assoc h.0 (line ∷ []) new.lines.ended),
-        answers_then held disk.content disk.images disk.moment disk.images_since disk.room answer is_step only hold c.args.sink.now c.lines.sink c.answer_line.new.sink c.args.disk.now c.lines.disk c.answer_line.new.disk c.args.log.now c.lines.log c.answer_line.new.log
+        answers_then sink disk session only hold c.args.sink.now c.lines.sink c.answer_line.new.sink c.args.disk.now c.lines.disk c.answer_line.new.disk c.args.log.now c.lines.log c.answer_line.new.log
             (state c.args.session.now) (state c.lines.session) (state c.answer_line.new.session) c.args.progress.now c.lines.progress c.answer_line.new.progress h.0 (line ∷ []) h.2 c.in_ok-answer_line.ensures.answered,
       );
-      counted = counted_then g.K.Sink.faults g.K.Sink.empty_takes g.K.Sink.room held disk.faults c.args.sink.now c.lines.sink c.answer_line.new.sink c.args.disk.now c.lines.disk c.answer_line.new.disk None c.lines.invariant.counted c.in_ok-answer_line.ensures.counted;
+      counted = counted_then sink disk c.args.sink.now c.lines.sink c.answer_line.new.sink c.args.disk.now c.lines.disk c.answer_line.new.disk None c.lines.invariant.counted c.in_ok-answer_line.ensures.counted;
       begun = taken.1 ∙ c.lines.invariant.begun;
       count = c.in-Ok.ensures.count ∙ c.lines.invariant.count;
       number = omega (arith, c.in_ok-answer_line.ensures.number, c.lines.invariant.number, ap length taken.0);
@@ -96,12 +92,11 @@ lines-preserved-in_ok-answer_line g c =
 pub lines-preserved : goal.lines-preserved
 lines-preserved g c =
     let disk = g.D.Disk in
-    let held = g.K.Sink.held in
+    let sink = g.K.Sink in
     let only = g.met.D.Disk.only_now in
-    let hold = images_held disk.content disk.images g.met.D.Disk.content_is_image in
-    let answer = g.A.StoredSession.answer in
-    let is_step = g.A.StoredSession.is_step in
-    let state = g.A.StoredSession.state in
+    let hold = images_held disk g.met.D.Disk.content_is_image in
+    let session = g.A.StoredSession in
+    let state = session.state in
     let h = c.lines.invariant.answers in
     let line = c.in-Some.line in
     let new = c.take_line.new.self in
@@ -110,10 +105,10 @@ lines-preserved g c =
       answers = (
         h.0 ++ line ∷ [],
         h.1 ∙ ap (λ (l : List Line). h.0 ++ l) taken.0 ∙ sym (append_assoc h.0 (line ∷ []) new.lines.ended),
-        answers_then held disk.content disk.images disk.moment disk.images_since disk.room answer is_step only hold c.args.sink.now c.lines.sink c.answer_line.new.sink c.args.disk.now c.lines.disk c.answer_line.new.disk c.args.log.now c.lines.log c.answer_line.new.log
+        answers_then sink disk session only hold c.args.sink.now c.lines.sink c.answer_line.new.sink c.args.disk.now c.lines.disk c.answer_line.new.disk c.args.log.now c.lines.log c.answer_line.new.log
             (state c.args.session.now) (state c.lines.session) (state c.answer_line.new.session) c.args.progress.now c.lines.progress c.answer_line.new.progress h.0 (line ∷ []) h.2 c.in_ok-answer_line.ensures.answered,
       );
-      counted = counted_then g.K.Sink.faults g.K.Sink.empty_takes g.K.Sink.room held disk.faults c.args.sink.now c.lines.sink c.answer_line.new.sink c.args.disk.now c.lines.disk c.answer_line.new.disk None c.lines.invariant.counted c.in_ok-answer_line.ensures.counted;
+      counted = counted_then sink disk c.args.sink.now c.lines.sink c.answer_line.new.sink c.args.disk.now c.lines.disk c.answer_line.new.disk None c.lines.invariant.counted c.in_ok-answer_line.ensures.counted;
       begun = taken.1 ∙ c.lines.invariant.begun;
       count = c.in-Ok.ensures.count ∙ c.lines.invariant.count;
       number = omega (arith, c.in_ok-answer_line.ensures.number, c.lines.invariant.number, ap length taken.0);
@@ -122,7 +117,7 @@ lines-preserved g c =
 pub returns-in_err-answer_line-clause-counted : goal.returns-in_err-answer_line-clause-counted
 returns-in_err-answer_line-clause-counted g c =
     let disk = g.D.Disk in
-    let held = g.K.Sink.held in
+    let sink = g.K.Sink in
     let stop = c.in_err-answer_line.field-0.0 in
-    counted_passed g.K.Sink.faults g.K.Sink.empty_takes g.K.Sink.room held disk.faults c.from_residual.result c.args.sink.now c.answer_line.new.sink c.args.disk.now c.answer_line.new.disk stop
-    (counted_then g.K.Sink.faults g.K.Sink.empty_takes g.K.Sink.room held disk.faults c.args.sink.now c.lines.sink c.answer_line.new.sink c.args.disk.now c.lines.disk c.answer_line.new.disk (Some stop) c.lines.invariant.counted c.in_err-answer_line.ensures.counted) c.from_residual.ensures.1
+    counted_passed sink disk c.from_residual.result c.args.sink.now c.answer_line.new.sink c.args.disk.now c.answer_line.new.disk stop
+    (counted_then sink disk c.args.sink.now c.lines.sink c.answer_line.new.sink c.args.disk.now c.lines.disk c.answer_line.new.disk (Some stop) c.lines.invariant.counted c.in_err-answer_line.ensures.counted) c.from_residual.ensures.1

@@ -7,12 +7,13 @@ use Rattle.stored_run.proofs.journal.answer_lines.Given as goal
 -- the lines that were taken are answered
 abbrev pub invariant-lines : goal.invariant-lines
 invariant-lines g l =
+    let sink = g.K.Sink in
     let disk = g.D.Disk in
-    let a = g.A.StoredSession in
+    let session = g.A.StoredSession in
     record {
       answers : (lines : List Line) × (l.fn.input.lines.ended ≡ lines ++ l.input.lines.ended)
-          × Answers g.K.Sink.held disk.content disk.images disk.moment disk.images_since disk.room a.answer a.is_step l.fn.sink l.fn.disk l.fn.log l.sink l.disk l.log (a.state l.fn.session) l.fn.progress lines (a.state l.session) l.progress;
-      counted : Counted g.K.Sink.faults g.K.Sink.empty_takes g.K.Sink.room g.K.Sink.held disk.faults l.fn.sink l.fn.disk l.sink l.disk None;
+          × Answers sink disk session (l.fn.sink, l.fn.disk, l.fn.log) (l.sink, l.disk, l.log) (session.state l.fn.session) l.fn.progress lines (session.state l.session) l.progress;
+      counted : Counted sink disk (l.fn.sink, l.fn.disk) (l.sink, l.disk) None;
       begun : l.input.lines.begun ≡ l.fn.input.lines.begun;
       count : l.input.taken ≡ l.fn.input.taken;
       number : l.progress.number + length l.input.lines.ended ≤ l.fn.progress.number + length l.fn.input.lines.ended;

@@ -1,6 +1,7 @@
 use Rattle.std.specs.Prelude.{IsNone}
+use Rattle.stored_run.specs.Effects.{StandsOn}
 use Rattle.std.proofs.Common.{Option, ◌≡◌, inl, ℕ, List, Err, ap, sym, subst, ◌∙◌, Ok, inr}
-use Rattle.gate_log.specs.LogOnDisk.{HoldsPayloads, Stands}
+use Rattle.gate_log.specs.LogOnDisk.{HoldsPayloads}
 use Rattle.stored_run.specs.PackCall.{PacksCall, IsSafePack, EndsPacked}
 use Rattle.gate_log.specs.declared.fault.LogFault.{LogFault}
 use Rattle.stored_run.proofs.ApplyCalls.{at_some}
@@ -16,11 +17,11 @@ use Rattle.lens_io.proofs.Increases.{increased_since}
 pub returns-in-Ok-clause-packs : goal.returns-in-Ok-clause-packs
 returns-in-Ok-clause-packs g c =
     let disk = g.D.Disk in
-    let held = g.K.Sink.held in
-    let a = g.A.StoredSession in
+    let sink = g.K.Sink in
+    let session = g.A.StoredSession in
     let only = g.met.D.Disk.only_now in
-    let hold = images_held disk.content disk.images g.met.D.Disk.content_is_image in
-    let reads = reads_held disk.content disk.images in
+    let hold = images_held disk g.met.D.Disk.content_is_image in
+    let reads = reads_held disk in
     let laws = g.met.A.StoredSession in
     let k = c.args.sink.now in
     let d = c.args.disk.now in
@@ -31,18 +32,18 @@ returns-in-Ok-clause-packs g c =
     let read = c.in-Ok.payloads in
     λ before bytes t version told st h f.
     let same : read ≡ before = at_some (disk.content d) bytes (c.in-Ok.payloads ≡ before) told (c.in-Ok.ensures.payloads before st) in
-    let st1 = subst (λ (x : List (List ℕ)). Stands (disk.content d1) (disk.images d1) l x) (sym same) (c.in-Ok.ensures.stands before st) in
-    let h1 = subst (λ (x : List (List ℕ)). a.stands_for x ≡ Ok (t, version)) (sym same) h in
-    subst (λ (x : List (List ℕ)). PacksCall held disk.content disk.images disk.moment disk.images_since disk.room a.is_snapshot a.count_of a.stands_for k k' d' x t version) same (c.pack_payloads.ensures.packs t version st1 h1 f)
+    let st1 = subst (λ (x : List (List ℕ)). StandsOn disk d1 l x) (sym same) (c.in-Ok.ensures.stands before st) in
+    let h1 = subst (λ (x : List (List ℕ)). session.stands_for x ≡ Ok (t, version)) (sym same) h in
+    subst (λ (x : List (List ℕ)). PacksCall sink disk session k (k', d') x t version) same (c.pack_payloads.ensures.packs t version st1 h1 f)
 
 pub returns-in-Ok-clause-safe : goal.returns-in-Ok-clause-safe
 returns-in-Ok-clause-safe g c =
     let disk = g.D.Disk in
-    let held = g.K.Sink.held in
-    let a = g.A.StoredSession in
+    let sink = g.K.Sink in
+    let session = g.A.StoredSession in
     let only = g.met.D.Disk.only_now in
-    let hold = images_held disk.content disk.images g.met.D.Disk.content_is_image in
-    let reads = reads_held disk.content disk.images in
+    let hold = images_held disk g.met.D.Disk.content_is_image in
+    let reads = reads_held disk in
     let laws = g.met.A.StoredSession in
     let k = c.args.sink.now in
     let d = c.args.disk.now in
@@ -53,29 +54,29 @@ returns-in-Ok-clause-safe g c =
     let read = c.in-Ok.payloads in
     λ before bytes t version told st h.
     let same : read ≡ before = at_some (disk.content d) bytes (c.in-Ok.payloads ≡ before) told (c.in-Ok.ensures.payloads before st) in
-    let st1 = subst (λ (x : List (List ℕ)). Stands (disk.content d1) (disk.images d1) l x) (sym same) (c.in-Ok.ensures.stands before st) in
-    let h1 = subst (λ (x : List (List ℕ)). a.stands_for x ≡ Ok (t, version)) (sym same) h in
-    safe_after held disk.content disk.images disk.moment disk.images_since disk.room hold a.is_snapshot a.count_of a.stands_for reads laws.version_stands laws.snapshot_stands laws.version_counts laws.snapshot_counts d d' before t version h (HoldsPayloads before) (HoldsPayloads before) d1 (λ kept x p. inl p) (c.in-Ok.ensures.moments before st)
-    (subst (λ (x : List (List ℕ)). IsSafePack held disk.content disk.images disk.moment disk.images_since disk.room a.is_snapshot a.count_of a.stands_for (HoldsPayloads x) d1 d' x t version) same (c.pack_payloads.ensures.safe t version st1 h1))
+    let st1 = subst (λ (x : List (List ℕ)). StandsOn disk d1 l x) (sym same) (c.in-Ok.ensures.stands before st) in
+    let h1 = subst (λ (x : List (List ℕ)). session.stands_for x ≡ Ok (t, version)) (sym same) h in
+    safe_after sink disk hold session reads laws.version_stands laws.snapshot_stands laws.version_counts laws.snapshot_counts d d' before t version h (HoldsPayloads before) (HoldsPayloads before) d1 (λ kept x p. inl p) (c.in-Ok.ensures.moments before st)
+    (subst (λ (x : List (List ℕ)). IsSafePack disk session d1 d' (HoldsPayloads x) x t version) same (c.pack_payloads.ensures.safe t version st1 h1))
 
 pub returns-in-Err-clause-packs : goal.returns-in-Err-clause-packs
-returns-in-Err-clause-packs g c = λ before bytes t version told st h f. absurd (at_log_unfinished (g.K.Sink.held c.args.sink.now) (g.K.Sink.held c.refuse_log.new.sink) c.refuse_log.result c.in-Err.fault c.refuse_log.ensures.ends f)
+returns-in-Err-clause-packs g c = λ before bytes t version told st h f. absurd (at_log_unfinished g.K.Sink c.args.sink.now c.refuse_log.new.sink c.refuse_log.result c.in-Err.fault c.refuse_log.ensures.ends f)
 
 pub returns-in-Err-clause-safe : goal.returns-in-Err-clause-safe
 returns-in-Err-clause-safe g c =
     let disk = g.D.Disk in
-    let held = g.K.Sink.held in
-    let a = g.A.StoredSession in
+    let sink = g.K.Sink in
+    let session = g.A.StoredSession in
     let only = g.met.D.Disk.only_now in
-    let hold = images_held disk.content disk.images g.met.D.Disk.content_is_image in
-    let reads = reads_held disk.content disk.images in
+    let hold = images_held disk g.met.D.Disk.content_is_image in
+    let reads = reads_held disk in
     let laws = g.met.A.StoredSession in
     let k = c.args.sink.now in
     let d = c.args.disk.now in
     let l = c.args.log.now in
     let d1 = c.payloads.new.disk in
     λ before bytes t version told st h.
-    safe_kept held disk.content disk.images disk.moment disk.images_since disk.room hold a.is_snapshot a.count_of a.stands_for reads laws.version_stands laws.snapshot_stands laws.version_counts laws.snapshot_counts d d1 before t version h (HoldsPayloads before) (λ x now. hold l d1 before x (c.in-Err.ensures.stands before st) now) (c.in-Err.ensures.moments before st)
+    safe_kept sink disk hold session reads laws.version_stands laws.snapshot_stands laws.version_counts laws.snapshot_counts d d1 before t version h (HoldsPayloads before) (λ x now. hold l d1 before x (c.in-Err.ensures.stands before st) now) (c.in-Err.ensures.moments before st)
 
 pub returns-in-Ok-clause-disk_fault : goal.returns-in-Ok-clause-disk_fault
 returns-in-Ok-clause-disk_fault g c =
@@ -83,13 +84,13 @@ returns-in-Ok-clause-disk_fault g c =
     λ e. increased_since (faults c.args.disk.now) (faults c.payloads.new.disk) (faults c.pack_payloads.new.disk) c.in-Ok.ensures.faults (c.pack_payloads.ensures.disk_fault e)
 
 pub returns-in-Err-clause-disk_fault : goal.returns-in-Err-clause-disk_fault
-returns-in-Err-clause-disk_fault g c = λ e. c.in-Err.ensures.cause (ap (λ (x : LogFault). Err x) (at_log_disk (g.K.Sink.held c.args.sink.now) (g.K.Sink.held c.refuse_log.new.sink) c.refuse_log.result c.in-Err.fault c.refuse_log.ensures.ends e))
+returns-in-Err-clause-disk_fault g c = λ e. c.in-Err.ensures.cause (ap (λ (x : LogFault). Err x) (at_log_disk g.K.Sink c.args.sink.now c.refuse_log.new.sink c.refuse_log.result c.in-Err.fault c.refuse_log.ensures.ends e))
 
 pub returns-in-Ok-clause-refused : goal.returns-in-Ok-clause-refused
 returns-in-Ok-clause-refused g c =
     let disk = g.D.Disk in
-    let held = g.K.Sink.held in
-    let a = g.A.StoredSession in
+    let sink = g.K.Sink in
+    let session = g.A.StoredSession in
     let d = c.args.disk.now in
     let l = c.args.log.now in
     let d1 = c.payloads.new.disk in
@@ -98,30 +99,31 @@ returns-in-Ok-clause-refused g c =
     let reading = c.in-Ok.ensures.reads in
     λ before bytes refusal told st q.
     let same : read ≡ before = at_some (disk.content d) bytes (read ≡ before) told (c.in-Ok.ensures.payloads before st) in
-    let e = c.pack_payloads.ensures.refused refusal (ap (λ (x : List (List ℕ)). refusal_of_payloads (a.stands_for x)) same ∙ q) in (
-      unwritten_then disk.content disk.images d d1 d' reading.same_content (λ x now. (reading.same_images x).1 now) e.0,
-      same_room (disk.room d1) (disk.room d) (held c.args.sink.now) (held c.pack_payloads.new.sink) refusal c.pack_payloads.result reading.same_room e.1,
+    let e = c.pack_payloads.ensures.refused refusal (ap (λ (x : List (List ℕ)). refusal_of_payloads (session.stands_for x)) same ∙ q) in (
+      unwritten_then disk d d1 d' reading.same_content (λ x now. (reading.same_images x).1 now) e.0,
+      same_room sink disk c.args.sink.now c.pack_payloads.new.sink d d' c.pack_payloads.result d1 refusal reading.same_room e.1,
     )
 
 pub returns-in-Err-clause-refused : goal.returns-in-Err-clause-refused
 returns-in-Err-clause-refused g c =
     let disk = g.D.Disk in
-    let held = g.K.Sink.held in
-    let a = g.A.StoredSession in
+    let sink = g.K.Sink in
+    let session = g.A.StoredSession in
     let d = c.args.disk.now in
+    let d' = c.payloads.new.disk in
     let k = c.args.sink.now in
     let k' = c.refuse_log.new.sink in
     let reading = c.in-Err.ensures.reads in
     λ before bytes refusal told st q. (
       record { same = reading.same_content; only = λ x now. (reading.same_images x).1 now },
-      inr (reading_fails (disk.room d) (held k) (held k') c.refuse_log.result c.in-Err.fault c.payloads.result c.in-Err.is (at_some (disk.content d) bytes (NoBadRecord c.payloads.result) told c.payloads.ensures.never_bad) c.in-Err.ensures.possible (λ e. c.in-Err.ensures.sure (ap (λ (x : LogFault). Err x) e)) c.refuse_log.ensures.ends),
+      inr (reading_fails sink disk k k' d d' c.refuse_log.result c.in-Err.fault c.payloads.result c.in-Err.is (at_some (disk.content d) bytes (NoBadRecord c.payloads.result) told c.payloads.ensures.never_bad) c.in-Err.ensures.possible (λ e. c.in-Err.ensures.sure (ap (λ (x : LogFault). Err x) e)) c.refuse_log.ensures.ends),
     )
 
 pub returns-in-Ok-clause-exits : goal.returns-in-Ok-clause-exits
 returns-in-Ok-clause-exits g c =
     let disk = g.D.Disk in
-    let held = g.K.Sink.held in
-    let a = g.A.StoredSession in
+    let sink = g.K.Sink in
+    let session = g.A.StoredSession in
     let k = c.args.sink.now in
     let d = c.args.disk.now in
     let l = c.args.log.now in
@@ -133,28 +135,29 @@ returns-in-Ok-clause-exits g c =
     let status = c.pack_payloads.result in
     λ before bytes t version told st h.
     let same : read ≡ before = at_some (disk.content d) bytes (read ≡ before) told (c.in-Ok.ensures.payloads before st) in
-    let st1 = subst (λ (x : List (List ℕ)). Stands (disk.content d1) (disk.images d1) l x) (sym same) (c.in-Ok.ensures.stands before st) in
-    let h1 = subst (λ (x : List (List ℕ)). a.stands_for x ≡ Ok (t, version)) (sym same) h in
+    let st1 = subst (λ (x : List (List ℕ)). StandsOn disk d1 l x) (sym same) (c.in-Ok.ensures.stands before st) in
+    let h1 = subst (λ (x : List (List ℕ)). session.stands_for x ≡ Ok (t, version)) (sym same) h in
     elim (c.pack_payloads.ensures.exits t version st1 h1) [
-      | inl e ↦ inl (packed_later held disk.content disk.images disk.moment disk.images_since disk.room a.is_snapshot a.count_of a.stands_for k k' d d1 d' before t version status reading.same_content (λ x now. (reading.same_images x).1 now) reading.crash reading.same_room
-          (subst (λ (x : List (List ℕ)). EndsPacked held disk.content disk.images disk.moment disk.images_since disk.room a.is_snapshot a.count_of a.stands_for k d1 k' d' x t version status) same e))
-      | inr u ↦ inr (unwritten_then disk.content disk.images d d1 d' reading.same_content (λ x now. (reading.same_images x).1 now) u.0, (u.1.0, λ e. subst (λ (o : Option ℕ). IsNone o) reading.same_room (u.1.1 e)))
+      | inl e ↦ inl (packed_later sink disk session k k' d d1 d' before t version status reading.same_content (λ x now. (reading.same_images x).1 now) reading.crash reading.same_room
+          (subst (λ (x : List (List ℕ)). EndsPacked sink disk session (k, d1) (k', d') x t version status) same e))
+      | inr u ↦ inr (unwritten_then disk d d1 d' reading.same_content (λ x now. (reading.same_images x).1 now) u.0, (u.1.0, λ e. subst (λ (o : Option ℕ). IsNone o) reading.same_room (u.1.1 e)))
     ]
 
 pub returns-in-Err-clause-exits : goal.returns-in-Err-clause-exits
 returns-in-Err-clause-exits g c =
     let disk = g.D.Disk in
-    let held = g.K.Sink.held in
-    let a = g.A.StoredSession in
+    let sink = g.K.Sink in
+    let session = g.A.StoredSession in
     let k = c.args.sink.now in
     let d = c.args.disk.now in
+    let d' = c.payloads.new.disk in
     let k' = c.refuse_log.new.sink in
     let reading = c.in-Err.ensures.reads in
     λ before bytes t version told st h.
     inr (
       record { same = reading.same_content; only = λ x now. (reading.same_images x).1 now },
-      reading_fails (disk.room d) (held k) (held k') c.refuse_log.result c.in-Err.fault c.payloads.result c.in-Err.is (at_some (disk.content d) bytes (NoBadRecord c.payloads.result) told c.payloads.ensures.never_bad) c.in-Err.ensures.possible (λ e. c.in-Err.ensures.sure (ap (λ (x : LogFault). Err x) e)) c.refuse_log.ensures.ends,
+      reading_fails sink disk k k' d d' c.refuse_log.result c.in-Err.fault c.payloads.result c.in-Err.is (at_some (disk.content d) bytes (NoBadRecord c.payloads.result) told c.payloads.ensures.never_bad) c.in-Err.ensures.possible (λ e. c.in-Err.ensures.sure (ap (λ (x : LogFault). Err x) e)) c.refuse_log.ensures.ends,
     )
 
 pub returns-in-Err-clause-no_source : goal.returns-in-Err-clause-no_source
-returns-in-Err-clause-no_source g c = λ e. at_log_sourceless (g.K.Sink.held c.args.sink.now) (g.K.Sink.held c.refuse_log.new.sink) c.refuse_log.result c.in-Err.fault c.refuse_log.ensures.ends e
+returns-in-Err-clause-no_source g c = λ e. at_log_sourceless g.K.Sink c.args.sink.now c.refuse_log.new.sink c.refuse_log.result c.in-Err.fault c.refuse_log.ensures.ends e

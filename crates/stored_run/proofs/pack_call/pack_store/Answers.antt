@@ -10,9 +10,9 @@ use Rattle.texts.proofs.Outcomes.{on_ok}
 pub returns-clause-packed : goal.returns-clause-packed
 returns-clause-packed g c =
     let disk = g.D.Disk in
-    let held = g.K.Sink.held in
+    let sink = g.K.Sink in
     let only = g.met.D.Disk.only_now in
-    let hold = images_held disk.content disk.images g.met.D.Disk.content_is_image in
+    let hold = images_held disk g.met.D.Disk.content_is_image in
     let k = c.args.sink.now in
     let d = c.args.disk.now in
     let l = c.args.log.now in
@@ -24,16 +24,16 @@ returns-clause-packed g c =
     let version = option_to_list c.args.version.now in
     let line = c.args.line.now in
     let kept = c.args.snapshot.now ∷ [] in
-    on_ok c.store_and_answer.result (Adds held disk.content disk.images disk.moment disk.images_since disk.room k d1 l1 k' d' l' line kept) (Adds held disk.content disk.images disk.moment disk.images_since disk.room k d l k' d' l' line (version ++ kept))
-    (λ adds. packs held disk.content disk.images disk.moment disk.images_since disk.room only hold k k' d d1 d' l l1 l' version line kept c.in_ok-store_version.ensures.stored adds)
+    on_ok c.store_and_answer.result (Adds sink disk (k, d1, l1) (k', d', l') line kept) (Adds sink disk (k, d, l) (k', d', l') line (version ++ kept))
+    (λ adds. packs sink disk only hold k k' d d1 d' l l1 l' version line kept c.in_ok-store_version.ensures.stored adds)
     c.store_and_answer.ensures.stored
 
 pub returns-clause-stopped : goal.returns-clause-stopped
 returns-clause-stopped g c =
     let disk = g.D.Disk in
-    let held = g.K.Sink.held in
+    let sink = g.K.Sink in
     let only = g.met.D.Disk.only_now in
-    let hold = images_held disk.content disk.images g.met.D.Disk.content_is_image in
+    let hold = images_held disk g.met.D.Disk.content_is_image in
     let k = c.args.sink.now in
     let d = c.args.disk.now in
     let l = c.args.log.now in
@@ -45,7 +45,7 @@ returns-clause-stopped g c =
     let version = option_to_list c.args.version.now in
     let line = c.args.line.now in
     let kept = c.args.snapshot.now ∷ [] in
-    if_err c.store_and_answer.result (λ stop. Stops held disk.content disk.images disk.moment disk.images_since disk.room k d1 l1 k' d' l' stop [] line [] kept)
-    (λ stop. Stops held disk.content disk.images disk.moment disk.images_since disk.room k d l k' d' l' stop [] [] [] version ⊎ Stops held disk.content disk.images disk.moment disk.images_since disk.room k d l k' d' l' stop [] line version kept)
-    (λ stop stops. inr (packs_short held disk.content disk.images disk.moment disk.images_since disk.room only hold k k' d d1 d' l l1 l' version stop line kept c.in_ok-store_version.ensures.stored stops))
+    if_err c.store_and_answer.result (λ stop. Stops sink disk (k, d1, l1) (k', d', l') stop [] line [] kept)
+    (λ stop. Stops sink disk (k, d, l) (k', d', l') stop [] [] [] version ⊎ Stops sink disk (k, d, l) (k', d', l') stop [] line version kept)
+    (λ stop stops. inr (packs_short sink disk only hold k k' d d1 d' l l1 l' version stop line kept c.in_ok-store_version.ensures.stored stops))
     c.store_and_answer.ensures.stopped

@@ -11,9 +11,9 @@ use Rattle.stored_run.proofs.store.store_version.Goals as goal
 pub returns-in-Ok-clause-stored : goal.returns-in-Ok-clause-stored
 returns-in-Ok-clause-stored g c =
     let disk = g.D.Disk in
-    let held = g.K.Sink.held in
+    let sink = g.K.Sink in
     let only = g.met.D.Disk.only_now in
-    let hold = images_held disk.content disk.images g.met.D.Disk.content_is_image in
+    let hold = images_held disk g.met.D.Disk.content_is_image in
     let k = c.args._sink.now in
     let d = c.args.disk.now in
     let l = c.args.log.now in
@@ -21,15 +21,15 @@ returns-in-Ok-clause-stored g c =
     let l' = c.append.new.self in
     let payload = c.as_slice.result.now in
     let is : c.args.version.now ≡ Some payload = c.in-Some.is ∙ ap (λ (x : List ℕ). Some x) (sym c.as_slice.ensures) in
-    subst (λ (o : Option (List ℕ)). Adds held disk.content disk.images disk.moment disk.images_since disk.room k d l k d' l' [] (option_to_list o)) (sym is)
-    (append_adds held disk.content disk.images disk.moment disk.images_since disk.room only hold k d d' l l' payload c.in-Ok.ensures.ends c.in-Ok.ensures.moments (ap (λ (x : LogState). x.gate) c.in-Ok.ensures.log) c.in-Ok.ensures.room)
+    subst (λ (o : Option (List ℕ)). Adds sink disk (k, d, l) (k, d', l') [] (option_to_list o)) (sym is)
+    (append_adds sink disk only hold k d d' l l' payload c.in-Ok.ensures.ends c.in-Ok.ensures.moments (ap (λ (x : LogState). x.gate) c.in-Ok.ensures.log) c.in-Ok.ensures.room)
 
 pub returns-in-Err-clause-stopped : goal.returns-in-Err-clause-stopped
 returns-in-Err-clause-stopped g c =
     let disk = g.D.Disk in
-    let held = g.K.Sink.held in
+    let sink = g.K.Sink in
     let only = g.met.D.Disk.only_now in
-    let hold = images_held disk.content disk.images g.met.D.Disk.content_is_image in
+    let hold = images_held disk g.met.D.Disk.content_is_image in
     let k = c.args._sink.now in
     let d = c.args.disk.now in
     let l = c.args.log.now in
@@ -37,19 +37,19 @@ returns-in-Err-clause-stopped g c =
     let l' = c.append.new.self in
     let payload = c.as_slice.result.now in
     let is : c.args.version.now ≡ Some payload = c.in-Some.is ∙ ap (λ (x : List ℕ). Some x) (sym c.as_slice.ensures) in
-    subst (λ (o : Option (List ℕ)). Stops held disk.content disk.images disk.moment disk.images_since disk.room k d l k d' l' c.at_append.result [] [] [] (option_to_list o)) (sym is)
-    (subst (λ (s : Stop). Stops held disk.content disk.images disk.moment disk.images_since disk.room k d l k d' l' s [] [] [] (payload ∷ [])) (sym c.at_append.ensures.stop)
-    (append_stops held disk.content disk.images disk.moment disk.images_since disk.room only hold k d d' l l' payload [] c.in-Err.fault c.requires.stands c.in-Err.ensures.ends c.in-Err.ensures.moments
+    subst (λ (o : Option (List ℕ)). Stops sink disk (k, d, l) (k, d', l') c.at_append.result [] [] [] (option_to_list o)) (sym is)
+    (subst (λ (s : Stop). Stops sink disk (k, d, l) (k, d', l') s [] [] [] (payload ∷ [])) (sym c.at_append.ensures.stop)
+    (append_stops sink disk only hold k d d' l l' payload [] c.in-Err.fault c.requires.stands c.in-Err.ensures.ends c.in-Err.ensures.moments
     (λ e. c.in-Err.ensures.full.0 (ap (λ (x : LogFault). Err x) e)) (λ e. c.in-Err.ensures.sure (ap (λ (x : LogFault). Err x) e))))
 
 pub returns-in-None-clause-stored : goal.returns-in-None-clause-stored
 returns-in-None-clause-stored g c =
     let disk = g.D.Disk in
-    let held = g.K.Sink.held in
+    let sink = g.K.Sink in
     let only = g.met.D.Disk.only_now in
-    let hold = images_held disk.content disk.images g.met.D.Disk.content_is_image in
+    let hold = images_held disk g.met.D.Disk.content_is_image in
     let k = c.args._sink.now in
     let d = c.args.disk.now in
     let l = c.args.log.now in
-    subst (λ (o : Option (List ℕ)). Adds held disk.content disk.images disk.moment disk.images_since disk.room k d l k d l [] (option_to_list o)) (sym c.in-None.is)
-    (adds_none held disk.content disk.images disk.moment disk.images_since disk.room only hold k d l)
+    subst (λ (o : Option (List ℕ)). Adds sink disk (k, d, l) (k, d, l) [] (option_to_list o)) (sym c.in-None.is)
+    (adds_none sink disk only hold k d l)

@@ -1,0 +1,168 @@
+-- What a call over a store leaves is a run over it.
+use Rattle.std.proofs.Common.{arith, ◌≡◌, ◌⊎◌, inl, inr, ℕ, List, ◌++◌, length, true, None, Some, refl, ap, subst, ◌∙◌}
+use Rattle.std.specs.Prelude.{IfSome}
+use Rattle.std.proofs.lemmas.List.{length-map, append_assoc, append-nil}
+use Rattle.edit_journal.specs.Pieces.{lines_of}
+use Rattle.edit_journal.specs.declared.line.Line.{Line}
+use Rattle.journal_answers.specs.Answers.{answer_lines, text_from}
+use Rattle.journal_answers.specs.Runs.{JournalItem, items_of}
+use Rattle.lens_io.specs.Calls.{Took, Gave}
+use Rattle.lens_io.specs.declared.disk.Disk as OfDisk
+use Rattle.lens_io.specs.declared.sink.Sink as OfSink
+use Rattle.lens_io.specs.declared.source.Source as OfSource
+use Rattle.gate_log.specs.LogOnDisk.{HoldsPayloads}
+use Rattle.lens_forms.specs.Typing.{is_typed}
+use Rattle.store_session.specs.Journals.{accepted_changes, IsStateInStep, IsJournalRun}
+use Rattle.store_session.specs.StoredStates.{StoredState, change_text, state_text}
+use Rattle.store_session.specs.Views.{session_state}
+use Rattle.store_session.specs.contracts.instance.StoreSessionStoredSession.TheImpl.{ghosts as sessions}
+use Rattle.store_session.specs.declared.session.StoreSession.{StoreSession}
+use Rattle.store_session.proofs.JournalRuns.{runs_alike}
+use Rattle.store_session.proofs.StatesInStep.{stored_sound}
+use Rattle.stored_run.specs.ApplyCall.{ContinuesCall, IsSafeCall}
+use Rattle.stored_run.specs.Runs.{run, last, kept_of, text_of}
+use Rattle.stored_run.specs.declared.session.Answer.{Answer}
+use Rattle.stored_run.specs.declared.status.Status.{Status as StoreStatus}
+use Rattle.editlens_main.specs.Applies.{Applies}
+use Rattle.editlens_main.specs.Statuses.{IsFinished}
+use Rattle.editlens_main.specs.Stores.{Store}
+use Rattle.editlens_main.specs.declared.status.Status.{Status}
+use Rattle.apply_laws.specs.StoreRuns.{StoreParts, with_version, HoldsRun}
+use Rattle.apply_laws.specs.TwoCalls.{parts_of, LeavesRun, FinishesRun, StaysUnopened, ContinuesRun}
+use Rattle.apply_laws.proofs.LeftPayloads.{LeavesPayloads, leaves_payloads}
+use Rattle.apply_laws.proofs.RunsOverStores.{journal_in_step, one_run}
+
+-- ---- a run of the session is a run over the store
+
+module _ (before : StoreParts) (lines : List Line) (steps : List (StoredState × Answer)) (is_run : run sessions before.state 0 lines ≡ Some steps) where
+  pub sound : (is_typed before.state.form ≡ true) × IsStateInStep before.state
+  sound = stored_sound before.payloads before.state before.version before.stands
+
+  pub journal_run : IsJournalRun before.state 0 lines steps
+  journal_run = runs_alike (λ (s : StoreSession). session_state s.session) before.state 0 lines steps sound.0 sound.1 is_run
+
+  -- the payloads stand for the last state of the run
+  abbrev pub holds_run : (after : StoreParts) → after.state ≡ last before.state steps → with_version after ≡ with_version before ++ kept_of steps
+      → (after.payloads ≡ before.payloads) ⊎ (after.version ≡ None) → HoldsRun before (items_of lines) after
+  holds_run after at_last stored version =
+      let j = journal_run in
+      record {
+        journal = j.journal;
+        is_run = j.is_run;
+        at_last = at_last ∙ j.at_last;
+        stored = stored ∙ ap (λ l. with_version before ++ l) j.kept;
+        version = version;
+        first_in_step = sound.1;
+        in_step = journal_in_step before.state.form sound.0 before.state.triple (items_of lines) j.journal sound.1 j.is_run;
+      }
+
+  -- as many payloads as changes
+  pub kept_count : length (kept_of steps) ≡ length (accepted_changes (items_of lines) journal_run.journal)
+  kept_count = ap length journal_run.kept ∙ length-map (accepted_changes (items_of lines) journal_run.journal) change_text
+
+-- ---- the calls
+
+module _ {S K D : Type 0} (source : OfSource.Ghosts S) (sink : OfSink.Ghosts K) (disk : OfDisk.Ghosts D) (old new : S × K × D) where
+  module _ (before : StoreParts) (image bytes given : List ℕ) (took : Took source old.0 new.0 bytes) (gave : Gave sink old.1 new.1 given) where
+    left_run : (lines rest : List Line) → lines_of bytes ≡ lines ++ rest → LeavesPayloads sessions before.payloads before.state before.version lines given image
+        → LeavesRun source sink disk old new before image
+    left_run lines rest parts p =
+        let after : StoreParts = record { payloads = p.payloads; state = last before.state p.steps; version = p.still; stands = p.stands } in
+        let count = kept_count before p.run_of.first p.steps p.run_of.is_run in
+        let least = p.least in
+        let most = p.most in
+        record {
+          bytes = bytes;
+          took = took;
+          given = given;
+          gave = gave;
+          lines = p.run_of.first;
+          rest = p.run_of.rest ++ rest;
+          parts = parts ∙ ap (λ l. l ++ rest) p.run_of.parts ∙ append_assoc p.run_of.first p.run_of.rest rest;
+          after = after;
+          holds = p.holds;
+          run = holds_run before p.run_of.first p.steps p.run_of.is_run after refl p.stored p.version_is;
+          least = omega (arith, count, least);
+          most = omega (arith, count, most);
+        }
+
+  module _ (status : Status) (store : Store disk old.2) where
+    abbrev before : StoreParts
+    before = parts_of disk old.2 store
+
+    -- the store was opened
+    pub kept_run : IsSafeCall source sink disk sessions old new (disk.images old.2) store.payloads store.state store.version → (image : List ℕ) → disk.images new.2 image
+        → LeavesRun source sink disk old new before image
+    kept_run s image is =
+        left_run before image s.bytes s.given s.consumes s.appends s.lines s.rest s.parts
+        (leaves_payloads sessions store.payloads store.state store.version s.lines s.given image s.steps s.is_run s.stand (s.now image is))
+
+    pub leaves_run : Applies source sink disk old new status → (image : List ℕ) → disk.images new.2 image
+        → StaysUnopened source sink disk old new status image ⊎ LeavesRun source sink disk old new before image
+    leaves_run a image is = elim (a.of_store store).survives [
+      | inl unopened ↦ inl (record { unopened = unopened; was = unopened.1.only image is })
+      | inr kept ↦ inr (kept_run kept image is)
+    ]
+
+    -- the call came to its end
+    finished : (ended : StoreStatus) → ContinuesCall source sink disk sessions (old.0, old.1) new store.payloads store.state store.version ended
+        → FinishesRun source sink disk old new before
+    finished ended s =
+        let after : StoreParts = record { payloads = with_version before ++ kept_of s.steps; state = last before.state s.steps; version = None; stands = s.stand } in
+        let lines = lines_of s.bytes in
+        let j = journal_run before lines s.steps s.is_run in
+        record {
+          bytes = s.bytes;
+          took = s.consumes;
+          read = s.at_end;
+          after = after;
+          holds = s.kept;
+          run = holds_run before lines s.steps s.is_run after refl (append-nil (with_version before ++ kept_of s.steps)) (inr refl);
+          version = refl;
+          gave = subst (λ text. Gave sink old.1 new.1 text) (text_is s.steps j) s.given;
+        } where
+          text_is : (steps : List (StoredState × Answer)) (j : IsJournalRun before.state 0 (lines_of s.bytes) steps)
+              → text_of steps ++ state_text (last before.state steps) ≡ text_from before.state.form before.state.triple j.journal
+          text_is steps j = ap (λ l. l ++ state_text (last before.state steps)) j.text ∙ ap (λ u. answer_lines 1 j.journal ++ state_text u) j.at_last
+
+    pub finishes_run : Applies source sink disk old new status → IsFinished status → FinishesRun source sink disk old new before
+    finishes_run a h = let e = (a.of_store store).continues h in finished e.0 e.2
+
+-- ---- two calls
+
+module _ {S K D : Type 0} (source : OfSource.Ghosts S) (sink : OfSink.Ghosts K) (disk : OfDisk.Ghosts D) where
+  -- the second call is over the store that the first one left
+  module _ (old new : S × K × D) (status : Status) (before between : StoreParts) (items : List JournalItem) (first : HoldsRun before items between) (image : List ℕ)
+      (holds : HoldsPayloads between.payloads image) (told : disk.content old.2 ≡ Some image) (second : Applies source sink disk old new status) where
+    abbrev again : Store disk old.2
+    again = record { bytes = image; told = told; payloads = between.payloads; holds = holds; state = between.state; version = between.version; stands = between.stands }
+
+    goes_on : ContinuesRun source sink disk old new status before between items first.journal
+    goes_on = record {
+      leaves = λ c is. elim (leaves_run source sink disk old new status again second c is) [
+        | inl unopened ↦ inl unopened
+        | inr run ↦ inr (run, one_run before between run.after items (items_of run.lines) first run.run)
+      ];
+      finishes = λ h.
+          let run = finishes_run source sink disk old new status again second h in
+          (run, one_run before between run.after items (items_of (lines_of run.bytes)) first run.run);
+    }
+
+  module _ (old1 new1 old2 new2 : S × K × D) (status1 status2 : Status) (store : Store disk old1.2) (image : List ℕ) (first : Applies source sink disk old1 new1 status1)
+      (second : Applies source sink disk old2 new2 status2) (told : disk.content old2.2 ≡ Some image) where
+    abbrev start : StoreParts
+    start = parts_of disk old1.2 store
+
+    pub goes_on_from_image : disk.images new1.2 image → StaysUnopened source sink disk old1 new1 status1 image
+        ⊎ ((left : LeavesRun source sink disk old1 new1 start image) × ContinuesRun source sink disk old2 new2 status2 start left.after (items_of left.lines) left.run.journal)
+    goes_on_from_image is = elim (leaves_run source sink disk old1 new1 status1 store first image is) [
+      | inl unopened ↦ inl unopened
+      | inr left ↦ inr (left, goes_on old2 new2 status2 start left.after (items_of left.lines) left.run image left.holds told second)
+    ]
+
+    pub goes_on_from_end : IsFinished status1 → disk.content new1.2 ≡ Some image
+        → (left : FinishesRun source sink disk old1 new1 start) × ContinuesRun source sink disk old2 new2 status2 start left.after (items_of (lines_of left.bytes)) left.run.journal
+    goes_on_from_end h is =
+        let left = finishes_run source sink disk old1 new1 status1 store first h in
+        let holds : HoldsPayloads left.after.payloads image = subst (λ o. IfSome o (HoldsPayloads left.after.payloads)) is left.holds in
+        (left, goes_on old2 new2 status2 start left.after (items_of (lines_of left.bytes)) left.run image holds told second)

@@ -1,0 +1,21 @@
+-- A journal that is cut in two between lines, and applied in two calls or in one.
+-- Read it from the end: `ComeToTheSame`, then `EndsALine`.
+use Rattle.std.specs.Prelude.{◌≡◌, ◌⊎◌, ℕ, List, [], ◌∷◌, ◌++◌}
+use Rattle.edit_session.specs.Step.{TripleTree}
+use Rattle.journal_answers.specs.Runs.{JournalAnswer}
+use Rattle.apply_laws.specs.StoreRuns.{StoreParts}
+
+-- the bytes end with an LF, or there are none: what follows them begins a line
+abbrev pub EndsALine : List ℕ → Type 0
+EndsALine bytes = (bytes ≡ []) ⊎ ((text : List ℕ) × (bytes ≡ text ++ 10 ∷ []))
+
+-- Two calls, one after the other, came to the store `after` by the steps `first` and `second`. One call over the store
+-- before them came to the other store by `steps`.
+pub record ComeToTheSame (first second : List (TripleTree × JournalAnswer)) (after : StoreParts)
+    (steps : List (TripleTree × JournalAnswer)) (other : StoreParts) : Type 0 where
+  -- the triples and the answers of the one call are those of the two, in order
+  pub same_steps : steps ≡ first ++ second
+  -- it stores the same payloads
+  pub same_payloads : other.payloads ≡ after.payloads
+  -- they stand for the same lens and the same triple
+  pub same_state : other.state ≡ after.state

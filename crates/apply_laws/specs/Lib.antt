@@ -1,0 +1,4 @@
+pub mod CutJournals
+pub mod OneRun
+pub mod StoreRuns
+pub mod TwoCalls

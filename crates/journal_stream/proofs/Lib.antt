@@ -1,3 +1,0 @@
-pub mod AnsweredLines
-pub mod Journals
-pub mod Prefixes

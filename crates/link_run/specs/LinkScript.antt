@@ -1,0 +1,22 @@
+-- What the script of a link means. The trait `ScriptState` says so of `LinkRun` too.
+use Rattle.lens_forms.specs.Forms.{FormTree}
+use Rattle.accepted_programs.specs.Program.{Refusal, lens_of}
+use Rattle.turn_link.specs.Links.{LinkTree}
+use Rattle.script_run.specs.declared.state.ScriptState as OfScript
+use Rattle.answer_text.specs.RefusalLines.{refused_part_line}
+use Rattle.link_run.specs.Runs.{first_link, line_answer, state_of, state_text, IsInTurnsWith}
+use Rattle.link_run.specs.declared.script.LinkRun.{LinkRun}
+
+abbrev pub link_script : OfScript.Ghosts LinkRun
+link_script = record {
+  Accepted = FormTree;
+  Refusal = Refusal;
+  State = FormTree × LinkTree;
+  state = λ s. state_of s.link;
+  accepted = lens_of;
+  refusal_line = refused_part_line;
+  start = first_link;
+  answer = line_answer;
+  state_text = state_text;
+  in_step = IsInTurnsWith;
+}

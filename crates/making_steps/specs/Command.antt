@@ -1,0 +1,8 @@
+-- A command that makes a store of a script.
+use Rattle.std.specs.Prelude.{ℕ, List}
+
+-- What a command makes of a script whose program part is accepted, by the bytes of the script: the payloads of its
+-- store with the lines that are written then, or the line with which it refuses the script.
+pub record Command : Type 1 where
+  pub makes : List ℕ → List (List ℕ) → List ℕ → Type 0
+  pub refuses : List ℕ → List ℕ → Type 0

@@ -1,0 +1,4 @@
+pub mod Runs
+pub mod RunsInStep
+pub mod Scripts
+pub mod Shown

@@ -1,0 +1,40 @@
+-- What the script of a pair means, to `run` and to `check`. The trait `ScriptState` says so of `PairRun` and of `TypesShown` too.
+use Rattle.accepted_programs.specs.Program.{Refusal, lens_of}
+use Rattle.answer_text.specs.RefusalLines.{refused_part_line}
+use Rattle.edit_session.specs.Step.{TripleTree}
+use Rattle.lens_forms.specs.Forms.{FormTree, form_tree}
+use Rattle.pair_run.specs.Runs.{IsPairInStep, first_pair, line_answer, state_of, state_text}
+use Rattle.pair_run.specs.Shown.{IsShown, no_answer, same_form, type_lines}
+use Rattle.pair_run.specs.declared.pair.PairRun.{PairRun}
+use Rattle.pair_run.specs.declared.shown.TypesShown.{TypesShown}
+use Rattle.script_run.specs.declared.state.ScriptState as OfScript
+
+-- to `run`: its documents and their complement are kept in step, by the changes of the journal
+abbrev pub pair_script : OfScript.Ghosts PairRun
+pair_script = record {
+  Accepted = FormTree;
+  Refusal = Refusal;
+  State = FormTree × TripleTree;
+  state = λ s. state_of s.session;
+  accepted = lens_of;
+  refusal_line = refused_part_line;
+  start = first_pair;
+  answer = line_answer;
+  state_text = state_text;
+  in_step = IsPairInStep;
+}
+
+-- to `check`: the types of its lens are shown
+abbrev pub types_script : OfScript.Ghosts TypesShown
+types_script = record {
+  Accepted = FormTree;
+  Refusal = Refusal;
+  State = FormTree;
+  state = λ s. form_tree s.lens;
+  accepted = lens_of;
+  refusal_line = refused_part_line;
+  start = same_form;
+  answer = no_answer;
+  state_text = type_lines;
+  in_step = IsShown;
+}

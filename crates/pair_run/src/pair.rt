@@ -1,0 +1,133 @@
+//! The state of `run`: a session that answers the journal of a script.
+ghost use Rattle.std.specs.Prelude.{◌≡◌, ℕ, List, IfOk, Ok, Some, Result};
+ghost use Rattle.accepted_programs.specs.Program.{Refusal, lens_of};
+ghost use Rattle.accepted_programs.specs.Refused.{IsKnown, IsRefusal};
+ghost use Rattle.lens_forms.specs.Forms.{FormTree, form_tree};
+ghost use Rattle.pair_run.specs.Runs.{first_pair, line_answer, state_of, state_text};
+ghost use Rattle.pair_run.specs.Scripts.{pair_script};
+ghost use Rattle.script_run.specs.Ending.{Opens, IsNotOpened};
+
+use accepted_programs::Refused;
+use answer_text::refused_part_line;
+use edit_journal::Line;
+use edit_session::Session;
+use journal_answers::{answer_line, state_lines, take_item};
+use lens_flat::Flat;
+use lens_types::Typed;
+use line_stream::Answer;
+use script_parts::ProgramText;
+use script_run::{NotOpened, ProgramScript, ScriptState};
+use std::alloc::{AllocError, Global};
+use texts::Bytes;
+
+/// A session that answers the journal of a script.
+#[derive(Drop)]
+pub struct PairRun {
+    pub session: Session<Flat>,
+}
+
+impl ScriptState for PairRun {
+    ghost use Rattle.accepted_programs.specs.Program.{Refusal, lens_of};
+    ghost use Rattle.answer_text.specs.RefusalLines.{refused_part_line};
+    ghost use Rattle.edit_session.specs.Step.{TripleTree};
+    ghost use Rattle.lens_forms.specs.Forms.{FormTree};
+    ghost use Rattle.pair_run.specs.Runs.{IsPairInStep, first_pair, line_answer, state_of, state_text};
+
+    ghost Accepted = { FormTree };
+
+    ghost Refusal = { Refusal };
+
+    ghost State = { FormTree × TripleTree };
+
+    ghost state = { λ s. state_of s.session };
+
+    ghost accepted = { lens_of };
+
+    ghost refusal_line = { refused_part_line };
+
+    ghost start = { first_pair };
+
+    ghost answer = { line_answer };
+
+    ghost state_text = { state_text };
+
+    ghost in_step = { IsPairInStep };
+
+    fn answer(&mut self, alloc: Global, number: u64, line: &Line) -> Result<Answer, AllocError> {
+        answer_item(alloc, &mut self.session, number, line)
+    }
+
+    fn state_lines(&self, alloc: Global) -> Result<Bytes, AllocError> {
+        text_of_state(alloc, &self.session)
+    }
+}
+
+// The answer line of the item with this number, which steps the session by a change that applies.
+fn answer_item(
+    alloc: Global,
+    session: &mut Session<Flat>,
+    number: u64,
+    line: &Line,
+) -> Result<Answer, AllocError>
+    ensures { IfOk result (λ a. line_answer (state_of session.old) number line.now ≡ Some (state_of session.new, a)) }
+{
+    let answer = take_item(alloc, session, line)?;
+    let line = answer_line(alloc, number, &answer)?;
+    let refused = answer.is_refused();
+    Ok(Answer { line, refused })
+}
+
+// The state lines of a session of a compiled lens.
+#[tactic(auto, using(lens_flat::proofs::FormLenses::is_lens_of))]
+fn text_of_state(alloc: Global, session: &Session<Flat>) -> Result<Bytes, AllocError>
+    ensures { IfOk result (λ text. text ≡ state_text (state_of session.now)) }
+{
+    let text = state_lines(alloc, session.lens().typed(), session)?;
+    Ok(Bytes::from_vec(text))
+}
+
+impl ProgramScript for PairRun {
+    ghost use Rattle.pair_run.specs.RunsInStep.{every_run};
+
+    ghost every_run = { every_run };
+
+    fn open(alloc: Global, program: &ProgramText) -> Result<Self, NotOpened> {
+        match program.lens(alloc) {
+            Ok(typed) => start_run(alloc, typed),
+            Err(refused) => Err(not_opened(alloc, refused)),
+        }
+    }
+}
+
+// The session of a lens before the journal.
+fn start_run(alloc: Global, typed: Typed) -> Result<PairRun, NotOpened>
+    ensures { (part : List ℕ) → lens_of part ≡ Ok (form_tree typed) → Opens pair_script (lens_of part) result }
+{
+    let started = first_run(alloc, &typed);
+    drop(typed);
+    match started {
+        Ok(run) => Ok(run),
+        Err(_) => Err(NotOpened::NoMemory),
+    }
+}
+
+fn first_run(alloc: Global, typed: &Typed) -> Result<PairRun, AllocError>
+    ensures { IfOk result (λ run. state_of run.session ≡ first_pair (form_tree typed.now)) }
+{
+    let lens = Flat::compile(alloc, typed)?;
+    let session = Session::start(alloc, lens)?;
+    Ok(PairRun { session })
+}
+
+// The refusal of a program part, with its line. Running out of memory is not a refusal.
+fn not_opened(alloc: Global, refused: Refused) -> NotOpened
+    requires { IsKnown refused }
+    ensures { (outcome : Result FormTree Refusal) → IsRefusal outcome refused → IsNotOpened pair_script outcome result }
+{
+    let line = refused_part_line(alloc, &refused);
+    drop(refused);
+    match line {
+        Ok(line) => NotOpened::Refused(line),
+        Err(_) => NotOpened::NoMemory,
+    }
+}
