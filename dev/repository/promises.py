@@ -9,9 +9,7 @@ from .pages import read_page
 PAGE = os.path.join("docs", "TRUST.md")
 SPECS = os.path.join("crates", "editlens_main", "specs")
 COMMANDS = [
-    ("`run`, `check`", "Runs", ["RunsScript"]),
-    ("`hub`", "RunsHub", ["RunsHub"]),
-    ("`link`", "RunsLink", ["RunsLink"]),
+    ("`run`, `check`, `hub`, `link`", "Runs", ["RunsScript"]),
     ("`gen`", "Generates", ["Generates"]),
     ("`init`", "MakesStore", ["MakesStore"]),
     ("`import`", "ImportsStore", ["ImportsStore"]),

@@ -12,7 +12,7 @@ def add_words(words, name):
 
 
 def write_or_check(given, path, wanted, script):
-    """Writes a file below the top, if --write is given, or compares it, and says what to do. Returns the status of the script."""
+    """Writes a file below the top, if --write is given, or compares it, and says what came of that. Returns the status of the script."""
     place = os.path.join(TOP, path)
     if given.write:
         with open(place, "w", encoding="utf-8") as file:
@@ -21,6 +21,7 @@ def write_or_check(given, path, wanted, script):
     if os.path.exists(place):
         with open(place, encoding="utf-8") as file:
             if file.read() == wanted:
+                print(f"{path} is up to date")
                 return 0
     print(f"{path} is out of date: run {script} --write")
     return 1

@@ -8,10 +8,10 @@ class RedisRefused(Exception):
 
 
 class Redis:
-    """A connection to a Redis of this machine."""
+    """A connection to a Redis of this machine. An OSError is raised where a reply takes longer than `timeout` seconds, if that is given."""
 
-    def __init__(self, port):
-        self.socket = socket.create_connection(("127.0.0.1", port))
+    def __init__(self, port, timeout=None):
+        self.socket = socket.create_connection(("127.0.0.1", port), timeout)
         self.replies = self.socket.makefile("rb")
 
     def call(self, *words):

@@ -1,6 +1,8 @@
 """A Redis of its own for the time of a block, and the keeper as it is run beside it."""
 
+import contextlib
 import os
+import random
 import shutil
 import signal
 import socket
@@ -13,6 +15,10 @@ from resp import Redis, RedisRefused, entries
 
 HERE = os.path.dirname(os.path.abspath(__file__))
 PROGRAM = "redis-server"
+PATIENCE = 600
+"""How many seconds a Redis may take to begin, or to answer, on a busy machine."""
+PORTS = range(20_000, 32_000)
+"""Ports that no connection gets by itself."""
 
 
 def is_installed():
@@ -21,10 +27,12 @@ def is_installed():
 
 
 def free_port():
-    """A port on which nothing listens."""
-    with socket.socket() as found:
-        found.bind(("127.0.0.1", 0))
-        return found.getsockname()[1]
+    """A port on which nothing listens now."""
+    while True:
+        port = random.SystemRandom().choice(PORTS)
+        with socket.socket() as found, contextlib.suppress(OSError):
+            found.bind(("127.0.0.1", port))
+            return port
 
 
 class Server:
@@ -34,33 +42,49 @@ class Server:
         self.is_lasting = is_lasting
 
     def __enter__(self):
-        self.folder, self.port = tempfile.TemporaryDirectory(), free_port()
+        self.folder = tempfile.TemporaryDirectory()
         self._start()
         return self
 
     def _start(self):
-        words = ["--port", str(self.port), "--bind", "127.0.0.1", "--dir", self.folder.name, "--save", ""]
-        words += ["--appendonly", "yes", "--appendfsync", "always"] if self.is_lasting else ["--appendonly", "no"]
-        self.child = subprocess.Popen([PROGRAM, *words], stdout=subprocess.DEVNULL, stderr=subprocess.DEVNULL)
-        self.queue = self._connected()
+        deadline = time.monotonic() + PATIENCE
+        while time.monotonic() < deadline:
+            self.port = free_port()
+            words = ["--port", str(self.port), "--bind", "127.0.0.1", "--dir", self.folder.name, "--save", ""]
+            words += ["--appendonly", "yes", "--appendfsync", "always"] if self.is_lasting else ["--appendonly", "no"]
+            self.child = subprocess.Popen([PROGRAM, *words], stdout=subprocess.DEVNULL, stderr=subprocess.DEVNULL)
+            # Redis ends where another program has taken the port meanwhile.
+            while self.child.poll() is None and time.monotonic() < deadline:
+                if self._is_connected():
+                    return
+                time.sleep(0.02)
+        self.child.kill()
+        self.child.wait()
+        raise OSError(f"{PROGRAM} does not answer on port {self.port}")
+
+    def _is_connected(self):
+        """Whether this Redis answers, and not another one that has the port."""
+        try:
+            queue = Redis(self.port, PATIENCE)
+        except OSError:
+            return False
+        try:
+            queue.call("PING")
+            said = queue.call("INFO", "server")
+        except (OSError, RedisRefused):
+            said = b""
+        if b"process_id:%d\r\n" % self.child.pid in said:
+            self.queue = queue
+            return True
+        queue.close()
+        return False
 
     def restart(self):
-        """Stops Redis by SIGKILL, and starts it again on its files."""
+        """Stops Redis by SIGKILL, and starts it again on its files, on another port."""
         self.child.kill()
         self.child.wait()
         self.queue.close()
         self._start()
-
-    def _connected(self):
-        for _ in range(1200):
-            try:
-                queue = Redis(self.port)
-                queue.call("PING")
-                return queue
-            except (OSError, RedisRefused):
-                time.sleep(0.05)
-        self.child.kill()
-        raise OSError(f"{PROGRAM} does not answer on port {self.port}")
 
     def __exit__(self, *_):
         self.queue.close()

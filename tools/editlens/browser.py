@@ -2,15 +2,25 @@
 
 import base64
 import json
+import os
+import re
+import select
 import shutil
-import socket
 import subprocess
 import time
 import urllib.error
 import urllib.request
 
 ELEMENT = "element-6066-11e4-a52e-4f735466cecf"
-PATIENCE = 180
+PATIENCE = 3600
+"""How many seconds something is waited for that is there at once on a machine with nothing else to do. A test has a limit of its own."""
+ANSWER = 600
+"""How many seconds the driver may take for an answer."""
+FAREWELL = 30
+"""How many seconds it may take to end the browser, which is killed else."""
+TRIES = 3
+"""How often a browser is started whose driver says that it did not begin, as on a very busy machine."""
+SAYS_PORT = re.compile(rb"started successfully on port (\d+)")
 KEYS = {
     "Tab": "\ue004", "Enter": "\ue007", "Escape": "\ue00c", "Space": " ", "ArrowLeft": "\ue012", "ArrowUp": "\ue013",
     "ArrowRight": "\ue014", "ArrowDown": "\ue015", "Shift": "\ue008", "Control": "\ue009", "End": "\ue010", "Home": "\ue011",
@@ -33,63 +43,68 @@ def find_browser():
     return browser, driver
 
 
-def _free_port():
-    with socket.socket() as some:
-        some.bind(("127.0.0.1", 0))
-        return some.getsockname()[1]
-
-
 class Browser:
     """A browser with one window or several. It is for `with`, which ends it. Raises NoBrowser where there is none."""
 
     def __init__(self, width=1280, height=800, is_dark=False):
         browser, driver = find_browser()
-        self.base = f"http://127.0.0.1:{_free_port()}"
-        words = [driver, f"--port={self.base.rsplit(':', 1)[1]}"]
-        self.driver = subprocess.Popen(words, stdout=subprocess.DEVNULL, stderr=subprocess.DEVNULL)
         options = [
             "--headless=new", "--no-sandbox", "--disable-gpu", "--disable-dev-shm-usage", "--hide-scrollbars", "--force-color-profile=srgb",
             f"--window-size={width},{height}", *(["--force-dark-mode"] if is_dark else []),
         ]
-        chrome = {"binary": browser, "args": options}
+        self._begin_driver(driver)
         try:
-            self._wait_for_driver()
-            wanted = {"capabilities": {"alwaysMatch": {"goog:chromeOptions": chrome, "goog:loggingPrefs": {"browser": "ALL"}}}}
-            self.session = self._call("POST", "/session", wanted)["sessionId"]
+            self.session = self._begun({"binary": browser, "args": options})
+            self._attend()
             self.resize(width, height)
         except BaseException:
-            self.driver.kill()
-            self.driver.wait()
+            self._end_driver()
             raise
 
-    def _wait_for_driver(self):
-        deadline = time.monotonic() + PATIENCE
-        while True:
-            try:
-                if self._call("GET", "/status", None)["ready"]:
-                    return
-            except OSError:
-                pass
-            if time.monotonic() > deadline:
+    def _begin_driver(self, path):
+        """Starts the driver on a port that it chooses itself and then names."""
+        self.driver = subprocess.Popen([path, "--port=0"], stdout=subprocess.PIPE, stderr=subprocess.DEVNULL)
+        said, deadline = b"", time.monotonic() + PATIENCE
+        while not SAYS_PORT.search(said):
+            ready, _, _ = select.select([self.driver.stdout], [], [], max(0.0, deadline - time.monotonic()))
+            piece = os.read(self.driver.stdout.fileno(), 1 << 12) if ready else b""
+            if not piece:
+                self._end_driver()
                 raise BrowserFault("the driver of the browser did not begin")
-            time.sleep(0.05)
+            said += piece
+        self.base = f"http://127.0.0.1:{int(SAYS_PORT.search(said)[1])}"
+
+    def _end_driver(self):
+        self.driver.kill()
+        self.driver.wait()
+        self.driver.stdout.close()
+
+    def _begun(self, chrome):
+        """A session with a browser. No script and no page is given up before a test is."""
+        limits = {"script": 1000 * ANSWER, "pageLoad": 1000 * ANSWER, "implicit": 0}
+        wanted = {"goog:chromeOptions": chrome, "goog:loggingPrefs": {"browser": "ALL"}, "timeouts": limits}
+        for turn in range(TRIES):
+            try:
+                return self._call("POST", "/session", {"capabilities": {"alwaysMatch": wanted}})["sessionId"]
+            except BrowserFault:
+                if turn == TRIES - 1:
+                    raise
 
     def __enter__(self):
         return self
 
     def __exit__(self, *_):
         try:
-            self._do("DELETE", "")
+            self._call("DELETE", f"/session/{self.session}", None, FAREWELL)
         except (BrowserFault, OSError):
             pass
-        self.driver.kill()
-        self.driver.wait()
+        self._end_driver()
 
-    def _call(self, method, path, body):
+    def _call(self, method, path, body, seconds=ANSWER):
         data = None if body is None else json.dumps(body).encode()
         request = urllib.request.Request(self.base + path, data, {"Content-Type": "application/json"}, method=method)
         try:
-            with urllib.request.urlopen(request, timeout=2 * PATIENCE) as said:
+            with urllib.request.urlopen(request, timeout=seconds) as said:
                 return json.load(said)["value"]
         except urllib.error.HTTPError as why:
             raise BrowserFault(json.load(why)["value"]["message"].split("\n")[0]) from None
@@ -109,13 +124,39 @@ class Browser:
         """A command of the browser's own protocol."""
         return self._do("POST", "/goog/cdp/execute", {"cmd": command, "params": given})
 
+    def _attend(self):
+        """Lets the window in use have the focus for as long as it is there, whatever is done in others."""
+        self.devtools("Emulation.setFocusEmulationEnabled", {"enabled": True})
+
     def open(self, url):
         """Goes to a page."""
         self._do("POST", "/url", {"url": url})
 
     def new_window(self):
         """Opens a window, and returns its name. The one that was used stays the one in use."""
-        return self._do("POST", "/window/new", {"type": "window"})["handle"]
+        here, made = self.window, self._do("POST", "/window/new", {"type": "window"})["handle"]
+        self.use(made)
+        self._attend()
+        self.use(here)
+        return made
+
+    @property
+    def windows(self):
+        """The names of all windows."""
+        return self._do("GET", "/window/handles")
+
+    def close_others(self):
+        """Closes all windows but the one in use, or but the first one where that was closed."""
+        windows = self.windows
+        try:
+            here = self.window
+        except BrowserFault:
+            here = windows[0]
+        for it in windows:
+            if it != here:
+                self.use(it)
+                self._do("DELETE", "/window")
+        self.use(here)
 
     @property
     def window(self):
@@ -140,12 +181,16 @@ class Browser:
 
     def click(self, selector):
         """Clicks on an element. One that the page draws anew meanwhile is looked for again."""
+        self.until(lambda: self._is_clicked(selector), f"{selector} is drawn anew again and again")
+
+    def _is_clicked(self, selector):
         try:
             self._do("POST", f"/element/{self.find(selector)[ELEMENT]}/click")
         except BrowserFault as why:
             if "stale element" not in str(why):
                 raise
-            self._do("POST", f"/element/{self.find(selector)[ELEMENT]}/click")
+            return False
+        return True
 
     def type(self, selector, text):
         """Types into an element, behind what is there."""
@@ -181,12 +226,12 @@ class Browser:
 
     @staticmethod
     def until(call, why, seconds=PATIENCE):
-        """What a call returns, once that is something. Raises BrowserFault after some seconds."""
+        """What a call returns, once that is something. Raises BrowserFault after some seconds, with a text or with what a call says then."""
         deadline = time.monotonic() + seconds
         while True:
             found = call()
             if found:
                 return found
             if time.monotonic() > deadline:
-                raise BrowserFault(why)
+                raise BrowserFault(why() if callable(why) else why)
             time.sleep(0.03)

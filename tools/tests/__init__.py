@@ -1,7 +1,7 @@
 """Tests of the tools, run by tools/check."""
 
-PATIENCE = 180
-"""How many seconds a test waits for what must come, also on a busy machine."""
+PATIENCE = 3600
+"""How many seconds a test waits for what must come. The limit of a test is shorter, and stops it with the place at which it waits."""
 
 
 class Skipped(Exception):

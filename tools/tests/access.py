@@ -1,18 +1,28 @@
 """The desk's page for everybody: each action by keyboard, a name for each control, contrast, and narrow windows. A browser is wanted."""
 
-import time
-
 from .desks import TASKS
 from .windows import ALL, started
+
+NEEDS_BROWSER = True
+
+TABS = """
+const name = (it) => it.getAttribute("aria-label") ?? it.innerText ?? "";
+const all = [...document.querySelectorAll("a[href], button, input, select, textarea, summary, [tabindex]")];
+const reached = all.filter((it) => !it.disabled && it.tabIndex >= 0 && it.checkVisibility());
+const [here, there] = [reached.indexOf(document.activeElement), reached.findIndex((it) => name(it) === arguments[0])];
+if (document.activeElement !== document.body && name(document.activeElement) === arguments[0]) return 0;
+return there > here && here >= 0 ? there - here : 1;
+"""
+"""How many steps of the tabulator lead to a control with a name, if it comes behind the one with the focus. One, if that is not known."""
 
 
 def tab_to(window, label):
     """Presses the tabulator until the focus is on a control with this name."""
-    name = "const it = document.activeElement; return it.getAttribute('aria-label') ?? it.innerText ?? ''"
     for _ in range(120):
-        if window.browser.run(name) == label:
+        steps = window.browser.run(TABS, label)
+        if steps == 0:
             return
-        window.browser.press("Tab")
+        window.browser.press(*["Tab"] * steps)
     raise AssertionError(f"the tabulator does not lead to {label}")
 
 
@@ -42,6 +52,7 @@ BY_KEYS = [
 def test_everything_by_keyboard():
     """Each action once, with keys alone: the tabulator leads to its control. Where there is no name, the focus is where it is wanted."""
     with started(ALL) as window:
+        window.settle()
         for number, (label, keys) in enumerate(BY_KEYS, 1):
             if label:
                 tab_to(window, label)
@@ -84,20 +95,29 @@ return document.documentElement.scrollWidth > innerWidth ? [...wide, "the page"]
 """
 
 
+STILL = """
+const { matches } = matchMedia(`(prefers-color-scheme: ${arguments[0]})`);
+document.getAnimations().forEach((it) => it.finish());
+return matches && innerWidth === arguments[1];
+"""
+"""Whether the page has the colours and the width that it was given. What still moves on it is moved to its end."""
+
+
 def test_names_contrast_and_width():
     left = {"plan": [{"todo": "A longer text than others, which has to fit into its row"}, {"done": "Lock"}], "hours": 8}
     with started(TASKS, left) as window:
         page = window.browser
         window.send("left", '[{"at":["hours",[{"add":1}]]}]')
-        page.until(lambda: window.says(".mark") == "changed", "no mark at what changed")
+        window.after(1)
+        assert window.says(".mark") == "changed", "no mark at what changed"
         window.send("left", '[{"at":["plan",[{"del":4}]]}]')
         page.find(".refused")
+        window.settle()
         assert page.run(NAMELESS) == []
         for scheme in ("light", "dark"):
             page.prefer(scheme)
             for width in (1280, 800, 480):
                 page.resize(width, 800)
-                # Colors and places are those at the end when they no longer move.
-                time.sleep(0.45)
-                page.until(lambda: page.run(PALE) == [], f"pale: {scheme}, {width}, {page.run(PALE)}")
-                page.until(lambda: page.run(WIDE) == [], f"wide: {width}, {page.run(WIDE)}")
+                page.until(lambda: page.run(STILL, scheme, width), f"the page does not become {scheme} and {width} wide")
+                assert page.run(PALE) == [], f"pale: {scheme}, {width}, {page.run(PALE)}"
+                assert page.run(WIDE) == [], f"wide: {width}, {page.run(WIDE)}"

@@ -11,6 +11,7 @@ import time
 import urllib.request
 from contextlib import contextmanager
 
+from editlens.browser import Browser
 from editlens.desk.complement import remembered
 from editlens.desk.desk import Desk
 from editlens.desk.drawing import drawn_document
@@ -160,10 +161,15 @@ def test_each_window_is_told():
             streams.append(connection.getresponse())
         first = [it.readline() for it in streams]
         assert all(it.startswith(b"data: ") for it in first), first
+        # The complement is news as well: that of the beginning is there before the edit, and that of the edit never comes.
+        Browser.until(lambda: server.desk.complement, "the complement does not come")
+        server.desk.keeper.reader = lambda: threading.Event().wait
+        with server.desk.news:
+            before = server.desk.signal
         sent(server, "edit", base=0, side="left", edit=EIGHT)
-        for stream, before in zip(streams, first):
-            later = next(it for it in iter(stream.readline, b"") if it.startswith(b"data: ") and it != before)
-            assert int(later.split()[1]) > int(before.split()[1])
+        for stream in streams:
+            news = (int(it.split()[1]) for it in iter(stream.readline, b"") if it.startswith(b"data: "))
+            assert any(it > before for it in news), "the stream ends before the news come"
 
 
 def test_documents_that_exist():
@@ -317,7 +323,8 @@ def test_the_address_is_kept_from_others():
         try:
             address = desk.stdout.readline().split()[-1]
             deadline = time.monotonic() + PATIENCE
-            while not os.path.exists(told) and time.monotonic() < deadline:
+            while not os.path.exists(told):
+                assert time.monotonic() < deadline and desk.poll() is None, "no browser is called"
                 time.sleep(0.02)
             with open(told, encoding="utf-8") as file:
                 number, words, mode, page = file.read().split("\n", 3)

@@ -4,7 +4,6 @@ import contextlib
 import os
 import tempfile
 import threading
-import time
 
 from editlens import (
     DocumentsDiffer,
@@ -29,7 +28,7 @@ from editlens.parts import program_of
 from editlens.program import TOP
 
 from . import PATIENCE
-from .locks import need_lock
+from .locks import given_back_later, need_lock
 
 PROGRAM = "main {a ~ b: id int, left hours: int}\n"
 ADD = [{"at": ["a", [{"add": 1}]]}]
@@ -106,10 +105,7 @@ def test_an_open_store_has_the_lock():
         with StoreLock(other.folder):
             raised(StoreBusy, store.reopen)
             assert not store.is_open
-        held = StoreLock(other.folder)
-        held.take()
-        threading.Timer(0.3, held.give_back).start()
-        with Store.open(other.folder, wait=60) as again:
+        with given_back_later(other.folder), Store.open(other.folder, wait=PATIENCE) as again:
             assert again.stored == 1
         store.reopen()
 
@@ -152,15 +148,15 @@ def test_an_answer_that_is_lost():
 
 
 def test_no_answer_within_the_time():
-    with lost('IFS= read -r probe; echo "refused 1 not-an-entry"; IFS= read -r line; sleep 60', timeout=0.5) as store:
-        running, began = store._run.child, time.monotonic()
+    with lost('IFS= read -r probe; echo "refused 1 not-an-entry"; IFS= read -r line; exec sleep 3600', timeout=0.5) as store:
+        running = store._run.child
         why = raised(NoAnswer, lambda: store.left(ADD))
-        assert why.stored == 0 and "within 0.5 seconds" in str(why) and time.monotonic() - began < 30
+        assert why.stored == 0 and "within 0.5 seconds" in str(why)
         assert running.returncode == -9 and not store.is_open
     with tempfile.TemporaryDirectory() as folder:
         path = os.path.join(folder, "program")
         with open(path, "w", encoding="utf-8") as file:
-            file.write(f'#!/bin/bash\n[ "$1" = run ] || exec {os.environ["EDITLENS"]} "$@"\nexec sleep 60\n')
+            file.write(f'#!/bin/bash\n[ "$1" = run ] || exec {os.environ["EDITLENS"]} "$@"\nexec sleep 3600\n')
         os.chmod(path, 0o755)
         session = Session(PROGRAM, path, timeout=0.5)
         assert raised(NoAnswer, lambda: session.left(ADD)).stored is None
@@ -168,7 +164,7 @@ def test_no_answer_within_the_time():
 
 def test_an_answer_that_is_none():
     for said in ("ok", "ok 2 right [", "ok two right []", "yes", "refused 2 group", ""):
-        with lost(f'IFS= read -r probe; echo "refused 1 not-an-entry"; IFS= read -r line; echo "{said}"; sleep 60') as store:
+        with lost(f'IFS= read -r probe; echo "refused 1 not-an-entry"; IFS= read -r line; echo "{said}"; exec sleep 3600') as store:
             why = raised(NotAnAnswer, lambda: store.left(ADD))
             assert why.stored == 0 and why.line == said + "\n" and not store.is_open, said
 

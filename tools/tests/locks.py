@@ -11,6 +11,7 @@ import subprocess
 import tempfile
 import threading
 import time
+from unittest import mock
 
 from editlens.answers import Accepted
 from editlens.lock import StoreBusy, StoreLock, is_busy
@@ -119,10 +120,13 @@ def two_that_make(command):
     with tempfile.TemporaryDirectory() as folder:
         store = Store(folder)
         first = started(store, command)
+        deadline = time.monotonic() + PATIENCE
         while not is_busy(folder):
             # A look that takes the lock for a moment may be the reason that the first one did not get it.
             if first.poll() is not None:
+                first.communicate()
                 first = started(store, command)
+            assert time.monotonic() < deadline, "no run takes the lock"
             time.sleep(0.01)
         ran = subprocess.run([program(), command], cwd=folder, input=script.encode(), stdout=subprocess.PIPE, check=False)
         assert (ran.returncode, ran.stdout, os.listdir(folder)) == (7, b"", []), ran
@@ -166,45 +170,37 @@ def killed_holder():
         need_state(store, found + 1)
 
 
-def show_beside(shows):
+def show_beside(rounds, most=5):
     """`show` and `verify` beside a run of `apply` that writes: never refused, and with each change that was answered before.
 
-    The pace of the writer is that of the reader, with some four changes in each reading. So the store stays short on a busy machine, too.
+    While one of them runs, `apply` makes changes: at least one, and no more than `most`, so that the store stays short on a busy machine.
     """
     with stored() as store:
-        running, answered, is_over, pace = started(store, "apply"), [0], threading.Event(), [0.01]
+        running, answered = started(store, "apply"), 0
+        for turn in range(2 * rounds):
+            words, before = ("show", "verify")[turn % 2], answered
+            reading = subprocess.Popen([program(), words], cwd=store.folder, stdout=subprocess.PIPE, text=True)
+            while answered == before or reading.poll() is None and answered < before + most:
+                assert answer(running).startswith(b"ok "), answered
+                answered += 1
+            said, _ = reading.communicate()
+            assert reading.returncode == 0, (words, reading.returncode, said)
+            counts = {int(said.removeprefix("consistent "))} if words == "verify" else counts_of(store, said)
+            assert len(counts) == 1 and before <= min(counts) <= answered, (words, before, counts, answered)
+        running.communicate()
+        need_state(store, answered)
 
-        def write():
-            while not is_over.wait(pace[0]):
-                assert answer(running).startswith(b"ok ")
-                answered[0] += 1
 
-        def timed(call):
-            began = time.monotonic()
-            found = call()
-            pace[0] = (time.monotonic() - began) / 4
-            return found
-
-        writer = threading.Thread(target=write)
-        writer.start()
-        try:
-            for _ in range(shows):
-                before = answered[0]
-                left, right, _ = timed(store.show)
-                assert left["count"] == right["number"] >= before
-                assert timed(store.verify) >= left["count"]
-        finally:
-            is_over.set()
-            writer.join()
-            running.communicate()
-        assert answered[0] > shows
-        need_state(store, answered[0])
+def counts_of(store, said):
+    """The counts that both documents of a state have."""
+    left, right, _ = store.state(said.splitlines())
+    return {left["count"], right["number"]}
 
 
 def python_clients(clients=2, edits=5):
     """Clients that each make short runs, and try again where the store is busy: all that was accepted is there."""
     with stored() as store:
-        failed = []
+        failed, deadline = [], time.monotonic() + PATIENCE
 
         def client():
             for _ in range(edits):
@@ -212,13 +208,18 @@ def python_clients(clients=2, edits=5):
                     try:
                         assert isinstance(Store(store.folder).apply([entry()])[0], Accepted)
                         break
-                    except StoreBusy:
-                        time.sleep(random.random() / 50)
+                    except StoreBusy as why:
+                        busy = why
                     except Exception as why:
                         # A run that ended while this one began is told from a disk that fails by another try.
-                        if getattr(why, "status", None) != 7:
+                        busy = why if getattr(why, "status", None) == 7 else None
+                        if not busy:
                             failed.append(why)
                             return
+                    if time.monotonic() > deadline:
+                        failed.append(busy)
+                        return
+                    time.sleep(random.random() / 50)
 
         threads = [threading.Thread(target=client) for _ in range(clients)]
         for it in threads:
@@ -315,11 +316,18 @@ def test_a_lock_of_a_tool():
                 StoreLock(folder, wait=0.2).take()
                 raise AssertionError("the lock was taken twice")
             assert time.monotonic() - began >= 0.2 and is_busy(folder)
-        with StoreLock(folder, wait=5):
+        with StoreLock(folder, wait=PATIENCE):
             pass
         assert not is_busy(folder)
-        later = StoreLock(folder)
-        later.take()
-        threading.Timer(0.2, later.give_back).start()
-        with StoreLock(folder, wait=60):
+        with given_back_later(folder), StoreLock(folder, wait=PATIENCE):
             pass
+
+
+@contextlib.contextmanager
+def given_back_later(folder):
+    """A folder whose lock is held until a first one has found that it is, and begins to wait."""
+    held = StoreLock(folder)
+    held.take()
+    with mock.patch("editlens.lock.time.sleep", side_effect=lambda _: held.give_back()) as waited:
+        yield
+    assert waited.called, "nobody has waited"

@@ -6,7 +6,7 @@ Debian's chromium and chromium-driver are wanted, or all is skipped.
 import json
 import os
 import tempfile
-import time
+import threading
 
 from editlens.desk.desk import Desk
 from editlens.desk.keepers import RunKeeper, StoreKeeper, state_after
@@ -15,10 +15,11 @@ from editlens.json_text import pointer
 from editlens.program import TOP
 from editlens.store import Store
 
-from .desks import TASKS, served
+from .desks import TASKS
 from .sharing import COMPOSED
-from .windows import ALL, Window, opened, started
+from .windows import ALL, opened, started
 
+NEEDS_BROWSER = True
 FIELDS = {
     "left": {it: it for it in ("flag", "level", "count", "name", "tags", "costs", "kind", "outline")},
     "right": {
@@ -86,6 +87,19 @@ def test_each_kind_of_edit_from_both_sides():
             assert left["outline"] == {"depths": [0, 1, 2], "items": ["top", "three", ""]}, left
 
 
+TIED = """
+const place = (it) => it.closest(".side").id + it.dataset.place;
+const tied = () => [...document.querySelectorAll(".tied")].map(place).sort();
+"""
+POINTED = f"""{TIED}
+const [side, selector] = arguments;
+window.page.pointedAt(null, null);
+window.page.pointedAt(window.page.sides[side], document.querySelector(selector));
+return tied();
+"""
+"""The places that are tied where the pointer is over an element. All in one step, since the pointer of the browser is somewhere, too."""
+
+
 def test_the_tasks_example():
     """The README's four edits, by hand and by the controls: the documents, what is said of them, and what belongs together."""
     with started(TASKS) as window:
@@ -100,16 +114,12 @@ def test_the_tasks_example():
         window.write("left", ("plan", 1, "todo"), "Paint", "Enter")
         window.after(5)
         window.shows_what_the_program_says()
-        page.until(lambda: "done, todo" in window.says("#complement"), "the complement does not come")
-        tied = "return [...document.querySelectorAll('.tied')].map((it) => it.closest('.side').id + it.dataset.place).sort()"
-
-        def are_tied():
-            # (a page that is drawn anew below the pointer forgets it until it moves)
-            page.point(window.control("left", ("plan", 0, "done")))
-            page.point(window.control("left", ("plan", 1, "todo")))
-            return page.run(tied) == ["left/plan/1", "right/board/todo/0"]
-
-        page.until(are_tied, "the field and its other side are not tied")
+        page.until(window.is_told, "the complement does not come")
+        assert "done, todo" in window.says("#complement")
+        page.point(window.control("left", ("plan", 0, "done")))
+        page.point(window.control("left", ("plan", 1, "todo")))
+        tied = f"{TIED} return tied();"
+        page.until(lambda: page.run(tied) == ["left/plan/1", "right/board/todo/0"], lambda: f"tied are {page.run(tied)}")
         window.send("left", '[{"at":["plan",[{"del":4}]]}]')
         page.until(lambda: "refused: range at /plan" in window.says("#left [data-place='/plan'] > .refused"), "no refusal at its place")
         assert "from 1 to 2 items" in window.says("#left .refused") and "Nothing has changed" in window.says("#last-edit")
@@ -135,13 +145,46 @@ def test_what_belongs_together():
     left = [{"firm": "A"}, {"person": {"birthday": "", "name": "Ida"}}, {"firm": "B"}, {"person": {"birthday": "", "name": "Bo"}}]
     with started(COMPOSED, left) as window:
         window.shows_what_the_program_says()
-        window.browser.until(lambda: "firm, person, firm, person" in window.says("#complement"), "the complement does not come")
-        tied = "return [...document.querySelectorAll('.tied')].map((it) => it.closest('.side').id + it.dataset.place).sort()"
+        window.browser.until(window.is_told, "the complement does not come")
+        assert "firm, person, firm, person" in window.says("#complement")
         for side, place, wanted in BELONG:
-            window.browser.run("window.page.pointedAt(null, null)")
-            at = f"#{side} [data-place={json.dumps(place)}]"
-            window.browser.run("window.page.pointedAt(window.page.sides[arguments[0]], document.querySelector(arguments[1]))", side, at)
-            assert window.browser.run(tied) == wanted, (side, place, window.browser.run(tied))
+            found = window.browser.run(POINTED, side, f"#{side} [data-place={json.dumps(place)}]")
+            assert found == wanted, (side, place, found)
+
+
+HOLD = """
+const asked = window.fetch;
+window.answers = 0;
+window.fetch = async (...words) => {
+  const said = await asked(...words);
+  window.answers += 1;
+  if (window.answers === 1) await new Promise((done) => { window.release = done; });
+  return said;
+};
+window.page.refresh();
+"""
+"""Asks for the state of the desk, and holds the answer back until `release` is called."""
+
+
+def test_no_answer_is_drawn_over_a_later_one():
+    """An answer without the complement comes late, behind the news that the complement is there."""
+    keeper, is_known = RunKeeper(TASKS), threading.Event()
+    with opened(Desk(keeper, "test")) as window:
+        page, reader = window.browser, keeper.reader
+        page.until(window.is_told, "the complement does not come")
+        keeper.reader = lambda: lambda read=reader(): is_known.wait() and read()
+        window.write("left", ("hours",), "5", "Enter")
+        window.after(1)
+        page.run(HOLD)
+        page.until(lambda: page.run("return Boolean(window.release)"), "no answer comes")
+        is_known.set()
+        page.until(lambda: window.desk.complement["version"] == 1, "the desk does not find the complement")
+        for _ in range(50):
+            # A page that draws answers as they come draws the later one now.
+            if page.run("return window.answers") > 1:
+                break
+        page.run("window.release()")
+        page.until(window.is_told, "an older answer was drawn over a newer one")
 
 
 def test_numbers_of_64_bits_and_refusals_at_their_places():
@@ -157,7 +200,7 @@ def test_numbers_of_64_bits_and_refusals_at_their_places():
         for act, place, cause in refused:
             act()
             selector = f"[data-place='{place}'] > .refused"
-            page.until(lambda: f"refused: {cause} at {place}" in window.says(selector), f"{cause}: {window.says('.refused')}")
+            page.until(lambda: f"refused: {cause} at {place}" in window.says(selector), lambda: f"{cause}: {window.says('.refused')}")
             window.shows_what_the_program_says()
         assert window.desk.version == 0
         window.write("left", ("a",), str(BIG - 1), "Enter")
@@ -198,7 +241,8 @@ def test_two_windows():
         window.after(1)
         window.shows_what_the_program_says()
         page.use(second)
-        page.until(lambda: window.says("#last-edit").find("moved") > 0, "the second window does not see the change")
+        window.after(1)
+        assert "moved" in window.says("#last-edit"), "the second window does not see the change"
         shown = "return document.activeElement.value"
         assert page.run(shown) == "Tiles", page.run(shown)
         page.press("Enter")
@@ -221,8 +265,8 @@ def test_two_windows():
         page.press("Enter")
         window.after(4)
         assert window.desk.keeper.documents["right"]["color"] == "green"
-        page.run("window.close()")
         page.use(first)
+        page.close_others()
 
 
 def test_edits_faster_than_their_answers():
@@ -264,21 +308,19 @@ def test_a_document_of_2000_records():
     program = "main {people ~ rows: each {name ~ title: id text, phone ~ tel: id text, score ~ points: id int, left note: text}}"
     keeper = RunKeeper(program)
     keeper.entry("left", [{"at": ["people", [{"ins": 2_000}, {"mod": [1_999, [{"at": ["name", [{"set": "the last"}]]}]]}]]}])
-    with served(Desk(keeper, "many")) as server:
-        begin = time.monotonic()
-        window = Window(server.desk, server.url)
-        painted = time.monotonic() - begin
-        begin = time.monotonic()
+    shown, drawn = "return document.querySelector(arguments[0])?.value", "return document.querySelectorAll('#left .entry, #right .entry').length"
+    with opened(Desk(keeper, "many")) as window:
+        page, value = window.browser, lambda side, path: window.browser.run(shown, window.control(side, path))
+        # However many records there are, a page draws so few of them that it is drawn at once.
+        assert page.run(drawn) == 100, page.run(drawn)
         window.write("left", ("people", 1, "name"), "Ida", "Enter")
-        shown = "return document.querySelector(arguments[0])?.value"
-        window.browser.until(lambda: window.browser.run(shown, window.control("right", ("rows", 1, "title"))) == "Ida", "no edit came")
-        edited = time.monotonic() - begin
-        window.browser.click("#right [data-key='/rows|page-last']")
-        assert window.browser.run(shown, window.control("right", ("rows", 1999, "title"))) == "the last"
+        window.after(1)
+        assert value("right", ("rows", 1, "title")) == "Ida" and page.run(drawn) == 100
+        page.click("#right [data-key='/rows|page-last']")
+        page.until(lambda: value("right", ("rows", 1999, "title")) == "the last", "the last part is not shown")
         window.click("right", ("rows",), "add")
-        window.browser.find(window.control("right", ("rows", 2000, "title")))
-        assert painted < 60 and edited < 60, (painted, edited)
-        window.browser.open("about:blank")
+        window.after(2)
+        page.find(window.control("right", ("rows", 2000, "title")))
 
 
 def test_a_replay_forward_and_back():
@@ -307,7 +349,7 @@ def test_another_program_in_the_editor():
         page.run("const it = document.getElementById('program-text'); it.focus(); it.select()")
         page.press(*"main {plan ~ board: part <todo: text, done: txt>}")
         page.until(lambda: "unknown-name" in window.says("#program-said"), "the program is not checked")
-        page.until(lambda: window.says("#program-colours .bad") == "txt", f"marked is {window.says('#program-colours .bad')}")
+        page.until(lambda: window.says("#program-colours .bad") == "txt", lambda: f"marked is {window.says('#program-colours .bad')}")
         page.run("document.getElementById('program-text').select()")
         page.press(*"main {plan ~ board: part <todo: text, done: text>, left hours: text}")
         page.until(lambda: page.run("return !document.getElementById('load').disabled"), "it cannot be loaded")

@@ -50,6 +50,14 @@ class Queue:
     def keep(self, *options):
         return server.keep(self.server.port, NAME, self.folder, *options)
 
+    def until_answered(self, count, keeper):
+        """Waits until so many edits are answered, by a keeper that goes on."""
+        deadline = time.monotonic() + PATIENCE
+        while len(self.answers()) < count:
+            assert keeper.poll() is None, keeper.communicate()
+            assert time.monotonic() < deadline, f"the keeper does not come to answer {count}"
+            time.sleep(0.002)
+
     def ends(self, options=("--once",), status=0):
         """Runs a keeper to its end. Returns what it says."""
         keeper = self.keep(*options)
@@ -114,11 +122,8 @@ def test_answers_that_the_queue_has_lost():
 def test_killed_at_any_moment():
     with queue(lines() * 3) as here:
         for turn in range(8):
-            keeper = here.keep()
-            seen = len(here.answers())
-            deadline = time.monotonic() + PATIENCE
-            while len(here.answers()) < min(seen + 1, len(here.given)) and time.monotonic() < deadline:
-                time.sleep(0.002)
+            seen, keeper = len(here.answers()), here.keep()
+            here.until_answered(min(seen + 1, len(here.given)), keeper)
             time.sleep(random.random() / 50)
             server.kill(keeper, is_group=turn % 2)
         here.ends()
@@ -134,9 +139,7 @@ def test_redis_is_killed():
             if seen == len(here.given):
                 break
             keeper = here.keep()
-            while len(here.answers()) < min(seen + more, len(here.given)):
-                assert keeper.poll() is None, keeper.communicate()
-                time.sleep(0.002)
+            here.until_answered(min(seen + more, len(here.given)), keeper)
             here.server.restart()
             said = keeper.communicate(timeout=PATIENCE)[1]
             assert keeper.returncode == 1 and said.count(b"\n") == 1, said
@@ -148,8 +151,14 @@ def test_a_keeper_waits_for_the_run_of_another():
     """A second keeper begins when the first one and its run of `apply` are gone."""
     with queue() as here:
         first = here.keep()
+        here.until_answered(1, first)
         second = here.keep("--once")
-        time.sleep(0.5)
+        deadline = time.monotonic() + PATIENCE
+        # The second one connects before it looks at the lock: both and this test are connected then.
+        while here.server.queue.call("CLIENT", "LIST").count(b"\n") < 3:
+            assert second.poll() is None and time.monotonic() < deadline, "the second keeper does not come to Redis"
+            time.sleep(0.01)
+        assert first.poll() is None and second.poll() is None
         server.kill(first, is_group=False)
         assert second.wait(PATIENCE) == 0, second.communicate()
         second.communicate()

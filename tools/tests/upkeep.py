@@ -178,7 +178,7 @@ def test_a_backup_beside_a_writer():
             for _ in range(20 * (number % 2)):
                 child.stdout.readline()
             made, count = backup(store.folder, os.path.join(copies, str(number)))
-            assert made == os.path.join(copies, str(number)) and 20 * (number // 2) + 1 <= count <= 20 * number + 1
+            assert made == os.path.join(copies, str(number)) and 20 * ((number + 1) // 2) + 1 <= count <= 20 * number + 1
         child.communicate()
         whole = bytes_of(store.file)
         assert store.verify() == 161

@@ -1,6 +1,5 @@
 """The page of a desk in a browser, for tests: it is driven, and what its controls show is held against what the program says."""
 
-import atexit
 import json
 from contextlib import contextmanager
 
@@ -21,20 +20,46 @@ const found = [...document.querySelectorAll(`#${arguments[0]} .document [data-ke
 return Object.fromEntries(found.map((it) => [it.dataset.key, it.type === "checkbox" ? it.checked : it.value]));
 """
 
+SETTLED = """
+const page = window.page;
+return page ? Promise.all([page.turn, page.drawn]).then(() => page.state && page.state.version) : null;
+"""
+"""The version that a page shows when it has sent all that it was told to, and has drawn each answer with its focus."""
+TOLD = "const { complement, version } = window.page.state; return Boolean(complement) && complement.version === version"
+
 _open = {}
+"""The browser of all tests. It is begun before their processes, which all drive it."""
+
+
+def begin_browser():
+    """Begins the browser of all tests, unless it is there."""
+    if "browser" not in _open:
+        _open["browser"] = Browser()
+
+
+def end_browser():
+    """Ends the browser of all tests."""
+    if "browser" in _open:
+        _open.pop("browser").__exit__()
+
+
+def forget_browser():
+    """Makes the next test that wants a browser begin another one, where a test has failed."""
+    _open.clear()
 
 
 def browser():
-    """The browser of all tests, as it is when it begins."""
-    if "browser" not in _open:
-        try:
-            _open["browser"] = Browser()
-        except NoBrowser as why:
-            raise Skipped(str(why)) from None
-        atexit.register(_open["browser"].__exit__)
+    """The browser of all tests as it is when it begins: one window without a page, and an empty log."""
+    try:
+        begin_browser()
+    except NoBrowser as why:
+        raise Skipped(str(why)) from None
     found = _open["browser"]
+    found.close_others()
+    found.open("about:blank")
     found.resize(1280, 800)
     found.prefer("light")
+    found.complaints()
     return found
 
 
@@ -61,12 +86,24 @@ def wanted_controls(ty, value, path=()):
 
 
 class Window:
-    """A page of a desk in the browser."""
+    """A page of a desk in the browser. What is done to it waits until the page is settled: until it shows the newest version as it will stay."""
 
     def __init__(self, desk, url):
         self.desk, self.browser = desk, browser()
         self.browser.open(url)
         self.browser.find("#right [data-place]")
+
+    def settle(self):
+        """Waits until the page has nothing on its way, and shows the version that the desk has."""
+        self.browser.until(self._is_settled, lambda: f"the page is behind: {self.says('#message')}")
+
+    def _is_settled(self):
+        shown = self.browser.run(SETTLED)
+        return shown is not None and (not self.desk.can_edit or shown == self.desk.version)
+
+    def is_told(self):
+        """Whether the page has the complement of the version that it shows."""
+        return self.browser.run(TOLD)
 
     @staticmethod
     def control(side, path, role="value"):
@@ -75,11 +112,13 @@ class Window:
 
     def click(self, side, path, role):
         """Clicks on a control."""
+        self.settle()
         self.browser.click(self.control(side, path, role))
 
     def focus(self, selector):
         """Puts the focus on a control, with what is written there selected."""
         script = "const it = document.querySelector(arguments[0]); it?.focus(); it?.select?.(); return Boolean(it)"
+        self.settle()
         self.browser.until(lambda: self.browser.run(script, selector), f"there is no {selector}")
 
     def write(self, side, path, text, *keys, role="value"):
@@ -94,6 +133,7 @@ class Window:
 
     def send(self, side, text):
         """Writes an edit by hand and sends it."""
+        self.settle()
         script = "const box = document.querySelector(`#${arguments[0]} .by-hand`); box.open = true; box.querySelector('textarea').value = arguments[1]"
         self.browser.run(script, side, text)
         self.browser.click(f"#{side} .by-hand button")
@@ -107,12 +147,14 @@ class Window:
         types = self.desk.keeper.types if version is None else self.desk.types
         for side in ("left", "right"):
             controls = wanted_controls(types[side], wanted[side])
-            self.browser.until(lambda: self.browser.run(CONTROLS, side) == controls, f"{side}: {self.browser.run(CONTROLS, side)} and not {controls}")
+            found = lambda side=side: self.browser.run(CONTROLS, side)
+            self.browser.until(lambda: found() == controls, lambda: f"{side}: {found()} and not {controls}")
 
     def after(self, count):
-        """Waits until so many changes came since the desk began, and the page shows the last one."""
-        self.browser.until(lambda: self.desk.version >= count, f"change {count} did not come: {self.says('#message')} {self.says('.refused')}")
-        self.browser.until(lambda: self.browser.run("return window.page.state.version") == self.desk.version, "the page is behind")
+        """Waits until so many changes came since the desk began, and no more, and the page shows the last one."""
+        said = lambda: f"change {count} did not come: {self.says('#message')} {self.says('.refused')}"
+        self.browser.until(lambda: self.desk.version >= count, said)
+        self.settle()
         assert self.desk.version == count, (self.desk.version, count)
 
     def shows_what_the_program_says(self):
@@ -125,7 +167,6 @@ class Window:
 @contextmanager
 def opened(desk):
     """A desk with its page in the browser, whose log has no fault at the end."""
-    browser().complaints()
     with served(desk) as server:
         window = Window(desk, server.url)
         window.url = server.url

@@ -143,6 +143,7 @@ class Page {
     this.refusal = null;
     this.versions = new Versions();
     this.turn = Promise.resolve();
+    this.drawn = Promise.resolve();
     this.sides = Object.fromEntries(SIDES.map((it) => [it, new Side(it, this)]));
     this.steps = new Steps((step) => this.go(step));
     this.program = new ProgramEditor((text) => call("check", { program: text }), (text) => this.load(text));
@@ -158,7 +159,13 @@ class Page {
     document.body.classList.toggle("lost", !isThere);
   }
 
-  async refresh(focus = null) {
+  /** Draws what the server has, behind what is on its way: no answer is drawn over that of a later question. */
+  refresh(focus = null) {
+    this.drawn = this.drawn.then(() => this.refreshNow(focus)).catch(reportError);
+    return this.drawn;
+  }
+
+  async refreshNow(focus) {
     const state = await stateAt(this.step);
     if (state.sides) this.draw(state, focus);
     else this.say(state);
