@@ -19,6 +19,7 @@ use Rattle.kept_sessions.specs.declared.running.Running.{Running}
 abbrev pub is_taken : Outcome → Bool
 is_taken outcome.LineFeed = false
 is_taken outcome.Full = false
+is_taken outcome.NoChange = false
 is_taken outcome.NoMemory = false
 is_taken outcome.NoSession = false
 is_taken end = true
