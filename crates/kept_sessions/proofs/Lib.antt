@@ -9,3 +9,4 @@ pub mod PartTexts
 pub mod RefusedPrograms
 pub mod SameStates
 pub mod UndoneSteps
+pub mod UndoneTexts

@@ -100,10 +100,10 @@ has_record : (change : ChangeTree) → Fit change → HasRecord 2 change
 has_record (one e) fit = fit
 has_record (group es) fit = (fit.0, fit.1, refl)
 
-same_change : (line : Line) (change other : ChangeTree) → change_of_line line ≡ Ok change → change_of_line line ≡ Ok other → change ≡ other
+pub same_change : (line : Line) (change other : ChangeTree) → change_of_line line ≡ Ok change → change_of_line line ≡ Ok other → change ≡ other
 same_change line change other h k = cc
 
-form_stays : (before after : Running) → after.session.lens ≡ before.session.lens → form_of after ≡ form_of before
+pub form_stays : (before after : Running) → after.session.lens ≡ before.session.lens → form_of after ≡ form_of before
 form_stays before after e = ap (λ (x : ReadyForm). form_tree x.typed) e
 
 -- the step of an item that was accepted

@@ -4,7 +4,10 @@ use Rattle.std.specs.Prelude.{◌≡◌, ℕ, List, [], ◌∷◌, Option, None,
 use Rattle.serde_json.specs.Written.{compact_text}
 use Rattle.texts.specs.declared.side.Side.{Side}
 use Rattle.texts.specs.declared.side.Side.TheVariants as side
+use Rattle.doc_values.specs.Documents.{DocTree}
+use Rattle.doc_values.specs.Types.{TyTree}
 use Rattle.edit_json.specs.WordJson.{tree_of_word}
+use Rattle.edit_module.specs.Action.{act}
 use Rattle.edit_module.specs.Changes.{ChangeTree}
 use Rattle.edit_module.specs.Words.{WordTree}
 use Rattle.edit_journal.specs.EntryJson.{change_of_line, tree_of_text}
@@ -86,6 +89,12 @@ pub record IsUndoText (form : FormTree) (a : Accepted) (s : Side) (text : List �
   pub words : BothTrees
   pub way : IsWayBack form (triple_tree a.before) change words
   pub is_text : text ≡ compact_text (tree_of_word (word_on s words))
+
+-- the text is that of a word that takes the one document back to the other
+pub record IsWordBack (ty : TyTree) (now was : DocTree) (text : List ℕ) : Type 0 where
+  pub word : WordTree
+  pub is_text : text ≡ compact_text (tree_of_word word)
+  pub acts : act ty word now ≡ Ok was
 
 abbrev pub HasUndoText : FormTree → Option Accepted → Side → List ℕ → Type 0
 HasUndoText form (Some a) s text = IsUndoText form a s text

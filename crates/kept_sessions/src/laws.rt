@@ -5,8 +5,8 @@ ghost use Rattle.accepted_programs.specs.Program.{lens_of};
 ghost use Rattle.edit_session.specs.Step.{TripleTree};
 ghost use Rattle.edit_session.specs.Views.{triple_tree};
 ghost use Rattle.journal_answers.specs.Runs.{IsInStepFor};
-ghost use Rattle.lens_forms.specs.Forms.{FormTree};
-ghost use Rattle.kept_sessions.specs.Changes.{IsMade};
+ghost use Rattle.lens_forms.specs.Forms.{FormTree, left_type, right_type};
+ghost use Rattle.kept_sessions.specs.Changes.{IsMade, IsWordBack};
 ghost use Rattle.kept_sessions.specs.Journals.{IsGiven, IsReported, IsSameState};
 ghost use Rattle.kept_sessions.specs.Kept.{IsOpened, IsFresh, IsResumed, IsReopened, IsShown, text_of};
 ghost use Rattle.kept_sessions.specs.Logs.{IsLog, IsLogged, IsSameSession};
@@ -15,7 +15,7 @@ ghost use Rattle.kept_sessions.specs.Steps.{form_of, IsLineStep};
 ghost use Rattle.kept_sessions.specs.declared.kept.Kept.{Kept as KeptValue};
 ghost use Rattle.kept_sessions.specs.declared.kept.Kept.TheVariants.{Open};
 ghost use Rattle.kept_sessions.specs.declared.outcome.Outcome.TheVariants.{Done};
-ghost use Rattle.kept_sessions.specs.declared.outcome.Part.TheVariants.{State, Left, Complement, Right, Snapshot, Change};
+ghost use Rattle.kept_sessions.specs.declared.outcome.Part.TheVariants.{State, Left, Complement, Right, Snapshot, Change, UndoLeft, UndoRight};
 ghost use Rattle.kept_sessions.specs.declared.running.Accepted.{Accepted as AcceptedValue};
 ghost use Rattle.kept_sessions.specs.declared.running.Running.{Running as RunningValue};
 
@@ -71,6 +71,16 @@ pub fn records_stand()
         → IsReopened records reopened → IsSameState (form_of r) (triple_tree r.session.triple) reopened }
     ensures goes_on { (records : List (List ℕ)) (r again : RunningValue) → IsLog records r
         → IsReopened records (Open again) → IsLog records again }
+{}
+
+/// The words that are shown of the last change take the documents of the session back to what they were before its line.
+pub fn words_take_back()
+    ensures left { (line text : List ℕ) (before after : RunningValue) → IsLineStep before line Done after
+        → IsPartText (form_of after) (triple_tree after.session.triple) after.accepted UndoLeft text
+        → IsWordBack (left_type (form_of after)) (triple_tree after.session.triple).left (triple_tree before.session.triple).left text }
+    ensures right { (line text : List ℕ) (before after : RunningValue) → IsLineStep before line Done after
+        → IsPartText (form_of after) (triple_tree after.session.triple) after.accepted UndoRight text
+        → IsWordBack (right_type (form_of after)) (triple_tree after.session.triple).right (triple_tree before.session.triple).right text }
 {}
 
 /// What is kept of a line that was accepted is its change, which the lens accepts. So its parts are shown, unless memory runs out.
