@@ -1,5 +1,7 @@
 -- A text that is cut at each LF, byte by byte.
-use Rattle.std.proofs.Common.{◌≡◌, ◌==◌, ℕ, List, [], ◌∷◌, ◌++◌, Bool, true, false, cond, refl, sym, ap, ◌∙◌, append_assoc}
+use Rattle.std.proofs.Common.{◌≡◌, ◌<◌, ℕ, List, [], ◌∷◌, ◌++◌, length, Bool, true, false, refl, ap, append_assoc, arith}
+use Rattle.std.specs.Prelude.{◌==◌}
+use Rattle.std.proofs.lemmas.Bool.{eqb-true}
 use Rattle.std.specs.List.{onto_first}
 use Rattle.edit_journal.specs.Pieces.{texts_of}
 use Rattle.kept_sessions.specs.Cutting.{onto}
@@ -15,9 +17,10 @@ onto_longer [] byte texts = refl
 onto_longer (first ∷ begun) byte texts = ap (onto_first first) (onto_longer begun byte texts)
 
 -- bytes with nothing behind them are a text, unless there are none
-pub onto_nothing : (byte : ℕ) (begun : List ℕ) → onto (byte ∷ begun) [] ≡ (byte ∷ begun) ∷ []
-onto_nothing byte [] = refl
-onto_nothing byte (next ∷ begun) = ap (onto_first byte) (onto_nothing next begun)
+pub onto_nothing : (begun : List ℕ) → 0 < length begun → onto begun [] ≡ begun ∷ []
+onto_nothing [] some = absurd (omega (arith, some))
+onto_nothing (byte ∷ []) some = refl
+onto_nothing (byte ∷ next ∷ begun) some = ap (onto_first byte) (onto_nothing (next ∷ begun) (omega arith))
 
 -- ---- one byte
 
@@ -25,6 +28,9 @@ pub cut_byte : (texts : List (List ℕ)) (begun : List ℕ) (byte : ℕ) (rest :
     → (texts ++ begun ∷ []) ++ texts_of rest ≡ texts ++ onto begun (texts_of (byte ∷ rest))
 cut_byte texts begun byte rest is = rw (is, onto_empty begun (texts_of rest)) (append_assoc texts (begun ∷ []) (texts_of rest))
 
-pub other_byte : (texts : List (List ℕ)) (begun : List ℕ) (byte : ℕ) (rest : List ℕ) → (byte == 10) ≡ false
+pub other_byte : (texts : List (List ℕ)) (begun : List ℕ) (byte : ℕ) (rest : List ℕ) → (byte ≡ 10 → ⊥)
     → texts ++ onto (begun ++ byte ∷ []) (texts_of rest) ≡ texts ++ onto begun (texts_of (byte ∷ rest))
-other_byte texts begun byte rest not = rw (not, onto_longer begun byte (texts_of rest)) refl
+other_byte texts begun byte rest other = by_test (byte == 10) refl where
+  by_test : (b : Bool) → (byte == 10) ≡ b → texts ++ onto (begun ++ byte ∷ []) (texts_of rest) ≡ texts ++ onto begun (texts_of (byte ∷ rest))
+  by_test true e = absurd (other (eqb-true byte 10 e))
+  by_test false e = rw (e, onto_longer begun byte (texts_of rest)) refl

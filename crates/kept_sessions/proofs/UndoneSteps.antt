@@ -21,12 +21,15 @@ module _ (left right : TyTree) (carried : Side → CompTree → WordTree → Opt
       → (all : BothTrees) × (option_map (undone_behind first) o ≡ Some (u, all))
   behind_first first o u words h = (((undone_behind first (u, words)).1), ap (option_map (undone_behind first)) h)
 
+  abbrev made_with : List WordTree → TripleTree → Option AllStepped
+  made_with words u = Some (Ok (u, words))
+
   others_made : (o : Option AllStepped) (w : WordTree) (u : TripleTree) (words : List WordTree) → option_map (with_first w) o ≡ Some (Ok (u, words))
       → (more : List WordTree) × (o ≡ Some (Ok (u, more)))
   others_made (Some (Ok n)) w u words h =
-      let same : Ok {E = _} (n.0, w ∷ n.1) ≡ Ok (u, words) = cc in
-      let is : n.0 ≡ u = cc in
-      (n.1, ap (λ v. Some (Ok (v, n.1))) is)
+      let pair : (n.0, w ∷ n.1) ≡ (u, words) = cc in
+      let same : n.0 ≡ u = ap (λ (p : TripleTree × List WordTree). p.0) pair in
+      (n.1, ap (made_with n.1) same)
   others_made (Some (Err why)) w u words h = cc
   others_made None w u words h = cc
 
@@ -43,7 +46,8 @@ module _ (left right : TyTree) (carried : Side → CompTree → WordTree → Opt
 
   pub each_undone : (t : TripleTree) (es : List (Side × WordTree)) (u : TripleTree) (words : List WordTree) → step_each left right carried t es ≡ Some (Ok (u, words)) → Undone t es u
   each_undone t [] u words h =
-      let same : t ≡ u = cc in
+      let pair : (t, []) ≡ (u, words) = cc in
+      let same : t ≡ u = ap (λ (p : TripleTree × List WordTree). p.0) pair in
       (no_words, ap (λ v. Some (v, no_words)) same)
   each_undone t (e ∷ es) u words h =
       after_step t e es (step left right carried t e) u words (λ next more k. each_undone next es u more k) h

@@ -1,5 +1,5 @@
 //! A session with the number of its last item and the text that answers the last call.
-ghost use Rattle.std.specs.Prelude.{◌≡◌, ◌+◌, ◌^◌, ◌<◌, IfOk, OnErr, None};
+ghost use Rattle.std.specs.Prelude.{◌≡◌, ◌+◌, ◌^◌, ◌<◌, IfOk, OnOk, OnErr, None};
 ghost use Rattle.edit_session.specs.Views.{triple_tree};
 ghost use Rattle.journal_answers.specs.Runs.{IsInStepFor};
 ghost use Rattle.kept_sessions.specs.Changes.{IsKept};
@@ -98,6 +98,7 @@ impl Running {
 fn copy(alloc: Global, session: &Session<Flat>) -> Result<Triple, AllocError>
     ensures triple { IfOk result (λ triple. triple_tree triple ≡ triple_tree session.now.triple) }
     ensures consistent { IfOk result (λ triple. IsInStepFor (session_form session.now) (triple_tree triple)) }
+    ensures in_step { OnOk result (IsInStepFor (session_form session.now) (triple_tree session.now.triple)) }
 {
     let left = session.left().twin(alloc)?;
     let comp = session.comp().twin(alloc)?;
