@@ -1,4 +1,5 @@
--- Why something is refused, as the numbers of codes.rt. Read it from the end: `reason_of`, `closed_reason`, then the causes.
+-- Why something is refused, as the numbers of codes.rt. Read it from the end: `reason_of`, `closed_reason`, then the
+-- causes.
 use Rattle.std.specs.Prelude.{ℕ}
 use Rattle.accepted_programs.specs.declared.program.Refused.{Refused}
 use Rattle.accepted_programs.specs.declared.program.Refused.TheVariants as refused

@@ -19,8 +19,8 @@ pub struct Answer {
     pub number: u64,
     /// The number of the entry of a group that does not apply, from 0, or 0.
     pub part: u64,
-    /// The number, from 0, of the first primitive that fails; or the offset in a program that its refusal names; or the number,
-    /// from 1, of the record that is refused; or 0.
+    /// The number, from 0, of the first primitive that fails; or the offset in a program that its refusal names; or the
+    /// number, from 1, of the record that is refused; or 0.
     pub at: u64,
     /// How many bytes the text has that answers the last call.
     pub len: usize,

@@ -23,8 +23,8 @@ pub extern "C" fn editlens_session_size() -> usize
 
 /// Puts the session over a program, or why there is none, into memory that has room for it.
 ///
-/// `editlens_session_status` says which, and each session is closed, also one that is refused. The text is the payload of the
-/// first record of a log.
+/// `editlens_session_status` says which, and each session is closed, also one that is refused. The text is the payload
+/// of the first record of a log.
 #[unsafe(no_mangle)]
 pub unsafe extern "C" fn editlens_session_open(alloc: Global, at: *mut u8, program: &[u8])
     requires* { sem 𝓛 (room at) }
@@ -40,9 +40,11 @@ fn opened(alloc: Global, program: &[u8]) -> Kept
     Kept::open(alloc, program)
 }
 
-/// Puts the session over a program whose left document is given, or why there is none, into memory that has room for it.
+/// Puts the session over a program whose left document is given, or why there is none, into memory that has room for
+/// it.
 ///
-/// The document is JSON, and the right one is made. The text is the payload of the first record of a log; a snapshot is the next.
+/// The document is JSON, and the right one is made. The text is the payload of the first record of a log; a snapshot is
+/// the next.
 #[unsafe(no_mangle)]
 pub unsafe extern "C" fn editlens_session_import_left(
     alloc: Global,
@@ -86,8 +88,8 @@ fn imported_right(alloc: Global, program: &[u8], document: &[u8]) -> Kept
 
 /// Puts the session that goes on from a state, or why there is none, into memory that has room for it.
 ///
-/// The state is the JSON of a left document, of a complement and of a right document, as `editlens_session_show` shows them. The
-/// text is the payload of the first record of a log; a snapshot is the next.
+/// The state is the JSON of a left document, of a complement and of a right document, as `editlens_session_show` shows
+/// them. The text is the payload of the first record of a log; a snapshot is the next.
 #[unsafe(no_mangle)]
 pub unsafe extern "C" fn editlens_session_resume(
     alloc: Global,
@@ -183,8 +185,8 @@ fn shown(alloc: Global, kept: &mut Kept, part: u32) -> Answer
     }
 }
 
-/// Writes the text that answers the last call to the head of `out`: an answer line, what was shown, or the line of a program
-/// that is refused. Where `out` is too small it stays as it is; `len` says how many bytes are wanted.
+/// Writes the text that answers the last call to the head of `out`: an answer line, what was shown, or the line of a
+/// program that is refused. Where `out` is too small it stays as it is; `len` says how many bytes are wanted.
 #[unsafe(no_mangle)]
 pub unsafe extern "C" fn editlens_session_text(at: *mut u8, out: &mut [u8]) -> Answer
     ghost kept: { kept_type }

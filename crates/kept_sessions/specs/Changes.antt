@@ -1,5 +1,5 @@
--- The last change of a session: what is kept of it, and its texts. Read it from the end: `HasUndoText`, `HasChangeText`,
--- `IsNoneMade`, `IsMade`, then `IsKept`.
+-- The last change of a session: what is kept of it, and its texts. Read it from the end: `HasUndoText`,
+-- `HasChangeText`, `IsNoneMade`, `IsMade`, then `IsKept`.
 use Rattle.std.specs.Prelude.{◌≡◌, ℕ, List, [], ◌∷◌, Option, None, Some, Ok}
 use Rattle.serde_json.specs.Written.{compact_text}
 use Rattle.texts.specs.declared.side.Side.{Side}
@@ -58,7 +58,8 @@ IsNoneMade form None = Unit {0}
 
 -- ---- its payload
 
--- the text is the payload of the change that the line is; it is read back as its record, where some triple accepts the change
+-- the text is the payload of the change that the line is; it is read back as its record, where some triple accepts the
+-- change
 pub record IsChangeText (form : FormTree) (line : Line) (text : List ℕ) : Type 0 where
   pub change : ChangeTree
   pub is : change_of_line line ≡ Ok change

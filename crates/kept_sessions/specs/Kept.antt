@@ -1,5 +1,5 @@
--- What a caller keeps, and what a call makes of it. Read it from the end: `text_of`, `IsShown`, `IsStepped`, `IsReopened`, `IsResumed`,
--- `IsImported`, `IsOpened`.
+-- What a caller keeps, and what a call makes of it. Read it from the end: `text_of`, `IsShown`, `IsStepped`,
+-- `IsReopened`, `IsResumed`, `IsImported`, `IsOpened`.
 use Rattle.std.specs.Prelude.{◌≡◌, ℕ, List, [], Bool, true, false, None, Some, Ok}
 use Rattle.accepted_programs.specs.Program.{lens_of}
 use Rattle.accepted_programs.specs.Refused.{IsRefusal}
@@ -76,11 +76,12 @@ IsOpened program k = IsRefusedProgram program k
 abbrev pub side_type : FormTree → Side → TyTree
 side_type form s = near s (left_type form) (right_type form)
 
--- The word that makes the document from the initial one is a step from the first triple to this one, which has the document on its side
--- and is consistent.
+-- The word that makes the document from the initial one is a step from the first triple to this one, which has the
+-- document on its side and is consistent.
 pub record Brings (form : FormTree) (s : Side) (doc : DocTree) (t : TripleTree) : Type 0 where
   pub word : WordTree
-  pub stepped : step (left_type form) (right_type form) (translate form) (first_of form) (s, construct (side_type form s) doc) ≡ Some (Ok (t, word))
+  pub stepped : step (left_type form) (right_type form) (translate form) (first_of form) (s, construct (side_type form s) doc)
+      ≡ Some (Ok (t, word))
   pub has : document_on s t ≡ doc
   pub in_step : IsInStepFor form t
 

@@ -47,7 +47,8 @@ pub record IsLoggedFirst (before : Kept) (line : List ℕ) (records : List (List
   pub are : records ≡ own ++ rest
   pub others_logged : others next rest
 
--- these lines were given one after another, whatever came of each, and these are the records of those that were accepted
+-- these lines were given one after another, whatever came of each, and these are the records of those that were
+-- accepted
 abbrev pub IsLogged : Kept → List (List ℕ) → List (List ℕ) → Kept → Type 0
 IsLogged before [] records after = (records ≡ []) × (after ≡ before)
 IsLogged before (line ∷ lines) records after = IsLoggedFirst before line records (λ next rest. IsLogged next lines rest after)

@@ -1,5 +1,5 @@
--- The texts of a state: what a session shows of it, and what it is read from. Read it from the end: `ShowsText`, `IsPartText`,
--- `IsStateFault`, `IsStateText`, then `IsDocumentText` and `IsComplementText`.
+-- The texts of a state: what a session shows of it, and what it is read from. Read it from the end: `ShowsText`,
+-- `IsPartText`, `IsStateFault`, `IsStateText`, then `IsDocumentText` and `IsComplementText`.
 use Rattle.std.specs.Prelude.{◌≡◌, ℕ, List, Bool, true, false, Option, Some}
 use Rattle.serde_json.specs.Data.{Data}
 use Rattle.serde_json.specs.Written.{compact_text}
@@ -81,7 +81,8 @@ IsNotOfForm form text = (comp : CompTree) → IsComplementText form text comp �
 abbrev pub IsStateFault : FormTree → List ℕ → List ℕ → List ℕ → StateFault → Type 0
 IsStateFault form left comp right fault.NotLeft = IsNotOfType (left_type form) left
 IsStateFault form left comp right fault.NotComplement = IsOfType (left_type form) left × IsNotOfForm form comp
-IsStateFault form left comp right fault.NotRight = IsOfType (left_type form) left × IsOfForm form comp × IsNotOfType (right_type form) right
+IsStateFault form left comp right fault.NotRight =
+    IsOfType (left_type form) left × IsOfForm form comp × IsNotOfType (right_type form) right
 IsStateFault form left comp right fault.NotConsistent = IsOutOfStep form left comp right
 IsStateFault form left comp right fault.NoMemory = Unit {0}
 

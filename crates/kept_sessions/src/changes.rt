@@ -138,7 +138,8 @@ fn accepted_text(
     }
 }
 
-// The words that take the documents back over a change of a triple that is consistent. None if and only if it is refused.
+// The words that take the documents back over a change of a triple that is consistent. None if and only if it is
+// refused.
 #[tactic(auto, using(lens_flat::proofs::FormLenses::is_lens_of))]
 fn words_back(
     alloc: Global,

@@ -19,8 +19,8 @@ ghost use Rattle.kept_sessions.specs.declared.outcome.Part.TheVariants.{State, L
 ghost use Rattle.kept_sessions.specs.declared.running.Accepted.{Accepted as AcceptedValue};
 ghost use Rattle.kept_sessions.specs.declared.running.Running.{Running as RunningValue};
 
-/// A session that is opened, given the lines of a journal and then shown answers as a run: its texts, one after another, are
-/// all that the run of the program writes for these lines.
+/// A session that is opened, given the lines of a journal and then shown answers as a run: its texts, one after
+/// another, are all that the run of the program writes for these lines.
 #[tactic(auto, using(crate::proofs::GivenLines::is_reported))]
 pub fn sessions_answer_as_a_run()
     ensures { (program : List ℕ) (lines : List (List ℕ)) (texts : List ℕ) (first last shown : KeptValue)
@@ -28,7 +28,8 @@ pub fn sessions_answer_as_a_run()
         → IsReported program lines (texts ++ text_of shown) }
 {}
 
-/// What is resumed from the texts that a session showed is at the same lens, documents and complement, unless memory ran out.
+/// What is resumed from the texts that a session showed is at the same lens, documents and complement, unless memory
+/// ran out.
 #[tactic(auto, using(crate::proofs::SameStates::is_same_state))]
 pub fn shown_states_are_resumed()
     ensures { (program left comp right : List ℕ) (form : FormTree) (triple : TripleTree)
@@ -39,8 +40,9 @@ pub fn shown_states_are_resumed()
         → IsResumed program left comp right resumed → IsSameState form triple resumed }
 {}
 
-/// A log that a caller keeps of a session is reopened as that session, unless memory ran out: the record from opening it, and
-/// behind it the record of each change that was accepted. Lines may have been refused, and memory may have run out in between.
+/// A log that a caller keeps of a session is reopened as that session, unless memory ran out: the record from opening
+/// it, and behind it the record of each change that was accepted. Lines may have been refused, and memory may have run
+/// out in between.
 pub fn logs_are_reopened()
     ensures { (program : List ℕ) (lines records : List (List ℕ)) (first : RunningValue) (last reopened : KeptValue)
         → IsOpened program (Open first) → IsLogged (Open first) lines records last
@@ -56,15 +58,17 @@ pub fn logs_are_reopened()
 /// - `one_more_snapshot`: one more snapshot, at any time.
 /// - `reopened`: what is reopened from a log is its session, and the log goes on.
 pub fn records_stand()
-    ensures opened { (program : List ℕ) (r : RunningValue) → IsOpened program (Open r) → IsLog (r.text.items ∷ []) r }
-    ensures snapshot { (program text : List ℕ) (last : Option AcceptedValue) (r : RunningValue) → IsFresh program r
-        → IsPartText (form_of r) (triple_tree r.session.triple) last Snapshot text
+    ensures opened { (program : List ℕ) (r : RunningValue) → IsOpened program (Open r)
+        → IsLog (r.text.items ∷ []) r }
+    ensures snapshot { (program text : List ℕ) (last : Option AcceptedValue) (r : RunningValue)
+        → IsFresh program r → IsPartText (form_of r) (triple_tree r.session.triple) last Snapshot text
         → IsLog (r.text.items ∷ text ∷ []) r }
-    ensures change { (records : List (List ℕ)) (line text : List ℕ) (before after : RunningValue) → IsLog records before
-        → IsLineStep before line Done after
+    ensures change { (records : List (List ℕ)) (line text : List ℕ) (before after : RunningValue)
+        → IsLog records before → IsLineStep before line Done after
         → IsPartText (form_of after) (triple_tree after.session.triple) after.accepted Change text
         → IsLog (records ++ text ∷ []) after }
-    ensures one_more_snapshot { (records : List (List ℕ)) (text : List ℕ) (last : Option AcceptedValue) (r : RunningValue)
+    ensures one_more_snapshot { (records : List (List ℕ)) (text : List ℕ) (last : Option AcceptedValue)
+        (r : RunningValue)
         → IsLog records r → IsPartText (form_of r) (triple_tree r.session.triple) last Snapshot text
         → IsLog (records ++ text ∷ []) r }
     ensures reopened { (records : List (List ℕ)) (r : RunningValue) (reopened : KeptValue) → IsLog records r
@@ -73,18 +77,22 @@ pub fn records_stand()
         → IsReopened records (Open again) → IsLog records again }
 {}
 
-/// The words that are shown of the last change take the documents of the session back to what they were before its line.
+/// The words that are shown of the last change take the documents of the session back to what they were before its
+/// line.
 pub fn words_take_back()
     ensures left { (line text : List ℕ) (before after : RunningValue) → IsLineStep before line Done after
         → IsPartText (form_of after) (triple_tree after.session.triple) after.accepted UndoLeft text
-        → IsWordBack (left_type (form_of after)) (triple_tree after.session.triple).left (triple_tree before.session.triple).left text }
+        → IsWordBack (left_type (form_of after)) (triple_tree after.session.triple).left
+        (triple_tree before.session.triple).left text }
     ensures right { (line text : List ℕ) (before after : RunningValue) → IsLineStep before line Done after
         → IsPartText (form_of after) (triple_tree after.session.triple) after.accepted UndoRight text
-        → IsWordBack (right_type (form_of after)) (triple_tree after.session.triple).right (triple_tree before.session.triple).right text }
+        → IsWordBack (right_type (form_of after)) (triple_tree after.session.triple).right
+        (triple_tree before.session.triple).right text }
 {}
 
-/// What is kept of a line that was accepted is its change, which the lens accepts. So its parts are shown, unless memory runs out.
+/// What is kept of a line that was accepted is its change, which the lens accepts. So its parts are shown, unless
+/// memory runs out.
 pub fn accepted_is_made()
-    ensures { (line : List ℕ) (before after : RunningValue) (kept : AcceptedValue) → IsLineStep before line Done after
-        → after.accepted ≡ Some kept → IsMade (form_of after) kept }
+    ensures { (line : List ℕ) (before after : RunningValue) (kept : AcceptedValue)
+        → IsLineStep before line Done after → after.accepted ≡ Some kept → IsMade (form_of after) kept }
 {}

@@ -88,7 +88,8 @@ fn type_text(alloc: Global, ty: &Ty) -> Result<Vec<u8>, AllocError>
 
 // The payload of a snapshot of the session's triple.
 fn snapshot_text(alloc: Global, session: &Session<Flat>) -> Result<Vec<u8>, AllocError>
-    ensures { IfOk result (λ text. IsSnapshotText (session_form session.now) (triple_tree session.now.triple) text.items) }
+    ensures { IfOk result
+        (λ text. IsSnapshotText (session_form session.now) (triple_tree session.now.triple) text.items) }
 {
     let typed = session.lens().typed();
     let (left, right) = (session.left(), session.right());

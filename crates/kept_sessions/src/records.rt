@@ -19,7 +19,8 @@ pub(crate) fn cut(alloc: Global, bytes: &[u8]) -> Result<Vec<Bytes>, AllocError>
     Ok(texts)
 }
 
-// One more byte: an LF ends the text that is begun, and any other byte continues it. Returns the text that is begun then.
+// One more byte: an LF ends the text that is begun, and any other byte continues it. Returns the text that is begun
+// then.
 fn take_byte(
     alloc: Global,
     texts: &mut Vec<Bytes>,

@@ -46,7 +46,8 @@ fn reopen_payloads(alloc: Global, payloads: &Payloads) -> Kept
 // What was opened, with the version record of a log of version 1.
 fn with_version(alloc: Global, opened: Opened<Flat>) -> Kept
     ensures { (records : List (List ℕ))
-        → stands records ≡ Ok (standing (form_tree opened.session.lens.typed) (triple_tree opened.session.triple) opened.count opened.version)
+        → stands records ≡ Ok (standing (form_tree opened.session.lens.typed) (triple_tree opened.session.triple)
+        opened.count opened.version)
         → IsReopened records result }
 {
     match owed_record(alloc, opened.version) {

@@ -22,7 +22,8 @@ pub struct Accepted {
     pub before: Triple,
 }
 
-/// A session, how many items it was given, the text that answers the last call, and the last line, if its change was accepted.
+/// A session, how many items it was given, the text that answers the last call, and the last line, if its change was
+/// accepted.
 #[derive(Drop)]
 pub struct Running {
     pub session: Session<Flat>,
@@ -49,8 +50,8 @@ impl Running {
 
     /// Takes a line, which is without its LF: the text is then the answer line, and is empty if the line is blank.
     ///
-    /// The only error is running out of memory. The session, the number, the text and the last change are then as before, also
-    /// if the session had stepped and its answer found no room.
+    /// The only error is running out of memory. The session, the number, the text and the last change are then as
+    /// before, also if the session had stepped and its answer found no room.
     pub fn step(&mut self, alloc: Global, line: &[u8]) -> Result<Outcome, AllocError>
         requires fits { self.old.number + 1 < 2 ^ 64 }
         ensures stepped { IfOk result (λ outcome. IsLineStep self.old line.now outcome self.new) }
@@ -77,9 +78,9 @@ impl Running {
         }
     }
 
-    /// Makes a part of the state or of the last change the text. False if and only if the part is one of the last change, and
-    /// the last line was not a change that was accepted; then nothing changes. The only error is running out of memory, and
-    /// then nothing changes either.
+    /// Makes a part of the state or of the last change the text. False if and only if the part is one of the last
+    /// change, and the last line was not a change that was accepted; then nothing changes. The only error is running
+    /// out of memory, and then nothing changes either.
     pub fn show(&mut self, alloc: Global, part: Part) -> Result<bool, AllocError>
         ensures shown { IfOk result (λ found. ShowsText self.old part found self.new) }
         ensures unchanged { OnErr result (self.new ≡ self.old) }
