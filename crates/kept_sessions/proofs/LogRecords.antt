@@ -139,7 +139,7 @@ change_stands records text before after line g form s k =
 kept_text : (records : List (List ℕ)) (text : List ℕ) (before after : Running) (line : Line) (last : Option Accepted) → IsLog records before → form_of after ≡ form_of before
     → Stepped before line after → IsKept (triple_tree before.session.triple) line outcome.Done last → HasChangeText (form_of after) last text → IsLog (records ++ text ∷ []) after
 kept_text records text before after line (Some a) g form s kept k =
-    change_stands records text before after line g form s (subst (λ (x : Line). IsChangeText (form_of after) x text) kept.line k)
+    change_stands records text before after line g form s (subst (λ (x : Line). IsChangeText (form_of after) x text) kept.line_is k)
 kept_text records text before after line None g form s kept k = absurd kept
 
 pub item_change : (records : List (List ℕ)) (text : List ℕ) (before after : Running) (line : Line) → IsLog records before → IsItemStep before line outcome.Done after
@@ -163,8 +163,8 @@ made_of : (before after : Running) (line : Line) (last : Option Accepted) (a : A
     → Stepped before line after → IsKept (triple_tree before.session.triple) line outcome.Done last → last ≡ Some a → IsMade (form_of after) a
 made_of before after line (Some b) a form in_step s kept h =
     let same : b ≡ a = cc in
-    let as_line : a.line ≡ line = subst (λ (x : Accepted). x.line ≡ line) same kept.line in
-    let as_before : triple_tree a.before ≡ triple_tree before.session.triple = subst (λ (x : Accepted). triple_tree x.before ≡ triple_tree before.session.triple) same kept.before in
+    let as_line : a.line ≡ line = subst (λ (x : Accepted). x.line ≡ line) same kept.line_is in
+    let as_before : triple_tree a.before ≡ triple_tree before.session.triple = subst (λ (x : Accepted). triple_tree x.before ≡ triple_tree before.session.triple) same kept.before_is in
     let step = subst (λ (l : FormTree). step_of l (triple_tree before.session.triple) s.change ≡ Some (Ok (triple_tree after.session.triple, s.words))) (sym form) s.step in
     record {
       change = s.change;

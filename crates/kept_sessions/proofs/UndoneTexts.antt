@@ -26,7 +26,9 @@ use Rattle.kept_sessions.proofs.UndoneSteps.{change_undone}
 
 -- the words of a change take back what a step made
 same_after : (u v : TripleTree) (words back : BothTrees) (o : Option (TripleTree × BothTrees)) → o ≡ Some (u, back) → o ≡ Some (v, words) → v ≡ u
-same_after u v words back o h k = cc
+same_after u v words back o h k =
+    let pair : (v, words) ≡ (u, back) = cc in
+    ap (λ (p : TripleTree × BothTrees). p.0) pair
 
 way_back : (form : FormTree) (t u : TripleTree) (change : ChangeTree) (words : BothTrees) (made : List WordTree) → step_of form t change ≡ Some (Ok (u, made))
     → IsWayBack form t change words → BringsBack (left_type form) (right_type form) words u t
@@ -41,11 +43,11 @@ kept_back : (before after : Running) (line : Line) (s : Side) (text : List ℕ) 
     × BringsBack (left_type (form_of after)) (right_type (form_of after)) k.words (triple_tree after.session.triple) (triple_tree before.session.triple)
 kept_back before after line s text (Some a) form m kept k =
     let t = triple_tree before.session.triple in let u = triple_tree after.session.triple in
-    let as_line : change_of_line line ≡ Ok k.change = ap change_of_line (sym kept.line) ∙ k.is in
+    let as_line : change_of_line line ≡ Ok k.change = ap change_of_line (sym kept.line_is) ∙ k.is in
     let same = same_change line m.change k.change m.is as_line in
     let step = subst (λ (l : FormTree). step_of l t m.change ≡ Some (Ok (u, m.words))) (sym form) m.step in
     let step_k = subst (λ c. step_of (form_of after) t c ≡ Some (Ok (u, m.words))) same step in
-    let way = subst (λ x. IsWayBack (form_of after) x k.change k.words) kept.before k.way in
+    let way = subst (λ x. IsWayBack (form_of after) x k.change k.words) kept.before_is k.way in
     (a, k, way_back (form_of after) t u k.change k.words m.words step_k way)
 kept_back before after line s text None form m kept k = absurd kept
 

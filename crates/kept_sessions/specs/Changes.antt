@@ -28,8 +28,8 @@ use Rattle.kept_sessions.specs.declared.running.Accepted.{Accepted}
 
 -- the line, and this triple from before it
 pub record IsKeptAs (t : TripleTree) (line : Line) (a : Accepted) : Type 0 where
-  pub line : a.line ≡ line
-  pub before : triple_tree a.before ≡ t
+  pub line_is : a.line ≡ line
+  pub before_is : triple_tree a.before ≡ t
 
 abbrev pub keeps_line : TripleTree → Line → Option Accepted → Type 0
 keeps_line t line (Some a) = IsKeptAs t line a
