@@ -107,7 +107,7 @@ fn answer_item<L: EditLens>(
 /// The answer to a line that is not blank, which steps the session by a change: an entry, or a group of entries.
 ///
 /// An entry or a group that does not apply, and a line that is not a change, leave the session as it was. The only error
-/// is running out of memory, and then the session is as it was, too.
+/// is running out of memory.
 pub fn take_item<L: EditLens>(
     alloc: Global,
     session: &mut Session<L>,
@@ -119,7 +119,6 @@ pub fn take_item<L: EditLens>(
         ≡ step_with (triple_tree session.new.triple) answer) }
     ensures has_line { IfOk result (λ answer. HasAnswerLine answer) }
     ensures lens { session.new.lens ≡ session.old.lens }
-    ensures unchanged { OnErr result (session.new ≡ session.old) }
 {
     match read_entry(alloc, line) {
         Ok(Change::One(entry)) => take_entry(session, &entry),
@@ -137,7 +136,6 @@ fn take_entry<L: EditLens>(session: &mut Session<L>, entry: &Entry) -> Result<An
         ≡ step_with (triple_tree session.new.triple) answer) }
     ensures has_line { IfOk result (λ answer. HasAnswerLine answer) }
     ensures lens { session.new.lens ≡ session.old.lens }
-    ensures unchanged { OnErr result (session.new ≡ session.old) }
 {
     match session.step(entry) {
         Ok(word) => Ok(Answer::Carried(entry.side.other(), word)),
@@ -154,7 +152,6 @@ fn take_group<L: EditLens>(session: &mut Session<L>, entries: Entries) -> Result
         ≡ step_with (triple_tree session.new.triple) answer) }
     ensures has_line { IfOk result (λ answer. HasAnswerLine answer) }
     ensures lens { session.new.lens ≡ session.old.lens }
-    ensures unchanged { OnErr result (session.new ≡ session.old) }
 {
     let group = Change::Group(entries);
     match session.step_all(&group) {
