@@ -1,6 +1,7 @@
 -- A change that is accepted is undone.
 use Rattle.std.proofs.Common.{◌≡◌, List, [], ◌∷◌, ◌++◌, Option, Some, None, option_map, option_and_then, Result, Ok, Err, refl, sym, ap, subst, ◌∙◌}
 use Rattle.std.proofs.lemmas.List.{append-nil}
+use Rattle.std.specs.Prelude.{IfOk, IfSome, MatchOption}
 use Rattle.texts.specs.declared.side.Side.{Side}
 use Rattle.doc_values.specs.Types.{TyTree}
 use Rattle.edit_module.specs.Changes.{ChangeTree, one, group, entries_of}
@@ -10,7 +11,10 @@ use Rattle.lens_core.specs.Translation.{Translated, translate}
 use Rattle.lens_forms.specs.Forms.{FormTree, left_type, right_type}
 use Rattle.edit_session.specs.Step.{TripleTree, Stepped, AllStepped, step, step_each, alone, with_first, after_first}
 use Rattle.stored_sessions.specs.Stands.{step_of}
-use Rattle.undo_words.specs.Undone.{BothTrees, no_words, undone_entry, undone_behind, undone_first, undone_each, undone}
+use Rattle.undo_words.specs.Undone.{BothTrees, BringsBack, no_words, undone_entry, undone_behind, undone_first, undone_each, undone}
+use Rattle.undo_words.specs.Views.{both_tree}
+use Rattle.undo_words.specs.declared.both.BothWords.{BothWords}
+use Rattle.kept_sessions.specs.Changes.{IsWayBack}
 
 module _ (left right : TyTree) (carried : Side → CompTree → WordTree → Option Translated) where
   -- entries that are accepted are undone, and lead to the same triple
@@ -67,3 +71,13 @@ change_undone form t u (one e) words h =
 change_undone form t u (group es) words h =
     let k = each_undone (left_type form) (right_type form) (translate form) t es u words h in
     (k.0, ap (λ rest. undone_each (left_type form) (right_type form) (translate form) t rest) (append-nil es) ∙ k.1)
+
+-- what is found of one change: its words take it back, or it is refused
+pub found_back : {E : Type 0} (r : Result (Option BothWords) E) (form : FormTree) (before after : TripleTree) (change : ChangeTree)
+    → IfOk r (λ found. option_map (λ (w : BothWords). (after, both_tree w)) found ≡ undone (left_type form) (right_type form) (translate form) before (change ∷ []))
+    → IfOk r (λ found. IfSome found (λ (w : BothWords). BringsBack (left_type form) (right_type form) (both_tree w) after before))
+    → IfOk r (λ found. MatchOption found (undone (left_type form) (right_type form) (translate form) before (change ∷ []) ≡ None)
+    (λ (w : BothWords). IsWayBack form before change (both_tree w)))
+found_back (Ok (Some w)) form before after change h k = record { after = after; undoes = sym h; back = k }
+found_back (Ok None) form before after change h k = sym h
+found_back (Err fault) form before after change h k = tt
