@@ -45,11 +45,7 @@ pub(crate) fn change_text(
 }
 
 // The payload of the change that a line is. None if and only if it is not a change.
-fn line_text(
-    alloc: Global,
-    typed: &Typed,
-    line: &Line,
-) -> Result<Option<Vec<u8>>, AllocError>
+fn line_text(alloc: Global, typed: &Typed, line: &Line) -> Result<Option<Vec<u8>>, AllocError>
     ensures { IfOk result (λ found. MatchOption found
         ((change : ChangeTree) → change_of_line line.now ≡ Ok change → ⊥)
         (λ text. IsChangeText (form_tree typed.now) line.now text.items)) }

@@ -80,11 +80,7 @@ fn open_records(alloc: Global, payloads: &Payloads) -> Result<Opened<Flat>, Reop
 }
 
 #[tactic(auto, using(lens_flat::proofs::FormLenses::is_lens_of))]
-fn open_with(
-    alloc: Global,
-    typed: &Typed,
-    payloads: &Payloads,
-) -> Result<Opened<Flat>, ReopenFault>
+fn open_with(alloc: Global, typed: &Typed, payloads: &Payloads) -> Result<Opened<Flat>, ReopenFault>
     requires stored { stored_form payloads.now ≡ Some (form_tree typed.now) }
     ensures stands { MatchResult result
         (λ o. stands payloads.now

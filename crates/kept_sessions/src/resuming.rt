@@ -67,7 +67,11 @@ fn going_on(alloc: Global, begun: Begun, triple: Triple) -> Kept
 }
 
 // The session of a lens at a triple that is consistent.
-pub(crate) fn session_at(alloc: Global, typed: &Typed, triple: Triple) -> Result<Session<Flat>, AllocError>
+pub(crate) fn session_at(
+    alloc: Global,
+    typed: &Typed,
+    triple: Triple,
+) -> Result<Session<Flat>, AllocError>
     requires in_step { IsInStepFor (form_tree typed.now) (triple_tree triple) }
     ensures form { IfOk result (λ s. form_tree s.lens.typed ≡ form_tree typed.now) }
     ensures triple { IfOk result (λ s. triple_tree s.triple ≡ triple_tree triple) }
@@ -123,7 +127,11 @@ fn read_triple(
 }
 
 // The document of a type that a text is the JSON of. None if and only if there is none.
-pub(crate) fn document_of_text(alloc: Global, ty: &Ty, text: &[u8]) -> Result<Option<Doc>, AllocError>
+pub(crate) fn document_of_text(
+    alloc: Global,
+    ty: &Ty,
+    text: &[u8],
+) -> Result<Option<Doc>, AllocError>
     ensures { IfOk result (λ found. MatchOption found
         (IsNotOfType (ty_tree ty.now) text.now)
         (λ doc. IsDocumentText (ty_tree ty.now) text.now (doc_tree doc))) }

@@ -86,8 +86,8 @@ impl Running {
         ensures unchanged { OnErr result (self.new ≡ self.old) }
     {
         match part_text(alloc, &self.session, &self.accepted, part)? {
-            Some(text) => {
-                self.text = text;
+            Some(shown) => {
+                self.text = shown;
                 Ok(true)
             }
             None => Ok(false),
