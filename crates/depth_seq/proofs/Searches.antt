@@ -8,6 +8,8 @@ use Rattle.depth_seq.specs.declared.sum.Sum.{Sum}
 use Rattle.depth_seq.specs.Searches.{search, further, IsAmong, GoesOn, StaysBelow}
 use Rattle.depth_seq.specs.Sums.{count, AreAtLeast, AreSums}
 use Rattle.depth_seq.proofs.Sums.{count-below, count-le-length}
+use Rattle.depth_seq.proofs.Parts.{drop_left, drop_here, drop_right}
+use Rattle.std.proofs.lemmas.List.{length-drop}
 
 -- one depth: what ends the search, a depth of a child, and one that is further below
 pub search_end : (d i e : ℕ) (es : List ℕ) → e ≤ d → search d i (e ∷ es) ≡ End 0 0
@@ -109,6 +111,87 @@ among_from n m t i (Behind k) a h = (omega (arith, a.0), omega (arith, a.1))
 pub among_search : (d i : ℕ) (xs : List ℕ) (f : Found) → f ≡ search d i xs → IsAmong (length xs) i f
 among_search d i xs f e = rw e (search_among d i xs)
 
+-- ---- a search in parts: xs of the length n, a chunk c, and ys
+
+pub left_child : (d i p : ℕ) (xs ys : List ℕ) → search d i xs ≡ Child p → Child p ≡ search d i (xs ++ ys)
+left_child d i p xs ys e = sym (ends_at_child d i p xs ys e)
+
+pub left_end : (d i p k : ℕ) (xs ys : List ℕ) → search d i xs ≡ End p k → End p k ≡ search d i (xs ++ ys)
+left_end d i p k xs ys e = sym (ends_at_end d i p k xs ys e)
+
+module _ (d i n before : ℕ) (xs c ys : List ℕ) (e : n ≡ length xs) (h : search d i xs ≡ Behind before) where
+  passed_left : search d i (xs ++ (c ++ ys)) ≡ further n before (search d (i - before) (c ++ ys))
+  passed_left = goes_on d i before xs (c ++ ys) h ∙ ap (λ m. further m before (search d (i - before) (c ++ ys))) (sym e)
+
+  pub chunk_child : (p : ℕ) → search d (i - before) c ≡ Child p → Child (n + p) ≡ search d i (xs ++ (c ++ ys))
+  chunk_child p f = sym (passed_left ∙ ap (further n before) (ends_at_child d (i - before) p c ys f))
+
+  pub chunk_end : (p k : ℕ) → search d (i - before) c ≡ End p k → End (n + p) (before + k) ≡ search d i (xs ++ (c ++ ys))
+  chunk_end p k f = sym (passed_left ∙ ap (further n before) (ends_at_end d (i - before) p k c ys f))
+
+  pub right_found : (more m k j : ℕ) (f : Found) → search d (i - before) c ≡ Behind more → m ≡ n + length c → k ≡ before + more → j ≡ i - k
+      → f ≡ search d j ys → further m k f ≡ search d i (xs ++ (c ++ ys))
+  right_found more m k j f b mm kk jj is =
+      let rest : i - before - more ≡ j = omega arith in
+      sym (passed_left ∙ ap (further n before) (goes_on d (i - before) more c ys b)
+      ∙ further-further n before (length c) more m k (search d (i - before - more) ys) mm kk
+      ∙ ap (λ q. further m k (search d q ys)) rest ∙ ap (further m k) (sym is))
+
+-- the same from a place on, seen from n depths further ahead
+from_child : (n p : ℕ) (f g : Found) → further n 0 f ≡ Child p → ((q : ℕ) → f ≡ Child q → g ≡ Child q) → Child p ≡ further n 0 g
+from_child n p (Child q) g e h = sym e ∙ ap (further n 0) (sym (h q refl))
+from_child n p (End q k) g e h = cc
+from_child n p (Behind k) g e h = cc
+
+pub from_left_child : (d i n p : ℕ) (xs ys : List ℕ) → further n 0 (search d i xs) ≡ Child p → Child p ≡ further n 0 (search d i (xs ++ ys))
+from_left_child d i n p xs ys e = from_child n p (search d i xs) (search d i (xs ++ ys)) e (λ q s. ends_at_child d i q xs ys s)
+
+from_end : (n p k : ℕ) (f g : Found) → further n 0 f ≡ End p k → ((q m : ℕ) → f ≡ End q m → g ≡ End q m) → End p k ≡ further n 0 g
+from_end n p k (Child q) g e h = cc
+from_end n p k (End q m) g e h = sym e ∙ ap (further n 0) (sym (h q m refl))
+from_end n p k (Behind m) g e h = cc
+
+pub from_left_end : (d i n p k : ℕ) (xs ys : List ℕ) → further n 0 (search d i xs) ≡ End p k → End p k ≡ further n 0 (search d i (xs ++ ys))
+from_left_end d i n p k xs ys e = from_end n p k (search d i xs) (search d i (xs ++ ys)) e (λ q m s. ends_at_end d i q m xs ys s)
+
+from_behind : (n k : ℕ) (f : Found) → further n 0 f ≡ Behind k → f ≡ Behind k
+from_behind n k (Child q) e = cc
+from_behind n k (End q m) e = cc
+from_behind n k (Behind m) e = let same : 0 + m ≡ k = cc in ap Behind (omega arith)
+
+-- what is found from the chunk on, after the part behind a place of the left part was passed
+pub from_left_behind : (d i n m before : ℕ) (zs ys : List ℕ) (r : Found) → further n 0 (search d i zs) ≡ Behind before → m ≡ n + length zs
+    → r ≡ further m before (search d (i - before) ys) → r ≡ further n 0 (search d i (zs ++ ys))
+from_left_behind d i n m before zs ys r h e is =
+    let none : before ≡ 0 + before = omega arith in
+    is ∙ sym (ap (further n 0) (goes_on d i before zs ys (from_behind n before (search d i zs) h))
+    ∙ further-further n 0 (length zs) before m before (search d (i - before) ys) e none)
+
+pub from_right : (d i n m from : ℕ) (ys : List ℕ) (f : Found) → f ≡ further m 0 (search d i ys) → n + m ≡ from → further n 0 f ≡ further from 0 (search d i ys)
+from_right d i n m from ys f e s = ap (further n 0) e ∙ further-further n 0 m 0 from 0 (search d i ys) (sym s) refl
+
+pub from_chunk : (d i j n from : ℕ) (zs : List ℕ) (r : Found) → r ≡ further n 0 (search d j zs) → j ≡ i → n ≡ from → r ≡ further from 0 (search d i zs)
+from_chunk d i j n from zs r e f s = e ∙ ap (λ q. further n 0 (search d q zs)) f ∙ ap (λ q. further q 0 (search d i zs)) s
+
+pub behind_child : (d j n before p : ℕ) (zs ys : List ℕ) → search d j zs ≡ Child p → Child (n + p) ≡ further n before (search d j (zs ++ ys))
+behind_child d j n before p zs ys f = sym (ap (further n before) (ends_at_child d j p zs ys f))
+
+pub behind_end : (d j n before p k : ℕ) (zs ys : List ℕ) → search d j zs ≡ End p k → End (n + p) (before + k) ≡ further n before (search d j (zs ++ ys))
+behind_end d j n before p k zs ys f = sym (ap (further n before) (ends_at_end d j p k zs ys f))
+
+pub behind_found : (d i j n before more m k : ℕ) (zs ys : List ℕ) (f : Found) → search d j zs ≡ Behind more → m ≡ n + length zs → k ≡ before + more
+    → j ≡ i - before → f ≡ search d (i - k) ys → further m k f ≡ further n before (search d j (zs ++ ys))
+behind_found d i j n before more m k zs ys f b mm kk jj is =
+    let rest : j - more ≡ i - k = omega arith in
+    sym (ap (further n before) (goes_on d j more zs ys b)
+    ∙ further-further n before (length zs) more m k (search d (j - more) ys) mm kk
+    ∙ ap (λ q. further m k (search d q ys)) rest ∙ ap (further m k) (sym is))
+
+-- what is found from a place on has places below the length
+pub among_drop : (d i from : ℕ) (xs : List ℕ) (r : Found) → from ≤ length xs → r ≡ further from 0 (search d i (drop from xs)) → IsAmong (length xs) i r
+among_drop d i from xs r h e =
+    rw e (among_from from (length (drop from xs)) (length xs) i (search d i (drop from xs)) (search_among d i (drop from xs)) (omega (arith, length-drop from xs)))
+
 -- ---- parts that a search passes by
 
 -- all depths are further below
@@ -132,7 +215,7 @@ skip_children d i (x ∷ xs) a h =
         rw (n, search_past_child d i x xs e (omega arith), skip_children d (i - 1) xs a.1 (omega arith)) refl
     ]
 
-goes_further : (n c : ℕ) (f : Found) → GoesOn (further n c f) → GoesOn f
+pub goes_further : (n c : ℕ) (f : Found) → GoesOn (further n c f) → GoesOn f
 goes_further n c (Child p) g = g
 goes_further n c (End p k) g = g
 goes_further n c (Behind k) g = tt
@@ -189,4 +272,6 @@ pub ruleset passed_rules = (passed_empty, passed_below, passed_children, ends_in
 
 pub ruleset scan_rules = (search_among, among_search)
 
-pub ruleset find_rules = (goes_on, ends_at_child, ends_at_end, search_among, among_search, among_from, stays, length-append)
+pub ruleset find_rules = (left_child, left_end, chunk_child, chunk_end, right_found, among_search, stays, goes_further, length-append)
+
+pub ruleset from_rules = (from_left_child, from_left_end, from_left_behind, from_right, from_chunk, behind_child, behind_end, behind_found, among_drop, stays, goes_further, drop_left, drop_here, drop_right, length-append, length-drop)

@@ -104,23 +104,28 @@ pub(crate) fn find<L: Ledger>(
             if let Some(children) = passed(&seen.sum, depth, number) {
                 return Found::Behind(children);
             }
-            let ahead = find(seen.left, depth, number, steps);
-            let Found::Behind(before) = ahead else {
-                return ahead;
+            let before = match find(seen.left, depth, number, steps) {
+                Found::Child(place) => return Found::Child(place),
+                Found::End(place, count) => return Found::End(place, count),
+                Found::Behind(count) => count,
             };
-            let here = find_in(seen.chunk, depth, number - before);
-            let Found::Behind(more) = here else {
-                return here.further(seen.left_size, before);
+            let more = match find_in(seen.chunk, depth, number - before) {
+                Found::Child(place) => return Found::Child(seen.left_size + place),
+                Found::End(place, count) => {
+                    return Found::End(seen.left_size + place, before + count);
+                }
+                Found::Behind(count) => count,
             };
             let children = before + more;
             let places = seen.left_size + seen.chunk.len();
-            find(seen.right, depth, number - children, steps).further(places, children)
+            let found = find(seen.right, depth, number - children, steps);
+            found.further(places, children)
         }
     }
 }
 
 /// A search in the depths of a tree from a place on. The places that it returns are counted from the first depth of all.
-#[tactic(auto, using(crate::proofs::Searches::find_rules))]
+#[tactic(auto, using(crate::proofs::Searches::from_rules))]
 pub(crate) fn find_from<L: Ledger>(
     tree: &DepthTree,
     from: usize,
@@ -146,9 +151,10 @@ pub(crate) fn find_from<L: Ledger>(
             if from >= seen.left_size {
                 return find_behind(&seen, from - seen.left_size, 0, depth, number, steps);
             }
-            let ahead = find_from(seen.left, from, depth, number, steps);
-            let Found::Behind(before) = ahead else {
-                return ahead;
+            let before = match find_from(seen.left, from, depth, number, steps) {
+                Found::Child(place) => return Found::Child(place),
+                Found::End(place, count) => return Found::End(place, count),
+                Found::Behind(count) => count,
             };
             find_behind(&seen, 0, before, depth, number, steps)
         }
@@ -156,7 +162,7 @@ pub(crate) fn find_from<L: Ledger>(
 }
 
 // A search from a place of a node's chunk on, after some children.
-#[tactic(auto, using(crate::proofs::Searches::find_rules))]
+#[tactic(auto, using(crate::proofs::Searches::from_rules))]
 fn find_behind<L: Ledger>(
     seen: &Seen<'_>,
     inner: usize,
@@ -172,15 +178,15 @@ fn find_behind<L: Ledger>(
     requires small { length (depths seen.now.left.now ++ (seen.now.chunk.now ++ depths seen.now.right.now)) < 2 ^ 64 }
     ensures found { result ≡ further (seen.now.left_size + inner) before
         (search depth (number - before) (drop inner seen.now.chunk.now ++ depths seen.now.right.now)) }
-    ensures among { IsAmong (length (depths seen.now.left.now ++ (seen.now.chunk.now ++ depths seen.now.right.now))) number result }
     ensures steps { steps.new ≤ steps.old + 2 * height seen.now.right.now }
     ensures behind { GoesOn result → steps.new ≤ steps.old + 1 }
 {
     let (_, chunk) = seen.chunk.split_at(inner);
-    let here = find_in(chunk, depth, number - before);
     let places = seen.left_size + inner;
-    let Found::Behind(more) = here else {
-        return here.further(places, before);
+    let more = match find_in(chunk, depth, number - before) {
+        Found::Child(place) => return Found::Child(places + place),
+        Found::End(place, count) => return Found::End(places + place, before + count),
+        Found::Behind(count) => count,
     };
     let children = before + more;
     let found = find(seen.right, depth, number - children, steps);
