@@ -19,7 +19,7 @@ use crate::words::{inserted, next_path, push_at, push_key, push_modify, push_nod
 use doc_values::{Doc, Docs, Fields, Ty};
 use edit_module::Atom;
 use edit_module::word::{Primitive, Word};
-use hold_shapes::{Name, Path, Place, Shape, SharedList, Str, Twin};
+use hold_shapes::{DepthSeq, Name, Path, Place, Shape, SharedList, Str, Twin};
 use std::alloc::{AllocError, Global};
 
 /// A word that makes the document from the initial value of its type. Fails only if memory runs out.
@@ -211,7 +211,7 @@ fn of_keyed(
 fn of_tree(
     alloc: Global,
     inner: &Ty,
-    depths: &SharedList<u64>,
+    depths: &DepthSeq,
     docs: &Docs,
 ) -> Result<Word, AllocError>
     requires valid { is_valid depths.now ≡ true }

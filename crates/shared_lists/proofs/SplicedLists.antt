@@ -34,7 +34,11 @@ pub length-spliced : {X : Type 0} (xs more : List X) (from to : ℕ) → from �
     → length (take from xs ++ more ++ drop to xs) ≡ length xs - (to - from) + length more
 length-spliced xs more from to order within = simp (length-append, length-take, length-drop) (omega arith)
 
-pub ruleset splice_rules = (spliced_left, spliced_right, spliced_across, length-spliced)
+pub spliced_nothing : {X : Type 0} (xs more : List X) (from to : ℕ) → from ≡ to → length more ≡ 0 → xs ≡ take from xs ++ more ++ drop to xs
+spliced_nothing xs [] from to e n = rw (append-nil (take from xs)) (subst (λ k. xs ≡ take from xs ++ drop k xs) e (sym (take-append-drop from xs)))
+spliced_nothing xs (x ∷ more) from to e n = absurd (omega arith)
+
+pub ruleset splice_rules = (spliced_left, spliced_right, spliced_across, spliced_nothing, length-spliced)
 
 pub one_more : (i : ℕ) → suc i ≡ i + 1
 one_more i = omega arith

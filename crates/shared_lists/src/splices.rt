@@ -203,7 +203,7 @@ fn owners_of<T: Drop>(alloc: Global, items: &[Rc<T>]) -> Result<Vec<Rc<T>>, Allo
 
 /// The items of a tree with those from `from` to before `to` replaced by those of another tree.
 ///
-/// None is a tree of no items.
+/// None is a tree of no items. If nothing is replaced by nothing, it is the same tree, shared.
 #[cycle(splice)]
 #[tactic(auto, using(crate::proofs::SplicedLists::splice_rules))]
 pub(crate) fn splice<T: Drop + Hint>(
@@ -223,6 +223,9 @@ pub(crate) fn splice<T: Drop + Hint>(
 {
     if from == 0 && to == tree.len() {
         return owner_of(more);
+    }
+    if from == to && len_of(more) == 0 {
+        return Ok(Some(tree.clone()?));
     }
     match &tree.node {
         Node::Chunk(items) => splice_chunk(alloc, items.as_slice(), from, to, more),

@@ -1,0 +1,4 @@
+pub mod Heights
+pub mod Parts
+pub mod Searches
+pub mod Sums
