@@ -1,4 +1,5 @@
 pub mod Heights
 pub mod Parts
+pub mod Passed
 pub mod Searches
 pub mod Sums

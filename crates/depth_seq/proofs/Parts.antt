@@ -6,10 +6,14 @@ use Rattle.std.proofs.Math.ListN.{drop_of_length-le}
 
 module _ {X : Type 0} (xs ys : List X) where
   take_past : (i : ℕ) → length xs ≤ i → take i (xs ++ ys) ≡ xs ++ take (i - length xs) ys
-  take_past i p = subst (λ k. take k (xs ++ ys) ≡ xs ++ take (i - length xs) ys) (omega arith) (take-append-add xs ys (i - length xs))
+  take_past i p =
+      let e : length xs + (i - length xs) ≡ i = omega arith in
+      subst (λ k. take k (xs ++ ys) ≡ xs ++ take (i - length xs) ys) e (take-append-add xs ys (i - length xs))
 
   drop_past : (i : ℕ) → length xs ≤ i → drop i (xs ++ ys) ≡ drop (i - length xs) ys
-  drop_past i p = subst (λ k. drop k (xs ++ ys) ≡ drop (i - length xs) ys) (omega arith) (drop-append-add xs ys (i - length xs))
+  drop_past i p =
+      let e : length xs + (i - length xs) ≡ i = omega arith in
+      subst (λ k. drop k (xs ++ ys) ≡ drop (i - length xs) ys) e (drop-append-add xs ys (i - length xs))
 
 module _ {X : Type 0} (xs c ys : List X) (n i : ℕ) (e : n ≡ length xs) where
   pub take_left : i ≤ n → take i (xs ++ (c ++ ys)) ≡ take i xs
@@ -61,10 +65,6 @@ module _ {X : Type 0} (xs c ys front : List X) (at k n : ℕ) (e : n ≡ length 
   pub chunk_right : (m j : ℕ) → m ≡ n + length c → j ≡ at - m → m ≤ at → front ++ drop (j + k) ys ≡ drop j ys → front ++ drop (at + k) (xs ++ (c ++ ys)) ≡ drop at (xs ++ (c ++ ys))
   chunk_right m j g f p s =
       rw (drop_right xs c ys n (at + k) e (j + k) (omega arith) (omega arith), drop_right xs c ys n at e j (omega arith) (omega arith)) s
-
--- three parts in a row, grouped in any way
-pub regrouped : {X : Type 0} (a b c d e : List X) → (a ++ (b ++ c)) ++ (d ++ e) ≡ a ++ (b ++ (c ++ (d ++ e)))
-regrouped a b c d e = simp append_assoc
 
 pub ruleset part_rules = (append_assoc, length-append)
 

@@ -1,38 +1,33 @@
--- Searches among the depths behind a node. `search` says where one ends; `children_among` counts the depths of children.
-use Rattle.std.specs.Prelude.{ℕ, ◌+◌, ◌-◌, ◌<◌, ◌≤◌, List, [], ◌∷◌, nat_eq, nat_lt, if◌then◌else◌}
+-- Searches among the depths behind a node. The main definition is `search`, which says where one ends.
+use Rattle.std.specs.Prelude.{ℕ, ◌+◌, ◌<◌, ◌≤◌, List, [], ◌∷◌, nat_eq, nat_lt, if◌then◌else◌}
 use Rattle.depth_seq.specs.declared.found.Found.{Found}
 use Rattle.depth_seq.specs.declared.found.Found.TheVariants.{Child, End, Behind}
 
--- what is found, seen from a list with n more depths at its front, c of them of children
-abbrev pub further : ℕ → ℕ → Found → Found
-further n c (Child p) = Child (n + p)
-further n c (End p k) = End (n + p) (c + k)
-further n c (Behind k) = Behind (c + k)
-
--- where a search for child number i of a node of depth d ends, the depths behind the node being given
-abbrev pub search : ℕ → ℕ → List ℕ → Found
-search d i [] = Behind 0
-search d i (e ∷ es) =
+-- where a search for child number n of a node of depth d ends that has come to a place behind k children, the depths from
+-- that place on being given
+abbrev pub search : ℕ → ℕ → ℕ → ℕ → List ℕ → Found
+search d n at k [] = Behind k
+search d n at k (e ∷ es) =
     if nat_lt d e
     then (if nat_eq e (d + 1)
-    then (if nat_eq i 0 then Child 0 else further 1 1 (search d (i - 1) es))
-    else further 1 0 (search d i es))
-    else End 0 0
+    then (if nat_eq k n then Child at else search d n (at + 1) (k + 1) es)
+    else search d n (at + 1) k es)
+    else End at k
 
--- all numbers of what is found stay below a bound, with n and c added
-abbrev pub StaysBelow : ℕ → ℕ → ℕ → Found → Type 0
-StaysBelow bound n c (Child p) = n + p < bound
-StaysBelow bound n c (End p k) = (n + p < bound) × (c + k < bound)
-StaysBelow bound n c (Behind k) = c + k < bound
-
--- a search among n depths for child number i: places are below n, and no more than i children are passed
-abbrev pub IsAmong : ℕ → ℕ → Found → Type 0
-IsAmong n i (Child p) = p < n
-IsAmong n i (End p k) = (p < n) × (k ≤ i) × (k ≤ n)
-IsAmong n i (Behind k) = (k ≤ i) × (k ≤ n)
-
--- a search goes on behind the last place
+-- a search goes on behind the last depth
 abbrev pub GoesOn : Found → Type 0
 GoesOn (Child p) = ⊥
 GoesOn (End p k) = ⊥
 GoesOn (Behind k) = Unit {0}
+
+-- a search that goes on has passed at most n children
+abbrev pub PassesAtMost : ℕ → Found → Type 0
+PassesAtMost n (Child p) = Unit {0}
+PassesAtMost n (End p k) = Unit {0}
+PassesAtMost n (Behind k) = k ≤ n
+
+-- a search that does not go on ends at a place from one place on to before another
+abbrev pub EndsBetween : ℕ → ℕ → Found → Type 0
+EndsBetween from upto (Child p) = (from ≤ p) × (p < upto)
+EndsBetween from upto (End p k) = (from ≤ p) × (p < upto)
+EndsBetween from upto (Behind k) = Unit {0}

@@ -26,9 +26,9 @@ IsShort n h = (d : ℕ) → n < 2 ^ d → h ≤ 2 * d
 
 -- what holds of a node with a chunk between its parts: the chunk has a depth, what is kept of all depths is right, the
 -- height is right, the parts differ in height by at most one, and the node is short
-pub record IsNode (left : DepthTree) (chunk : List ℕ) (right : DepthTree) (h left_size : ℕ) (sum : Sum) : Type 0 where
+pub record IsNode (left : DepthTree) (chunk : List ℕ) (right : DepthTree) (h left_size : ℕ) (kept : Sum) : Type 0 where
   pub some : 0 < length chunk
-  pub sums : AreSums sum (depths left ++ (chunk ++ depths right))
+  pub sums : AreSums kept (depths left ++ (chunk ++ depths right))
   pub front : left_size ≡ length (depths left)
   pub higher : h ≡ max (height left) (height right) + 1
   pub balanced : DifferByAtMost 1 (height left) (height right)

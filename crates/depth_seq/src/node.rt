@@ -39,7 +39,7 @@ pub(crate) struct DepthNode {
     right: DepthTree,
     height: u32,
     left_size: usize,
-    sum: Sum,
+    kept: Sum,
 }
 
 impl Model for DepthNode {
@@ -51,7 +51,7 @@ impl Model for DepthNode {
 
     ghost view = { λ a. (depths a.left ++ (a.chunk.value.items ++ depths a.right), a.height) };
 
-    ghost invariant = { λ a. IsNode a.left a.chunk.value.items a.right a.height a.left_size a.sum };
+    ghost invariant = { λ a. IsNode a.left a.chunk.value.items a.right a.height a.left_size a.kept };
 
     ghost size = { λ d. length d.0 };
 
@@ -67,7 +67,7 @@ pub(crate) struct Seen<'a> {
     pub(crate) chunk: &'a [u64],
     pub(crate) right: &'a DepthTree,
     pub(crate) left_size: usize,
-    pub(crate) sum: Sum,
+    pub(crate) kept: Sum,
 }
 
 impl DepthNode {
@@ -76,7 +76,7 @@ impl DepthNode {
         ensures depths { self.now.0 ≡ depths result.left.now ++ (result.chunk.now ++ depths result.right.now) }
         ensures some { 0 < length result.chunk.now }
         ensures front { result.left_size ≡ length (depths result.left.now) }
-        ensures sums { AreSums result.sum self.now.0 }
+        ensures sums { AreSums result.kept self.now.0 }
         ensures higher { self.now.1 ≡ max (height result.left.now) (height result.right.now) + 1 }
         ensures small { length self.now.0 < 2 ^ 64 }
         ensures steps { steps.new ≡ steps.old + 1 }
@@ -87,7 +87,7 @@ impl DepthNode {
             chunk: self.chunk.as_slice(),
             right: &self.right,
             left_size: self.left_size,
-            sum: self.sum,
+            kept: self.kept,
         }
     }
 }
@@ -111,7 +111,7 @@ impl DepthTree {
     {
         match self {
             DepthTree::Empty => Sum::none(),
-            DepthTree::Node(node) => node.sum,
+            DepthTree::Node(node) => node.kept,
         }
     }
 
@@ -149,19 +149,20 @@ fn fork(
 {
     let height = left.height().max(right.height()) + 1;
     let left_size = left.len();
-    let sum = sum_of(&left, chunk.as_slice(), &right);
+    let kept = sum_of(&left, chunk.as_slice(), &right);
     let node = DepthNode {
         left,
         chunk,
         right,
         height,
         left_size,
-        sum,
+        kept,
     };
     Ok(DepthTree::Node(Rc::new(alloc, node)?))
 }
 
 // What is kept of some depths between two parts.
+#[tactic(auto, using(crate::proofs::Sums::bound_rules))]
 fn sum_of(left: &DepthTree, chunk: &[u64], right: &DepthTree) -> Sum
     requires { length (depths left.now ++ (chunk.now ++ depths right.now)) < 2 ^ 64 }
     ensures { AreSums result (depths left.now ++ (chunk.now ++ depths right.now)) }

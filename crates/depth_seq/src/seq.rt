@@ -1,7 +1,7 @@
 //! The list of depths.
 
 ghost use Rattle.std.specs.Prelude.{◌≡◌, ◌<◌, ◌≤◌, ◌+◌, ◌*◌, ◌^◌, ◌++◌, ◌↔◌, ℕ, [], length, take, drop, slice_get, Some, IsTrue, IfOk};
-ghost use Rattle.depth_seq.specs.Searches.{search, further, IsAmong};
+ghost use Rattle.depth_seq.specs.Searches.{search, EndsBetween};
 ghost use Rattle.depth_seq.specs.Trees.{depths};
 
 use crate::found::Found;
@@ -100,6 +100,7 @@ impl DepthSeq {
     /// place on. Places are counted from the first depth of all.
     ///
     /// Does not allocate. With n depths, n below 2^d, it takes at most 8d steps.
+    #[tactic(auto, using(crate::proofs::Searches::seq_rules))]
     pub fn search<L: Ledger>(
         &self,
         from: usize,
@@ -108,19 +109,20 @@ impl DepthSeq {
         steps: &mut Steps<L>,
     ) -> Found
         requires { from ≤ length self.now }
-        ensures found { result ≡ further from 0 (search depth number (drop from self.now)) }
-        ensures among { IsAmong (length self.now) number result }
+        ensures found { result ≡ search depth number from 0 (drop from self.now) }
+        ensures between { EndsBetween from (length self.now) result }
         ensures steps { (d : ℕ) → length self.now < 2 ^ d → steps.new ≤ steps.old + 8 * d }
     {
         let _height = self.root.height();
-        walks::find_from(&self.root, from, depth, number, steps)
+        let _size = self.root.len();
+        walks::find_from(&self.root, from, 0, depth, number, steps)
     }
 
     /// The same search, whose steps are not counted.
     pub fn find(&self, from: usize, depth: u64, number: u64) -> Found
         requires { from ≤ length self.now }
-        ensures found { result ≡ further from 0 (search depth number (drop from self.now)) }
-        ensures among { IsAmong (length self.now) number result }
+        ensures found { result ≡ search depth number from 0 (drop from self.now) }
+        ensures between { EndsBetween from (length self.now) result }
     {
         counted_search::<Brand>(self, from, depth, number, Blank::new(1))
     }
@@ -200,6 +202,7 @@ fn chunk_of<L: Ledger>(tree: &DepthTree, place: usize, blank: Blank) -> &[u64]
     walks::chunk_from(tree, place, &mut steps)
 }
 
+// A search whose steps are dropped.
 fn counted_search<L: Ledger>(
     seq: &DepthSeq,
     from: usize,
@@ -211,8 +214,8 @@ fn counted_search<L: Ledger>(
     requires parts { blank.parts ≡ L.parts }
     requires one { 0 < L.parts }
     requires within { from ≤ length seq.now }
-    ensures found { result ≡ further from 0 (search depth number (drop from seq.now)) }
-    ensures among { IsAmong (length seq.now) number result }
+    ensures found { result ≡ search depth number from 0 (drop from seq.now) }
+    ensures between { EndsBetween from (length seq.now) result }
 {
     let mut steps: Steps<L> = Steps::new(blank);
     seq.search(from, depth, number, &mut steps)

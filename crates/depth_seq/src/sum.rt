@@ -39,6 +39,7 @@ impl Sum {
     }
 
     /// Of two parts, one after the other.
+    #[tactic(auto, using(crate::proofs::Sums::sum_rules))]
     pub(crate) fn and(&self, next: &Sum) -> Sum
         requires size { self.now.size + next.now.size < 2 ^ 64 }
         requires leasts { self.now.leasts + next.now.leasts < 2 ^ 64 }
@@ -73,6 +74,7 @@ impl Sum {
     }
 
     /// Of these depths.
+    #[tactic(auto, using(crate::proofs::Sums::of_rules))]
     pub(crate) fn of(depths: &[u64]) -> Sum
         ensures { AreSums result depths.now }
     {

@@ -1,12 +1,13 @@
 //! Walks down a tree of depths, which see each node by a look into it and count their looks.
 
-ghost use Rattle.std.specs.Prelude.{◌≡◌, ◌<◌, ◌≤◌, ◌+◌, ◌-◌, ◌*◌, ◌^◌, ◌++◌, length, drop, slice_get, Some, None, IfSome};
-ghost use Rattle.depth_seq.specs.Searches.{search, further, IsAmong, GoesOn};
+ghost use Rattle.std.specs.Prelude.{◌≡◌, ◌<◌, ◌≤◌, ◌+◌, ◌*◌, ◌^◌, ◌++◌, ℕ, List, length, drop, IfSome, MatchOption};
+ghost use Rattle.depth_seq.specs.declared.found.Found.TheVariants.{Behind};
+ghost use Rattle.depth_seq.specs.Searches.{search, PassesAtMost, GoesOn};
 ghost use Rattle.depth_seq.specs.Sums.{AreSums};
 ghost use Rattle.depth_seq.specs.Trees.{depths, height};
 
 use crate::found::Found;
-use crate::node::{DepthTree, Seen};
+use crate::node::DepthTree;
 use crate::steps::Steps;
 use crate::sum::Sum;
 use std::sync::ledger::Ledger;
@@ -41,101 +42,134 @@ pub(crate) fn chunk_from<'a, L: Ledger>(
     }
 }
 
-// How many children a search passes in a part of the depths, if it goes on behind that part.
-#[tactic(auto, using(crate::proofs::Searches::passed_rules))]
-fn passed(sum: &Sum, depth: u64, number: u64) -> Option<u64>
-    ensures passed { (ds : List ℕ) → AreSums sum.now ds → IfSome result (λ c. search depth number ds ≡ Behind c) }
-    ensures inside { (ds : List ℕ) → AreSums sum.now ds → result ≡ None → GoesOn (search depth number ds) → ⊥ }
+// How many children a search has passed behind a part of the depths, if it goes on there: what is kept of that part says
+// so. The search comes to the part behind some children.
+fn passed_behind(kept: &Sum, depth: u64, number: u64, passed: u64) -> Option<u64>
+    requires { passed ≤ number }
+    ensures answer { (ds : List ℕ) (at : ℕ) → AreSums kept.now ds
+        → MatchOption result (GoesOn (search depth number at passed ds) → ⊥) (λ k. search depth number at passed ds ≡ Behind k) }
+    ensures few { IfSome result (λ k. k ≤ number) }
 {
-    if sum.size == 0 {
-        return Some(0);
+    if kept.size == 0 {
+        return Some(passed);
     }
-    if sum.least <= depth {
+    if kept.least <= depth {
         return None;
     }
-    if sum.least - 1 > depth {
-        return Some(0);
+    if kept.least - 1 > depth {
+        return Some(passed);
     }
-    if sum.leasts > number {
+    if kept.leasts > number - passed {
         return None;
     }
-    Some(sum.leasts)
+    Some(passed + kept.leasts)
 }
 
-// A search in some depths.
-#[tactic(auto, using(crate::proofs::Searches::scan_rules))]
-fn find_in(chunk: &[u64], depth: u64, number: u64) -> Found
-    ensures found { result ≡ search depth number chunk.now }
-    ensures among { IsAmong (length chunk.now) number result }
+// A search in a chunk from one of its places on. `at` is the place of its first depth in the complete list.
+fn find_in(chunk: &[u64], first: usize, at: usize, depth: u64, number: u64, passed: u64) -> Found
+    requires within { first ≤ length chunk.now }
+    requires fits { at + length chunk.now < 2 ^ 64 }
+    requires few { passed ≤ number }
+    ensures found { result ≡ search depth number (at + first) passed (drop first chunk.now) }
+    ensures few { PassesAtMost number result }
 {
-    let mut passed = 0;
-    for i in 0..chunk.len() {
+    let mut count = passed;
+    for i in first..chunk.len() {
         let next = chunk[i];
         if next <= depth {
-            return Found::End(i, passed);
+            return Found::End(at + i, count);
         }
         if next - 1 == depth {
-            if passed == number {
-                return Found::Child(i);
+            if count == number {
+                return Found::Child(at + i);
             }
-            passed += 1;
+            count += 1;
         }
     }
-    Found::Behind(passed)
+    Found::Behind(count)
 }
 
-/// A search in all depths of a tree.
-#[tactic(auto, using(crate::proofs::Searches::find_rules))]
+/// A search in all depths of a tree. `at` is the place of the first one in the complete list.
+#[tactic(auto, using(crate::proofs::Searches::walk_rules))]
 pub(crate) fn find<L: Ledger>(
     tree: &DepthTree,
+    at: usize,
     depth: u64,
     number: u64,
+    passed: u64,
     steps: &mut Steps<L>,
 ) -> Found
-    ensures found { result ≡ search depth number (depths tree.now) }
-    ensures among { IsAmong (length (depths tree.now)) number result }
+    requires fits { at + length (depths tree.now) < 2 ^ 64 }
+    requires few { passed ≤ number }
+    ensures found { result ≡ search depth number at passed (depths tree.now) }
+    ensures few { PassesAtMost number result }
     ensures steps { steps.new ≤ steps.old + 2 * height tree.now }
     ensures behind { GoesOn result → steps.new ≤ steps.old + 1 }
 {
     match tree {
-        DepthTree::Empty => Found::Behind(0),
+        DepthTree::Empty => Found::Behind(passed),
         DepthTree::Node(node) => {
             let seen = node.look(steps);
-            if let Some(children) = passed(&seen.sum, depth, number) {
+            if let Some(children) = passed_behind(&seen.kept, depth, number, passed) {
                 return Found::Behind(children);
             }
-            let before = match find(seen.left, depth, number, steps) {
-                Found::Child(place) => return Found::Child(place),
-                Found::End(place, count) => return Found::End(place, count),
-                Found::Behind(count) => count,
+            let ahead = find(seen.left, at, depth, number, passed, steps);
+            let Found::Behind(before) = ahead else {
+                return ahead;
             };
-            let more = match find_in(seen.chunk, depth, number - before) {
-                Found::Child(place) => return Found::Child(seen.left_size + place),
-                Found::End(place, count) => {
-                    return Found::End(seen.left_size + place, before + count);
-                }
-                Found::Behind(count) => count,
+            let start = at + seen.left_size;
+            let here = find_in(seen.chunk, 0, start, depth, number, before);
+            let Found::Behind(children) = here else {
+                return here;
             };
-            let children = before + more;
-            let places = seen.left_size + seen.chunk.len();
-            let found = find(seen.right, depth, number - children, steps);
-            found.further(places, children)
+            let place = start + seen.chunk.len();
+            find(seen.right, place, depth, number, children, steps)
         }
     }
 }
 
-/// A search in the depths of a tree from a place on. The places that it returns are counted from the first depth of all.
-#[tactic(auto, using(crate::proofs::Searches::from_rules))]
+// A search from a place of a chunk on, and in the part behind the chunk. `at` is the place of the chunk's first depth in
+// the complete list.
+#[tactic(auto, using(crate::proofs::Searches::walk_rules))]
+fn find_behind<L: Ledger>(
+    chunk: &[u64],
+    right: &DepthTree,
+    first: usize,
+    at: usize,
+    depth: u64,
+    number: u64,
+    passed: u64,
+    steps: &mut Steps<L>,
+) -> Found
+    requires within { first ≤ length chunk.now }
+    requires fits { at + length chunk.now + length (depths right.now) < 2 ^ 64 }
+    requires few { passed ≤ number }
+    ensures found { result ≡ search depth number (at + first) passed (drop first chunk.now ++ depths right.now) }
+    ensures few { PassesAtMost number result }
+    ensures steps { steps.new ≤ steps.old + 2 * height right.now }
+    ensures behind { GoesOn result → steps.new ≤ steps.old + 1 }
+{
+    let here = find_in(chunk, first, at, depth, number, passed);
+    let Found::Behind(children) = here else {
+        return here;
+    };
+    find(right, at + chunk.len(), depth, number, children, steps)
+}
+
+/// A search in the depths of a tree from a place on. `at` is the place of the first one in the complete list.
+#[tactic(auto, using(crate::proofs::Searches::walk_rules))]
 pub(crate) fn find_from<L: Ledger>(
     tree: &DepthTree,
     from: usize,
+    at: usize,
     depth: u64,
     number: u64,
     steps: &mut Steps<L>,
 ) -> Found
-    requires { from ≤ length (depths tree.now) }
-    ensures found { result ≡ further from 0 (search depth number (drop from (depths tree.now))) }
-    ensures among { IsAmong (length (depths tree.now)) number result }
+    requires within { from ≤ length (depths tree.now) }
+    requires fits { at + length (depths tree.now) < 2 ^ 64 }
+    ensures found { result ≡ search depth number (at + from) 0 (drop from (depths tree.now)) }
+    ensures few { PassesAtMost number result }
     ensures steps { steps.new ≤ steps.old + 4 * height tree.now }
     ensures behind { GoesOn result → steps.new ≤ steps.old + 2 * height tree.now }
 {
@@ -143,52 +177,20 @@ pub(crate) fn find_from<L: Ledger>(
         DepthTree::Empty => Found::Behind(0),
         DepthTree::Node(node) => {
             let seen = node.look(steps);
-            let places = seen.left_size + seen.chunk.len();
-            if from >= places {
-                let found = find_from(seen.right, from - places, depth, number, steps);
-                return found.further(places, 0);
+            let start = at + seen.left_size;
+            if from < seen.left_size {
+                let ahead = find_from(seen.left, from, at, depth, number, steps);
+                let Found::Behind(before) = ahead else {
+                    return ahead;
+                };
+                return find_behind(seen.chunk, seen.right, 0, start, depth, number, before, steps);
             }
-            if from >= seen.left_size {
-                return find_behind(&seen, from - seen.left_size, 0, depth, number, steps);
+            let inner = from - seen.left_size;
+            if inner <= seen.chunk.len() {
+                return find_behind(seen.chunk, seen.right, inner, start, depth, number, 0, steps);
             }
-            let before = match find_from(seen.left, from, depth, number, steps) {
-                Found::Child(place) => return Found::Child(place),
-                Found::End(place, count) => return Found::End(place, count),
-                Found::Behind(count) => count,
-            };
-            find_behind(&seen, 0, before, depth, number, steps)
+            let behind = inner - seen.chunk.len();
+            find_from(seen.right, behind, start + seen.chunk.len(), depth, number, steps)
         }
     }
-}
-
-// A search from a place of a node's chunk on, after some children.
-#[tactic(auto, using(crate::proofs::Searches::from_rules))]
-fn find_behind<L: Ledger>(
-    seen: &Seen<'_>,
-    inner: usize,
-    before: u64,
-    depth: u64,
-    number: u64,
-    steps: &mut Steps<L>,
-) -> Found
-    requires within { inner ≤ length seen.now.chunk.now }
-    requires passed { before ≤ number }
-    requires few { before ≤ length (depths seen.now.left.now) }
-    requires front { seen.now.left_size ≡ length (depths seen.now.left.now) }
-    requires small { length (depths seen.now.left.now ++ (seen.now.chunk.now ++ depths seen.now.right.now)) < 2 ^ 64 }
-    ensures found { result ≡ further (seen.now.left_size + inner) before
-        (search depth (number - before) (drop inner seen.now.chunk.now ++ depths seen.now.right.now)) }
-    ensures steps { steps.new ≤ steps.old + 2 * height seen.now.right.now }
-    ensures behind { GoesOn result → steps.new ≤ steps.old + 1 }
-{
-    let (_, chunk) = seen.chunk.split_at(inner);
-    let places = seen.left_size + inner;
-    let more = match find_in(chunk, depth, number - before) {
-        Found::Child(place) => return Found::Child(places + place),
-        Found::End(place, count) => return Found::End(places + place, before + count),
-        Found::Behind(count) => count,
-    };
-    let children = before + more;
-    let found = find(seen.right, depth, number - children, steps);
-    found.further(places + chunk.len(), children)
 }

@@ -50,19 +50,21 @@ pub fn end(depths: &DepthSeq, at: usize) -> usize
     ensures above { at < result }
     ensures within { result ≤ length depths.now }
 {
+    let size = depths.len();
     match depths.find(at + 1, depth_at(depths, at), u64::MAX) {
         Found::Child(_) => unreachable!(),
         Found::End(place, _) => place,
-        Found::Behind(_) => depths.len(),
+        Found::Behind(_) => size,
     }
 }
 
 /// How many children a node has, which is one of the places.
-#[tactic(auto, using(crate::proofs::DepthSearches::end_rules))]
+#[tactic(auto, using(crate::proofs::DepthSearches::children_rules))]
 pub fn children(depths: &DepthSeq, at: usize) -> usize
     requires { at < length depths.now }
     ensures { result ≡ children depths.now at }
 {
+    let _size = depths.len();
     match depths.find(at + 1, depth_at(depths, at), u64::MAX) {
         Found::Child(_) => unreachable!(),
         Found::End(_, count) => count as usize,
