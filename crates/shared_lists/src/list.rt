@@ -173,11 +173,12 @@ impl<T: Drop + Hint> SharedList<T> {
         requires { place + count ≤ length self.now }
         ensures { IfOk result (λ list. list ≡ take count (drop place self.now)) }
     {
-        let behind = self.len() - place - count;
-        let mut list = self.copy(alloc)?;
-        list.delete(alloc, 0, place)?;
-        list.delete(alloc, count, behind)?;
-        Ok(list)
+        let _len = self.len();
+        let tree = match &self.root {
+            None => None,
+            Some(root) => splices::range(alloc, root.tree(), place, place + count)?,
+        };
+        SharedList::from_tree(alloc, tree)
     }
 
     // The list of a tree.

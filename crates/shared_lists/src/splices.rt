@@ -246,6 +246,42 @@ pub(crate) fn splice<T: Drop + Hint>(
     }
 }
 
+/// Some of the items of a tree, from `from` to before `to`.
+///
+/// Goes down to the smallest part of the tree that has all of them, and makes new nodes below that part alone.
+#[cycle(range)]
+#[tactic(auto, using(crate::proofs::SplicedLists::range_rules))]
+pub(crate) fn range<T: Drop + Hint>(
+    alloc: Global,
+    tree: &Rc<Tree<T>>,
+    from: usize,
+    to: usize,
+) -> Result<Option<Rc<Tree<T>>>, AllocError>
+    requires order { from ≤ to }
+    requires within { to ≤ length tree.now.value }
+    ensures { IfOk result (λ t. optional_items t ≡ take (to - from) (drop from tree.now.value)) }
+{
+    match &tree.node {
+        Node::Chunk(items) => {
+            let (_, behind) = items.as_slice().split_at(from);
+            let (inner, _) = behind.split_at(to - from);
+            chunk_optional(alloc, owners_of(alloc, inner)?)
+        }
+        Node::Join(left, right, middle, _, _, _) => {
+            let middle = *middle;
+            if to <= middle {
+                return range(alloc, left, from, to);
+            }
+            if middle <= from {
+                return range(alloc, right, from - middle, to - middle);
+            }
+            let front = splice(alloc, left, 0, from, &None)?;
+            let back = splice(alloc, right, to - middle, right.len(), &None)?;
+            join_optional(alloc, front, back)
+        }
+    }
+}
+
 /// One more owner of a tree, where there is one.
 pub(crate) fn owner_of<T: Drop>(
     tree: &Option<Rc<Tree<T>>>,
