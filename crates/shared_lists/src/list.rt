@@ -153,6 +153,27 @@ impl<T: Drop + Hint> SharedList<T> {
         self.splice(alloc, place, place + count, &None)
     }
 
+    /// Replaces some items, from a place on, by those of another list, which both lists share then.
+    ///
+    /// If there is no memory, the list is as it was.
+    pub fn replace(
+        &mut self,
+        alloc: Global,
+        place: usize,
+        count: usize,
+        items: &SharedList<T>,
+    ) -> Result<(), AllocError>
+        requires within { place + count ≤ length self.old }
+        requires fits { length self.old - count + length items.now < 2 ^ 64 }
+        ensures replaced { OnOk result (self.new
+            ≡ take place self.old ++ items.now ++ drop (place + count) self.old) }
+        ensures unchanged { OnErr result (self.new ≡ self.old) }
+    {
+        let _len = self.len();
+        let more = items.tree()?;
+        self.splice(alloc, place, place + count, &more)
+    }
+
     /// A list of the items of two lists, one after the other. All three lists share the items.
     pub fn concat(&self, alloc: Global, other: &SharedList<T>) -> Result<SharedList<T>, AllocError>
         requires { length self.now + length other.now < 2 ^ 64 }
