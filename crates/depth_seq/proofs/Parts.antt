@@ -38,6 +38,21 @@ module _ {X : Type 0} (xs c ys : List X) (n i : ℕ) (e : n ≡ length xs) where
       let same : i - length xs - length c ≡ j = omega arith in
       rw (drop_past xs (c ++ ys) i (omega arith), drop_past c ys (i - length xs) (omega arith), same) refl
 
+-- the places from `from` to before `to` replaced by others, in the chunk, in the left part, or in the right one
+module _ {X : Type 0} (xs c ys more : List X) (n from to : ℕ) (e : n ≡ length xs) (order : from ≤ to) where
+  pub spliced_here : (f t : ℕ) → n ≤ from → to ≤ n + length c → f ≡ from - n → t ≡ to - n
+      → xs ++ ((take f c ++ (more ++ drop t c)) ++ ys) ≡ take from (xs ++ (c ++ ys)) ++ (more ++ drop to (xs ++ (c ++ ys)))
+  spliced_here f t p q g h =
+      rw (take_here xs c ys n from e f g p (omega arith), drop_here xs c ys n to e t h (omega arith) (omega arith)) (simp (append_assoc, append-nil))
+
+  pub spliced_left : to ≤ n → (take from xs ++ (more ++ drop to xs)) ++ (c ++ ys) ≡ take from (xs ++ (c ++ ys)) ++ (more ++ drop to (xs ++ (c ++ ys)))
+  spliced_left p = rw (take_left xs c ys n from e (omega arith), drop_left xs c ys n to e p) (simp append_assoc)
+
+  pub spliced_right : (f t m : ℕ) → m ≡ n + length c → m ≤ from → f ≡ from - m → t ≡ to - m
+      → xs ++ (c ++ (take f ys ++ (more ++ drop t ys))) ≡ take from (xs ++ (c ++ ys)) ++ (more ++ drop to (xs ++ (c ++ ys)))
+  spliced_right f t m l p g h =
+      rw (take_right xs c ys n from e f (omega arith) (omega arith), drop_right xs c ys n to e t (omega arith) (omega arith)) (simp append_assoc)
+
 -- the first chunk of a list, seen in a list that has more behind it
 pub first_of_left : {X : Type 0} (xs c ys : List X) → xs ≡ c ++ drop (length c) xs → xs ++ ys ≡ c ++ drop (length c) (xs ++ ys)
 first_of_left xs c ys e =
@@ -68,11 +83,15 @@ module _ {X : Type 0} (xs c ys front : List X) (at k n : ℕ) (e : n ≡ length 
 
 pub ruleset part_rules = (append_assoc, length-append)
 
-pub ruleset cut_rules = (take_left, take_here, take_right, drop_left, drop_here, drop_right, first_of_left, first_of_chunk, first_within, append-nil, length-append, length-drop)
+pub ruleset cut_rules = (take_left, take_here, take_right, drop_left, drop_here, drop_right, first_of_left, first_of_chunk, first_within, append-nil, length-append, length-take, length-drop)
 
-pub ruleset making_rules = (append-nil, take-append-drop)
+pub ruleset making_rules = (append-nil, take-append-drop, length-append, length-take, length-drop)
 
-pub ruleset splice_rules = (append_assoc, append-nil, length-append, length-take, length-drop, drop_of_length-le)
+pub ruleset splice_rules = (length-append, length-take, length-drop)
+
+pub ruleset splice_chunk_rules = (spliced_here, spliced_left, spliced_right, length-append, length-take, length-drop)
+
+pub ruleset new_chunk_rules = (append_assoc, length-append, length-take, length-drop)
 
 pub ruleset chunk_rules = (chunk_left, chunk_here, chunk_right, length-append, length-drop)
 

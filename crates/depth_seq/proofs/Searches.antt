@@ -60,6 +60,11 @@ ends_ahead d n at k xs ys f e h =
 pub goes_behind : (d n at k m j : ℕ) (xs ys : List ℕ) → Behind j ≡ search d n at k xs → m ≡ at + length xs → search d n m j ys ≡ search d n at k (xs ++ ys)
 goes_behind d n at k m j xs ys e h = sym (search-append d n at k m xs ys h ∙ ap (go_on d n m ys) (sym e))
 
+pub stopped : (f : Found) → ((j : ℕ) → f ≡ Behind j → ⊥) → GoesOn f → ⊥
+stopped (Child p) h g = g
+stopped (End p k) h g = g
+stopped (Behind k) h g = h k refl
+
 -- ---- numbers of what is found
 
 earlier : (at m : ℕ) (f : Found) → EndsBetween (at + 1) m f → EndsBetween at m f

@@ -32,7 +32,7 @@ pub(crate) fn splice(
 
 /// The same for a few depths, if they and those that they replace are in one chunk, which stays small and not empty.
 /// The tree keeps its form. Returns None if not.
-#[tactic(auto, using(crate::proofs::Parts::splice_rules))]
+#[tactic(auto, using(crate::proofs::Parts::splice_chunk_rules))]
 pub(crate) fn splice_chunk(
     alloc: Global,
     tree: &DepthTree,
@@ -82,6 +82,7 @@ pub(crate) fn splice_chunk(
 }
 
 // A chunk with some of its depths replaced by others, if it stays small and not empty.
+#[tactic(auto, using(crate::proofs::Parts::new_chunk_rules))]
 fn new_chunk(
     alloc: Global,
     chunk: &[u64],
