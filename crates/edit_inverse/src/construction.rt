@@ -208,12 +208,7 @@ fn of_keyed(
 
 // Mod of the root, and then Graft and Mod for each further node.
 #[cycle(build)]
-fn of_tree(
-    alloc: Global,
-    inner: &Ty,
-    depths: &DepthSeq,
-    docs: &Docs,
-) -> Result<Word, AllocError>
+fn of_tree(alloc: Global, inner: &Ty, depths: &DepthSeq, docs: &Docs) -> Result<Word, AllocError>
     requires valid { is_valid depths.now ≡ true }
     requires many { length depths.now ≡ length (doc_list (docs_tree docs.now)) }
     requires typed { has_each (ty_tree inner.now) (docs_tree docs.now) ≡ true }

@@ -262,11 +262,7 @@ fn hung_back(alloc: Global, part: &Path, below: &Path, shape: &Shape) -> Result<
 }
 
 // The depths without those of a subtree.
-fn without(
-    alloc: Global,
-    depths: &DepthSeq,
-    at: usize,
-) -> Result<DepthSeq, AllocError>
+fn without(alloc: Global, depths: &DepthSeq, at: usize) -> Result<DepthSeq, AllocError>
     requires { at < length depths.now }
     ensures { IfOk result (λ rest. rest ≡ remove_part at (end_of depths.now at) depths.now) }
 {

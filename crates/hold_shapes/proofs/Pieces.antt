@@ -105,13 +105,19 @@ module _ {X M : Type 0} (f : X → M) (fresh : M) (xs inner : List X) (at to : �
       let k : map f (take at xs) ≡ map g front = kept-piece f fresh xs 0 at (front_of (IsBelow (length xs)) front (m ++ back) all) in
       let l : map f (drop to xs) ≡ map g back = ap (map f) (sym (take_rest xs to)) ∙ kept-piece f fresh xs to (length xs - to) last in
       let parts : map f (take at xs ++ inner ++ drop to xs) ≡ map f (take at xs) ++ map f inner ++ map f (drop to xs) =
-          map-append f (take at xs ++ inner) (drop to xs) ∙ ap (λ ts. ts ++ map f (drop to xs)) (map-append f (take at xs) inner) in
+      map-append f (take at xs ++ inner) (drop to xs) ∙ ap (λ ts. ts ++ map f (drop to xs)) (map-append f (take at xs) inner) in
       let whole : map g os ≡ map g front ++ (map g m ++ map g back) =
-          ap (map g) e ∙ map-append g front (m ++ back) ∙ ap (λ ts. map g front ++ ts) (map-append g m back) in
+      ap (map g) e ∙ map-append g front (m ++ back) ∙ ap (λ ts. map g front ++ ts) (map-append g m back) in
       let same : map f (take at xs) ++ map f inner ++ map f (drop to xs) ≡ map g front ++ map g m ++ map g back = cc in
       parts ∙ same ∙ append_assoc (map g front) (map g m) (map g back) ∙ sym whole
 
   pub length-around : Around → length os ≡ at + (length m + (length xs - to))
   length-around e =
-      omega (arith, ap length e, length-append (run_origins (Old 0) at) (m ++ run_origins (Old to) (length xs - to)),
-      length-append m (run_origins (Old to) (length xs - to)), length-kept 0 at, length-kept to (length xs - to))
+      omega (
+        arith,
+        ap length e,
+        length-append (run_origins (Old 0) at) (m ++ run_origins (Old to) (length xs - to)),
+        length-append m (run_origins (Old to) (length xs - to)),
+        length-kept 0 at,
+        length-kept to (length xs - to),
+      )

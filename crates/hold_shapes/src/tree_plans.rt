@@ -196,12 +196,7 @@ fn moved_depth(old: u64, top: u64, depth: u64) -> Option<u64>
 
 // The depths of a subtree whose root has depth `top`, after it is moved below a node of this depth.
 #[tactic(auto, using(crate::proofs::MovedDepths::depth_rules))]
-fn moved_depths(
-    alloc: Global,
-    part: &DepthSeq,
-    top: u64,
-    depth: u64,
-) -> Result<Vec<u64>, PlanFault>
+fn moved_depths(alloc: Global, part: &DepthSeq, top: u64, depth: u64) -> Result<Vec<u64>, PlanFault>
     ensures { MatchResult result
         (λ all. allowed_depths top depth part.now ≡ Ok all.items)
         (λ fault. IsRefusal (allowed_depths top depth part.now) fault) }
