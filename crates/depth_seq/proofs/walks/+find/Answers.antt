@@ -1,5 +1,5 @@
 use Rattle.std.proofs.Common.{rules, ◌≡◌, ◌+◌, ◌++◌, drop, length, ap, sym, subst, ◌∙◌, arith}
-use Rattle.depth_seq.specs.Searches.{search, GoesOn}
+use Rattle.depth_seq.specs.Searches.{search as sought, GoesOn}
 use Rattle.depth_seq.specs.Trees.{depths}
 use Rattle.depth_seq.specs.declared.found.Found.TheVariants.{Behind}
 use Rattle.depth_seq.proofs.Searches.{stopped}
@@ -42,5 +42,5 @@ returns-in-Behind-here-clause-behind g t c = λ k.
     let found = ends_right c.args.depth c.args.number c.args.at c.args.passed s.left_size (depths s.left.now) s.chunk.now (depths s.right.now) c.look-seen.ensures.front
     c.find.result c.in-Behind.before (c.args.at + s.left_size + 0) c.in-Behind-here.children _ (sym c.in-Behind.is ∙ c.find-ahead.ensures.found) (omega arith)
     (sym c.in-Behind-here.is ∙ c.find_in-here.ensures.found) (omega arith) c.find.ensures.found in
-    let same : c.find.result ≡ search c.args.depth c.args.number c.args.at c.args.passed (depths c.args.tree.now) = rw is found in
+    let same : c.find.result ≡ sought c.args.depth c.args.number c.args.at c.args.passed (depths c.args.tree.now) = rw is found in
     absurd (c.in_default.ensures.answer (depths c.args.tree.now) c.args.at (search rules) (subst GoesOn same k))
