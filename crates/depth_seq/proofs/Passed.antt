@@ -20,11 +20,11 @@ skip_children d n at k m [] a s h = ap Behind (omega arith)
 skip_children d n at k m (x ∷ xs) a s h =
     elim (cases_eq x (d + 1)) [
       | inl e ↦
-        let c = count-here (d + 1) x xs e in
-        search_past d n at k x xs e (omega (arith, c)) ∙ skip_children d n (at + 1) (k + 1) m xs a.1 (omega (arith, c)) h
+          let c = count-here (d + 1) x xs e in
+          search_past d n at k x xs e (omega (arith, c)) ∙ skip_children d n (at + 1) (k + 1) m xs a.1 (omega (arith, c)) h
       | inr e ↦
-        let c = count-other (d + 1) x xs e in
-        search_below d n at k x xs (omega (arith, a.0)) e ∙ skip_children d n (at + 1) k m xs a.1 (omega (arith, c)) h
+          let c = count-other (d + 1) x xs e in
+          search_below d n at k x xs (omega (arith, a.0)) e ∙ skip_children d n (at + 1) k m xs a.1 (omega (arith, c)) h
     ]
 
 -- where a search goes on, all depths are below the node, and there are few children
@@ -35,15 +35,15 @@ gone_on d n at k (x ∷ xs) l g =
       | inr h ↦ absurd (subst GoesOn (search_end d n at k x xs h) g)
       | inl h ↦ elim (cases_eq x (d + 1)) [
         | inr e ↦
-          let r = gone_on d n (at + 1) k xs l (subst GoesOn (search_below d n at k x xs h e) g) in
-          let c = count-other (d + 1) x xs e in
-          ((omega arith, r.0), omega (arith, c, r.1))
+            let r = gone_on d n (at + 1) k xs l (subst GoesOn (search_below d n at k x xs h e) g) in
+            let c = count-other (d + 1) x xs e in
+            ((omega arith, r.0), omega (arith, c, r.1))
         | inl e ↦ elim (cases_eq k n) [
           | inl z ↦ absurd (subst GoesOn (search_child d n at k x xs e z) g)
           | inr z ↦
-            let r = gone_on d n (at + 1) (k + 1) xs (omega arith) (subst GoesOn (search_past d n at k x xs e z) g) in
-            let c = count-here (d + 1) x xs e in
-            ((omega arith, r.0), omega (arith, c, r.1))
+              let r = gone_on d n (at + 1) (k + 1) xs (omega arith) (subst GoesOn (search_past d n at k x xs e z) g) in
+              let c = count-here (d + 1) x xs e in
+              ((omega arith, r.0), omega (arith, c, r.1))
         ]
       ]
     ]

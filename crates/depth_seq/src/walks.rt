@@ -183,14 +183,25 @@ pub(crate) fn find_from<L: Ledger>(
                 let Found::Behind(before) = ahead else {
                     return ahead;
                 };
-                return find_behind(seen.chunk, seen.right, 0, start, depth, number, before, steps);
+                return find_behind(
+                    seen.chunk, seen.right, 0, start, depth, number, before, steps,
+                );
             }
             let inner = from - seen.left_size;
             if inner <= seen.chunk.len() {
-                return find_behind(seen.chunk, seen.right, inner, start, depth, number, 0, steps);
+                return find_behind(
+                    seen.chunk, seen.right, inner, start, depth, number, 0, steps,
+                );
             }
             let behind = inner - seen.chunk.len();
-            find_from(seen.right, behind, start + seen.chunk.len(), depth, number, steps)
+            find_from(
+                seen.right,
+                behind,
+                start + seen.chunk.len(),
+                depth,
+                number,
+                steps,
+            )
         }
     }
 }

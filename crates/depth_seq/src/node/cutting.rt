@@ -29,7 +29,12 @@ pub(crate) fn first(alloc: Global, tree: &DepthTree, count: usize) -> Result<Dep
             let size = node.chunk.len();
             if inner < size {
                 let (front, _) = node.chunk.as_slice().split_at(inner);
-                return join(alloc, &node.left, chunk_of(alloc, front)?, &DepthTree::Empty);
+                return join(
+                    alloc,
+                    &node.left,
+                    chunk_of(alloc, front)?,
+                    &DepthTree::Empty,
+                );
             }
             let behind = first(alloc, &node.right, inner - size)?;
             let whole = join(alloc, &node.left, node.chunk.clone()?, &behind)?;
@@ -60,7 +65,12 @@ pub(crate) fn rest(alloc: Global, tree: &DepthTree, count: usize) -> Result<Dept
             let size = node.chunk.len();
             if inner < size {
                 let (_, back) = node.chunk.as_slice().split_at(inner);
-                return join(alloc, &DepthTree::Empty, chunk_of(alloc, back)?, &node.right);
+                return join(
+                    alloc,
+                    &DepthTree::Empty,
+                    chunk_of(alloc, back)?,
+                    &node.right,
+                );
             }
             rest(alloc, &node.right, inner - size)
         }

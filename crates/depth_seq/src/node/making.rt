@@ -18,7 +18,12 @@ pub(crate) fn build(alloc: Global, list: &[u64]) -> Result<DepthTree, AllocError
         return Ok(DepthTree::Empty);
     }
     if len <= CHUNK {
-        return join(alloc, &DepthTree::Empty, chunk_of(alloc, list)?, &DepthTree::Empty);
+        return join(
+            alloc,
+            &DepthTree::Empty,
+            chunk_of(alloc, list)?,
+            &DepthTree::Empty,
+        );
     }
     let (front, rest) = list.split_at(len.saturating_sub(16) / 2);
     let (middle, back) = rest.split_at(rest.len().min(16));

@@ -10,7 +10,7 @@ returns-then-inner-size t c =
     let size : c.len-size.result ≡ length n.chunk.value.items = search rules in
     let cut = drop_here (depths n.left) n.chunk.value.items (depths n.right) n.left_size c.args.count c.node.invariant.front (c.args.count - n.left_size) refl (omega arith) (omega arith) in
     let same : c.in_ok-chunk_of-in-Node.field-0.value.items ++ depths n.right ≡ drop c.args.count (depths c.args.tree.now) =
-        rw is (cc (cut, c.in_ok-chunk_of-in-Node.ensures, c.split_at.ensures.back, c.as_slice.ensures.value)) in
+    rw is (cc (cut, c.in_ok-chunk_of-in-Node.ensures, c.split_at.ensures.back, c.as_slice.ensures.value)) in
     subst (λ ds. IfOk c.join-then-inner-size.result (λ t'. depths t' ≡ ds)) same c.join-then-inner-size.ensures
 
 pub returns-else-inner-size : goal.returns-else-inner-size
