@@ -21,7 +21,7 @@ use Rattle.edit_journal.specs.declared.line.Line.TheVariants.{Text, TooLong}
 use Rattle.view_hub.specs.Hubs.{Place, at_hub, at_view}
 use Rattle.view_hub.specs.declared.side.HubSide.{HubSide}
 use Rattle.hub_run.specs.EditJson.{tree_of_place, tree_of_edit, place_fits, is_hub, place_of_tree, parts_of, edit_with, edit_of_parts, edit_of_tree, edit_if_json, edit_of_line}
-use Rattle.hub_run.specs.Views.{edit_tree}
+use Rattle.view_hub.specs.Views.{edit_tree}
 use Rattle.texts.proofs.Tests.{bytes_eq-is}
 
 -- ---- places

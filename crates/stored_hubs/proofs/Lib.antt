@@ -1,0 +1,4 @@
+pub mod HubGroups
+pub mod HubSteps
+pub mod JoiningForms
+pub mod SnapshotViews
