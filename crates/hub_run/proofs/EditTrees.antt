@@ -46,7 +46,7 @@ place_writes_back d p h = by_test (is_hub d) refl h where
 
 -- ---- the parts of a tree
 
-parts_read_back : (e : Place × WordTree) → place_fits e.0 ≡ true → parts_of (tree_of_edit e) ≡ Some (e.0, tree_of_word e.1)
+pub parts_read_back : (e : Place × WordTree) → place_fits e.0 ≡ true → parts_of (tree_of_edit e) ≡ Some (e.0, tree_of_word e.1)
 parts_read_back e fits = ap (option_map (λ place. (place, tree_of_word e.1))) (place_reads_back e.0 fits)
 
 -- the tree of a place and of the tree of an edit

@@ -5,3 +5,4 @@ pub mod HubStands
 pub mod OneLeftType
 pub mod Outcomes
 pub mod Views
+pub mod WholeInts

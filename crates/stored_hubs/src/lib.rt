@@ -8,10 +8,14 @@
 mod change;
 mod lenses;
 mod parts;
+mod payloads;
 mod reopening;
+mod saving;
 mod snapshots;
 
 pub use crate::change::{HubChange, change_in, read_hub_change};
 pub use crate::lenses::joining_lens;
 pub use crate::parts::{add_in, programs_in, snapshot_in};
+pub use crate::payloads::{added_payload, change_payload, programs_payload};
 pub use crate::reopening::{OpenedHub, reopen_hub};
+pub use crate::saving::snapshot_payload;

@@ -136,11 +136,11 @@ pub(crate) fn are_consistent(
 }
 
 // Whether a view is consistent with the hub's document.
-fn is_consistent(alloc: Global, typed: &Typed, hub: &Doc, view: &View) -> Result<bool, AllocError>
+fn is_consistent(alloc: Global, typed: &Typed, hub: &Doc, shown: &View) -> Result<bool, AllocError>
     ensures { IfOk result (λ b. b ≡ is_consistent (form_tree typed.now) (doc_tree hub.now)
-        (view_tree view.now).comp (view_tree view.now).doc) }
+        (view_tree shown.now).comp (view_tree shown.now).doc) }
 {
     // The proof needs that the form is typed, which this call says.
     let _form = typed.form();
-    consistent(alloc, typed, hub, &view.comp, &view.doc)
+    consistent(alloc, typed, hub, &shown.comp, &shown.doc)
 }

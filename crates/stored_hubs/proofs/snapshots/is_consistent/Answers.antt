@@ -7,5 +7,5 @@ use Rattle.stored_hubs.proofs.snapshots.is_consistent.Goals as goal
 
 pub returns : goal.returns
 returns c =
-    let v = c.args.view.now in
+    let v = c.args.shown.now in
     all_decided c.consistent.result (form_tree c.args.typed.now) (doc_tree c.args.hub.now) (comp_tree v.comp) (doc_tree v.doc.value) (search rules) c.consistent.ensures
