@@ -61,7 +61,7 @@ json_fits : (o : Option Data) (change : HubChangeTree) → change_if_json o ≡ 
 json_fits (Some d) change h = tree_fits d (group_items d) change h
 json_fits None change h = cc
 
-line_fits : (line : Line) (change : HubChangeTree) → change_of_line line ≡ Ok change → CountsFit change
+pub line_fits : (line : Line) (change : HubChangeTree) → change_of_line line ≡ Ok change → CountsFit change
 line_fits (Text bytes) change h = json_fits (tree_of_text bytes) change h
 line_fits TooLong change h = cc
 

@@ -9,7 +9,6 @@ use Rattle.serde_json.specs.Read.{max_depth}
 use Rattle.serde_json.specs.View.{view, items_of}
 use Rattle.serde_json.specs.Written.{has_float, items_have_float}
 use Rattle.texts.proofs.Conjunction.{both, first as left, second as right}
-use Rattle.doc_values.specs.Types.{height}
 use Rattle.value_json.specs.DocumentJson.{holds_i64s}
 use Rattle.value_json.proofs.TreeDepths as documents
 use Rattle.edit_module.specs.Words.{WordTree}
@@ -21,7 +20,6 @@ use Rattle.edit_json.specs.Depths.{word_depth}
 use Rattle.complement_file.proofs.Floats as complements
 use Rattle.stored_records.proofs.ComplementDepths.{low}
 use Rattle.lens_forms.specs.Forms.{FormTree, left_type, right_type}
-use Rattle.lens_forms.specs.Measures.{form_height}
 use Rattle.lens_forms.specs.declared.limits.TheConstants.{GREATEST_HEIGHT}
 use Rattle.program_terms.specs.Views.{program_tree}
 use Rattle.program_terms.specs.declared.program.Program.{Program}
@@ -33,6 +31,7 @@ use Rattle.view_hub.specs.declared.view.View as a_view
 use Rattle.hub_run.specs.EditJson.{tree_of_place, tree_of_edit}
 use Rattle.stored_hubs.specs.HubChanges.{HubChangeTree, one, group, edits_of, items_of_edits, tree_of_hub_change, all_counts_fit, edit_fits, all_numbers_fit}
 use Rattle.stored_hubs.specs.HubRecords.{items_of_texts, tree_of_programs, tree_of_added, tree_of_view, items_of_views, tree_of_hub, tree_of_hub_snapshot}
+use Rattle.stored_hubs.specs.LowForms.{AllLow}
 use Rattle.stored_hubs.specs.Views.{canonical_texts}
 use Rattle.stored_hubs.specs.WholeInts.{views_hold_i64s}
 
@@ -134,16 +133,6 @@ hub_whole (l ∷ ls) h = or_from _ _ (documents.whole (left_type l) h.hub) (or_f
 
 pub snapshot_whole : (ls : List FormTree) (h : HubTree) → has_float (tree_of_hub_snapshot ls h) ≡ false
 snapshot_whole ls h = or_from _ _ (hub_whole ls h) refl
-
--- no form is too high, and neither are its types
-pub record IsLow (l : FormTree) : Type 0 where
-  pub form : form_height l ≤ GREATEST_HEIGHT
-  pub left : height (left_type l) ≤ GREATEST_HEIGHT
-  pub right : height (right_type l) ≤ GREATEST_HEIGHT
-
-abbrev pub AllLow : List FormTree → Type 0
-AllLow [] = Unit {0}
-AllLow (l ∷ ls) = IsLow l × AllLow ls
 
 views_low : (ls : List FormTree) (vs : List ViewTree) → AllLow ls → items_depth (items_of_views ls vs) ≤ 3 * GREATEST_HEIGHT + 1
 views_low (l ∷ ls) (v ∷ vs) all =

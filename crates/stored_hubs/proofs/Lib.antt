@@ -1,8 +1,10 @@
 pub mod Appending
+mod Examples
 pub mod HubGroups
 pub mod HubSteps
 pub mod HubTrees
 pub mod JoiningForms
+pub mod LowForms
 pub mod RecordsAreRead
 pub mod SnapshotViews
 pub mod WrittenStands

@@ -24,7 +24,7 @@ use Rattle.view_hub.specs.Groups.{GroupStepped}
 use Rattle.view_hub.specs.Hubs.{ViewTree, HubTree, CarriedTree}
 use Rattle.view_hub.specs.Laws.{AllInStep, IsHub}
 use Rattle.hub_run.specs.FormLenses.{form_lens}
-use Rattle.hub_run.proofs.FoundForms.{AllTyped}
+use Rattle.hub_run.specs.FoundLenses.{AllTyped}
 use Rattle.stored_hubs.specs.HubChanges.{HubChangeTree, edits_of, tree_of_hub_change, all_counts_fit, all_numbers_fit}
 use Rattle.stored_hubs.specs.HubRecords.{tree_of_added, tree_of_view, items_of_views, tree_of_hub_snapshot, view_parts, record_of}
 use Rattle.stored_hubs.specs.HubLenses.{joins, joining}

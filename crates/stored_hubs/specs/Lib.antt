@@ -2,6 +2,7 @@ pub mod HubChanges
 pub mod HubLenses
 pub mod HubRecords
 pub mod HubStands
+pub mod LowForms
 pub mod OneLeftType
 pub mod Outcomes
 pub mod Views

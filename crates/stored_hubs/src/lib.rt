@@ -6,7 +6,9 @@
 #![tactic(auto)]
 
 mod change;
+pub mod laws;
 mod lenses;
+mod low;
 mod parts;
 mod payloads;
 mod reopening;
@@ -15,6 +17,7 @@ mod snapshots;
 
 pub use crate::change::{HubChange, change_in, read_hub_change};
 pub use crate::lenses::joining_lens;
+pub use crate::low::lenses_are_low;
 pub use crate::parts::{add_in, programs_in, snapshot_in};
 pub use crate::payloads::{added_payload, change_payload, programs_payload};
 pub use crate::reopening::{OpenedHub, reopen_hub};

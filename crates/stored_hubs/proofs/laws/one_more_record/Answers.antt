@@ -1,0 +1,5 @@
+use Rattle.stored_hubs.proofs.Appending.{stands_append}
+use Rattle.stored_hubs.proofs.laws.one_more_record.Goals as goal
+
+pub returns : goal.returns
+returns c = λ ps p s h. stands_append ps p s h
