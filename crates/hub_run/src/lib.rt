@@ -19,7 +19,7 @@ mod script;
 mod state;
 mod views;
 
-pub use crate::answers::{HubAnswer, answer_line, no_view_line, ok_line};
+pub use crate::answers::{HubAnswer, add_words, answer_line, no_view_line, ok_line};
 pub use crate::head::{HubHead, read_hub_head};
 pub use crate::journal::take_item;
 pub use crate::line::{read_edit_tree, read_hub_edit, side_and_edit};

@@ -2,23 +2,20 @@
 
 ghost use Rattle.std.specs.Prelude.{◌≡◌, ◌++◌, map, IfOk};
 ghost use Rattle.serde_json.specs.Data.{array};
-ghost use Rattle.serde_json.specs.View.{view};
 ghost use Rattle.serde_json.specs.Written.{compact_text, comma_if};
-ghost use Rattle.edit_module.specs.Views.{word_tree, word_trees};
 ghost use Rattle.view_hub.specs.Views.{carried_tree};
-ghost use Rattle.hub_run.specs.Answers.{tree_of_words};
 ghost use Rattle.hub_session.specs.HubAnswers.{group_no_view_line, group_ok_line, items_of_carried, tree_of_carried};
 
 use edit_json::append_word;
-use edit_module::Word;
+use hub_run::add_words;
 use itoa::Buffer;
 use std::alloc::{AllocError, Global};
 use texts::Bytes;
 use view_hub::HubCarried;
 
-/// `ok N group LIST` and a line feed: group N was accepted. LIST is the array of the words that acted in each edit, as compact JSON.
-///
-/// The only error is running out of memory.
+// `ok N group LIST` and a line feed: group N was accepted. LIST is the array of the words that acted in each edit, as compact JSON.
+//
+// The only error is running out of memory.
 pub(crate) fn group_ok_line(
     alloc: Global,
     number: u64,
@@ -70,7 +67,7 @@ fn add_carried(line: Vec<u8>, later: bool, carried: &HubCarried) -> Result<Vec<u
     Ok(all)
 }
 
-/// `refused N group PART no-view` and a line feed: edit PART of group N names no view. The only error is running out of memory.
+// `refused N group PART no-view` and a line feed: edit PART of group N names no view. The only error is running out of memory.
 pub(crate) fn group_no_view_line(
     alloc: Global,
     number: u64,

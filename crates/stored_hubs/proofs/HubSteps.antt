@@ -1,13 +1,17 @@
 -- A hub of compiled lenses makes the steps of their forms.
-use Rattle.std.proofs.Common.{◌≡◌, ℕ, List, [], ◌∷◌, ◌++◌, map, Option, Some, None, Result, Ok, Err, IfOk, refl, sym, ap, subst, ◌∙◌}
-use Rattle.std.specs.Prelude.{option_map, option_and_then, MatchResult}
+use Rattle.std.proofs.Common.{◌≡◌, List, [], ◌∷◌, Option, Some, None, Result, Ok, Err, refl, ap, ◌∙◌}
+use Rattle.std.specs.Prelude.{option_map, option_and_then}
 use Rattle.edit_module.specs.Words.{WordTree}
 use Rattle.lens_flat.specs.declared.flat.ReadyForm.{ReadyForm}
-use Rattle.lens_forms.specs.Forms.{FormTree, form_tree}
+use Rattle.doc_values.specs.Documents.{DocTree}
+use Rattle.doc_values.specs.Types.{TyTree}
+use Rattle.lens_forms.specs.Forms.{FormTree, form_tree, left_type}
 use Rattle.view_hub.specs.Groups.{GroupStepped, then_others, with_words, step_group, add_view}
-use Rattle.view_hub.specs.Hubs.{HubTree, Place, CarriedTree, Refusal, step}
+use Rattle.view_hub.specs.Hubs.{ViewTree, HubTree, Place, CarriedTree, Refusal, step}
+use Rattle.view_hub.specs.Laws.{AllInStep, IsHub}
 use Rattle.hub_run.specs.FormLenses.{form_lens}
-use Rattle.hub_run.specs.RunStates.{forms_of_lenses, ready_lens}
+use Rattle.hub_run.specs.FoundLenses.{AllTyped}
+use Rattle.hub_run.specs.RunStates.{forms_of_lenses, ready_lens, IsHubOf}
 use Rattle.hub_run.proofs.MappedLenses.{steps_are}
 
 abbrev form_of : ReadyForm → FormTree
@@ -30,3 +34,20 @@ groups_are ls h (e ∷ es) =
 -- a view is added by its form
 pub added_is : (l : ReadyForm) (w : WordTree) (h : HubTree) → add_view ready_lens l w h ≡ add_view form_lens (form_of l) w h
 added_is l w h = refl
+
+-- ---- the lenses of a hub, and their forms
+
+pub all_typed : (ls : List ReadyForm) → AllTyped (forms_of_lenses ls)
+all_typed [] = tt
+all_typed (l ∷ ls) = (l.ready.0, all_typed ls)
+
+forms_in : (ty : TyTree) (ls : List ReadyForm) (x : DocTree) (vs : List ViewTree) → AllInStep ready_lens ty ls x vs → AllInStep form_lens ty (forms_of_lenses ls) x vs
+forms_in ty [] x [] h = tt
+forms_in ty [] x (v ∷ vs) h = absurd h
+forms_in ty (l ∷ ls) x [] h = absurd h
+forms_in ty (l ∷ ls) x (v ∷ vs) h = (h.0, h.1, forms_in ty ls x vs h.2)
+
+-- a hub that is in step with its lenses is in step with their forms
+pub hub_of_forms : (ls : List ReadyForm) (h : HubTree) → IsHubOf ls h → IsHub form_lens (forms_of_lenses ls) h
+hub_of_forms [] h all = absurd all
+hub_of_forms (l ∷ ls) h all = forms_in (left_type (form_of l)) (l ∷ ls) h.hub h.views all
