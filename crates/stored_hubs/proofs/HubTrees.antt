@@ -37,12 +37,17 @@ use Rattle.stored_hubs.specs.WholeInts.{views_hold_i64s}
 
 -- ---- texts of programs
 
-abbrev text_tree : Program → Data
+abbrev pub text_tree : Program → Data
 text_tree p = string (canonical (program_tree p))
 
 all_texts : (ps : List Program) → items_of (map text_tree ps) ≡ items_of_texts (canonical_texts ps)
 all_texts [] = refl
 all_texts (p ∷ ps) = ap (item (text_tree p)) (all_texts ps)
+
+pub push_text : (ps : List Program) (i : ℕ) (p : Program) (xs : List Data) (x : Data) → i < length ps → p ≡ get_or ps i p → xs ≡ map text_tree (take i ps) → x ≡ text_tree p
+    → xs ++ x ∷ [] ≡ map text_tree (take (i + 1) ps)
+push_text ps i p xs x within is so_far here =
+    rw (so_far, here, add-one, take-suc ps i p within, map-append) (ap (λ y. map text_tree (take i ps) ++ text_tree y ∷ []) is)
 
 pub texts_written : (ps : List Program) (i : ℕ) → length ps ≤ i → items_of (map text_tree (take i ps)) ≡ items_of_texts (canonical_texts ps)
 texts_written ps i past = ap (λ xs. items_of (map text_tree xs)) (take_all i ps past) ∙ all_texts ps

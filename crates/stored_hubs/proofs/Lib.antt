@@ -6,5 +6,6 @@ pub mod HubTrees
 pub mod JoiningForms
 pub mod LowForms
 pub mod RecordsAreRead
+pub mod SavedViews
 pub mod SnapshotViews
 pub mod WrittenStands

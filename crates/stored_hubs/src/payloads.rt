@@ -14,7 +14,7 @@ ghost use Rattle.program_writing.specs.Canonical.{canonical};
 ghost use Rattle.stored_records.specs.RecordJson.{one_member};
 ghost use Rattle.view_hub.specs.Views.{edit_trees, place_of};
 ghost use Rattle.stored_hubs.specs.HubChanges.{all_counts_fit, all_numbers_fit, edit_fits, edits_of, group, items_of_edits, tree_of_hub_change};
-ghost use Rattle.stored_hubs.specs.HubRecords.{tree_of_added, tree_of_programs};
+ghost use Rattle.stored_hubs.specs.HubRecords.{items_of_texts, tree_of_added, tree_of_programs};
 ghost use Rattle.stored_hubs.specs.Views.{canonical_texts, hub_change_tree};
 
 use crate::change::HubChange;
@@ -46,14 +46,23 @@ pub fn programs_payload(alloc: Global, programs: &[Program]) -> Result<Bytes, Al
 fn programs_record(alloc: Global, programs: &[Program]) -> Result<Value, AllocError>
     ensures { IfOk result (λ tree. view tree ≡ tree_of_programs (canonical_texts programs.now)) }
 {
+    let texts = write_texts(alloc, programs)?;
+    let mut members = Map::new(alloc);
+    put(&mut members, alloc, "hub", texts)?;
+    put(&mut members, alloc, "version", Value::from(FIRST_VERSION))?;
+    Ok(Value::Object(members))
+}
+
+// The array of the canonical texts of programs.
+fn write_texts(alloc: Global, programs: &[Program]) -> Result<Value, AllocError>
+    ensures { IfOk result (λ tree. view tree
+        ≡ array (items_of_texts (canonical_texts programs.now))) }
+{
     let mut items = Vec::with_capacity(alloc, programs.len())?;
     for program in programs {
         items.push(text_of(alloc, program)?)?;
     }
-    let mut members = Map::new(alloc);
-    put(&mut members, alloc, "hub", Value::Array(items))?;
-    put(&mut members, alloc, "version", Value::from(FIRST_VERSION))?;
-    Ok(Value::Object(members))
+    Ok(Value::Array(items))
 }
 
 // The string of the canonical text of a program.
