@@ -5,6 +5,7 @@ pub mod HubSteps
 pub mod HubTrees
 pub mod JoiningForms
 pub mod LowForms
+pub mod OneView
 pub mod RecordsAreRead
 pub mod SavedViews
 pub mod SnapshotViews

@@ -4,6 +4,7 @@ pub mod HubRecords
 pub mod HubStands
 pub mod LowForms
 pub mod OneLeftType
+pub mod OneView
 pub mod Outcomes
 pub mod Views
 pub mod WholeInts

@@ -6,6 +6,9 @@ ghost use Rattle.std.specs.Prelude.{◌≡◌, ◌≤◌, ◌+◌, ◌++◌, ◌
 ghost use Rattle.serde_json.specs.Data.{depth};
 ghost use Rattle.serde_json.specs.Read.{max_depth};
 ghost use Rattle.edit_journal.specs.EntryJson.{tree_of_text};
+ghost use Rattle.texts.specs.declared.side.Side.{Side};
+ghost use Rattle.edit_module.specs.Words.{WordTree};
+ghost use Rattle.edit_session.specs.Step.{TripleTree};
 ghost use Rattle.lens_forms.specs.Forms.{FormTree};
 ghost use Rattle.program_terms.specs.Terms.{ProgramTree};
 ghost use Rattle.program_writing.specs.Canonical.{canonical};
@@ -20,6 +23,7 @@ ghost use Rattle.stored_hubs.specs.HubLenses.{joins};
 ghost use Rattle.stored_hubs.specs.HubRecords.{record_in, tree_of_added, tree_of_hub_snapshot};
 ghost use Rattle.stored_hubs.specs.HubStands.{HubStanding, after_record, stands_for, step_of, view_more};
 ghost use Rattle.stored_hubs.specs.LowForms.{AllLow};
+ghost use Rattle.stored_hubs.specs.OneView.{IsSessionGroup, IsSessionStep};
 ghost use Rattle.stored_hubs.specs.WholeInts.{hub_holds_i64s};
 
 /// One more record goes on from what stands before it.
@@ -63,4 +67,13 @@ pub fn accepted_changes_are_shallow()
         (words : List CarriedTree) → AllLow forms
         → step_of forms before change ≡ Some (Ok (after, words))
         → depth (tree_of_hub_change change) ≤ max_depth }
+{}
+
+/// A hub with one view is the session of that view's lens: each edit of it makes the step of the entry of that side, and each
+/// group the steps of the group, with the same words and the same refusals.
+pub fn one_view_is_a_session()
+    ensures edit { (form : FormTree) (triple : TripleTree) (entry : Side × WordTree)
+        → IsSessionStep form triple entry }
+    ensures group { (form : FormTree) (triple : TripleTree) (entries : List (Side × WordTree))
+        → IsSessionGroup form triple entries }
 {}
