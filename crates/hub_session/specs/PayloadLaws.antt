@@ -56,7 +56,7 @@ module _ (ps : List (List ℕ)) (t t' : HubState) (n : ℕ) (line : Line) (a : A
       let known : ReadsAsChange (change_of_line line) p = subst (λ o. IfSome o (ReadsAsChange (change_of_line line))) some step in
       let reads : ReadsAsChange (Ok k.change) p = subst (λ (i : HubItem). ReadsAsChange i p) k.is known in
       let made : step_of s.forms s.hub k.change ≡ Some (Ok (t'.hub, k.words)) =
-          subst (λ (x : HubState). step_of x.forms x.hub k.change ≡ Some (Ok (t'.hub, k.words))) (sym state) k.step in
+      subst (λ (x : HubState). step_of x.forms x.hub k.change ≡ Some (Ok (t'.hub, k.words))) (sym state) k.step in
       let forms : s.forms ≡ t'.forms = ap (λ (x : HubState). x.forms) state ∙ sym k.forms in
       written.change_stands ps p s is k.change t'.hub k.words reads.0 (line_fits line k.change k.is) reads.1 made
       ∙ ap (λ (fs : List FormTree). Ok (with_count fs t'.hub (s.count + 1))) forms

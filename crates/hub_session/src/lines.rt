@@ -68,11 +68,7 @@ fn add_carried(line: Vec<u8>, later: bool, carried: &HubCarried) -> Result<Vec<u
 }
 
 // `refused N group PART no-view` and a line feed: edit PART of group N names no view. The only error is running out of memory.
-pub(crate) fn group_no_view_line(
-    alloc: Global,
-    number: u64,
-    part: u64,
-) -> Result<Bytes, AllocError>
+pub(crate) fn group_no_view_line(alloc: Global, number: u64, part: u64) -> Result<Bytes, AllocError>
     ensures { IfOk result (λ line. line ≡ group_no_view_line number part) }
 {
     let line = format!(in alloc; "refused {number} group {part} no-view\n")?;

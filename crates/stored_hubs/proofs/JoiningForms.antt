@@ -59,7 +59,7 @@ pub next_found : (items : List Value) (i : ℕ) (d : Value) (ls : List ReadyForm
     → forms_behind (forms_of_lenses (ls ++ l ∷ [])) (items_view (drop (i + 1) items)) ≡ all
 next_found items i d ls l all within is found h =
     let here : forms_more (forms_of_lenses ls) (form_of_item (view (get_or items i d))) ≡ Some (forms_of_lenses ls ++ form_of l ∷ []) =
-        ap (option_map (λ (f : FormTree). forms_of_lenses ls ++ f ∷ [])) (ap (λ x. joining (forms_of_lenses ls) (form_of_item (view x))) (sym is) ∙ sym found) in
+    ap (option_map (λ (f : FormTree). forms_of_lenses ls ++ f ∷ [])) (ap (λ x. joining (forms_of_lenses ls) (form_of_item (view x))) (sym is) ∙ sym found) in
     rw (add-one i, forms_snoc ls l)
     (sym (rw (drop-cons items i d within) (ap (option_and_then (λ forms. forms_behind forms (items_view (drop (suc i) items)))) here)) ∙ h)
 
@@ -68,7 +68,7 @@ pub next_lost : (items : List Value) (i : ℕ) (d : Value) (ls : List ReadyForm)
     → forms_behind (forms_of_lenses ls) (items_view (drop i items)) ≡ all → None ≡ all
 next_lost items i d ls all within is lost h =
     let here : forms_more (forms_of_lenses ls) (form_of_item (view (get_or items i d))) ≡ None =
-        ap (option_map (λ (f : FormTree). forms_of_lenses ls ++ f ∷ [])) (ap (λ x. joining (forms_of_lenses ls) (form_of_item (view x))) (sym is) ∙ sym lost) in
+    ap (option_map (λ (f : FormTree). forms_of_lenses ls ++ f ∷ [])) (ap (λ x. joining (forms_of_lenses ls) (form_of_item (view x))) (sym is) ∙ sym lost) in
     sym (rw (drop-cons items i d within) (ap (option_and_then (λ forms. forms_behind forms (items_view (drop (suc i) items)))) here)) ∙ h
 
 pub all_found : (items : List Value) (i : ℕ) (ls : List ReadyForm) (all : Option (List FormTree)) → length items ≤ i

@@ -93,9 +93,9 @@ next_view front ls vs i l v within here l_is v_is =
 pub views_done : (front : List Data) (ls : List ReadyForm) (vs : List a_view.View) (i : ℕ) → length vs ≤ i → in_front_of front (view_items (drop i ls) (drop i vs)) ≡ items_of front
 views_done front ls vs i past =
     ap (λ ys. in_front_of front (view_items (drop i ls) ys)) (drop_all i vs past) ∙ ap (in_front_of front) (no_views (forms_of_lenses (drop i ls))) ∙ in_front_of-none front where
-  no_views : (fs : List FormTree) → items_of_views fs [] ≡ no_items
-  no_views [] = refl
-  no_views (f ∷ fs) = refl
+      no_views : (fs : List FormTree) → items_of_views fs [] ≡ no_items
+      no_views [] = refl
+      no_views (f ∷ fs) = refl
 
 ints_at : (vs : List a_view.View) (i : ℕ) (d : a_view.View) → i < length vs → views_hold_i64s (view_trees (take i vs)) ≡ true → holds_i64s (doc_tree (get_or vs i d).doc.value) ≡ true
     → views_hold_i64s (view_trees (take (suc i) vs)) ≡ true

@@ -81,9 +81,9 @@ other_count (l ∷ ls) [] other = refl
 other_count (l ∷ ls) (d ∷ trees) other =
     let none = other_count ls trees (λ e. other (ap suc e)) in
     by_view (view_at (form_of l) (view d)) (views_of (forms_of_lenses ls) (items_view trees)) (sym none) where
-  by_view : (o : Option ViewTree) (rest : Option (List ViewTree)) → rest ≡ None → None ≡ option_and_then (λ v. option_map (λ vs. v ∷ vs) rest) o
-  by_view (Some v) rest none = ap (option_map (λ vs. v ∷ vs)) (sym none)
-  by_view None rest none = refl
+      by_view : (o : Option ViewTree) (rest : Option (List ViewTree)) → rest ≡ None → None ≡ option_and_then (λ v. option_map (λ vs. v ∷ vs) rest) o
+      by_view (Some v) rest none = ap (option_map (λ vs. v ∷ vs)) (sym none)
+      by_view None rest none = refl
 
 -- ---- the test of consistency
 
@@ -134,6 +134,7 @@ one_left_of_hub (l ∷ ls) h all = by_views h.views all where
   same ty [] vs a = tt
   same ty (m ∷ ms) [] a = absurd a
   same ty (m ∷ ms) (v ∷ vs) a = (a.0, same ty ms vs a.2)
+
   by_views : (vs : List ViewTree) → AllInStep ready_lens (left_type (form_of l)) (l ∷ ls) h.hub vs → SameLeft ready_lens (left_type (form_of l)) ls
   by_views [] a = absurd a
   by_views (v ∷ vs) a = same (left_type (form_of l)) ls vs a.2

@@ -104,7 +104,7 @@ module _ (ps : List (List ℕ)) (p : List ℕ) (s : HubStanding) (before : stand
       let typed_hub = consistent_is_typed l h.hub there.0.comp there.0.doc there.1 in
       let views = views_read (left_type l) (l ∷ ls) h.hub h.views typed all (second (holds_i64s h.hub) (views_hold_i64s h.views) whole) in
       let from : hub_from (l ∷ ls) (tree_of_document (left_type l) h.hub, items_of_views (l ∷ ls) h.views) ≡ Some h =
-          rw (again (left_type l) h.hub typed_hub.left_has ints, views) refl in
+      rw (again (left_type l) h.hub typed_hub.left_has ints, views) refl in
       let test = all_consistent (left_type l) (l ∷ ls) h.hub h.views typed all in
       ap (after_record n t) (snapshot_read l ls h)
       ∙ ap (λ fs. after_hub n t (hub_from fs (tree_of_document (left_type l) h.hub, items_of_views (l ∷ ls) h.views))) is

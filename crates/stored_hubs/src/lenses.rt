@@ -70,11 +70,7 @@ fn lenses_of_items(alloc: Global, items: &[Value]) -> Result<Option<Vec<Flat>>, 
 }
 
 // The lens of the program whose text a tree is, where it may stand behind these.
-fn lens_of_item(
-    alloc: Global,
-    before: &[Flat],
-    item: &Value,
-) -> Result<Option<Flat>, AllocError>
+fn lens_of_item(alloc: Global, before: &[Flat], item: &Value) -> Result<Option<Flat>, AllocError>
     ensures form { IfOk result (λ o. option_map (λ l. form_tree l.typed) o
         ≡ joining (forms_of_lenses before.now) (form_of_item (view item.now))) }
     ensures one_left { HasOneLeft before.now → IfOk result (λ o.
@@ -90,11 +86,7 @@ fn lens_of_item(
 ///
 /// None if and only if the grammar or the checker refuses the text, or there are lenses before it that are 64 already or
 /// whose left type is another. Fails only if memory runs out.
-pub fn joining_lens(
-    alloc: Global,
-    before: &[Flat],
-    text: &str,
-) -> Result<Option<Flat>, AllocError>
+pub fn joining_lens(alloc: Global, before: &[Flat], text: &str) -> Result<Option<Flat>, AllocError>
     ensures form { IfOk result (λ o. option_map (λ l. form_tree l.typed) o
         ≡ joining (forms_of_lenses before.now) (form_of_text text.now)) }
     ensures one_left { HasOneLeft before.now → IfOk result (λ o.

@@ -128,11 +128,7 @@ fn take_tree(
 }
 
 // Steps by a change, which counts one.
-fn take_change(
-    number: u64,
-    change: &HubChange,
-    opened: &mut OpenedHub,
-) -> Result<(), ReopenFault>
+fn take_change(number: u64, change: &HubChange, opened: &mut OpenedHub) -> Result<(), ReopenFault>
     requires count { opened.old.count < number }
     ensures stands { Reaches result
         (after_record number (hub_standing opened.old.hub opened.old.count)

@@ -70,11 +70,7 @@ fn views_record(alloc: Global, lenses: &[Flat], parts: &HubParts) -> Result<Valu
 {
     let mut items = Vec::with_capacity(alloc, parts.views.len())?;
     for place in 0..parts.views.len() {
-        items.push(view_record(
-            alloc,
-            lenses[place].typed(),
-            &parts.views[place],
-        )?)?;
+        items.push(view_record(alloc, lenses[place].typed(), &parts.views[place])?)?;
     }
     Ok(Value::Array(items))
 }
