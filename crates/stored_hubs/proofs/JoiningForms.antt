@@ -60,8 +60,9 @@ pub next_found : (items : List Value) (i : ℕ) (d : Value) (ls : List ReadyForm
 next_found items i d ls l all within is found h =
     let here : forms_more (forms_of_lenses ls) (form_of_item (view (get_or items i d))) ≡ Some (forms_of_lenses ls ++ form_of l ∷ []) =
     ap (option_map (λ (f : FormTree). forms_of_lenses ls ++ f ∷ [])) (ap (λ x. joining (forms_of_lenses ls) (form_of_item (view x))) (sym is) ∙ sym found) in
-    rw (add-one i, forms_snoc ls l)
-    (sym (rw (drop-cons items i d within) (ap (option_and_then (λ forms. forms_behind forms (items_view (drop (suc i) items)))) here)) ∙ h)
+    let step : forms_behind (forms_of_lenses ls) (items_view (drop i items)) ≡ forms_behind (forms_of_lenses ls ++ form_of l ∷ []) (items_view (drop (suc i) items)) =
+    rw (drop-cons items i d within) (ap (option_and_then (λ forms. forms_behind forms (items_view (drop (suc i) items)))) here) in
+    rw (add-one i, forms_snoc ls l) (sym step ∙ h)
 
 pub next_lost : (items : List Value) (i : ℕ) (d : Value) (ls : List ReadyForm) (all : Option (List FormTree)) → i < length items → d ≡ get_or items i d
     → None ≡ joining (forms_of_lenses ls) (form_of_item (view d))
@@ -69,7 +70,9 @@ pub next_lost : (items : List Value) (i : ℕ) (d : Value) (ls : List ReadyForm)
 next_lost items i d ls all within is lost h =
     let here : forms_more (forms_of_lenses ls) (form_of_item (view (get_or items i d))) ≡ None =
     ap (option_map (λ (f : FormTree). forms_of_lenses ls ++ f ∷ [])) (ap (λ x. joining (forms_of_lenses ls) (form_of_item (view x))) (sym is) ∙ sym lost) in
-    sym (rw (drop-cons items i d within) (ap (option_and_then (λ forms. forms_behind forms (items_view (drop (suc i) items)))) here)) ∙ h
+    let step : forms_behind (forms_of_lenses ls) (items_view (drop i items)) ≡ None =
+    rw (drop-cons items i d within) (ap (option_and_then (λ forms. forms_behind forms (items_view (drop (suc i) items)))) here) in
+    sym step ∙ h
 
 pub all_found : (items : List Value) (i : ℕ) (ls : List ReadyForm) (all : Option (List FormTree)) → length items ≤ i
     → forms_behind (forms_of_lenses ls) (items_view (drop i items)) ≡ all → Some (forms_of_lenses ls) ≡ all

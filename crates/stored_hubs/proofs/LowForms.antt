@@ -6,7 +6,7 @@ use Rattle.serde_json.specs.Data.{depth, items_depth}
 use Rattle.serde_json.specs.Read.{max_depth}
 use Rattle.doc_values.specs.Documents.{DocTree}
 use Rattle.doc_values.specs.Types.{height}
-use Rattle.edit_json.specs.Depths.{word_depth}
+use Rattle.edit_module.specs.Depths.{word_depth}
 use Rattle.edit_module.specs.Action.{act, Why}
 use Rattle.edit_module.specs.Words.{WordTree}
 use Rattle.lens_core.specs.Complements.{CompTree}

@@ -1,23 +1,26 @@
 -- The edits of a group as a loop goes over them, and the view that is added.
-use Rattle.std.proofs.Common.{◌≡◌, ℕ, suc, ◌+◌, ◌≤◌, ◌<◌, add-one, List, [], ◌∷◌, ◌++◌, append_assoc, length, length-append, drop, drop-cons, map, get_or, Option, Some, None, Result, Ok, Err, refl, sym, ap, subst, ◌∙◌, arith}
+use Rattle.std.proofs.Common.{◌≡◌, ℕ, suc, true, ap₂, ◌+◌, ◌≤◌, ◌<◌, add-one, List, [], ◌∷◌, ◌++◌, append_assoc, length, length-append, drop, drop-cons, map, get_or, Option, Some, None, Result, Ok, Err, refl, sym, ap, subst, ◌∙◌, arith}
 use Rattle.std.specs.Prelude.{option_map, option_and_then}
-use Rattle.std.proofs.lemmas.List.{drop_all, append-nil}
+use Rattle.std.proofs.lemmas.List.{drop_all, append-nil, map-append}
 use Rattle.texts.specs.declared.side.Side.TheVariants.{Left, Right}
 use Rattle.texts.proofs.Tests.{same_value}
-use Rattle.doc_values.specs.Documents.{DocTree}
+use Rattle.doc_values.specs.Documents.{DocTree, doc_tree}
 use Rattle.doc_values.specs.Types.{TyTree}
 use Rattle.doc_values.specs.Initial.{initial}
+use Rattle.doc_values.specs.Typing.{has}
 use Rattle.edit_module.specs.Action.{act}
 use Rattle.edit_module.specs.Words.{WordTree}
 use Rattle.edit_module.specs.declared.word.Word.{Word}
-use Rattle.lens_core.specs.Laws.{WordsCarry, StartTogether}
+use Rattle.lens_core.specs.Laws.{WordsCarry, StartTogether, TogetherAreTyped}
 use Rattle.lens_core.specs.declared.lens.EditLens as OfLens
 use Rattle.view_hub.specs.Groups.{GroupStepped, with_words, then_others, with_view, step_group, add_view}
 use Rattle.view_hub.specs.Hubs.{ViewTree, HubTree, Place, CarriedTree, Refusal, lower, step, first_view}
 use Rattle.view_hub.specs.Laws.{AllInStep, SameLeft, HaveOneLeftType, IsHub}
 use Rattle.view_hub.specs.Lowering.{IsLowered}
-use Rattle.view_hub.specs.Views.{edit_tree, edit_trees}
+use Rattle.view_hub.specs.Views.{edit_tree, edit_trees, hub_tree, view_tree, view_trees}
 use Rattle.view_hub.specs.declared.side.HubSide.{HubSide}
+use Rattle.view_hub.specs.declared.view.HubParts.{HubParts}
+use Rattle.view_hub.specs.declared.view.View as a_view
 use Rattle.view_hub.proofs.HubSteps.{AllIn, lowers}
 
 -- ---- a group
@@ -122,3 +125,20 @@ module _ {L : Type 0} (lens : OfLens.Ghosts L)
       subst (λ (k : HubTree). IsHub lens (m ∷ ls ++ l ∷ []) k) a.2
       (all_more (lens.left_type m) (m ∷ ls) l h.hub h.views a.0.0 (last_left (lens.left_type m) ls l one) all
       (view_holds l w h.hub a.0.0 a.0.1 acts a.1))
+
+-- ---- the parts with a view more
+
+pub view_added : {L : Type 0} (lens : OfLens.Ghosts L) (l : L) (w c : WordTree) (h : HubTree) (before after : HubParts) (v : a_view.View) → lower lens l w (first_view lens l) ≡ Some (view_tree v, c)
+    → hub_tree before ≡ h → after.hub ≡ before.hub → after.views.items ≡ before.views.items ++ v ∷ [] → add_view lens l w h ≡ Some (hub_tree after)
+view_added lens l w c h before after v is copy same_hub longer =
+    let views : view_trees after.views.items ≡ view_trees before.views.items ++ view_tree v ∷ [] = ap view_trees longer ∙ map-append view_tree before.views.items (v ∷ []) in
+    let hub : doc_tree after.hub.value ≡ doc_tree before.hub.value = ap (λ d. doc_tree d.value) same_hub in
+    let made : hub_tree after ≡ with_view (hub_tree before) (view_tree v) = ap₂ (λ (x : DocTree) (vs : List ViewTree). record { hub = x; views = vs }) hub views in
+    ap (option_map (λ (r : ViewTree × WordTree). with_view h r.0)) is ∙ ap (λ (k : HubTree). Some (with_view k (view_tree v))) (sym copy) ∙ ap Some (sym made)
+
+-- the first view has its lens's right type
+pub first_has : {L : Type 0} (lens : OfLens.Ghosts L) (typed : (l : L) → TogetherAreTyped (lens.holds l) (lens.left_type l) (lens.right_type l))
+    (together : (l : L) → StartTogether (lens.holds l) (lens.left_type l) (lens.right_type l) (lens.start l)) (l : L) (v : ViewTree) → v ≡ first_view lens l → has (lens.right_type l) v.doc ≡ true
+first_has lens typed together l v is =
+    ap (λ (u : ViewTree). has (lens.right_type l) u.doc) is
+    ∙ (typed l (initial (lens.left_type l)) (lens.start l) (initial (lens.right_type l)) (together l)).1

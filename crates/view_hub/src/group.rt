@@ -1,11 +1,10 @@
 //! The edits of a group, one after another.
 
 ghost use Rattle.std.specs.Prelude.{◌≡◌, Some, Ok, map, IfOk, MatchResult};
-ghost use Rattle.edit_module.specs.Views.{word_tree};
 ghost use Rattle.view_hub.specs.Groups.{step_group};
 ghost use Rattle.view_hub.specs.Hubs.{step};
 ghost use Rattle.view_hub.specs.Laws.{IsHub};
-ghost use Rattle.view_hub.specs.Views.{carried_tree, edit_tree, edit_trees, hub_tree, place_of, IsGroupRefusal, IsPartRefusal};
+ghost use Rattle.view_hub.specs.Views.{carried_tree, edit_tree, edit_trees, hub_tree, IsGroupRefusal, IsPartRefusal};
 
 use crate::fault::{HubFault, HubGroupFault};
 use crate::hub::next;
@@ -34,8 +33,7 @@ pub(crate) fn next_all<L: EditLens>(
     let mut current = copy_parts(alloc, parts)?;
     let mut words = Vec::new(alloc);
     for part in 0..edits.len() {
-        let (side, word) = &edits[part];
-        let (after, carried) = next_part(alloc, lenses, &current, part as u64, *side, word)?;
+        let (after, carried) = next_part(alloc, lenses, &current, part as u64, &edits[part])?;
         current = after;
         words.push(carried)?;
     }
@@ -48,18 +46,17 @@ fn next_part<L: EditLens>(
     lenses: &[L],
     parts: &HubParts,
     part: u64,
-    side: HubSide,
-    word: &Word,
+    edit: &(HubSide, Word),
 ) -> Result<(HubParts, HubCarried), HubGroupFault>
     requires in_step { IsHub L.EditLens lenses.now (hub_tree parts.now) }
     ensures steps { MatchResult result
-        (λ r. step L.EditLens lenses.now (hub_tree parts.now) (place_of side, word_tree word.now)
+        (λ r. step L.EditLens lenses.now (hub_tree parts.now) (edit_tree edit.now)
         ≡ Some (Ok (hub_tree r.0, carried_tree r.1)))
         (IsPartRefusal part (step L.EditLens lenses.now (hub_tree parts.now)
-        (place_of side, word_tree word.now))) }
+        (edit_tree edit.now))) }
     ensures in_step { IfOk result (λ r. IsHub L.EditLens lenses.now (hub_tree r.0)) }
 {
-    match next(alloc, lenses, parts, side, word) {
+    match next(alloc, lenses, parts, edit.0, &edit.1) {
         Ok(made) => Ok(made),
         Err(HubFault::NoView { views }) => Err(HubGroupFault::NoView { part, views }),
         Err(HubFault::NoApply { at, cause }) => Err(HubGroupFault::NoApply { part, at, cause }),

@@ -7,7 +7,8 @@ ghost use Rattle.doc_values.specs.Initial.{initial};
 ghost use Rattle.edit_module.specs.Action.{act};
 ghost use Rattle.edit_module.specs.Views.{word_tree};
 ghost use Rattle.view_hub.specs.Groups.{add_view, step_group};
-ghost use Rattle.view_hub.specs.Hubs.{at_hub, at_view, start_hub};
+ghost use Rattle.view_hub.specs.Hubs.{at_hub, at_view, first_view, lower, start_hub};
+ghost use Rattle.view_hub.specs.Lowering.{IsLowered};
 ghost use Rattle.view_hub.specs.Laws.{IsHub, HaveOneLeftType};
 ghost use Rattle.view_hub.specs.Views.{carried_tree, edit_trees, hub_tree, view_trees, place_of, IsGroupRefusal, IsOutcome, IsNextOutcome};
 
@@ -231,19 +232,20 @@ fn first_parts<L: EditLens>(alloc: Global, lenses: &[L]) -> Result<HubParts, All
     Ok(HubParts { hub, views })
 }
 
-// The parts with a view more, whose lens makes it of a word that makes the hub's document.
+// The parts with a view more, which its lens makes, from its start, of a word that is carried to it.
 fn one_view_more<L: EditLens>(
     alloc: Global,
     parts: &HubParts,
     lens: &L,
     word: &Word,
 ) -> Result<HubParts, AllocError>
-    requires makes { act (L.left_type lens.now) (word_tree word.now)
-        (initial (L.left_type lens.now)) ≡ Ok (doc_tree parts.now.hub.value) }
+    requires { IsLowered
+        (lower L.EditLens lens.now (word_tree word.now) (first_view L.EditLens lens.now)) }
     ensures { IfOk result (λ p. add_view L.EditLens lens.now (word_tree word.now)
         (hub_tree parts.now) ≡ Some (hub_tree p)) }
 {
-    let view = added_view(alloc, lens, word)?;
+    let (view, carried) = added_view(alloc, lens, word)?;
+    drop(carried);
     let mut longer = copy_parts(alloc, parts)?;
     longer.views.push(view)?;
     Ok(longer)

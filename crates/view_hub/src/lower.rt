@@ -1,12 +1,9 @@
 //! A word of the hub at its views.
 
-ghost use Rattle.std.specs.Prelude.{◌≡◌, ◌<◌, true, [], Some, Ok, length, map, IfOk, OnOk};
-ghost use Rattle.doc_values.specs.Documents.{DocTree, doc_tree};
-ghost use Rattle.doc_values.specs.Initial.{initial};
+ghost use Rattle.std.specs.Prelude.{◌≡◌, ◌<◌, true, [], Some, length, map, IfOk, OnOk};
+ghost use Rattle.doc_values.specs.Documents.{doc_tree};
 ghost use Rattle.doc_values.specs.Typing.{has};
-ghost use Rattle.edit_module.specs.Action.{act};
 ghost use Rattle.edit_module.specs.Views.{word_tree, word_trees};
-ghost use Rattle.edit_module.specs.Words.{WordTree};
 ghost use Rattle.view_hub.specs.Hubs.{lower, lower_all, lower_others, first_view};
 ghost use Rattle.view_hub.specs.Lowering.{IsLowered, CanLower, Adds};
 ghost use Rattle.view_hub.specs.Views.{view_tree, view_trees};
@@ -46,20 +43,19 @@ fn view_of<L: EditLens>(alloc: Global, lens: &L) -> Result<View, AllocError>
     Ok(View { comp, doc })
 }
 
-// The view that a lens makes, from its start, of a word that applies to the initial document of its left type.
+// The view that a lens makes, from its start, of a word that is carried to it, and the carried word.
 pub(crate) fn added_view<L: EditLens>(
     alloc: Global,
     lens: &L,
     word: &Word,
-) -> Result<View, AllocError>
-    requires { (x : DocTree) × (act (L.left_type lens.now) (word_tree word.now)
-        (initial (L.left_type lens.now)) ≡ Ok x) }
-    ensures { IfOk result (λ v. (w : WordTree) × (lower L.EditLens lens.now (word_tree word.now)
-        (first_view L.EditLens lens.now) ≡ Some (view_tree v, w))) }
+) -> Result<(View, Word), AllocError>
+    requires { IsLowered
+        (lower L.EditLens lens.now (word_tree word.now) (first_view L.EditLens lens.now)) }
+    ensures { IfOk result (λ r. lower L.EditLens lens.now (word_tree word.now)
+        (first_view L.EditLens lens.now) ≡ Some (view_tree r.0, word_tree r.1)) }
 {
     let first = view_of(alloc, lens)?;
-    let (view, _carried) = lower(alloc, lens, &first, word)?;
-    Ok(view)
+    lower(alloc, lens, &first, word)
 }
 
 // Every view after a word of the hub.
