@@ -1,5 +1,7 @@
 -- The answers that a call makes are those of the definition.
-use Rattle.std.proofs.Common.{◌≡◌, ℕ, List, Option, Some, None, option_map, Result, Ok, Err, refl, sym, ap, ◌∙◌}
+use Rattle.std.proofs.Common.{◌≡◌, ℕ, ◌≤◌, List, [], ◌∷◌, Option, Some, None, option_map, option_and_then, Result, Ok, Err, refl, sym, ap, ◌∙◌}
+use Rattle.serde_json.specs.Data.{depth}
+use Rattle.serde_json.specs.Read.{max_depth}
 use Rattle.edit_module.specs.Words.{WordTree}
 use Rattle.edit_journal.specs.EntryJson.{LineFault}
 use Rattle.edit_journal.specs.Reading.{cause_of, IsRefused}
@@ -8,7 +10,7 @@ use Rattle.edit_journal.specs.declared.fault.EntryFault.TheVariants.{LineTooLong
 use Rattle.answer_text.specs.Lines.{fault_line}
 use Rattle.lens_flat.specs.declared.flat.ReadyForm.{ReadyForm}
 use Rattle.lens_forms.specs.Forms.{form_tree}
-use Rattle.view_hub.specs.Groups.{step_group}
+use Rattle.view_hub.specs.Groups.{then_others, step_group}
 use Rattle.view_hub.specs.Hubs.{HubTree, Place, CarriedTree, Refusal, step}
 use Rattle.hub_run.specs.Answers.{ok_line}
 use Rattle.hub_run.specs.FormLenses.{form_lens}
@@ -17,8 +19,10 @@ use Rattle.hub_run.specs.Runs.{HubState}
 use Rattle.hub_run.proofs.MappedLenses.{steps_are}
 use Rattle.stored_run.specs.declared.session.Answer.{Answer}
 use Rattle.store_session.proofs.AnswersMade.{answer_is}
-use Rattle.stored_hubs.specs.HubChanges.{one, group}
+use Rattle.stored_hubs.specs.HubChanges.{one, group, tree_of_hub_change}
+use Rattle.stored_hubs.specs.LowForms.{AllLow}
 use Rattle.stored_hubs.proofs.HubSteps.{groups_are}
+use Rattle.stored_hubs.proofs.LowForms.{accepted_low}
 use Rattle.hub_session.specs.HubAnswers.{HubItem, change_text, group_ok_line, refused_edit_line, refused_part_line, edit_answered, group_answered, answer_item}
 
 -- the state of these lenses and this hub
@@ -51,6 +55,17 @@ module _ (ls : List ReadyForm) (h : HubTree) (n : ℕ) where
       → a.line ≡ refused_part_line n part why → a.payload ≡ None → answer_item (state ls h) n (Ok (group es)) ≡ made h a
   group_refused es part why a is line payload =
       ap (option_map (group_answered (state ls h) n es)) (sym (groups_are ls h es) ∙ is) ∙ ap (made h) (sym (answer_is a (refused_part_line n part why) None line payload))
+
+  -- the tree of a change that was accepted is read back
+
+  pub edit_low : (e : Place × WordTree) (k : HubTree) (c : CarriedTree) → AllLow (forms_of_lenses ls) → step ready_lens ls h e ≡ Some (Ok (k, c)) → depth (tree_of_hub_change (one e)) ≤ max_depth
+  edit_low e k c low is =
+      accepted_low (forms_of_lenses ls) low h (one e) (k, c ∷ [])
+      (ap (option_and_then (then_others (λ (next : HubTree). step_group form_lens (forms_of_lenses ls) next []))) (edit_step e (Ok (k, c)) is))
+
+  pub group_low : (es : List (Place × WordTree)) (k : HubTree) (cs : List CarriedTree) → AllLow (forms_of_lenses ls) → step_group ready_lens ls h es ≡ Some (Ok (k, cs))
+      → depth (tree_of_hub_change (group es)) ≤ max_depth
+  group_low es k cs low is = accepted_low (forms_of_lenses ls) low h (group es) (k, cs) (sym (groups_are ls h es) ∙ is)
 
 -- a line that is not a change leaves the state
 of_cause : (s : HubState) (n : ℕ) (item : HubItem) (cause : LineFault) (a : Answer) → item ≡ Err cause → a.line ≡ fault_line n cause → a.payload ≡ None → answer_item s n item ≡ Some (s, a)

@@ -129,11 +129,10 @@ module _ {L : Type 0} (lens : OfLens.Ghosts L)
 -- ---- the parts with a view more
 
 pub view_added : {L : Type 0} (lens : OfLens.Ghosts L) (l : L) (w c : WordTree) (h : HubTree) (before after : HubParts) (v : a_view.View) → lower lens l w (first_view lens l) ≡ Some (view_tree v, c)
-    → hub_tree before ≡ h → after.hub ≡ before.hub → after.views.items ≡ before.views.items ++ v ∷ [] → add_view lens l w h ≡ Some (hub_tree after)
+    → hub_tree before ≡ h → doc_tree after.hub.value ≡ doc_tree before.hub.value → after.views.items ≡ before.views.items ++ v ∷ [] → add_view lens l w h ≡ Some (hub_tree after)
 view_added lens l w c h before after v is copy same_hub longer =
     let views : view_trees after.views.items ≡ view_trees before.views.items ++ view_tree v ∷ [] = ap view_trees longer ∙ map-append view_tree before.views.items (v ∷ []) in
-    let hub : doc_tree after.hub.value ≡ doc_tree before.hub.value = ap (λ d. doc_tree d.value) same_hub in
-    let made : hub_tree after ≡ with_view (hub_tree before) (view_tree v) = ap₂ (λ (x : DocTree) (vs : List ViewTree). record { hub = x; views = vs }) hub views in
+    let made : hub_tree after ≡ with_view (hub_tree before) (view_tree v) = ap₂ (λ (x : DocTree) (vs : List ViewTree). record { hub = x; views = vs }) same_hub views in
     ap (option_map (λ (r : ViewTree × WordTree). with_view h r.0)) is ∙ ap (λ (k : HubTree). Some (with_view k (view_tree v))) (sym copy) ∙ ap Some (sym made)
 
 -- the first view has its lens's right type
