@@ -6,6 +6,8 @@ pub mod HubTrees
 pub mod JoiningForms
 pub mod LowForms
 pub mod OneView
+pub mod Openings
+pub mod RecordSteps
 pub mod RecordsAreRead
 pub mod SavedViews
 pub mod SnapshotViews

@@ -113,6 +113,7 @@ fn joins(before: &[Flat], typed: &Typed) -> bool
 }
 
 // The lens of a text, where the grammar and the checker accept it.
+#[tactic(auto, using(stored_records::proofs::Openings::opening_rules))]
 fn lens_of_text(alloc: Global, text: &[u8]) -> Result<Option<Typed>, AllocError>
     ensures { IfOk result (λ lens. option_map form_tree lens ≡ form_of_text text.now) }
 {
@@ -123,6 +124,7 @@ fn lens_of_text(alloc: Global, text: &[u8]) -> Result<Option<Typed>, AllocError>
     }
 }
 
+#[tactic(auto, using(stored_records::proofs::Openings::opening_rules))]
 fn lens_of_program(alloc: Global, program: &Program) -> Result<Option<Typed>, AllocError>
     ensures { IfOk result (λ lens. option_map form_tree lens
         ≡ accepted (form_of_program (Ok (program_tree program.now)))) }
