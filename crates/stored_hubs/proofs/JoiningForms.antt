@@ -91,3 +91,5 @@ no_items_none (d ∷ items) none = absurd (omega arith)
 pub some_lens : (ls : List ReadyForm) → 0 < length ls → HasOneLeft ls → HaveOneLeftType ready_lens ls
 some_lens [] some all = absurd (omega arith)
 some_lens (l ∷ ls) some all = all
+
+pub ruleset joining_rules = (joined_left, next_found, next_lost, all_found, some_items, no_items_none, some_lens)

@@ -26,3 +26,5 @@ first_fails [] p fault some is h = absurd (omega arith)
 first_fails (q ∷ ps) p (BadRecord n) some is h = none_starts ps (forms_of_payload q) n h.0 (ap forms_of_payload (sym is) ∙ h.1)
 first_fails (q ∷ ps) p (NotConsistent n) some is h = absurd h
 first_fails (q ∷ ps) p NoMemory some is h = tt
+
+pub ruleset first_rules = (first_stands, first_fails)

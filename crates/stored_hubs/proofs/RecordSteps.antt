@@ -76,3 +76,5 @@ module _ (n : ℕ) (ls : List ReadyForm) (h : HubTree) (count : ℕ) where
   pub snapshot_apart : (d : Data) (ds : Items) (k : HubTree) → Some k ≡ hub_from (forms_of_lenses ls) (d, ds)
       → false ≡ are_consistent (forms_of_lenses ls) k.hub k.views → after_record n (standing ls h count) (Some (snapshot_record (d, ds))) ≡ Err (NotConsistent n)
   snapshot_apart d ds k found is = ap (after_hub n (standing ls h count)) (sym found) ∙ tested k false is
+
+pub ruleset record_rules = (change_reaches, change_refused, view_refused, view_reaches, snapshot_refused, snapshot_reaches, snapshot_apart)

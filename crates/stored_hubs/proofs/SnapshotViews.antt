@@ -138,3 +138,5 @@ one_left_of_hub (l ∷ ls) h all = by_views h.views all where
   by_views : (vs : List ViewTree) → AllInStep ready_lens (left_type (form_of l)) (l ∷ ls) h.hub vs → SameLeft ready_lens (left_type (form_of l)) ls
   by_views [] a = absurd a
   by_views (v ∷ vs) a = same (left_type (form_of l)) ls vs a.2
+
+pub ruleset snapshot_rules = (remaining-first, next_read, next_lost, all_read, other_count, next_test, all_tested, other_test, consistent_in_step, one_left_of_hub)

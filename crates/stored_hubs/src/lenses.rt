@@ -51,6 +51,7 @@ fn lenses_of_tree(alloc: Global, tree: &Value) -> Result<Option<Vec<Flat>>, Allo
     }
 }
 
+#[tactic(auto, using(crate::proofs::JoiningForms::joining_rules))]
 fn lenses_of_items(alloc: Global, items: &[Value]) -> Result<Option<Vec<Flat>>, AllocError>
     ensures forms { IfOk result (λ o. option_map (λ ls. forms_of_lenses ls.items) o
         ≡ forms_of_items (items_view items.now)) }
@@ -86,6 +87,7 @@ fn lens_of_item(alloc: Global, before: &[Flat], item: &Value) -> Result<Option<F
 ///
 /// None if and only if the grammar or the checker refuses the text, or there are lenses before it that are 64 already or
 /// whose left type is another. Fails only if memory runs out.
+#[tactic(auto, using(crate::proofs::JoiningForms::joining_rules))]
 pub fn joining_lens(alloc: Global, before: &[Flat], text: &str) -> Result<Option<Flat>, AllocError>
     ensures form { IfOk result (λ o. option_map (λ l. form_tree l.typed) o
         ≡ joining (forms_of_lenses before.now) (form_of_text text.now)) }

@@ -46,6 +46,7 @@ pub struct OpenedHub {
 /// - `NoMemory`: only if memory ran out.
 ///
 /// It takes time in proportion to the payloads, beside what changes and snapshots take.
+#[tactic(auto, using(crate::proofs::Openings::first_rules))]
 pub fn reopen_hub(alloc: Global, payloads: &Payloads) -> Result<OpenedHub, ReopenFault>
     ensures stands { MatchResult result
         (λ opened. stands_for payloads.now ≡ Ok (hub_standing opened.hub opened.count))
@@ -128,6 +129,7 @@ fn take_tree(
 }
 
 // Steps by a change, which counts one.
+#[tactic(auto, using(crate::proofs::RecordSteps::record_rules))]
 fn take_change(number: u64, change: &HubChange, opened: &mut OpenedHub) -> Result<(), ReopenFault>
     requires count { opened.old.count < number }
     ensures stands { Reaches result
@@ -147,6 +149,7 @@ fn take_change(number: u64, change: &HubChange, opened: &mut OpenedHub) -> Resul
 }
 
 // Adds the view whose program has this text.
+#[tactic(auto, using(crate::proofs::RecordSteps::record_rules))]
 fn take_added(
     alloc: Global,
     number: u64,
@@ -166,6 +169,7 @@ fn take_added(
 }
 
 // Puts the hub of a snapshot in the place of this one, if all its views are consistent.
+#[tactic(auto, using(crate::proofs::RecordSteps::record_rules))]
 fn take_snapshot(
     alloc: Global,
     number: u64,

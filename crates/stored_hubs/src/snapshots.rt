@@ -53,6 +53,7 @@ pub(crate) fn read_parts(
 }
 
 // The views of these trees, one for each lens.
+#[tactic(auto, using(crate::proofs::SnapshotViews::snapshot_rules))]
 fn read_views(
     alloc: Global,
     lenses: &[Flat],
@@ -115,6 +116,7 @@ fn read_complement(alloc: Global, typed: &Typed, tree: &Value) -> Result<Option<
 }
 
 // Whether each view is consistent with the hub's document.
+#[tactic(auto, using(crate::proofs::SnapshotViews::snapshot_rules))]
 pub(crate) fn are_consistent(
     alloc: Global,
     lenses: &[Flat],
