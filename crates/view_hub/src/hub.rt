@@ -116,10 +116,7 @@ impl<L: EditLens> Hub<L> {
     /// - `NoMemory`: only if memory ran out.
     ///
     /// After an error all documents and complements are as they were before the group.
-    pub fn step_all(
-        &mut self,
-        edits: &[(HubSide, Word)],
-    ) -> Result<Vec<HubCarried>, HubGroupFault>
+    pub fn step_all(&mut self, edits: &[(HubSide, Word)]) -> Result<Vec<HubCarried>, HubGroupFault>
         ensures steps { MatchResult result
             (λ words. step_group L.EditLens self.old.lenses (hub_tree self.old.parts)
             (edit_trees edits.now)
