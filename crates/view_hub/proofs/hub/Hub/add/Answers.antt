@@ -17,7 +17,7 @@ invariant_of-self-2 g c =
     (added_in_step g.L.EditLens
     g.met.L.EditLens.left_edits_carry g.met.L.EditLens.right_edits_carry g.met.L.EditLens.starts_consistent
     c.self.inside.lenses.items c.args.lens (word_tree c.args.word.now) (hub_tree c.self.inside.parts) (hub_tree c.in_ok-parts.parts)
-    c.self.invariant (rw c.self.view_is at c.requires.same_left) (rw c.self.view_is at c.requires.makes) c.in_ok-parts.ensures)
+    c.self.invariant (rw (sym c.self.view_is) at c.requires.same_left) (rw (sym c.self.view_is) at c.requires.makes) c.in_ok-parts.ensures)
 
 pub returns-clause-in_step : goal.returns-clause-in_step
 returns-clause-in_step g c =
@@ -25,4 +25,4 @@ returns-clause-in_step g c =
     (added_in_step g.L.EditLens
     g.met.L.EditLens.left_edits_carry g.met.L.EditLens.right_edits_carry g.met.L.EditLens.starts_consistent
     c.self.inside.lenses.items c.args.lens (word_tree c.args.word.now) (hub_tree c.self.inside.parts) (hub_tree c.in_ok-parts.parts)
-    c.self.invariant (rw c.self.view_is at c.requires.same_left) (rw c.self.view_is at c.requires.makes) c.in_ok-parts.ensures)
+    c.self.invariant (rw (sym c.self.view_is) at c.requires.same_left) (rw (sym c.self.view_is) at c.requires.makes) c.in_ok-parts.ensures)
