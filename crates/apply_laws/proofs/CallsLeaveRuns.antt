@@ -4,8 +4,8 @@ use Rattle.std.specs.Prelude.{IfSome}
 use Rattle.std.proofs.lemmas.List.{length-map, append_assoc, append-nil}
 use Rattle.edit_journal.specs.Pieces.{lines_of}
 use Rattle.edit_journal.specs.declared.line.Line.{Line}
-use Rattle.journal_answers.specs.Answers.{answer_lines, text_from}
-use Rattle.journal_answers.specs.Runs.{JournalItem, items_of}
+use Rattle.pair_answers.specs.Answers.{answer_lines, text_from}
+use Rattle.pair_answers.specs.ItemRuns.{JournalItem, items_of}
 use Rattle.lens_io.specs.Calls.{Took, Gave}
 use Rattle.lens_io.specs.declared.disk.Disk as OfDisk
 use Rattle.lens_io.specs.declared.sink.Sink as OfSink
@@ -14,15 +14,15 @@ use Rattle.gate_log.specs.LogOnDisk.{HoldsPayloads}
 use Rattle.lens_forms.specs.Typing.{is_typed}
 use Rattle.store_session.specs.Journals.{accepted_changes, IsStateInStep, IsJournalRun}
 use Rattle.store_session.specs.StoredStates.{StoredState, change_text, state_text}
-use Rattle.store_session.specs.Views.{session_state}
+use Rattle.store_session.specs.SessionStates.{session_state}
 use Rattle.store_session.specs.contracts.instance.StoreSessionStoredSession.TheImpl.{ghosts as sessions}
 use Rattle.store_session.specs.declared.session.StoreSession.{StoreSession}
 use Rattle.store_session.proofs.JournalRuns.{runs_alike}
 use Rattle.store_session.proofs.StatesInStep.{stored_sound}
-use Rattle.stored_run.specs.ApplyCall.{ContinuesCall, IsSafeCall}
-use Rattle.stored_run.specs.Runs.{run, last, kept_of, text_of}
-use Rattle.stored_run.specs.declared.session.Answer.{Answer}
-use Rattle.stored_run.specs.declared.status.Status.{Status as StoreStatus}
+use Rattle.store_run.specs.ApplyCall.{ContinuesCall, IsSafeCall}
+use Rattle.store_run.specs.StoreRuns.{run, last, kept_of, text_of}
+use Rattle.store_run.specs.declared.session.Answer.{Answer}
+use Rattle.store_run.specs.declared.status.Status.{Status as StoreStatus}
 use Rattle.editlens_main.specs.Applies.{Applies}
 use Rattle.editlens_main.specs.Statuses.{IsFinished}
 use Rattle.editlens_main.specs.Stores.{Store}

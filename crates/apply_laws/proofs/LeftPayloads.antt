@@ -3,11 +3,11 @@ use Rattle.std.proofs.Common.{arith, ◌≡◌, ◌⊎◌, inl, inr, ℕ, ◌+�
 use Rattle.std.specs.Prelude.{option_to_list}
 use Rattle.edit_journal.specs.declared.line.Line.{Line}
 use Rattle.gate_log.specs.LogOnDisk.{HoldsPayloads}
-use Rattle.stored_run.specs.Crash.{IsAcknowledged}
-use Rattle.stored_run.specs.OkLines.{ok_lines}
-use Rattle.stored_run.specs.Runs.{run, last, kept_of}
-use Rattle.stored_run.specs.declared.session.Answer.{Answer}
-use Rattle.stored_run.specs.declared.session.StoredSession as OfSession
+use Rattle.store_run.specs.Crash.{IsAcknowledged}
+use Rattle.store_run.specs.OkLines.{ok_lines}
+use Rattle.store_run.specs.StoreRuns.{run, last, kept_of}
+use Rattle.store_run.specs.declared.session.Answer.{Answer}
+use Rattle.store_run.specs.declared.session.StoredSession as OfSession
 use Rattle.apply_laws.proofs.FirstLines.{FirstLines, first_lines}
 
 abbrev Payloads : Type 0

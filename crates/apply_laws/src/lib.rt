@@ -8,7 +8,7 @@
 ghost use Rattle.std.specs.Prelude.{◌≡◌, ◌⊎◌, ℕ, ◌++◌, List, Some};
 ghost use Rattle.edit_journal.specs.Pieces.{lines_of};
 ghost use Rattle.edit_session.specs.Step.{TripleTree};
-ghost use Rattle.journal_answers.specs.Runs.{JournalItem, JournalAnswer, items_of, run_from};
+ghost use Rattle.pair_answers.specs.ItemRuns.{JournalItem, JournalAnswer, items_of, run_from};
 ghost use Rattle.lens_forms.specs.Forms.{FormTree};
 ghost use Rattle.editlens_main.specs.Applies.{Applies};
 ghost use Rattle.editlens_main.specs.Statuses.{IsFinished};

@@ -6,21 +6,21 @@ use Rattle.command_words.specs.declared.orders.Order.{Order}
 use Rattle.lens_io.specs.declared.disk.Disk as OfDisk
 use Rattle.lens_io.specs.declared.sink.Sink as OfSink
 use Rattle.lens_io.specs.declared.source.Source as OfSource
-use Rattle.script_run.proofs.Ends.{ended_never}
-use Rattle.script_run.specs.Ends.{EveryRunStaysInStep}
-use Rattle.script_run.specs.declared.state.ScriptState as OfScript
+use Rattle.script_run.proofs.ScriptEndsHold.{ended_never}
+use Rattle.script_run.specs.ScriptEnds.{EveryRunStaysInStep}
+use Rattle.script_run.specs.declared.script_state.ScriptState as OfScript
 use Rattle.script_run.specs.declared.status.ScriptStatus.TheVariants as scripts
-use Rattle.stored_run.proofs.Moments.{leaves_same}
-use Rattle.stored_run.proofs.Openings.{unwritten_none}
-use Rattle.stored_run.specs.InTime.{EndsAtSource}
-use Rattle.stored_run.specs.Refusals.{IsUnwritten}
-use Rattle.stored_run.specs.declared.refusals.StoreRefusal.{StoreRefusal}
-use Rattle.stored_run.specs.declared.status.Status.TheVariants as store
-use Rattle.making_steps.specs.Command.{Command}
-use Rattle.making_steps.specs.Ends.{Ends, Completes, RefusesAtOnce}
-use Rattle.making_steps.specs.declared.status.MakingStatus.TheVariants as making
-use Rattle.store_import.specs.Import.{import_command}
-use Rattle.store_making.specs.Init.{init_command}
+use Rattle.store_run.proofs.Moments.{leaves_same}
+use Rattle.store_run.proofs.Openings.{unwritten_none}
+use Rattle.store_run.specs.InTime.{EndsAtSource}
+use Rattle.store_run.specs.Refusals.{IsUnwritten}
+use Rattle.store_run.specs.declared.refusals.StoreRefusal.{StoreRefusal}
+use Rattle.store_run.specs.declared.status.Status.TheVariants as store
+use Rattle.store_new.specs.Command.{Command}
+use Rattle.store_new.specs.NewEnds.{Ends, Completes, RefusesAtOnce}
+use Rattle.store_new.specs.declared.status.MakingStatus.TheVariants as making
+use Rattle.store_new.specs.Import.{import_command}
+use Rattle.store_new.specs.Init.{init_command}
 use Rattle.store_session.specs.StoredStates.{StoredState}
 use Rattle.store_session.proofs.StatesInStep.{stored_sound}
 use Rattle.editlens_main.specs.Applies.{Applies}

@@ -1,8 +1,8 @@
 -- Ends of the commands over a script, as the program has them.
 use Rattle.std.proofs.Common.{◌≡◌, inl, inr, ◌≤◌, ℕ, List, length, Option, Some, None, IfSome, refl}
-use Rattle.journal_input.specs.declared.limits.TheConstants.{MOST_BYTES}
-use Rattle.script_run.specs.Ends.{IsComplete, IsFinished as IsScriptFinished}
-use Rattle.script_run.specs.declared.state.ScriptState as OfScript
+use Rattle.script_input.specs.declared.limits.TheConstants.{MOST_BYTES}
+use Rattle.script_run.specs.ScriptEnds.{IsComplete, IsFinished as IsScriptFinished}
+use Rattle.script_run.specs.declared.script_state.ScriptState as OfScript
 use Rattle.script_run.specs.declared.status.ScriptStatus.{ScriptStatus}
 use Rattle.script_run.specs.declared.status.ScriptStatus.TheVariants as ending
 use Rattle.editlens_main.specs.Statuses.{IsFinished}

@@ -3,14 +3,14 @@ use Rattle.std.proofs.Common.{◌≡◌, ◌⊎◌, inl, inr, ap, ◌∙◌, ◌
 use Rattle.lens_io.specs.declared.disk.Disk as OfDisk
 use Rattle.lens_io.specs.declared.sink.Sink as OfSink
 use Rattle.lens_io.specs.declared.source.Source as OfSource
-use Rattle.making_steps.specs.Ends.{GivesLine, KeepsStore}
-use Rattle.making_steps.specs.declared.status.MakingStatus.{MakingStatus}
-use Rattle.making_steps.specs.declared.status.MakingStatus.TheVariants as making
-use Rattle.stored_run.specs.Refusals.{IsUnwritten, refusal_line}
-use Rattle.stored_run.specs.declared.refusals.StoreRefusal.TheVariants.{LogExists}
-use Rattle.stored_run.specs.Ends.{IsFinished as IsStoreFinished}
-use Rattle.stored_run.specs.declared.status.Status.{Status as StoreStatus}
-use Rattle.stored_run.specs.declared.status.Status.TheVariants as store
+use Rattle.store_new.specs.NewEnds.{GivesLine, KeepsStore}
+use Rattle.store_new.specs.declared.status.MakingStatus.{MakingStatus}
+use Rattle.store_new.specs.declared.status.MakingStatus.TheVariants as making
+use Rattle.store_run.specs.Refusals.{IsUnwritten, refusal_line}
+use Rattle.store_run.specs.declared.refusals.StoreRefusal.TheVariants.{LogExists}
+use Rattle.store_run.specs.ApplyEnds.{IsFinished as IsStoreFinished}
+use Rattle.store_run.specs.declared.status.Status.{Status as StoreStatus}
+use Rattle.store_run.specs.declared.status.Status.TheVariants as store
 use Rattle.editlens_main.specs.Statuses.{IsFinished}
 use Rattle.editlens_main.specs.MakesStore.{FindsLog}
 use Rattle.editlens_main.specs.StoreStatus.{status_of_store, status_of_making, MakesAs}

@@ -3,19 +3,19 @@ use Rattle.std.proofs.Common.{◌≡◌, ◌⊎◌, inl, inr, ℕ, ◌+◌, ◌�
 use Rattle.std.specs.Io.KnownBytes.{Consumes}
 use Rattle.std.specs.Prelude.{IfSome, IsNone}
 use Rattle.std.proofs.lemmas.Option.{same_Some}
-use Rattle.journal_input.specs.declared.limits.TheConstants.{MOST_BYTES}
+use Rattle.script_input.specs.declared.limits.TheConstants.{MOST_BYTES}
 use Rattle.lens_io.specs.Causes.{Increased}
 use Rattle.lens_io.specs.declared.disk.Disk as OfDisk
 use Rattle.lens_io.specs.declared.sink.Sink as OfSink
 use Rattle.lens_io.specs.declared.source.Source as OfSource
-use Rattle.making_steps.specs.Command.{Command}
-use Rattle.making_steps.specs.Ends.{Ends}
-use Rattle.making_steps.specs.Scripts.{IsAcceptedPart}
-use Rattle.making_steps.specs.declared.status.MakingStatus.{MakingStatus}
-use Rattle.making_steps.specs.declared.status.MakingStatus.TheVariants as making
-use Rattle.making_steps.proofs.CommandStatuses.{by_end}
-use Rattle.script_run.specs.Ends.{Stops, Reports, IsComplete, IsFinished as IsScriptFinished}
-use Rattle.script_run.specs.declared.state.ScriptState as OfScript
+use Rattle.store_new.specs.Command.{Command}
+use Rattle.store_new.specs.NewEnds.{Ends}
+use Rattle.store_new.specs.Scripts.{IsAcceptedPart}
+use Rattle.store_new.specs.declared.status.MakingStatus.{MakingStatus}
+use Rattle.store_new.specs.declared.status.MakingStatus.TheVariants as making
+use Rattle.store_new.proofs.CommandStatuses.{by_end}
+use Rattle.script_run.specs.ScriptEnds.{Stops, Reports, IsComplete, IsFinished as IsScriptFinished}
+use Rattle.script_run.specs.declared.script_state.ScriptState as OfScript
 use Rattle.script_run.specs.declared.status.ScriptStatus.{ScriptStatus}
 use Rattle.script_run.specs.declared.status.ScriptStatus.TheVariants as script
 use Rattle.script_run.proofs.Complete.{complete}
@@ -23,18 +23,18 @@ use Rattle.store_session.specs.StoredStates.{StoredState}
 use Rattle.store_session.specs.contracts.instance.StoreSessionStoredSession.TheImpl.{ghosts as sessions}
 use Rattle.store_undo.specs.UndoCauses.{UndoHasNoRoom, IsCauseInRoom as IsUndoCauseInRoom}
 use Rattle.store_undo.specs.Undoing.{Undoing}
-use Rattle.stored_run.specs.Refusals.{EndsRefused}
-use Rattle.stored_run.specs.Rooms.{RunHasNoRoom, IsCauseInRoom, PackHasNoRoom, IsPackCauseInRoom}
-use Rattle.stored_run.specs.ViewCall.{Views}
-use Rattle.stored_run.specs.declared.refusals.StoreRefusal.{StoreRefusal}
-use Rattle.stored_run.specs.declared.status.Status.TheVariants as store
+use Rattle.store_run.specs.Refusals.{EndsRefused}
+use Rattle.store_run.specs.Rooms.{RunHasNoRoom, IsCauseInRoom, PackHasNoRoom, IsPackCauseInRoom}
+use Rattle.store_run.specs.ViewCall.{Views}
+use Rattle.store_run.specs.declared.refusals.StoreRefusal.{StoreRefusal}
+use Rattle.store_run.specs.declared.status.Status.TheVariants as store
 use Rattle.editlens_main.specs.ScriptStatus.{status_of_script, ScriptAs}
 use Rattle.editlens_main.specs.Statuses.{IsFinished}
 use Rattle.editlens_main.specs.StoreStatus.{status_of_store, status_of_making, EndsAs, MakesAs}
 use Rattle.editlens_main.specs.SureEnds.{EndsInRoom, StoredInRoom, MadeInRoom}
 use Rattle.editlens_main.specs.declared.status.Status.{Status}
 use Rattle.editlens_main.specs.declared.status.Status.TheVariants.{Done, SomeRefused, ProgramRefused, StoreRefused, SourceFault, SinkFault, DiskFault, InputTooLong, NoMemory}
-use Rattle.script_parts.proofs.TakenParts.{few_taken}
+use Rattle.script_input.proofs.TakenParts.{few_taken}
 
 -- ---- the status of a script
 

@@ -1,13 +1,13 @@
 -- What `apply` promises. What the call comes to, what was written and stored at each status, what a crash leaves and when a line is answered is
--- defined in stored_run, for the sessions of store_session. Read it from the end: `Applies`, then `GoesOn`.
+-- defined in store_run, for the sessions of store_session. Read it from the end: `Applies`, then `GoesOn`.
 use Rattle.std.specs.Prelude.{◌≡◌, ◌⊎◌}
 use Rattle.lens_io.specs.Calls.{IsUnasked, SourceFailed, SinkFailed, DiskFailed}
 use Rattle.lens_io.specs.declared.disk.Disk as OfDisk
 use Rattle.lens_io.specs.declared.sink.Sink as OfSink
 use Rattle.lens_io.specs.declared.source.Source as OfSource
-use Rattle.stored_run.specs.ApplyCall.{ContinuesCall, IsUnopened, IsSafeCall, EndsCall}
-use Rattle.stored_run.specs.InTime.{AnswersInTime}
-use Rattle.stored_run.specs.Rooms.{most_bytes, TakesTooMany, RunHasNoRoom, IsApplyCause}
+use Rattle.store_run.specs.ApplyCall.{ContinuesCall, IsUnopened, IsSafeCall, EndsCall}
+use Rattle.store_run.specs.InTime.{AnswersInTime}
+use Rattle.store_run.specs.Rooms.{most_bytes, TakesTooMany, RunHasNoRoom, IsApplyCause}
 use Rattle.store_session.specs.contracts.instance.StoreSessionStoredSession.TheImpl.{ghosts as sessions}
 use Rattle.editlens_main.specs.Statuses.{IsFinished}
 use Rattle.editlens_main.specs.Stores.{Store, RefusedStore, StaysInStep, RefusesStore}

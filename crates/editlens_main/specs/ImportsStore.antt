@@ -3,9 +3,9 @@ use Rattle.std.specs.Prelude.{◌≡◌, IfSome}
 use Rattle.lens_io.specs.declared.disk.Disk as OfDisk
 use Rattle.lens_io.specs.declared.sink.Sink as OfSink
 use Rattle.lens_io.specs.declared.source.Source as OfSource
-use Rattle.making_steps.specs.Ends.{Ends, Completes, RefusesAtOnce}
-use Rattle.making_steps.specs.Rooms.{ScriptHasNoRoom}
-use Rattle.store_import.specs.Import.{Imports, RefusesImport, import_command}
+use Rattle.store_new.specs.NewEnds.{Ends, Completes, RefusesAtOnce}
+use Rattle.store_new.specs.NewRooms.{ScriptHasNoRoom}
+use Rattle.store_new.specs.Import.{Imports, RefusesImport, import_command}
 use Rattle.editlens_main.specs.MakesStore.{FindsLog}
 use Rattle.editlens_main.specs.StoreStatus.{MakesAs}
 use Rattle.editlens_main.specs.declared.status.Status.{Status}

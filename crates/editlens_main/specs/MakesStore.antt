@@ -1,14 +1,14 @@
--- What `init` promises. What it takes, writes and stores at each status is defined in making_steps, for `init` by store_making.
+-- What `init` promises. What it takes, writes and stores at each status is defined in store_new, for `init` by store_new.
 use Rattle.std.specs.Prelude.{◌≡◌, ◌⊎◌, ◌<◌, length, IfSome}
 use Rattle.lens_io.specs.declared.disk.Disk as OfDisk
 use Rattle.lens_io.specs.declared.sink.Sink as OfSink
 use Rattle.lens_io.specs.declared.source.Source as OfSource
-use Rattle.making_steps.specs.Ends.{Ends, GivesLine, Completes, RefusesAtOnce}
-use Rattle.making_steps.specs.Rooms.{ScriptHasNoRoom}
-use Rattle.making_steps.specs.declared.status.MakingStatus.TheVariants as making
-use Rattle.store_making.specs.Init.{Starts, init_command}
-use Rattle.stored_run.specs.Refusals.{IsUnwritten, refusal_line}
-use Rattle.stored_run.specs.declared.refusals.StoreRefusal.TheVariants.{LogExists}
+use Rattle.store_new.specs.NewEnds.{Ends, GivesLine, Completes, RefusesAtOnce}
+use Rattle.store_new.specs.NewRooms.{ScriptHasNoRoom}
+use Rattle.store_new.specs.declared.status.MakingStatus.TheVariants as making
+use Rattle.store_new.specs.Init.{Starts, init_command}
+use Rattle.store_run.specs.Refusals.{IsUnwritten, refusal_line}
+use Rattle.store_run.specs.declared.refusals.StoreRefusal.TheVariants.{LogExists}
 use Rattle.editlens_main.specs.StoreStatus.{MakesAs}
 use Rattle.editlens_main.specs.declared.status.Status.{Status}
 use Rattle.editlens_main.specs.declared.status.Status.TheVariants.{Done, DiskFault}

@@ -3,8 +3,8 @@ use Rattle.std.specs.Prelude.{◌≡◌, ◌⊎◌}
 use Rattle.lens_io.specs.Calls.{SinkFailed, DiskFailed}
 use Rattle.lens_io.specs.declared.disk.Disk as OfDisk
 use Rattle.lens_io.specs.declared.sink.Sink as OfSink
-use Rattle.stored_run.specs.PackCall.{PacksCall, IsUnpacked, IsSafePack, EndsPack}
-use Rattle.stored_run.specs.Rooms.{most_bytes, PackHasNoRoom, IsPackCause}
+use Rattle.store_run.specs.PackCall.{PacksCall, IsUnpacked, IsSafePack, EndsPack}
+use Rattle.store_run.specs.Rooms.{most_bytes, PackHasNoRoom, IsPackCause}
 use Rattle.store_session.specs.Journals.{IsStateInStep}
 use Rattle.store_session.specs.contracts.instance.StoreSessionStoredSession.TheImpl.{ghosts as sessions}
 use Rattle.editlens_main.specs.Statuses.{IsFinished}

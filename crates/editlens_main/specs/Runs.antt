@@ -3,14 +3,14 @@
 -- and what holds at each status, is defined in script_run. Read it from the end: `Runs` and the other three, then `RunsScript`.
 use Rattle.std.specs.Prelude.{◌≤◌, length, IfSome}
 use Rattle.hub_run.specs.HubScript.{hub_script}
-use Rattle.journal_input.specs.declared.limits.TheConstants.{MOST_BYTES}
+use Rattle.script_input.specs.declared.limits.TheConstants.{MOST_BYTES}
 use Rattle.lens_io.specs.Calls.{SourceFailed, SinkFailed}
 use Rattle.lens_io.specs.declared.sink.Sink as OfSink
 use Rattle.lens_io.specs.declared.source.Source as OfSource
 use Rattle.link_run.specs.LinkScript.{link_script}
 use Rattle.pair_run.specs.Scripts.{pair_script, types_script}
-use Rattle.script_run.specs.Ends.{IsComplete, Reports, Stops}
-use Rattle.script_run.specs.declared.state.ScriptState as OfScript
+use Rattle.script_run.specs.ScriptEnds.{IsComplete, Reports, Stops}
+use Rattle.script_run.specs.declared.script_state.ScriptState as OfScript
 use Rattle.editlens_main.specs.ScriptStatus.{ScriptAs}
 use Rattle.editlens_main.specs.Statuses.{IsFinished}
 use Rattle.editlens_main.specs.declared.status.Status.{Status}

@@ -4,9 +4,9 @@ use Rattle.lens_io.specs.Calls.{SinkFailed, DiskFailed}
 use Rattle.lens_io.specs.DiskRuns.{LeavesOnly}
 use Rattle.lens_io.specs.declared.disk.Disk as OfDisk
 use Rattle.lens_io.specs.declared.sink.Sink as OfSink
-use Rattle.stored_run.specs.CountLines.{consistent_line}
-use Rattle.stored_run.specs.Refusals.{IsUnwritten}
-use Rattle.stored_run.specs.ViewCall as call
+use Rattle.store_run.specs.CountLines.{consistent_line}
+use Rattle.store_run.specs.Refusals.{IsUnwritten}
+use Rattle.store_run.specs.ViewCall as call
 use Rattle.store_session.specs.Journals.{IsStateInStep}
 use Rattle.store_session.specs.StoredStates.{StoredState, count_of, state_text}
 use Rattle.editlens_main.specs.Stores.{Store, RefusedStore, RefusesStore}

@@ -1,9 +1,9 @@
 -- The status of the program for the end of a command over a store, and for the end of one that makes a store.
 use Rattle.std.specs.Prelude.{◌≡◌}
-use Rattle.stored_run.specs.declared.status.Status.{Status as StoreStatus}
-use Rattle.stored_run.specs.declared.status.Status.TheVariants as store
-use Rattle.making_steps.specs.declared.status.MakingStatus.{MakingStatus}
-use Rattle.making_steps.specs.declared.status.MakingStatus.TheVariants as making
+use Rattle.store_run.specs.declared.status.Status.{Status as StoreStatus}
+use Rattle.store_run.specs.declared.status.Status.TheVariants as store
+use Rattle.store_new.specs.declared.status.MakingStatus.{MakingStatus}
+use Rattle.store_new.specs.declared.status.MakingStatus.TheVariants as making
 use Rattle.editlens_main.specs.declared.status.Status.{Status}
 use Rattle.editlens_main.specs.declared.status.Status.TheVariants.{Done, SomeRefused, ProgramRefused, StoreRefused, SourceFault, SinkFault, DiskFault, InputTooLong, NoMemory}
 

@@ -6,11 +6,11 @@ use Rattle.lens_io.specs.declared.sink.Sink as OfSink
 use Rattle.store_session.specs.Journals.{IsStateInStep, IsJournalRun}
 use Rattle.store_session.specs.StoredStates.{StoredState}
 use Rattle.store_session.specs.contracts.instance.StoreSessionStoredSession.TheImpl.{ghosts as sessions}
-use Rattle.stored_run.specs.Refusals.{IsUnwritten, EndsRefused}
-use Rattle.stored_run.specs.Runs.{run}
-use Rattle.stored_run.specs.Stores as stores
-use Rattle.stored_run.specs.declared.session.Answer.{Answer}
-use Rattle.stored_run.specs.declared.refusals.StoreRefusal.{StoreRefusal}
+use Rattle.store_run.specs.Refusals.{IsUnwritten, EndsRefused}
+use Rattle.store_run.specs.StoreRuns.{run}
+use Rattle.store_run.specs.Stores as stores
+use Rattle.store_run.specs.declared.session.Answer.{Answer}
+use Rattle.store_run.specs.declared.refusals.StoreRefusal.{StoreRefusal}
 use Rattle.editlens_main.specs.StoreStatus.{EndsAs}
 use Rattle.editlens_main.specs.declared.status.Status.{Status}
 

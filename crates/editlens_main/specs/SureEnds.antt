@@ -1,9 +1,9 @@
 -- How a command ends over devices that do not fail: the source and the sink are in memory, and the disk fails only at the end of its room.
 -- Read it from the end: `MadeInRoom`, `StoredInRoom`, then `EndsInRoom`.
 use Rattle.std.specs.Prelude.{◌≡◌, ◌⊎◌, ℕ, List}
-use Rattle.making_steps.specs.Command.{Command}
-use Rattle.making_steps.specs.Ends.{IsComplete}
-use Rattle.stored_run.specs.Rooms.{most_bytes}
+use Rattle.store_new.specs.Command.{Command}
+use Rattle.store_new.specs.NewEnds.{IsComplete}
+use Rattle.store_run.specs.Rooms.{most_bytes}
 use Rattle.editlens_main.specs.StoreStatus.{MakesAs}
 use Rattle.editlens_main.specs.declared.status.Status.{Status}
 use Rattle.editlens_main.specs.declared.status.Status.TheVariants.{StoreRefused, SinkFault, DiskFault}

@@ -4,10 +4,10 @@ use Rattle.std.specs.Prelude.{◌≡◌, ◌⊎◌, ℕ, List, option_to_list}
 use Rattle.lens_io.specs.Calls.{SinkFailed, DiskFailed}
 use Rattle.lens_io.specs.declared.disk.Disk as OfDisk
 use Rattle.lens_io.specs.declared.sink.Sink as OfSink
-use Rattle.stored_run.specs.Refusals.{IsUnwritten, IsOpening, FailsUnopened}
-use Rattle.stored_run.specs.Rooms.{most_bytes}
-use Rattle.stored_run.specs.StoreEnds.{StoresBehind}
-use Rattle.stored_run.specs.declared.status.Status.{Status as StoreStatus}
+use Rattle.store_run.specs.Refusals.{IsUnwritten, IsOpening, FailsUnopened}
+use Rattle.store_run.specs.Rooms.{most_bytes}
+use Rattle.store_run.specs.StoreEnds.{StoresBehind}
+use Rattle.store_run.specs.declared.status.Status.{Status as StoreStatus}
 use Rattle.store_undo.specs.UndoCall.{UndoesCall, IsUntouched, IsSafeUndo, HoldsNow}
 use Rattle.store_undo.specs.UndoCauses.{UndoHasNoRoom, IsUndoCause}
 use Rattle.store_undo.specs.UndoRecords.{undo_text, version_due, snapshot_text}

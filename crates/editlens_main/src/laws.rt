@@ -3,13 +3,13 @@ ghost use Rattle.std.specs.Prelude.{◌≡◌, ℕ, List, Some, Ok};
 ghost use Rattle.std.specs.declared.option.Option.{Option};
 ghost use Rattle.store_session.specs.Journals.{IsStateInStep};
 ghost use Rattle.store_session.specs.StoredStates.{StoredState, stands_for};
-ghost use Rattle.stored_run.specs.Refusals.{refusal_in};
-ghost use Rattle.stored_run.specs.declared.refusals.StoreRefusal.{StoreRefusal};
+ghost use Rattle.store_run.specs.Refusals.{refusal_in};
+ghost use Rattle.store_run.specs.declared.refusals.StoreRefusal.{StoreRefusal};
 ghost use Rattle.editlens_main.specs.StoreBytes.{HoldsState, IsRefusedOrInStep};
 
+use store_run::StoredSession;
+use store_session::session_laws::stored_is_in_step;
 use store_session::StoreSession;
-use store_session::laws::stored_is_in_step;
-use stored_run::StoredSession;
 
 /// Every store stays in step: whatever its payloads are, the state that they represent is in the consistency relation of its
 /// lens.

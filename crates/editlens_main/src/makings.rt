@@ -1,4 +1,4 @@
-//! The commands `init` and `import`, which make a store. They are the calls of store_making and of store_import.
+//! The commands `init` and `import`, which make a store. They are the calls of store_new and of store_new.
 ghost use Rattle.std.specs.Prelude.{◌≡◌};
 ghost use Rattle.lens_io.specs.Calls.{SourceFailed, SinkFailed, DiskFailed};
 ghost use Rattle.editlens_main.specs.ImportsStore.{ImportsStore};
@@ -8,8 +8,7 @@ ghost use Rattle.editlens_main.specs.Statuses.{IsAmong, making_statuses};
 use crate::Status;
 use lens_io::{Disk, Sink, Source};
 use std::alloc::Global;
-use store_import::import;
-use store_making::init;
+use store_new::{import, init};
 
 /// Makes a store of a program.
 pub fn run_init<S: Source, K: Sink, D: Disk>(

@@ -5,10 +5,10 @@ ghost use Rattle.editlens_main.specs.Status.{code_of};
 ghost use Rattle.editlens_main.specs.Statuses.{IsAmong, making_statuses, script_statuses, store_statuses};
 ghost use Rattle.editlens_main.specs.StoreStatus.{status_of_store, status_of_making};
 
-use making_steps::MakingStatus;
 use script_run::ScriptStatus;
 use std::alloc::{AllocError, Global};
-use stored_run::Status as StoreStatus;
+use store_new::MakingStatus;
+use store_run::Status as StoreStatus;
 use texts::Twin;
 
 /// How a call of the program ended. The number of each is its exit code.

@@ -1,5 +1,5 @@
 //! The commands over a store that is there: `apply`, `show`, `verify`, `pack` and `undo`. The last is the call of store_undo. Each other
-//! one is the call of stored_run with the sessions of store_session.
+//! one is the call of store_run with the sessions of store_session.
 ghost use Rattle.std.specs.Prelude.{◌≡◌};
 ghost use Rattle.lens_io.specs.Calls.{SourceFailed, SinkFailed, DiskFailed};
 ghost use Rattle.editlens_main.specs.Applies.{Applies};
@@ -11,9 +11,9 @@ ghost use Rattle.editlens_main.specs.Undoes.{Undoes};
 use crate::Status;
 use lens_io::{Disk, Sink, Source};
 use std::alloc::Global;
+use store_run::{apply, pack, show, verify};
 use store_session::StoreSession;
 use store_undo::undo;
-use stored_run::{apply, pack, show, verify};
 
 /// Goes on with the session of the store, by a journal.
 pub fn run_apply<S: Source, K: Sink, D: Disk>(

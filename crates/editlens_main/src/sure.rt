@@ -3,16 +3,16 @@ ghost use Rattle.std.specs.Prelude.{◌≡◌, ◌⊎◌, ◌≤◌, [], ℕ, So
 ghost use Rattle.command_words.specs.declared.orders.Order.TheVariants.{Gen, Init, Import, Apply, Show, Verify, Pack, Undo, Hub, Link};
 ghost use Rattle.command_words.specs.declared.orders.Order.TheVariants as order;
 ghost use Rattle.hub_run.specs.HubScript.{hub_script};
-ghost use Rattle.journal_input.specs.declared.limits.TheConstants.{MOST_BYTES};
+ghost use Rattle.script_input.specs.declared.limits.TheConstants.{MOST_BYTES};
 ghost use Rattle.link_run.specs.LinkScript.{link_script};
-ghost use Rattle.making_steps.specs.Rooms.{ScriptHasNoRoom};
+ghost use Rattle.store_new.specs.NewRooms.{ScriptHasNoRoom};
 ghost use Rattle.pair_run.specs.Scripts.{pair_script, types_script};
-ghost use Rattle.script_run.specs.Ends.{IsComplete as IsCompleteScript, Reports};
-ghost use Rattle.store_import.specs.Import.{import_command};
-ghost use Rattle.store_making.specs.Init.{init_command};
+ghost use Rattle.script_run.specs.ScriptEnds.{IsComplete as IsCompleteScript, Reports};
+ghost use Rattle.store_new.specs.Import.{import_command};
+ghost use Rattle.store_new.specs.Init.{init_command};
 ghost use Rattle.store_undo.specs.UndoCauses.{UndoHasNoRoom};
 ghost use Rattle.store_undo.specs.UndoStores.{StoreToUndo, RefusedToUndo};
-ghost use Rattle.stored_run.specs.Rooms.{RunHasNoRoom, PackHasNoRoom};
+ghost use Rattle.store_run.specs.Rooms.{RunHasNoRoom, PackHasNoRoom};
 ghost use Rattle.editlens_main.specs.Commands.{order_named, uses_disk};
 ghost use Rattle.editlens_main.specs.ScriptStatus.{ScriptAs};
 ghost use Rattle.editlens_main.specs.Statuses.{IsFinished};
@@ -22,8 +22,8 @@ ghost use Rattle.editlens_main.specs.SureEnds.{EndsInRoom, StoredInRoom, MadeInR
 use crate::{Status, editlens};
 use lens_io::{Disk, Sink, Source, SureDisk, SureSink, SureSource};
 use std::alloc::Global;
+use store_run::StoredSession;
 use store_session::StoreSession;
-use stored_run::StoredSession;
 
 /// The top call over devices that do not fail: a command is complete, unless the sink or the disk has too little room.
 ///

@@ -17,10 +17,10 @@ ghost use Rattle.editlens_main.specs.Statuses.{MayEnd};
 ghost use Rattle.editlens_main.specs.Top.{GivesUsage, LeavesAlone, IsCaused};
 ghost use Rattle.editlens_main.specs.Undoes.{Undoes};
 
-use crate::Status;
 use crate::generated::run_generated;
 use crate::makings::{run_import, run_init};
 use crate::scripts::{check_script, run_hub_script, run_link_script, run_pair_script};
+use crate::Status;
 use crate::stores::{run_apply, run_pack, run_show, run_undo, run_verify};
 use crate::usage::USAGE;
 use command_words::{Order, WordsFault, read_words};
@@ -48,7 +48,7 @@ use std::alloc::Global;
 /// `DiskFault` come only if the device failed.
 ///
 /// Whatever bytes a disk holds, they are refused as a store, or their state is in its lens's consistency relation: the law
-/// `laws::every_disk_is_refused_or_in_step`. Which stores `undo` refuses is the law `store_undo::laws::undone_or_refused`.
+/// `laws::every_disk_is_refused_or_in_step`. Which stores `undo` refuses is the law `store_undo::undo_laws::undone_or_refused`.
 ///
 /// `NoMemory` comes only if memory ran out, which no clause can say. Whether a program part is accepted is said by a definition that
 /// follows the reader (`bounded` of lens_syntax). It is the grammar's: the law `lens_syntax::laws::reading_follows_the_grammar`.

@@ -2,7 +2,7 @@
 use Rattle.std.specs.Prelude.{ℕ, List, [], ◌∷◌, ◌++◌, Bool, false, ◌||◌, if◌then◌else◌, codes, bytes_eq}
 use Rattle.edit_journal.specs.declared.line.Line.{Line}
 use Rattle.edit_journal.specs.declared.line.Line.TheVariants.{Text, TooLong}
-use Rattle.script_parts.specs.Lines.{cut, up_to_line_end}
+use Rattle.script_input.specs.Lines.{cut, up_to_line_end}
 
 -- a text is `+++`, with or without a CR at its end
 abbrev pub is_cut : List ℕ → Bool

@@ -1,4 +1,4 @@
--- The run of a hub over the lines of a journal, and the lines of its last state. The run over lines is `run` of line_stream, from the state
+-- The run of a hub over the lines of a journal, and the lines of its last state. The run over lines is `run` of script_run, from the state
 -- and the answer that are defined here.
 -- Read it from the end: `IsInStep`, `first_state`, `answer`, then `state_text`.
 use Rattle.std.specs.Prelude.{◌≡◌, ℕ, ◌+◌, List, [], ◌∷◌, ◌++◌, slice_get, Option, Some, option_map, Result, Ok, Err, codes, decimal}
@@ -12,7 +12,7 @@ use Rattle.lens_forms.specs.Forms.{FormTree, left_type, right_type}
 use Rattle.lens_core.specs.Complements.{CompTree}
 use Rattle.lens_core.specs.declared.lens.EditLens as OfLens
 use Rattle.answer_text.specs.Lines.{tree_line}
-use Rattle.line_stream.specs.declared.state.Answer.{Answer}
+use Rattle.script_run.specs.declared.line_answers.Answer.{Answer}
 use Rattle.view_hub.specs.Hubs as hubs
 use Rattle.view_hub.specs.Hubs.{ViewTree, HubTree, Place, CarriedTree, step, first_hub}
 use Rattle.view_hub.specs.Laws.{IsHub}

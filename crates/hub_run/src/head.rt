@@ -4,16 +4,16 @@ ghost use Rattle.std.specs.Prelude.{◌≡◌, ◌<◌, ◌≤◌, ◌++◌, tru
 ghost use Rattle.lens_io.specs.Causes.{Increased};
 ghost use Rattle.edit_journal.specs.Lines.{line_of};
 ghost use Rattle.edit_journal.specs.Pieces.{nothing_fed, fed, last_line, has_no_end};
-ghost use Rattle.journal_input.specs.declared.limits.TheConstants.{PIECE_BYTES};
-ghost use Rattle.script_parts.specs.Lines.{is_separator, is_separator_line, program_part};
-ghost use Rattle.script_parts.specs.Parts.{StopsHead};
-ghost use Rattle.script_parts.specs.PartSteps.{IsProgramFront, MovesOn};
+ghost use Rattle.script_input.specs.declared.limits.TheConstants.{PIECE_BYTES};
+ghost use Rattle.script_input.specs.Lines.{is_separator, is_separator_line, program_part};
+ghost use Rattle.script_input.specs.Parts.{StopsHead};
+ghost use Rattle.script_input.specs.PartSteps.{IsProgramFront, MovesOn};
 ghost use Rattle.hub_run.specs.HubHeads.{HoldsFront, HasPieces, AddsLines, ReadsHead};
 
 use crate::pieces::Pieces;
 use edit_journal::Line;
-use journal_input::Input;
 use lens_io::{Source, TakeFault};
+use script_input::Input;
 use std::alloc::{AllocError, Global};
 
 /// The pieces of the program part of a script, as far as its input was read.

@@ -6,7 +6,7 @@ ghost use Rattle.hub_run.specs.Pieces.{is_cut, is_cut_line};
 ghost use Rattle.hub_run.specs.HeldPieces.{HoldsPieces, HoldsAfter};
 
 use edit_journal::Line;
-use script_parts::ProgramText;
+use script_input::ProgramText;
 use std::alloc::{AllocError, Global};
 use std::mem;
 

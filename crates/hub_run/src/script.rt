@@ -2,14 +2,14 @@
 
 ghost use Rattle.std.specs.Prelude.{◌≡◌, ◌≤◌, IfSome, length};
 ghost use Rattle.lens_io.specs.Calls.{SourceFailed, SinkFailed};
-ghost use Rattle.journal_input.specs.declared.limits.TheConstants.{MOST_BYTES};
-ghost use Rattle.script_run.specs.Ends.{Ended, IsComplete, IsFinished, Reports, Stops};
+ghost use Rattle.script_input.specs.declared.limits.TheConstants.{MOST_BYTES};
+ghost use Rattle.script_run.specs.ScriptEnds.{Ended, IsComplete, IsFinished, Reports, Stops};
 ghost use Rattle.hub_run.specs.HubScript.{hub_script};
 
 use crate::head::{HubHead, read_hub_head};
 use crate::run::HubRun;
-use journal_input::piece_buffer;
 use lens_io::{Sink, Source};
+use script_input::piece_buffer;
 use script_run::{ScriptStatus, answer_alone, answer_part};
 use std::alloc::Global;
 

@@ -7,7 +7,7 @@ ghost use Rattle.view_hub.specs.Laws.{HaveOneLeftType};
 ghost use Rattle.accepted_programs.specs.Refused.{IsKnown, IsRefusal};
 ghost use Rattle.accepted_programs.specs.Program.{Refusal};
 ghost use Rattle.answer_text.specs.Lines.{program_refused_line};
-ghost use Rattle.script_parts.specs.Parts.{HoldsPart};
+ghost use Rattle.script_input.specs.Parts.{HoldsPart};
 ghost use Rattle.hub_run.specs.HeldPieces.{HoldsPieces};
 ghost use Rattle.answer_text.specs.RefusalLines.{reason};
 ghost use Rattle.hub_run.specs.Lenses.{HubRefusal, view_with, with_left, form_of_view, first_left, forms_of, view_reason, refusal_line, views_differ};
@@ -18,7 +18,7 @@ use crate::pieces::Pieces;
 use accepted_programs::Refused;
 use answer_text::{program_refused_line, refused_part_line};
 use lens_types::Typed;
-use script_parts::ProgramText;
+use script_input::ProgramText;
 use std::alloc::{AllocError, AllocFailed, Global};
 use texts::Bytes;
 

@@ -8,12 +8,12 @@ use Rattle.edit_session.specs.Run.{is_refused, take_item}
 use Rattle.edit_session.specs.Sessions.{SessionOf}
 use Rattle.edit_session.specs.Step.{TripleTree}
 use Rattle.edit_session.specs.Views.{triple_tree}
-use Rattle.journal_answers.specs.Answers.{answer_line, state_lines}
-use Rattle.journal_answers.specs.Runs.{JournalAnswer, IsInStepFor, first_of}
+use Rattle.pair_answers.specs.Answers.{answer_line, state_lines}
+use Rattle.pair_answers.specs.ItemRuns.{JournalAnswer, IsInStepFor, first_of}
 use Rattle.lens_core.specs.Translation.{translate}
 use Rattle.lens_flat.specs.declared.flat.ReadyForm.{ReadyForm}
 use Rattle.lens_forms.specs.Forms.{FormTree, form_tree, left_type, right_type}
-use Rattle.line_stream.specs.declared.state.Answer.{Answer}
+use Rattle.script_run.specs.declared.line_answers.Answer.{Answer}
 
 -- the initial documents of a lens, with its missing complement
 abbrev pub first_pair : FormTree → FormTree × TripleTree

@@ -12,16 +12,16 @@ use Rattle.edit_session.specs.Run.{run, take_item, triples}
 use Rattle.edit_session.specs.Step.{TripleTree}
 use Rattle.edit_session.proofs.RunInStep.{runs_stay_in_step}
 use Rattle.form_steps.specs.LawsOfForms.{form_starts, form_edits}
-use Rattle.journal_answers.specs.Runs.{JournalItem, JournalAnswer, IsInStepFor, first_of, triples_from}
+use Rattle.pair_answers.specs.ItemRuns.{JournalItem, JournalAnswer, IsInStepFor, first_of, triples_from}
 use Rattle.lens_core.specs.Consistency.{IsConsistent}
 use Rattle.lens_core.specs.Translation.{translate}
 use Rattle.lens_forms.specs.Forms.{FormTree, left_type, right_type}
 use Rattle.lens_forms.specs.Typing.{is_typed}
-use Rattle.line_stream.specs.declared.state.Answer.{Answer}
+use Rattle.script_run.specs.declared.line_answers.Answer.{Answer}
 use Rattle.pair_run.specs.Runs.{first_pair, numbered, line_answer, IsPairInStep}
 use Rattle.pair_run.specs.Scripts.{pair_script, types_script}
 use Rattle.pair_run.specs.Shown.{no_answer, IsShown}
-use Rattle.script_run.specs.Ends.{EveryRunStaysInStep}
+use Rattle.script_run.specs.ScriptEnds.{EveryRunStaysInStep}
 use Rattle.script_run.proofs.StepsStay.{every_run as every_step}
 
 module _ (form : FormTree) (typed : is_typed form ≡ true) where

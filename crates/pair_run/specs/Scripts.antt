@@ -7,7 +7,7 @@ use Rattle.pair_run.specs.Runs.{IsPairInStep, first_pair, line_answer, state_of,
 use Rattle.pair_run.specs.Shown.{IsShown, no_answer, same_form, type_lines}
 use Rattle.pair_run.specs.declared.pair.PairRun.{PairRun}
 use Rattle.pair_run.specs.declared.shown.TypesShown.{TypesShown}
-use Rattle.script_run.specs.declared.state.ScriptState as OfScript
+use Rattle.script_run.specs.declared.script_state.ScriptState as OfScript
 
 -- to `run`: its documents and their complement are kept in step, by the changes of the journal
 abbrev pub pair_script : OfScript.Ghosts PairRun

@@ -5,15 +5,14 @@ ghost use Rattle.accepted_programs.specs.Refused.{IsKnown, IsRefusal};
 ghost use Rattle.lens_forms.specs.Forms.{FormTree, form_tree};
 ghost use Rattle.pair_run.specs.Scripts.{types_script};
 ghost use Rattle.pair_run.specs.Shown.{type_lines};
-ghost use Rattle.script_run.specs.Ending.{IsNotOpened};
+ghost use Rattle.script_run.specs.ScriptSteps.{IsNotOpened};
 
 use accepted_programs::Refused;
 use answer_text::{refused_part_line, type_line};
 use edit_journal::Line;
 use lens_types::Typed;
-use line_stream::Answer;
-use script_parts::ProgramText;
-use script_run::{NotOpened, ProgramScript, ScriptState};
+use script_input::ProgramText;
+use script_run::{Answer, NotOpened, ProgramScript, ScriptState};
 use std::alloc::{AllocError, Global};
 use texts::{Bytes, Side};
 

@@ -3,12 +3,12 @@ use Rattle.std.proofs.Common.{◌≡◌, ℕ, List, [], ◌∷◌, ◌++◌, Boo
 use Rattle.std.specs.Prelude.{option_map}
 use Rattle.value_json.proofs.Facts.{map_some}
 use Rattle.edit_journal.specs.declared.line.Line.{Line}
-use Rattle.line_stream.specs.Runs.{answer_lines, last, of_steps, run}
-use Rattle.script_parts.specs.Lines.{program_part, journal}
-use Rattle.script_parts.specs.Coming.{has_separator}
-use Rattle.script_run.specs.Ends.{answers_with, AnswersBut, AnswersSome}
+use Rattle.script_run.specs.LineRuns.{answer_lines, last, of_steps, run}
+use Rattle.script_input.specs.Lines.{program_part, journal}
+use Rattle.script_input.specs.Coming.{has_separator}
+use Rattle.script_run.specs.ScriptEnds.{answers_with, AnswersBut, AnswersSome}
 use Rattle.script_run.specs.Report.{report, report_with, run_report, with_state}
-use Rattle.script_run.specs.declared.state.ScriptState as OfScript
+use Rattle.script_run.specs.declared.script_state.ScriptState as OfScript
 use Rattle.script_run.specs.declared.status.ScriptStatus.{ScriptStatus}
 use Rattle.script_run.specs.declared.status.ScriptStatus.TheVariants.{ProgramRefused}
 use Rattle.report_laws.specs.Beginnings.{BeginsWith}

@@ -4,11 +4,11 @@ use Rattle.std.specs.Io.KnownBytes.{Appends}
 use Rattle.lens_io.specs.Calls.{IsRead}
 use Rattle.lens_io.specs.declared.sink.Sink as OfSink
 use Rattle.lens_io.specs.declared.source.Source as OfSource
-use Rattle.script_parts.specs.Coming.{IsWhole}
-use Rattle.script_parts.specs.Lines.{program_part, journal}
-use Rattle.script_run.specs.Ends.{IsFinished, AnswersSome, RefusesPart, WouldWrite, IsCleanStop}
+use Rattle.script_input.specs.Coming.{IsWhole}
+use Rattle.script_input.specs.Lines.{program_part, journal}
+use Rattle.script_run.specs.ScriptEnds.{IsFinished, AnswersSome, RefusesPart, WouldWrite, IsCleanStop}
 use Rattle.script_run.specs.Report.{report}
-use Rattle.script_run.specs.declared.state.ScriptState as OfScript
+use Rattle.script_run.specs.declared.script_state.ScriptState as OfScript
 use Rattle.script_run.specs.declared.status.ScriptStatus.{ScriptStatus}
 use Rattle.script_run.specs.declared.status.ScriptStatus.TheVariants.{Done, SomeRefused, ProgramRefused, SourceFault, SinkFault, InputTooLong, NoMemory}
 use Rattle.report_laws.specs.Beginnings.{BeginsWith, WritesBeginning}

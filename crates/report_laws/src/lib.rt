@@ -8,9 +8,9 @@
 
 ghost use Rattle.std.specs.Prelude.{◌≡◌, ◌++◌, ℕ, List, [], Some, Err, true};
 ghost use Rattle.lens_io.specs.Calls.{IsRead};
-ghost use Rattle.script_parts.specs.Coming.{has_separator, journal_lines};
-ghost use Rattle.script_parts.specs.Lines.{program_part, journal};
-ghost use Rattle.script_run.specs.Ends.{AnswersSome, IsCleanStop, IsFinished};
+ghost use Rattle.script_input.specs.Coming.{has_separator, journal_lines};
+ghost use Rattle.script_input.specs.Lines.{program_part, journal};
+ghost use Rattle.script_run.specs.ScriptEnds.{AnswersSome, IsCleanStop, IsFinished};
 ghost use Rattle.script_run.specs.Report.{report};
 ghost use Rattle.script_run.specs.declared.status.ScriptStatus.{ScriptStatus};
 ghost use Rattle.script_run.specs.declared.status.ScriptStatus.TheVariants.{ProgramRefused};

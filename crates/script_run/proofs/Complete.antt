@@ -3,13 +3,13 @@ use Rattle.std.proofs.Common.{◌≡◌, inl, inr, ℕ, ◌≤◌, List, length,
 use Rattle.std.specs.Io.KnownBytes.{Consumes}
 use Rattle.lens_io.specs.declared.sink.Sink as OfSink
 use Rattle.lens_io.specs.declared.source.Source as OfSource
-use Rattle.journal_input.specs.declared.limits.TheConstants.{MOST_BYTES}
-use Rattle.script_parts.specs.Lines.{program_part}
-use Rattle.script_run.specs.Ends.{Ended, IsComplete}
-use Rattle.script_run.specs.declared.state.ScriptState as OfScript
+use Rattle.script_input.specs.declared.limits.TheConstants.{MOST_BYTES}
+use Rattle.script_input.specs.Lines.{program_part}
+use Rattle.script_run.specs.ScriptEnds.{Ended, IsComplete}
+use Rattle.script_run.specs.declared.script_state.ScriptState as OfScript
 use Rattle.script_run.specs.declared.status.ScriptStatus.{ScriptStatus}
 use Rattle.script_run.specs.declared.status.ScriptStatus.TheVariants.{Done, SomeRefused, ProgramRefused, SourceFault, SinkFault, InputTooLong, NoMemory}
-use Rattle.script_parts.proofs.TakenParts.{few_taken, fixed_or_read, part_of_all, all_taken}
+use Rattle.script_input.proofs.TakenParts.{few_taken, fixed_or_read, part_of_all, all_taken}
 
 -- an outcome is not both
 one_outcome : {Accepted Refusal : Type 0} {X : Type 0} (r s : Result Accepted Refusal) (program : Accepted) (refusal : Refusal) → r ≡ s → r ≡ Ok program → s ≡ Err refusal → X

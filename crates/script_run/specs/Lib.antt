@@ -1,4 +1,7 @@
-pub mod Ending
-pub mod Ends
+pub mod LineEnds
+pub mod LineRuns
+pub mod LineStops
 pub mod Report
+pub mod ScriptEnds
+pub mod ScriptSteps
 pub mod Status

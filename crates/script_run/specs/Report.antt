@@ -2,10 +2,10 @@
 -- from the end: `report`, then `report_with` and `run_report`.
 use Rattle.std.specs.Prelude.{ℕ, List, ◌++◌, Option, Some, option_map, Result, Ok, Err}
 use Rattle.edit_journal.specs.declared.line.Line.{Line}
-use Rattle.line_stream.specs.Runs.{Written, written}
-use Rattle.script_parts.specs.Lines.{program_part, journal}
+use Rattle.script_run.specs.LineRuns.{Written, written}
+use Rattle.script_input.specs.Lines.{program_part, journal}
 use Rattle.script_run.specs.Status.{ending}
-use Rattle.script_run.specs.declared.state.ScriptState as OfScript
+use Rattle.script_run.specs.declared.script_state.ScriptState as OfScript
 use Rattle.script_run.specs.declared.status.ScriptStatus.{ScriptStatus}
 use Rattle.script_run.specs.declared.status.ScriptStatus.TheVariants.{ProgramRefused}
 

@@ -1,7 +1,7 @@
 -- The status of a run that came to its end, and of one that was stopped.
 use Rattle.std.specs.Prelude.{Bool, true, false}
-use Rattle.line_stream.specs.declared.stopped.Stopped.{Stopped}
-use Rattle.line_stream.specs.declared.stopped.Stopped.TheVariants as stop
+use Rattle.script_run.specs.declared.stopped.Stopped.{Stopped}
+use Rattle.script_run.specs.declared.stopped.Stopped.TheVariants as stop
 use Rattle.script_run.specs.declared.status.ScriptStatus.{ScriptStatus}
 use Rattle.script_run.specs.declared.status.ScriptStatus.TheVariants.{Done, SomeRefused, SourceFault, SinkFault, InputTooLong, NoMemory}
 

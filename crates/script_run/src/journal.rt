@@ -1,18 +1,18 @@
 //! The journal of a script.
 ghost use Rattle.std.specs.Prelude.{◌≡◌, ◌<◌, ◌≤◌, List, ℕ, Ok, length};
 ghost use Rattle.lens_io.specs.Calls.{SourceFailed, SinkFailed};
-ghost use Rattle.journal_input.specs.Taking.{IsWithin};
-ghost use Rattle.journal_input.specs.declared.limits.TheConstants.{PIECE_BYTES};
-ghost use Rattle.script_parts.specs.Parts.{IsTaken, IsHead};
-ghost use Rattle.script_run.specs.Ends.{Ended, EveryRunStaysInStep};
+ghost use Rattle.script_input.specs.Taking.{IsWithin};
+ghost use Rattle.script_input.specs.declared.limits.TheConstants.{PIECE_BYTES};
+ghost use Rattle.script_input.specs.Parts.{IsTaken, IsHead};
+ghost use Rattle.script_run.specs.ScriptEnds.{Ended, EveryRunStaysInStep};
 
+use crate::answer_pieces;
 use crate::lines::ScriptLines;
 use crate::report::{give_report, last_report};
-use crate::state::ScriptState;
+use crate::script_state::ScriptState;
 use crate::status::ScriptStatus;
-use journal_input::Input;
 use lens_io::{Sink, Source};
-use line_stream::answer_pieces;
+use script_input::Input;
 use std::alloc::Global;
 
 /// Answers a journal as it comes, and ends with the state lines. The program part before it is accepted, and the state

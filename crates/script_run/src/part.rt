@@ -1,18 +1,18 @@
 //! What comes once the program part of a script was read.
 ghost use Rattle.std.specs.Prelude.{◌≡◌, ◌<◌, ◌≤◌, List, ℕ, length};
 ghost use Rattle.lens_io.specs.Calls.{SourceFailed, SinkFailed};
-ghost use Rattle.journal_input.specs.Taking.{IsWithin};
-ghost use Rattle.journal_input.specs.declared.limits.TheConstants.{PIECE_BYTES};
-ghost use Rattle.script_parts.specs.Parts.{IsTaken, IsHead};
-ghost use Rattle.script_run.specs.Ends.{Ended, EveryRunStaysInStep};
-ghost use Rattle.script_run.specs.Ending.{GivesAlone, Opens};
+ghost use Rattle.script_input.specs.Taking.{IsWithin};
+ghost use Rattle.script_input.specs.declared.limits.TheConstants.{PIECE_BYTES};
+ghost use Rattle.script_input.specs.Parts.{IsTaken, IsHead};
+ghost use Rattle.script_run.specs.ScriptEnds.{Ended, EveryRunStaysInStep};
+ghost use Rattle.script_run.specs.ScriptSteps.{GivesAlone, Opens};
 
 use crate::journal::answer_script;
 use crate::report::{first_report, give_report, refusal};
-use crate::state::{NotOpened, ScriptState};
+use crate::script_state::{NotOpened, ScriptState};
 use crate::status::ScriptStatus;
-use journal_input::Input;
 use lens_io::{Sink, Source};
+use script_input::Input;
 use std::alloc::Global;
 
 /// Goes on behind a program part and its separator. `opened` is the state before the journal, or why there is none.

@@ -1,17 +1,16 @@
 //! A command over a script whose program part is one program.
 ghost use Rattle.std.specs.Prelude.{◌≡◌, ◌≤◌, ℕ, List, IfSome, length};
-ghost use Rattle.journal_input.specs.declared.limits.TheConstants.{MOST_BYTES};
+ghost use Rattle.script_input.specs.declared.limits.TheConstants.{MOST_BYTES};
 ghost use Rattle.lens_io.specs.Calls.{SourceFailed, SinkFailed};
-ghost use Rattle.script_parts.specs.Parts.{HoldsPart};
-ghost use Rattle.script_run.specs.Ends.{Ended, EveryRunStaysInStep, IsComplete};
-ghost use Rattle.script_run.specs.Ending.{Opens};
+ghost use Rattle.script_input.specs.Parts.{HoldsPart};
+ghost use Rattle.script_run.specs.ScriptEnds.{Ended, EveryRunStaysInStep, IsComplete};
+ghost use Rattle.script_run.specs.ScriptSteps.{Opens};
 
 use crate::part::{answer_alone, answer_part};
-use crate::state::{NotOpened, ScriptState};
+use crate::script_state::{NotOpened, ScriptState};
 use crate::status::ScriptStatus;
-use journal_input::piece_buffer;
 use lens_io::{Sink, Source};
-use script_parts::{Head, ProgramText, read_head};
+use script_input::{Head, ProgramText, piece_buffer, read_head};
 use std::alloc::Global;
 
 /// A state that one program opens, and of which every run stays in step.

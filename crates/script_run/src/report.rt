@@ -1,14 +1,14 @@
 //! What is written at the end of an input, and the status.
 ghost use Rattle.std.specs.Prelude.{◌≡◌, ◌+◌, ◌^◌, ◌<◌, ◌++◌, [], IfOk};
 ghost use Rattle.lens_io.specs.Calls.{SinkFailed};
-ghost use Rattle.script_run.specs.Ending.{EndsReport, Gives, HasEnd};
+ghost use Rattle.script_run.specs.ScriptSteps.{EndsReport, Gives, HasEnd};
 
 use crate::lines::ScriptLines;
-use crate::state::{NotOpened, ScriptState};
+use crate::script_state::{NotOpened, ScriptState};
 use crate::status::ScriptStatus;
-use journal_input::Input;
+use crate::{Progress, handle_last};
 use lens_io::{Sink, give_all};
-use line_stream::{Progress, handle_last};
+use script_input::Input;
 use std::alloc::{AllocError, Global};
 
 /// What is written at the end of an input, and the status.

@@ -1,11 +1,11 @@
 //! How a call over a script ends.
 ghost use Rattle.std.specs.Prelude.{◌≡◌};
-ghost use Rattle.line_stream.specs.Stopping.{stop_of};
-ghost use Rattle.script_run.specs.Ending.{IsEnd};
+ghost use Rattle.script_run.specs.LineStops.{stop_of};
+ghost use Rattle.script_run.specs.ScriptSteps.{IsEnd};
 ghost use Rattle.script_run.specs.Status.{ending, status_of};
 
+use crate::Stopped;
 use lens_io::TakeFault;
-use line_stream::Stopped;
 
 /// How a call over a script ended.
 #[derive(Clone, Copy, Debug, PartialEq, Eq)]

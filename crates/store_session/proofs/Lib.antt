@@ -1,6 +1,13 @@
-pub mod NoLineEnd
+pub mod AcceptedDepths
 pub mod AnswerLines
 pub mod AnswersMade
-pub mod Openings
-pub mod StatesInStep
+pub mod Appending
+pub mod ConsistencyDecided
 pub mod JournalRuns
+pub mod LastTriple
+pub mod NoLineEnd
+pub mod Openings
+pub mod RecordOrder
+pub mod SnapshotParts
+pub mod StatesInStep
+pub mod WrittenStands

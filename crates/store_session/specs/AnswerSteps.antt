@@ -11,11 +11,11 @@ use Rattle.edit_journal.specs.declared.line.Line.TheVariants.{Text, TooLong}
 use Rattle.edit_journal.proofs.Groups.{change_writes_back}
 use Rattle.edit_session.specs.Run.{answered, group_answered, is_refused, no_entry}
 use Rattle.edit_session.specs.Step.{TripleTree, Stepped, AllStepped, alone, step, step_each}
-use Rattle.journal_answers.specs.Runs.{JournalItem, JournalAnswer}
+use Rattle.pair_answers.specs.ItemRuns.{JournalItem, JournalAnswer}
 use Rattle.lens_core.specs.Translation.{translate}
 use Rattle.lens_forms.specs.Forms.{left_type, right_type}
-use Rattle.stored_run.specs.declared.session.Answer.{Answer}
-use Rattle.stored_sessions.specs.Stands.{step_of}
+use Rattle.store_run.specs.declared.session.Answer.{Answer}
+use Rattle.store_session.specs.Stands.{step_of}
 use Rattle.store_session.specs.StoredStates.{StoredState, state_with, change_text, payload_of, stored_answer, taken, answer_item, answer}
 
 -- ---- the step of an item

@@ -7,10 +7,10 @@ use Rattle.edit_journal.specs.declared.line.Line.{Line}
 use Rattle.edit_session.specs.Step.{TripleTree}
 use Rattle.edit_session.specs.Run as journals
 use Rattle.edit_session.specs.Run.{is_refused}
-use Rattle.journal_answers.specs.Answers.{answer_lines}
-use Rattle.journal_answers.specs.Runs.{JournalItem, JournalAnswer, IsInStepFor, items_of, run_from}
-use Rattle.stored_run.specs.Runs.{text_of, kept_of, any_refused, last}
-use Rattle.stored_run.specs.declared.session.Answer.{Answer}
+use Rattle.pair_answers.specs.Answers.{answer_lines}
+use Rattle.pair_answers.specs.ItemRuns.{JournalItem, JournalAnswer, IsInStepFor, items_of, run_from}
+use Rattle.store_run.specs.StoreRuns.{text_of, kept_of, any_refused, last}
+use Rattle.store_run.specs.declared.session.Answer.{Answer}
 use Rattle.store_session.specs.StoredStates.{StoredState, state_with, change_text}
 
 -- the change of an item, where the answer accepts it

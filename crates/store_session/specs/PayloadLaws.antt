@@ -7,14 +7,14 @@ use Rattle.edit_journal.specs.EntryJson.{change_of_line, tree_of_text}
 use Rattle.edit_journal.specs.declared.line.Line.{Line}
 use Rattle.edit_session.specs.Step.{TripleTree}
 use Rattle.lens_forms.specs.Forms.{FormTree}
-use Rattle.stored_records.specs.RecordJson.{version_record, record_in, tree_of_change_record}
-use Rattle.stored_records.specs.declared.fault.ReopenFault.{ReopenFault as RecordFault}
-use Rattle.stored_run.specs.declared.session.Answer.{Answer}
-use Rattle.stored_sessions.specs.Stands.{Standing, after_record, stands, step_of}
-use Rattle.stored_sessions.specs.Views.{standing}
-use Rattle.stored_sessions.specs.Written.{the_change, the_snapshot, HasRecord}
-use Rattle.stored_sessions.proofs.Appending.{stands_append}
-use Rattle.stored_sessions.proofs.WrittenStands.{one_stands}
+use Rattle.store_records.specs.RecordJson.{version_record, record_in, tree_of_change_record}
+use Rattle.store_records.specs.declared.record_fault.ReopenFault.{ReopenFault as RecordFault}
+use Rattle.store_run.specs.declared.session.Answer.{Answer}
+use Rattle.store_session.specs.Stands.{Standing, after_record, stands, step_of}
+use Rattle.store_session.specs.Standings.{standing}
+use Rattle.store_session.specs.Written.{the_change, the_snapshot, HasRecord}
+use Rattle.store_session.proofs.Appending.{stands_append}
+use Rattle.store_session.proofs.WrittenStands.{one_stands}
 use Rattle.store_session.specs.StoredStates.{StoredState, state_of, version_text, version_for, opened_as, stands_for, counted, count_of, answer, ReadsAsChange, IsStep, IsSnapshot}
 use Rattle.store_session.specs.AnswerSteps.{Fit, fit_of_line, Steps, kinds}
 use Rattle.store_session.specs.TypedStores.{typed_stood}

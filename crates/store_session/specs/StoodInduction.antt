@@ -2,10 +2,10 @@
 -- an `impl` cite it.
 use Rattle.std.proofs.Common.{◌≡◌, ℕ, ◌+◌, List, [], ◌∷◌, Option, Some, None, Result, Ok, Err, refl, subst}
 use Rattle.lens_forms.specs.Forms.{FormTree}
-use Rattle.stored_records.specs.RecordJson.{RecordTree, record_in}
-use Rattle.stored_records.specs.StoredLens.{lens_and_version}
-use Rattle.stored_records.specs.declared.fault.ReopenFault.{ReopenFault}
-use Rattle.stored_sessions.specs.Stands.{Standing, going_on, after_record, after_payloads, at_start, from_opening, stands}
+use Rattle.store_records.specs.RecordJson.{RecordTree, record_in}
+use Rattle.store_records.specs.StoredLens.{lens_and_version}
+use Rattle.store_records.specs.declared.record_fault.ReopenFault.{ReopenFault}
+use Rattle.store_session.specs.Stands.{Standing, going_on, after_record, after_payloads, at_start, from_opening, stands}
 
 module _ (P : Standing → Type 0) (keeps : (n : ℕ) (s t : Standing) (r : Option RecordTree) → P s → after_record n s r ≡ Ok t → P t) where
   others_hold : (others : Standing → Result Standing ReopenFault) (r : Result Standing ReopenFault) (u : Standing)

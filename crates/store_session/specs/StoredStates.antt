@@ -10,18 +10,18 @@ use Rattle.edit_journal.specs.EntryJson.{change_of_line, tree_of_text}
 use Rattle.edit_journal.specs.declared.line.Line.{Line}
 use Rattle.edit_session.specs.Step.{TripleTree}
 use Rattle.edit_session.specs.Run.{is_refused, take_item}
-use Rattle.journal_answers.specs.Answers as lines
-use Rattle.journal_answers.specs.Runs.{JournalItem, JournalAnswer, IsInStepFor}
+use Rattle.pair_answers.specs.Answers as lines
+use Rattle.pair_answers.specs.ItemRuns.{JournalItem, JournalAnswer, IsInStepFor}
 use Rattle.lens_core.specs.Translation.{translate}
 use Rattle.lens_forms.specs.Forms.{FormTree, left_type, right_type}
-use Rattle.stored_records.specs.RecordJson.{tree_of_version, tree_of_change_record, tree_of_snapshot}
-use Rattle.stored_records.specs.declared.fault.ReopenFault.{ReopenFault as RecordFault}
-use Rattle.stored_records.specs.declared.fault.ReopenFault.TheVariants as of_records
-use Rattle.stored_run.specs.declared.session.Answer.{Answer}
-use Rattle.stored_run.specs.declared.session.ReopenFault.{ReopenFault}
-use Rattle.stored_run.specs.declared.session.ReopenFault.TheVariants as of_stores
-use Rattle.stored_run.specs.declared.session.StoredSession as OfSession
-use Rattle.stored_sessions.specs.Stands.{Standing, stands}
+use Rattle.store_records.specs.RecordJson.{tree_of_version, tree_of_change_record, tree_of_snapshot}
+use Rattle.store_records.specs.declared.record_fault.ReopenFault.{ReopenFault as RecordFault}
+use Rattle.store_records.specs.declared.record_fault.ReopenFault.TheVariants as of_records
+use Rattle.store_run.specs.declared.session.Answer.{Answer}
+use Rattle.store_run.specs.declared.session.ReopenFault.{ReopenFault}
+use Rattle.store_run.specs.declared.session.ReopenFault.TheVariants as of_stores
+use Rattle.store_run.specs.declared.session.StoredSession as OfSession
+use Rattle.store_session.specs.Stands.{Standing, stands}
 
 -- the form of the lens, and the triple
 pub record StoredState : Type 0 where

@@ -12,12 +12,12 @@ use Rattle.lens_types.specs.Earlier.{Definitions, known_of, all_known, expanded_
 use Rattle.lens_types.proofs.SoundForms.{are_sound, sound_more, lens_sound, def_sound, none_both}
 use Rattle.accepted_programs.specs.Program.{form_without_failure, form_of_program}
 use Rattle.edit_session.specs.Step.{TripleTree, AllStepped}
-use Rattle.stored_records.specs.RecordJson.{RecordTree, version_record, change_record, snapshot_record, record_in}
-use Rattle.stored_records.specs.StoredLens.{accepted, form_of_text, with_form, opening_of_payload, lens_and_version}
-use Rattle.stored_records.specs.declared.fault.ReopenFault.{ReopenFault}
-use Rattle.stored_records.specs.declared.fault.ReopenFault.TheVariants.{BadRecord, NotConsistent}
-use Rattle.stored_sessions.specs.ConsistencyTest.{is_consistent}
-use Rattle.stored_sessions.specs.Stands.{Standing, after_record, after_step, after_triple, is_too_new, step_of, triple_of, stands}
+use Rattle.store_records.specs.RecordJson.{RecordTree, version_record, change_record, snapshot_record, record_in}
+use Rattle.store_records.specs.StoredLens.{accepted, form_of_text, with_form, opening_of_payload, lens_and_version}
+use Rattle.store_records.specs.declared.record_fault.ReopenFault.{ReopenFault}
+use Rattle.store_records.specs.declared.record_fault.ReopenFault.TheVariants.{BadRecord, NotConsistent}
+use Rattle.store_session.specs.ConsistencyTest.{is_consistent}
+use Rattle.store_session.specs.Stands.{Standing, after_record, after_step, after_triple, is_too_new, step_of, triple_of, stands}
 use Rattle.store_session.specs.StoodInduction.{all_stood}
 
 -- ---- the form of a program that is accepted, whatever its length

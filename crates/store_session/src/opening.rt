@@ -3,22 +3,22 @@
 ghost use Rattle.std.specs.Prelude.{◌≡◌, ℕ, List, Ok, Some, IfOk, MatchResult};
 ghost use Rattle.edit_session.specs.Views.{triple_tree};
 ghost use Rattle.lens_forms.specs.Forms.{form_tree};
-ghost use Rattle.stored_records.specs.StoredLens.{stored_form};
-ghost use Rattle.stored_run.specs.Reopening.{IsReopenFault};
-ghost use Rattle.stored_sessions.specs.Outcomes.{IsReopenFault as IsRecordFault};
-ghost use Rattle.stored_sessions.specs.Stands.{stands};
-ghost use Rattle.stored_sessions.specs.Views.{standing};
+ghost use Rattle.store_records.specs.StoredLens.{stored_form};
+ghost use Rattle.store_run.specs.Reopening.{IsReopenFault};
+ghost use Rattle.store_session.specs.ReopenOutcomes.{IsReopenFault as IsRecordFault};
+ghost use Rattle.store_session.specs.Stands.{stands};
+ghost use Rattle.store_session.specs.Standings.{standing};
 ghost use Rattle.store_session.specs.StoredStates.{stands_for, count_of, fault_of, version_for};
-ghost use Rattle.store_session.specs.Views.{session_state};
+ghost use Rattle.store_session.specs.SessionStates.{session_state};
 
 use crate::session::StoreSession;
+use crate::{Opened as OpenedRecords, reopen};
 use lens_flat::Flat;
 use lens_io::Payloads;
 use lens_types::Typed;
 use std::alloc::{AllocError, Global};
-use stored_records::{ReopenFault as RecordFault, stored_lens, version_payload};
-use stored_run::{Opened, ReopenFault};
-use stored_sessions::{Opened as OpenedRecords, reopen};
+use store_records::{ReopenFault as RecordFault, stored_lens, version_payload};
+use store_run::{Opened, ReopenFault};
 use texts::Bytes;
 
 // The version of a store whose version record is still to be stored.

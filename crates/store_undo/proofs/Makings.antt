@@ -5,14 +5,14 @@ use Rattle.edit_module.specs.Changes.{ChangeTree}
 use Rattle.edit_session.specs.Step.{TripleTree}
 use Rattle.lens_core.specs.Translation.{translate}
 use Rattle.lens_forms.specs.Forms.{FormTree, left_type, right_type}
-use Rattle.stored_sessions.specs.Stands.{Standing, stands}
+use Rattle.store_session.specs.Stands.{Standing, stands}
 use Rattle.store_undo.specs.Making.{AreTexts, IsMade}
 use Rattle.store_undo.specs.UndoRecords.{version_due, version_then}
 use Rattle.store_undo.specs.Undoing.{payloads_before, last_changes}
 use Rattle.store_undo.specs.declared.making.Making.{Making}
 use Rattle.store_undo.proofs.Earlier.{stood_then}
 use Rattle.store_undo.proofs.VersionRecords.{undone_stands}
-use Rattle.undo_words.specs.Undone.{BothTrees, BringsBack, undone}
+use Rattle.edit_undo.specs.Undone.{BothTrees, BringsBack, undone}
 
 -- the words of a standing's changes
 abbrev UndoneBy : Standing → List ChangeTree → TripleTree × BothTrees → Type 0

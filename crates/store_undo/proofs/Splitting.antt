@@ -1,10 +1,10 @@
 -- Payloads that stand, in two parts: the first part stands, and the second goes on from it.
 use Rattle.std.proofs.Common.{◌≡◌, ℕ, ◌+◌, ◌<◌, List, [], ◌∷◌, ◌++◌, length, Option, Some, None, Result, Ok, Err, refl, sym, ap, ◌∙◌, arith}
 use Rattle.lens_forms.specs.Forms.{FormTree}
-use Rattle.stored_records.specs.RecordJson.{record_in}
-use Rattle.stored_records.specs.StoredLens.{lens_and_version}
-use Rattle.stored_records.specs.declared.fault.ReopenFault.{ReopenFault}
-use Rattle.stored_sessions.specs.Stands.{Standing, going_on, after_record, after_payloads, at_start, from_opening, stands}
+use Rattle.store_records.specs.RecordJson.{record_in}
+use Rattle.store_records.specs.StoredLens.{lens_and_version}
+use Rattle.store_records.specs.declared.record_fault.ReopenFault.{ReopenFault}
+use Rattle.store_session.specs.Stands.{Standing, going_on, after_record, after_payloads, at_start, from_opening, stands}
 
 split_step : (n m : ℕ) (ps qs : List (List ℕ)) (r : Result Standing ReopenFault)
     → ((t : Standing) → after_payloads (n + 1) t (ps ++ qs) ≡ going_on (λ u. after_payloads m u qs) (after_payloads (n + 1) t ps))

@@ -7,24 +7,24 @@ use Rattle.lens_io.specs.declared.sink.Sink as OfSink
 use Rattle.gate_log.specs.LogOnDisk.{LogState, HoldsPayloads}
 use Rattle.edit_module.specs.Changes.{ChangeTree}
 use Rattle.edit_session.specs.Step.{TripleTree}
-use Rattle.stored_records.specs.declared.fault.ReopenFault.{ReopenFault}
-use Rattle.stored_run.specs.Effects.{HoldsFirst, StandsOn, Stops}
-use Rattle.stored_run.specs.Refusals.{IsUnwritten, IsOpening, FailsUnopened}
-use Rattle.stored_run.specs.StoreEnds.{StoreEnds, StoresBehind}
-use Rattle.stored_run.specs.declared.status.Status.{Status}
-use Rattle.stored_run.specs.declared.status.Status.TheVariants as ending
-use Rattle.stored_run.specs.declared.stop.Stop.{Stop}
-use Rattle.stored_run.proofs.Effects.{first_all}
-use Rattle.stored_run.proofs.Moments.{leaves_more, leaves_then}
-use Rattle.stored_run.proofs.Openings.{opening_then}
-use Rattle.stored_run.proofs.PackCalls.{never_finished, now_at, moments_at}
-use Rattle.stored_sessions.specs.Stands.{Standing, stands}
+use Rattle.store_records.specs.declared.record_fault.ReopenFault.{ReopenFault}
+use Rattle.store_run.specs.Effects.{HoldsFirst, StandsOn, Stops}
+use Rattle.store_run.specs.Refusals.{IsUnwritten, IsOpening, FailsUnopened}
+use Rattle.store_run.specs.StoreEnds.{StoreEnds, StoresBehind}
+use Rattle.store_run.specs.declared.status.Status.{Status}
+use Rattle.store_run.specs.declared.status.Status.TheVariants as ending
+use Rattle.store_run.specs.declared.stop.Stop.{Stop}
+use Rattle.store_run.proofs.Effects.{first_all}
+use Rattle.store_run.proofs.Moments.{leaves_more, leaves_then}
+use Rattle.store_run.proofs.Openings.{opening_then}
+use Rattle.store_run.proofs.PackCalls.{never_finished, now_at, moments_at}
+use Rattle.store_session.specs.Stands.{Standing, stands}
 use Rattle.store_undo.specs.UndoCall.{IsImage, UndoesCall, IsSafeUndo}
 use Rattle.store_undo.specs.UndoEnds.{UndoEnds}
 use Rattle.store_undo.specs.UndoRecords.{version_due, snapshot_text, undo_text, TakesBack}
 use Rattle.store_undo.specs.Undoing.{Undoing, undoing_from, undoing_of, undoing, last_changes, payloads_before}
 use Rattle.store_undo.proofs.VersionRecords.{front_stands}
-use Rattle.undo_words.specs.Undone.{BothTrees}
+use Rattle.edit_undo.specs.Undone.{BothTrees}
 
 -- ---- what undoing says of the payloads
 

@@ -5,20 +5,20 @@ use Rattle.gate_log.specs.LogBytes.{records_length, closed_gate}
 use Rattle.lens_io.specs.declared.disk.Disk as OfDisk
 use Rattle.lens_io.specs.declared.sink.Sink as OfSink
 use Rattle.gate_log.specs.LogOnDisk.{LogState, HoldsPayloads}
-use Rattle.stored_run.specs.Effects.{IsOver, StandsOn, Stops}
-use Rattle.stored_run.specs.Ends.{status_of}
-use Rattle.stored_run.specs.Refusals.{Refuses, IsUnwritten, IsOpening, FailsUnopened}
-use Rattle.stored_run.specs.Rooms.{most_bytes, HasNoRoom}
-use Rattle.stored_run.specs.StoreEnds.{StoreEnds, StoresBehind}
-use Rattle.stored_run.specs.Stopping.{IsOwnStop}
-use Rattle.stored_run.specs.declared.refusals.StoreRefusal.{StoreRefusal}
-use Rattle.stored_run.specs.declared.status.Status.{Status}
-use Rattle.stored_run.specs.declared.status.Status.TheVariants as ending
-use Rattle.stored_run.specs.declared.stop.Stop.{Stop}
-use Rattle.stored_run.specs.declared.stop.Stop.TheVariants.{LogFull, SourceFault, SinkFault, DiskFault, TooLong, NoMemory}
-use Rattle.stored_run.proofs.Effects.{records_append, room_over}
-use Rattle.stored_run.proofs.Rooms.{gate_of, none_some}
-use Rattle.stored_sessions.specs.Stands.{stands}
+use Rattle.store_run.specs.Effects.{IsOver, StandsOn, Stops}
+use Rattle.store_run.specs.ApplyEnds.{status_of}
+use Rattle.store_run.specs.Refusals.{Refuses, IsUnwritten, IsOpening, FailsUnopened}
+use Rattle.store_run.specs.Rooms.{most_bytes, HasNoRoom}
+use Rattle.store_run.specs.StoreEnds.{StoreEnds, StoresBehind}
+use Rattle.store_run.specs.Stopping.{IsOwnStop}
+use Rattle.store_run.specs.declared.refusals.StoreRefusal.{StoreRefusal}
+use Rattle.store_run.specs.declared.status.Status.{Status}
+use Rattle.store_run.specs.declared.status.Status.TheVariants as ending
+use Rattle.store_run.specs.declared.stop.Stop.{Stop}
+use Rattle.store_run.specs.declared.stop.Stop.TheVariants.{LogFull, SourceFault, SinkFault, DiskFault, TooLong, NoMemory}
+use Rattle.store_run.proofs.Effects.{records_append, room_over}
+use Rattle.store_run.proofs.Rooms.{gate_of, none_some}
+use Rattle.store_session.specs.Stands.{stands}
 use Rattle.store_undo.specs.UndoCall.{HoldsNow}
 use Rattle.store_undo.specs.UndoCauses.{UndoHasNoRoom, IsCauseInRoom}
 use Rattle.store_undo.specs.UndoEnds.{UndoEnds}

@@ -9,13 +9,13 @@ use Rattle.gate_log.specs.LogBytes.{not_a_log, bad_record, log_of}
 use Rattle.gate_log.specs.declared.fault.LogFault.{LogFault}
 use Rattle.gate_log.specs.declared.fault.LogFault.TheVariants as log
 use Rattle.edit_module.specs.Changes.{ChangeTree}
-use Rattle.stored_records.specs.declared.fault.ReopenFault.{ReopenFault}
-use Rattle.stored_run.specs.Refusals.{Refuses, EndsAtLog, EndsRefused}
-use Rattle.stored_run.specs.declared.refusals.StoreRefusal.{StoreRefusal}
-use Rattle.stored_run.specs.declared.refusals.StoreRefusal.TheVariants.{NotALog, BadRecord}
-use Rattle.stored_run.specs.declared.status.Status.{Status}
-use Rattle.stored_run.proofs.Openings.{at_content}
-use Rattle.stored_sessions.specs.Stands.{Standing, stands}
+use Rattle.store_records.specs.declared.record_fault.ReopenFault.{ReopenFault}
+use Rattle.store_run.specs.Refusals.{Refuses, EndsAtLog, EndsRefused}
+use Rattle.store_run.specs.declared.refusals.StoreRefusal.{StoreRefusal}
+use Rattle.store_run.specs.declared.refusals.StoreRefusal.TheVariants.{NotALog, BadRecord}
+use Rattle.store_run.specs.declared.status.Status.{Status}
+use Rattle.store_run.proofs.Openings.{at_content}
+use Rattle.store_session.specs.Stands.{Standing, stands}
 use Rattle.store_undo.specs.Undoing.{Undoing, undoing_from, undoing_of, undoing, last_changes, payloads_before, refusal_of, refusal_of_log, refusal_in, undo_refusal}
 
 module _ {K D : Type 0} (sink : OfSink.Ghosts K) (disk : OfDisk.Ghosts D) (k k' : K) (d d' : D) (status : Status) where

@@ -8,12 +8,12 @@ use Rattle.json.specs.Print.{escape_byte}
 use Rattle.serde_json.proofs.OnLiterals.{serde_json_on_literals}
 use Rattle.serde_json.specs.Written.{compact_text}
 use Rattle.edit_session.specs.Step.{TripleTree}
-use Rattle.stored_records.specs.RecordJson.{tree_of_version, version_record, record_in}
-use Rattle.stored_records.specs.declared.fault.ReopenFault.TheVariants.{BadRecord}
-use Rattle.stored_sessions.specs.Stands.{Standing, after_record, stands}
-use Rattle.stored_sessions.specs.Written.{the_snapshot}
-use Rattle.stored_sessions.proofs.Appending.{stands_append}
-use Rattle.stored_sessions.proofs.WrittenStands.{one_stands}
+use Rattle.store_records.specs.RecordJson.{tree_of_version, version_record, record_in}
+use Rattle.store_records.specs.declared.record_fault.ReopenFault.TheVariants.{BadRecord}
+use Rattle.store_session.specs.Stands.{Standing, after_record, stands}
+use Rattle.store_session.specs.Written.{the_snapshot}
+use Rattle.store_session.proofs.Appending.{stands_append}
+use Rattle.store_session.proofs.WrittenStands.{one_stands}
 use Rattle.store_undo.specs.Making.{IsSnapshot}
 use Rattle.store_undo.specs.UndoRecords.{version_due, version_then}
 

@@ -6,23 +6,23 @@ use Rattle.value_json.specs.DocumentJson.{holds_i64s}
 use Rattle.edit_json.specs.WordJson.{tree_of_word}
 use Rattle.edit_journal.specs.EntryJson.{tree_of_text}
 use Rattle.answer_text.specs.Lines.{tree_line}
-use Rattle.journal_answers.specs.Answers.{state_lines}
+use Rattle.pair_answers.specs.Answers.{state_lines}
 use Rattle.lens_core.specs.Consistency.{IsConsistent}
 use Rattle.lens_forms.specs.Forms.{FormTree}
 use Rattle.lens_forms.specs.Typing.{is_typed}
 use Rattle.edit_session.specs.Step.{TripleTree}
-use Rattle.stored_records.specs.RecordJson.{tree_of_snapshot}
-use Rattle.stored_records.specs.declared.fault.ReopenFault.{ReopenFault}
-use Rattle.stored_records.specs.declared.fault.ReopenFault.TheVariants as reopening
-use Rattle.stored_run.specs.declared.refusals.StoreRefusal.{StoreRefusal}
-use Rattle.stored_run.specs.declared.refusals.StoreRefusal.TheVariants.{BadRecord, NotConsistent}
+use Rattle.store_records.specs.RecordJson.{tree_of_snapshot}
+use Rattle.store_records.specs.declared.record_fault.ReopenFault.{ReopenFault}
+use Rattle.store_records.specs.declared.record_fault.ReopenFault.TheVariants as reopening
+use Rattle.store_run.specs.declared.refusals.StoreRefusal.{StoreRefusal}
+use Rattle.store_run.specs.declared.refusals.StoreRefusal.TheVariants.{BadRecord, NotConsistent}
 use Rattle.store_undo.specs.Undoing.{Undoing, undoing}
 use Rattle.store_undo.specs.UndoRecords.{undo_text, version_due, snapshot_text, TakesBack}
 use Rattle.store_undo.specs.declared.making.MakingFault.{MakingFault}
 use Rattle.store_undo.specs.declared.making.MakingFault.TheVariants.{Refused, NoMemory}
 use Rattle.store_undo.specs.declared.making.Making.{Making}
 use Rattle.store_undo.specs.declared.undo_texts.Texts.{Texts}
-use Rattle.undo_words.specs.Undone.{BothTrees}
+use Rattle.edit_undo.specs.Undone.{BothTrees}
 
 -- the payload is a snapshot of the triple, which is consistent and is read back from it
 pub record IsSnapshot (l : FormTree) (t : TripleTree) (payload : List ℕ) : Type 0 where

@@ -2,9 +2,9 @@
 -- `IsCauseInRoom` by the status, then `UndoHasNoRoom`.
 use Rattle.std.specs.Prelude.{ℕ, List, Option, IfSome}
 use Rattle.lens_io.specs.declared.disk.Disk as OfDisk
-use Rattle.stored_run.specs.Rooms.{most_bytes, HasNoRoom}
-use Rattle.stored_run.specs.declared.status.Status.{Status}
-use Rattle.stored_run.specs.declared.status.Status.TheVariants as ending
+use Rattle.store_run.specs.Rooms.{most_bytes, HasNoRoom}
+use Rattle.store_run.specs.declared.status.Status.{Status}
+use Rattle.store_run.specs.declared.status.Status.TheVariants as ending
 use Rattle.store_undo.specs.Undoing.{Undoing}
 use Rattle.store_undo.specs.UndoRecords.{new_records}
 

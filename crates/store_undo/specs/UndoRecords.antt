@@ -4,13 +4,13 @@ use Rattle.std.specs.Prelude.{◌≡◌, ℕ, List, [], ◌∷◌, ◌++◌, cod
 use Rattle.serde_json.specs.Written.{compact_text}
 use Rattle.edit_json.specs.WordJson.{tree_of_word}
 use Rattle.answer_text.specs.Lines.{tree_line}
-use Rattle.journal_answers.specs.Answers.{state_lines}
+use Rattle.pair_answers.specs.Answers.{state_lines}
 use Rattle.lens_forms.specs.Forms.{left_type, right_type}
 use Rattle.lens_core.specs.Consistency.{IsConsistent}
-use Rattle.stored_records.specs.RecordJson.{tree_of_version, tree_of_snapshot}
-use Rattle.stored_sessions.specs.Stands.{stands}
+use Rattle.store_records.specs.RecordJson.{tree_of_version, tree_of_snapshot}
+use Rattle.store_session.specs.Stands.{stands}
 use Rattle.store_undo.specs.Undoing.{Undoing}
-use Rattle.undo_words.specs.Undone.{BringsBack}
+use Rattle.edit_undo.specs.Undone.{BringsBack}
 
 -- ---- the lines
 

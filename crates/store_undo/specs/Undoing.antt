@@ -7,13 +7,13 @@ use Rattle.edit_journal.specs.EntryJson.{tree_of_text}
 use Rattle.edit_session.specs.Step.{TripleTree}
 use Rattle.lens_core.specs.Translation.{translate}
 use Rattle.lens_forms.specs.Forms.{left_type, right_type}
-use Rattle.stored_records.specs.RecordJson.{change_in}
-use Rattle.stored_records.specs.declared.fault.ReopenFault.{ReopenFault}
-use Rattle.stored_records.specs.declared.fault.ReopenFault.TheVariants as reopening
-use Rattle.stored_run.specs.declared.refusals.StoreRefusal.{StoreRefusal}
-use Rattle.stored_run.specs.declared.refusals.StoreRefusal.TheVariants.{NotALog, BadRecord, NotConsistent, NothingToUndo}
-use Rattle.stored_sessions.specs.Stands.{Standing, stands}
-use Rattle.undo_words.specs.Undone.{BothTrees, undone}
+use Rattle.store_records.specs.RecordJson.{change_in}
+use Rattle.store_records.specs.declared.record_fault.ReopenFault.{ReopenFault}
+use Rattle.store_records.specs.declared.record_fault.ReopenFault.TheVariants as reopening
+use Rattle.store_run.specs.declared.refusals.StoreRefusal.{StoreRefusal}
+use Rattle.store_run.specs.declared.refusals.StoreRefusal.TheVariants.{NotALog, BadRecord, NotConsistent, NothingToUndo}
+use Rattle.store_session.specs.Stands.{Standing, stands}
+use Rattle.edit_undo.specs.Undone.{BothTrees, undone}
 
 -- ---- the last changes
 

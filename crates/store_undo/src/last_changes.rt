@@ -2,12 +2,12 @@
 
 ghost use Rattle.std.specs.Prelude.{◌≡◌, ◌<◌, IfOk, option_map, drop, length};
 ghost use Rattle.store_undo.specs.Undoing.{changes_of, last_changes, payloads_before};
-ghost use Rattle.undo_words.specs.Views.{change_trees};
+ghost use Rattle.edit_undo.specs.UndoneViews.{change_trees};
 
 use edit_module::Change;
 use lens_io::Payloads;
 use std::alloc::{AllocError, Global};
-use stored_records::read_change;
+use store_records::read_change;
 use texts::Bytes;
 
 // The last changes, so many as the count says. None if there are not so many payloads behind the first one, or one of them is not

@@ -6,24 +6,24 @@ ghost use Rattle.lens_core.specs.Consistency.{IsConsistent};
 ghost use Rattle.edit_session.specs.Views.{triple_tree};
 ghost use Rattle.lens_core.specs.Translation.{translate};
 ghost use Rattle.lens_forms.specs.Forms.{form_tree, left_type, right_type};
-ghost use Rattle.stored_sessions.specs.Stands.{Standing, stands};
+ghost use Rattle.store_session.specs.Stands.{Standing, stands};
 ghost use Rattle.store_undo.specs.Making.{AreTexts, IsMade, IsMakingFault, fault_of};
 ghost use Rattle.store_undo.specs.Undoing.{undo_refusal};
-ghost use Rattle.undo_words.specs.Undone.{BothTrees, BringsBack, undone};
-ghost use Rattle.undo_words.specs.Views.{both_tree, change_trees};
+ghost use Rattle.edit_undo.specs.Undone.{BothTrees, BringsBack, undone};
+ghost use Rattle.edit_undo.specs.UndoneViews.{both_tree, change_trees};
 
 use crate::last_changes::{last_changes, payloads_before};
 use crate::opening::{open, open_again, version_record};
 use crate::undo_texts::{Texts, texts_of};
 use edit_module::Change;
 use edit_session::{Session, Triple};
+use edit_undo::{BothWords, undo_changes};
 use lens_flat::Flat;
 use lens_io::Payloads;
 use std::alloc::{AllocError, Global};
-use stored_records::ReopenFault;
-use stored_run::StoreRefusal;
+use store_records::ReopenFault;
+use store_run::StoreRefusal;
 use texts::{Bytes, Twin};
-use undo_words::{BothWords, undo_changes};
 
 // What is stored and written: the version record, if there is one to store, the snapshot and the lines.
 #[derive(Drop)]

@@ -3,10 +3,10 @@
 ghost use Rattle.std.specs.Prelude.{◌≡◌, Ok, Some, IfOk, MatchResult};
 ghost use Rattle.edit_session.specs.Views.{triple_tree};
 ghost use Rattle.lens_forms.specs.Forms.{form_tree};
-ghost use Rattle.stored_records.specs.StoredLens.{stored_form};
-ghost use Rattle.stored_sessions.specs.Outcomes.{IsReopenFault};
-ghost use Rattle.stored_sessions.specs.Stands.{Standing, stands};
-ghost use Rattle.stored_sessions.specs.Views.{standing};
+ghost use Rattle.store_records.specs.StoredLens.{stored_form};
+ghost use Rattle.store_session.specs.ReopenOutcomes.{IsReopenFault};
+ghost use Rattle.store_session.specs.Stands.{Standing, stands};
+ghost use Rattle.store_session.specs.Standings.{standing};
 ghost use Rattle.store_undo.specs.UndoRecords.{version_due};
 
 use edit_session::Session;
@@ -14,8 +14,8 @@ use lens_flat::Flat;
 use lens_io::Payloads;
 use lens_types::Typed;
 use std::alloc::{AllocError, Global};
-use stored_records::{ReopenFault, stored_lens, version_payload};
-use stored_sessions::{Opened, reopen};
+use store_records::{ReopenFault, stored_lens, version_payload};
+use store_session::{Opened, reopen};
 use texts::Bytes;
 
 // The version of a store whose version record is still to be stored.

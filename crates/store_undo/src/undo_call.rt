@@ -1,11 +1,11 @@
 //! The command `undo`, from its first call of the disk on.
 ghost use Rattle.std.specs.Prelude.{◌≡◌, ◌⊎◌, List, ℕ, Some, option_to_list};
 ghost use Rattle.lens_io.specs.Calls.{SinkFailed, DiskFailed};
-ghost use Rattle.stored_run.specs.Effects.{StandsOn};
-ghost use Rattle.stored_run.specs.Refusals.{IsUnwritten, IsOpening, EndsRefused, FailsUnopened};
-ghost use Rattle.stored_run.specs.Rooms.{most_bytes};
-ghost use Rattle.stored_run.specs.StoreEnds.{StoresBehind, StoreEnds};
-ghost use Rattle.stored_run.specs.declared.refusals.StoreRefusal.{StoreRefusal};
+ghost use Rattle.store_run.specs.Effects.{StandsOn};
+ghost use Rattle.store_run.specs.Refusals.{IsUnwritten, IsOpening, EndsRefused, FailsUnopened};
+ghost use Rattle.store_run.specs.Rooms.{most_bytes};
+ghost use Rattle.store_run.specs.StoreEnds.{StoresBehind, StoreEnds};
+ghost use Rattle.store_run.specs.declared.refusals.StoreRefusal.{StoreRefusal};
 ghost use Rattle.store_undo.specs.UndoCall.{HoldsNow, UndoesCall, IsSafeUndo, IsUntouched};
 ghost use Rattle.store_undo.specs.UndoCauses.{UndoHasNoRoom, IsUndoCause};
 ghost use Rattle.store_undo.specs.UndoEnds.{UndoEnds};
@@ -17,7 +17,7 @@ use crate::making::{Making, MakingFault, make};
 use gate_log::{Log, open_log};
 use lens_io::{Disk, Payloads, Sink};
 use std::alloc::Global;
-use stored_run::{Status, give_stop, pack_store, refuse, refuse_log};
+use store_run::{Status, give_stop, pack_store, refuse, refuse_log};
 
 /// Opens a store, and takes its documents and its complement back to what they were before the last `count` changes.
 ///

@@ -6,20 +6,20 @@ ghost use Rattle.edit_json.specs.WordJson.{tree_of_word};
 ghost use Rattle.edit_module.specs.Views.{word_tree};
 ghost use Rattle.edit_session.specs.Views.{triple_tree};
 ghost use Rattle.answer_text.specs.Lines.{tree_line};
-ghost use Rattle.journal_answers.specs.Answers.{state_lines};
+ghost use Rattle.pair_answers.specs.Answers.{state_lines};
 ghost use Rattle.lens_forms.specs.Forms.{form_tree};
 ghost use Rattle.store_undo.specs.Making.{IsSnapshot, AreTexts};
-ghost use Rattle.undo_words.specs.Views.{both_tree};
+ghost use Rattle.edit_undo.specs.UndoneViews.{both_tree};
 
 use edit_json::append_word;
 use edit_module::Word;
 use edit_session::Session;
-use journal_answers::state_lines;
+use edit_undo::BothWords;
 use lens_flat::Flat;
+use pair_answers::state_lines;
 use std::alloc::{AllocError, Global};
-use stored_records::snapshot_payload;
+use store_records::snapshot_payload;
 use texts::Bytes;
-use undo_words::BothWords;
 
 // The payload of a snapshot, and the lines of `undo`.
 #[derive(Drop)]

@@ -1,8 +1,8 @@
 use Rattle.std.proofs.Common.{sym, subst}
-use Rattle.script_parts.specs.Lines.{program_part}
-use Rattle.script_parts.proofs.Heads.{part_within}
-use Rattle.script_run.specs.Ends.{Ended}
-use Rattle.script_run.proofs.Ends.{ended_never, ended_head, ended_alone}
+use Rattle.script_input.specs.Lines.{program_part}
+use Rattle.script_input.proofs.Heads.{part_within}
+use Rattle.script_run.specs.ScriptEnds.{Ended}
+use Rattle.script_run.proofs.ScriptEndsHold.{ended_never, ended_head, ended_alone}
 use Rattle.hub_run.specs.HubHeads.{HasPieces}
 use Rattle.hub_run.specs.HubScript.{hub_script}
 use Rattle.hub_run.proofs.FormsInStep.{accepted_in_step}

@@ -1,7 +1,7 @@
 use Rattle.std.proofs.Common.{Ok, Err, length, sym, subst, arith}
 use Rattle.lens_io.specs.Content.{IsFull}
-use Rattle.line_stream.specs.Answered.{AnswersPieces}
-use Rattle.script_run.specs.Ends.{Ended}
+use Rattle.script_run.specs.LineEnds.{AnswersPieces}
+use Rattle.script_run.specs.ScriptEnds.{Ended}
 use Rattle.script_run.proofs.JournalEnds.{run_ends, run_stops}
 use Rattle.script_run.proofs.journal.answer_lines.Goals as goal
 use Rattle.lens_io.proofs.Increases.{sink_failed_since}

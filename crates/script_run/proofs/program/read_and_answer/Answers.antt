@@ -1,9 +1,9 @@
 use Rattle.std.proofs.Common.{sym, subst}
-use Rattle.script_parts.specs.Lines.{program_part}
-use Rattle.script_parts.specs.Parts.{HoldsPart}
-use Rattle.script_parts.proofs.Heads.{part_within}
-use Rattle.script_run.specs.Ends.{Ended}
-use Rattle.script_run.proofs.Ends.{ended_never, ended_head, ended_alone}
+use Rattle.script_input.specs.Lines.{program_part}
+use Rattle.script_input.specs.Parts.{HoldsPart}
+use Rattle.script_input.proofs.Heads.{part_within}
+use Rattle.script_run.specs.ScriptEnds.{Ended}
+use Rattle.script_run.proofs.ScriptEndsHold.{ended_never, ended_head, ended_alone}
 use Rattle.script_run.proofs.program.read_and_answer.Goals as goal
 
 pub answer_part-requires-clause-within : goal.answer_part-requires-clause-within

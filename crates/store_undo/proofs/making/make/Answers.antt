@@ -1,7 +1,7 @@
 use Rattle.std.proofs.Common.{refl}
 use Rattle.edit_session.specs.Views.{triple_tree}
 use Rattle.lens_forms.specs.Forms.{form_tree}
-use Rattle.stored_sessions.specs.Views.{standing}
+use Rattle.store_session.specs.Standings.{standing}
 use Rattle.store_undo.proofs.making.make.Goals as goal
 
 pub make_opened-requires : goal.make_opened-requires

@@ -1,6 +1,6 @@
 use Rattle.std.proofs.Common.{Some, sym, ap, ◌∙◌}
 use Rattle.store_undo.specs.UndoRecords.{version_due}
-use Rattle.undo_words.specs.Views.{change_trees}
+use Rattle.edit_undo.specs.UndoneViews.{change_trees}
 use Rattle.store_undo.proofs.Makings.{accepted_of, made_of}
 use Rattle.store_undo.proofs.making.make_opened.Goals as goal
 

@@ -4,8 +4,8 @@ use Rattle.edit_session.specs.Views.{triple_tree}
 use Rattle.lens_core.specs.Translation.{translate}
 use Rattle.lens_forms.specs.Forms.{FormTree, form_tree, left_type, right_type}
 use Rattle.store_undo.specs.Making.{AreTexts}
-use Rattle.undo_words.specs.Undone.{BothTrees, BringsBack, undone}
-use Rattle.undo_words.specs.Views.{both_tree, change_trees}
+use Rattle.edit_undo.specs.Undone.{BothTrees, BringsBack, undone}
+use Rattle.edit_undo.specs.UndoneViews.{both_tree, change_trees}
 use Rattle.store_undo.proofs.making.make_texts.Goals as goal
 
 pub returns : goal.returns

@@ -1,9 +1,9 @@
 use Rattle.std.proofs.Common.{◌⊎◌, inl, inr, ℕ, List, [], ◌∷◌, ◌++◌, Some, ap, subst, refl}
 use Rattle.std.specs.Prelude.{option_to_list}
-use Rattle.stored_run.specs.Effects.{Adds, Stops}
-use Rattle.stored_run.specs.Stopping.{IsOwnStop}
-use Rattle.stored_run.specs.declared.stop.Stop.{Stop}
-use Rattle.stored_run.proofs.Causes.{caused_sink, caused_disk}
+use Rattle.store_run.specs.Effects.{Adds, Stops}
+use Rattle.store_run.specs.Stopping.{IsOwnStop}
+use Rattle.store_run.specs.declared.stop.Stop.{Stop}
+use Rattle.store_run.proofs.ApplyCausesHold.{caused_sink, caused_disk}
 use Rattle.store_undo.proofs.undo_call.store_making.Goals as goal
 
 pub returns-in-Ok-clause-ends : goal.returns-in-Ok-clause-ends

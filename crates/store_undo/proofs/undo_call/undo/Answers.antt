@@ -1,12 +1,12 @@
 use Rattle.std.proofs.Common.{inl, inr, ℕ, List, Err, ap, subst, ◌∙◌, ◌≡◌, sym}
 use Rattle.gate_log.specs.LogBytes.{payloads, log_of}
 use Rattle.gate_log.specs.LogOnDisk.{HoldsPayloads}
-use Rattle.stored_run.specs.Effects.{StandsOn}
+use Rattle.store_run.specs.Effects.{StandsOn}
 use Rattle.gate_log.specs.declared.fault.LogFault.{LogFault}
-use Rattle.stored_run.proofs.ApplyCalls.{same_held, only_disk, synced_holds}
-use Rattle.stored_run.proofs.Openings.{at_content, unwritten_then, same_room}
-use Rattle.stored_run.proofs.RefusalEnds.{at_disk_fault, at_log_disk, at_log_sourceless, at_log_unfinished}
-use Rattle.stored_run.proofs.StoredPayloads.{images_held, reads_held}
+use Rattle.store_run.proofs.ApplyCalls.{same_held, only_disk, synced_holds}
+use Rattle.store_run.proofs.Openings.{at_content, unwritten_then, same_room}
+use Rattle.store_run.proofs.RefusalEnds.{at_disk_fault, at_log_disk, at_log_sourceless, at_log_unfinished}
+use Rattle.store_run.proofs.StoredPayloads.{images_held, reads_held}
 use Rattle.store_undo.specs.UndoCall.{HoldsNow}
 use Rattle.store_undo.specs.Undoing.{refusal_of_log}
 use Rattle.store_undo.proofs.UndoCauses.{other_status, undo_cause, undo_complete, unstored_of}

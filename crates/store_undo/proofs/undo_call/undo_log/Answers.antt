@@ -1,11 +1,11 @@
 use Rattle.std.proofs.Common.{inr, ℕ, List, Err, ap, subst, ◌∙◌, ◌≡◌, sym, Some}
 use Rattle.gate_log.specs.CallEnds.{NoBadRecord}
-use Rattle.stored_run.specs.Effects.{StandsOn}
+use Rattle.store_run.specs.Effects.{StandsOn}
 use Rattle.gate_log.specs.declared.fault.LogFault.{LogFault}
-use Rattle.stored_run.proofs.ApplyCalls.{at_some}
-use Rattle.stored_run.proofs.Openings.{unwritten_then, same_room, reading_fails}
-use Rattle.stored_run.proofs.RefusalEnds.{at_log_disk, at_log_sourceless}
-use Rattle.stored_run.proofs.StoredPayloads.{images_held, reads_held}
+use Rattle.store_run.proofs.ApplyCalls.{at_some}
+use Rattle.store_run.proofs.Openings.{unwritten_then, same_room, reading_fails}
+use Rattle.store_run.proofs.RefusalEnds.{at_log_disk, at_log_sourceless}
+use Rattle.store_run.proofs.StoredPayloads.{images_held, reads_held}
 use Rattle.store_undo.specs.UndoEnds.{UndoEnds}
 use Rattle.store_undo.specs.Undoing.{undoing, undo_refusal}
 use Rattle.store_undo.proofs.UndoCalls.{ends_behind}

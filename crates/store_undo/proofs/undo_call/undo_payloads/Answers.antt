@@ -1,9 +1,9 @@
 use Rattle.std.proofs.Common.{inl, inr, ℕ, List, Option, subst, refl}
 use Rattle.std.specs.Prelude.{option_to_list}
 use Rattle.std.proofs.KnownBytes.{Appends-nil}
-use Rattle.stored_run.specs.StoreEnds.{StoreEnds}
-use Rattle.stored_run.proofs.Openings.{unwritten_none, opening_none}
-use Rattle.stored_run.proofs.StoredPayloads.{images_held}
+use Rattle.store_run.specs.StoreEnds.{StoreEnds}
+use Rattle.store_run.proofs.Openings.{unwritten_none, opening_none}
+use Rattle.store_run.proofs.StoredPayloads.{images_held}
 use Rattle.store_undo.specs.Making.{IsMakingFault}
 use Rattle.store_undo.specs.UndoEnds.{UndoEnds}
 use Rattle.store_undo.specs.UndoRecords.{version_due, snapshot_text}

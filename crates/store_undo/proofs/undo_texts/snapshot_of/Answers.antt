@@ -2,7 +2,7 @@ use Rattle.std.proofs.Common.{sym, ap, subst, ◌∙◌}
 use Rattle.lens_core.specs.Complements.{comp_tree, Fits}
 use Rattle.lens_forms.specs.Forms.{form_tree}
 use Rattle.edit_session.specs.Views.{triple_tree}
-use Rattle.journal_answers.proofs.InStep.{in_step_fits}
+use Rattle.pair_answers.proofs.InStep.{in_step_fits}
 use Rattle.store_undo.proofs.undo_texts.snapshot_of.Goals as goal
 
 pub snapshot_payload-requires-clause-comp_fits : goal.snapshot_payload-requires-clause-comp_fits

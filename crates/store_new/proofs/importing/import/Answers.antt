@@ -1,0 +1,78 @@
+use Rattle.std.proofs.Common.{arith}
+use Rattle.lens_io.proofs.Increases.{increased_since}
+use Rattle.store_new.proofs.Commands.{ends_behind, finds_store, unwritten_by}
+use Rattle.store_new.proofs.CommandStatuses.{complete, other_line, refuses_at_once, refuses_nothing}
+use Rattle.store_new.specs.declared.status.MakingStatus.TheVariants.{DiskFault}
+use Rattle.store_new.specs.Import.{import_command}
+use Rattle.store_new.proofs.ImportEnds.{accepts, imports, refuses, refuses_import}
+use Rattle.store_new.proofs.importing.import.Goals as goal
+
+pub returns-in-Ok-eq0-clause-imports : goal.returns-in-Ok-eq0-clause-imports
+returns-in-Ok-eq0-clause-imports g c =
+    let disk = g.D.Disk in
+    let s = c.args.source.now in
+    let s' = c.import_empty.new.source in
+    let k = c.args.sink.now in
+    let k' = c.import_empty.new.sink in
+    let d = c.args.disk.now in
+    let d1 = c.len.new.self in
+    let d' = c.import_empty.new.disk in
+    let status = c.import_empty.result in
+    let ends = ends_behind g.S.Source g.K.Sink disk import_command s s' k k' d d1 d' status (unwritten_by disk d d1 c.len.ensures.content c.len.ensures.images) c.import_empty.ensures.ends in
+    imports g.S.Source g.K.Sink disk s s' k k' d d' status ends
+
+pub returns-in-Ok-eq0-clause-refuses : goal.returns-in-Ok-eq0-clause-refuses
+returns-in-Ok-eq0-clause-refuses g c =
+    let disk = g.D.Disk in
+    let s = c.args.source.now in
+    let s' = c.import_empty.new.source in
+    let k = c.args.sink.now in
+    let k' = c.import_empty.new.sink in
+    let d = c.args.disk.now in
+    let d1 = c.len.new.self in
+    let d' = c.import_empty.new.disk in
+    let status = c.import_empty.result in
+    let ends = ends_behind g.S.Source g.K.Sink disk import_command s s' k k' d d1 d' status (unwritten_by disk d d1 c.len.ensures.content c.len.ensures.images) c.import_empty.ensures.ends in
+    refuses_import g.S.Source g.K.Sink disk s s' k k' d d' status ends
+
+pub returns-in-Ok-eq0-clause-ends : goal.returns-in-Ok-eq0-clause-ends
+returns-in-Ok-eq0-clause-ends g c =
+    let disk = g.D.Disk in
+    let d = c.args.disk.now in
+    let d1 = c.len.new.self in
+    ends_behind g.S.Source g.K.Sink disk import_command c.args.source.now c.import_empty.new.source c.args.sink.now c.import_empty.new.sink d d1 c.import_empty.new.disk c.import_empty.result
+    (unwritten_by disk d d1 c.len.ensures.content c.len.ensures.images) c.import_empty.ensures.ends
+
+pub returns-in-Ok-eq0-clause-at_once : goal.returns-in-Ok-eq0-clause-at_once
+returns-in-Ok-eq0-clause-at_once g c =
+    refuses_at_once g.S.Source g.K.Sink g.D.Disk import_command accepts refuses c.args.source.now c.import_empty.new.source c.args.sink.now c.import_empty.new.sink c.len.new.self c.import_empty.new.disk c.import_empty.result c.import_empty.ensures.ends
+
+pub returns-in-Ok-eq0-clause-complete : goal.returns-in-Ok-eq0-clause-complete
+returns-in-Ok-eq0-clause-complete g c =
+    let disk = g.D.Disk in
+    let s = c.args.source.now in
+    let s' = c.import_empty.new.source in
+    let k = c.args.sink.now in
+    let k' = c.import_empty.new.sink in
+    let d = c.args.disk.now in
+    let d1 = c.len.new.self in
+    let d' = c.import_empty.new.disk in
+    let status = c.import_empty.result in
+    let ends = ends_behind g.S.Source g.K.Sink disk import_command s s' k k' d d1 d' status (unwritten_by disk d d1 c.len.ensures.content c.len.ensures.images) c.import_empty.ensures.ends in
+    complete g.S.Source g.K.Sink disk import_command accepts refuses s s' k k' d d' status ends c.import_empty.ensures.source_fault c.import_empty.ensures.sink_fault
+    (λ e. increased_since (disk.faults d) (disk.faults d1) (disk.faults d') c.len.ensures.cause.later (c.import_empty.ensures.disk_fault e))
+
+pub returns-in-Ok-clause-ends : goal.returns-in-Ok-clause-ends
+returns-in-Ok-clause-ends g c =
+    let disk = g.D.Disk in
+    let d = c.args.disk.now in
+    let d1 = c.len.new.self in
+    finds_store g.S.Source g.K.Sink disk import_command c.args.source.now c.args.sink.now c.give_line.new.sink d d1 c.in-Ok.field-0 c.give_line.result c.in-Ok.ensures.count
+    (λ e. omega (arith, e, c.in-Ok.field-0-test)) (unwritten_by disk d d1 c.len.ensures.content c.len.ensures.images) c.give_line.ensures.gives
+
+pub returns-in-Ok-clause-at_once : goal.returns-in-Ok-clause-at_once
+returns-in-Ok-clause-at_once g c =
+    refuses_nothing g.S.Source c.args.source.now c.give_line.result (λ is. other_line g.K.Sink c.args.sink.now c.give_line.new.sink c.give_line.result c.give_line.ensures.gives is)
+
+pub returns-in-Err-clause-at_once : goal.returns-in-Err-clause-at_once
+returns-in-Err-clause-at_once g c = refuses_nothing g.S.Source c.args.source.now DiskFault (λ is. cc)

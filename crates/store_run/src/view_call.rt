@@ -1,0 +1,216 @@
+//! The commands `show` and `verify`, which only read a store.
+ghost use Rattle.std.specs.Prelude.{◌≡◌, ◌⊎◌, List, ℕ, Ok, Some, IfOk, IsNone};
+ghost use Rattle.std.specs.declared.option.Option.{Option};
+ghost use Rattle.lens_io.specs.Calls.{SinkFailed, DiskFailed};
+ghost use Rattle.lens_io.specs.DiskRuns.{LeavesOnly};
+ghost use Rattle.store_run.specs.CountLines.{consistent_line};
+ghost use Rattle.store_run.specs.Effects.{StandsOn};
+ghost use Rattle.store_run.specs.Refusals.{IsUnwritten, Refuses, EndsRefused, refusal_of_payloads};
+ghost use Rattle.store_run.specs.Stores.{Store, RefusedStore};
+ghost use Rattle.store_run.specs.ViewCall.{Views, view_text};
+ghost use Rattle.store_run.specs.declared.refusals.StoreRefusal.{StoreRefusal};
+
+use crate::count_lines::consistent_line;
+use crate::refusals::{refuse_log, refuse_payloads};
+use crate::session::StoredSession;
+use crate::status::Status;
+use gate_log::{Log, open_log};
+use lens_io::{Disk, Payloads, Sink, give_all};
+use std::alloc::{AllocError, Global};
+use texts::Bytes;
+
+/// What a command that only reads a store writes.
+#[derive(Clone, Copy, Debug, PartialEq, Eq)]
+enum StoreView {
+    /// The state lines.
+    State,
+    /// How many changes were accepted.
+    Count,
+}
+
+/// Opens a store, and writes the state lines of the session for which its payloads stand.
+///
+/// - `views`: if the payloads stand for a session, the text is written, unless the disk failed or memory ran out before.
+/// - `refused`: if the bytes of the disk are refused, the line `store refused: REASON` is written in its place.
+/// - `unwritten`, `moments`: nothing is written to the disk, and a crash leaves nothing new.
+/// - `complete`: over such payloads and with no fault the status is `Done` or `NoMemory`.
+/// - `no_source`: there is no fault of a source.
+/// - `sink_fault`, `disk_fault`, `sure`: these statuses come only if that device failed; a disk whose room is known does not.
+pub fn show<A: StoredSession + Drop, K: Sink, D: Disk>(
+    alloc: Global,
+    sink: &mut K,
+    disk: &mut D,
+) -> Status
+    ensures views { (store : Store D.Disk A.StoredSession disk.old)
+        → Views K.Sink sink.old sink.new (A.state_text store.state) result }
+    ensures refused { (other : RefusedStore D.Disk A.StoredSession disk.old)
+        → EndsRefused K.Sink D.Disk (sink.old, disk.old) (sink.new, disk.new)
+        other.reason result }
+    ensures unwritten { IsUnwritten D.Disk disk.old disk.new }
+    ensures moments { LeavesOnly D.Disk disk.old disk.new (D.images disk.old) }
+    ensures complete { (store : Store D.Disk A.StoredSession disk.old)
+        → (SinkFailed K.Sink sink.old sink.new → ⊥)
+        → (DiskFailed D.Disk disk.old disk.new → ⊥)
+        → (result ≡ Status.Done) ⊎ (result ≡ Status.NoMemory) }
+    ensures no_source { result ≡ Status.SourceFault → ⊥ }
+    ensures sink_fault { result ≡ Status.SinkFault → SinkFailed K.Sink sink.old sink.new }
+    ensures disk_fault { result ≡ Status.DiskFault → DiskFailed D.Disk disk.old disk.new }
+    ensures sure { result ≡ Status.DiskFault → IsNone (D.room disk.old) }
+{
+    view_store::<A, K, D>(alloc, StoreView::State, sink, disk)
+}
+
+/// Opens a store, and writes the line `consistent N`, N the number of changes that were accepted.
+///
+/// - `views`: if the payloads stand for a session, the text is written, unless the disk failed or memory ran out before.
+/// - `refused`: if the bytes of the disk are refused, the line `store refused: REASON` is written in its place.
+/// - `unwritten`, `moments`: nothing is written to the disk, and a crash leaves nothing new.
+/// - `complete`: over such payloads and with no fault the status is `Done` or `NoMemory`.
+/// - `no_source`: there is no fault of a source.
+/// - `sink_fault`, `disk_fault`, `sure`: these statuses come only if that device failed; a disk whose room is known does not.
+pub fn verify<A: StoredSession + Drop, K: Sink, D: Disk>(
+    alloc: Global,
+    sink: &mut K,
+    disk: &mut D,
+) -> Status
+    ensures views { (store : Store D.Disk A.StoredSession disk.old)
+        → Views K.Sink sink.old sink.new
+        (consistent_line (A.count_of store.payloads)) result }
+    ensures refused { (other : RefusedStore D.Disk A.StoredSession disk.old)
+        → EndsRefused K.Sink D.Disk (sink.old, disk.old) (sink.new, disk.new)
+        other.reason result }
+    ensures unwritten { IsUnwritten D.Disk disk.old disk.new }
+    ensures moments { LeavesOnly D.Disk disk.old disk.new (D.images disk.old) }
+    ensures complete { (store : Store D.Disk A.StoredSession disk.old)
+        → (SinkFailed K.Sink sink.old sink.new → ⊥)
+        → (DiskFailed D.Disk disk.old disk.new → ⊥)
+        → (result ≡ Status.Done) ⊎ (result ≡ Status.NoMemory) }
+    ensures no_source { result ≡ Status.SourceFault → ⊥ }
+    ensures sink_fault { result ≡ Status.SinkFault → SinkFailed K.Sink sink.old sink.new }
+    ensures disk_fault { result ≡ Status.DiskFault → DiskFailed D.Disk disk.old disk.new }
+    ensures sure { result ≡ Status.DiskFault → IsNone (D.room disk.old) }
+{
+    view_store::<A, K, D>(alloc, StoreView::Count, sink, disk)
+}
+
+// Opens a store, and writes a view of its session.
+fn view_store<A: StoredSession + Drop, K: Sink, D: Disk>(
+    alloc: Global,
+    view: StoreView,
+    sink: &mut K,
+    disk: &mut D,
+) -> Status
+    ensures views { (store : Store D.Disk A.StoredSession disk.old)
+        → Views K.Sink sink.old sink.new
+        (view_text A.StoredSession view store.state (A.count_of store.payloads)) result }
+    ensures refused { (other : RefusedStore D.Disk A.StoredSession disk.old)
+        → EndsRefused K.Sink D.Disk (sink.old, disk.old) (sink.new, disk.new)
+        other.reason result }
+    ensures unwritten { IsUnwritten D.Disk disk.old disk.new }
+    ensures moments { LeavesOnly D.Disk disk.old disk.new (D.images disk.old) }
+    ensures no_source { result ≡ Status.SourceFault → ⊥ }
+    ensures sink_fault { result ≡ Status.SinkFault → SinkFailed K.Sink sink.old sink.new }
+    ensures disk_fault { result ≡ Status.DiskFault → DiskFailed D.Disk disk.old disk.new }
+    ensures sure { result ≡ Status.DiskFault → IsNone (D.room disk.old) }
+{
+    match open_log(disk) {
+        Ok(log) => view_log::<A, K, D>(alloc, view, &log, sink, disk),
+        Err(fault) => refuse_log(alloc, fault, sink),
+    }
+}
+
+// Writes a view of a store whose log was opened.
+fn view_log<A: StoredSession + Drop, K: Sink, D: Disk>(
+    alloc: Global,
+    view: StoreView,
+    log: &Log,
+    sink: &mut K,
+    disk: &mut D,
+) -> Status
+    requires stands { (base : List (List ℕ)) × StandsOn D.Disk disk.old log.now base }
+    ensures views { (before : List (List ℕ)) (bytes : List ℕ) (t : A.State)
+        (version : Option (List ℕ))
+        → D.content disk.old ≡ Some bytes
+        → StandsOn D.Disk disk.old log.now before
+        → A.stands_for before ≡ Ok (t, version)
+        → Views K.Sink sink.old sink.new
+        (view_text A.StoredSession view t (A.count_of before)) result }
+    ensures refused { (before : List (List ℕ)) (bytes : List ℕ) (refusal : StoreRefusal)
+        → D.content disk.old ≡ Some bytes
+        → StandsOn D.Disk disk.old log.now before
+        → refusal_of_payloads (A.stands_for before) ≡ Some refusal
+        → EndsRefused K.Sink D.Disk (sink.old, disk.old) (sink.new, disk.new) refusal result }
+    ensures unwritten { IsUnwritten D.Disk disk.old disk.new }
+    ensures moments { LeavesOnly D.Disk disk.old disk.new (D.images disk.old) }
+    ensures no_source { result ≡ Status.SourceFault → ⊥ }
+    ensures sink_fault { result ≡ Status.SinkFault → SinkFailed K.Sink sink.old sink.new }
+    ensures disk_fault { result ≡ Status.DiskFault → DiskFailed D.Disk disk.old disk.new }
+    ensures sure { result ≡ Status.DiskFault → IsNone (D.room disk.old) }
+{
+    match log.payloads(alloc, disk) {
+        Ok(payloads) => view_payloads::<A, K>(alloc, view, &payloads, sink),
+        Err(fault) => refuse_log(alloc, fault, sink),
+    }
+}
+
+// Writes a view of a store of these payloads.
+fn view_payloads<A: StoredSession + Drop, K: Sink>(
+    alloc: Global,
+    view: StoreView,
+    payloads: &Payloads,
+    sink: &mut K,
+) -> Status
+    ensures views { (t : A.State) (version : Option (List ℕ))
+        → A.stands_for payloads.now ≡ Ok (t, version)
+        → Views K.Sink sink.old sink.new
+        (view_text A.StoredSession view t (A.count_of payloads.now)) result }
+    ensures refused { (refusal : StoreRefusal)
+        → refusal_of_payloads (A.stands_for payloads.now) ≡ Some refusal
+        → Refuses K.Sink sink.old sink.new refusal result }
+    ensures no_source { result ≡ Status.SourceFault → ⊥ }
+    ensures sink_fault { result ≡ Status.SinkFault → SinkFailed K.Sink sink.old sink.new }
+    ensures no_disk { result ≡ Status.DiskFault → ⊥ }
+{
+    match A::reopen(alloc, payloads) {
+        Ok(opened) => give_view(alloc, &opened.session, opened.count, view, sink),
+        Err(fault) => refuse_payloads(alloc, fault, sink),
+    }
+}
+
+// Writes a view of a session.
+fn give_view<A: StoredSession, K: Sink>(
+    alloc: Global,
+    session: &A,
+    count: u64,
+    view: StoreView,
+    sink: &mut K,
+) -> Status
+    ensures views { Views K.Sink sink.old sink.new
+        (view_text A.StoredSession view (A.state session.now) count) result }
+    ensures no_source { result ≡ Status.SourceFault → ⊥ }
+    ensures sink_fault { result ≡ Status.SinkFault → SinkFailed K.Sink sink.old sink.new }
+    ensures no_disk { result ≡ Status.DiskFault → ⊥ }
+{
+    let Ok(text) = text_of_view(alloc, session, count, view) else {
+        return Status::NoMemory;
+    };
+    match give_all(sink, text.as_slice()) {
+        Ok(()) => Status::Done,
+        Err(_) => Status::SinkFault,
+    }
+}
+
+fn text_of_view<A: StoredSession>(
+    alloc: Global,
+    session: &A,
+    count: u64,
+    view: StoreView,
+) -> Result<Bytes, AllocError>
+    ensures { IfOk result
+        (λ text. text ≡ view_text A.StoredSession view (A.state session.now) count) }
+{
+    match view {
+        StoreView::State => session.state_lines(alloc),
+        StoreView::Count => consistent_line(alloc, count),
+    }
+}
