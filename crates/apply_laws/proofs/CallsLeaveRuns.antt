@@ -1,4 +1,5 @@
 -- What a call over a store leaves is a run over it.
+use Rattle.command_ends.specs.Statuses.{IsFinished}
 use Rattle.std.proofs.Common.{arith, ◌≡◌, ◌⊎◌, inl, inr, ℕ, List, ◌++◌, length, true, None, Some, refl, ap, subst, ◌∙◌}
 use Rattle.std.specs.Prelude.{IfSome}
 use Rattle.std.proofs.lemmas.List.{length-map, append_assoc, append-nil}
@@ -22,11 +23,10 @@ use Rattle.store_session.proofs.StatesInStep.{stored_sound}
 use Rattle.store_run.specs.ApplyCall.{ContinuesCall, IsSafeCall}
 use Rattle.store_run.specs.StoreRuns.{run, last, kept_of, text_of}
 use Rattle.store_run.specs.declared.session.Answer.{Answer}
-use Rattle.store_run.specs.declared.status.Status.{Status as StoreStatus}
+use Rattle.command_ends.specs.declared.status.Status.{Status as StoreStatus}
 use Rattle.editlens_main.specs.Applies.{Applies}
-use Rattle.editlens_main.specs.Statuses.{IsFinished}
 use Rattle.editlens_main.specs.Stores.{Store}
-use Rattle.editlens_main.specs.declared.status.Status.{Status}
+use Rattle.command_ends.specs.declared.status.Status.{Status}
 use Rattle.apply_laws.specs.StoreRuns.{StoreParts, with_version, HoldsRun}
 use Rattle.apply_laws.specs.TwoCalls.{parts_of, LeavesRun, FinishesRun, StaysUnopened, ContinuesRun}
 use Rattle.apply_laws.proofs.LeftPayloads.{LeavesPayloads, leaves_payloads}

@@ -1,4 +1,5 @@
 -- What holds of each command, from what holds of the order that was read. And nothing was done: memory ran out at the words.
+use Rattle.command_ends.specs.Statuses.{IsFinished}
 use Rattle.std.proofs.Common.{◌≡◌, inl, inr, ℕ, List, [], true, false, true≢false, Option, Some, None, IfSome, refl, sym, ap, subst, ◌∙◌, arith}
 use Rattle.std.proofs.KnownBytes.{Appends-nil, Consumes-nil}
 use Rattle.std.proofs.lemmas.Option.{same_Some}
@@ -9,16 +10,16 @@ use Rattle.lens_io.specs.declared.source.Source as OfSource
 use Rattle.script_run.proofs.ScriptEndsHold.{ended_never}
 use Rattle.script_run.specs.ScriptEnds.{EveryRunStaysInStep}
 use Rattle.script_run.specs.declared.script_state.ScriptState as OfScript
-use Rattle.script_run.specs.declared.status.ScriptStatus.TheVariants as scripts
+use Rattle.command_ends.specs.declared.status.Status.TheVariants as scripts
 use Rattle.store_run.proofs.Moments.{leaves_same}
 use Rattle.store_run.proofs.Openings.{unwritten_none}
 use Rattle.store_run.specs.InTime.{EndsAtSource}
 use Rattle.store_run.specs.Refusals.{IsUnwritten}
 use Rattle.store_run.specs.declared.refusals.StoreRefusal.{StoreRefusal}
-use Rattle.store_run.specs.declared.status.Status.TheVariants as store
+use Rattle.command_ends.specs.declared.status.Status.TheVariants as store
 use Rattle.store_new.specs.Command.{Command}
 use Rattle.store_new.specs.NewEnds.{Ends, Completes, RefusesAtOnce}
-use Rattle.store_new.specs.declared.status.MakingStatus.TheVariants as making
+use Rattle.command_ends.specs.declared.status.Status.TheVariants as making
 use Rattle.store_new.specs.Import.{import_command}
 use Rattle.store_new.specs.Init.{init_command}
 use Rattle.store_session.specs.StoredStates.{StoredState}
@@ -32,12 +33,11 @@ use Rattle.editlens_main.specs.OrderEnds.{EndsOrder}
 use Rattle.editlens_main.specs.Packs.{Packs}
 use Rattle.editlens_main.specs.Runs.{RunsScript}
 use Rattle.editlens_main.specs.Shows.{ReadsStore}
-use Rattle.editlens_main.specs.Statuses.{IsFinished}
 use Rattle.editlens_main.specs.StoreStatus.{MakesAs}
 use Rattle.editlens_main.specs.Stores.{RefusesStore}
 use Rattle.editlens_main.specs.Undoes.{Undoes}
-use Rattle.editlens_main.specs.declared.status.Status.{Status}
-use Rattle.editlens_main.specs.declared.status.Status.TheVariants.{NoMemory}
+use Rattle.command_ends.specs.declared.status.Status.{Status}
+use Rattle.command_ends.specs.declared.status.Status.TheVariants.{NoMemory}
 use Rattle.editlens_main.proofs.ScriptStatuses.{script_never}
 use Rattle.editlens_main.proofs.StoresInStep.{stays_in_step}
 

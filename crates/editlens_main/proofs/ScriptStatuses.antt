@@ -1,17 +1,17 @@
 -- Ends of the commands over a script, as the program has them.
+use Rattle.command_ends.specs.Statuses.{IsFinished as IsScriptFinished, IsFinished}
 use Rattle.std.proofs.Common.{◌≡◌, inl, inr, ◌≤◌, ℕ, List, length, Option, Some, None, IfSome, refl}
 use Rattle.script_input.specs.declared.limits.TheConstants.{MOST_BYTES}
-use Rattle.script_run.specs.ScriptEnds.{IsComplete, IsFinished as IsScriptFinished}
+use Rattle.script_run.specs.ScriptEnds.{IsComplete}
 use Rattle.script_run.specs.declared.script_state.ScriptState as OfScript
-use Rattle.script_run.specs.declared.status.ScriptStatus.{ScriptStatus}
-use Rattle.script_run.specs.declared.status.ScriptStatus.TheVariants as ending
-use Rattle.editlens_main.specs.Statuses.{IsFinished}
-use Rattle.editlens_main.specs.ScriptStatus.{status_of_script, ScriptAs}
-use Rattle.editlens_main.specs.declared.status.Status.{Status}
-use Rattle.editlens_main.specs.declared.status.Status.TheVariants.{NoMemory}
+use Rattle.command_ends.specs.declared.status.Status.{Status}
+use Rattle.command_ends.specs.declared.status.Status.TheVariants as ending
+use Rattle.editlens_main.specs.Status.{status_of_script, ScriptAs}
+use Rattle.command_ends.specs.declared.status.Status.{Status}
+use Rattle.command_ends.specs.declared.status.Status.TheVariants.{NoMemory}
 
 -- a command that came to its end did so as a command over a script
-pub finished_script : (status : Status) (ended : ScriptStatus) → status ≡ status_of_script ended → IsFinished status → IsScriptFinished ended
+pub finished_script : (status : Status) (ended : Status) → status ≡ status_of_script ended → IsFinished status → IsScriptFinished ended
 finished_script status ending.Done is h = inl refl
 finished_script status ending.SomeRefused is h = inr refl
 finished_script status ending.ProgramRefused is (inl e) = cc
@@ -27,7 +27,7 @@ finished_script status ending.NoMemory is (inr e) = cc
 
 module _ {H : Type 0} (script : OfScript.Ghosts H) (left : Option (List ℕ)) (R F : Type 0) where
   -- the completeness of a command over a script, for its status
-  pub script_complete : (ended : ScriptStatus) (status : Status) → status ≡ status_of_script ended
+  pub script_complete : (ended : Status) (status : Status) → status ≡ status_of_script ended
       → IfSome left (λ bytes. length bytes ≤ MOST_BYTES → (R → ⊥) → (F → ⊥) → IsComplete script bytes ended)
       → IfSome left (λ bytes. length bytes ≤ MOST_BYTES → (R → ⊥) → (F → ⊥) → ScriptAs (IsComplete script bytes) status)
   script_complete ended status is h = by_left left h where

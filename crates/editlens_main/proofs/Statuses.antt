@@ -1,11 +1,12 @@
 -- What holds of a status that is among some, and what a command that may end so never ends with.
+use Rattle.command_ends.specs.Statuses.{IsAmong}
 use Rattle.std.proofs.Common.{◌≡◌, inl, inr, List, [], ◌∷◌, Option, Some, None, false, refl, sym, subst}
 use Rattle.command_words.specs.declared.orders.Order.{Order}
 use Rattle.command_words.specs.declared.orders.Order.TheVariants as order
 use Rattle.editlens_main.specs.Commands.{uses_disk}
-use Rattle.editlens_main.specs.Statuses.{IsAmong, MayEnd, script_statuses, making_statuses, store_statuses, quiet_statuses, gen_statuses, statuses_of}
-use Rattle.editlens_main.specs.declared.status.Status.{Status}
-use Rattle.editlens_main.specs.declared.status.Status.TheVariants.{Usage, SourceFault, DiskFault, NoMemory}
+use Rattle.editlens_main.specs.Statuses.{MayEnd, script_statuses, making_statuses, store_statuses, quiet_statuses, gen_statuses, statuses_of}
+use Rattle.command_ends.specs.declared.status.Status.{Status}
+use Rattle.command_ends.specs.declared.status.Status.TheVariants.{Usage, SourceFault, DiskFault, NoMemory}
 
 -- each of these has P
 abbrev Each : (Status → Type 0) → List Status → Type 0

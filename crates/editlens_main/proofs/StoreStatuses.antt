@@ -1,21 +1,20 @@
 -- Ends of commands over a store, as the program has them.
+use Rattle.command_ends.specs.Statuses.{IsFinished as IsStoreFinished, IsFinished}
 use Rattle.std.proofs.Common.{◌≡◌, ◌⊎◌, inl, inr, ap, ◌∙◌, ◌<◌, ℕ, List, length, Option, Some, None, IfSome, refl}
 use Rattle.lens_io.specs.declared.disk.Disk as OfDisk
 use Rattle.lens_io.specs.declared.sink.Sink as OfSink
 use Rattle.lens_io.specs.declared.source.Source as OfSource
 use Rattle.store_new.specs.NewEnds.{GivesLine, KeepsStore}
-use Rattle.store_new.specs.declared.status.MakingStatus.{MakingStatus}
-use Rattle.store_new.specs.declared.status.MakingStatus.TheVariants as making
+use Rattle.command_ends.specs.declared.status.Status.{Status}
+use Rattle.command_ends.specs.declared.status.Status.TheVariants as making
 use Rattle.store_run.specs.Refusals.{IsUnwritten, refusal_line}
 use Rattle.store_run.specs.declared.refusals.StoreRefusal.TheVariants.{LogExists}
-use Rattle.store_run.specs.ApplyEnds.{IsFinished as IsStoreFinished}
-use Rattle.store_run.specs.declared.status.Status.{Status as StoreStatus}
-use Rattle.store_run.specs.declared.status.Status.TheVariants as store
-use Rattle.editlens_main.specs.Statuses.{IsFinished}
+use Rattle.command_ends.specs.declared.status.Status.{Status as StoreStatus}
+use Rattle.command_ends.specs.declared.status.Status.TheVariants as store
 use Rattle.editlens_main.specs.MakesStore.{FindsLog}
 use Rattle.editlens_main.specs.StoreStatus.{status_of_store, status_of_making, MakesAs}
-use Rattle.editlens_main.specs.declared.status.Status.{Status}
-use Rattle.editlens_main.specs.declared.status.Status.TheVariants.{Done, StoreRefused, NoMemory}
+use Rattle.command_ends.specs.declared.status.Status.{Status}
+use Rattle.command_ends.specs.declared.status.Status.TheVariants.{Done, StoreRefused, NoMemory}
 
 -- a command that came to its end did so as a command over a store
 pub finished_store : (status : Status) (ended : StoreStatus) → status ≡ status_of_store ended → IsFinished status → IsStoreFinished ended
@@ -62,8 +61,8 @@ unfinished status store.InputTooLong is (inl e) = cc
 unfinished status store.InputTooLong is (inr e) = cc
 
 module _ {S K D : Type 0} (source : OfSource.Ghosts S) (sink : OfSink.Ghosts K) (disk : OfDisk.Ghosts D) (old new : S × K × D)
-    (ended : MakingStatus) (status : Status) (is : status ≡ status_of_making ended) where
-  abbrev Line : MakingStatus → Type 0
+    (ended : Status) (status : Status) (is : status ≡ status_of_making ended) where
+  abbrev Line : Status → Type 0
   Line e = GivesLine sink old.1 new.1 (refusal_line LogExists) making.StoreRefused e
 
   -- what a command that makes a store does over a disk that is not empty, for its status

@@ -1,4 +1,5 @@
 -- How commands end over devices that do not fail.
+use Rattle.command_ends.specs.Statuses.{IsFinished as IsScriptFinished, IsFinished}
 use Rattle.std.proofs.Common.{◌≡◌, ◌⊎◌, inl, inr, ℕ, ◌+◌, ◌≤◌, List, [], length, Option, Some, None, refl, sym, ap, subst, ◌∙◌, arith}
 use Rattle.std.specs.Io.KnownBytes.{Consumes}
 use Rattle.std.specs.Prelude.{IfSome, IsNone}
@@ -11,13 +12,13 @@ use Rattle.lens_io.specs.declared.source.Source as OfSource
 use Rattle.store_new.specs.Command.{Command}
 use Rattle.store_new.specs.NewEnds.{Ends}
 use Rattle.store_new.specs.Scripts.{IsAcceptedPart}
-use Rattle.store_new.specs.declared.status.MakingStatus.{MakingStatus}
-use Rattle.store_new.specs.declared.status.MakingStatus.TheVariants as making
+use Rattle.command_ends.specs.declared.status.Status.{Status}
+use Rattle.command_ends.specs.declared.status.Status.TheVariants as making
 use Rattle.store_new.proofs.CommandStatuses.{by_end}
-use Rattle.script_run.specs.ScriptEnds.{Stops, Reports, IsComplete, IsFinished as IsScriptFinished}
+use Rattle.script_run.specs.ScriptEnds.{Stops, Reports, IsComplete}
 use Rattle.script_run.specs.declared.script_state.ScriptState as OfScript
-use Rattle.script_run.specs.declared.status.ScriptStatus.{ScriptStatus}
-use Rattle.script_run.specs.declared.status.ScriptStatus.TheVariants as script
+use Rattle.command_ends.specs.declared.status.Status.{Status}
+use Rattle.command_ends.specs.declared.status.Status.TheVariants as script
 use Rattle.script_run.proofs.Complete.{complete}
 use Rattle.store_session.specs.StoredStates.{StoredState}
 use Rattle.store_session.specs.contracts.instance.StoreSessionStoredSession.TheImpl.{ghosts as sessions}
@@ -27,18 +28,17 @@ use Rattle.store_run.specs.Refusals.{EndsRefused}
 use Rattle.store_run.specs.Rooms.{RunHasNoRoom, IsCauseInRoom, PackHasNoRoom, IsPackCauseInRoom}
 use Rattle.store_run.specs.ViewCall.{Views}
 use Rattle.store_run.specs.declared.refusals.StoreRefusal.{StoreRefusal}
-use Rattle.store_run.specs.declared.status.Status.TheVariants as store
-use Rattle.editlens_main.specs.ScriptStatus.{status_of_script, ScriptAs}
-use Rattle.editlens_main.specs.Statuses.{IsFinished}
+use Rattle.command_ends.specs.declared.status.Status.TheVariants as store
+use Rattle.editlens_main.specs.Status.{status_of_script, ScriptAs}
 use Rattle.editlens_main.specs.StoreStatus.{status_of_store, status_of_making, EndsAs, MakesAs}
 use Rattle.editlens_main.specs.SureEnds.{EndsInRoom, StoredInRoom, MadeInRoom}
-use Rattle.editlens_main.specs.declared.status.Status.{Status}
-use Rattle.editlens_main.specs.declared.status.Status.TheVariants.{Done, SomeRefused, ProgramRefused, StoreRefused, SourceFault, SinkFault, DiskFault, InputTooLong, NoMemory}
+use Rattle.command_ends.specs.declared.status.Status.{Status}
+use Rattle.command_ends.specs.declared.status.Status.TheVariants.{Done, SomeRefused, ProgramRefused, StoreRefused, SourceFault, SinkFault, DiskFault, InputTooLong, NoMemory}
 use Rattle.script_input.proofs.TakenParts.{few_taken}
 
 -- ---- the status of a script
 
-abbrev script_at : Status → Option ScriptStatus
+abbrev script_at : Status → Option Status
 script_at Done = Some script.Done
 script_at SomeRefused = Some script.SomeRefused
 script_at ProgramRefused = Some script.ProgramRefused
@@ -48,7 +48,7 @@ script_at InputTooLong = Some script.InputTooLong
 script_at NoMemory = Some script.NoMemory
 script_at status = None
 
-at_own : (ended : ScriptStatus) → script_at (status_of_script ended) ≡ Some ended
+at_own : (ended : Status) → script_at (status_of_script ended) ≡ Some ended
 at_own script.Done = refl
 at_own script.SomeRefused = refl
 at_own script.ProgramRefused = refl
@@ -57,7 +57,7 @@ at_own script.SinkFault = refl
 at_own script.InputTooLong = refl
 at_own script.NoMemory = refl
 
-same_script : (status : Status) (e f : ScriptStatus) → status ≡ status_of_script e → status ≡ status_of_script f → f ≡ e
+same_script : (status : Status) (e f : Status) → status ≡ status_of_script e → status ≡ status_of_script f → f ≡ e
 same_script status e f x y = same_Some f e (sym (at_own f) ∙ (ap script_at (sym y ∙ x) ∙ at_own e))
 
 -- ---- each command
@@ -125,7 +125,7 @@ module _ (status : Status) (is_full : Type 0) (source : status ≡ SourceFault �
       (refuses : (bytes line : List ℕ) → command.refuses bytes line → IsAcceptedPart bytes) (old new : S × K × D)
       (bytes : List ℕ) (known : devices.left old.0 ≡ Some bytes) (empty : disk.content old.2 ≡ Some []) (few : length bytes ≤ MOST_BYTES)
       (no_room : Type 0) (full : status ≡ DiskFault → no_room) where
-    no_device : (ended : MakingStatus) → status ≡ status_of_making ended → Ends devices gifts disk command old new ended → (ended ≡ making.SinkFault → ⊥) → (ended ≡ making.DiskFault → ⊥)
+    no_device : (ended : Status) → status ≡ status_of_making ended → Ends devices gifts disk command old new ended → (ended ≡ making.SinkFault → ⊥) → (ended ≡ making.DiskFault → ⊥)
         → MadeInRoom status is_full command bytes no_room
     no_device ended is ends no_sink no_disk =
         inl (inl (
@@ -150,20 +150,20 @@ module _ (status : Status) (is_full : Type 0) (source : status ≡ SourceFault �
   module _ {H S K : Type 0} (meaning : OfScript.Ghosts H) (devices : OfSource.Ghosts S) (gifts : OfSink.Ghosts K) (old new : S × K)
       (bytes : List ℕ) (known : devices.left old.0 ≡ Some bytes) (few : length bytes ≤ MOST_BYTES)
       (reports : IsFinished status → ScriptAs (Reports meaning devices gifts old new) status) where
-    finished : (ended : ScriptStatus) → status ≡ status_of_script ended → IsScriptFinished ended → IsFinished status
+    finished : (ended : Status) → status ≡ status_of_script ended → IsScriptFinished ended → IsFinished status
     finished ended is (inl e) = inl (is ∙ ap status_of_script e)
     finished ended is (inr e) = inr (is ∙ ap status_of_script e)
 
-    reported : (ended : ScriptStatus) → status ≡ status_of_script ended → IsScriptFinished ended → Reports meaning devices gifts old new ended
+    reported : (ended : Status) → status ≡ status_of_script ended → IsScriptFinished ended → Reports meaning devices gifts old new ended
     reported ended is h =
         let r = reports (finished ended is h) in
         subst (Reports meaning devices gifts old new) (same_script status ended r.0 is r.1) r.2
 
     -- the command is complete, unless the sink failed
-    abbrev CompletesUnless : List ℕ → ScriptStatus → Type 0
+    abbrev CompletesUnless : List ℕ → Status → Type 0
     CompletesUnless b ended = length b ≤ MOST_BYTES → (⊥ → ⊥) → ((ended ≡ script.SinkFault) → ⊥) → IsComplete meaning b ended
 
-    no_sink_fault : (ended : ScriptStatus) → status ≡ status_of_script ended → Stops meaning devices gifts old new ended → (ended ≡ script.SinkFault → ⊥)
+    no_sink_fault : (ended : Status) → status ≡ status_of_script ended → Stops meaning devices gifts old new ended → (ended ≡ script.SinkFault → ⊥)
         → EndsInRoom status is_full (ScriptAs (IsComplete meaning bytes) status)
     no_sink_fault ended is stops no_sink =
         let h : IfSome (Some bytes) (λ b. CompletesUnless b ended) =

@@ -1,5 +1,6 @@
 -- What `apply` promises. What the call comes to, what was written and stored at each status, what a crash leaves and when a line is answered is
 -- defined in store_run, for the sessions of store_session. Read it from the end: `Applies`, then `GoesOn`.
+use Rattle.command_ends.specs.Statuses.{IsFinished}
 use Rattle.std.specs.Prelude.{◌≡◌, ◌⊎◌}
 use Rattle.lens_io.specs.Calls.{IsUnasked, SourceFailed, SinkFailed, DiskFailed}
 use Rattle.lens_io.specs.declared.disk.Disk as OfDisk
@@ -9,11 +10,10 @@ use Rattle.store_run.specs.ApplyCall.{ContinuesCall, IsUnopened, IsSafeCall, End
 use Rattle.store_run.specs.InTime.{AnswersInTime}
 use Rattle.store_run.specs.Rooms.{most_bytes, TakesTooMany, RunHasNoRoom, IsApplyCause}
 use Rattle.store_session.specs.contracts.instance.StoreSessionStoredSession.TheImpl.{ghosts as sessions}
-use Rattle.editlens_main.specs.Statuses.{IsFinished}
 use Rattle.editlens_main.specs.Stores.{Store, RefusedStore, StaysInStep, RefusesStore}
 use Rattle.editlens_main.specs.StoreStatus.{EndsAs}
-use Rattle.editlens_main.specs.declared.status.Status.{Status}
-use Rattle.editlens_main.specs.declared.status.Status.TheVariants.{DiskFault, NoMemory}
+use Rattle.command_ends.specs.declared.status.Status.{Status}
+use Rattle.command_ends.specs.declared.status.Status.TheVariants.{DiskFault, NoMemory}
 
 module _ {S K D : Type 0} (source : OfSource.Ghosts S) (sink : OfSink.Ghosts K) (disk : OfDisk.Ghosts D) (old new : S × K × D) (status : Status) where
   -- the store was not opened, and nothing has changed

@@ -6,8 +6,8 @@ use Rattle.std.specs.Io.KnownBytes.{Appends}
 use Rattle.lens_io.specs.Content.{AppendsFront}
 use Rattle.generated_run.specs.Journal.{summary_of}
 use Rattle.generated_run.specs.declared.summary.Summary.{Summary}
-use Rattle.editlens_main.specs.declared.status.Status.{Status}
-use Rattle.editlens_main.specs.declared.status.Status.TheVariants.{Done, SinkFault, NoMemory}
+use Rattle.command_ends.specs.declared.status.Status.{Status}
+use Rattle.command_ends.specs.declared.status.Status.TheVariants.{Done, SinkFault, NoMemory}
 
 -- `accepted A` and `refused R`
 abbrev pub count_lines : Summary → List ℕ

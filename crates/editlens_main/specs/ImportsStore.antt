@@ -8,8 +8,8 @@ use Rattle.store_new.specs.NewRooms.{ScriptHasNoRoom}
 use Rattle.store_new.specs.Import.{Imports, RefusesImport, import_command}
 use Rattle.editlens_main.specs.MakesStore.{FindsLog}
 use Rattle.editlens_main.specs.StoreStatus.{MakesAs}
-use Rattle.editlens_main.specs.declared.status.Status.{Status}
-use Rattle.editlens_main.specs.declared.status.Status.TheVariants.{Done, SomeRefused, DiskFault}
+use Rattle.command_ends.specs.declared.status.Status.{Status}
+use Rattle.command_ends.specs.declared.status.Status.TheVariants.{Done, SomeRefused, DiskFault}
 
 module _ {S K D : Type 0} (source : OfSource.Ghosts S) (sink : OfSink.Ghosts K) (disk : OfDisk.Ghosts D) (old new : S × K × D) (status : Status) where
   pub record ImportsStore : Type 0 where

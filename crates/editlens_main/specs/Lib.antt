@@ -7,7 +7,7 @@ pub mod MakesStore
 pub mod OrderEnds
 pub mod Packs
 pub mod Runs
-pub mod ScriptStatus
+pub mod Status
 pub mod Shows
 pub mod Status
 pub mod Statuses

@@ -5,13 +5,13 @@ use Rattle.lens_io.specs.declared.sink.Sink as OfSink
 use Rattle.lens_io.specs.declared.source.Source as OfSource
 use Rattle.store_new.specs.NewEnds.{Ends, GivesLine, Completes, RefusesAtOnce}
 use Rattle.store_new.specs.NewRooms.{ScriptHasNoRoom}
-use Rattle.store_new.specs.declared.status.MakingStatus.TheVariants as making
+use Rattle.command_ends.specs.declared.status.Status.TheVariants as making
 use Rattle.store_new.specs.Init.{Starts, init_command}
 use Rattle.store_run.specs.Refusals.{IsUnwritten, refusal_line}
 use Rattle.store_run.specs.declared.refusals.StoreRefusal.TheVariants.{LogExists}
 use Rattle.editlens_main.specs.StoreStatus.{MakesAs}
-use Rattle.editlens_main.specs.declared.status.Status.{Status}
-use Rattle.editlens_main.specs.declared.status.Status.TheVariants.{Done, DiskFault}
+use Rattle.command_ends.specs.declared.status.Status.{Status}
+use Rattle.command_ends.specs.declared.status.Status.TheVariants.{Done, DiskFault}
 
 module _ {S K D : Type 0} (source : OfSource.Ghosts S) (sink : OfSink.Ghosts K) (disk : OfDisk.Ghosts D) (old new : S × K × D) (status : Status) where
   -- If the disk is not empty, nothing is taken from the source and nothing is written to the disk. The line `store refused: log-exists`

@@ -1,4 +1,5 @@
 -- What `pack` promises. Read it from the end: `Packs`, then `Keeps`.
+use Rattle.command_ends.specs.Statuses.{IsFinished}
 use Rattle.std.specs.Prelude.{◌≡◌, ◌⊎◌}
 use Rattle.lens_io.specs.Calls.{SinkFailed, DiskFailed}
 use Rattle.lens_io.specs.declared.disk.Disk as OfDisk
@@ -7,11 +8,10 @@ use Rattle.store_run.specs.PackCall.{PacksCall, IsUnpacked, IsSafePack, EndsPack
 use Rattle.store_run.specs.Rooms.{most_bytes, PackHasNoRoom, IsPackCause}
 use Rattle.store_session.specs.Journals.{IsStateInStep}
 use Rattle.store_session.specs.contracts.instance.StoreSessionStoredSession.TheImpl.{ghosts as sessions}
-use Rattle.editlens_main.specs.Statuses.{IsFinished}
 use Rattle.editlens_main.specs.Stores.{Store, RefusedStore, RefusesStore}
 use Rattle.editlens_main.specs.StoreStatus.{EndsAs}
-use Rattle.editlens_main.specs.declared.status.Status.{Status}
-use Rattle.editlens_main.specs.declared.status.Status.TheVariants.{Done, DiskFault, NoMemory}
+use Rattle.command_ends.specs.declared.status.Status.{Status}
+use Rattle.command_ends.specs.declared.status.Status.TheVariants.{Done, DiskFault, NoMemory}
 
 module _ {K D : Type 0} (sink : OfSink.Ghosts K) (disk : OfDisk.Ghosts D) (old new : K × D) (status : Status) where
   -- the store was not opened, and nothing has changed

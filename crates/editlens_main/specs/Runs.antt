@@ -1,6 +1,7 @@
 -- What `run`, `check`, `hub` and `link` promise: the same, of scripts that mean different things. What a script means to each is said by an
 -- `impl`: of `PairRun` and of `TypesShown` in pair_run, of `HubRun` in hub_run, and of `LinkRun` in link_run. What the report of a script is,
 -- and what holds at each status, is defined in script_run. Read it from the end: `Runs` and the other three, then `RunsScript`.
+use Rattle.command_ends.specs.Statuses.{IsFinished}
 use Rattle.std.specs.Prelude.{◌≤◌, length, IfSome}
 use Rattle.hub_run.specs.HubScript.{hub_script}
 use Rattle.script_input.specs.declared.limits.TheConstants.{MOST_BYTES}
@@ -11,9 +12,8 @@ use Rattle.link_run.specs.LinkScript.{link_script}
 use Rattle.pair_run.specs.Scripts.{pair_script, types_script}
 use Rattle.script_run.specs.ScriptEnds.{IsComplete, Reports, Stops}
 use Rattle.script_run.specs.declared.script_state.ScriptState as OfScript
-use Rattle.editlens_main.specs.ScriptStatus.{ScriptAs}
-use Rattle.editlens_main.specs.Statuses.{IsFinished}
-use Rattle.editlens_main.specs.declared.status.Status.{Status}
+use Rattle.editlens_main.specs.Status.{ScriptAs}
+use Rattle.command_ends.specs.declared.status.Status.{Status}
 
 -- What is said of a script, of its states and of what answers a line is given by `script`.
 pub record RunsScript {H S K : Type 0} (script : OfScript.Ghosts H) (source : OfSource.Ghosts S) (sink : OfSink.Ghosts K) (old new : S × K) (status : Status) : Type 0 where

@@ -1,11 +1,11 @@
 -- The status of the program for the end of a command over a script.
 use Rattle.std.specs.Prelude.{◌≡◌}
-use Rattle.script_run.specs.declared.status.ScriptStatus.{ScriptStatus}
-use Rattle.script_run.specs.declared.status.ScriptStatus.TheVariants as script
-use Rattle.editlens_main.specs.declared.status.Status.{Status}
-use Rattle.editlens_main.specs.declared.status.Status.TheVariants.{Done, SomeRefused, ProgramRefused, SourceFault, SinkFault, InputTooLong, NoMemory}
+use Rattle.command_ends.specs.declared.status.Status.{Status}
+use Rattle.command_ends.specs.declared.status.Status.TheVariants as script
+use Rattle.command_ends.specs.declared.status.Status.{Status}
+use Rattle.command_ends.specs.declared.status.Status.TheVariants.{Done, SomeRefused, ProgramRefused, SourceFault, SinkFault, InputTooLong, NoMemory}
 
-abbrev pub status_of_script : ScriptStatus → Status
+abbrev pub status_of_script : Status → Status
 status_of_script script.Done = Done
 status_of_script script.SomeRefused = SomeRefused
 status_of_script script.ProgramRefused = ProgramRefused
@@ -15,5 +15,5 @@ status_of_script script.InputTooLong = InputTooLong
 status_of_script script.NoMemory = NoMemory
 
 -- the status is that of an end of a command over a script, and this holds of that end
-abbrev pub ScriptAs : (ScriptStatus → Type 0) → Status → Type 0
-ScriptAs holds status = (ended : ScriptStatus) × (status ≡ status_of_script ended) × holds ended
+abbrev pub ScriptAs : (Status → Type 0) → Status → Type 0
+ScriptAs holds status = (ended : Status) × (status ≡ status_of_script ended) × holds ended

@@ -11,8 +11,8 @@ use Rattle.store_session.specs.Journals.{IsStateInStep}
 use Rattle.store_session.specs.StoredStates.{StoredState, count_of, state_text}
 use Rattle.editlens_main.specs.Stores.{Store, RefusedStore, RefusesStore}
 use Rattle.editlens_main.specs.StoreStatus.{EndsAs}
-use Rattle.editlens_main.specs.declared.status.Status.{Status}
-use Rattle.editlens_main.specs.declared.status.Status.TheVariants.{Done, DiskFault, NoMemory}
+use Rattle.command_ends.specs.declared.status.Status.{Status}
+use Rattle.command_ends.specs.declared.status.Status.TheVariants.{Done, DiskFault, NoMemory}
 
 -- what `show` writes of a state, and what `verify` writes of the payloads that stand for it
 abbrev pub shown : StoredState → List (List ℕ) → List ℕ

@@ -1,7 +1,7 @@
 -- The exit code of each status.
 use Rattle.std.specs.Prelude.{ℕ}
-use Rattle.editlens_main.specs.declared.status.Status.{Status}
-use Rattle.editlens_main.specs.declared.status.Status.TheVariants.{Done, SomeRefused, Usage, ProgramRefused, StoreRefused, SourceFault, SinkFault, DiskFault, InputTooLong, NoMemory}
+use Rattle.command_ends.specs.declared.status.Status.{Status}
+use Rattle.command_ends.specs.declared.status.Status.TheVariants.{Done, SomeRefused, Usage, ProgramRefused, StoreRefused, SourceFault, SinkFault, DiskFault, InputTooLong, NoMemory}
 
 abbrev pub code_of : Status → ℕ
 code_of Done = 0

@@ -1,11 +1,11 @@
 -- The status of the program for the end of a command over a store, and for the end of one that makes a store.
 use Rattle.std.specs.Prelude.{◌≡◌}
-use Rattle.store_run.specs.declared.status.Status.{Status as StoreStatus}
-use Rattle.store_run.specs.declared.status.Status.TheVariants as store
-use Rattle.store_new.specs.declared.status.MakingStatus.{MakingStatus}
-use Rattle.store_new.specs.declared.status.MakingStatus.TheVariants as making
-use Rattle.editlens_main.specs.declared.status.Status.{Status}
-use Rattle.editlens_main.specs.declared.status.Status.TheVariants.{Done, SomeRefused, ProgramRefused, StoreRefused, SourceFault, SinkFault, DiskFault, InputTooLong, NoMemory}
+use Rattle.command_ends.specs.declared.status.Status.{Status as StoreStatus}
+use Rattle.command_ends.specs.declared.status.Status.TheVariants as store
+use Rattle.command_ends.specs.declared.status.Status.{Status}
+use Rattle.command_ends.specs.declared.status.Status.TheVariants as making
+use Rattle.command_ends.specs.declared.status.Status.{Status}
+use Rattle.command_ends.specs.declared.status.Status.TheVariants.{Done, SomeRefused, ProgramRefused, StoreRefused, SourceFault, SinkFault, DiskFault, InputTooLong, NoMemory}
 
 abbrev pub status_of_store : StoreStatus → Status
 status_of_store store.Done = Done
@@ -17,7 +17,7 @@ status_of_store store.DiskFault = DiskFault
 status_of_store store.InputTooLong = InputTooLong
 status_of_store store.NoMemory = NoMemory
 
-abbrev pub status_of_making : MakingStatus → Status
+abbrev pub status_of_making : Status → Status
 status_of_making making.Done = Done
 status_of_making making.SomeRefused = SomeRefused
 status_of_making making.ProgramRefused = ProgramRefused
@@ -33,5 +33,5 @@ abbrev pub EndsAs : (StoreStatus → Type 0) → Status → Type 0
 EndsAs holds status = (ended : StoreStatus) × (status ≡ status_of_store ended) × holds ended
 
 -- the same of an end of a command that makes a store
-abbrev pub MakesAs : (MakingStatus → Type 0) → Status → Type 0
-MakesAs holds status = (ended : MakingStatus) × (status ≡ status_of_making ended) × holds ended
+abbrev pub MakesAs : (Status → Type 0) → Status → Type 0
+MakesAs holds status = (ended : Status) × (status ≡ status_of_making ended) × holds ended

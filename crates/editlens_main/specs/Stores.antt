@@ -12,7 +12,7 @@ use Rattle.store_run.specs.Stores as stores
 use Rattle.store_run.specs.declared.session.Answer.{Answer}
 use Rattle.store_run.specs.declared.refusals.StoreRefusal.{StoreRefusal}
 use Rattle.editlens_main.specs.StoreStatus.{EndsAs}
-use Rattle.editlens_main.specs.declared.status.Status.{Status}
+use Rattle.command_ends.specs.declared.status.Status.{Status}
 
 -- The bytes of the disk are known, and are a log of payloads that stand for a state of store_session.
 abbrev pub Store : {D : Type 0} → OfDisk.Ghosts D → D → Type 0

@@ -5,8 +5,8 @@ use Rattle.store_new.specs.Command.{Command}
 use Rattle.store_new.specs.NewEnds.{IsComplete}
 use Rattle.store_run.specs.Rooms.{most_bytes}
 use Rattle.editlens_main.specs.StoreStatus.{MakesAs}
-use Rattle.editlens_main.specs.declared.status.Status.{Status}
-use Rattle.editlens_main.specs.declared.status.Status.TheVariants.{StoreRefused, SinkFault, DiskFault}
+use Rattle.command_ends.specs.declared.status.Status.{Status}
+use Rattle.command_ends.specs.declared.status.Status.TheVariants.{StoreRefused, SinkFault, DiskFault}
 
 -- `is_full` says that the sink's room is full.
 module _ (status : Status) (is_full : Type 0) where

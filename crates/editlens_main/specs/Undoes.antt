@@ -7,15 +7,15 @@ use Rattle.lens_io.specs.declared.sink.Sink as OfSink
 use Rattle.store_run.specs.Refusals.{IsUnwritten, IsOpening, FailsUnopened}
 use Rattle.store_run.specs.Rooms.{most_bytes}
 use Rattle.store_run.specs.StoreEnds.{StoresBehind}
-use Rattle.store_run.specs.declared.status.Status.{Status as StoreStatus}
+use Rattle.command_ends.specs.declared.status.Status.{Status as StoreStatus}
 use Rattle.store_undo.specs.UndoCall.{UndoesCall, IsUntouched, IsSafeUndo, HoldsNow}
 use Rattle.store_undo.specs.UndoCauses.{UndoHasNoRoom, IsUndoCause}
 use Rattle.store_undo.specs.UndoRecords.{undo_text, version_due, snapshot_text}
 use Rattle.store_undo.specs.UndoStores.{StoreToUndo, RefusedToUndo}
 use Rattle.editlens_main.specs.Stores.{RefusesStore}
 use Rattle.editlens_main.specs.StoreStatus.{EndsAs}
-use Rattle.editlens_main.specs.declared.status.Status.{Status}
-use Rattle.editlens_main.specs.declared.status.Status.TheVariants.{Done, StoreRefused, DiskFault, NoMemory}
+use Rattle.command_ends.specs.declared.status.Status.{Status}
+use Rattle.command_ends.specs.declared.status.Status.TheVariants.{Done, StoreRefused, DiskFault, NoMemory}
 
 module _ (count : ℕ) {K D : Type 0} (sink : OfSink.Ghosts K) (disk : OfDisk.Ghosts D) (old new : K × D) (status : Status) where
   -- What was written and stored: the log was opened, and from there its records were stored and its lines written, or the call was

@@ -1,9 +1,10 @@
 //! The commands `init` and `import`, which make a store. They are the calls of store_new and of store_new.
+ghost use Rattle.command_ends.specs.Statuses.{IsAmong};
 ghost use Rattle.std.specs.Prelude.{◌≡◌};
 ghost use Rattle.lens_io.specs.Calls.{SourceFailed, SinkFailed, DiskFailed};
 ghost use Rattle.editlens_main.specs.ImportsStore.{ImportsStore};
 ghost use Rattle.editlens_main.specs.MakesStore.{MakesStore};
-ghost use Rattle.editlens_main.specs.Statuses.{IsAmong, making_statuses};
+ghost use Rattle.editlens_main.specs.Statuses.{making_statuses};
 
 use crate::Status;
 use lens_io::{Disk, Sink, Source};

@@ -1,9 +1,10 @@
 //! The commands over a script: `run`, `check`, `hub` and `link`. All but `hub`, whose program part has a program for each view, are the call
 //! of script_run for what a script means to them.
+ghost use Rattle.command_ends.specs.Statuses.{IsAmong};
 ghost use Rattle.std.specs.Prelude.{◌≡◌};
 ghost use Rattle.lens_io.specs.Calls.{SourceFailed, SinkFailed};
 ghost use Rattle.editlens_main.specs.Runs.{Runs, Checks, RunsHub, RunsLink};
-ghost use Rattle.editlens_main.specs.Statuses.{IsAmong, script_statuses};
+ghost use Rattle.editlens_main.specs.Statuses.{script_statuses};
 
 use crate::Status;
 use hub_run::run_hub;

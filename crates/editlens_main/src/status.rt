@@ -1,13 +1,14 @@
 // How a run ends.
+ghost use Rattle.command_ends.specs.Statuses.{IsAmong};
 ghost use Rattle.std.specs.Prelude.{◌≡◌};
-ghost use Rattle.editlens_main.specs.ScriptStatus.{status_of_script};
+ghost use Rattle.editlens_main.specs.Status.{status_of_script};
 ghost use Rattle.editlens_main.specs.Status.{code_of};
-ghost use Rattle.editlens_main.specs.Statuses.{IsAmong, making_statuses, script_statuses, store_statuses};
+ghost use Rattle.editlens_main.specs.Statuses.{making_statuses, script_statuses, store_statuses};
 ghost use Rattle.editlens_main.specs.StoreStatus.{status_of_store, status_of_making};
 
-use script_run::ScriptStatus;
+use script_run::Status;
 use std::alloc::{AllocError, Global};
-use store_new::MakingStatus;
+use store_new::Status;
 use store_run::Status as StoreStatus;
 use texts::Twin;
 
@@ -66,49 +67,49 @@ impl Status {
     }
 
     /// The status of a command that makes a store and ended so.
-    pub fn of_making(ended: MakingStatus) -> Status
+    pub fn of_making(ended: Status) -> Status
         ensures is { result ≡ status_of_making ended }
-        ensures done { result ≡ Status.Done → ended ≡ MakingStatus.Done }
-        ensures refused { result ≡ Status.SomeRefused → ended ≡ MakingStatus.SomeRefused }
-        ensures source { result ≡ Status.SourceFault → ended ≡ MakingStatus.SourceFault }
-        ensures sink { result ≡ Status.SinkFault → ended ≡ MakingStatus.SinkFault }
-        ensures disk { result ≡ Status.DiskFault → ended ≡ MakingStatus.DiskFault }
+        ensures done { result ≡ Status.Done → ended ≡ Status.Done }
+        ensures refused { result ≡ Status.SomeRefused → ended ≡ Status.SomeRefused }
+        ensures source { result ≡ Status.SourceFault → ended ≡ Status.SourceFault }
+        ensures sink { result ≡ Status.SinkFault → ended ≡ Status.SinkFault }
+        ensures disk { result ≡ Status.DiskFault → ended ≡ Status.DiskFault }
         ensures among { IsAmong making_statuses result }
     {
         match ended {
-            MakingStatus::Done => Status::Done,
-            MakingStatus::SomeRefused => Status::SomeRefused,
-            MakingStatus::ProgramRefused => Status::ProgramRefused,
-            MakingStatus::StoreRefused => Status::StoreRefused,
-            MakingStatus::SourceFault => Status::SourceFault,
-            MakingStatus::SinkFault => Status::SinkFault,
-            MakingStatus::DiskFault => Status::DiskFault,
-            MakingStatus::InputTooLong => Status::InputTooLong,
-            MakingStatus::NoMemory => Status::NoMemory,
+            Status::Done => Status::Done,
+            Status::SomeRefused => Status::SomeRefused,
+            Status::ProgramRefused => Status::ProgramRefused,
+            Status::StoreRefused => Status::StoreRefused,
+            Status::SourceFault => Status::SourceFault,
+            Status::SinkFault => Status::SinkFault,
+            Status::DiskFault => Status::DiskFault,
+            Status::InputTooLong => Status::InputTooLong,
+            Status::NoMemory => Status::NoMemory,
         }
     }
 
     /// The status of a command over a script that ended so.
-    pub fn of_script(ended: ScriptStatus) -> Status
+    pub fn of_script(ended: Status) -> Status
         ensures is { result ≡ status_of_script ended }
-        ensures source { result ≡ Status.SourceFault → ended ≡ ScriptStatus.SourceFault }
-        ensures sink { result ≡ Status.SinkFault → ended ≡ ScriptStatus.SinkFault }
+        ensures source { result ≡ Status.SourceFault → ended ≡ Status.SourceFault }
+        ensures sink { result ≡ Status.SinkFault → ended ≡ Status.SinkFault }
         ensures among { IsAmong script_statuses result }
     {
         match ended {
-            ScriptStatus::Done => Status::Done,
-            ScriptStatus::SomeRefused => Status::SomeRefused,
-            ScriptStatus::ProgramRefused => Status::ProgramRefused,
-            ScriptStatus::SourceFault => Status::SourceFault,
-            ScriptStatus::SinkFault => Status::SinkFault,
-            ScriptStatus::InputTooLong => Status::InputTooLong,
-            ScriptStatus::NoMemory => Status::NoMemory,
+            Status::Done => Status::Done,
+            Status::SomeRefused => Status::SomeRefused,
+            Status::ProgramRefused => Status::ProgramRefused,
+            Status::SourceFault => Status::SourceFault,
+            Status::SinkFault => Status::SinkFault,
+            Status::InputTooLong => Status::InputTooLong,
+            Status::NoMemory => Status::NoMemory,
         }
     }
 }
 
 impl Twin for Status {
-    ghost use Rattle.editlens_main.specs.declared.status.Status.{Status};
+    ghost use Rattle.command_ends.specs.declared.status.Status.{Status};
 
     ghost Meaning = { Status };
 

@@ -1,11 +1,12 @@
 //! The commands over a store that is there: `apply`, `show`, `verify`, `pack` and `undo`. The last is the call of store_undo. Each other
 //! one is the call of store_run with the sessions of store_session.
+ghost use Rattle.command_ends.specs.Statuses.{IsAmong};
 ghost use Rattle.std.specs.Prelude.{◌≡◌};
 ghost use Rattle.lens_io.specs.Calls.{SourceFailed, SinkFailed, DiskFailed};
 ghost use Rattle.editlens_main.specs.Applies.{Applies};
 ghost use Rattle.editlens_main.specs.Packs.{Packs};
 ghost use Rattle.editlens_main.specs.Shows.{Shows, Verifies};
-ghost use Rattle.editlens_main.specs.Statuses.{IsAmong, quiet_statuses, store_statuses};
+ghost use Rattle.editlens_main.specs.Statuses.{quiet_statuses, store_statuses};
 ghost use Rattle.editlens_main.specs.Undoes.{Undoes};
 
 use crate::Status;

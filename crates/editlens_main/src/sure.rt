@@ -1,4 +1,5 @@
 //! The top call over devices that do not fail.
+ghost use Rattle.command_ends.specs.Statuses.{IsFinished};
 ghost use Rattle.std.specs.Prelude.{◌≡◌, ◌⊎◌, ◌≤◌, [], ℕ, Some, None, false, length};
 ghost use Rattle.command_words.specs.declared.orders.Order.TheVariants.{Gen, Init, Import, Apply, Show, Verify, Pack, Undo, Hub, Link};
 ghost use Rattle.command_words.specs.declared.orders.Order.TheVariants as order;
@@ -14,8 +15,7 @@ ghost use Rattle.store_undo.specs.UndoCauses.{UndoHasNoRoom};
 ghost use Rattle.store_undo.specs.UndoStores.{StoreToUndo, RefusedToUndo};
 ghost use Rattle.store_run.specs.Rooms.{RunHasNoRoom, PackHasNoRoom};
 ghost use Rattle.editlens_main.specs.Commands.{order_named, uses_disk};
-ghost use Rattle.editlens_main.specs.ScriptStatus.{ScriptAs};
-ghost use Rattle.editlens_main.specs.Statuses.{IsFinished};
+ghost use Rattle.editlens_main.specs.Status.{ScriptAs};
 ghost use Rattle.editlens_main.specs.Stores.{Store, RefusedStore};
 ghost use Rattle.editlens_main.specs.SureEnds.{EndsInRoom, StoredInRoom, MadeInRoom};
 

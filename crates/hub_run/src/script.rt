@@ -1,16 +1,18 @@
 //! The call over the script of a hub.
 
+ghost use Rattle.command_ends.specs.Statuses.{IsFinished};
 ghost use Rattle.std.specs.Prelude.{◌≡◌, ◌≤◌, IfSome, length};
 ghost use Rattle.lens_io.specs.Calls.{SourceFailed, SinkFailed};
 ghost use Rattle.script_input.specs.declared.limits.TheConstants.{MOST_BYTES};
-ghost use Rattle.script_run.specs.ScriptEnds.{Ended, IsComplete, IsFinished, Reports, Stops};
+ghost use Rattle.script_run.specs.ScriptEnds.{Ended, IsComplete, Reports, Stops};
 ghost use Rattle.hub_run.specs.HubScript.{hub_script};
 
 use crate::head::{HubHead, read_hub_head};
 use crate::run::HubRun;
+use command_ends::Status;
 use lens_io::{Sink, Source};
 use script_input::piece_buffer;
-use script_run::{ScriptStatus, answer_alone, answer_part};
+use script_run::{answer_alone, answer_part};
 use std::alloc::Global;
 
 /// Runs the script of a hub, with its input and its output.
@@ -32,14 +34,14 @@ use std::alloc::Global;
 ///   out.
 ///
 /// `NoMemory` comes only if memory ran out, which no clause can say.
-pub fn run_hub<S: Source, K: Sink>(alloc: Global, source: &mut S, sink: &mut K) -> ScriptStatus
+pub fn run_hub<S: Source, K: Sink>(alloc: Global, source: &mut S, sink: &mut K) -> Status
     ensures reports { IsFinished result
         → Reports hub_script S.Source K.Sink (source.old, sink.old) (source.new, sink.new) result }
     ensures stops_are_clean { Stops hub_script S.Source K.Sink
         (source.old, sink.old) (source.new, sink.new) result }
-    ensures source_fault { result ≡ ScriptStatus.SourceFault
+    ensures source_fault { result ≡ Status.SourceFault
         → SourceFailed S.Source source.old source.new }
-    ensures sink_fault { result ≡ ScriptStatus.SinkFault
+    ensures sink_fault { result ≡ Status.SinkFault
         → SinkFailed K.Sink sink.old sink.new }
     ensures complete { IfSome (S.left source.old) (λ bytes. length bytes ≤ MOST_BYTES
         → (SourceFailed S.Source source.old source.new → ⊥)
@@ -49,15 +51,15 @@ pub fn run_hub<S: Source, K: Sink>(alloc: Global, source: &mut S, sink: &mut K) 
     run_script(alloc, source, sink)
 }
 
-fn run_script<S: Source, K: Sink>(alloc: Global, source: &mut S, sink: &mut K) -> ScriptStatus
+fn run_script<S: Source, K: Sink>(alloc: Global, source: &mut S, sink: &mut K) -> Status
     ensures ended { Ended hub_script S.Source K.Sink (source.old, sink.old) (source.new, sink.new) result }
-    ensures source_fault { result ≡ ScriptStatus.SourceFault
+    ensures source_fault { result ≡ Status.SourceFault
         → SourceFailed S.Source source.old source.new }
-    ensures sink_fault { result ≡ ScriptStatus.SinkFault
+    ensures sink_fault { result ≡ Status.SinkFault
         → SinkFailed K.Sink sink.old sink.new }
 {
     let Ok(mut piece) = piece_buffer(alloc) else {
-        return ScriptStatus::NoMemory;
+        return Status::NoMemory;
     };
     match read_hub_head(alloc, source, &mut piece) {
         Ok(HubHead::Whole(pieces)) => answer_alone(alloc, HubRun::open(alloc, &pieces), sink),
@@ -65,6 +67,6 @@ fn run_script<S: Source, K: Sink>(alloc: Global, source: &mut S, sink: &mut K) -
             let opened = HubRun::open(alloc, &pieces);
             answer_part(alloc, opened, input, source, &mut piece, sink)
         }
-        Err(fault) => ScriptStatus::of_fault(fault),
+        Err(fault) => Status::of_fault(fault),
     }
 }

@@ -6,14 +6,15 @@
 //! Each function does nothing: its clauses are the laws.
 #![tactic(auto)]
 
+ghost use Rattle.command_ends.specs.Statuses.{IsFinished};
 ghost use Rattle.std.specs.Prelude.{◌≡◌, ◌++◌, ℕ, List, [], Some, Err, true};
 ghost use Rattle.lens_io.specs.Calls.{IsRead};
 ghost use Rattle.script_input.specs.Coming.{has_separator, journal_lines};
 ghost use Rattle.script_input.specs.Lines.{program_part, journal};
-ghost use Rattle.script_run.specs.ScriptEnds.{AnswersSome, IsCleanStop, IsFinished};
+ghost use Rattle.script_run.specs.ScriptEnds.{AnswersSome, IsCleanStop};
 ghost use Rattle.script_run.specs.Report.{report};
-ghost use Rattle.script_run.specs.declared.status.ScriptStatus.{ScriptStatus};
-ghost use Rattle.script_run.specs.declared.status.ScriptStatus.TheVariants.{ProgramRefused};
+ghost use Rattle.command_ends.specs.declared.status.Status.{Status};
+ghost use Rattle.command_ends.specs.declared.status.Status.TheVariants.{ProgramRefused};
 ghost use Rattle.report_laws.specs.Beginnings.{BeginsWith, WritesBeginning};
 
 use lens_io::{Sink, Source};
@@ -34,7 +35,7 @@ pub fn a_script_goes_on()
 /// It is so whether the separator has come or not and whether the program part is accepted or refused.
 pub fn answers_come_first<A: ScriptState>()
     ensures { (bytes text : List ℕ) → AnswersSome A.ScriptState bytes text
-        → (more whole : List ℕ) (status : ScriptStatus) → report A.ScriptState (bytes ++ more) ≡ Some (whole, status)
+        → (more whole : List ℕ) (status : Status) → report A.ScriptState (bytes ++ more) ≡ Some (whole, status)
         → BeginsWith whole text }
 {}
 
@@ -51,9 +52,9 @@ pub fn a_refusal_stays<A: ScriptState>()
 /// of each status that stops a call, and of whatever part of its text a sink that failed has taken. The sink tells what it holds, before the
 /// call and after it. If it is not known what the source has left, the law is of the bytes that were taken alone.
 pub fn a_stop_writes_a_beginning<A: ScriptState, S: Source, K: Sink>()
-    ensures { (old new : S × K) (held held' bytes : List ℕ) (stop : ScriptStatus)
+    ensures { (old new : S × K) (held held' bytes : List ℕ) (stop : Status)
         → K.held old.1 ≡ Some held → K.held new.1 ≡ Some held'
         → IsCleanStop A.ScriptState S.Source K.Sink old new bytes stop → (IsFinished stop → ⊥)
-        → (more whole : List ℕ) (status : ScriptStatus) → (IsRead S.Source old.0 new.0 → more ≡ [])
+        → (more whole : List ℕ) (status : Status) → (IsRead S.Source old.0 new.0 → more ≡ [])
         → report A.ScriptState (bytes ++ more) ≡ Some (whole, status) → WritesBeginning held held' whole }
 {}

@@ -24,11 +24,11 @@ use Rattle.script_input.specs.Lines.{program_part, journal}
 use Rattle.script_input.specs.Parts.{IsHead, IsTaken}
 use Rattle.script_run.specs.ScriptSteps.{Gives, EndsReport}
 use Rattle.script_run.specs.ScriptEnds.{EveryRunStaysInStep, answers_with, AnswersAll, AnswersBut, AnswersFirst, GoesOn}
+use Rattle.script_run.specs.LineStops.{status_of}
 use Rattle.script_run.specs.Report.{with_state, report_with, report}
-use Rattle.script_run.specs.Status.{status_of}
 use Rattle.script_run.specs.declared.report.Report.{Report}
 use Rattle.script_run.specs.declared.script_state.ScriptState as OfScript
-use Rattle.script_run.specs.declared.status.ScriptStatus.{ScriptStatus}
+use Rattle.command_ends.specs.declared.status.Status.{Status}
 use Rattle.script_run.proofs.ScriptEndsHold.{EndsSo, has_part, lines_stay, first_at_part, ended_source, ended_long, ended_memory, ended_sink, ended_report}
 
 -- the answer lines of a run, from what it comes to
@@ -160,7 +160,7 @@ module _ {H S K : Type 0} (script : OfScript.Ghosts H) (stay : EveryRunStaysInSt
         ∙ ap (λ o. option_map (with_state script) o) runs
         ∙ ap₂ (λ x s. Some (x, s)) same (sym r.status)
 
-    pub run_ends : (r : Result Report AllocError) (status : ScriptStatus) → Took source mid s' more → IfOk r (EndsReport script u p next.lines.begun) → Gives sink mid_k k' r status
+    pub run_ends : (r : Result Report AllocError) (status : Status) → Took source mid s' more → IfOk r (EndsReport script u p next.lines.begun) → Gives sink mid_k k' r status
         → EndsSo script stay source sink (s, k) (s', k') status
     run_ends r status c h gives =
         ended_report script stay source sink s s' k mid_k k' (whole more) (took_whole more c) e.at_end e.gave_nothing (omega (arith, length_whole more, e.within)) e.given

@@ -1,4 +1,5 @@
 -- What stands at each end of a call over a script.
+use Rattle.command_ends.specs.Statuses.{IsFinished}
 use Rattle.std.proofs.Common.{◌≡◌, ◌⊎◌, inl, inr, ℕ, ◌+◌, ◌<◌, ◌≤◌, List, [], ◌++◌, length, Bool, true, false, Option, Some, None, option_map, Result, Ok, Err, refl, sym, ap, ap₂, subst, ◌∙◌, append-nil, append_assoc, arith}
 use Rattle.std.specs.Prelude.{IfOk}
 use Rattle.std.specs.declared.alloc.AllocError.{AllocError}
@@ -14,27 +15,26 @@ use Rattle.script_input.specs.declared.limits.TheConstants.{MOST_BYTES}
 use Rattle.script_input.proofs.LastCalls.{all_before}
 use Rattle.script_run.specs.LineEnds.{WritesStopped}
 use Rattle.script_run.specs.LineRuns.{written}
-use Rattle.script_run.specs.LineStops.{stop_of}
+use Rattle.script_run.specs.LineStops.{stop_of, status_of}
 use Rattle.script_run.specs.declared.stopped.Stopped.TheVariants as stop
 use Rattle.script_run.proofs.Prefixes.{stopped_behind}
 use Rattle.script_input.specs.Coming.{ended_lines, has_separator, journal_lines, HadNoPart, HasLastPiece, HasPart}
 use Rattle.script_input.specs.Lines.{program_part, journal}
 use Rattle.script_input.specs.Parts.{EndsWhole, IsHead, IsTaken, StopsHead}
 use Rattle.script_run.specs.Report.{with_state, report_with, report}
-use Rattle.script_run.specs.ScriptEnds.{IsFinished, EveryRunStaysInStep, Reports, answers_with, LinesStayInStep, AnswersAll, AnswersSome, AnswersFirst, GoesOn, HasAnsweredAll, RefusesPart, WouldWrite, IsCleanStop, Stops, Ended}
+use Rattle.script_run.specs.ScriptEnds.{EveryRunStaysInStep, Reports, answers_with, LinesStayInStep, AnswersAll, AnswersSome, AnswersFirst, GoesOn, HasAnsweredAll, RefusesPart, WouldWrite, IsCleanStop, Stops, Ended}
 use Rattle.script_run.specs.ScriptSteps.{Gives, GivesAlone, IsOpened, IsRefusedWith, IsNotOpened}
-use Rattle.script_run.specs.Status.{ending, status_of}
 use Rattle.script_run.specs.declared.report.Report.{Report}
 use Rattle.script_run.specs.declared.script_state.NotOpened.{NotOpened}
 use Rattle.script_run.specs.declared.script_state.NotOpened.TheVariants as opening
 use Rattle.script_run.specs.declared.script_state.ScriptState as OfScript
-use Rattle.script_run.specs.declared.status.ScriptStatus.{ScriptStatus}
-use Rattle.script_run.specs.declared.status.ScriptStatus.TheVariants.{Done, ProgramRefused, SourceFault, SinkFault, InputTooLong, NoMemory}
+use Rattle.command_ends.specs.declared.status.Status.{Status}
+use Rattle.command_ends.specs.declared.status.Status.TheVariants.{Done, ProgramRefused, SourceFault, SinkFault, InputTooLong, NoMemory}
 use Rattle.script_input.proofs.TakenParts.{none_behind}
 
 -- ---- statuses
 
-finished : (b : Bool) → IsFinished (ending b)
+finished : (b : Bool) → IsFinished (end_of b)
 finished true = inr refl
 finished false = inl refl
 
@@ -91,20 +91,20 @@ made_from f (Some a) b h = (a, let e : f a ≡ b = cc in e)
 module _ {H : Type 0} (script : OfScript.Ghosts H) where
   -- a report of an accepted program part ends with `Done` or `SomeRefused`; any other is the line of a refusal
 
-  abbrev pub IsAnswered : Result script.Accepted script.Refusal → ScriptStatus → Type 0
+  abbrev pub IsAnswered : Result script.Accepted script.Refusal → Status → Type 0
   IsAnswered outcome status = (program : script.Accepted) × (outcome ≡ Ok program) × IsFinished status
 
-  abbrev pub IsRefused : Result script.Accepted script.Refusal → List ℕ → ScriptStatus → Type 0
+  abbrev pub IsRefused : Result script.Accepted script.Refusal → List ℕ → Status → Type 0
   IsRefused outcome text status = (refusal : script.Refusal) × (outcome ≡ Err refusal) × (text ≡ script.refusal_line refusal) × (status ≡ ProgramRefused)
 
-  kind_of : (outcome : Result script.Accepted script.Refusal) (lines : List Line) (text : List ℕ) (status : ScriptStatus)
+  kind_of : (outcome : Result script.Accepted script.Refusal) (lines : List Line) (text : List ℕ) (status : Status)
       → report_with script outcome lines ≡ Some (text, status) → IsAnswered outcome status ⊎ IsRefused outcome text status
   kind_of (Ok program) lines text status h =
       let w = made_from (with_state script) (written script.answer (script.start program) lines) (text, status) h in
-      inl (program, refl, subst IsFinished (ap (λ (r : List ℕ × ScriptStatus). r.1) w.1) (finished w.0.1))
+      inl (program, refl, subst IsFinished (ap (λ (r : List ℕ × Status). r.1) w.1) (finished w.0.1))
   kind_of (Err refusal) lines text status h =
       let same : (script.refusal_line refusal, ProgramRefused) ≡ (text, status) = cc in
-      inr (refusal, refl, sym (ap (λ (r : List ℕ × ScriptStatus). r.0) same), sym (ap (λ (r : List ℕ × ScriptStatus). r.1) same))
+      inr (refusal, refl, sym (ap (λ (r : List ℕ × Status). r.0) same), sym (ap (λ (r : List ℕ × Status). r.1) same))
 
   no_answers : (outcome : Result script.Accepted script.Refusal) → answers_with script outcome [] ≡ Some []
   no_answers (Ok program) = refl
@@ -112,7 +112,7 @@ module _ {H : Type 0} (script : OfScript.Ghosts H) where
 
   -- ---- a script that is a program part alone
 
-  pub alone_opened : {K : Type 0} (sink : OfSink.Ghosts K) (old new : K) (accepted : Result script.Accepted script.Refusal) (t : script.State) (r : Result Report AllocError) (status : ScriptStatus)
+  pub alone_opened : {K : Type 0} (sink : OfSink.Ghosts K) (old new : K) (accepted : Result script.Accepted script.Refusal) (t : script.State) (r : Result Report AllocError) (status : Status)
       → IsOpened script accepted t → IfOk r (λ q. q.text.items ≡ script.state_text t) → IfOk r (λ q. q.status ≡ Done) → Gives sink old new r status → GivesAlone script sink old new accepted status
   alone_opened sink old new accepted t r status o text done gives = record { made = r; is_report = by_report r text done; gives = gives } where
     by_report : (r : Result Report AllocError) → IfOk r (λ q. q.text.items ≡ script.state_text t) → IfOk r (λ q. q.status ≡ Done)
@@ -123,13 +123,13 @@ module _ {H : Type 0} (script : OfScript.Ghosts H) where
     by_report (Err x) y z = tt
 
   -- the report of a program part that is refused
-  refusal_reported : (accepted : Result script.Accepted script.Refusal) (text : List ℕ) (status : ScriptStatus) → IsRefusedWith script accepted text → status ≡ ProgramRefused
+  refusal_reported : (accepted : Result script.Accepted script.Refusal) (text : List ℕ) (status : Status) → IsRefusedWith script accepted text → status ≡ ProgramRefused
       → report_with script accepted [] ≡ Some (text, status)
   refusal_reported accepted text status r refused =
       ap (λ o. report_with script o []) r.is
       ∙ ap₂ (λ x s. Some (x, s)) (sym r.is_line) (sym refused)
 
-  pub alone_unopened : {K : Type 0} (sink : OfSink.Ghosts K) (old new : K) (accepted : Result script.Accepted script.Refusal) (refused : NotOpened) (r : Result Report AllocError) (status : ScriptStatus)
+  pub alone_unopened : {K : Type 0} (sink : OfSink.Ghosts K) (old new : K) (accepted : Result script.Accepted script.Refusal) (refused : NotOpened) (r : Result Report AllocError) (status : Status)
       → IsNotOpened script accepted refused → IfOk r (λ q. refused ≡ opening.Refused q.text.items) → IfOk r (λ q. q.status ≡ ProgramRefused) → Gives sink old new r status → GivesAlone script sink old new accepted status
   alone_unopened sink old new accepted refused r status not line is gives = record { made = r; is_report = by_report r line is; gives = gives } where
     by_report : (r : Result Report AllocError) → IfOk r (λ q. refused ≡ opening.Refused q.text.items) → IfOk r (λ q. q.status ≡ ProgramRefused)
@@ -182,7 +182,7 @@ module _ {H : Type 0} (script : OfScript.Ghosts H) (stay : EveryRunStaysInStep s
   -- ---- a call that stopped
 
   module _ {S K : Type 0} (source : OfSource.Ghosts S) (sink : OfSink.Ghosts K) where
-    abbrev pub EndsSo : S × K → S × K → ScriptStatus → Type 0
+    abbrev pub EndsSo : S × K → S × K → Status → Type 0
     EndsSo = Ended script source sink
 
     module _ (old new : S × K) (bytes : List ℕ) (took : Took source old.0 new.0 bytes) where
@@ -256,7 +256,7 @@ module _ {H : Type 0} (script : OfScript.Ghosts H) (stay : EveryRunStaysInStep s
 
       module _ (end : IsRead source old.0 new.0) (few : length bytes ≤ MOST_BYTES) where
         -- the report of an accepted program part was written
-        written_report : (text : List ℕ) (status : ScriptStatus) → report script bytes ≡ Some (text, status) → Gave sink old.1 new.1 text → (program : script.Accepted) → script.accepted (program_part bytes) ≡ Ok program
+        written_report : (text : List ℕ) (status : Status) → report script bytes ≡ Some (text, status) → Gave sink old.1 new.1 text → (program : script.Accepted) → script.accepted (program_part bytes) ≡ Ok program
             → Reports script source sink old new status
         written_report text status h gave program is = record {
           bytes = bytes;
@@ -271,7 +271,7 @@ module _ {H : Type 0} (script : OfScript.Ghosts H) (stay : EveryRunStaysInStep s
           stays = stay (program_part bytes) program is (journal bytes);
         }
 
-        finished_stops : (status : ScriptStatus) → IsFinished status → Stops script source sink old new status
+        finished_stops : (status : Status) → IsFinished status → Stops script source sink old new status
         finished_stops status f = record {
           bytes = bytes;
           took = took;
@@ -284,7 +284,7 @@ module _ {H : Type 0} (script : OfScript.Ghosts H) (stay : EveryRunStaysInStep s
           by_end (inl e) = subst (IsCleanStop script source sink old new bytes) (sym e) tt
           by_end (inr e) = subst (IsCleanStop script source sink old new bytes) (sym e) tt
 
-        ended_whole : (text : List ℕ) (status : ScriptStatus) → report script bytes ≡ Some (text, status) → Gave sink old.1 new.1 text → EndsSo old new status
+        ended_whole : (text : List ℕ) (status : Status) → report script bytes ≡ Some (text, status) → Gave sink old.1 new.1 text → EndsSo old new status
         ended_whole text status h gave = by_kind (kind_of script (script.accepted (program_part bytes)) (journal bytes) text status h) where
           by_kind : IsAnswered script (script.accepted (program_part bytes)) status ⊎ IsRefused script (script.accepted (program_part bytes)) text status → EndsSo old new status
           by_kind (inl (program, is, f)) = record { stops = finished_stops status f; reports = λ _. written_report text status h gave program is }
@@ -295,7 +295,7 @@ module _ {H : Type 0} (script : OfScript.Ghosts H) (stay : EveryRunStaysInStep s
     -- The report that was made is given, behind answers that were written before. The last call of the source gave nothing.
     module _ (s s' : S) (k mid k' : K) (bytes : List ℕ) (took : Took source s s' bytes) (end : IsRead source s s') (nothing : source.last s' ≡ 0) (few : length bytes ≤ MOST_BYTES)
         (given : List ℕ) (are : AnswersAll script bytes given) (gave : Gave sink k mid given) where
-      pub ended_report : (r : Result Report AllocError) (status : ScriptStatus) → IfOk r (λ q. report script bytes ≡ Some (given ++ q.text.items, q.status)) → Gives sink mid k' r status
+      pub ended_report : (r : Result Report AllocError) (status : Status) → IfOk r (λ q. report script bytes ≡ Some (given ++ q.text.items, q.status)) → Gives sink mid k' r status
           → EndsSo (s, k) (s', k') status
       ended_report (Ok q) status h (inl (same, all)) =
           subst (EndsSo (s, k) (s', k')) (sym same)
@@ -327,7 +327,7 @@ module _ {H : Type 0} (script : OfScript.Ghosts H) (stay : EveryRunStaysInStep s
         ended_memory (s, k) (s', k) h.bytes h.consumes h.at_most [] (none_answered h.bytes) (first_at_part source s s' h.bytes 0 h.not_yet) (Appends-nil (sink.held k))
 
     -- the input is a program part alone
-    pub ended_alone : (s s' : S) (k k' : K) (bytes : List ℕ) (status : ScriptStatus) → EndsWhole source s s' bytes → GivesAlone script sink k k' (script.accepted (program_part bytes)) status
+    pub ended_alone : (s s' : S) (k k' : K) (bytes : List ℕ) (status : Status) → EndsWhole source s s' bytes → GivesAlone script sink k k' (script.accepted (program_part bytes)) status
         → EndsSo (s, k) (s', k') status
     ended_alone s s' k k' bytes status e g =
         ended_report s s' k k k' bytes e.consumes e.at_end e.gave_nothing e.within [] (no_journal bytes e.no_separator).1 (Appends-nil (sink.held k)) g.made status (by_report g.made g.is_report) g.gives where
@@ -343,7 +343,7 @@ module _ {H : Type 0} (script : OfScript.Ghosts H) (stay : EveryRunStaysInStep s
       first_written count = first_at_part source s s' (front ++ rest) count t.last
 
       -- the program part is refused
-      ended_refusal : (line : List ℕ) (status : ScriptStatus) → IsRefusedWith script (script.accepted part) line
+      ended_refusal : (line : List ℕ) (status : Status) → IsRefusedWith script (script.accepted part) line
           → (status ≡ ProgramRefused) × Gave sink k k' line ⊎ (status ≡ SinkFault) × GaveFront sink k k' line → EndsSo (s, k) (s', k') status
       ended_refusal line status r gives = by_gift gives where
         refuses : RefusesPart script source s s' (front ++ rest) r.refusal
@@ -356,7 +356,7 @@ module _ {H : Type 0} (script : OfScript.Ghosts H) (stay : EveryRunStaysInStep s
             subst (EndsSo (s, k) (s', k')) (sym same)
             (ended_sink (s, k) (s', k') (front ++ rest) t.consumes t.few line (inr (inl (r.refusal, refuses, r.is_line))) part_of (first_written part_of.0))
 
-      pub ended_unopened : (refused : NotOpened) (r : Result Report AllocError) (status : ScriptStatus)
+      pub ended_unopened : (refused : NotOpened) (r : Result Report AllocError) (status : Status)
           → IsNotOpened script (script.accepted part) refused → IfOk r (λ q. refused ≡ opening.Refused q.text.items) → IfOk r (λ q. q.status ≡ ProgramRefused) → Gives sink k k' r status
           → EndsSo (s, k) (s', k') status
       ended_unopened refused (Ok q) status not line is gives =

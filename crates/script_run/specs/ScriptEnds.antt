@@ -14,12 +14,9 @@ use Rattle.script_input.specs.Coming.{has_separator, journal_lines, IsWhole}
 use Rattle.script_input.specs.Lines.{program_part, journal}
 use Rattle.script_run.specs.Report.{report}
 use Rattle.script_run.specs.declared.script_state.ScriptState as OfScript
-use Rattle.script_run.specs.declared.status.ScriptStatus.{ScriptStatus}
-use Rattle.script_run.specs.declared.status.ScriptStatus.TheVariants.{Done, SomeRefused, ProgramRefused, SourceFault, SinkFault, InputTooLong, NoMemory}
-
--- the call came to its end: nothing stopped it
-abbrev pub IsFinished : ScriptStatus → Type 0
-IsFinished status = (status ≡ Done) ⊎ (status ≡ SomeRefused)
+use Rattle.command_ends.specs.Statuses.{IsFinished}
+use Rattle.command_ends.specs.declared.status.Status.{Status}
+use Rattle.command_ends.specs.declared.status.Status.TheVariants.{Done, SomeRefused, ProgramRefused, SourceFault, SinkFault, InputTooLong, NoMemory}
 
 -- The run over these lines goes on to its end, and this holds of every state of it, the first one and those after
 -- refused items included.
@@ -27,7 +24,7 @@ abbrev pub StaysInStep : {T : Type 0} (answer : T → ℕ → Line → Option (T
 StaysInStep {T} answer is_kept t lines = (all : List T) × (states answer t lines ≡ Some all) × All is_kept all
 
 -- A status that may come while the last piece is handled, before it is known that the input is too long.
-abbrev pub ComesFirst : ScriptStatus → Type 0
+abbrev pub ComesFirst : Status → Type 0
 ComesFirst ProgramRefused = Unit {0}
 ComesFirst SinkFault = Unit {0}
 ComesFirst NoMemory = Unit {0}
@@ -42,7 +39,7 @@ module _ {H : Type 0} (script : OfScript.Ghosts H) where
 
   -- A call over these bytes came to its end if the program part is accepted, and refused it if it is refused; or memory
   -- ran out.
-  abbrev pub IsComplete : List ℕ → ScriptStatus → Type 0
+  abbrev pub IsComplete : List ℕ → Status → Type 0
   IsComplete bytes status =
       (((program : script.Accepted) → script.accepted (program_part bytes) ≡ Ok program
       → IsFinished status ⊎ (status ≡ NoMemory))
@@ -117,7 +114,7 @@ module _ {H S : Type 0} (script : OfScript.Ghosts H) (source : OfSource.Ghosts S
 module _ {H S K : Type 0} (script : OfScript.Ghosts H) (source : OfSource.Ghosts S) (sink : OfSink.Ghosts K) (old new : S × K) where
   -- The source was read to its end and gave these bytes, at most 2^30. Their report, with this status, was written to
   -- the sink. The program part is accepted, and every state of the run is in step.
-  pub record Reports (status : ScriptStatus) : Type 0 where
+  pub record Reports (status : Status) : Type 0 where
     -- the bytes that the source gave, to its end
     pub bytes : List ℕ
     pub took : Took source old.0 new.0 bytes
@@ -140,7 +137,7 @@ module _ {H S K : Type 0} (script : OfScript.Ghosts H) (source : OfSource.Ghosts
   WouldWrite bytes text =
       GoesOn script bytes × AnswersSome script bytes text
       ⊎ ((refusal : script.Refusal) × RefusesPart script source old.0 new.0 bytes refusal × (text ≡ script.refusal_line refusal))
-      ⊎ IsRead source old.0 new.0 × ((status : ScriptStatus) × (report script bytes ≡ Some (text, status)))
+      ⊎ IsRead source old.0 new.0 × ((status : Status) × (report script bytes ≡ Some (text, status)))
 
   -- ---- what was written, of a call to which the source gave these bytes
 
@@ -166,8 +163,8 @@ module _ {H S K : Type 0} (script : OfScript.Ghosts H) (source : OfSource.Ghosts
       (text : List ℕ) × WouldWrite bytes text
       × ((front : GaveFront sink old.1 new.1 text) × AnswersFirst script source old.0 new.0 bytes front.0)
 
-  -- what was written when a call ended with a status. That of a call that is finished is said by `Reports`.
-  abbrev pub IsCleanStop : List ℕ → ScriptStatus → Type 0
+  -- what was written when a call ended with a status. That of a call that is finished is said by `Reports`. No other status comes.
+  abbrev pub IsCleanStop : List ℕ → Status → Type 0
   IsCleanStop bytes Done = Unit {0}
   IsCleanStop bytes SomeRefused = Unit {0}
   IsCleanStop bytes ProgramRefused = HasRefused bytes
@@ -175,10 +172,11 @@ module _ {H S K : Type 0} (script : OfScript.Ghosts H) (source : OfSource.Ghosts
   IsCleanStop bytes InputTooLong = HasAnsweredAll bytes
   IsCleanStop bytes SinkFault = HasWrittenPrefix bytes
   IsCleanStop bytes NoMemory = HasAnsweredSome bytes
+  IsCleanStop bytes status = ⊥
 
   -- These bytes were taken, at most 2^30 + 1. The status is InputTooLong only if they are more than 2^30, and if they
   -- are, it is InputTooLong unless a refusal of the program part, the sink or memory stopped the call first.
-  pub record Stops (status : ScriptStatus) : Type 0 where
+  pub record Stops (status : Status) : Type 0 where
     -- the bytes that the source gave
     pub bytes : List ℕ
     pub took : Took source old.0 new.0 bytes
@@ -191,7 +189,7 @@ module _ {H S K : Type 0} (script : OfScript.Ghosts H) (source : OfSource.Ghosts
     pub clean : IsCleanStop bytes status
 
   -- How the call ended.
-  pub record Ended (status : ScriptStatus) : Type 0 where
+  pub record Ended (status : Status) : Type 0 where
     -- what was taken and written, after each status
     pub stops : Stops status
     -- if nothing stopped the call, the report of the complete input was written

@@ -9,31 +9,28 @@ use Rattle.edit_journal.specs.declared.line.Line.{Line}
 use Rattle.script_run.specs.LineRuns.{GoesOver}
 use Rattle.script_run.specs.declared.progress.Progress.{Progress}
 use Rattle.script_run.specs.Report.{report_with}
-use Rattle.script_run.specs.Status.{ending}
+use Rattle.command_ends.specs.Statuses.{IsFinished, end_of}
 use Rattle.script_run.specs.declared.report.Report.{Report}
 use Rattle.script_run.specs.declared.script_state.NotOpened.{NotOpened}
 use Rattle.script_run.specs.declared.script_state.NotOpened.TheVariants as opening
 use Rattle.script_run.specs.declared.script_state.ScriptState as OfScript
-use Rattle.script_run.specs.declared.status.ScriptStatus.{ScriptStatus}
-use Rattle.script_run.specs.declared.status.ScriptStatus.TheVariants.{Done, SomeRefused, ProgramRefused, SinkFault, NoMemory}
+use Rattle.command_ends.specs.declared.status.Status.{Status}
+use Rattle.command_ends.specs.declared.status.Status.TheVariants.{ProgramRefused, SinkFault, NoMemory}
 
 -- ---- a report
 
 -- The report was written, with its status; or the sink failed at it. If memory ran out before it was made, nothing was
 -- written.
 module _ {K : Type 0} (sink : OfSink.Ghosts K) (old new : K) where
-  abbrev pub Gives : Result Report AllocError → ScriptStatus → Type 0
+  abbrev pub Gives : Result Report AllocError → Status → Type 0
   Gives (Ok report) status =
       (status ≡ report.status) × Gave sink old new report.text.items
       ⊎ (status ≡ SinkFault) × GaveFront sink old new report.text.items
   Gives (Err fault) status = (status ≡ NoMemory) × Gave sink old new []
 
 -- the status of a report: nothing but a refusal of the program part has stopped the call
-abbrev pub IsEnd : ScriptStatus → Type 0
-IsEnd Done = Unit {0}
-IsEnd SomeRefused = Unit {0}
-IsEnd ProgramRefused = Unit {0}
-IsEnd status = ⊥
+abbrev pub IsEnd : Status → Type 0
+IsEnd status = IsFinished status ⊎ (status ≡ ProgramRefused)
 
 abbrev pub HasEnd : Result Report AllocError → Type 0
 HasEnd report = IfOk report (λ r. IsEnd r.status)
@@ -46,7 +43,7 @@ module _ {H : Type 0} (script : OfScript.Ghosts H) where
     pub progress : Progress
     pub goes : GoesOver script.answer t p (option_to_list (last_line begun)) state progress
     pub text : r.text.items ≡ progress.text.items ++ script.state_text state
-    pub status : r.status ≡ ending progress.refused
+    pub status : r.status ≡ end_of progress.refused
 
   -- ---- a program part that is opened. What it means, or why it is refused, is given.
 
@@ -77,7 +74,7 @@ module _ {H : Type 0} (script : OfScript.Ghosts H) where
   -- The report of a program part alone was written, with its status; or the sink failed at it, or memory ran out before
   -- it was made.
   pub record GivesAlone {K : Type 0} (sink : OfSink.Ghosts K) (old new : K) (accepted : Result script.Accepted script.Refusal)
-      (status : ScriptStatus) : Type 0 where
+      (status : Status) : Type 0 where
     -- the report, unless memory ran out
     pub made : Result Report AllocError
     pub is_report : IfOk made (λ r. report_with script accepted [] ≡ Some (r.text.items, r.status))

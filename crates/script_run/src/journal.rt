@@ -10,7 +10,7 @@ use crate::answer_pieces;
 use crate::lines::ScriptLines;
 use crate::report::{give_report, last_report};
 use crate::script_state::ScriptState;
-use crate::status::ScriptStatus;
+use command_ends::Status;
 use lens_io::{Sink, Source};
 use script_input::Input;
 use std::alloc::Global;
@@ -26,7 +26,7 @@ pub fn answer_script<S: Source, K: Sink, A: ScriptState>(
     source: &mut S,
     piece: &mut [u8],
     sink: &mut K,
-) -> ScriptStatus
+) -> Status
     requires some { 0 < length piece.old }
     requires few { length piece.old ≤ PIECE_BYTES }
     requires within { IsWithin input }
@@ -35,9 +35,9 @@ pub fn answer_script<S: Source, K: Sink, A: ScriptState>(
         → IsTaken S.Source start source.old input front rest → IsHead front part
         → A.accepted part ≡ Ok program → A.state state ≡ A.start program
         → Ended A.ScriptState S.Source K.Sink (start, sink.old) (source.new, sink.new) result }
-    ensures source_fault { result ≡ ScriptStatus.SourceFault
+    ensures source_fault { result ≡ Status.SourceFault
         → SourceFailed S.Source source.old source.new }
-    ensures sink_fault { result ≡ ScriptStatus.SinkFault
+    ensures sink_fault { result ≡ Status.SinkFault
         → SinkFailed K.Sink sink.old sink.new }
 {
     let mut lines = ScriptLines { state };
@@ -54,7 +54,7 @@ fn answer_lines<S: Source, K: Sink, A: ScriptState>(
     source: &mut S,
     piece: &mut [u8],
     sink: &mut K,
-) -> ScriptStatus
+) -> Status
     requires some { 0 < length piece.old }
     requires few { length piece.old ≤ PIECE_BYTES }
     requires within { IsWithin input }
@@ -63,14 +63,14 @@ fn answer_lines<S: Source, K: Sink, A: ScriptState>(
         → IsTaken S.Source start source.old input front rest → IsHead front part
         → A.accepted part ≡ Ok program → A.state lines.old.state ≡ A.start program
         → Ended A.ScriptState S.Source K.Sink (start, sink.old) (source.new, sink.new) result }
-    ensures source_fault { result ≡ ScriptStatus.SourceFault
+    ensures source_fault { result ≡ Status.SourceFault
         → SourceFailed S.Source source.old source.new }
-    ensures sink_fault { result ≡ ScriptStatus.SinkFault
+    ensures sink_fault { result ≡ Status.SinkFault
         → SinkFailed K.Sink sink.old sink.new }
 {
     let mut input = input;
     match answer_pieces(alloc, lines, &mut input, source, piece, sink) {
         Ok(progress) => give_report(last_report(alloc, lines, progress, input), sink),
-        Err(stopped) => ScriptStatus::of_stop(stopped),
+        Err(stopped) => stopped.status(),
     }
 }

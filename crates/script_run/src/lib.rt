@@ -21,7 +21,6 @@ mod program;
 mod progress;
 mod report;
 mod script_state;
-mod status;
 mod stopped;
 mod stream;
 
@@ -30,6 +29,5 @@ pub use crate::part::{answer_alone, answer_part};
 pub use crate::program::{ProgramScript, run_script};
 pub use crate::progress::{Progress, handle_last, handle_line};
 pub use crate::script_state::{NotOpened, ScriptState};
-pub use crate::status::ScriptStatus;
 pub use crate::stopped::Stopped;
 pub use crate::stream::{answer_piece, answer_pieces};

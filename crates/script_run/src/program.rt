@@ -8,7 +8,8 @@ ghost use Rattle.script_run.specs.ScriptSteps.{Opens};
 
 use crate::part::{answer_alone, answer_part};
 use crate::script_state::{NotOpened, ScriptState};
-use crate::status::ScriptStatus;
+use crate::stopped::Stopped;
+use command_ends::Status;
 use lens_io::{Sink, Source};
 use script_input::{Head, ProgramText, piece_buffer, read_head};
 use std::alloc::Global;
@@ -41,13 +42,13 @@ pub fn run_script<S: Source, K: Sink, A: ProgramScript>(
     alloc: Global,
     source: &mut S,
     sink: &mut K,
-) -> ScriptStatus
+) -> Status
     ensures ended { Ended A.ScriptState S.Source K.Sink (source.old, sink.old) (source.new, sink.new) result }
     ensures completes { IfSome (S.left source.old) (λ bytes. length bytes ≤ MOST_BYTES
         → (SourceFailed S.Source source.old source.new → ⊥) → (SinkFailed K.Sink sink.old sink.new → ⊥)
         → IsComplete A.ScriptState bytes result) }
-    ensures source_fault { result ≡ ScriptStatus.SourceFault → SourceFailed S.Source source.old source.new }
-    ensures sink_fault { result ≡ ScriptStatus.SinkFault → SinkFailed K.Sink sink.old sink.new }
+    ensures source_fault { result ≡ Status.SourceFault → SourceFailed S.Source source.old source.new }
+    ensures sink_fault { result ≡ Status.SinkFault → SinkFailed K.Sink sink.old sink.new }
 {
     read_and_answer::<S, K, A>(alloc, source, sink)
 }
@@ -57,13 +58,13 @@ fn read_and_answer<S: Source, K: Sink, A: ProgramScript>(
     alloc: Global,
     source: &mut S,
     sink: &mut K,
-) -> ScriptStatus
+) -> Status
     ensures ended { Ended A.ScriptState S.Source K.Sink (source.old, sink.old) (source.new, sink.new) result }
-    ensures source_fault { result ≡ ScriptStatus.SourceFault → SourceFailed S.Source source.old source.new }
-    ensures sink_fault { result ≡ ScriptStatus.SinkFault → SinkFailed K.Sink sink.old sink.new }
+    ensures source_fault { result ≡ Status.SourceFault → SourceFailed S.Source source.old source.new }
+    ensures sink_fault { result ≡ Status.SinkFault → SinkFailed K.Sink sink.old sink.new }
 {
     let Ok(mut piece) = piece_buffer(alloc) else {
-        return ScriptStatus::NoMemory;
+        return Status::NoMemory;
     };
     match read_head(alloc, source, &mut piece) {
         Ok(Head::Whole(program)) => answer_alone(alloc, A::open(alloc, &program), sink),
@@ -71,6 +72,6 @@ fn read_and_answer<S: Source, K: Sink, A: ProgramScript>(
             let opened = A::open(alloc, &program);
             answer_part(alloc, opened, input, source, &mut piece, sink)
         }
-        Err(fault) => ScriptStatus::of_fault(fault),
+        Err(fault) => Stopped::at_piece(fault).status(),
     }
 }

@@ -1,7 +1,8 @@
 //! What stops a run before its end.
 ghost use Rattle.std.specs.Prelude.{◌≡◌};
-ghost use Rattle.script_run.specs.LineStops.{stop_of};
+ghost use Rattle.script_run.specs.LineStops.{status_of, stop_of};
 
+use command_ends::Status;
 use lens_io::TakeFault;
 
 /// Why a run did not come to the end of its input.
@@ -26,6 +27,18 @@ impl Stopped {
             TakeFault::SourceFault => Stopped::SourceFault,
             TakeFault::TooLong => Stopped::TooLong,
             TakeFault::NoMemory => Stopped::NoMemory,
+        }
+    }
+
+    /// The status of a command that this stopped.
+    pub fn status(self) -> Status
+        ensures { result ≡ status_of self }
+    {
+        match self {
+            Stopped::SourceFault => Status::SourceFault,
+            Stopped::TooLong => Status::InputTooLong,
+            Stopped::SinkFault => Status::SinkFault,
+            Stopped::NoMemory => Status::NoMemory,
         }
     }
 }

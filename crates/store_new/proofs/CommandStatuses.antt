@@ -16,8 +16,8 @@ use Rattle.store_new.specs.Command.{Command}
 use Rattle.store_new.specs.NewEnds.{GivesLine, StopsAfter, MakesStore, Ends, MayRefuse, RefusesAtOnce, IsEnd, IsComplete, Completes}
 use Rattle.store_new.specs.Scripts.{IsAcceptedPart, GoesOn}
 use Rattle.store_new.specs.NewStores.{IsTooLong, EndsMaking}
-use Rattle.store_new.specs.declared.status.MakingStatus.{MakingStatus}
-use Rattle.store_new.specs.declared.status.MakingStatus.TheVariants.{Done, SomeRefused, ProgramRefused, StoreRefused, SourceFault, SinkFault, DiskFault, InputTooLong, NoMemory}
+use Rattle.command_ends.specs.declared.status.Status.{Status}
+use Rattle.command_ends.specs.declared.status.Status.TheVariants.{Done, SomeRefused, Usage, ProgramRefused, StoreRefused, SourceFault, SinkFault, DiskFault, InputTooLong, NoMemory}
 use Rattle.script_input.proofs.TakenParts.{IsFixed, few_taken, fixed_or_read, part_of_all, all_taken}
 
 never_both : (bytes : List ℕ) (refusal : Refusal) → IsAcceptedPart bytes → lens_of (program_part bytes) ≡ Err refusal → ⊥
@@ -26,11 +26,11 @@ never_both bytes refusal a e = let x = a.1 in cc
 -- ---- after a status
 
 -- the line of a refusal ends with its own status, or with the sink's fault
-pub given_with : {K : Type 0} (sink : OfSink.Ghosts K) (k k' : K) (line : List ℕ) (ending status : MakingStatus) → GivesLine sink k k' line ending status → (status ≡ ending) ⊎ (status ≡ SinkFault)
+pub given_with : {K : Type 0} (sink : OfSink.Ghosts K) (k k' : K) (line : List ℕ) (ending status : Status) → GivesLine sink k k' line ending status → (status ≡ ending) ⊎ (status ≡ SinkFault)
 given_with sink k k' line ending status (inl (is, given)) = inl is
 given_with sink k k' line ending status (inr (is, given)) = inr is
 
-module _ {S K D : Type 0} (source : OfSource.Ghosts S) (sink : OfSink.Ghosts K) (disk : OfDisk.Ghosts D) (command : Command) (s s' : S) (k k' : K) (d d' : D) (status : MakingStatus) where
+module _ {S K D : Type 0} (source : OfSource.Ghosts S) (sink : OfSink.Ghosts K) (disk : OfDisk.Ghosts D) (command : Command) (s s' : S) (k k' : K) (d d' : D) (status : Status) where
   -- the store was made
   pub done : Ends source sink disk command (s, k, d) (s', k', d') status → status ≡ Done → MakesStore source sink disk command (s, k, d) (s', k', d') Done
   done (inl e) is = absurd (by_line (given_with sink k k' (refusal_line LogExists) StoreRefused status e.given)) where
@@ -50,7 +50,7 @@ module _ {S K D : Type 0} (source : OfSource.Ghosts S) (sink : OfSink.Ghosts K) 
 
 -- ---- the refusal of a program part
 
-stops_unrefused : (bytes : List ℕ) (refusal : Refusal) (status : MakingStatus) → StopsAfter bytes status → has_separator bytes ≡ true → lens_of (program_part bytes) ≡ Err refusal → MayRefuse status
+stops_unrefused : (bytes : List ℕ) (refusal : Refusal) (status : Status) → StopsAfter bytes status → has_separator bytes ≡ true → lens_of (program_part bytes) ≡ Err refusal → MayRefuse status
 stops_unrefused bytes refusal Done stops has refused = absurd stops
 stops_unrefused bytes refusal SomeRefused stops has refused = absurd stops
 stops_unrefused bytes refusal ProgramRefused stops has refused = tt
@@ -60,23 +60,24 @@ stops_unrefused bytes refusal SinkFault stops has refused = tt
 stops_unrefused bytes refusal DiskFault stops has refused = let never : has_separator [] ≡ true = subst (λ b. has_separator b ≡ true) stops has in cc
 stops_unrefused bytes refusal InputTooLong stops has refused = absurd (never_both bytes refusal (stops.1 has) refused)
 stops_unrefused bytes refusal NoMemory stops has refused = tt
+stops_unrefused bytes refusal Usage stops has refused = absurd stops
 
 -- nothing was read, and the status is another
-pub refuses_nothing : {S : Type 0} (source : OfSource.Ghosts S) (s : S) (status : MakingStatus) → (status ≡ ProgramRefused → ⊥) → RefusesAtOnce source s s status
+pub refuses_nothing : {S : Type 0} (source : OfSource.Ghosts S) (s : S) (status : Status) → (status ≡ ProgramRefused → ⊥) → RefusesAtOnce source s s status
 refuses_nothing source s status other = record { bytes = []; took = Consumes-nil (source.left s); only = λ is. absurd (other is); whole = λ has refusal refused. cc }
 
 -- the line `store refused: log-exists` does not end with that status
-pub other_line : {K : Type 0} (sink : OfSink.Ghosts K) (k k' : K) (status : MakingStatus) → GivesLine sink k k' (refusal_line LogExists) StoreRefused status → status ≡ ProgramRefused → ⊥
+pub other_line : {K : Type 0} (sink : OfSink.Ghosts K) (k k' : K) (status : Status) → GivesLine sink k k' (refusal_line LogExists) StoreRefused status → status ≡ ProgramRefused → ⊥
 other_line sink k k' status (inl (now, given)) is = cc
 other_line sink k k' status (inr (now, given)) is = cc
 
-never_refused : (bytes : List ℕ) (status : MakingStatus) → StopsAfter bytes status → status ≡ ProgramRefused → ⊥
+never_refused : (bytes : List ℕ) (status : Status) → StopsAfter bytes status → status ≡ ProgramRefused → ⊥
 never_refused bytes status stops is = subst (StopsAfter bytes) is stops
 
 module _ {S K D : Type 0} (source : OfSource.Ghosts S) (sink : OfSink.Ghosts K) (disk : OfDisk.Ghosts D) (command : Command)
     (accepts : (bytes : List ℕ) (payloads : List (List ℕ)) (lines : List ℕ) → command.makes bytes payloads lines → IsAcceptedPart bytes)
     (refuses : (bytes line : List ℕ) → command.refuses bytes line → IsAcceptedPart bytes) where
-  module _ (s s' : S) (k k' : K) (d d' : D) (status : MakingStatus) where
+  module _ (s s' : S) (k k' : K) (d d' : D) (status : Status) where
     -- the program part is accepted, if it is whole
     goes_on_at_once : (bytes : List ℕ) → Took source s s' bytes → GoesOn bytes → (status ≡ ProgramRefused → ⊥) → RefusesAtOnce source s s' status
     goes_on_at_once bytes took goes_on other = record { bytes = bytes; took = took; only = λ is. absurd (other is); whole = λ has refusal refused. absurd (never_both bytes refusal (goes_on has) refused) }
@@ -115,7 +116,7 @@ module _ {S K D : Type 0} (source : OfSource.Ghosts S) (sink : OfSink.Ghosts K) 
   never_found : (o : Option (List ℕ)) (P : List ℕ → Type 0) → o ≡ Some [] → IfSome o (λ before. (0 < length before) × P before) → ⊥
   never_found o P e h = let k = subst (λ x. IfSome x (λ before. (0 < length before) × P before)) e h in omega (arith, k.0)
 
-  memory_complete : (bytes : List ℕ) (status : MakingStatus) → status ≡ NoMemory → IsComplete command bytes status
+  memory_complete : (bytes : List ℕ) (status : Status) → status ≡ NoMemory → IsComplete command bytes status
   memory_complete bytes status is = subst (IsComplete command bytes) (sym is) (record { accepted = λ a room. tt; refused = λ refusal e. tt })
 
   -- a command that refuses a script whose program part is accepted
@@ -124,7 +125,7 @@ module _ {S K D : Type 0} (source : OfSource.Ghosts S) (sink : OfSink.Ghosts K) 
 
   -- R, F and G say that the source, the sink or the disk failed
   module _ (R F G : Type 0) where
-    only_memory : (taken : List ℕ) (status : MakingStatus) → StopsAfter taken status → length taken ≤ MOST_BYTES → (status ≡ SourceFault → R) → (status ≡ DiskFault → G) → (R → ⊥) → (G → ⊥) → status ≡ NoMemory
+    only_memory : (taken : List ℕ) (status : Status) → StopsAfter taken status → length taken ≤ MOST_BYTES → (status ≡ SourceFault → R) → (status ≡ DiskFault → G) → (R → ⊥) → (G → ⊥) → status ≡ NoMemory
     only_memory taken Done h few r g no_source no_disk = absurd h
     only_memory taken SomeRefused h few r g no_source no_disk = absurd h
     only_memory taken ProgramRefused h few r g no_source no_disk = absurd h
@@ -134,8 +135,9 @@ module _ {S K D : Type 0} (source : OfSource.Ghosts S) (sink : OfSink.Ghosts K) 
     only_memory taken DiskFault h few r g no_source no_disk = absurd (no_disk (g refl))
     only_memory taken InputTooLong h few r g no_source no_disk = absurd (omega (arith, h.0, few))
     only_memory taken NoMemory h few r g no_source no_disk = refl
+    only_memory taken Usage h few r g no_source no_disk = absurd h
 
-    made_ends : (k k' : K) (d d' : D) (payloads : List (List ℕ)) (lines : List ℕ) (status : MakingStatus) → EndsMaking sink disk (k, d) (k', d') payloads lines status
+    made_ends : (k k' : K) (d d' : D) (payloads : List (List ℕ)) (lines : List ℕ) (status : Status) → EndsMaking sink disk (k, d) (k', d') payloads lines status
         → (status ≡ SinkFault → F) → (status ≡ DiskFault → G) → (F → ⊥) → (G → ⊥) → (IsTooLong payloads → ⊥) → IsEnd status
     made_ends k k' d d' payloads lines Done h f g no_sink no_disk room = tt
     made_ends k k' d d' payloads lines SomeRefused h f g no_sink no_disk room = absurd h
@@ -146,9 +148,10 @@ module _ {S K D : Type 0} (source : OfSource.Ghosts S) (sink : OfSink.Ghosts K) 
     made_ends k k' d d' payloads lines DiskFault h f g no_sink no_disk room = absurd (no_disk (g refl))
     made_ends k k' d d' payloads lines InputTooLong h f g no_sink no_disk room = absurd h
     made_ends k k' d d' payloads lines NoMemory h f g no_sink no_disk room = tt
+    made_ends k k' d d' payloads lines Usage h f g no_sink no_disk room = absurd h
 
     -- a command that met no fault, over a source that had these bytes and has `left'`
-    pub by_end : (s s' : S) (k k' : K) (d d' : D) (status : MakingStatus) (bytes : List ℕ) (left' : Option (List ℕ)) → Ends source sink disk command (s, k, d) (s', k', d') status
+    pub by_end : (s s' : S) (k k' : K) (d d' : D) (status : Status) (bytes : List ℕ) (left' : Option (List ℕ)) → Ends source sink disk command (s, k, d) (s', k', d') status
         → source.left s ≡ Some bytes → source.left s' ≡ left'
         → (status ≡ SourceFault → R) → (status ≡ SinkFault → F) → (status ≡ DiskFault → G) → disk.content d ≡ Some []
         → length bytes ≤ MOST_BYTES → (R → ⊥) → (F → ⊥) → (G → ⊥) → IsComplete command bytes status
@@ -186,7 +189,7 @@ module _ {S K D : Type 0} (source : OfSource.Ghosts S) (sink : OfSink.Ghosts K) 
   if_known (Some bytes) P f = f bytes refl
 
   -- A command that met no fault is complete.
-  pub complete : (s s' : S) (k k' : K) (d d' : D) (status : MakingStatus) → Ends source sink disk command (s, k, d) (s', k', d') status
+  pub complete : (s s' : S) (k k' : K) (d d' : D) (status : Status) → Ends source sink disk command (s, k, d) (s', k', d') status
       → (status ≡ SourceFault → SourceFailed source s s') → (status ≡ SinkFault → SinkFailed sink k k') → (status ≡ DiskFault → DiskFailed disk d d')
       → Completes source sink disk command (s, k, d) (s', k', d') status
   complete s s' k k' d d' status ends r f g empty =

@@ -19,8 +19,8 @@ use Rattle.store_new.specs.ScriptReading.{ReadsFront, RefusesWith}
 use Rattle.store_new.specs.Making.{EndsStore, EndsPlan}
 use Rattle.store_new.specs.Reading.{status_at}
 use Rattle.store_new.specs.Scripts.{IsAcceptedPart, GoesOn}
-use Rattle.store_new.specs.declared.status.MakingStatus.{MakingStatus}
-use Rattle.store_new.specs.declared.status.MakingStatus.TheVariants.{SomeRefused, StoreRefused, DiskFault, NoMemory}
+use Rattle.command_ends.specs.declared.status.Status.{Status}
+use Rattle.command_ends.specs.declared.status.Status.TheVariants.{SomeRefused, StoreRefused, DiskFault, NoMemory}
 
 -- ---- facts of known bytes
 
@@ -55,7 +55,7 @@ module _ {D : Type 0} (disk : OfDisk.Ghosts D) where
 
 module _ {S K D : Type 0} (source : OfSource.Ghosts S) (sink : OfSink.Ghosts K) (disk : OfDisk.Ghosts D) (command : Command) where
   -- the disk is not empty
-  pub finds_store : (s : S) (k k' : K) (d d' : D) (count : ℕ) (status : MakingStatus) → IfSome (disk.content d) (λ bytes. count ≡ length bytes) → (count ≡ 0 → ⊥)
+  pub finds_store : (s : S) (k k' : K) (d d' : D) (count : ℕ) (status : Status) → IfSome (disk.content d) (λ bytes. count ≡ length bytes) → (count ≡ 0 → ⊥)
       → IsUnwritten disk d d' → GivesLine sink k k' (refusal_line LogExists) StoreRefused status → Ends source sink disk command (s, k, d) (s, k', d') status
   finds_store s k k' d d' count status is some unwritten given = inl (record {
     bytes = [];
@@ -73,7 +73,7 @@ module _ {S K D : Type 0} (source : OfSource.Ghosts S) (sink : OfSink.Ghosts K) 
       inr (inl (record { bytes = []; took = Consumes-nil (source.left s); at_most = omega arith; stops = refl; unwritten = unwritten; given = Appends-nil (sink.held k) }))
 
   -- what was done behind the test of the disk
-  pub ends_behind : (s s' : S) (k k' : K) (d d1 d' : D) (status : MakingStatus) → IsUnwritten disk d d1 → Ends source sink disk command (s, k, d1) (s', k', d') status
+  pub ends_behind : (s s' : S) (k k' : K) (d d1 d' : D) (status : Status) → IsUnwritten disk d d1 → Ends source sink disk command (s, k, d1) (s', k', d') status
       → Ends source sink disk command (s, k, d) (s', k', d') status
   ends_behind s s' k k' d d1 d' status u (inl e) = inl (record {
     bytes = e.bytes;
@@ -131,7 +131,7 @@ module _ {S K D : Type 0} (source : OfSource.Ghosts S) (sink : OfSink.Ghosts K) 
     ends_front fault r =
         inr (inl (record { bytes = r.bytes; took = r.took; at_most = r.at_most; stops = r.stops; unwritten = unwritten_still disk d; given = Appends-nil (sink.held k) }))
 
-  module _ (s s' : S) (k k' : K) (d : D) (bytes : List ℕ) (status : MakingStatus) (took : Took source s s' bytes) where
+  module _ (s s' : S) (k k' : K) (d : D) (bytes : List ℕ) (status : Status) (took : Took source s s' bytes) where
     -- memory ran out behind these bytes
     pub runs_out : length bytes ≤ MOST_BYTES + 1 → status ≡ NoMemory → Gave sink k k' [] → Ends source sink disk command (s, k, d) (s', k', d) status
     runs_out few is given =
@@ -167,7 +167,7 @@ module _ {S K D : Type 0} (source : OfSource.Ghosts S) (sink : OfSink.Ghosts K) 
     })))
     ends_refused few whole empty (inr (is, given)) = runs_out few is given
 
-  module _ (s s' : S) (k k' : K) (d d' : D) (bytes : List ℕ) (P : List (List ℕ) → List ℕ → Type 0) (status : MakingStatus) where
+  module _ (s s' : S) (k k' : K) (d d' : D) (bytes : List ℕ) (P : List (List ℕ) → List ℕ → Type 0) (status : Status) where
     -- the script was read to its end and is accepted, and its store was made or its making stopped
     pub ends_plan : Took source s s' bytes → IsRead source s s' → length bytes ≤ MOST_BYTES → IsAcceptedPart bytes → IfSome (disk.content d) (λ before. length before ≡ 0)
         → ((payloads : List (List ℕ)) (lines : List ℕ) → P payloads lines → command.makes bytes payloads lines)

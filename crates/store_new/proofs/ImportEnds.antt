@@ -26,8 +26,8 @@ use Rattle.store_new.specs.NewEnds.{GivesLine, StopsAfter, Ends}
 use Rattle.store_new.specs.NewRooms.{PlanHasNoRoom, ScriptHasNoRoom}
 use Rattle.store_new.specs.Scripts.{IsAccepted, IsAcceptedPart}
 use Rattle.store_new.specs.NewStores.{HoldsStore, EndsMaking}
-use Rattle.store_new.specs.declared.status.MakingStatus.{MakingStatus}
-use Rattle.store_new.specs.declared.status.MakingStatus.TheVariants.{Done, SomeRefused, ProgramRefused, StoreRefused, SinkFault}
+use Rattle.command_ends.specs.declared.status.Status.{Status}
+use Rattle.command_ends.specs.declared.status.Status.TheVariants.{Done, SomeRefused, ProgramRefused, StoreRefused, SinkFault}
 use Rattle.store_new.proofs.CommandStatuses.{done, given_with}
 use Rattle.store_new.proofs.Commands.{ends_plan, refused_with, runs_out}
 use Rattle.store_new.proofs.NewRoomsHold.{no_room_for_same, no_room_for_script}
@@ -90,7 +90,7 @@ accepts bytes payloads lines b = (b.form, b.imported.accepted.has_lens)
 pub refuses : (bytes line : List ℕ) → RefusesDocument bytes line → IsAcceptedPart bytes
 refuses bytes line r = (r.form, r.accepted.has_lens)
 
-module _ {S K D : Type 0} (source : OfSource.Ghosts S) (sink : OfSink.Ghosts K) (disk : OfDisk.Ghosts D) (s s' : S) (k k' : K) (d d' : D) (status : MakingStatus) where
+module _ {S K D : Type 0} (source : OfSource.Ghosts S) (sink : OfSink.Ghosts K) (disk : OfDisk.Ghosts D) (s s' : S) (k k' : K) (d d' : D) (status : Status) where
   -- the script was read, and its document was refused, or its store was made, or its making stopped
   pub brought : (program : ProgramTree) (form : FormTree) (found : Found) → ReadsImport source s s' program form found
       → IfSome (disk.content d) (λ before. length before ≡ 0) → EndsImport sink disk (k, d) (k', d') program form (document_of_found (left_type form) found) status

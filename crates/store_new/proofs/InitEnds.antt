@@ -26,8 +26,8 @@ use Rattle.store_new.specs.NewRooms.{PlanHasNoRoom, ScriptHasNoRoom}
 use Rattle.store_new.specs.InitStores.{IsFirstStore}
 use Rattle.store_new.specs.Scripts.{IsAccepted, IsAcceptedPart}
 use Rattle.store_new.specs.NewStores.{HoldsStore, EndsMaking}
-use Rattle.store_new.specs.declared.status.MakingStatus.{MakingStatus}
-use Rattle.store_new.specs.declared.status.MakingStatus.TheVariants.{Done, SomeRefused, ProgramRefused, StoreRefused, SourceFault, SinkFault, DiskFault}
+use Rattle.command_ends.specs.declared.status.Status.{Status}
+use Rattle.command_ends.specs.declared.status.Status.TheVariants.{Done, SomeRefused, ProgramRefused, StoreRefused, SourceFault, SinkFault, DiskFault}
 use Rattle.store_new.proofs.CommandStatuses.{done, given_with}
 use Rattle.store_new.proofs.Commands.{ends_plan}
 use Rattle.store_new.proofs.NewRoomsHold.{no_room_for_script}
@@ -69,7 +69,7 @@ begins_no_room source o s s' program form r h =
     no_room_for_script source init_command o s s' r.bytes (IsFirstStore program form) r.took r.read r.within (λ payloads lines f. begins r.bytes program form payloads lines r.accepted f) h
 
 -- the refusal of a program part never ends with a fault of the source or of the disk
-pub never_device : {K : Type 0} (sink : OfSink.Ghosts K) (k k' : K) (outcome : Result FormTree Refusal) (status : MakingStatus) → RefusesWith sink k k' outcome status
+pub never_device : {K : Type 0} (sink : OfSink.Ghosts K) (k k' : K) (outcome : Result FormTree Refusal) (status : Status) → RefusesWith sink k k' outcome status
     → (status ≡ SourceFault) ⊎ (status ≡ DiskFault) → ⊥
 never_device sink k k' outcome status (inl (line, is, inl (same, given))) (inl e) = cc
 never_device sink k k' outcome status (inl (line, is, inl (same, given))) (inr e) = cc
@@ -78,7 +78,7 @@ never_device sink k k' outcome status (inl (line, is, inr (same, given))) (inr e
 never_device sink k k' outcome status (inr (same, given)) (inl e) = cc
 never_device sink k k' outcome status (inr (same, given)) (inr e) = cc
 
-module _ {S K D : Type 0} (source : OfSource.Ghosts S) (sink : OfSink.Ghosts K) (disk : OfDisk.Ghosts D) (s s' : S) (k k' : K) (d d' : D) (status : MakingStatus) where
+module _ {S K D : Type 0} (source : OfSource.Ghosts S) (sink : OfSink.Ghosts K) (disk : OfDisk.Ghosts D) (s s' : S) (k k' : K) (d d' : D) (status : Status) where
   -- the script was read, and its store was made or its making stopped
   pub begun : (program : ProgramTree) (form : FormTree) → ReadsScript source s s' program form
       → IfSome (disk.content d) (λ before. length before ≡ 0) → EndsPlan sink disk (k, d) (k', d') (IsFirstStore program form) status

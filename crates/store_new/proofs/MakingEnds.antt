@@ -10,14 +10,14 @@ use Rattle.store_run.specs.declared.refusals.StoreRefusal.TheVariants.{LogExists
 use Rattle.store_new.specs.NewEnds.{GivesLine}
 use Rattle.store_new.specs.Making.{EndsStopped, StopsAppending, IsTaken}
 use Rattle.store_new.specs.NewStores.{HoldsStore, EndsMaking}
-use Rattle.store_new.specs.declared.status.MakingStatus.{MakingStatus}
-use Rattle.store_new.specs.declared.status.MakingStatus.TheVariants.{Done, StoreRefused, DiskFault}
+use Rattle.command_ends.specs.declared.status.Status.{Status}
+use Rattle.command_ends.specs.declared.status.Status.TheVariants.{Done, StoreRefused, DiskFault}
 
-pub never_disk : {K : Type 0} (sink : OfSink.Ghosts K) (k k' : K) (line : List ℕ) (status : MakingStatus) → GivesLine sink k k' line Done status → status ≡ DiskFault → ⊥
+pub never_disk : {K : Type 0} (sink : OfSink.Ghosts K) (k k' : K) (line : List ℕ) (status : Status) → GivesLine sink k k' line Done status → status ≡ DiskFault → ⊥
 never_disk sink k k' line status (inl (is, given)) e = cc
 never_disk sink k k' line status (inr (is, given)) e = cc
 
-module _ {K D : Type 0} (sink : OfSink.Ghosts K) (disk : OfDisk.Ghosts D) (k k' : K) (d d' : D) (status : MakingStatus) where
+module _ {K D : Type 0} (sink : OfSink.Ghosts K) (disk : OfDisk.Ghosts D) (k k' : K) (d d' : D) (status : Status) where
   -- a disk that was found not empty
   pub taken : IfSome (disk.content d) (λ bytes. 0 < length bytes) → OnlyReads disk d d' → GivesLine sink k k' (refusal_line LogExists) StoreRefused status → IsTaken sink disk (k, d) (k', d') status
   taken some reads given = record { some = some; unwritten = record { same = reads.same_content; only = λ c now. (reads.same_images c).1 now }; given = given }

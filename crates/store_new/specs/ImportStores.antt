@@ -28,8 +28,8 @@ use Rattle.store_new.specs.Import.{entry_payload, import_line}
 use Rattle.store_new.specs.Making.{EndsPlan}
 use Rattle.store_new.specs.Init.{program_payload}
 use Rattle.store_new.specs.declared.refused.ImportRefusal.{ImportRefusal}
-use Rattle.store_new.specs.declared.status.MakingStatus.{MakingStatus}
-use Rattle.store_new.specs.declared.status.MakingStatus.TheVariants.{SomeRefused, NoMemory}
+use Rattle.command_ends.specs.declared.status.Status.{Status}
+use Rattle.command_ends.specs.declared.status.Status.TheVariants.{SomeRefused, NoMemory}
 
 -- The entry of the left side whose word makes the document from the initial one, and has a tree.
 pub record MakesDocument (form : FormTree) (doc : DocTree) (entry : Side × WordTree) : Type 0 where
@@ -65,14 +65,14 @@ pub record IsFoundStore (program : ProgramTree) (form : FormTree) (outcome : Res
 
 module _ {K : Type 0} (sink : OfSink.Ghosts K) (old new : K) where
   -- the line of a refusal of the document was written, or a prefix of it
-  pub record RefusesIt (outcome : Result DocTree ImportRefusal) (status : MakingStatus) : Type 0 where
+  pub record RefusesIt (outcome : Result DocTree ImportRefusal) (status : Status) : Type 0 where
     pub refusal : ImportRefusal
     pub is : outcome ≡ Err refusal
     pub given : GivesLine sink old new (import_line refusal) SomeRefused status
 
 module _ {K D : Type 0} (sink : OfSink.Ghosts K) (disk : OfDisk.Ghosts D) (old new : K × D) where
   -- The document is refused and nothing is written to the disk, or its store was made, or its making stopped.
-  abbrev pub EndsImport : ProgramTree → FormTree → Result DocTree ImportRefusal → MakingStatus → Type 0
+  abbrev pub EndsImport : ProgramTree → FormTree → Result DocTree ImportRefusal → Status → Type 0
   EndsImport program form outcome status =
       RefusesIt sink old.0 new.0 outcome status × (new.1 ≡ old.1)
       ⊎ ((doc : DocTree) × (outcome ≡ Ok doc) × EndsPlan sink disk old new (IsImportStore program form doc) status)

@@ -14,14 +14,14 @@ use Rattle.store_run.specs.declared.refusals.StoreRefusal.TheVariants.{LogExists
 use Rattle.store_new.specs.Command.{Command}
 use Rattle.store_new.specs.Scripts.{IsAcceptedPart, GoesOn, RefusesPart}
 use Rattle.store_new.specs.NewStores.{IsTooLong, EndsMaking}
-use Rattle.store_new.specs.declared.status.MakingStatus.{MakingStatus}
-use Rattle.store_new.specs.declared.status.MakingStatus.TheVariants.{Done, SomeRefused, ProgramRefused, StoreRefused}
-use Rattle.store_new.specs.declared.status.MakingStatus.TheVariants.{SourceFault, SinkFault, DiskFault, InputTooLong}
-use Rattle.store_new.specs.declared.status.MakingStatus.TheVariants.{NoMemory}
+use Rattle.command_ends.specs.declared.status.Status.{Status}
+use Rattle.command_ends.specs.declared.status.Status.TheVariants.{Done, SomeRefused, ProgramRefused, StoreRefused}
+use Rattle.command_ends.specs.declared.status.Status.TheVariants.{SourceFault, SinkFault, DiskFault, InputTooLong}
+use Rattle.command_ends.specs.declared.status.Status.TheVariants.{NoMemory}
 
 module _ {K : Type 0} (sink : OfSink.Ghosts K) (old new : K) where
   -- this line was written, and the command ends with this status; or a prefix of it was, and the sink failed
-  abbrev pub GivesLine : List ℕ → MakingStatus → MakingStatus → Type 0
+  abbrev pub GivesLine : List ℕ → Status → Status → Type 0
   GivesLine line ending status =
       (status ≡ ending) × Gave sink old new line
       ⊎ (status ≡ SinkFault) × GaveFront sink old new line
@@ -29,7 +29,7 @@ module _ {K : Type 0} (sink : OfSink.Ghosts K) (old new : K) where
 -- What stopped a command before its script was known, after these bytes. A fault of the source, and too many bytes,
 -- come only before the separator or behind a program part that is accepted. The disk fails here only before anything is
 -- taken.
-abbrev pub StopsAfter : List ℕ → MakingStatus → Type 0
+abbrev pub StopsAfter : List ℕ → Status → Type 0
 StopsAfter bytes SourceFault = (length bytes ≤ MOST_BYTES) × GoesOn bytes
 StopsAfter bytes InputTooLong = (MOST_BYTES < length bytes) × GoesOn bytes
 StopsAfter bytes DiskFault = bytes ≡ []
@@ -38,7 +38,7 @@ StopsAfter bytes status = ⊥
 
 -- A command before a call (old) and after it (new): what its source, its sink and its disk tell.
 module _ {S K D : Type 0} (source : OfSource.Ghosts S) (sink : OfSink.Ghosts K) (disk : OfDisk.Ghosts D)
-    (command : Command) (old new : S × K × D) (status : MakingStatus) where
+    (command : Command) (old new : S × K × D) (status : Status) where
   -- The disk is not empty, and `store refused: log-exists` was written in place of all else. If the content of the disk
   -- is known, nothing was taken from the source.
   pub record FindsStore : Type 0 where
@@ -103,14 +103,14 @@ module _ {S K D : Type 0} (source : OfSource.Ghosts S) (sink : OfSink.Ghosts K) 
 -- ---- the refusal of a program part
 
 -- The command refused the program part. Or the sink failed, at its line, or memory ran out.
-abbrev pub MayRefuse : MakingStatus → Type 0
+abbrev pub MayRefuse : Status → Type 0
 MayRefuse ProgramRefused = Unit {0}
 MayRefuse SinkFault = Unit {0}
 MayRefuse NoMemory = Unit {0}
 MayRefuse status = ⊥
 
 -- A refusal of the program part is exact and comes at once. The source gave these bytes.
-pub record RefusesAtOnce {S : Type 0} (source : OfSource.Ghosts S) (old new : S) (status : MakingStatus) : Type 0 where
+pub record RefusesAtOnce {S : Type 0} (source : OfSource.Ghosts S) (old new : S) (status : Status) : Type 0 where
   pub bytes : List ℕ
   pub took : Took source old new bytes
   -- After ProgramRefused the part is whole and refused: if the separator has come, it came with the last call of the
@@ -123,7 +123,7 @@ pub record RefusesAtOnce {S : Type 0} (source : OfSource.Ghosts S) (old new : S)
 -- ---- a disk that is not empty
 
 module _ {S K D : Type 0} (source : OfSource.Ghosts S) (sink : OfSink.Ghosts K) (disk : OfDisk.Ghosts D)
-    (old new : S × K × D) (status : MakingStatus) where
+    (old new : S × K × D) (status : Status) where
   -- If the disk is not empty, nothing was taken from the source, and nothing was written to the disk. The line `store
   -- refused: log-exists` was written, or a prefix of it and the sink failed; or the disk failed, and nothing was
   -- written.
@@ -137,28 +137,28 @@ module _ {S K D : Type 0} (source : OfSource.Ghosts S) (sink : OfSink.Ghosts K) 
 
 -- The command came to its end: the store is made, or the command refused the script by its own rules, or memory ran
 -- out.
-abbrev pub IsEnd : MakingStatus → Type 0
+abbrev pub IsEnd : Status → Type 0
 IsEnd Done = Unit {0}
 IsEnd SomeRefused = Unit {0}
 IsEnd NoMemory = Unit {0}
 IsEnd status = ⊥
 
 -- the program part was refused, or memory ran out
-abbrev pub IsRefused : MakingStatus → Type 0
+abbrev pub IsRefused : Status → Type 0
 IsRefused ProgramRefused = Unit {0}
 IsRefused NoMemory = Unit {0}
 IsRefused status = ⊥
 
 -- A command over these bytes came to its end if the program part is accepted, and there is room for the log; it refused
 -- the program part if that is refused. Or memory ran out.
-pub record IsComplete (command : Command) (bytes : List ℕ) (status : MakingStatus) : Type 0 where
+pub record IsComplete (command : Command) (bytes : List ℕ) (status : Status) : Type 0 where
   pub accepted : IsAcceptedPart bytes
       → ((payloads : List (List ℕ)) (lines : List ℕ) → command.makes bytes payloads lines → IsTooLong payloads → ⊥)
       → IsEnd status
   pub refused : (refusal : Refusal) → lens_of (program_part bytes) ≡ Err refusal → IsRefused status
 
 module _ {S K D : Type 0} (source : OfSource.Ghosts S) (sink : OfSink.Ghosts K) (disk : OfDisk.Ghosts D)
-    (command : Command) (old new : S × K × D) (status : MakingStatus) where
+    (command : Command) (old new : S × K × D) (status : Status) where
   -- over an empty disk and a source of at most 2^30 bytes the command is complete if no device failed
   abbrev pub Completes : Type 0
   Completes = disk.content old.2 ≡ Some [] → IfSome (source.left old.0) (λ bytes. length bytes ≤ MOST_BYTES

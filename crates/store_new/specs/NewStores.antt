@@ -8,9 +8,9 @@ use Rattle.gate_log.specs.LogBytes.{closed_gate}
 use Rattle.gate_log.specs.LogOnDisk.{HoldsPayloads}
 use Rattle.store_run.specs.Refusals.{refusal_line}
 use Rattle.store_run.specs.declared.refusals.StoreRefusal.TheVariants.{LogFull}
-use Rattle.store_new.specs.declared.status.MakingStatus.{MakingStatus}
-use Rattle.store_new.specs.declared.status.MakingStatus.TheVariants.{Done, StoreRefused, SinkFault, DiskFault}
-use Rattle.store_new.specs.declared.status.MakingStatus.TheVariants.{NoMemory}
+use Rattle.command_ends.specs.declared.status.Status.{Status}
+use Rattle.command_ends.specs.declared.status.Status.TheVariants.{Done, StoreRefused, SinkFault, DiskFault}
+use Rattle.command_ends.specs.declared.status.Status.TheVariants.{NoMemory}
 
 -- the log of these payloads would have more than 2^63 - 1 bytes
 abbrev pub IsTooLong : List (List ℕ) → Type 0
@@ -36,7 +36,7 @@ module _ {K D : Type 0} (sink : OfSink.Ghosts K) (disk : OfDisk.Ghosts D) (old n
   -- made, and the lines were written. SinkFault: it is made, and a prefix of the lines was written; or the log was
   -- full, and a prefix of the line that says so was written. StoreRefused: the log was full, and the line that says so
   -- was written. NoMemory: nothing was written. DiskFault: nothing was written, and the disk may hold any bytes.
-  abbrev pub EndsMaking : MakingStatus → Type 0
+  abbrev pub EndsMaking : Status → Type 0
   EndsMaking Done = HoldsStore disk new.1 payloads × Gave sink old.0 new.0 lines
   EndsMaking SinkFault =
       HoldsStore disk new.1 payloads × GaveFront sink old.0 new.0 lines

@@ -18,14 +18,14 @@ use Rattle.store_new.specs.Reading.{status_at}
 use Rattle.store_new.specs.Scripts.{IsAccepted}
 use Rattle.store_new.specs.declared.scripts.Unread.{Unread}
 use Rattle.store_new.specs.declared.scripts.Unread.TheVariants.{Refused as IsNoProgram, Stopped}
-use Rattle.store_new.specs.declared.status.MakingStatus.{MakingStatus}
-use Rattle.store_new.specs.declared.status.MakingStatus.TheVariants.{ProgramRefused, NoMemory}
+use Rattle.command_ends.specs.declared.status.Status.{Status}
+use Rattle.command_ends.specs.declared.status.Status.TheVariants.{ProgramRefused, NoMemory}
 
 -- ---- the refusal of a program part
 
 module _ {K : Type 0} (sink : OfSink.Ghosts K) (old new : K) where
   -- The outcome is a refusal, and its line was written; or memory ran out before.
-  abbrev pub RefusesWith : Result FormTree Refusal → MakingStatus → Type 0
+  abbrev pub RefusesWith : Result FormTree Refusal → Status → Type 0
   RefusesWith outcome status =
       ((line : List ℕ) × IsLineOf outcome line × GivesLine sink old new line ProgramRefused status)
       ⊎ (status ≡ NoMemory) × Gave sink old new []

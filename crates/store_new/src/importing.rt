@@ -27,8 +27,10 @@ ghost use Rattle.store_new.specs.Making.{EndsPlan};
 ghost use Rattle.store_new.specs.NewRooms.{PlanHasNoRoom, ScriptHasNoRoom};
 ghost use Rattle.store_new.specs.ImportStores.{EndsImport, IsEntryText, IsFoundStore, IsImportStore, MakesDocument};
 
+use crate::scripts::status_at;
 use crate::document::{DocumentFault, Found, document_of, find_lines};
-use crate::{Accepted, LOG_EXISTS, MakingStatus, StoreText, Unread, accepted_part, first_session, give_line, make_store, refuse_program};
+use crate::{Accepted, LOG_EXISTS, StoreText, Unread, accepted_part, first_session, give_line, make_store, refuse_program};
+use command_ends::Status;
 use answer_text::ok_line;
 use doc_values::Doc;
 use edit_inverse::construct;
@@ -90,28 +92,28 @@ pub fn import<S: Source, K: Sink, D: Disk>(
     source: &mut S,
     sink: &mut K,
     disk: &mut D,
-) -> MakingStatus
-    ensures imports { result ≡ MakingStatus.Done
+) -> Status
+    ensures imports { result ≡ Status.Done
         → Imports S.Source K.Sink D.Disk (source.old, sink.old, disk.old) (source.new, sink.new, disk.new) }
-    ensures refuses { result ≡ MakingStatus.SomeRefused
+    ensures refuses { result ≡ Status.SomeRefused
         → RefusesImport S.Source K.Sink D.Disk (source.old, sink.old, disk.old) (source.new, sink.new, disk.new) }
     ensures ends { Ends S.Source K.Sink D.Disk import_command
         (source.old, sink.old, disk.old) (source.new, sink.new, disk.new) result }
     ensures at_once { RefusesAtOnce S.Source source.old source.new result }
     ensures exists { KeepsStore S.Source K.Sink D.Disk
         (source.old, sink.old, disk.old) (source.new, sink.new, disk.new) result }
-    ensures source_fault { result ≡ MakingStatus.SourceFault → SourceFailed S.Source source.old source.new }
-    ensures sink_fault { result ≡ MakingStatus.SinkFault → SinkFailed K.Sink sink.old sink.new }
-    ensures disk_fault { result ≡ MakingStatus.DiskFault → DiskFailed D.Disk disk.old disk.new }
-    ensures room { result ≡ MakingStatus.DiskFault
+    ensures source_fault { result ≡ Status.SourceFault → SourceFailed S.Source source.old source.new }
+    ensures sink_fault { result ≡ Status.SinkFault → SinkFailed K.Sink sink.old sink.new }
+    ensures disk_fault { result ≡ Status.DiskFault → DiskFailed D.Disk disk.old disk.new }
+    ensures room { result ≡ Status.DiskFault
         → IfSome (D.room disk.old) (ScriptHasNoRoom S.Source import_command source.old source.new) }
     ensures complete { Completes S.Source K.Sink D.Disk import_command
         (source.old, sink.old, disk.old) (source.new, sink.new, disk.new) result }
 {
     match disk.len() {
         Ok(0) => import_empty(alloc, source, sink, disk),
-        Ok(_) => give_line(sink, LOG_EXISTS, MakingStatus::StoreRefused),
-        Err(_) => MakingStatus::DiskFault,
+        Ok(_) => give_line(sink, LOG_EXISTS, Status::StoreRefused),
+        Err(_) => Status::DiskFault,
     }
 }
 
@@ -121,20 +123,20 @@ fn import_empty<S: Source, K: Sink, D: Disk>(
     source: &mut S,
     sink: &mut K,
     disk: &mut D,
-) -> MakingStatus
+) -> Status
     requires empty { IfSome (D.content disk.old) (λ bytes. length bytes ≡ 0) }
     ensures ends { Ends S.Source K.Sink D.Disk import_command
         (source.old, sink.old, disk.old) (source.new, sink.new, disk.new) result }
-    ensures source_fault { result ≡ MakingStatus.SourceFault → SourceFailed S.Source source.old source.new }
-    ensures sink_fault { result ≡ MakingStatus.SinkFault → SinkFailed K.Sink sink.old sink.new }
-    ensures disk_fault { result ≡ MakingStatus.DiskFault → DiskFailed D.Disk disk.old disk.new }
-    ensures room { result ≡ MakingStatus.DiskFault
+    ensures source_fault { result ≡ Status.SourceFault → SourceFailed S.Source source.old source.new }
+    ensures sink_fault { result ≡ Status.SinkFault → SinkFailed K.Sink sink.old sink.new }
+    ensures disk_fault { result ≡ Status.DiskFault → DiskFailed D.Disk disk.old disk.new }
+    ensures room { result ≡ Status.DiskFault
         → IfSome (D.room disk.old) (ScriptHasNoRoom S.Source import_command source.old source.new) }
 {
     match read_import(alloc, source) {
         Ok(script) => import_script(alloc, &script, sink, disk),
         Err(Unread::Refused(refused)) => refuse_program(alloc, refused, sink),
-        Err(Unread::Stopped(fault)) => MakingStatus::at_piece(fault),
+        Err(Unread::Stopped(fault)) => status_at(fault),
     }
 }
 
@@ -175,22 +177,22 @@ fn import_script<K: Sink, D: Disk>(
     script: &ImportScript,
     sink: &mut K,
     disk: &mut D,
-) -> MakingStatus
+) -> Status
     ensures ends { EndsImport K.Sink D.Disk (sink.old, disk.old) (sink.new, disk.new)
         (program_tree script.now.accepted.program) (form_tree script.now.accepted.lens)
         (document_of_found (left_type (form_tree script.now.accepted.lens)) script.now.found) result }
-    ensures sink_fault { result ≡ MakingStatus.SinkFault → SinkFailed K.Sink sink.old sink.new }
-    ensures disk_fault { result ≡ MakingStatus.DiskFault → DiskFailed D.Disk disk.old disk.new }
-    ensures room { result ≡ MakingStatus.DiskFault → IfSome (D.room disk.old)
+    ensures sink_fault { result ≡ Status.SinkFault → SinkFailed K.Sink sink.old sink.new }
+    ensures disk_fault { result ≡ Status.DiskFault → DiskFailed D.Disk disk.old disk.new }
+    ensures room { result ≡ Status.DiskFault → IfSome (D.room disk.old)
         (PlanHasNoRoom (IsFoundStore (program_tree script.now.accepted.program) (form_tree script.now.accepted.lens)
         (document_of_found (left_type (form_tree script.now.accepted.lens)) script.now.found))) }
 {
     match document_of(alloc, script.accepted.lens.left(), &script.found) {
         Ok(doc) => bring(alloc, &script.accepted, &doc, sink, disk),
         Err(DocumentFault::Refused(refusal)) => {
-            give_line(sink, refusal.line(), MakingStatus::SomeRefused)
+            give_line(sink, refusal.line(), Status::SomeRefused)
         }
-        Err(DocumentFault::NoMemory) => MakingStatus::NoMemory,
+        Err(DocumentFault::NoMemory) => Status::NoMemory,
     }
 }
 
@@ -201,17 +203,17 @@ fn bring<K: Sink, D: Disk>(
     doc: &Doc,
     sink: &mut K,
     disk: &mut D,
-) -> MakingStatus
+) -> Status
     requires typed { has (left_type (form_tree accepted.now.lens)) (doc_tree doc.now) ≡ true }
     ensures ends { EndsPlan K.Sink D.Disk (sink.old, disk.old) (sink.new, disk.new)
         (IsImportStore (program_tree accepted.now.program) (form_tree accepted.now.lens) (doc_tree doc.now)) result }
-    ensures sink_fault { result ≡ MakingStatus.SinkFault → SinkFailed K.Sink sink.old sink.new }
-    ensures disk_fault { result ≡ MakingStatus.DiskFault → DiskFailed D.Disk disk.old disk.new }
-    ensures room { result ≡ MakingStatus.DiskFault → IfSome (D.room disk.old)
+    ensures sink_fault { result ≡ Status.SinkFault → SinkFailed K.Sink sink.old sink.new }
+    ensures disk_fault { result ≡ Status.DiskFault → DiskFailed D.Disk disk.old disk.new }
+    ensures room { result ≡ Status.DiskFault → IfSome (D.room disk.old)
         (PlanHasNoRoom (IsImportStore (program_tree accepted.now.program) (form_tree accepted.now.lens) (doc_tree doc.now))) }
 {
     let Ok(store) = import_store(alloc, accepted, doc) else {
-        return MakingStatus::NoMemory;
+        return Status::NoMemory;
     };
     make_store(alloc, &store.payloads, &store.lines, sink, disk)
 }

@@ -16,7 +16,6 @@ mod making;
 mod refused;
 mod scripts;
 mod starting;
-mod status;
 
 pub use giving::{give_line, refuse_program};
 pub use importing::import;
@@ -24,4 +23,3 @@ pub use making::{LOG_EXISTS, StoreText, make_store};
 pub use refused::ImportRefusal;
 pub use scripts::{Accepted, Unread, accepted_part, read_script};
 pub use starting::{first_session, init};
-pub use status::MakingStatus;

@@ -8,7 +8,7 @@ ghost use Rattle.store_new.specs.NewRooms.{HasNoRoomToMake};
 ghost use Rattle.store_new.specs.NewStores.{EndsMaking};
 
 use crate::giving::give_line;
-use crate::status::MakingStatus;
+use command_ends::Status;
 use gate_log::{Log, LogFault, create_log};
 use lens_io::{Disk, Payloads, Sink};
 use std::alloc::Global;
@@ -36,13 +36,13 @@ pub fn make_store<K: Sink, D: Disk>(
     lines: &[u8],
     sink: &mut K,
     disk: &mut D,
-) -> MakingStatus
+) -> Status
     ensures ends { EndsStore K.Sink D.Disk (sink.old, disk.old) (sink.new, disk.new)
         payloads.now lines.now result }
-    ensures sink_fault { result ≡ MakingStatus.SinkFault → SinkFailed K.Sink sink.old sink.new }
-    ensures disk_fault { result ≡ MakingStatus.DiskFault → DiskFailed D.Disk disk.old disk.new }
+    ensures sink_fault { result ≡ Status.SinkFault → SinkFailed K.Sink sink.old sink.new }
+    ensures disk_fault { result ≡ Status.DiskFault → DiskFailed D.Disk disk.old disk.new }
     ensures faults { D.faults disk.old ≤ D.faults disk.new }
-    ensures room { result ≡ MakingStatus.DiskFault
+    ensures room { result ≡ Status.DiskFault
         → IfSome (D.room disk.old) (λ most. HasNoRoomToMake most payloads.now) }
 {
     match create_log(disk) {
@@ -50,8 +50,8 @@ pub fn make_store<K: Sink, D: Disk>(
             let mut log = log;
             fill_log(alloc, &mut log, payloads, lines, sink, disk)
         }
-        Err(LogFault::LogExists) => give_line(sink, LOG_EXISTS, MakingStatus::StoreRefused),
-        Err(_) => MakingStatus::DiskFault,
+        Err(LogFault::LogExists) => give_line(sink, LOG_EXISTS, Status::StoreRefused),
+        Err(_) => Status::DiskFault,
     }
 }
 
@@ -63,32 +63,32 @@ fn fill_log<K: Sink, D: Disk>(
     lines: &[u8],
     sink: &mut K,
     disk: &mut D,
-) -> MakingStatus
+) -> Status
     requires gate { log.old.gate ≡ 8 }
     requires stands { Stands (D.content disk.old) (D.images disk.old) log.old [] }
     ensures ends { EndsMaking K.Sink D.Disk (sink.old, disk.old) (sink.new, disk.new)
         payloads.now lines.now result }
-    ensures sink_fault { result ≡ MakingStatus.SinkFault → SinkFailed K.Sink sink.old sink.new }
-    ensures disk_fault { result ≡ MakingStatus.DiskFault → DiskFailed D.Disk disk.old disk.new }
+    ensures sink_fault { result ≡ Status.SinkFault → SinkFailed K.Sink sink.old sink.new }
+    ensures disk_fault { result ≡ Status.DiskFault → DiskFailed D.Disk disk.old disk.new }
     ensures faults { D.faults disk.old ≤ D.faults disk.new }
-    ensures room { result ≡ MakingStatus.DiskFault
+    ensures room { result ≡ Status.DiskFault
         → IfSome (D.room disk.old) (λ most. HasNoRoom most [] payloads.now) }
 {
     match append_all(alloc, log, payloads, disk) {
-        Ok(()) => give_line(sink, lines, MakingStatus::Done),
+        Ok(()) => give_line(sink, lines, Status::Done),
         Err(fault) => end_stopped(fault, sink),
     }
 }
 
 // Ends a command whose payloads were not all stored.
-fn end_stopped<K: Sink>(fault: LogFault, sink: &mut K) -> MakingStatus
+fn end_stopped<K: Sink>(fault: LogFault, sink: &mut K) -> Status
     ensures ends { EndsStopped K.Sink sink.old sink.new fault result }
-    ensures sink_fault { result ≡ MakingStatus.SinkFault → SinkFailed K.Sink sink.old sink.new }
+    ensures sink_fault { result ≡ Status.SinkFault → SinkFailed K.Sink sink.old sink.new }
 {
     match fault {
-        LogFault::LogFull => give_line(sink, LOG_FULL, MakingStatus::StoreRefused),
-        LogFault::NoMemory => MakingStatus::NoMemory,
-        _ => MakingStatus::DiskFault,
+        LogFault::LogFull => give_line(sink, LOG_FULL, Status::StoreRefused),
+        LogFault::NoMemory => Status::NoMemory,
+        _ => Status::DiskFault,
     }
 }
 

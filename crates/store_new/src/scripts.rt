@@ -6,10 +6,12 @@ ghost use Rattle.lens_forms.specs.Forms.{form_tree};
 ghost use Rattle.lens_io.specs.Calls.{SourceFailed};
 ghost use Rattle.program_terms.specs.Views.{program_tree};
 ghost use Rattle.script_input.specs.Parts.{HoldsPart};
+ghost use Rattle.store_new.specs.Reading.{status_at};
 ghost use Rattle.store_new.specs.ScriptReading.{ReadsScript, IsUnread};
 ghost use Rattle.store_new.specs.Scripts.{IsAccepted};
 
 use accepted_programs::Refused;
+use command_ends::Status;
 use lens_io::{Source, TakeFault};
 use lens_syntax::{Program, ProgramFault, read_program};
 use lens_types::{TypeFault, Typed, check};
@@ -30,6 +32,17 @@ pub enum Unread {
     Refused(Refused),
     /// The script was not read to its end.
     Stopped(TakeFault),
+}
+
+// The status of a command whose script was not read to its end, for this fault.
+pub(crate) fn status_at(fault: TakeFault) -> Status
+    ensures { result ≡ status_at fault }
+{
+    match fault {
+        TakeFault::SourceFault => Status::SourceFault,
+        TakeFault::TooLong => Status::InputTooLong,
+        TakeFault::NoMemory => Status::NoMemory,
+    }
 }
 
 /// The program of a script, which is read to its end. The journal part is not looked at. A program part that is whole

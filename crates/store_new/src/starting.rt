@@ -16,10 +16,12 @@ ghost use Rattle.store_new.specs.Making.{EndsPlan};
 ghost use Rattle.store_new.specs.NewRooms.{PlanHasNoRoom, ScriptHasNoRoom};
 ghost use Rattle.store_new.specs.InitStores.{IsFirstStore};
 
+use crate::scripts::status_at;
 use crate::{
-    Accepted, LOG_EXISTS, MakingStatus, StoreText, Unread, give_line, make_store, read_script,
+    Accepted, LOG_EXISTS, StoreText, Unread, give_line, make_store, read_script,
     refuse_program,
 };
+use command_ends::Status;
 use edit_session::Session;
 use lens_flat::Flat;
 use lens_io::{Disk, Payloads, Sink, Source};
@@ -57,27 +59,27 @@ pub fn init<S: Source, K: Sink, D: Disk>(
     source: &mut S,
     sink: &mut K,
     disk: &mut D,
-) -> MakingStatus
-    ensures starts { result ≡ MakingStatus.Done
+) -> Status
+    ensures starts { result ≡ Status.Done
         → Starts S.Source K.Sink D.Disk (source.old, sink.old, disk.old) (source.new, sink.new, disk.new) }
     ensures ends { Ends S.Source K.Sink D.Disk init_command
         (source.old, sink.old, disk.old) (source.new, sink.new, disk.new) result }
     ensures at_once { RefusesAtOnce S.Source source.old source.new result }
     ensures exists { KeepsStore S.Source K.Sink D.Disk
         (source.old, sink.old, disk.old) (source.new, sink.new, disk.new) result }
-    ensures document { result ≡ MakingStatus.SomeRefused → ⊥ }
-    ensures source_fault { result ≡ MakingStatus.SourceFault → SourceFailed S.Source source.old source.new }
-    ensures sink_fault { result ≡ MakingStatus.SinkFault → SinkFailed K.Sink sink.old sink.new }
-    ensures disk_fault { result ≡ MakingStatus.DiskFault → DiskFailed D.Disk disk.old disk.new }
-    ensures room { result ≡ MakingStatus.DiskFault
+    ensures document { result ≡ Status.SomeRefused → ⊥ }
+    ensures source_fault { result ≡ Status.SourceFault → SourceFailed S.Source source.old source.new }
+    ensures sink_fault { result ≡ Status.SinkFault → SinkFailed K.Sink sink.old sink.new }
+    ensures disk_fault { result ≡ Status.DiskFault → DiskFailed D.Disk disk.old disk.new }
+    ensures room { result ≡ Status.DiskFault
         → IfSome (D.room disk.old) (ScriptHasNoRoom S.Source init_command source.old source.new) }
     ensures complete { Completes S.Source K.Sink D.Disk init_command
         (source.old, sink.old, disk.old) (source.new, sink.new, disk.new) result }
 {
     match disk.len() {
         Ok(0) => init_empty(alloc, source, sink, disk),
-        Ok(_) => give_line(sink, LOG_EXISTS, MakingStatus::StoreRefused),
-        Err(_) => MakingStatus::DiskFault,
+        Ok(_) => give_line(sink, LOG_EXISTS, Status::StoreRefused),
+        Err(_) => Status::DiskFault,
     }
 }
 
@@ -87,20 +89,20 @@ fn init_empty<S: Source, K: Sink, D: Disk>(
     source: &mut S,
     sink: &mut K,
     disk: &mut D,
-) -> MakingStatus
+) -> Status
     requires empty { IfSome (D.content disk.old) (λ bytes. length bytes ≡ 0) }
     ensures ends { Ends S.Source K.Sink D.Disk init_command
         (source.old, sink.old, disk.old) (source.new, sink.new, disk.new) result }
-    ensures source_fault { result ≡ MakingStatus.SourceFault → SourceFailed S.Source source.old source.new }
-    ensures sink_fault { result ≡ MakingStatus.SinkFault → SinkFailed K.Sink sink.old sink.new }
-    ensures disk_fault { result ≡ MakingStatus.DiskFault → DiskFailed D.Disk disk.old disk.new }
-    ensures room { result ≡ MakingStatus.DiskFault
+    ensures source_fault { result ≡ Status.SourceFault → SourceFailed S.Source source.old source.new }
+    ensures sink_fault { result ≡ Status.SinkFault → SinkFailed K.Sink sink.old sink.new }
+    ensures disk_fault { result ≡ Status.DiskFault → DiskFailed D.Disk disk.old disk.new }
+    ensures room { result ≡ Status.DiskFault
         → IfSome (D.room disk.old) (ScriptHasNoRoom S.Source init_command source.old source.new) }
 {
     match read_script(alloc, source) {
         Ok(accepted) => begin(alloc, &accepted, sink, disk),
         Err(Unread::Refused(refused)) => refuse_program(alloc, refused, sink),
-        Err(Unread::Stopped(fault)) => MakingStatus::at_piece(fault),
+        Err(Unread::Stopped(fault)) => status_at(fault),
     }
 }
 
@@ -110,16 +112,16 @@ fn begin<K: Sink, D: Disk>(
     accepted: &Accepted,
     sink: &mut K,
     disk: &mut D,
-) -> MakingStatus
+) -> Status
     ensures ends { EndsPlan K.Sink D.Disk (sink.old, disk.old) (sink.new, disk.new)
         (IsFirstStore (program_tree accepted.now.program) (form_tree accepted.now.lens)) result }
-    ensures sink_fault { result ≡ MakingStatus.SinkFault → SinkFailed K.Sink sink.old sink.new }
-    ensures disk_fault { result ≡ MakingStatus.DiskFault → DiskFailed D.Disk disk.old disk.new }
-    ensures room { result ≡ MakingStatus.DiskFault → IfSome (D.room disk.old)
+    ensures sink_fault { result ≡ Status.SinkFault → SinkFailed K.Sink sink.old sink.new }
+    ensures disk_fault { result ≡ Status.DiskFault → DiskFailed D.Disk disk.old disk.new }
+    ensures room { result ≡ Status.DiskFault → IfSome (D.room disk.old)
         (PlanHasNoRoom (IsFirstStore (program_tree accepted.now.program) (form_tree accepted.now.lens))) }
 {
     let Ok(store) = first_store(alloc, accepted) else {
-        return MakingStatus::NoMemory;
+        return Status::NoMemory;
     };
     make_store(alloc, &store.payloads, &store.lines, sink, disk)
 }

@@ -1,4 +1,5 @@
 -- The whole call, from the opening on.
+use Rattle.command_ends.specs.Statuses.{IsFinished}
 use Rattle.std.proofs.Common.{◌≡◌, ◌⊎◌, inl, inr, ℕ, List, [], ◌∷◌, ◌++◌, Option, Some, None, refl, sym, ap, subst, ◌∙◌, Ok, ◌+◌}
 use Rattle.std.specs.Prelude.{option_to_list, IfSome}
 use Rattle.std.proofs.lemmas.Option.{same_Some}
@@ -15,12 +16,12 @@ use Rattle.gate_log.specs.LogOnDisk.{LogState, HoldsPayloads}
 use Rattle.gate_log.specs.declared.fault.LogFault.{LogFault}
 use Rattle.gate_log.specs.declared.fault.LogFault.TheVariants as log
 use Rattle.store_run.specs.Effects.{HoldsFirst, StandsOn}
-use Rattle.store_run.specs.ApplyEnds.{IsFinished, status_of, Exits, Continues, IsSafeFrom}
+use Rattle.store_run.specs.ApplyEnds.{status_of, Exits, Continues, IsSafeFrom}
 use Rattle.store_run.specs.StoreRuns.{text_of, kept_of}
 use Rattle.store_run.specs.ApplyCall.{ContinuesCall, IsSafeCall, EndsOpened}
 use Rattle.store_run.specs.declared.session.Answer.{Answer}
 use Rattle.store_run.specs.declared.session.StoredSession as OfSession
-use Rattle.store_run.specs.declared.status.Status.{Status}
+use Rattle.command_ends.specs.declared.status.Status.{Status}
 use Rattle.store_run.specs.declared.stop.Stop.{Stop}
 use Rattle.store_run.specs.declared.stop.Stop.TheVariants.{LogFull, SourceFault, SinkFault, DiskFault, TooLong, NoMemory}
 use Rattle.store_run.proofs.ChangeCounts.{whole_counts}

@@ -1,4 +1,5 @@
 -- How the whole call ends, and what a crash leaves then.
+use Rattle.command_ends.specs.Statuses.{end_of}
 use Rattle.std.proofs.Common.{◌≡◌, ◌⊎◌, inl, inr, ℕ, ◌<◌, List, [], ◌∷◌, ◌++◌, length, take, refl, sym, ap, subst, ◌∙◌, append_assoc, append-nil, arith, length-append}
 use Rattle.std.specs.Prelude.{option_to_list, codes}
 use Rattle.std.proofs.KnownBytes.{Appends-trans, Consumes-nil}
@@ -15,7 +16,7 @@ use Rattle.script_input.specs.Taking.{TakenInput}
 use Rattle.store_run.specs.Answered.{ended_lines, Answers, StopsAmong, EndsPieces}
 use Rattle.store_run.specs.Crash.{IsAcknowledged, IsCrashSafe}
 use Rattle.store_run.specs.Effects.{HoldsFirst, StandsOn, Adds, Stops}
-use Rattle.store_run.specs.ApplyEnds.{log_full_line, said_at, end_of, SaysStop, EndsStored, StopsStored, Continues, Exits, IsSafeFrom}
+use Rattle.store_run.specs.ApplyEnds.{log_full_line, said_at, SaysStop, EndsStored, StopsStored, Continues, Exits, IsSafeFrom}
 use Rattle.store_run.specs.JournalEnds.{EndsJournal, StopsJournal}
 use Rattle.store_run.specs.OkLines.{ok_lines, AreOtherLines}
 use Rattle.store_run.specs.StoreRuns.{GoesOver, AreSteps, AreAnsweredIn, text_of, kept_of}
@@ -23,8 +24,8 @@ use Rattle.store_run.specs.Stopping.{IsOwnStop}
 use Rattle.store_run.specs.declared.session.Answer.{Answer}
 use Rattle.store_run.specs.declared.session.StoredSession as OfSession
 use Rattle.store_run.specs.declared.journal.Progress.{Progress}
-use Rattle.store_run.specs.declared.status.Status.{Status}
-use Rattle.store_run.specs.declared.status.Status.TheVariants as ending
+use Rattle.command_ends.specs.declared.status.Status.{Status}
+use Rattle.command_ends.specs.declared.status.Status.TheVariants as ending
 use Rattle.store_run.specs.declared.stop.Stop.{Stop}
 use Rattle.store_run.specs.declared.stop.Stop.TheVariants.{LogFull, SourceFault, SinkFault, DiskFault, TooLong, NoMemory}
 use Rattle.store_run.proofs.OkLineCounts.{other_front, other_none}

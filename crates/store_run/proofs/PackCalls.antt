@@ -1,4 +1,5 @@
 -- The whole call of `pack`.
+use Rattle.command_ends.specs.Statuses.{IsFinished}
 use Rattle.std.proofs.Common.{◌≡◌, ◌⊎◌, inl, inr, ℕ, List, [], ◌∷◌, ◌++◌, Option, Some, None, refl, sym, ap, subst, ◌∙◌, append_assoc, append-nil, Ok}
 use Rattle.std.specs.Prelude.{option_to_list, IfSome}
 use Rattle.lens_io.specs.Calls.{Gave}
@@ -9,8 +10,8 @@ use Rattle.gate_log.specs.LogOnDisk.{LogState, HoldsPayloads}
 use Rattle.store_run.specs.CountLines.{packed_line}
 use Rattle.store_run.specs.Effects.{HoldsFirst, StandsOn, begun_at, Adds, Stops}
 use Rattle.store_run.specs.PackCall.{PacksCall, IsSafePack, EndsPacked}
-use Rattle.store_run.specs.ApplyEnds.{IsFinished, status_of}
-use Rattle.store_run.specs.declared.status.Status.{Status}
+use Rattle.store_run.specs.ApplyEnds.{status_of}
+use Rattle.command_ends.specs.declared.status.Status.{Status}
 use Rattle.store_run.specs.declared.stop.Stop.{Stop}
 use Rattle.store_run.specs.declared.stop.Stop.TheVariants.{LogFull, SourceFault, SinkFault, DiskFault, TooLong, NoMemory}
 use Rattle.store_run.proofs.Effects.{first_none, first_all, first_more}

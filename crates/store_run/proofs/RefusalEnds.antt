@@ -1,19 +1,19 @@
 -- The end of a command by a refusal: it writes no `ok` line, and is not one of a command that came to its end.
+use Rattle.command_ends.specs.Statuses.{IsFinished}
 use Rattle.std.proofs.Common.{◌≡◌, ◌⊎◌, inl, inr, ℕ, List, [], ◌∷◌, ◌++◌, take, refl, sym, append-nil, ap, subst, ◌∙◌}
 use Rattle.std.specs.Prelude.{codes, decimal}
 use Rattle.lens_io.specs.Calls.{Gave, GaveFront}
 use Rattle.lens_io.specs.declared.sink.Sink as OfSink
 use Rattle.gate_log.specs.declared.fault.LogFault.{LogFault}
 use Rattle.gate_log.specs.declared.fault.LogFault.TheVariants as log
-use Rattle.store_run.specs.ApplyEnds.{IsFinished}
 use Rattle.store_run.specs.OkLines.{ok_lines, AreOtherLines}
 use Rattle.store_run.specs.Refusals.{refusal_line, Refuses, EndsAtLog, EndsAtPayloads}
 use Rattle.store_run.specs.declared.refusals.StoreRefusal.{StoreRefusal}
 use Rattle.store_run.specs.declared.refusals.StoreRefusal.TheVariants.{NotALog, LogExists, LogFull, BadRecord, NotConsistent, NothingToUndo}
 use Rattle.store_run.specs.declared.session.ReopenFault.{ReopenFault}
 use Rattle.store_run.specs.declared.session.ReopenFault.TheVariants as reopening
-use Rattle.store_run.specs.declared.status.Status.{Status}
-use Rattle.store_run.specs.declared.status.Status.TheVariants as ending
+use Rattle.command_ends.specs.declared.status.Status.{Status}
+use Rattle.command_ends.specs.declared.status.Status.TheVariants as ending
 use Rattle.store_run.proofs.Decimals.{decimal_plain}
 use Rattle.store_run.proofs.ApplyEndsHold.{none_of, none_of_front}
 

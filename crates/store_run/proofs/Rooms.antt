@@ -1,4 +1,5 @@
 -- Why the commands over a store ended so.
+use Rattle.command_ends.specs.Statuses.{IsFinished, end_of}
 use Rattle.std.proofs.Common.{◌≡◌, ◌⊎◌, inl, inr, ℕ, ◌+◌, ◌<◌, List, [], ◌∷◌, ◌++◌, length, Bool, true, false, Option, Some, None, refl, sym, ap, subst, ◌∙◌, append_assoc, append-nil, arith}
 use Rattle.std.specs.Prelude.{option_to_list, IfSome, IsNone}
 use Rattle.lens_io.specs.Calls.{Took}
@@ -14,7 +15,7 @@ use Rattle.store_run.specs.Answered.{ended_lines, StopsAmong}
 use Rattle.store_run.specs.ApplyCall.{EndsCall}
 use Rattle.store_run.specs.CountLines.{packed_line}
 use Rattle.store_run.specs.Effects.{IsOver, IsFullAt, Stops}
-use Rattle.store_run.specs.ApplyEnds.{IsFinished, end_of, status_of, StopsStored, Exits}
+use Rattle.store_run.specs.ApplyEnds.{status_of, StopsStored, Exits}
 use Rattle.store_run.specs.JournalEnds.{StopsJournal}
 use Rattle.store_run.specs.PackCall.{EndsPack}
 use Rattle.store_run.specs.Rooms.{most_bytes, HasNoRoom, TakesWithin, TakesTooMany, RunHasNoRoom, IsCauseInRoom, PackHasNoRoom, IsPackCauseInRoom}
@@ -23,8 +24,8 @@ use Rattle.store_run.specs.StoreEnds.{StoreEnds}
 use Rattle.store_run.specs.Stopping.{IsOwnStop}
 use Rattle.store_run.specs.ViewCall.{Views}
 use Rattle.store_run.specs.declared.session.StoredSession as OfSession
-use Rattle.store_run.specs.declared.status.Status.{Status}
-use Rattle.store_run.specs.declared.status.Status.TheVariants as ending
+use Rattle.command_ends.specs.declared.status.Status.{Status}
+use Rattle.command_ends.specs.declared.status.Status.TheVariants as ending
 use Rattle.store_run.specs.declared.stop.Stop.{Stop}
 use Rattle.store_run.specs.declared.stop.Stop.TheVariants.{LogFull, SourceFault, SinkFault, DiskFault, TooLong, NoMemory}
 use Rattle.store_run.proofs.Effects.{records_append, room_over}
@@ -194,6 +195,8 @@ module _ {S K D A : Type 0} (source : OfSource.Ghosts S) (sink : OfSink.Ghosts K
   apply_complete ending.DiskFault o h at_source at_sink at_disk many none = absurd (at_disk refl)
   apply_complete ending.InputTooLong o h at_source at_sink at_disk many none = absurd (many h)
   apply_complete ending.NoMemory o h at_source at_sink at_disk many none = inr refl
+  apply_complete ending.Usage o h at_source at_sink at_disk many none = absurd h
+  apply_complete ending.ProgramRefused o h at_source at_sink at_disk many none = absurd h
 
 -- ---- a payload behind others, and a line
 
@@ -215,10 +218,10 @@ module _ {K D : Type 0} (sink : OfSink.Ghosts K) (disk : OfDisk.Ghosts D) where
   abbrev IsStoreCause : Status → Type 0 → Type 0 → Type 0
   IsStoreCause ending.StoreRefused P Q = P
   IsStoreCause ending.DiskFault P Q = Q
-  IsStoreCause ending.SourceFault P Q = ⊥
-  IsStoreCause ending.InputTooLong P Q = ⊥
-  IsStoreCause ending.SomeRefused P Q = ⊥
-  IsStoreCause status P Q = Unit {0}
+  IsStoreCause ending.Done P Q = Unit {0}
+  IsStoreCause ending.SinkFault P Q = Unit {0}
+  IsStoreCause ending.NoMemory P Q = Unit {0}
+  IsStoreCause status P Q = ⊥
 
   store_stop : (stop : Stop) (o : Option ℕ) (R : ℕ → Type 0) → IsOwnStop stop → IfSome (room_at stop o) R → IsStoreCause (status_of stop) (R most_bytes) (IfSome o R)
   store_stop LogFull o R own h = h
@@ -253,6 +256,8 @@ module _ {K D : Type 0} (sink : OfSink.Ghosts K) (disk : OfDisk.Ghosts D) where
     pack_of ending.DiskFault o p made h = room_over o (λ most. HasNoRoom most before (option_to_list version ++ p ∷ [])) (λ most. PackHasNoRoom session most before t version) (λ most n. (p, made, n)) h
     pack_of ending.SourceFault o p made h = h
     pack_of ending.InputTooLong o p made h = h
+    pack_of ending.Usage o p made h = h
+    pack_of ending.ProgramRefused o p made h = h
     pack_of ending.SomeRefused o p made h = h
     pack_of ending.Done o p made h = tt
     pack_of ending.SinkFault o p made h = tt
@@ -283,6 +288,8 @@ pack_complete session ending.DiskFault o before t version h at_sink at_disk none
 pack_complete session ending.SomeRefused o before t version h at_sink at_disk none = absurd h
 pack_complete session ending.SourceFault o before t version h at_sink at_disk none = absurd h
 pack_complete session ending.InputTooLong o before t version h at_sink at_disk none = absurd h
+pack_complete session ending.Usage o before t version h at_sink at_disk none = absurd h
+pack_complete session ending.ProgramRefused o before t version h at_sink at_disk none = absurd h
 
 pub views_complete : {K : Type 0} (sink : OfSink.Ghosts K) (old new : K) (text : List ℕ) (status : Status) → Views sink old new text status → (status ≡ ending.SinkFault → ⊥) → (status ≡ ending.DiskFault → ⊥) → (status ≡ ending.Done) ⊎ (status ≡ ending.NoMemory)
 views_complete sink old new text status (inl h) at_sink at_disk = inl h.0

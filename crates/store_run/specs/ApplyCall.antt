@@ -1,5 +1,6 @@
 -- The whole command `apply`: what it comes to, and what a crash leaves of it.
 -- Read it from the end: `EndsCall` for each status, `IsSafeCall`, then `ContinuesCall`.
+use Rattle.command_ends.specs.Statuses.{end_of}
 use Rattle.std.specs.Prelude.{◌≡◌, ◌⊎◌, ℕ, ◌+◌, ◌≤◌, List, [], ◌++◌, length, Option, Some, None, Ok, option_to_list, IfSome}
 use Rattle.lens_io.specs.Calls.{Took, IsRead, IsUnasked, Gave}
 use Rattle.lens_io.specs.DiskRuns.{LeavesOnly}
@@ -12,13 +13,13 @@ use Rattle.edit_journal.specs.declared.line.Line.{Line}
 use Rattle.script_input.specs.declared.limits.TheConstants.{MOST_BYTES}
 use Rattle.store_run.specs.Crash.{IsAcknowledged}
 use Rattle.store_run.specs.Effects.{HoldsFirst, StandsOn}
-use Rattle.store_run.specs.ApplyEnds.{end_of, Exits}
+use Rattle.store_run.specs.ApplyEnds.{Exits}
 use Rattle.store_run.specs.OkLines.{ok_lines}
 use Rattle.store_run.specs.Refusals.{IsUnwritten, IsOpening, FailsUnopened}
 use Rattle.store_run.specs.StoreRuns.{run, AreSteps, last, any_refused, text_of, kept_of}
 use Rattle.store_run.specs.declared.session.Answer.{Answer}
 use Rattle.store_run.specs.declared.session.StoredSession as OfSession
-use Rattle.store_run.specs.declared.status.Status.{Status}
+use Rattle.command_ends.specs.declared.status.Status.{Status}
 
 -- The payloads from before, with the first of those that these steps store or with all of them, stand for a state of
 -- the run: the one behind the steps that stored these first ones. If there are any, the version record is not still to

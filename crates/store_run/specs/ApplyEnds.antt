@@ -1,6 +1,6 @@
 -- How `apply` ends over a session that was opened, and what holds then. Read it from the end: `IsSafeFrom`, `Exits`,
 -- then `Continues`.
-use Rattle.std.specs.Prelude.{◌≡◌, ◌⊎◌, ℕ, ◌≤◌, List, [], ◌++◌, length, Bool, true, false, Some}
+use Rattle.std.specs.Prelude.{◌≡◌, ◌⊎◌, ℕ, ◌≤◌, List, [], ◌++◌, length, Some}
 use Rattle.lens_io.specs.Calls.{Took, IsRead, IsUnasked, Gave, GaveFront}
 use Rattle.lens_io.specs.DiskRuns.{LeavesOnly}
 use Rattle.lens_io.specs.declared.source.Source as OfSource
@@ -21,8 +21,9 @@ use Rattle.store_run.specs.Stopping.{IsOwnStop}
 use Rattle.store_run.specs.declared.session.Answer.{Answer}
 use Rattle.store_run.specs.declared.session.StoredSession as OfSession
 use Rattle.store_run.specs.declared.journal.Progress.{Progress}
-use Rattle.store_run.specs.declared.status.Status.{Status}
-use Rattle.store_run.specs.declared.status.Status.TheVariants as ending
+use Rattle.command_ends.specs.Statuses.{end_of}
+use Rattle.command_ends.specs.declared.status.Status.{Status}
+use Rattle.command_ends.specs.declared.status.Status.TheVariants as ending
 use Rattle.store_run.specs.declared.stop.Stop.{Stop}
 use Rattle.store_run.specs.declared.stop.Stop.TheVariants.{LogFull, SourceFault, SinkFault, DiskFault, TooLong, NoMemory}
 
@@ -34,15 +35,6 @@ log_full_line = refusal_line refusing.LogFull
 abbrev pub said_at : Stop → List ℕ
 said_at LogFull = log_full_line
 said_at stop = []
-
--- the status of a run that came to its end
-abbrev pub end_of : Bool → Status
-end_of true = ending.SomeRefused
-end_of false = ending.Done
-
--- the command came to its end
-abbrev pub IsFinished : Status → Type 0
-IsFinished status = (status ≡ ending.Done) ⊎ (status ≡ ending.SomeRefused)
 
 -- the status of a stop
 abbrev pub status_of : Stop → Status

@@ -6,8 +6,8 @@ use Rattle.lens_io.specs.declared.sink.Sink as OfSink
 use Rattle.store_run.specs.Answered.{ended_lines, AnswersFirst}
 use Rattle.store_run.specs.StoreRuns.{AreAnsweredIn}
 use Rattle.store_run.specs.declared.session.StoredSession as OfSession
-use Rattle.store_run.specs.declared.status.Status.{Status}
-use Rattle.store_run.specs.declared.status.Status.TheVariants as ending
+use Rattle.command_ends.specs.declared.status.Status.{Status}
+use Rattle.command_ends.specs.declared.status.Status.TheVariants as ending
 
 -- these statuses come from the source: it failed, or had too many bytes
 abbrev pub EndsAtSource : Status → Type 0

@@ -11,7 +11,7 @@ use Rattle.store_run.specs.Effects.{HoldsFirst}
 use Rattle.store_run.specs.Refusals.{IsUnwritten, IsOpening, FailsUnopened}
 use Rattle.store_run.specs.StoreEnds.{StoresBehind}
 use Rattle.store_run.specs.declared.session.StoredSession as OfSession
-use Rattle.store_run.specs.declared.status.Status.{Status}
+use Rattle.command_ends.specs.declared.status.Status.{Status}
 
 -- The sync of the opening failed. Nothing was written, and there is no image that was not possible before.
 pub record IsUnpacked {K D : Type 0} (sink : OfSink.Ghosts K) (disk : OfDisk.Ghosts D) (old new : K × D) : Type 0 where

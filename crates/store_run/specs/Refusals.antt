@@ -13,8 +13,8 @@ use Rattle.store_run.specs.declared.refusals.StoreRefusal.TheVariants.{NotALog, 
 use Rattle.store_run.specs.declared.session.ReopenFault.{ReopenFault}
 use Rattle.store_run.specs.declared.session.ReopenFault.TheVariants as reopening
 use Rattle.store_run.specs.declared.session.StoredSession as OfSession
-use Rattle.store_run.specs.declared.status.Status.{Status}
-use Rattle.store_run.specs.declared.status.Status.TheVariants as ending
+use Rattle.command_ends.specs.declared.status.Status.{Status}
+use Rattle.command_ends.specs.declared.status.Status.TheVariants as ending
 
 -- ---- the line
 

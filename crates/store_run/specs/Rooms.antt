@@ -11,8 +11,8 @@ use Rattle.script_input.specs.declared.limits.TheConstants.{MOST_BYTES}
 use Rattle.store_run.specs.StoreRuns.{run, kept_of}
 use Rattle.store_run.specs.declared.session.Answer.{Answer}
 use Rattle.store_run.specs.declared.session.StoredSession as OfSession
-use Rattle.store_run.specs.declared.status.Status.{Status}
-use Rattle.store_run.specs.declared.status.Status.TheVariants as ending
+use Rattle.command_ends.specs.declared.status.Status.{Status}
+use Rattle.command_ends.specs.declared.status.Status.TheVariants as ending
 
 -- A log never passes so many bytes.
 abbrev pub most_bytes : ℕ
@@ -56,7 +56,7 @@ module _ {S A : Type 0} (source : OfSource.Ghosts S) (session : OfSession.Ghosts
 
   -- What holds after each status of `apply` over payloads that stand for a session, on a disk of this room.
   -- `StoreRefused`: the log had no room. `DiskFault`: if the disk's room is known, it had none. `InputTooLong`: too
-  -- many bytes were taken; after `Done`, `SomeRefused` and `SourceFault` not.
+  -- many bytes were taken; after `Done`, `SomeRefused` and `SourceFault` not. No status comes that is not named.
   abbrev pub IsCauseInRoom : Option ℕ → List (List ℕ) → session.State → Option (List ℕ) → Status → Type 0
   IsCauseInRoom room before t version ending.StoreRefused = RunHasNoRoom most_bytes before t version
   IsCauseInRoom room before t version ending.DiskFault = IfSome room (λ most. RunHasNoRoom most before t version)
@@ -64,7 +64,9 @@ module _ {S A : Type 0} (source : OfSource.Ghosts S) (session : OfSession.Ghosts
   IsCauseInRoom room before t version ending.Done = TakesWithin source old new
   IsCauseInRoom room before t version ending.SomeRefused = TakesWithin source old new
   IsCauseInRoom room before t version ending.SourceFault = TakesWithin source old new
-  IsCauseInRoom room before t version status = Unit {0}
+  IsCauseInRoom room before t version ending.SinkFault = Unit {0}
+  IsCauseInRoom room before t version ending.NoMemory = Unit {0}
+  IsCauseInRoom room before t version status = ⊥
 
 -- the same, of a source and a disk before the call and after it
 abbrev pub IsApplyCause : {S D A : Type 0} → OfSource.Ghosts S → OfDisk.Ghosts D → (session : OfSession.Ghosts A) → S
@@ -80,15 +82,15 @@ module _ {A : Type 0} (session : OfSession.Ghosts A) where
       (snapshot : List ℕ) × session.is_snapshot t snapshot
       × HasNoRoom most before (option_to_list version ++ snapshot ∷ [])
 
-  -- What holds after each status of `pack` over payloads that stand for a session, on a disk of this room; it never
-  -- is one of the last three.
+  -- What holds after each status of `pack` over payloads that stand for a session, on a disk of this room. No status
+  -- comes that is not named.
   abbrev pub IsPackCauseInRoom : Option ℕ → List (List ℕ) → session.State → Option (List ℕ) → Status → Type 0
   IsPackCauseInRoom room before t version ending.StoreRefused = PackHasNoRoom most_bytes before t version
   IsPackCauseInRoom room before t version ending.DiskFault = IfSome room (λ most. PackHasNoRoom most before t version)
-  IsPackCauseInRoom room before t version ending.SourceFault = ⊥
-  IsPackCauseInRoom room before t version ending.InputTooLong = ⊥
-  IsPackCauseInRoom room before t version ending.SomeRefused = ⊥
-  IsPackCauseInRoom room before t version status = Unit {0}
+  IsPackCauseInRoom room before t version ending.Done = Unit {0}
+  IsPackCauseInRoom room before t version ending.SinkFault = Unit {0}
+  IsPackCauseInRoom room before t version ending.NoMemory = Unit {0}
+  IsPackCauseInRoom room before t version status = ⊥
 
 -- the same, of a disk before the call
 abbrev pub IsPackCause : {D A : Type 0} → OfDisk.Ghosts D → (session : OfSession.Ghosts A) → D

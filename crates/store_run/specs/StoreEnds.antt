@@ -7,8 +7,8 @@ use Rattle.gate_log.specs.LogOnDisk.{LogState}
 use Rattle.store_run.specs.Effects.{StandsOn, Adds, Stops}
 use Rattle.store_run.specs.ApplyEnds.{SaysStop}
 use Rattle.store_run.specs.Stopping.{IsOwnStop}
-use Rattle.store_run.specs.declared.status.Status.{Status}
-use Rattle.store_run.specs.declared.status.Status.TheVariants as ending
+use Rattle.command_ends.specs.declared.status.Status.{Status}
+use Rattle.command_ends.specs.declared.status.Status.TheVariants as ending
 use Rattle.store_run.specs.declared.stop.Stop.{Stop}
 
 -- A sink, a disk and the log on it, before the storing and after it.

@@ -6,8 +6,8 @@ use Rattle.lens_io.specs.declared.sink.Sink as OfSink
 use Rattle.store_run.specs.CountLines.{consistent_line}
 use Rattle.store_run.specs.Refusals.{FailsEarly}
 use Rattle.store_run.specs.declared.session.StoredSession as OfSession
-use Rattle.store_run.specs.declared.status.Status.{Status}
-use Rattle.store_run.specs.declared.status.Status.TheVariants as ending
+use Rattle.command_ends.specs.declared.status.Status.{Status}
+use Rattle.command_ends.specs.declared.status.Status.TheVariants as ending
 use Rattle.store_run.specs.declared.view_call.StoreView.{StoreView}
 use Rattle.store_run.specs.declared.view_call.StoreView.TheVariants as view
 

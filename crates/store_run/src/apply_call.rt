@@ -1,4 +1,5 @@
 //! The command `apply`, from its first call of the disk on.
+ghost use Rattle.command_ends.specs.Statuses.{IsFinished};
 ghost use Rattle.std.specs.Prelude.{◌≡◌, ◌⊎◌, List, ℕ, Ok, Some};
 ghost use Rattle.std.specs.declared.option.Option.{Option};
 ghost use Rattle.lens_io.specs.Calls.{IsUnasked, SourceFailed, SinkFailed, DiskFailed};
@@ -7,7 +8,6 @@ ghost use Rattle.script_input.specs.Taking.{GaveFew};
 ghost use Rattle.script_input.specs.declared.limits.TheConstants.{PIECE_BYTES};
 ghost use Rattle.store_run.specs.ApplyCall.{ContinuesCall, IsSafeCall, IsUnopened, EndsCall};
 ghost use Rattle.store_run.specs.Effects.{StandsOn};
-ghost use Rattle.store_run.specs.ApplyEnds.{IsFinished};
 ghost use Rattle.store_run.specs.InTime.{AnswersInTime};
 ghost use Rattle.store_run.specs.Refusals.{IsUnwritten, EndsRefused, refusal_of_payloads};
 ghost use Rattle.store_run.specs.Rooms.{most_bytes, TakesTooMany, RunHasNoRoom, IsApplyCause};
@@ -17,7 +17,7 @@ ghost use Rattle.store_run.specs.declared.refusals.StoreRefusal.{StoreRefusal};
 use crate::continuing::continue_store;
 use crate::refusals::{refuse_log, refuse_payloads};
 use crate::session::StoredSession;
-use crate::status::Status;
+use command_ends::Status;
 use gate_log::{Log, open_log};
 use lens_io::{Disk, Payloads, Sink, Source};
 use std::alloc::Global;

@@ -1,4 +1,5 @@
 //! Going on with a session that was opened, by a journal: what comes before the lines and behind them.
+ghost use Rattle.command_ends.specs.Statuses.{end_of};
 ghost use Rattle.std.specs.Prelude.{◌≡◌, ◌⊎◌, ◌+◌, ◌^◌, ◌<◌, ◌≤◌, [], false, List, ℕ, IfOk, IfErr, IsErrOf, option_to_list};
 ghost use Rattle.lens_io.specs.Calls.{Gave, GaveFront, SourceFailed, SinkFailed, DiskFailed};
 ghost use Rattle.edit_journal.specs.Pieces.{last_line};
@@ -7,7 +8,7 @@ ghost use Rattle.script_input.specs.declared.limits.TheConstants.{PIECE_BYTES};
 ghost use Rattle.store_run.specs.Answered.{Answers, StopsAmong};
 ghost use Rattle.store_run.specs.ApplyCauses.{Counted, stop_in};
 ghost use Rattle.store_run.specs.Effects.{StandsOn};
-ghost use Rattle.store_run.specs.ApplyEnds.{EndsStored, StopsStored, Exits, IsSafeFrom, end_of};
+ghost use Rattle.store_run.specs.ApplyEnds.{EndsStored, StopsStored, Exits, IsSafeFrom};
 ghost use Rattle.store_run.specs.InTime.{AnswersInTime};
 ghost use Rattle.store_run.specs.JournalEnds.{EndsJournal, StopsJournal};
 ghost use Rattle.store_run.specs.OkLines.{AreOtherLines};
@@ -16,9 +17,9 @@ ghost use Rattle.store_run.specs.Stopping.{IsOwnStop};
 use crate::journal::{Progress, answer_line, answer_pieces};
 use crate::refusals::give_stop;
 use crate::session::StoredSession;
-use crate::status::Status;
 use crate::stop::Stop;
 use crate::store::store_version;
+use command_ends::Status;
 use gate_log::Log;
 use lens_io::{Disk, Sink, Source, give_all};
 use script_input::{Input, piece_buffer};

@@ -1,4 +1,5 @@
 //! The command `pack`, from its first call of the disk on.
+ghost use Rattle.command_ends.specs.Statuses.{IsFinished};
 ghost use Rattle.std.specs.Prelude.{◌≡◌, ◌⊎◌, ◌∷◌, ◌++◌, [], List, ℕ, Ok, Some, OnOk, IfOk, IfErr, option_to_list};
 ghost use Rattle.std.specs.declared.option.Option.{Option};
 ghost use Rattle.lens_io.specs.Calls.{SinkFailed, DiskFailed};
@@ -6,7 +7,6 @@ ghost use Rattle.gate_log.specs.LogOnDisk.{HoldsPayloads};
 ghost use Rattle.store_run.specs.ApplyCauses.{Counted, stop_in};
 ghost use Rattle.store_run.specs.CountLines.{packed_line};
 ghost use Rattle.store_run.specs.Effects.{StandsOn, Adds, Stops};
-ghost use Rattle.store_run.specs.ApplyEnds.{IsFinished};
 ghost use Rattle.store_run.specs.PackCall.{PacksCall, IsSafePack, IsUnpacked, EndsPack};
 ghost use Rattle.store_run.specs.Refusals.{IsUnwritten, EndsRefused, refusal_of_payloads};
 ghost use Rattle.store_run.specs.Rooms.{most_bytes, PackHasNoRoom, IsPackCause};
@@ -17,9 +17,9 @@ ghost use Rattle.store_run.specs.declared.refusals.StoreRefusal.{StoreRefusal};
 use crate::count_lines::packed_line;
 use crate::refusals::{give_stop, refuse_log, refuse_payloads};
 use crate::session::StoredSession;
-use crate::status::Status;
 use crate::stop::Stop;
 use crate::store::{store_and_answer, store_version};
+use command_ends::Status;
 use gate_log::{Log, open_log};
 use lens_io::{Disk, Payloads, Sink};
 use std::alloc::{AllocError, Global};

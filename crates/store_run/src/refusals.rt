@@ -5,8 +5,8 @@ ghost use Rattle.store_run.specs.ApplyEnds.{SaysStop};
 ghost use Rattle.store_run.specs.Refusals.{refusal_line, Refuses, EndsAtLog, EndsAtPayloads};
 
 use crate::session::ReopenFault;
-use crate::status::Status;
 use crate::stop::Stop;
+use command_ends::Status;
 use gate_log::LogFault;
 use lens_io::{Sink, give_all};
 use std::alloc::{AllocError, Global};

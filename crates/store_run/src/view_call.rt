@@ -13,7 +13,7 @@ ghost use Rattle.store_run.specs.declared.refusals.StoreRefusal.{StoreRefusal};
 use crate::count_lines::consistent_line;
 use crate::refusals::{refuse_log, refuse_payloads};
 use crate::session::StoredSession;
-use crate::status::Status;
+use command_ends::Status;
 use gate_log::{Log, open_log};
 use lens_io::{Disk, Payloads, Sink, give_all};
 use std::alloc::{AllocError, Global};

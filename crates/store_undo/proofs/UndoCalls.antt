@@ -11,8 +11,8 @@ use Rattle.store_records.specs.declared.record_fault.ReopenFault.{ReopenFault}
 use Rattle.store_run.specs.Effects.{HoldsFirst, StandsOn, Stops}
 use Rattle.store_run.specs.Refusals.{IsUnwritten, IsOpening, FailsUnopened}
 use Rattle.store_run.specs.StoreEnds.{StoreEnds, StoresBehind}
-use Rattle.store_run.specs.declared.status.Status.{Status}
-use Rattle.store_run.specs.declared.status.Status.TheVariants as ending
+use Rattle.command_ends.specs.declared.status.Status.{Status}
+use Rattle.command_ends.specs.declared.status.Status.TheVariants as ending
 use Rattle.store_run.specs.declared.stop.Stop.{Stop}
 use Rattle.store_run.proofs.Effects.{first_all}
 use Rattle.store_run.proofs.Moments.{leaves_more, leaves_then}

@@ -12,8 +12,8 @@ use Rattle.store_run.specs.Rooms.{most_bytes, HasNoRoom}
 use Rattle.store_run.specs.StoreEnds.{StoreEnds, StoresBehind}
 use Rattle.store_run.specs.Stopping.{IsOwnStop}
 use Rattle.store_run.specs.declared.refusals.StoreRefusal.{StoreRefusal}
-use Rattle.store_run.specs.declared.status.Status.{Status}
-use Rattle.store_run.specs.declared.status.Status.TheVariants as ending
+use Rattle.command_ends.specs.declared.status.Status.{Status}
+use Rattle.command_ends.specs.declared.status.Status.TheVariants as ending
 use Rattle.store_run.specs.declared.stop.Stop.{Stop}
 use Rattle.store_run.specs.declared.stop.Stop.TheVariants.{LogFull, SourceFault, SinkFault, DiskFault, TooLong, NoMemory}
 use Rattle.store_run.proofs.Effects.{records_append, room_over}
@@ -65,6 +65,8 @@ undo_complete ending.DiskFault o before u h sink disk none = absurd (disk refl)
 undo_complete ending.SomeRefused o before u h sink disk none = absurd h
 undo_complete ending.SourceFault o before u h sink disk none = absurd h
 undo_complete ending.InputTooLong o before u h sink disk none = absurd h
+undo_complete ending.Usage o before u h sink disk none = absurd h
+undo_complete ending.ProgramRefused o before u h sink disk none = absurd h
 
 -- ---- statuses
 

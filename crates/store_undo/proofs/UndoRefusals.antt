@@ -13,7 +13,7 @@ use Rattle.store_records.specs.declared.record_fault.ReopenFault.{ReopenFault}
 use Rattle.store_run.specs.Refusals.{Refuses, EndsAtLog, EndsRefused}
 use Rattle.store_run.specs.declared.refusals.StoreRefusal.{StoreRefusal}
 use Rattle.store_run.specs.declared.refusals.StoreRefusal.TheVariants.{NotALog, BadRecord}
-use Rattle.store_run.specs.declared.status.Status.{Status}
+use Rattle.command_ends.specs.declared.status.Status.{Status}
 use Rattle.store_run.proofs.Openings.{at_content}
 use Rattle.store_session.specs.Stands.{Standing, stands}
 use Rattle.store_undo.specs.Undoing.{Undoing, undoing_from, undoing_of, undoing, last_changes, payloads_before, refusal_of, refusal_of_log, refusal_in, undo_refusal}

@@ -7,7 +7,7 @@ use Rattle.gate_log.specs.LogOnDisk.{LogState, HoldsPayloads}
 use Rattle.store_run.specs.Effects.{StandsOn}
 use Rattle.store_run.specs.Refusals.{IsOpening, FailsUnopened}
 use Rattle.store_run.specs.StoreEnds.{StoreEnds}
-use Rattle.store_run.specs.declared.status.Status.{Status}
+use Rattle.command_ends.specs.declared.status.Status.{Status}
 use Rattle.store_undo.specs.Undoing.{Undoing}
 use Rattle.store_undo.specs.UndoRecords.{undo_text, version_due, snapshot_text, TakesBack}
 

@@ -14,10 +14,11 @@ ghost use Rattle.store_undo.specs.Undoing.{Undoing, undoing, undo_refusal};
 ghost use Rattle.store_undo.specs.UndoRecords.{version_due, snapshot_text, undo_text};
 
 use crate::making::{Making, MakingFault, make};
+use command_ends::Status;
 use gate_log::{Log, open_log};
 use lens_io::{Disk, Payloads, Sink};
 use std::alloc::Global;
-use store_run::{Status, give_stop, pack_store, refuse, refuse_log};
+use store_run::{give_stop, pack_store, refuse, refuse_log};
 
 /// Opens a store, and takes its documents and its complement back to what they were before the last `count` changes.
 ///

@@ -1,4 +1,5 @@
 //! Refusals that no command shows: of calls that a caller of the libraries may make otherwise than the program does.
+use command_ends::Status;
 use edit_journal::Line;
 use edit_json::read_word;
 use edit_module::Word;
@@ -11,7 +12,7 @@ use lens_types::{Form, Typed, check};
 use script_input::ProgramText;
 use serde_json::Value;
 use std::alloc::Global;
-use store_new::{MakingStatus, give_line};
+use store_new::give_line;
 use store_records::stored_version;
 use texts::Side;
 use turn_link::{Batch, LeftSite, ReceiveFault, RightSite};
@@ -194,9 +195,9 @@ fn texts_that_are_not_there(rt: HostRuntime) {
 fn statuses_behind_a_line(rt: HostRuntime) {
     let alloc = rt.alloc();
     for status in [
-        MakingStatus::SourceFault,
-        MakingStatus::DiskFault,
-        MakingStatus::InputTooLong,
+        Status::SourceFault,
+        Status::DiskFault,
+        Status::InputTooLong,
     ] {
         let mut sink = MemSink::new(alloc, Vec::new(alloc), Vec::new(alloc));
         assert_eq!(rt; give_line(&mut sink, b"a line\n", status), status);

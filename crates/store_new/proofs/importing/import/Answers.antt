@@ -2,7 +2,7 @@ use Rattle.std.proofs.Common.{arith}
 use Rattle.lens_io.proofs.Increases.{increased_since}
 use Rattle.store_new.proofs.Commands.{ends_behind, finds_store, unwritten_by}
 use Rattle.store_new.proofs.CommandStatuses.{complete, other_line, refuses_at_once, refuses_nothing}
-use Rattle.store_new.specs.declared.status.MakingStatus.TheVariants.{DiskFault}
+use Rattle.command_ends.specs.declared.status.Status.TheVariants.{DiskFault}
 use Rattle.store_new.specs.Import.{import_command}
 use Rattle.store_new.proofs.ImportEnds.{accepts, imports, refuses, refuses_import}
 use Rattle.store_new.proofs.importing.import.Goals as goal
