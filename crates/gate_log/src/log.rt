@@ -111,6 +111,7 @@ pub fn open_log<D: Disk>(disk: &mut D) -> Result<Log, LogFault>
 
     ensures faults { D.faults disk.old ≤ D.faults disk.new }
     ensures room { D.room disk.new ≡ D.room disk.old }
+    ensures unwritten { D.writes disk.new ≡ D.writes disk.old }
     ensures cause { IsErrOf result LogFault.DiskFault
         → Increased (D.faults disk.old) (D.faults disk.new) }
     ensures sure { IsErrOf result LogFault.DiskFault → IsNone (D.room disk.old) }

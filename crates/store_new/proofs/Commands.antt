@@ -11,6 +11,7 @@ use Rattle.accepted_programs.specs.Program.{lens_of}
 use Rattle.script_input.specs.declared.limits.TheConstants.{MOST_BYTES}
 use Rattle.script_input.specs.Coming.{IsWhole}
 use Rattle.script_input.specs.Lines.{program_part}
+use Rattle.store_run.proofs.Openings.{unwritten_none, unwritten_then}
 use Rattle.store_run.specs.Refusals.{IsUnwritten, refusal_line}
 use Rattle.store_run.specs.declared.refusals.StoreRefusal.TheVariants.{LogExists}
 use Rattle.store_new.specs.Command.{Command}
@@ -41,15 +42,9 @@ nothing_yet has = cc
 -- ---- a disk to which nothing is written
 
 module _ {D : Type 0} (disk : OfDisk.Ghosts D) where
-  unwritten_still : (d : D) → IsUnwritten disk d d
-  unwritten_still d = record { same = refl; only = λ c now. now }
-
   -- a call of the disk that only tells its length
-  pub unwritten_by : (d d' : D) → disk.content d' ≡ disk.content d → SameImages (disk.images d) (disk.images d') → IsUnwritten disk d d'
-  unwritten_by d d' same only = record { same = same; only = λ c now. (only c).1 now }
-
-  unwritten_then : (d d1 d' : D) → IsUnwritten disk d d1 → IsUnwritten disk d1 d' → IsUnwritten disk d d'
-  unwritten_then d d1 d' u v = record { same = v.same ∙ u.same; only = λ c now. u.only c (v.only c now) }
+  pub unwritten_by : (d d' : D) → disk.content d' ≡ disk.content d → SameImages (disk.images d) (disk.images d') → disk.writes d' ≡ disk.writes d → IsUnwritten disk d d'
+  unwritten_by d d' same only no_write = record { same = same; only = λ c now. (only c).1 now; no_write = no_write }
 
 -- ---- the ends
 
@@ -129,13 +124,13 @@ module _ {S K D : Type 0} (source : OfSource.Ghosts S) (sink : OfSink.Ghosts K) 
     -- the reading stopped
     pub ends_front : (fault : TakeFault) → ReadsFront source s s' fault → Ends source sink disk command (s, k, d) (s', k, d) (status_at fault)
     ends_front fault r =
-        inr (inl (record { bytes = r.bytes; took = r.took; at_most = r.at_most; stops = r.stops; unwritten = unwritten_still disk d; given = Appends-nil (sink.held k) }))
+        inr (inl (record { bytes = r.bytes; took = r.took; at_most = r.at_most; stops = r.stops; unwritten = unwritten_none disk d; given = Appends-nil (sink.held k) }))
 
   module _ (s s' : S) (k k' : K) (d : D) (bytes : List ℕ) (status : Status) (took : Took source s s' bytes) where
     -- memory ran out behind these bytes
     pub runs_out : length bytes ≤ MOST_BYTES + 1 → status ≡ NoMemory → Gave sink k k' [] → Ends source sink disk command (s, k, d) (s', k', d) status
     runs_out few is given =
-        inr (inl (record { bytes = bytes; took = took; at_most = few; stops = subst (StopsAfter bytes) (sym is) tt; unwritten = unwritten_still disk d; given = given }))
+        inr (inl (record { bytes = bytes; took = took; at_most = few; stops = subst (StopsAfter bytes) (sym is) tt; unwritten = unwritten_none disk d; given = given }))
 
     -- the command refuses the script
     pub refused_with : (line : List ℕ) → IsRead source s s' → length bytes ≤ MOST_BYTES → command.refuses bytes line
@@ -148,7 +143,7 @@ module _ {S K D : Type 0} (source : OfSource.Ghosts S) (sink : OfSink.Ghosts K) 
       line = line;
       refused = refused;
       was_empty = empty;
-      unwritten = unwritten_still disk d;
+      unwritten = unwritten_none disk d;
       given = given;
     }))))
 
@@ -162,7 +157,7 @@ module _ {S K D : Type 0} (source : OfSource.Ghosts S) (sink : OfSink.Ghosts K) 
       line = line;
       refused = record { whole = whole; refusal = is.refusal; refused = is.is; is_line = is.is_line };
       was_empty = empty;
-      unwritten = unwritten_still disk d;
+      unwritten = unwritten_none disk d;
       given = given;
     })))
     ends_refused few whole empty (inr (is, given)) = runs_out few is given

@@ -5,6 +5,7 @@ use Rattle.gate_log.specs.declared.fault.LogFault.TheVariants as log
 use Rattle.lens_io.specs.DiskRuns.{OnlyReads}
 use Rattle.lens_io.specs.declared.disk.Disk as OfDisk
 use Rattle.lens_io.specs.declared.sink.Sink as OfSink
+use Rattle.store_run.proofs.Openings.{reads_unwritten}
 use Rattle.store_run.specs.Refusals.{refusal_line}
 use Rattle.store_run.specs.declared.refusals.StoreRefusal.TheVariants.{LogExists}
 use Rattle.store_new.specs.NewEnds.{GivesLine}
@@ -20,7 +21,7 @@ never_disk sink k k' line status (inr (is, given)) e = cc
 module _ {K D : Type 0} (sink : OfSink.Ghosts K) (disk : OfDisk.Ghosts D) (k k' : K) (d d' : D) (status : Status) where
   -- a disk that was found not empty
   pub taken : IfSome (disk.content d) (λ bytes. 0 < length bytes) → OnlyReads disk d d' → GivesLine sink k k' (refusal_line LogExists) StoreRefused status → IsTaken sink disk (k, d) (k', d') status
-  taken some reads given = record { some = some; unwritten = record { same = reads.same_content; only = λ c now. (reads.same_images c).1 now }; given = given }
+  taken some reads given = record { some = some; unwritten = reads_unwritten disk d d' reads; given = given }
 
   module _ (payloads : List (List ℕ)) (lines : List ℕ) where
     -- all is stored, and the lines were written, or a prefix of them

@@ -15,6 +15,7 @@ use Rattle.gate_log.specs.CallEnds.{IsLogRefusal}
 use Rattle.gate_log.specs.LogOnDisk.{LogState, HoldsPayloads}
 use Rattle.gate_log.specs.declared.fault.LogFault.{LogFault}
 use Rattle.gate_log.specs.declared.fault.LogFault.TheVariants as log
+use Rattle.store_run.specs.Refusals.{IsOpening}
 use Rattle.store_run.specs.Effects.{HoldsFirst, StandsOn}
 use Rattle.store_run.specs.ApplyEnds.{status_of, Exits, Continues, IsSafeFrom}
 use Rattle.store_run.specs.StoreRuns.{text_of, kept_of}
@@ -195,15 +196,15 @@ module _ {S K D A : Type 0} (source : OfSource.Ghosts S) (sink : OfSink.Ghosts K
 -- the store was opened behind calls of the disk that only read
 pub opened_later : {S K D A : Type 0} (source : OfSource.Ghosts S) (sink : OfSink.Ghosts K) (disk : OfDisk.Ghosts D) (session : OfSession.Ghosts A)
     (i i' : S) (k k' : K) (d d1 d' : D) (before : Payloads) (t : session.State) (version : Option (List ℕ)) (status : Status)
-    → disk.content d1 ≡ disk.content d → ((c : List ℕ) → disk.images d1 c → disk.images d c) → LeavesOnly disk d d1 (disk.images d) → disk.room d1 ≡ disk.room d
+    → IsOpening disk d d1
     → EndsOpened source sink disk session (i, k, d1) (i', k', d') before t version status
     → EndsOpened source sink disk session (i, k, d) (i', k', d') before t version status
-opened_later source sink disk session i i' k k' d d1 d' before t version status e f moments same o = record {
+opened_later source sink disk session i i' k k' d d1 d' before t version status first o = record {
   d1 = o.d1;
   log = o.log;
   log' = o.log';
   t' = o.t';
-  opens = opening_then disk d d1 o.d1 e f moments same o.opens;
+  opens = opening_then disk d d1 o.d1 first o.opens;
   stands = o.stands;
   exits = o.exits;
   stand = o.stand;

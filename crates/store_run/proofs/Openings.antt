@@ -3,7 +3,7 @@ use Rattle.std.proofs.Common.{◌≡◌, inl, inr, ℕ, List, [], Option, Some, 
 use Rattle.std.proofs.lemmas.Option.{same_Some}
 use Rattle.std.specs.Prelude.{IfSome, IsNone}
 use Rattle.lens_io.specs.Calls.{Gave}
-use Rattle.lens_io.specs.DiskRuns.{LeavesOnly}
+use Rattle.lens_io.specs.DiskRuns.{LeavesOnly, OnlyReads}
 use Rattle.lens_io.specs.declared.sink.Sink as OfSink
 use Rattle.lens_io.specs.declared.disk.Disk as OfDisk
 use Rattle.gate_log.specs.CallEnds.{IsLogRefusal, IsPayloadsFault, NoBadRecord}
@@ -27,12 +27,14 @@ at_content None bytes P e h = cc
 at_content (Some b) bytes P e h = subst P (same_Some b bytes e) h
 
 -- calls of the disk that only read, one after another
-pub unwritten_then : {D : Type 0} (disk : OfDisk.Ghosts D) (d d1 d' : D) → disk.content d1 ≡ disk.content d → ((c : List ℕ) → disk.images d1 c → disk.images d c)
-    → IsUnwritten disk d1 d' → IsUnwritten disk d d'
-unwritten_then disk d d1 d' e f u = record { same = u.same ∙ e; only = λ c x. f c (u.only c x) }
+pub unwritten_then : {D : Type 0} (disk : OfDisk.Ghosts D) (d d1 d' : D) → IsUnwritten disk d d1 → IsUnwritten disk d1 d' → IsUnwritten disk d d'
+unwritten_then disk d d1 d' u v = record { same = v.same ∙ u.same; only = λ c x. u.only c (v.only c x); no_write = v.no_write ∙ u.no_write }
+
+pub reads_unwritten : {D : Type 0} (disk : OfDisk.Ghosts D) (d d' : D) → OnlyReads disk d d' → IsUnwritten disk d d'
+reads_unwritten disk d d' r = record { same = r.same_content; only = λ c x. (r.same_images c).1 x; no_write = r.unwritten }
 
 pub unwritten_none : {D : Type 0} (disk : OfDisk.Ghosts D) (d : D) → IsUnwritten disk d d
-unwritten_none disk d = record { same = refl; only = λ c x. x }
+unwritten_none disk d = record { same = refl; only = λ c x. x; no_write = refl }
 
 -- an opening that came to this disk, and calls of the disk before it that only read
 pub opening_none : {D : Type 0} (disk : OfDisk.Ghosts D)
@@ -40,13 +42,16 @@ pub opening_none : {D : Type 0} (disk : OfDisk.Ghosts D)
 opening_none disk only d = record { unwritten = unwritten_none disk d; moments = leaves_same disk d (disk.images d) (only d); same_room = refl }
 
 pub opening_then : {D : Type 0} (disk : OfDisk.Ghosts D) (d d1 d' : D)
-    → disk.content d1 ≡ disk.content d → ((c : List ℕ) → disk.images d1 c → disk.images d c) → LeavesOnly disk d d1 (disk.images d) → disk.room d1 ≡ disk.room d
-    → IsOpening disk d1 d' → IsOpening disk d d'
-opening_then disk d d1 d' e f moments same o = record {
-  unwritten = unwritten_then disk d d1 d' e f o.unwritten;
-  moments = leaves_then disk d d1 d' (disk.images d) (disk.images d1) (disk.images d) (λ c x. x) f moments o.moments;
-  same_room = o.same_room ∙ same;
+    → IsOpening disk d d1 → IsOpening disk d1 d' → IsOpening disk d d'
+opening_then disk d d1 d' first o = record {
+  unwritten = unwritten_then disk d d1 d' first.unwritten o.unwritten;
+  moments = leaves_then disk d d1 d' (disk.images d) (disk.images d1) (disk.images d) (λ c x. x) first.unwritten.only first.moments o.moments;
+  same_room = o.same_room ∙ first.same_room;
 }
+
+-- calls of the disk that only read
+pub reads_open : {D : Type 0} (disk : OfDisk.Ghosts D) (d d' : D) → OnlyReads disk d d' → IsOpening disk d d'
+reads_open disk d d' r = record { unwritten = reads_unwritten disk d d' r; moments = r.crash; same_room = r.same_room }
 
 module _ {K D : Type 0} (sink : OfSink.Ghosts K) (disk : OfDisk.Ghosts D) (k k' : K) (d d' : D) (status : Status) where
   pub fails_then : (d1 : D) → disk.room d1 ≡ disk.room d → FailsUnopened sink disk (k, d1) (k', d') status → FailsUnopened sink disk (k, d) (k', d') status

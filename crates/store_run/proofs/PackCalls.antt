@@ -7,6 +7,7 @@ use Rattle.lens_io.specs.DiskRuns.{LeavesOnly}
 use Rattle.lens_io.specs.declared.sink.Sink as OfSink
 use Rattle.lens_io.specs.declared.disk.Disk as OfDisk
 use Rattle.gate_log.specs.LogOnDisk.{LogState, HoldsPayloads}
+use Rattle.store_run.specs.Refusals.{IsOpening}
 use Rattle.store_run.specs.CountLines.{packed_line}
 use Rattle.store_run.specs.Effects.{HoldsFirst, StandsOn, begun_at, Adds, Stops}
 use Rattle.store_run.specs.PackCall.{PacksCall, IsSafePack, EndsPacked}
@@ -182,17 +183,17 @@ module _ {K D : Type 0} (sink : OfSink.Ghosts K) (disk : OfDisk.Ghosts D) where
   -- a snapshot was packed behind calls of the disk that only read
   pub packed_later : {A : Type 0} (session : OfSession.Ghosts A)
       (k k' : K) (d d1 d' : D) (before : Payloads) (t : session.State) (version : Option (List ℕ)) (status : Status)
-      → disk.content d1 ≡ disk.content d → ((c : List ℕ) → disk.images d1 c → disk.images d c) → LeavesOnly disk d d1 (disk.images d) → disk.room d1 ≡ disk.room d
+      → IsOpening disk d d1
       → EndsPacked sink disk session (k, d1) (k', d') before t version status
       → EndsPacked sink disk session (k, d) (k', d') before t version status
-  packed_later session k k' d d1 d' before t version status e f moments same p = record {
+  packed_later session k k' d d1 d' before t version status first p = record {
     snapshot = p.snapshot;
     is = p.is;
     ends = record {
       d1 = p.ends.d1;
       log = p.ends.log;
       log' = p.ends.log';
-      opens = opening_then disk d d1 p.ends.d1 e f moments same p.ends.opens;
+      opens = opening_then disk d d1 p.ends.d1 first p.ends.opens;
       stands = p.ends.stands;
       ends = p.ends.ends;
     };

@@ -63,10 +63,11 @@ module _ {K : Type 0} (sink : OfSink.Ghosts K) (old new : K) where
 -- ---- before a store is opened
 
 module _ {D : Type 0} (disk : OfDisk.Ghosts D) (old new : D) where
-  -- a read of the disk gives what it gave before, and a crash leaves nothing new
+  -- nothing is written, not even an empty piece: a read of the disk gives what it gave before, and a crash leaves nothing new
   pub record IsUnwritten : Type 0 where
     pub same : disk.content new ≡ disk.content old
     pub only : (c : List ℕ) → disk.images new c → disk.images old c
+    pub no_write : disk.writes new ≡ disk.writes old
 
   -- what opening a store and reading its payloads does to the disk: nothing is written, and no crash on the way
   -- leaves anything new

@@ -163,19 +163,19 @@ module _ {K D : Type 0} (sink : OfSink.Ghosts K) (disk : OfDisk.Ghosts D)
     safe_of_ends status (inr e) = safe_kept e.holds e.opens.moments
 
   -- behind calls of the disk that only read
-  pub ends_behind : (d0 : D) (status : Status) → disk.content d ≡ disk.content d0 → ((c : List ℕ) → disk.images d c → disk.images d0 c) → LeavesOnly disk d0 d (disk.images d0) → disk.room d ≡ disk.room d0
+  pub ends_behind : (d0 : D) (status : Status) → IsOpening disk d0 d
       → UndoEnds sink disk (k, d) (k', d') before u status → UndoEnds sink disk (k, d0) (k', d') before u status
-  ends_behind d0 status same only moments roomy (inl e) = inl (record {
+  ends_behind d0 status first (inl e) = inl (record {
     d1 = e.d1;
     log = e.log;
     log' = e.log';
-    opens = opening_then disk d0 d e.d1 same only moments roomy e.opens;
+    opens = opening_then disk d0 d e.d1 first e.opens;
     stands = e.stands;
     takes_back = e.takes_back;
     ends = e.ends;
   })
-  ends_behind d0 status same only moments roomy (inr e) = inr (record {
-    opens = opening_then disk d0 d d' same only moments roomy e.opens;
+  ends_behind d0 status first (inr e) = inr (record {
+    opens = opening_then disk d0 d d' first e.opens;
     holds = e.holds;
-    fails = (e.fails.0, λ x. subst (λ (o : Option ℕ). IsNone o) roomy (e.fails.1 x));
+    fails = (e.fails.0, λ x. subst (λ (o : Option ℕ). IsNone o) first.same_room (e.fails.1 x));
   })

@@ -18,7 +18,7 @@ returns-in-Ok-eq0-clause-imports g c =
     let d1 = c.len.new.self in
     let d' = c.import_empty.new.disk in
     let status = c.import_empty.result in
-    let ends = ends_behind g.S.Source g.K.Sink disk import_command s s' k k' d d1 d' status (unwritten_by disk d d1 c.len.ensures.content c.len.ensures.images) c.import_empty.ensures.ends in
+    let ends = ends_behind g.S.Source g.K.Sink disk import_command s s' k k' d d1 d' status (unwritten_by disk d d1 c.len.ensures.content c.len.ensures.images c.len.ensures.unwritten) c.import_empty.ensures.ends in
     imports g.S.Source g.K.Sink disk s s' k k' d d' status ends
 
 pub returns-in-Ok-eq0-clause-refuses : goal.returns-in-Ok-eq0-clause-refuses
@@ -32,7 +32,7 @@ returns-in-Ok-eq0-clause-refuses g c =
     let d1 = c.len.new.self in
     let d' = c.import_empty.new.disk in
     let status = c.import_empty.result in
-    let ends = ends_behind g.S.Source g.K.Sink disk import_command s s' k k' d d1 d' status (unwritten_by disk d d1 c.len.ensures.content c.len.ensures.images) c.import_empty.ensures.ends in
+    let ends = ends_behind g.S.Source g.K.Sink disk import_command s s' k k' d d1 d' status (unwritten_by disk d d1 c.len.ensures.content c.len.ensures.images c.len.ensures.unwritten) c.import_empty.ensures.ends in
     refuses_import g.S.Source g.K.Sink disk s s' k k' d d' status ends
 
 pub returns-in-Ok-eq0-clause-ends : goal.returns-in-Ok-eq0-clause-ends
@@ -41,7 +41,7 @@ returns-in-Ok-eq0-clause-ends g c =
     let d = c.args.disk.now in
     let d1 = c.len.new.self in
     ends_behind g.S.Source g.K.Sink disk import_command c.args.source.now c.import_empty.new.source c.args.sink.now c.import_empty.new.sink d d1 c.import_empty.new.disk c.import_empty.result
-    (unwritten_by disk d d1 c.len.ensures.content c.len.ensures.images) c.import_empty.ensures.ends
+    (unwritten_by disk d d1 c.len.ensures.content c.len.ensures.images c.len.ensures.unwritten) c.import_empty.ensures.ends
 
 pub returns-in-Ok-eq0-clause-at_once : goal.returns-in-Ok-eq0-clause-at_once
 returns-in-Ok-eq0-clause-at_once g c =
@@ -58,7 +58,7 @@ returns-in-Ok-eq0-clause-complete g c =
     let d1 = c.len.new.self in
     let d' = c.import_empty.new.disk in
     let status = c.import_empty.result in
-    let ends = ends_behind g.S.Source g.K.Sink disk import_command s s' k k' d d1 d' status (unwritten_by disk d d1 c.len.ensures.content c.len.ensures.images) c.import_empty.ensures.ends in
+    let ends = ends_behind g.S.Source g.K.Sink disk import_command s s' k k' d d1 d' status (unwritten_by disk d d1 c.len.ensures.content c.len.ensures.images c.len.ensures.unwritten) c.import_empty.ensures.ends in
     complete g.S.Source g.K.Sink disk import_command accepts refuses s s' k k' d d' status ends c.import_empty.ensures.source_fault c.import_empty.ensures.sink_fault
     (λ e. increased_since (disk.faults d) (disk.faults d1) (disk.faults d') c.len.ensures.cause.later (c.import_empty.ensures.disk_fault e))
 
@@ -68,7 +68,7 @@ returns-in-Ok-clause-ends g c =
     let d = c.args.disk.now in
     let d1 = c.len.new.self in
     finds_store g.S.Source g.K.Sink disk import_command c.args.source.now c.args.sink.now c.give_line.new.sink d d1 c.in-Ok.field-0 c.give_line.result c.in-Ok.ensures.count
-    (λ e. omega (arith, e, c.in-Ok.field-0-test)) (unwritten_by disk d d1 c.len.ensures.content c.len.ensures.images) c.give_line.ensures.gives
+    (λ e. omega (arith, e, c.in-Ok.field-0-test)) (unwritten_by disk d d1 c.len.ensures.content c.len.ensures.images c.len.ensures.unwritten) c.give_line.ensures.gives
 
 pub returns-in-Ok-clause-at_once : goal.returns-in-Ok-clause-at_once
 returns-in-Ok-clause-at_once g c =

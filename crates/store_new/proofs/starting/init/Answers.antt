@@ -18,7 +18,7 @@ returns-in-Ok-eq0-clause-starts g c =
     let d1 = c.len.new.self in
     let d' = c.init_empty.new.disk in
     let status = c.init_empty.result in
-    let ends = ends_behind g.S.Source g.K.Sink disk init_command s s' k k' d d1 d' status (unwritten_by disk d d1 c.len.ensures.content c.len.ensures.images) c.init_empty.ensures.ends in
+    let ends = ends_behind g.S.Source g.K.Sink disk init_command s s' k k' d d1 d' status (unwritten_by disk d d1 c.len.ensures.content c.len.ensures.images c.len.ensures.unwritten) c.init_empty.ensures.ends in
     starts g.S.Source g.K.Sink disk s s' k k' d d' status ends
 
 pub returns-in-Ok-eq0-clause-ends : goal.returns-in-Ok-eq0-clause-ends
@@ -27,7 +27,7 @@ returns-in-Ok-eq0-clause-ends g c =
     let d = c.args.disk.now in
     let d1 = c.len.new.self in
     ends_behind g.S.Source g.K.Sink disk init_command c.args.source.now c.init_empty.new.source c.args.sink.now c.init_empty.new.sink d d1 c.init_empty.new.disk c.init_empty.result
-    (unwritten_by disk d d1 c.len.ensures.content c.len.ensures.images) c.init_empty.ensures.ends
+    (unwritten_by disk d d1 c.len.ensures.content c.len.ensures.images c.len.ensures.unwritten) c.init_empty.ensures.ends
 
 pub returns-in-Ok-eq0-clause-at_once : goal.returns-in-Ok-eq0-clause-at_once
 returns-in-Ok-eq0-clause-at_once g c =
@@ -44,7 +44,7 @@ returns-in-Ok-eq0-clause-complete g c =
     let d1 = c.len.new.self in
     let d' = c.init_empty.new.disk in
     let status = c.init_empty.result in
-    let ends = ends_behind g.S.Source g.K.Sink disk init_command s s' k k' d d1 d' status (unwritten_by disk d d1 c.len.ensures.content c.len.ensures.images) c.init_empty.ensures.ends in
+    let ends = ends_behind g.S.Source g.K.Sink disk init_command s s' k k' d d1 d' status (unwritten_by disk d d1 c.len.ensures.content c.len.ensures.images c.len.ensures.unwritten) c.init_empty.ensures.ends in
     complete g.S.Source g.K.Sink disk init_command accepts refuses s s' k k' d d' status ends c.init_empty.ensures.source_fault c.init_empty.ensures.sink_fault
     (λ e. increased_since (disk.faults d) (disk.faults d1) (disk.faults d') c.len.ensures.cause.later (c.init_empty.ensures.disk_fault e))
 
@@ -54,7 +54,7 @@ returns-in-Ok-clause-ends g c =
     let d = c.args.disk.now in
     let d1 = c.len.new.self in
     finds_store g.S.Source g.K.Sink disk init_command c.args.source.now c.args.sink.now c.give_line.new.sink d d1 c.in-Ok.field-0 c.give_line.result c.in-Ok.ensures.count
-    (λ e. omega (arith, e, c.in-Ok.field-0-test)) (unwritten_by disk d d1 c.len.ensures.content c.len.ensures.images) c.give_line.ensures.gives
+    (λ e. omega (arith, e, c.in-Ok.field-0-test)) (unwritten_by disk d d1 c.len.ensures.content c.len.ensures.images c.len.ensures.unwritten) c.give_line.ensures.gives
 
 pub returns-in-Ok-clause-at_once : goal.returns-in-Ok-clause-at_once
 returns-in-Ok-clause-at_once g c =

@@ -9,7 +9,7 @@ use Rattle.store_run.proofs.StoredPayloads.{images_held, reads_held}
 use Rattle.store_run.proofs.RefusalEnds.{at_log_disk, at_log_other, at_log_unfinished}
 use Rattle.gate_log.specs.CallEnds.{NoBadRecord}
 use Rattle.store_run.specs.Refusals.{refusal_of_payloads}
-use Rattle.store_run.proofs.Openings.{unwritten_then, same_room, reading_fails}
+use Rattle.store_run.proofs.Openings.{unwritten_then, reads_unwritten, same_room, reading_fails, reads_open}
 use Rattle.store_run.proofs.apply_call.apply_log.Goals as goal
 use Rattle.lens_io.proofs.Increases.{increased_since}
 
@@ -116,8 +116,8 @@ returns-in-Ok-clause-exits g c =
     let st1 = subst (λ (x : List (List ℕ)). StandsOn disk d1 l x) (sym same) (c.in-Ok.ensures.stands before st) in
     let h1 = subst (λ (x : List (List ℕ)). session.stands_for x ≡ Ok (t, version)) (sym same) h in
     elim (subst (λ (x : List (List ℕ)). EndsCall source sink disk session (i, k, d1) (i', k', d') x t version c.apply_payloads.result) same (c.apply_payloads.ensures.exits t version st1 h1)) [
-      | inl e ↦ inl (opened_later source sink disk session i i' k k' d d1 d' before t version c.apply_payloads.result reading.same_content (λ x now. (reading.same_images x).1 now) reading.crash reading.same_room e)
-      | inr u ↦ inr (unwritten_then disk d d1 d' reading.same_content (λ x now. (reading.same_images x).1 now) u.0, u.1, (u.2.0, λ e. subst (λ (o : Option ℕ). IsNone o) reading.same_room (u.2.1 e)))
+      | inl e ↦ inl (opened_later source sink disk session i i' k k' d d1 d' before t version c.apply_payloads.result (reads_open disk d d1 reading) e)
+      | inr u ↦ inr (unwritten_then disk d d1 d' (reads_unwritten disk d d1 reading) u.0, u.1, (u.2.0, λ e. subst (λ (o : Option ℕ). IsNone o) reading.same_room (u.2.1 e)))
     ]
 
 pub returns-in-Err-clause-exits : goal.returns-in-Err-clause-exits
@@ -133,7 +133,7 @@ returns-in-Err-clause-exits g c =
     let reading = c.in-Err.ensures.reads in
     λ before bytes t version told st h.
     inr (
-      record { same = reading.same_content; only = λ x now. (reading.same_images x).1 now },
+      reads_unwritten disk d c.payloads.new.disk reading,
       refl,
       reading_fails sink disk k k' d d' c.refuse_log.result c.in-Err.fault c.payloads.result c.in-Err.is (at_some (disk.content d) bytes (NoBadRecord c.payloads.result) told c.payloads.ensures.never_bad) c.in-Err.ensures.possible (λ e. c.in-Err.ensures.sure (ap (λ (x : LogFault). Err x) e)) c.refuse_log.ensures.ends,
     )
@@ -152,7 +152,7 @@ returns-in-Ok-clause-refused g c =
     λ before bytes refusal told st q.
     let same : read ≡ before = at_some (disk.content d) bytes (read ≡ before) told (c.in-Ok.ensures.payloads before st) in
     let e = c.apply_payloads.ensures.refused refusal (ap (λ (x : List (List ℕ)). refusal_of_payloads (session.stands_for x)) same ∙ q) in (
-      unwritten_then disk d d1 d' reading.same_content (λ x now. (reading.same_images x).1 now) e.0,
+      unwritten_then disk d d1 d' (reads_unwritten disk d d1 reading) e.0,
       e.1,
       same_room sink disk c.args.sink.now c.apply_payloads.new.sink d d' c.apply_payloads.result d1 refusal reading.same_room e.2,
     )
@@ -169,7 +169,7 @@ returns-in-Err-clause-refused g c =
     let k' = c.refuse_log.new.sink in
     let reading = c.in-Err.ensures.reads in
     λ before bytes refusal told st q. (
-      record { same = reading.same_content; only = λ x now. (reading.same_images x).1 now },
+      reads_unwritten disk d c.payloads.new.disk reading,
       refl,
       inr (reading_fails sink disk k k' d d' c.refuse_log.result c.in-Err.fault c.payloads.result c.in-Err.is (at_some (disk.content d) bytes (NoBadRecord c.payloads.result) told c.payloads.ensures.never_bad) c.in-Err.ensures.possible (λ e. c.in-Err.ensures.sure (ap (λ (x : LogFault). Err x) e)) c.refuse_log.ensures.ends),
     )

@@ -123,7 +123,7 @@ returns-in-Ok-clause-refused g c =
     let q = other.refused in
     let is : log_of bytes ≡ payloads log.0 = at_content (disk.content d) bytes (HoldsPayloads log.0) told log.1 in
     let e = c.pack_log.ensures.refused log.0 bytes refusal (c.in-Ok.ensures.content ∙ told) log.2 (ap (refusal_of_log session) (sym is) ∙ q) in (
-      unwritten_then disk d d1 d' c.in-Ok.ensures.content c.in-Ok.ensures.images e.0,
+      unwritten_then disk d d1 d' (record { same = c.in-Ok.ensures.content; only = c.in-Ok.ensures.images; no_write = c.in-Ok.ensures.unwritten }) e.0,
       same_room sink disk c.args.sink.now c.pack_log.new.sink d d' c.pack_log.result d1 refusal c.in-Ok.ensures.room e.1,
     )
 
@@ -141,7 +141,7 @@ returns-in-Err-clause-refused g c =
     let refusal = other.reason in
     let told = other.told in
     let q = other.refused in
-    (record { same = c.in-Err.ensures.content; only = c.in-Err.ensures.images }, log_refused sink disk k k' d d' c.refuse_log.result session c.in-Err.fault (disk.content d) bytes refusal told c.in-Err.ensures.log q (λ e. c.in-Err.ensures.sure (ap (λ (x : LogFault). Err x) e)) c.refuse_log.ensures.ends)
+    (record { same = c.in-Err.ensures.content; only = c.in-Err.ensures.images; no_write = c.in-Err.ensures.unwritten }, log_refused sink disk k k' d d' c.refuse_log.result session c.in-Err.fault (disk.content d) bytes refusal told c.in-Err.ensures.log q (λ e. c.in-Err.ensures.sure (ap (λ (x : LogFault). Err x) e)) c.refuse_log.ensures.ends)
 
 pub returns-in-Ok-clause-exits : goal.returns-in-Ok-clause-exits
 returns-in-Ok-clause-exits g c =
@@ -165,8 +165,8 @@ returns-in-Ok-clause-exits g c =
     let h = store.stands in
     let st = subst (λ (x : List (List ℕ)). StandsOn disk d1 l x) (same_held (disk.content d) bytes log.0 before told log.1 holds) log.2 in
     elim (c.pack_log.ensures.exits before bytes t version (c.in-Ok.ensures.content ∙ told) st h) [
-      | inl e ↦ inl (packed_later sink disk session k k' d d1 d' before t version c.pack_log.result c.in-Ok.ensures.content c.in-Ok.ensures.images c.in-Ok.ensures.moments c.in-Ok.ensures.room e)
-      | inr u ↦ inr (unwritten_then disk d d1 d' c.in-Ok.ensures.content c.in-Ok.ensures.images u.0, (u.1.0, λ e. subst (λ (o : Option ℕ). IsNone o) c.in-Ok.ensures.room (u.1.1 e)))
+      | inl e ↦ inl (packed_later sink disk session k k' d d1 d' before t version c.pack_log.result (record { unwritten = record { same = c.in-Ok.ensures.content; only = c.in-Ok.ensures.images; no_write = c.in-Ok.ensures.unwritten }; moments = c.in-Ok.ensures.moments; same_room = c.in-Ok.ensures.room }) e)
+      | inr u ↦ inr (unwritten_then disk d d1 d' (record { same = c.in-Ok.ensures.content; only = c.in-Ok.ensures.images; no_write = c.in-Ok.ensures.unwritten }) u.0, (u.1.0, λ e. subst (λ (o : Option ℕ). IsNone o) c.in-Ok.ensures.room (u.1.1 e)))
     ]
 
 pub returns-in-Err-clause-exits : goal.returns-in-Err-clause-exits
@@ -183,7 +183,7 @@ returns-in-Err-clause-exits g c =
     let told = store.told in
     let holds = store.holds in
     let failed = at_disk_fault sink k k' c.refuse_log.result c.in-Err.fault (only_disk c.in-Err.fault (disk.content d) bytes before told holds c.in-Err.ensures.log) c.refuse_log.ensures.ends in
-    inr (record { same = c.in-Err.ensures.content; only = c.in-Err.ensures.images }, ((inl failed.0, failed.1), λ e. c.in-Err.ensures.sure (ap (λ (x : LogFault). Err x) (at_log_disk sink k k' c.refuse_log.result c.in-Err.fault c.refuse_log.ensures.ends e))))
+    inr (record { same = c.in-Err.ensures.content; only = c.in-Err.ensures.images; no_write = c.in-Err.ensures.unwritten }, ((inl failed.0, failed.1), λ e. c.in-Err.ensures.sure (ap (λ (x : LogFault). Err x) (at_log_disk sink k k' c.refuse_log.result c.in-Err.fault c.refuse_log.ensures.ends e))))
 
 pub returns-in-Err-clause-no_source : goal.returns-in-Err-clause-no_source
 returns-in-Err-clause-no_source g c = λ e. at_log_sourceless g.K.Sink c.args.sink.now c.refuse_log.new.sink c.refuse_log.result c.in-Err.fault c.refuse_log.ensures.ends e

@@ -10,7 +10,7 @@ use Rattle.store_run.proofs.StoredPayloads.{images_held, reads_held}
 use Rattle.store_run.proofs.RefusalEnds.{at_log_disk, at_log_sourceless, at_log_unfinished}
 use Rattle.gate_log.specs.CallEnds.{NoBadRecord}
 use Rattle.store_run.specs.Refusals.{refusal_of_payloads}
-use Rattle.store_run.proofs.Openings.{unwritten_then, same_room, reading_fails}
+use Rattle.store_run.proofs.Openings.{unwritten_then, reads_unwritten, same_room, reading_fails, reads_open}
 use Rattle.store_run.proofs.pack_call.pack_log.Goals as goal
 use Rattle.lens_io.proofs.Increases.{increased_since}
 
@@ -100,7 +100,7 @@ returns-in-Ok-clause-refused g c =
     λ before bytes refusal told st q.
     let same : read ≡ before = at_some (disk.content d) bytes (read ≡ before) told (c.in-Ok.ensures.payloads before st) in
     let e = c.pack_payloads.ensures.refused refusal (ap (λ (x : List (List ℕ)). refusal_of_payloads (session.stands_for x)) same ∙ q) in (
-      unwritten_then disk d d1 d' reading.same_content (λ x now. (reading.same_images x).1 now) e.0,
+      unwritten_then disk d d1 d' (reads_unwritten disk d d1 reading) e.0,
       same_room sink disk c.args.sink.now c.pack_payloads.new.sink d d' c.pack_payloads.result d1 refusal reading.same_room e.1,
     )
 
@@ -115,7 +115,7 @@ returns-in-Err-clause-refused g c =
     let k' = c.refuse_log.new.sink in
     let reading = c.in-Err.ensures.reads in
     λ before bytes refusal told st q. (
-      record { same = reading.same_content; only = λ x now. (reading.same_images x).1 now },
+      reads_unwritten disk d c.payloads.new.disk reading,
       inr (reading_fails sink disk k k' d d' c.refuse_log.result c.in-Err.fault c.payloads.result c.in-Err.is (at_some (disk.content d) bytes (NoBadRecord c.payloads.result) told c.payloads.ensures.never_bad) c.in-Err.ensures.possible (λ e. c.in-Err.ensures.sure (ap (λ (x : LogFault). Err x) e)) c.refuse_log.ensures.ends),
     )
 
@@ -138,9 +138,9 @@ returns-in-Ok-clause-exits g c =
     let st1 = subst (λ (x : List (List ℕ)). StandsOn disk d1 l x) (sym same) (c.in-Ok.ensures.stands before st) in
     let h1 = subst (λ (x : List (List ℕ)). session.stands_for x ≡ Ok (t, version)) (sym same) h in
     elim (c.pack_payloads.ensures.exits t version st1 h1) [
-      | inl e ↦ inl (packed_later sink disk session k k' d d1 d' before t version status reading.same_content (λ x now. (reading.same_images x).1 now) reading.crash reading.same_room
+      | inl e ↦ inl (packed_later sink disk session k k' d d1 d' before t version status (reads_open disk d d1 reading)
           (subst (λ (x : List (List ℕ)). EndsPacked sink disk session (k, d1) (k', d') x t version status) same e))
-      | inr u ↦ inr (unwritten_then disk d d1 d' reading.same_content (λ x now. (reading.same_images x).1 now) u.0, (u.1.0, λ e. subst (λ (o : Option ℕ). IsNone o) reading.same_room (u.1.1 e)))
+      | inr u ↦ inr (unwritten_then disk d d1 d' (reads_unwritten disk d d1 reading) u.0, (u.1.0, λ e. subst (λ (o : Option ℕ). IsNone o) reading.same_room (u.1.1 e)))
     ]
 
 pub returns-in-Err-clause-exits : goal.returns-in-Err-clause-exits
@@ -155,7 +155,7 @@ returns-in-Err-clause-exits g c =
     let reading = c.in-Err.ensures.reads in
     λ before bytes t version told st h.
     inr (
-      record { same = reading.same_content; only = λ x now. (reading.same_images x).1 now },
+      reads_unwritten disk d c.payloads.new.disk reading,
       reading_fails sink disk k k' d d' c.refuse_log.result c.in-Err.fault c.payloads.result c.in-Err.is (at_some (disk.content d) bytes (NoBadRecord c.payloads.result) told c.payloads.ensures.never_bad) c.in-Err.ensures.possible (λ e. c.in-Err.ensures.sure (ap (λ (x : LogFault). Err x) e)) c.refuse_log.ensures.ends,
     )
 

@@ -58,10 +58,10 @@ returns-in-Err-clause-refused g c =
     inr (reading_fails sink disk k k' d d' c.refuse_log.result c.in-Err.fault c.payloads.result c.in-Err.is (at_some (disk.content d) bytes (NoBadRecord c.payloads.result) told c.payloads.ensures.never_bad) c.in-Err.ensures.possible (λ e. c.in-Err.ensures.sure (ap (λ (x : LogFault). Err x) e)) c.refuse_log.ensures.ends)
 
 pub returns-in-Ok-clause-unwritten : goal.returns-in-Ok-clause-unwritten
-returns-in-Ok-clause-unwritten g c = record { same = c.in-Ok.ensures.reads.same_content; only = λ x now. (c.in-Ok.ensures.reads.same_images x).1 now }
+returns-in-Ok-clause-unwritten g c = record { same = c.in-Ok.ensures.reads.same_content; only = λ x now. (c.in-Ok.ensures.reads.same_images x).1 now; no_write = c.in-Ok.ensures.reads.unwritten }
 
 pub returns-in-Err-clause-unwritten : goal.returns-in-Err-clause-unwritten
-returns-in-Err-clause-unwritten g c = record { same = c.in-Err.ensures.reads.same_content; only = λ x now. (c.in-Err.ensures.reads.same_images x).1 now }
+returns-in-Err-clause-unwritten g c = record { same = c.in-Err.ensures.reads.same_content; only = λ x now. (c.in-Err.ensures.reads.same_images x).1 now; no_write = c.in-Err.ensures.reads.unwritten }
 
 pub returns-in-Ok-clause-moments : goal.returns-in-Ok-clause-moments
 returns-in-Ok-clause-moments g c = c.in-Ok.ensures.reads.crash

@@ -86,10 +86,10 @@ returns-in-Err-clause-refused g c =
 pub returns-in-Ok-clause-unwritten : goal.returns-in-Ok-clause-unwritten
 returns-in-Ok-clause-unwritten g c =
     let disk = g.D.Disk in
-    unwritten_then disk c.args.disk.now c.open_log.new.disk c.view_log.new.disk c.in-Ok.ensures.content c.in-Ok.ensures.images c.view_log.ensures.unwritten
+    unwritten_then disk c.args.disk.now c.open_log.new.disk c.view_log.new.disk (record { same = c.in-Ok.ensures.content; only = c.in-Ok.ensures.images; no_write = c.in-Ok.ensures.unwritten }) c.view_log.ensures.unwritten
 
 pub returns-in-Err-clause-unwritten : goal.returns-in-Err-clause-unwritten
-returns-in-Err-clause-unwritten g c = record { same = c.in-Err.ensures.content; only = c.in-Err.ensures.images }
+returns-in-Err-clause-unwritten g c = record { same = c.in-Err.ensures.content; only = c.in-Err.ensures.images; no_write = c.in-Err.ensures.unwritten }
 
 pub returns-in-Ok-clause-moments : goal.returns-in-Ok-clause-moments
 returns-in-Ok-clause-moments g c =

@@ -30,7 +30,7 @@ returns-in-Ok-clause-undoes g c =
     let status = c.undo_log.result in
     λ store done.
     let st = subst (λ (x : List (List ℕ)). StandsOn disk d1 l x) (same_held (disk.content d) store.bytes log.0 store.payloads store.told log.1 store.holds) log.2 in
-    let ends = ends_behind g.K.Sink disk hold reads k k' d1 d' store.payloads store.undone d status c.in-Ok.ensures.content c.in-Ok.ensures.images c.in-Ok.ensures.moments c.in-Ok.ensures.room
+    let ends = ends_behind g.K.Sink disk hold reads k k' d1 d' store.payloads store.undone d status (record { unwritten = record { same = c.in-Ok.ensures.content; only = c.in-Ok.ensures.images; no_write = c.in-Ok.ensures.unwritten }; moments = c.in-Ok.ensures.moments; same_room = c.in-Ok.ensures.room })
     (c.undo_log.ensures.ends store.payloads store.bytes store.undone (c.in-Ok.ensures.content ∙ store.told) st store.is) in
     undoes_call g.K.Sink disk hold reads k k' d d' store.payloads store.undone status done ends
 
@@ -49,7 +49,7 @@ returns-in-Ok-clause-safe g c =
     let status = c.undo_log.result in
     λ store.
     let st = subst (λ (x : List (List ℕ)). StandsOn disk d1 l x) (same_held (disk.content d) store.bytes log.0 store.payloads store.told log.1 store.holds) log.2 in
-    let ends = ends_behind g.K.Sink disk hold reads k k' d1 d' store.payloads store.undone d status c.in-Ok.ensures.content c.in-Ok.ensures.images c.in-Ok.ensures.moments c.in-Ok.ensures.room
+    let ends = ends_behind g.K.Sink disk hold reads k k' d1 d' store.payloads store.undone d status (record { unwritten = record { same = c.in-Ok.ensures.content; only = c.in-Ok.ensures.images; no_write = c.in-Ok.ensures.unwritten }; moments = c.in-Ok.ensures.moments; same_room = c.in-Ok.ensures.room })
     (c.undo_log.ensures.ends store.payloads store.bytes store.undone (c.in-Ok.ensures.content ∙ store.told) st store.is) in
     inr (safe_of_ends g.K.Sink disk hold reads k k' d d' store.payloads store.undone (stood_now c.args.count store.payloads store.undone store.is) status ends)
 
@@ -68,7 +68,7 @@ returns-in-Ok-clause-exits g c =
     let status = c.undo_log.result in
     λ store.
     let st = subst (λ (x : List (List ℕ)). StandsOn disk d1 l x) (same_held (disk.content d) store.bytes log.0 store.payloads store.told log.1 store.holds) log.2 in
-    let ends = ends_behind g.K.Sink disk hold reads k k' d1 d' store.payloads store.undone d status c.in-Ok.ensures.content c.in-Ok.ensures.images c.in-Ok.ensures.moments c.in-Ok.ensures.room
+    let ends = ends_behind g.K.Sink disk hold reads k k' d1 d' store.payloads store.undone d status (record { unwritten = record { same = c.in-Ok.ensures.content; only = c.in-Ok.ensures.images; no_write = c.in-Ok.ensures.unwritten }; moments = c.in-Ok.ensures.moments; same_room = c.in-Ok.ensures.room })
     (c.undo_log.ensures.ends store.payloads store.bytes store.undone (c.in-Ok.ensures.content ∙ store.told) st store.is) in
     exits_of g.K.Sink disk hold reads k k' d d' store.payloads store.undone status ends
 
@@ -82,7 +82,7 @@ returns-in-Ok-clause-refused g c =
     λ other.
     let is : log_of other.bytes ≡ payloads log.0 = at_content (disk.content d) other.bytes (HoldsPayloads log.0) other.told log.1 in
     let e = c.undo_log.ensures.refused log.0 other.bytes other.reason (c.in-Ok.ensures.content ∙ other.told) log.2 (ap (refusal_of_log c.args.count) (sym is) ∙ other.refused) in (
-      unwritten_then disk d d1 d' c.in-Ok.ensures.content c.in-Ok.ensures.images e.0,
+      unwritten_then disk d d1 d' (record { same = c.in-Ok.ensures.content; only = c.in-Ok.ensures.images; no_write = c.in-Ok.ensures.unwritten }) e.0,
       same_room g.K.Sink disk c.args.sink.now c.undo_log.new.sink d d' c.undo_log.result d1 other.reason c.in-Ok.ensures.room e.1,
     )
 
@@ -120,7 +120,7 @@ returns-in-Err-clause-exits g c =
     λ store.
     let failed = at_disk_fault g.K.Sink c.args.sink.now c.refuse_log.new.sink c.refuse_log.result c.in-Err.fault (only_disk c.in-Err.fault (disk.content d) store.bytes store.payloads store.told store.holds c.in-Err.ensures.log) c.refuse_log.ensures.ends in
     inr (
-      record { same = c.in-Err.ensures.content; only = c.in-Err.ensures.images },
+      record { same = c.in-Err.ensures.content; only = c.in-Err.ensures.images; no_write = c.in-Err.ensures.unwritten },
       ((inl failed.0, failed.1), λ e. c.in-Err.ensures.sure (ap (λ (x : LogFault). Err x) (at_log_disk g.K.Sink c.args.sink.now c.refuse_log.new.sink c.refuse_log.result c.in-Err.fault c.refuse_log.ensures.ends e))),
     )
 
@@ -128,7 +128,7 @@ pub returns-in-Err-clause-refused : goal.returns-in-Err-clause-refused
 returns-in-Err-clause-refused g c =
     let disk = g.D.Disk in
     λ other. (
-      record { same = c.in-Err.ensures.content; only = c.in-Err.ensures.images },
+      record { same = c.in-Err.ensures.content; only = c.in-Err.ensures.images; no_write = c.in-Err.ensures.unwritten },
       log_refused g.K.Sink disk c.args.sink.now c.refuse_log.new.sink c.args.disk.now c.open_log.new.disk c.refuse_log.result c.args.count c.in-Err.fault (disk.content c.args.disk.now) other.bytes other.reason other.told
           c.in-Err.ensures.log other.refused (λ e. c.in-Err.ensures.sure (ap (λ (x : LogFault). Err x) e)) c.refuse_log.ensures.ends,
     )

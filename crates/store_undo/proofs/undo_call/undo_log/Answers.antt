@@ -3,7 +3,7 @@ use Rattle.gate_log.specs.CallEnds.{NoBadRecord}
 use Rattle.store_run.specs.Effects.{StandsOn}
 use Rattle.gate_log.specs.declared.fault.LogFault.{LogFault}
 use Rattle.store_run.proofs.ApplyCalls.{at_some}
-use Rattle.store_run.proofs.Openings.{unwritten_then, same_room, reading_fails}
+use Rattle.store_run.proofs.Openings.{unwritten_then, reads_unwritten, same_room, reading_fails, reads_open}
 use Rattle.store_run.proofs.RefusalEnds.{at_log_disk, at_log_sourceless}
 use Rattle.store_run.proofs.StoredPayloads.{images_held, reads_held}
 use Rattle.store_undo.specs.UndoEnds.{UndoEnds}
@@ -31,7 +31,7 @@ returns-in-Ok-clause-ends g c =
     let st1 = subst (λ (x : List (List ℕ)). StandsOn disk d1 l x) (sym same) (c.in-Ok.ensures.stands before st) in
     let h1 = subst (λ (x : List (List ℕ)). undoing c.args.count x ≡ Some u) (sym same) h in
     ends_behind g.K.Sink disk hold reads k k' d1 d' before u d status
-    reading.same_content (λ x now. (reading.same_images x).1 now) reading.crash reading.same_room
+    (reads_open disk d d1 reading)
     (subst (λ (x : List (List ℕ)). UndoEnds g.K.Sink disk (k, d1) (k', d') x u status) same (c.undo_payloads.ensures.ends u st1 h1))
 
 pub returns-in-Ok-clause-refused : goal.returns-in-Ok-clause-refused
@@ -45,7 +45,7 @@ returns-in-Ok-clause-refused g c =
     λ before bytes refusal told st q.
     let same : read ≡ before = at_some (disk.content d) bytes (read ≡ before) told (c.in-Ok.ensures.payloads before st) in
     let e = c.undo_payloads.ensures.refused refusal (ap (undo_refusal c.args.count) same ∙ q) in (
-      unwritten_then disk d d1 d' reading.same_content (λ x now. (reading.same_images x).1 now) e.0,
+      unwritten_then disk d d1 d' (reads_unwritten disk d d1 reading) e.0,
       same_room g.K.Sink disk c.args.sink.now c.undo_payloads.new.sink d d' c.undo_payloads.result d1 refusal reading.same_room e.1,
     )
 
@@ -66,7 +66,7 @@ returns-in-Err-clause-ends g c =
     let fails = reading_fails g.K.Sink disk c.args.sink.now c.refuse_log.new.sink d c.payloads.new.disk c.refuse_log.result c.in-Err.fault c.payloads.result c.in-Err.is
     (at_some (disk.content d) bytes (NoBadRecord c.payloads.result) told c.payloads.ensures.never_bad) c.in-Err.ensures.possible (λ e. c.in-Err.ensures.sure (ap (λ (x : LogFault). Err x) e)) c.refuse_log.ensures.ends in
     inr (record {
-      opens = record { unwritten = record { same = reading.same_content; only = λ x now. (reading.same_images x).1 now }; moments = reading.crash; same_room = reading.same_room };
+      opens = record { unwritten = reads_unwritten disk d d1 reading; moments = reading.crash; same_room = reading.same_room };
       holds = λ x now. hold l d1 before x (c.in-Err.ensures.stands before st) now;
       fails = fails;
     })
@@ -77,7 +77,7 @@ returns-in-Err-clause-refused g c =
     let d = c.args.disk.now in
     let reading = c.in-Err.ensures.reads in
     λ before bytes refusal told st q. (
-      record { same = reading.same_content; only = λ x now. (reading.same_images x).1 now },
+      reads_unwritten disk d c.payloads.new.disk reading,
       inr (reading_fails g.K.Sink disk c.args.sink.now c.refuse_log.new.sink d c.payloads.new.disk c.refuse_log.result c.in-Err.fault c.payloads.result c.in-Err.is
           (at_some (disk.content d) bytes (NoBadRecord c.payloads.result) told c.payloads.ensures.never_bad) c.in-Err.ensures.possible (λ e. c.in-Err.ensures.sure (ap (λ (x : LogFault). Err x) e)) c.refuse_log.ensures.ends),
     )
