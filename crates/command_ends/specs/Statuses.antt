@@ -30,3 +30,24 @@ IsFinished status = (status ≡ Done) ⊎ (status ≡ SomeRefused)
 abbrev pub IsAmong : List Status → Status → Type 0
 IsAmong [] status = ⊥
 IsAmong (one ∷ more) status = (status ≡ one) ⊎ IsAmong more status
+
+-- ---- how each kind of command may end, whatever the devices tell
+
+-- a command over a script
+abbrev pub script_statuses : List Status
+script_statuses = Done ∷ SomeRefused ∷ ProgramRefused ∷ SourceFault ∷ SinkFault ∷ InputTooLong ∷ NoMemory ∷ []
+
+-- a command that makes a store: `init`; and `import`, which may refuse its document, too
+abbrev pub init_statuses : List Status
+init_statuses = Done ∷ ProgramRefused ∷ StoreRefused ∷ SourceFault ∷ SinkFault ∷ DiskFault ∷ InputTooLong ∷ NoMemory ∷ []
+
+abbrev pub import_statuses : List Status
+import_statuses = SomeRefused ∷ init_statuses
+
+-- `apply`, which reads a journal over a store
+abbrev pub apply_statuses : List Status
+apply_statuses = Done ∷ SomeRefused ∷ StoreRefused ∷ SourceFault ∷ SinkFault ∷ DiskFault ∷ InputTooLong ∷ NoMemory ∷ []
+
+-- a command over a store that reads no journal
+abbrev pub quiet_statuses : List Status
+quiet_statuses = Done ∷ StoreRefused ∷ SinkFault ∷ DiskFault ∷ NoMemory ∷ []

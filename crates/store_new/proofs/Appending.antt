@@ -7,7 +7,7 @@ use Rattle.gate_log.specs.LogOnDisk.{LogState, Stands}
 use Rattle.gate_log.specs.declared.fault.LogFault.{LogFault}
 use Rattle.gate_log.specs.declared.fault.LogFault.TheVariants as log
 use Rattle.store_run.specs.Rooms.{HasNoRoom}
-use Rattle.store_run.proofs.Effects.{room_over}
+use Rattle.store_run.proofs.Effects.{if_known}
 use Rattle.store_run.proofs.StoredPayloads.{images_held}
 use Rattle.store_new.specs.Making.{StopsAppending}
 use Rattle.store_new.specs.NewStores.{IsTooLong, HoldsStore, HoldsFirst}
@@ -51,7 +51,7 @@ module _ {D : Type 0} (disk : OfDisk.Ghosts D) where
       → Stored d l payloads (drop i records) → IfSome o (λ most. most < l.gate + 10 + length payload) → IfSome o (λ most. HasNoRoom most [] payloads)
   no_room_for_next o d l payloads records i payload some is s h =
       let next : drop i records ≡ payload ∷ drop (suc i) records = drop-cons records i payload some ∙ ap (λ p. p ∷ drop (suc i) records) (sym is) in
-      room_over o (λ most. most < l.gate + 10 + length payload) (λ most. HasNoRoom most [] payloads)
+      if_known o (λ most. most < l.gate + 10 + length payload) (λ most. HasNoRoom most [] payloads)
       (λ most over. record {
         front = s.front;
         payload = payload;

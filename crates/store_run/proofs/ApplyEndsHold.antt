@@ -259,7 +259,7 @@ module _ {S K D A : Type 0} (source : OfSource.Ghosts S) (sink : OfSink.Ghosts K
     safe_unstored SinkFault more none own unasked s h = absurd (omega (arith, s.given.1.some, ap length s.given.1.parts, length-append s.given.0 s.given.1.rest))
     safe_unstored DiskFault more none own unasked s h =
         unread more (took_none source i i' unasked) (Appends-trans (sink.held k) (sink.held k1) (sink.held k') [] more s.given h)
-        (λ base st c is. elim (s.stored base st c is) [
+        (λ base st c is. elim ((s.stored base st).0 c is) [
           | inl without ↦ before_it base version more c none without
           | inr with ↦ behind_it base version more c none with
         ])

@@ -92,7 +92,7 @@ module _ {K D State : Type 0} (sink : OfSink.Ghosts K) (disk : OfDisk.Ghosts D)
       record {
         given = text_of done;
         appends = s.given;
-        now = λ base h c is. elim (s.stored base h c is) [
+        now = λ base h c is. elim ((s.stored base h).0 c is) [
           | inl without ↦ exactly base (kept_of done) (kept_of begun) (text_of done) c count without
           | inr with ↦ with_one base (kept_of done) (kept_of begun) (text_of done) c count (begun_kept begun few) with
         ];

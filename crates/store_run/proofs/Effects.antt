@@ -79,9 +79,9 @@ records_append (x ∷ xs) ys =
     let all : 9 + length x + records_length (xs ++ ys) ≡ 9 + length x + records_length xs + records_length ys = omega (arith, rest) in
     all
 
-pub room_over : (o : Option ℕ) (P Q : ℕ → Type 0) → ((n : ℕ) → P n → Q n) → IfSome o P → IfSome o Q
-room_over None P Q f h = tt
-room_over (Some n) P Q f h = f n h
+pub if_known : {T : Type 0} (o : Option T) (P Q : T → Type 0) → ((n : T) → P n → Q n) → IfSome o P → IfSome o Q
+if_known None P Q f h = tt
+if_known (Some n) P Q f h = f n h
 
 -- ---- one part and then another
 
@@ -135,7 +135,9 @@ module _ {K D : Type 0} (sink : OfSink.Ghosts K) (disk : OfDisk.Ghosts D)
   stores_then SinkFault d d' d'' l l' l'' kept done begun a b = λ base s.
       stands_as l'' d'' (base ++ (kept ++ (done ++ begun))) (base ++ ((kept ++ done) ++ begun)) (ap (λ (x : Payloads). base ++ x) (sym (append_assoc kept done begun)))
       (keeps_then d d' d'' l l' l'' kept (done ++ begun) a b base s)
-  stores_then DiskFault d d' d'' l l' l'' kept done begun a b = λ base s c now. either_behind base kept done begun c (b (base ++ kept) (a base s) c now)
+  stores_then DiskFault d d' d'' l l' l'' kept done begun a b = λ base s.
+      let later = b (base ++ kept) (a base s) in
+      ((λ c now. either_behind base kept done begun c (later.0 c now)), if_known (disk.content d'') (HoldsEither (base ++ kept) done begun) (HoldsEither base (kept ++ done) begun) (either_behind base kept done begun) later.1)
   stores_then LogFull d d' d'' l l' l'' kept done begun a b = keeps_then d d' d'' l l' l'' kept done a b
   stores_then SourceFault d d' d'' l l' l'' kept done begun a b = keeps_then d d' d'' l l' l'' kept done a b
   stores_then TooLong d d' d'' l l' l'' kept done begun a b = keeps_then d d' d'' l l' l'' kept done a b
@@ -159,6 +161,10 @@ module _ {K D : Type 0} (sink : OfSink.Ghosts K) (disk : OfDisk.Ghosts D)
 
   -- ---- an append
 
+  either_one : (base : Payloads) (payload c : List ℕ) → HoldsOneMore base payload c → HoldsEither base [] (payload ∷ []) c
+  either_one base payload c (inl without) = inl (holds_as base (base ++ []) c (sym (append-nil base)) without)
+  either_one base payload c (inr with) = inr with
+
   pub append_adds : (k : K) (d d' : D) (l l' : LogState) (payload : List ℕ) → ((base : Payloads) → StandsOn disk d l base → StandsOn disk d' l' (base ++ payload ∷ []))
       → ((base : Payloads) → StandsOn disk d l base → LeavesOnly disk d d' (HoldsOneMore base payload))
       → l'.gate ≡ l.gate + 9 + length payload → disk.room d' ≡ disk.room d
@@ -173,30 +179,34 @@ module _ {K D : Type 0} (sink : OfSink.Ghosts K) (disk : OfDisk.Ghosts D)
 
   pub append_stops : (k : K) (d d' : D) (l l' : LogState) (payload line : List ℕ) (fault : LogFault) → (base : Payloads) × StandsOn disk d l base
       → ((base : Payloads) → StandsOn disk d l base → AppendEnds (StandsOn disk d' l') (disk.images d') base payload (Err fault))
+      → ((base : Payloads) → StandsOn disk d l base → IfSome (disk.content d') (HoldsOneMore base payload))
       → ((base : Payloads) → StandsOn disk d l base → LeavesOnly disk d d' (AppendLeaves base payload (Err fault)))
       → (fault ≡ log.LogFull → 2 ^ 63 - 1 < l.gate + 10 + length payload) → (fault ≡ log.DiskFault → IfSome (disk.room d) (λ most. most < l.gate + 10 + length payload))
       → Stops sink disk (k, d, l) (k, d', l') (stop_of_log fault) [] line [] (payload ∷ [])
-  append_stops k d d' l l' payload line log.LogFull some ends moments over sure = record {
+  append_stops k d d' l l' payload line log.LogFull some ends read moments over sure = record {
     full = let is : 2 ^ 63 - 1 < l.gate + 0 + 10 + length payload = omega (arith, over refl) in is;
     given = Appends-nil (sink.held k);
     stored = λ base s. stands_as l' d' base (base ++ []) (sym (append-nil base)) (ends base s);
     moments = λ base s. leaves_more disk d d' (HoldsPayloads base) (HoldsFirst base []) (first_none base []) (moments base s);
   }
-  append_stops k d d' l l' payload line log.NoMemory some ends moments over sure = record {
+  append_stops k d d' l l' payload line log.NoMemory some ends read moments over sure = record {
     full = tt;
     given = Appends-nil (sink.held k);
     stored = λ base s. stands_as l' d' base (base ++ []) (sym (append-nil base)) (ends base s);
     moments = λ base s. leaves_more disk d d' (HoldsPayloads base) (HoldsFirst base []) (first_none base []) (moments base s);
   }
-  append_stops k d d' l l' payload line log.DiskFault some ends moments over sure = record {
-    full = room_over (disk.room d) (λ most. most < l.gate + 10 + length payload) (λ most. most < l.gate + 0 + 10 + length payload) (λ most h. omega (arith, h)) (sure refl);
+  append_stops k d d' l l' payload line log.DiskFault some ends read moments over sure = record {
+    full = if_known (disk.room d) (λ most. most < l.gate + 10 + length payload) (λ most. most < l.gate + 0 + 10 + length payload) (λ most h. omega (arith, h)) (sure refl);
     given = Appends-nil (sink.held k);
-    stored = λ base s c now. elim (ends base s c now) [ inl without ↦ inl (holds_as base (base ++ []) c (sym (append-nil base)) without) | inr with ↦ inr with ];
+    stored = λ base s. (
+      (λ c now. either_one base payload c (ends base s c now)),
+      if_known (disk.content d') (HoldsOneMore base payload) (HoldsEither base [] (payload ∷ [])) (either_one base payload) (read base s),
+    );
     moments = λ base s. leaves_more disk d d' (HoldsOneMore base payload) (HoldsFirst base (payload ∷ [])) (first_one base payload) (moments base s);
   }
-  append_stops k d d' l l' payload line log.NotALog some ends moments over sure = absurd (ends some.0 some.1)
-  append_stops k d d' l l' payload line (log.BadRecord number) some ends moments over sure = absurd (ends some.0 some.1)
-  append_stops k d d' l l' payload line log.LogExists some ends moments over sure = absurd (ends some.0 some.1)
+  append_stops k d d' l l' payload line log.NotALog some ends read moments over sure = absurd (ends some.0 some.1)
+  append_stops k d d' l l' payload line (log.BadRecord number) some ends read moments over sure = absurd (ends some.0 some.1)
+  append_stops k d d' l l' payload line log.LogExists some ends read moments over sure = absurd (ends some.0 some.1)
 
   -- ---- the sink fails at a line
 

@@ -51,7 +51,7 @@ module _ {K D : Type 0} (sink : OfSink.Ghosts K) (disk : OfDisk.Ghosts D)
   pub now_at : (stop : Stop) (k k' : K) (d d' : D) (l l' : LogState) (base whole : Payloads) (text begun_text : List ℕ) (kept begun more : Payloads) → (kept ++ begun) ++ more ≡ whole
       → Stops sink disk (k, d, l) (k', d', l') stop text begun_text kept begun → StandsOn disk d l base → (c : List ℕ) → disk.images d' c → HoldsFirst base whole c
   now_at SinkFault k k' d d' l l' base whole text begun_text kept begun more e s st c now = front_holds base (kept ++ begun) more whole c e (images_hold l' d' (base ++ (kept ++ begun)) c (s.stored base st) now)
-  now_at DiskFault k k' d d' l l' base whole text begun_text kept begun more e s st c now = elim (s.stored base st c now) [
+  now_at DiskFault k k' d d' l l' base whole text begun_text kept begun more e s st c now = elim ((s.stored base st).0 c now) [
     | inl without ↦ front_holds base kept (begun ++ more) whole c (sym (append_assoc kept begun more) ∙ e) without
     | inr with ↦ front_holds base (kept ++ begun) more whole c e with
   ]

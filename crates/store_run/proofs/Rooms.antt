@@ -28,7 +28,7 @@ use Rattle.command_ends.specs.declared.status.Status.{Status}
 use Rattle.command_ends.specs.declared.status.Status.TheVariants as ending
 use Rattle.store_run.specs.declared.stop.Stop.{Stop}
 use Rattle.store_run.specs.declared.stop.Stop.TheVariants.{LogFull, SourceFault, SinkFault, DiskFault, TooLong, NoMemory}
-use Rattle.store_run.proofs.Effects.{records_append, room_over}
+use Rattle.store_run.proofs.Effects.{records_append, if_known}
 use Rattle.store_run.proofs.InTime.{took_none}
 use Rattle.store_run.proofs.RunParts.{kept_append, goes_run}
 
@@ -112,11 +112,11 @@ module _ {S K D A : Type 0} (source : OfSource.Ghosts S) (sink : OfSink.Ghosts K
   over_journal : (k k1 : K) (d d' : D) (l l' : LogState) (stop : Stop) → l.gate ≡ closed_gate (before ++ option_to_list version)
       → StopsJournal source sink disk session (i, k, d, l) (i', k1, d', l') t 0 stop → IfSome (room_at stop (disk.room d)) NoRoom
   over_journal k k1 d d' l l' stop g (inl j) =
-      room_over (room_at stop (disk.room d)) (λ most. IsOver most (l.gate + records_length (kept_of j.among.done)) (kept_of j.among.begun)) NoRoom
+      if_known (room_at stop (disk.room d)) (λ most. IsOver most (l.gate + records_length (kept_of j.among.done)) (kept_of j.among.begun)) NoRoom
       (λ most over. over_among most k k1 d d' l l' stop j.bytes (ended_lines j.bytes) (option_to_list (last_line (fed nothing_fed j.bytes).begun)) g j.consumes (sym (all_lines_given j.bytes)) j.among over)
       (full_room stop (disk.room d) (l.gate + records_length (kept_of j.among.done)) (kept_of j.among.begun) j.among.stops.full)
   over_journal k k1 d d' l l' stop g (inr j) =
-      room_over (room_at stop (disk.room d)) (λ most. IsOver most (l.gate + records_length (kept_of j.among.done)) (kept_of j.among.begun)) NoRoom
+      if_known (room_at stop (disk.room d)) (λ most. IsOver most (l.gate + records_length (kept_of j.among.done)) (kept_of j.among.begun)) NoRoom
       (λ most over. over_among most k k1 d d' l l' stop j.bytes (lines_of j.bytes) [] g j.consumes (sym (append-nil (lines_of j.bytes))) j.among over)
       (full_room stop (disk.room d) (l.gate + records_length (kept_of j.among.done)) (kept_of j.among.begun) j.among.stops.full)
 
@@ -125,7 +125,7 @@ module _ {S K D A : Type 0} (source : OfSource.Ghosts S) (sink : OfSink.Ghosts K
         → IfSome (room_at stop (disk.room d)) NoRoom
     over_stored stop (inl s) =
         let v = option_to_list version in
-        room_over (room_at stop (disk.room d)) (λ most. IsOver most (l.gate + records_length []) v) NoRoom
+        if_known (room_at stop (disk.room d)) (λ most. IsOver most (l.gate + records_length []) v) NoRoom
         (λ most over. record {
           bytes = [];
           consumes = took_none source i i' s.1;
@@ -206,11 +206,11 @@ module _ {K D : Type 0} (sink : OfSink.Ghosts K) (disk : OfDisk.Ghosts D) where
       ⊎ Stops sink disk (k, d, l) (k1, d', l') stop [] line front (payload ∷ [])
       → IfSome (room_at stop (disk.room d)) (λ most. HasNoRoom most before (front ++ payload ∷ []))
   over_stops k k1 d d' l l' before front payload line stop g (inl s) =
-      room_over (room_at stop (disk.room d)) (λ most. IsOver most (l.gate + records_length []) front) (λ most. HasNoRoom most before (front ++ payload ∷ []))
+      if_known (room_at stop (disk.room d)) (λ most. IsOver most (l.gate + records_length []) front) (λ most. HasNoRoom most before (front ++ payload ∷ []))
       (λ most over. no_room_of most (l.gate + records_length []) before [] (front ++ payload ∷ []) (front ++ payload ∷ []) (gate_behind l.gate before [] g) refl (over_more most (l.gate + records_length []) front (payload ∷ []) over))
       (full_room stop (disk.room d) (l.gate + records_length []) front s.full)
   over_stops k k1 d d' l l' before front payload line stop g (inr s) =
-      room_over (room_at stop (disk.room d)) (λ most. IsOver most (l.gate + records_length front) (payload ∷ [])) (λ most. HasNoRoom most before (front ++ payload ∷ []))
+      if_known (room_at stop (disk.room d)) (λ most. IsOver most (l.gate + records_length front) (payload ∷ [])) (λ most. HasNoRoom most before (front ++ payload ∷ []))
       (λ most over. no_room_of most (l.gate + records_length front) before front (payload ∷ []) (front ++ payload ∷ []) (gate_behind l.gate before front g) refl over)
       (full_room stop (disk.room d) (l.gate + records_length front) (payload ∷ []) s.full)
 
@@ -253,7 +253,7 @@ module _ {K D : Type 0} (sink : OfSink.Ghosts K) (disk : OfDisk.Ghosts D) where
     pack_of : (s : Status) (o : Option ℕ) (p : List ℕ) → session.is_snapshot t p
         → IsStoreCause s (HasNoRoom most_bytes before (option_to_list version ++ p ∷ [])) (IfSome o (λ most. HasNoRoom most before (option_to_list version ++ p ∷ []))) → IsPackCauseInRoom session o before t version s
     pack_of ending.StoreRefused o p made h = (p, made, h)
-    pack_of ending.DiskFault o p made h = room_over o (λ most. HasNoRoom most before (option_to_list version ++ p ∷ [])) (λ most. PackHasNoRoom session most before t version) (λ most n. (p, made, n)) h
+    pack_of ending.DiskFault o p made h = if_known o (λ most. HasNoRoom most before (option_to_list version ++ p ∷ [])) (λ most. PackHasNoRoom session most before t version) (λ most n. (p, made, n)) h
     pack_of ending.SourceFault o p made h = h
     pack_of ending.InputTooLong o p made h = h
     pack_of ending.Usage o p made h = h

@@ -66,12 +66,13 @@ module _ {K : Type 0} (sink : OfSink.Ghosts K) (old new : K) where
 -- A disk and the log on it, before a part of a call and after it.
 module _ {D : Type 0} (disk : OfDisk.Ghosts D) (old new : D × LogState) where
   -- What is stored at a stop: what is done. If the sink failed, what was begun is stored too. If the disk failed,
-  -- each image holds one or the other.
+  -- each image holds one or the other, and so does what a read gives.
   abbrev pub StoresAt : Stop → List (List ℕ) → List (List ℕ) → Type 0
   StoresAt SinkFault done begun = (base : List (List ℕ)) → StandsOn disk old.0 old.1 base
       → StandsOn disk new.0 new.1 (base ++ (done ++ begun))
   StoresAt DiskFault done begun = (base : List (List ℕ)) → StandsOn disk old.0 old.1 base
-      → (c : List ℕ) → disk.images new.0 c → HoldsEither base done begun c
+      → ((c : List ℕ) → disk.images new.0 c → HoldsEither base done begun c)
+      × IfSome (disk.content new.0) (HoldsEither base done begun)
   StoresAt stop done begun = (base : List (List ℕ)) → StandsOn disk old.0 old.1 base
       → StandsOn disk new.0 new.1 (base ++ done)
 

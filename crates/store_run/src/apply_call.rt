@@ -1,5 +1,5 @@
 //! The command `apply`, from its first call of the disk on.
-ghost use Rattle.command_ends.specs.Statuses.{IsFinished};
+ghost use Rattle.command_ends.specs.Statuses.{IsAmong, IsFinished, apply_statuses};
 ghost use Rattle.std.specs.Prelude.{◌≡◌, ◌⊎◌, List, ℕ, Ok, Some};
 ghost use Rattle.std.specs.declared.option.Option.{Option};
 ghost use Rattle.lens_io.specs.Calls.{IsUnasked, SourceFailed, SinkFailed, DiskFailed};
@@ -79,6 +79,7 @@ pub fn apply<S: Source, A: StoredSession + Drop, K: Sink, D: Disk>(
     ensures refused { (other : RefusedStore D.Disk A.StoredSession disk.old)
         → IsUnwritten D.Disk disk.old disk.new × IsUnasked S.Source source.old source.new
         × EndsRefused K.Sink D.Disk (sink.old, disk.old) (sink.new, disk.new) other.reason result }
+    ensures statuses { IsAmong apply_statuses result }
     ensures source_fault { result ≡ Status.SourceFault
         → SourceFailed S.Source source.old source.new }
     ensures sink_fault { result ≡ Status.SinkFault → SinkFailed K.Sink sink.old sink.new }
@@ -129,6 +130,7 @@ fn apply_log<S: Source, A: StoredSession + Drop, K: Sink, D: Disk>(
         → refusal_of_payloads (A.stands_for before) ≡ Some refusal
         → IsUnwritten D.Disk disk.old disk.new × IsUnasked S.Source source.old source.new
         × EndsRefused K.Sink D.Disk (sink.old, disk.old) (sink.new, disk.new) refusal result }
+    ensures statuses { IsAmong apply_statuses result }
     ensures source_fault { result ≡ Status.SourceFault
         → SourceFailed S.Source source.old source.new }
     ensures sink_fault { result ≡ Status.SinkFault → SinkFailed K.Sink sink.old sink.new }
@@ -173,6 +175,7 @@ fn apply_payloads<S: Source, A: StoredSession + Drop, K: Sink, D: Disk>(
         → refusal_of_payloads (A.stands_for payloads.now) ≡ Some refusal
         → IsUnwritten D.Disk disk.old disk.new × IsUnasked S.Source source.old source.new
         × EndsRefused K.Sink D.Disk (sink.old, disk.old) (sink.new, disk.new) refusal result }
+    ensures statuses { IsAmong apply_statuses result }
     ensures source_fault { result ≡ Status.SourceFault
         → SourceFailed S.Source source.old source.new }
     ensures sink_fault { result ≡ Status.SinkFault → SinkFailed K.Sink sink.old sink.new }

@@ -1,5 +1,5 @@
 //! Going on with a session that was opened, by a journal: what comes before the lines and behind them.
-ghost use Rattle.command_ends.specs.Statuses.{end_of};
+ghost use Rattle.command_ends.specs.Statuses.{IsAmong, apply_statuses, end_of};
 ghost use Rattle.std.specs.Prelude.{◌≡◌, ◌⊎◌, ◌+◌, ◌^◌, ◌<◌, ◌≤◌, [], false, List, ℕ, IfOk, IfErr, IsErrOf, option_to_list};
 ghost use Rattle.lens_io.specs.Calls.{Gave, GaveFront, SourceFailed, SinkFailed, DiskFailed};
 ghost use Rattle.edit_journal.specs.Pieces.{last_line};
@@ -160,6 +160,7 @@ pub fn continue_store<S: Source, A: StoredSession, K: Sink, D: Disk>(
     ensures in_time { AnswersInTime S.Source K.Sink A.StoredSession
         (source.old, sink.old) (source.new, sink.new) (A.state session.old) result }
     ensures few { GaveFew S.Source source.old source.new PIECE_BYTES }
+    ensures statuses { IsAmong apply_statuses result }
     ensures source_fault { result ≡ Status.SourceFault
         → SourceFailed S.Source source.old source.new }
     ensures sink_fault { result ≡ Status.SinkFault → SinkFailed K.Sink sink.old sink.new }
@@ -186,6 +187,7 @@ fn give_state<A: StoredSession, K: Sink>(
         × GaveFront K.Sink sink.old sink.new (A.state_text (A.state session.now))
         ⊎ (result ≡ Status.NoMemory) × Gave K.Sink sink.old sink.new [] }
     ensures sink_fault { result ≡ Status.SinkFault → SinkFailed K.Sink sink.old sink.new }
+    ensures statuses { IsAmong apply_statuses result }
     ensures no_source { result ≡ Status.SourceFault → ⊥ }
     ensures no_disk { result ≡ Status.DiskFault → ⊥ }
 {

@@ -1,5 +1,5 @@
 //! The command `pack`, from its first call of the disk on.
-ghost use Rattle.command_ends.specs.Statuses.{IsFinished};
+ghost use Rattle.command_ends.specs.Statuses.{IsAmong, IsFinished, quiet_statuses};
 ghost use Rattle.std.specs.Prelude.{◌≡◌, ◌⊎◌, ◌∷◌, ◌++◌, [], List, ℕ, Ok, Some, OnOk, IfOk, IfErr, option_to_list};
 ghost use Rattle.std.specs.declared.option.Option.{Option};
 ghost use Rattle.lens_io.specs.Calls.{SinkFailed, DiskFailed};
@@ -34,11 +34,11 @@ use texts::Bytes;
 ///   has changed.
 /// - `exits`: what was written and what is stored after each status, if the payloads stand for a session.
 /// - `causes`: over such payloads `StoreRefused` comes only if the log had no room for the version record or the snapshot, and
-///   `DiskFault`, if the disk's room is known, only if the disk had none. The source is not there, and no item is refused.
+///   `DiskFault`, if the disk's room is known, only if the disk had none.
 /// - `complete`: so with no fault, and if the log has room, the status is `Done` or `NoMemory`.
 /// - `refused`: if the bytes of the disk are refused, the line `store refused: REASON` is written, unless the disk failed, whose
 ///   room is not known then, or memory ran out before. Nothing is written to the disk.
-/// - `no_source`, `sink_fault`, `disk_fault`: there is no fault of a source, and these statuses come only if that device failed.
+/// - `statuses`: it ends by one of five statuses, whatever the disk holds. `sink_fault`, `disk_fault`: these come only if that device failed.
 pub fn pack<A: StoredSession + Drop, K: Sink, D: Disk>(
     alloc: Global,
     sink: &mut K,
@@ -67,7 +67,7 @@ pub fn pack<A: StoredSession + Drop, K: Sink, D: Disk>(
     ensures refused { (other : RefusedStore D.Disk A.StoredSession disk.old)
         → IsUnwritten D.Disk disk.old disk.new
         × EndsRefused K.Sink D.Disk (sink.old, disk.old) (sink.new, disk.new) other.reason result }
-    ensures no_source { result ≡ Status.SourceFault → ⊥ }
+    ensures statuses { IsAmong quiet_statuses result }
     ensures sink_fault { result ≡ Status.SinkFault → SinkFailed K.Sink sink.old sink.new }
     ensures disk_fault { result ≡ Status.DiskFault → DiskFailed D.Disk disk.old disk.new }
 {
@@ -111,7 +111,7 @@ fn pack_log<A: StoredSession + Drop, K: Sink, D: Disk>(
         → refusal_of_payloads (A.stands_for before) ≡ Some refusal
         → IsUnwritten D.Disk disk.old disk.new
         × EndsRefused K.Sink D.Disk (sink.old, disk.old) (sink.new, disk.new) refusal result }
-    ensures no_source { result ≡ Status.SourceFault → ⊥ }
+    ensures statuses { IsAmong quiet_statuses result }
     ensures sink_fault { result ≡ Status.SinkFault → SinkFailed K.Sink sink.old sink.new }
     ensures disk_fault { result ≡ Status.DiskFault → DiskFailed D.Disk disk.old disk.new }
 {
@@ -149,7 +149,7 @@ fn pack_payloads<A: StoredSession + Drop, K: Sink, D: Disk>(
         → refusal_of_payloads (A.stands_for payloads.now) ≡ Some refusal
         → IsUnwritten D.Disk disk.old disk.new
         × EndsRefused K.Sink D.Disk (sink.old, disk.old) (sink.new, disk.new) refusal result }
-    ensures no_source { result ≡ Status.SourceFault → ⊥ }
+    ensures statuses { IsAmong quiet_statuses result }
     ensures sink_fault { result ≡ Status.SinkFault → SinkFailed K.Sink sink.old sink.new }
     ensures disk_fault { result ≡ Status.DiskFault → DiskFailed D.Disk disk.old disk.new }
 {
@@ -197,7 +197,7 @@ fn pack_session<A: StoredSession, K: Sink, D: Disk>(
         → count ≡ A.count_of before
         → EndsPack K.Sink D.Disk A.StoredSession (sink.old, disk.old) (sink.new, disk.new)
         before (A.state session.now) version.now result }
-    ensures no_source { result ≡ Status.SourceFault → ⊥ }
+    ensures statuses { IsAmong quiet_statuses result }
     ensures sink_fault { result ≡ Status.SinkFault → SinkFailed K.Sink sink.old sink.new }
     ensures disk_fault { result ≡ Status.DiskFault → DiskFailed D.Disk disk.old disk.new }
 {

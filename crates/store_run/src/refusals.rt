@@ -1,7 +1,9 @@
 //! The refusals of a store.
 ghost use Rattle.std.specs.Prelude.{◌≡◌, ◌⊎◌, IfOk};
+ghost use Rattle.command_ends.specs.Statuses.{IsAmong, apply_statuses, quiet_statuses};
 ghost use Rattle.lens_io.specs.Calls.{Gave, GaveFront, SinkFailed};
 ghost use Rattle.store_run.specs.ApplyEnds.{SaysStop};
+ghost use Rattle.store_run.specs.Stopping.{IsOwnStop};
 ghost use Rattle.store_run.specs.Refusals.{refusal_line, Refuses, EndsAtLog, EndsAtPayloads};
 
 use crate::session::ReopenFault;
@@ -33,6 +35,7 @@ pub enum StoreRefusal {
 /// `store refused: REASON` is written.
 pub fn refuse_log<K: Sink>(alloc: Global, fault: LogFault, sink: &mut K) -> Status
     ensures ends { EndsAtLog K.Sink sink.old sink.new fault result }
+    ensures statuses { IsAmong quiet_statuses result }
     ensures sink_fault { result ≡ Status.SinkFault → SinkFailed K.Sink sink.old sink.new }
 {
     match fault {
@@ -48,6 +51,7 @@ pub fn refuse_log<K: Sink>(alloc: Global, fault: LogFault, sink: &mut K) -> Stat
 /// Ends a command at payloads that stand for no session. Running out of memory writes no line.
 pub(crate) fn refuse_payloads<K: Sink>(alloc: Global, fault: ReopenFault, sink: &mut K) -> Status
     ensures ends { EndsAtPayloads K.Sink sink.old sink.new fault result }
+    ensures statuses { IsAmong quiet_statuses result }
     ensures sink_fault { result ≡ Status.SinkFault → SinkFailed K.Sink sink.old sink.new }
 {
     match fault {
@@ -64,6 +68,7 @@ pub(crate) fn refuse_payloads<K: Sink>(alloc: Global, fault: ReopenFault, sink: 
 /// Ends a command by a refusal: its line `store refused: REASON` is written. Only a line with the number of a record allocates.
 pub fn refuse<K: Sink>(alloc: Global, refusal: StoreRefusal, sink: &mut K) -> Status
     ensures refuses { Refuses K.Sink sink.old sink.new refusal result }
+    ensures statuses { IsAmong quiet_statuses result }
     ensures sink_fault { result ≡ Status.SinkFault → SinkFailed K.Sink sink.old sink.new }
 {
     match refusal {
@@ -96,6 +101,7 @@ fn not_consistent_line(alloc: Global, number: u64) -> Result<Bytes, AllocError>
 fn give_made<K: Sink>(sink: &mut K, line: Result<Bytes, AllocError>) -> Status
     ensures refuses { (refusal : StoreRefusal) → IfOk line (λ text. text ≡ refusal_line refusal)
         → Refuses K.Sink sink.old sink.new refusal result }
+    ensures statuses { IsAmong quiet_statuses result }
     ensures sink_fault { result ≡ Status.SinkFault → SinkFailed K.Sink sink.old sink.new }
 {
     match line {
@@ -108,6 +114,7 @@ fn give_made<K: Sink>(sink: &mut K, line: Result<Bytes, AllocError>) -> Status
 fn give_refusal<K: Sink>(sink: &mut K, line: &[u8]) -> Status
     ensures gives { (result ≡ Status.StoreRefused) × Gave K.Sink sink.old sink.new line.now
         ⊎ (result ≡ Status.SinkFault) × GaveFront K.Sink sink.old sink.new line.now }
+    ensures statuses { IsAmong quiet_statuses result }
     ensures sink_fault { result ≡ Status.SinkFault → SinkFailed K.Sink sink.old sink.new }
 {
     match give_all(sink, line) {
@@ -119,6 +126,8 @@ fn give_refusal<K: Sink>(sink: &mut K, line: &[u8]) -> Status
 /// Ends a command that was stopped. If the log is full, the line that says so is written.
 pub fn give_stop<K: Sink>(stop: Stop, sink: &mut K) -> Status
     ensures gives { SaysStop K.Sink sink.old sink.new stop result }
+    ensures statuses { IsAmong apply_statuses result }
+    ensures own { IsOwnStop stop → IsAmong quiet_statuses result }
     ensures sink_fault { result ≡ Status.SinkFault
         → (stop ≡ Stop.SinkFault) × (sink.new ≡ sink.old)
         ⊎ SinkFailed K.Sink sink.old sink.new }

@@ -1,4 +1,5 @@
 //! The commands `show` and `verify`, which only read a store.
+ghost use Rattle.command_ends.specs.Statuses.{IsAmong, quiet_statuses};
 ghost use Rattle.std.specs.Prelude.{◌≡◌, ◌⊎◌, List, ℕ, Ok, Some, IfOk, IsNone};
 ghost use Rattle.std.specs.declared.option.Option.{Option};
 ghost use Rattle.lens_io.specs.Calls.{SinkFailed, DiskFailed};
@@ -34,7 +35,7 @@ enum StoreView {
 /// - `refused`: if the bytes of the disk are refused, the line `store refused: REASON` is written in its place.
 /// - `unwritten`, `moments`: nothing is written to the disk, and a crash leaves nothing new.
 /// - `complete`: over such payloads and with no fault the status is `Done` or `NoMemory`.
-/// - `no_source`: there is no fault of a source.
+/// - `statuses`: it ends by one of five statuses, whatever the disk holds.
 /// - `sink_fault`, `disk_fault`, `sure`: these statuses come only if that device failed; a disk whose room is known does not.
 pub fn show<A: StoredSession + Drop, K: Sink, D: Disk>(
     alloc: Global,
@@ -52,7 +53,7 @@ pub fn show<A: StoredSession + Drop, K: Sink, D: Disk>(
         → (SinkFailed K.Sink sink.old sink.new → ⊥)
         → (DiskFailed D.Disk disk.old disk.new → ⊥)
         → (result ≡ Status.Done) ⊎ (result ≡ Status.NoMemory) }
-    ensures no_source { result ≡ Status.SourceFault → ⊥ }
+    ensures statuses { IsAmong quiet_statuses result }
     ensures sink_fault { result ≡ Status.SinkFault → SinkFailed K.Sink sink.old sink.new }
     ensures disk_fault { result ≡ Status.DiskFault → DiskFailed D.Disk disk.old disk.new }
     ensures sure { result ≡ Status.DiskFault → IsNone (D.room disk.old) }
@@ -66,7 +67,7 @@ pub fn show<A: StoredSession + Drop, K: Sink, D: Disk>(
 /// - `refused`: if the bytes of the disk are refused, the line `store refused: REASON` is written in its place.
 /// - `unwritten`, `moments`: nothing is written to the disk, and a crash leaves nothing new.
 /// - `complete`: over such payloads and with no fault the status is `Done` or `NoMemory`.
-/// - `no_source`: there is no fault of a source.
+/// - `statuses`: it ends by one of five statuses, whatever the disk holds.
 /// - `sink_fault`, `disk_fault`, `sure`: these statuses come only if that device failed; a disk whose room is known does not.
 pub fn verify<A: StoredSession + Drop, K: Sink, D: Disk>(
     alloc: Global,
@@ -85,7 +86,7 @@ pub fn verify<A: StoredSession + Drop, K: Sink, D: Disk>(
         → (SinkFailed K.Sink sink.old sink.new → ⊥)
         → (DiskFailed D.Disk disk.old disk.new → ⊥)
         → (result ≡ Status.Done) ⊎ (result ≡ Status.NoMemory) }
-    ensures no_source { result ≡ Status.SourceFault → ⊥ }
+    ensures statuses { IsAmong quiet_statuses result }
     ensures sink_fault { result ≡ Status.SinkFault → SinkFailed K.Sink sink.old sink.new }
     ensures disk_fault { result ≡ Status.DiskFault → DiskFailed D.Disk disk.old disk.new }
     ensures sure { result ≡ Status.DiskFault → IsNone (D.room disk.old) }
@@ -108,7 +109,7 @@ fn view_store<A: StoredSession + Drop, K: Sink, D: Disk>(
         other.reason result }
     ensures unwritten { IsUnwritten D.Disk disk.old disk.new }
     ensures moments { LeavesOnly D.Disk disk.old disk.new (D.images disk.old) }
-    ensures no_source { result ≡ Status.SourceFault → ⊥ }
+    ensures statuses { IsAmong quiet_statuses result }
     ensures sink_fault { result ≡ Status.SinkFault → SinkFailed K.Sink sink.old sink.new }
     ensures disk_fault { result ≡ Status.DiskFault → DiskFailed D.Disk disk.old disk.new }
     ensures sure { result ≡ Status.DiskFault → IsNone (D.room disk.old) }
@@ -142,7 +143,7 @@ fn view_log<A: StoredSession + Drop, K: Sink, D: Disk>(
         → EndsRefused K.Sink D.Disk (sink.old, disk.old) (sink.new, disk.new) refusal result }
     ensures unwritten { IsUnwritten D.Disk disk.old disk.new }
     ensures moments { LeavesOnly D.Disk disk.old disk.new (D.images disk.old) }
-    ensures no_source { result ≡ Status.SourceFault → ⊥ }
+    ensures statuses { IsAmong quiet_statuses result }
     ensures sink_fault { result ≡ Status.SinkFault → SinkFailed K.Sink sink.old sink.new }
     ensures disk_fault { result ≡ Status.DiskFault → DiskFailed D.Disk disk.old disk.new }
     ensures sure { result ≡ Status.DiskFault → IsNone (D.room disk.old) }
@@ -167,7 +168,7 @@ fn view_payloads<A: StoredSession + Drop, K: Sink>(
     ensures refused { (refusal : StoreRefusal)
         → refusal_of_payloads (A.stands_for payloads.now) ≡ Some refusal
         → Refuses K.Sink sink.old sink.new refusal result }
-    ensures no_source { result ≡ Status.SourceFault → ⊥ }
+    ensures statuses { IsAmong quiet_statuses result }
     ensures sink_fault { result ≡ Status.SinkFault → SinkFailed K.Sink sink.old sink.new }
     ensures no_disk { result ≡ Status.DiskFault → ⊥ }
 {
@@ -187,7 +188,7 @@ fn give_view<A: StoredSession, K: Sink>(
 ) -> Status
     ensures views { Views K.Sink sink.old sink.new
         (view_text A.StoredSession view (A.state session.now) count) result }
-    ensures no_source { result ≡ Status.SourceFault → ⊥ }
+    ensures statuses { IsAmong quiet_statuses result }
     ensures sink_fault { result ≡ Status.SinkFault → SinkFailed K.Sink sink.old sink.new }
     ensures no_disk { result ≡ Status.DiskFault → ⊥ }
 {

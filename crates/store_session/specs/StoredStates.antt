@@ -109,9 +109,14 @@ IsStep s n line made = IfSome made.1.payload (ReadsAsChange (change_of_line line
 abbrev pub state_text : StoredState → List ℕ
 state_text s = lines.state_lines s.form s.triple
 
--- The payload is a snapshot of the state: it is read back as the record of the state's triple. The triple is
--- consistent, and its ints are i64, as all ints of the program.
+-- the payload of a snapshot: the record of the state's triple as compact JSON
+abbrev pub snapshot_text : StoredState → List ℕ
+snapshot_text s = compact_text (tree_of_snapshot s.form s.triple.left s.triple.comp s.triple.right)
+
+-- The payload is a snapshot of the state, and is read back as the record of its triple. The triple is consistent, and its
+-- ints are i64, as all ints of the program.
 pub record IsSnapshot (s : StoredState) (payload : List ℕ) : Type 0 where
+  pub text : payload ≡ snapshot_text s
   pub reads : tree_of_text payload ≡ Some (tree_of_snapshot s.form s.triple.left s.triple.comp s.triple.right)
   pub consistent : IsInStepFor s.form s.triple
   pub left_whole : holds_i64s s.triple.left ≡ true

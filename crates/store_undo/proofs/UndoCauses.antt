@@ -16,7 +16,7 @@ use Rattle.command_ends.specs.declared.status.Status.{Status}
 use Rattle.command_ends.specs.declared.status.Status.TheVariants as ending
 use Rattle.store_run.specs.declared.stop.Stop.{Stop}
 use Rattle.store_run.specs.declared.stop.Stop.TheVariants.{LogFull, SourceFault, SinkFault, DiskFault, TooLong, NoMemory}
-use Rattle.store_run.proofs.Effects.{records_append, room_over}
+use Rattle.store_run.proofs.Effects.{records_append, if_known}
 use Rattle.store_run.proofs.Rooms.{gate_of, none_some}
 use Rattle.store_session.specs.Stands.{stands}
 use Rattle.store_undo.specs.UndoCall.{HoldsNow}
@@ -107,8 +107,8 @@ module _ {K D : Type 0} (sink : OfSink.Ghosts K) (disk : OfDisk.Ghosts D) (befor
     stop_cause : (stop : Stop) → IsOwnStop stop → StopsAt k d l k1 d' l' stop → IsCauseInRoom (disk.room d) before u (status_of stop)
     stop_cause LogFull own (inl s) = over_version most_bytes s.full
     stop_cause LogFull own (inr s) = over_snapshot most_bytes s.full
-    stop_cause DiskFault own (inl s) = room_over (disk.room d) (λ most. IsOver most (l.gate + records_length []) version) (λ most. UndoHasNoRoom most before u) over_version s.full
-    stop_cause DiskFault own (inr s) = room_over (disk.room d) (λ most. IsOver most (l.gate + records_length version) last) (λ most. UndoHasNoRoom most before u) over_snapshot s.full
+    stop_cause DiskFault own (inl s) = if_known (disk.room d) (λ most. IsOver most (l.gate + records_length []) version) (λ most. UndoHasNoRoom most before u) over_version s.full
+    stop_cause DiskFault own (inr s) = if_known (disk.room d) (λ most. IsOver most (l.gate + records_length version) last) (λ most. UndoHasNoRoom most before u) over_snapshot s.full
     stop_cause SinkFault own s = tt
     stop_cause NoMemory own s = tt
     stop_cause SourceFault own s = absurd own

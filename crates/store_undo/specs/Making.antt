@@ -1,19 +1,14 @@
 -- For the helpers of `undo`: what is made before anything is stored. Read it from the end: `fault_of`, `IsMakingFault`, `IsMade`, then
 -- `AreTexts`.
-use Rattle.std.specs.Prelude.{◌≡◌, ℕ, List, ◌++◌, codes, true, Option, Some}
-use Rattle.serde_json.specs.Written.{compact_text}
-use Rattle.value_json.specs.DocumentJson.{holds_i64s}
+use Rattle.std.specs.Prelude.{◌≡◌, ℕ, List, ◌++◌, codes, Option, Some}
 use Rattle.edit_json.specs.WordJson.{tree_of_word}
-use Rattle.edit_journal.specs.EntryJson.{tree_of_text}
 use Rattle.answer_text.specs.Lines.{tree_line}
 use Rattle.pair_answers.specs.Answers.{state_lines}
-use Rattle.lens_core.specs.Consistency.{IsConsistent}
 use Rattle.lens_forms.specs.Forms.{FormTree}
-use Rattle.lens_forms.specs.Typing.{is_typed}
 use Rattle.edit_session.specs.Step.{TripleTree}
-use Rattle.store_records.specs.RecordJson.{tree_of_snapshot}
 use Rattle.store_records.specs.declared.record_fault.ReopenFault.{ReopenFault}
 use Rattle.store_records.specs.declared.record_fault.ReopenFault.TheVariants as reopening
+use Rattle.store_session.specs.StoredStates.{IsSnapshot, state_with}
 use Rattle.store_run.specs.declared.refusals.StoreRefusal.{StoreRefusal}
 use Rattle.store_run.specs.declared.refusals.StoreRefusal.TheVariants.{BadRecord, NotConsistent}
 use Rattle.store_undo.specs.Undoing.{Undoing, undoing}
@@ -24,18 +19,9 @@ use Rattle.store_undo.specs.declared.making.Making.{Making}
 use Rattle.store_undo.specs.declared.undo_texts.Texts.{Texts}
 use Rattle.edit_undo.specs.Undone.{BothTrees}
 
--- the payload is a snapshot of the triple, which is consistent and is read back from it
-pub record IsSnapshot (l : FormTree) (t : TripleTree) (payload : List ℕ) : Type 0 where
-  pub text : payload ≡ compact_text (tree_of_snapshot l t.left t.comp t.right)
-  pub reads : tree_of_text payload ≡ Some (tree_of_snapshot l t.left t.comp t.right)
-  pub typed : is_typed l ≡ true
-  pub consistent : IsConsistent l t.left t.comp t.right
-  pub left_ints : holds_i64s t.left ≡ true
-  pub right_ints : holds_i64s t.right ≡ true
-
 -- the texts are the snapshot of a triple, and the lines of the two words with the state lines of the triple
 pub record AreTexts (l : FormTree) (t : TripleTree) (words : BothTrees) (made : Texts) : Type 0 where
-  pub snapshot : IsSnapshot l t made.snapshot
+  pub snapshot : IsSnapshot (state_with l t) made.snapshot
   pub lines : made.lines ≡ tree_line (codes "undo left") (tree_of_word words.left)
       ++ (tree_line (codes "undo right") (tree_of_word words.right) ++ state_lines l t)
 

@@ -7,7 +7,9 @@ use Rattle.answer_text.specs.Lines.{tree_line}
 use Rattle.pair_answers.specs.Answers.{state_lines}
 use Rattle.lens_forms.specs.Forms.{left_type, right_type}
 use Rattle.lens_core.specs.Consistency.{IsConsistent}
-use Rattle.store_records.specs.RecordJson.{tree_of_version, tree_of_snapshot}
+use Rattle.store_session.specs.StoredStates as states
+use Rattle.store_session.specs.StoredStates.{state_with}
+use Rattle.store_records.specs.RecordJson.{tree_of_version}
 use Rattle.store_session.specs.Stands.{stands}
 use Rattle.store_undo.specs.Undoing.{Undoing}
 use Rattle.edit_undo.specs.Undone.{BringsBack}
@@ -32,7 +34,7 @@ version_then version = if nat_eq version 1 then 2 else version
 
 -- the snapshot of the triple before the last changes
 abbrev pub snapshot_text : Undoing → List ℕ
-snapshot_text u = compact_text (tree_of_snapshot u.now.form u.before.left u.before.comp u.before.right)
+snapshot_text u = states.snapshot_text (state_with u.now.form u.before)
 
 -- the version record, if it is still to be stored, and the snapshot
 abbrev pub new_records : Undoing → List (List ℕ)

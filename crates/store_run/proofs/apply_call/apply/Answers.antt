@@ -1,4 +1,5 @@
 use Rattle.std.specs.Prelude.{IsNone}
+use Rattle.command_ends.proofs.AmongStatuses.{quiet_applies}
 use Rattle.store_run.specs.Effects.{StandsOn}
 use Rattle.std.proofs.Common.{Option, inl, inr, ℕ, List, Err, ap, subst, ◌∙◌, ◌≡◌, sym, refl}
 use Rattle.gate_log.specs.LogOnDisk.{HoldsPayloads}
@@ -274,3 +275,6 @@ returns-in-Err-clause-in_time g c =
     let session = g.A.StoredSession in
     λ store.
     call_in_time source sink disk session c.args.source.now c.args.source.now c.args.sink.now c.refuse_log.new.sink c.args.disk.now c.open_log.new.disk store.payloads store.state store.version c.refuse_log.result (returns-in-Err-clause-exits g c store)
+
+pub returns-in-Err-clause-statuses : goal.returns-in-Err-clause-statuses
+returns-in-Err-clause-statuses g c = quiet_applies c.refuse_log.result c.refuse_log.ensures.statuses

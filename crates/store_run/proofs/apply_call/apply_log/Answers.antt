@@ -1,4 +1,5 @@
 use Rattle.std.specs.Prelude.{IsNone}
+use Rattle.command_ends.proofs.AmongStatuses.{quiet_applies}
 use Rattle.store_run.specs.Effects.{StandsOn}
 use Rattle.std.proofs.Common.{Option, ◌≡◌, ℕ, List, Err, ap, sym, subst, ◌∙◌, Ok, inl, inr, refl}
 use Rattle.gate_log.specs.LogOnDisk.{HoldsPayloads}
@@ -173,3 +174,6 @@ returns-in-Err-clause-refused g c =
       refl,
       inr (reading_fails sink disk k k' d d' c.refuse_log.result c.in-Err.fault c.payloads.result c.in-Err.is (at_some (disk.content d) bytes (NoBadRecord c.payloads.result) told c.payloads.ensures.never_bad) c.in-Err.ensures.possible (λ e. c.in-Err.ensures.sure (ap (λ (x : LogFault). Err x) e)) c.refuse_log.ensures.ends),
     )
+
+pub returns-in-Err-clause-statuses : goal.returns-in-Err-clause-statuses
+returns-in-Err-clause-statuses g c = quiet_applies c.refuse_log.result c.refuse_log.ensures.statuses

@@ -1,4 +1,5 @@
 use Rattle.std.proofs.Common.{ℕ, List, Option, subst, inl, inr, refl}
+use Rattle.command_ends.proofs.AmongStatuses.{quiet_applies}
 use Rattle.store_run.proofs.Outcomes.{same_ok}
 use Rattle.gate_log.specs.LogOnDisk.{HoldsPayloads}
 use Rattle.store_run.specs.ApplyCall.{ContinuesCall, IsSafeCall, EndsCall}
@@ -144,3 +145,6 @@ returns-in-Err-clause-refused g c =
     let k' = c.refuse_payloads.new.sink in
     λ refusal q.
     (unwritten_none disk d, refl, inl (payloads_refused sink k k' c.refuse_payloads.result (session.stands_for c.args.payloads.now) c.in-Err.fault refusal c.in-Err.ensures.stands q c.refuse_payloads.ensures.ends))
+
+pub returns-in-Err-clause-statuses : goal.returns-in-Err-clause-statuses
+returns-in-Err-clause-statuses g c = quiet_applies c.refuse_payloads.result c.refuse_payloads.ensures.statuses

@@ -8,7 +8,7 @@ use Rattle.gate_log.specs.declared.fault.LogFault.{LogFault}
 use Rattle.store_run.proofs.ApplyCalls.{same_held, only_disk, synced_holds}
 use Rattle.store_run.proofs.PackCalls.{safe_kept, safe_after, packed_later}
 use Rattle.store_run.proofs.StoredPayloads.{images_held, reads_held}
-use Rattle.store_run.proofs.RefusalEnds.{at_disk_fault, at_log_disk, at_log_sourceless, at_log_unfinished}
+use Rattle.store_run.proofs.RefusalEnds.{at_disk_fault, at_log_disk, at_log_unfinished}
 use Rattle.gate_log.specs.LogBytes.{payloads, log_of}
 use Rattle.store_run.specs.Refusals.{refusal_of_log}
 use Rattle.store_run.proofs.Openings.{at_content, unwritten_then, same_room, log_refused}
@@ -184,9 +184,6 @@ returns-in-Err-clause-exits g c =
     let holds = store.holds in
     let failed = at_disk_fault sink k k' c.refuse_log.result c.in-Err.fault (only_disk c.in-Err.fault (disk.content d) bytes before told holds c.in-Err.ensures.log) c.refuse_log.ensures.ends in
     inr (record { same = c.in-Err.ensures.content; only = c.in-Err.ensures.images; no_write = c.in-Err.ensures.unwritten }, ((inl failed.0, failed.1), λ e. c.in-Err.ensures.sure (ap (λ (x : LogFault). Err x) (at_log_disk sink k k' c.refuse_log.result c.in-Err.fault c.refuse_log.ensures.ends e))))
-
-pub returns-in-Err-clause-no_source : goal.returns-in-Err-clause-no_source
-returns-in-Err-clause-no_source g c = λ e. at_log_sourceless g.K.Sink c.args.sink.now c.refuse_log.new.sink c.refuse_log.result c.in-Err.fault c.refuse_log.ensures.ends e
 
 pub returns-in-Ok-clause-causes : goal.returns-in-Ok-clause-causes
 returns-in-Ok-clause-causes g c =

@@ -7,7 +7,7 @@ use Rattle.gate_log.specs.declared.fault.LogFault.{LogFault}
 use Rattle.store_run.proofs.ApplyCalls.{at_some}
 use Rattle.store_run.proofs.PackCalls.{safe_kept, safe_after, packed_later}
 use Rattle.store_run.proofs.StoredPayloads.{images_held, reads_held}
-use Rattle.store_run.proofs.RefusalEnds.{at_log_disk, at_log_sourceless, at_log_unfinished}
+use Rattle.store_run.proofs.RefusalEnds.{at_log_disk, at_log_unfinished}
 use Rattle.gate_log.specs.CallEnds.{NoBadRecord}
 use Rattle.store_run.specs.Refusals.{refusal_of_payloads}
 use Rattle.store_run.proofs.Openings.{unwritten_then, reads_unwritten, same_room, reading_fails, reads_open}
@@ -158,6 +158,3 @@ returns-in-Err-clause-exits g c =
       reads_unwritten disk d c.payloads.new.disk reading,
       reading_fails sink disk k k' d d' c.refuse_log.result c.in-Err.fault c.payloads.result c.in-Err.is (at_some (disk.content d) bytes (NoBadRecord c.payloads.result) told c.payloads.ensures.never_bad) c.in-Err.ensures.possible (λ e. c.in-Err.ensures.sure (ap (λ (x : LogFault). Err x) e)) c.refuse_log.ensures.ends,
     )
-
-pub returns-in-Err-clause-no_source : goal.returns-in-Err-clause-no_source
-returns-in-Err-clause-no_source g c = λ e. at_log_sourceless g.K.Sink c.args.sink.now c.refuse_log.new.sink c.refuse_log.result c.in-Err.fault c.refuse_log.ensures.ends e

@@ -121,6 +121,3 @@ returns-in-Err-clause-exits g c =
     let k' = c.refuse_payloads.new.sink in
     λ t version st h.
     inr (unwritten_none disk d, (payloads_stand sink (session.stands_for c.args.payloads.now) (t, version) k k' c.refuse_payloads.result c.in-Err.fault h c.in-Err.ensures.stands c.refuse_payloads.ensures.ends, λ e. absurd (at_payloads_deviceless sink k k' c.refuse_payloads.result c.in-Err.fault c.refuse_payloads.ensures.ends (inr e))))
-
-pub returns-in-Err-clause-no_source : goal.returns-in-Err-clause-no_source
-returns-in-Err-clause-no_source g c = λ e. at_payloads_deviceless g.K.Sink c.args.sink.now c.refuse_payloads.new.sink c.refuse_payloads.result c.in-Err.fault c.refuse_payloads.ensures.ends (inl e)

@@ -214,5 +214,5 @@ returns-clause-exits g c =
       stand = each_stands sink disk hold session reads laws.version_stands laws.snapshot_stands laws.version_counts laws.snapshot_counts t snap made before version h;
     })
 
-pub returns-clause-no_source : goal.returns-clause-no_source
-returns-clause-no_source g c = λ e. subst IsOwnStop (c.give_stop.ensures.source e) c.in-Err.ensures.own
+pub returns-clause-statuses : goal.returns-clause-statuses
+returns-clause-statuses g c = c.give_stop.ensures.own c.in-Err.ensures.own

@@ -52,5 +52,5 @@ returns-in-Err-clause-stopped g c =
     let payload = c.args.payload.now in
     let line = c.args.line.now in
     subst (λ (s : Stop). Stops sink disk (k, d, l) (k, d', l') s [] line [] (payload ∷ [])) (sym c.at_append.ensures.stop)
-    (append_stops sink disk only hold k d d' l l' payload line c.in-Err.fault c.requires.stands c.in-Err.ensures.ends c.in-Err.ensures.moments
+    (append_stops sink disk only hold k d d' l l' payload line c.in-Err.fault c.requires.stands c.in-Err.ensures.ends c.in-Err.ensures.read c.in-Err.ensures.moments
     (λ e. c.in-Err.ensures.full.0 (ap (λ (x : LogFault). Err x) e)) (λ e. c.in-Err.ensures.sure (ap (λ (x : LogFault). Err x) e)))

@@ -39,7 +39,7 @@ returns-in-Err-clause-stopped g c =
     let is : c.args.version.now ≡ Some payload = c.in-Some.is ∙ ap (λ (x : List ℕ). Some x) (sym c.as_slice.ensures) in
     subst (λ (o : Option (List ℕ)). Stops sink disk (k, d, l) (k, d', l') c.at_append.result [] [] [] (option_to_list o)) (sym is)
     (subst (λ (s : Stop). Stops sink disk (k, d, l) (k, d', l') s [] [] [] (payload ∷ [])) (sym c.at_append.ensures.stop)
-    (append_stops sink disk only hold k d d' l l' payload [] c.in-Err.fault c.requires.stands c.in-Err.ensures.ends c.in-Err.ensures.moments
+    (append_stops sink disk only hold k d d' l l' payload [] c.in-Err.fault c.requires.stands c.in-Err.ensures.ends c.in-Err.ensures.read c.in-Err.ensures.moments
     (λ e. c.in-Err.ensures.full.0 (ap (λ (x : LogFault). Err x) e)) (λ e. c.in-Err.ensures.sure (ap (λ (x : LogFault). Err x) e))))
 
 pub returns-in-None-clause-stored : goal.returns-in-None-clause-stored

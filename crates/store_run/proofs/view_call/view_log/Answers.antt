@@ -4,7 +4,7 @@ use Rattle.gate_log.specs.declared.fault.LogFault.{LogFault}
 use Rattle.store_run.specs.Refusals.{refusal_of_payloads}
 use Rattle.store_run.proofs.ApplyCalls.{at_some}
 use Rattle.store_run.proofs.Openings.{reading_fails}
-use Rattle.store_run.proofs.RefusalEnds.{at_log_disk, at_log_sourceless}
+use Rattle.store_run.proofs.RefusalEnds.{at_log_disk}
 use Rattle.store_run.specs.ViewCall.{Views, view_text}
 use Rattle.store_run.proofs.view_call.view_log.Goals as goal
 
@@ -74,9 +74,6 @@ returns-in-Ok-clause-disk_fault g c = λ e. absurd (c.view_payloads.ensures.no_d
 
 pub returns-in-Err-clause-disk_fault : goal.returns-in-Err-clause-disk_fault
 returns-in-Err-clause-disk_fault g c = λ e. c.in-Err.ensures.cause (ap (λ (x : LogFault). Err x) (at_log_disk g.K.Sink c.args.sink.now c.refuse_log.new.sink c.refuse_log.result c.in-Err.fault c.refuse_log.ensures.ends e))
-
-pub returns-in-Err-clause-no_source : goal.returns-in-Err-clause-no_source
-returns-in-Err-clause-no_source g c = λ e. at_log_sourceless g.K.Sink c.args.sink.now c.refuse_log.new.sink c.refuse_log.result c.in-Err.fault c.refuse_log.ensures.ends e
 
 pub returns-in-Ok-clause-sure : goal.returns-in-Ok-clause-sure
 returns-in-Ok-clause-sure g c = λ e. absurd (c.view_payloads.ensures.no_disk e)

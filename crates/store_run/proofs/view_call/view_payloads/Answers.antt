@@ -46,6 +46,3 @@ returns-in-Err-clause-refused g c =
 
 pub returns-in-Err-clause-no_disk : goal.returns-in-Err-clause-no_disk
 returns-in-Err-clause-no_disk g c = λ e. at_payloads_deviceless g.K.Sink c.args.sink.now c.refuse_payloads.new.sink c.refuse_payloads.result c.in-Err.fault c.refuse_payloads.ensures.ends (inr e)
-
-pub returns-in-Err-clause-no_source : goal.returns-in-Err-clause-no_source
-returns-in-Err-clause-no_source g c = λ e. at_payloads_deviceless g.K.Sink c.args.sink.now c.refuse_payloads.new.sink c.refuse_payloads.result c.in-Err.fault c.refuse_payloads.ensures.ends (inl e)

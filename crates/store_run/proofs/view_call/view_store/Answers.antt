@@ -8,7 +8,7 @@ use Rattle.std.specs.Prelude.{Option, IsNone}
 use Rattle.store_run.proofs.ApplyCalls.{same_held, only_disk}
 use Rattle.store_run.proofs.Moments.{leaves_then}
 use Rattle.store_run.proofs.Openings.{at_content, unwritten_then, same_room, log_refused}
-use Rattle.store_run.proofs.RefusalEnds.{at_disk_fault, at_log_disk, at_log_sourceless}
+use Rattle.store_run.proofs.RefusalEnds.{at_disk_fault, at_log_disk}
 use Rattle.store_run.proofs.view_call.view_store.Goals as goal
 use Rattle.lens_io.proofs.Increases.{increased_since}
 
@@ -105,9 +105,6 @@ returns-in-Ok-clause-disk_fault g c =
 
 pub returns-in-Err-clause-disk_fault : goal.returns-in-Err-clause-disk_fault
 returns-in-Err-clause-disk_fault g c = λ e. c.in-Err.ensures.cause (ap (λ (x : LogFault). Err x) (at_log_disk g.K.Sink c.args.sink.now c.refuse_log.new.sink c.refuse_log.result c.in-Err.fault c.refuse_log.ensures.ends e))
-
-pub returns-in-Err-clause-no_source : goal.returns-in-Err-clause-no_source
-returns-in-Err-clause-no_source g c = λ e. at_log_sourceless g.K.Sink c.args.sink.now c.refuse_log.new.sink c.refuse_log.result c.in-Err.fault c.refuse_log.ensures.ends e
 
 pub returns-in-Ok-clause-sure : goal.returns-in-Ok-clause-sure
 returns-in-Ok-clause-sure g c = λ e. subst (λ (o : Option ℕ). IsNone o) c.in-Ok.ensures.room (c.view_log.ensures.sure e)

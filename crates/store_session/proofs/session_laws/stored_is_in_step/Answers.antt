@@ -1,5 +1,5 @@
 use Rattle.store_session.proofs.StatesInStep.{stored_sound}
-use Rattle.store_session.proofs.laws.stored_is_in_step.Goals as goal
+use Rattle.store_session.proofs.session_laws.stored_is_in_step.Goals as goal
 
 pub returns-clause-typed : goal.returns-clause-typed
 returns-clause-typed c ps t v h = (stored_sound ps t v h).0

@@ -1,7 +1,7 @@
 use Rattle.edit_session.specs.Views.{triple_tree}
 use Rattle.pair_answers.proofs.InStep.{in_step_fits}
 use Rattle.lens_forms.specs.Forms.{form_tree}
-use Rattle.store_session.proofs.snapshots.snapshot_of.Goals as goal
+use Rattle.store_session.proofs.snapshot_making.snapshot_of.Goals as goal
 
 pub snapshot_payload-requires-clause-comp_fits : goal.snapshot_payload-requires-clause-comp_fits
 snapshot_payload-requires-clause-comp_fits c =

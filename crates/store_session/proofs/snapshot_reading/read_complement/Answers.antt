@@ -3,7 +3,7 @@ use Rattle.serde_json.specs.View.{view}
 use Rattle.lens_core.specs.Complements.{comp_tree}
 use Rattle.lens_forms.specs.Forms.{form_tree}
 use Rattle.store_session.proofs.SnapshotParts.{found, none_found}
-use Rattle.store_session.proofs.snapshots.read_complement.Goals as goal
+use Rattle.store_session.proofs.snapshot_reading.read_complement.Goals as goal
 
 pub returns-in-Ok : goal.returns-in-Ok
 returns-in-Ok c =

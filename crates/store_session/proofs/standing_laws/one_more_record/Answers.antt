@@ -1,5 +1,5 @@
 use Rattle.store_session.proofs.Appending.{stands_append}
-use Rattle.store_session.proofs.laws.one_more_record.Goals as goal
+use Rattle.store_session.proofs.standing_laws.one_more_record.Goals as goal
 
 pub returns : goal.returns
 returns c = λ ps p s h. stands_append ps p s h

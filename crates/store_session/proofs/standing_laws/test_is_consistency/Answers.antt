@@ -1,5 +1,5 @@
 use Rattle.store_session.proofs.ConsistencyDecided.{consistent_if, consistent_then}
-use Rattle.store_session.proofs.laws.test_is_consistency.Goals as goal
+use Rattle.store_session.proofs.standing_laws.test_is_consistency.Goals as goal
 
 pub returns-clause-consistent : goal.returns-clause-consistent
 returns-clause-consistent c = λ l x k y typed h. consistent_if l x k y typed h

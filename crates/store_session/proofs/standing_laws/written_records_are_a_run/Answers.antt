@@ -1,5 +1,5 @@
 use Rattle.store_session.proofs.LastTriple.{run_of, count_of}
-use Rattle.store_session.proofs.laws.written_records_are_a_run.Goals as goal
+use Rattle.store_session.proofs.standing_laws.written_records_are_a_run.Goals as goal
 
 pub returns-clause-triple : goal.returns-clause-triple
 returns-clause-triple g c = λ ws s end h k. run_of _ s end ws h k

@@ -1,5 +1,5 @@
 use Rattle.store_session.proofs.WrittenStands.{one_stands, all_stand}
-use Rattle.store_session.proofs.laws.written_records_stand.Goals as goal
+use Rattle.store_session.proofs.standing_laws.written_records_stand.Goals as goal
 
 pub returns-clause-one : goal.returns-clause-one
 returns-clause-one c = one_stands

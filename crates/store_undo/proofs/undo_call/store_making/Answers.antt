@@ -58,5 +58,5 @@ returns-in-Err-clause-disk_fault g c =
     let disk = g.D.Disk in
     λ e. caused_disk g.K.Sink disk c.in-Err.stop c.args.sink.now c.pack_store.new.sink c.args.disk.now c.pack_store.new.disk (c.give_stop.ensures.disk e) c.in-Err.ensures.counted
 
-pub returns-in-Err-clause-no_source : goal.returns-in-Err-clause-no_source
-returns-in-Err-clause-no_source g c = λ e. subst IsOwnStop (c.give_stop.ensures.source e) c.in-Err.ensures.own
+pub returns-in-Err-clause-statuses : goal.returns-in-Err-clause-statuses
+returns-in-Err-clause-statuses g c = c.give_stop.ensures.own c.in-Err.ensures.own

@@ -5,7 +5,7 @@ use Rattle.store_run.specs.Effects.{StandsOn}
 use Rattle.gate_log.specs.declared.fault.LogFault.{LogFault}
 use Rattle.store_run.proofs.ApplyCalls.{same_held, only_disk, synced_holds}
 use Rattle.store_run.proofs.Openings.{at_content, unwritten_then, same_room}
-use Rattle.store_run.proofs.RefusalEnds.{at_disk_fault, at_log_disk, at_log_sourceless, at_log_unfinished}
+use Rattle.store_run.proofs.RefusalEnds.{at_disk_fault, at_log_disk, at_log_unfinished}
 use Rattle.store_run.proofs.StoredPayloads.{images_held, reads_held}
 use Rattle.store_undo.specs.UndoCall.{HoldsNow}
 use Rattle.store_undo.specs.Undoing.{refusal_of_log}
@@ -136,9 +136,6 @@ returns-in-Err-clause-refused g c =
 pub returns-in-Err-clause-disk_fault : goal.returns-in-Err-clause-disk_fault
 returns-in-Err-clause-disk_fault g c =
     λ e. c.in-Err.ensures.cause (ap (λ (x : LogFault). Err x) (at_log_disk g.K.Sink c.args.sink.now c.refuse_log.new.sink c.refuse_log.result c.in-Err.fault c.refuse_log.ensures.ends e))
-
-pub returns-in-Err-clause-no_source : goal.returns-in-Err-clause-no_source
-returns-in-Err-clause-no_source g c = λ e. at_log_sourceless g.K.Sink c.args.sink.now c.refuse_log.new.sink c.refuse_log.result c.in-Err.fault c.refuse_log.ensures.ends e
 
 pub returns-in-Ok-clause-unstored : goal.returns-in-Ok-clause-unstored
 returns-in-Ok-clause-unstored g c =

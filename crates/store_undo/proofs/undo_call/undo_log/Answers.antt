@@ -4,7 +4,7 @@ use Rattle.store_run.specs.Effects.{StandsOn}
 use Rattle.gate_log.specs.declared.fault.LogFault.{LogFault}
 use Rattle.store_run.proofs.ApplyCalls.{at_some}
 use Rattle.store_run.proofs.Openings.{unwritten_then, reads_unwritten, same_room, reading_fails, reads_open}
-use Rattle.store_run.proofs.RefusalEnds.{at_log_disk, at_log_sourceless}
+use Rattle.store_run.proofs.RefusalEnds.{at_log_disk}
 use Rattle.store_run.proofs.StoredPayloads.{images_held, reads_held}
 use Rattle.store_undo.specs.UndoEnds.{UndoEnds}
 use Rattle.store_undo.specs.Undoing.{undoing, undo_refusal}
@@ -85,6 +85,3 @@ returns-in-Err-clause-refused g c =
 pub returns-in-Err-clause-disk_fault : goal.returns-in-Err-clause-disk_fault
 returns-in-Err-clause-disk_fault g c =
     λ e. c.in-Err.ensures.cause (ap (λ (x : LogFault). Err x) (at_log_disk g.K.Sink c.args.sink.now c.refuse_log.new.sink c.refuse_log.result c.in-Err.fault c.refuse_log.ensures.ends e))
-
-pub returns-in-Err-clause-no_source : goal.returns-in-Err-clause-no_source
-returns-in-Err-clause-no_source g c = λ e. at_log_sourceless g.K.Sink c.args.sink.now c.refuse_log.new.sink c.refuse_log.result c.in-Err.fault c.refuse_log.ensures.ends e

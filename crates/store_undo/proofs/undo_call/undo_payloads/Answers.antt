@@ -8,7 +8,6 @@ use Rattle.store_undo.specs.Making.{IsMakingFault}
 use Rattle.store_undo.specs.UndoEnds.{UndoEnds}
 use Rattle.store_undo.specs.UndoRecords.{version_due, snapshot_text}
 use Rattle.store_undo.specs.Undoing.{Undoing, undoing, undo_refusal}
-use Rattle.store_undo.proofs.UndoCauses.{refuses_sourceless}
 use Rattle.store_undo.proofs.UndoRefusals.{same_refusal, never_refused, same_undoing}
 use Rattle.store_undo.proofs.undo_call.undo_payloads.Goals as goal
 
@@ -78,6 +77,3 @@ pub returns-in-Err-NoMemory-clause-refused : goal.returns-in-Err-NoMemory-clause
 returns-in-Err-NoMemory-clause-refused g c =
     let disk = g.D.Disk in
     λ refusal q. (unwritten_none disk c.args.disk.now, inr ((inr refl, Appends-nil (g.K.Sink.held c.args.sink.now)), λ e. cc))
-
-pub returns-in-Err-Refused-clause-no_source : goal.returns-in-Err-Refused-clause-no_source
-returns-in-Err-Refused-clause-no_source g c = λ e. refuses_sourceless g.K.Sink c.args.sink.now c.refuse.new.sink c.in-Err-Refused.refusal c.refuse.result c.refuse.ensures.refuses e

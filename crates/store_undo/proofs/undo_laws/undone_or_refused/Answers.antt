@@ -1,5 +1,5 @@
 use Rattle.store_undo.proofs.Decided.{undone_in, not_undone, nothing_if, stood_earlier}
-use Rattle.store_undo.proofs.laws.undone_or_refused.Goals as goal
+use Rattle.store_undo.proofs.undo_laws.undone_or_refused.Goals as goal
 
 pub returns-clause-undone : goal.returns-clause-undone
 returns-clause-undone c count bytes none = undone_in count bytes none
