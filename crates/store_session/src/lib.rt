@@ -22,3 +22,4 @@ pub mod standing_laws;
 
 pub use crate::reopening::{Opened, reopen};
 pub use crate::session::StoreSession;
+pub use crate::snapshot_making::snapshot_of;

@@ -10,8 +10,8 @@ use std::alloc::{AllocError, Global};
 use store_records::snapshot_payload;
 use texts::Bytes;
 
-// The payload of a snapshot of the session's triple.
-pub(crate) fn snapshot_of(alloc: Global, session: &Session<Flat>) -> Result<Bytes, AllocError>
+/// The payload of a snapshot of the session's triple. The only error is running out of memory.
+pub fn snapshot_of(alloc: Global, session: &Session<Flat>) -> Result<Bytes, AllocError>
     ensures { IfOk result (IsSnapshot (session_state session.now)) }
 {
     let typed = session.lens().typed();

@@ -1,5 +1,5 @@
 use Rattle.store_records.proofs.ComplementsAreRead.{sound, read_back}
-use Rattle.store_records.proofs.laws.complements_are_read.Goals as goal
+use Rattle.store_records.proofs.record_laws.complements_are_read.Goals as goal
 
 pub returns-clause-fits : goal.returns-clause-fits
 returns-clause-fits c = λ l t k h. (sound l t k h).0

@@ -1,5 +1,5 @@
 use Rattle.store_records.proofs.RecordsAreRead.{program_read, version_read, change_read, snapshot_read}
-use Rattle.store_records.proofs.laws.records_are_read.Goals as goal
+use Rattle.store_records.proofs.record_laws.records_are_read.Goals as goal
 
 pub returns-clause-program : goal.returns-clause-program
 returns-clause-program c = program_read
