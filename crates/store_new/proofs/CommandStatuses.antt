@@ -16,6 +16,7 @@ use Rattle.store_new.specs.Command.{Command}
 use Rattle.store_new.specs.NewEnds.{GivesLine, StopsAfter, MakesStore, Ends, MayRefuse, RefusesAtOnce, IsEnd, IsComplete, Completes}
 use Rattle.store_new.specs.Scripts.{IsAcceptedPart, GoesOn}
 use Rattle.store_new.specs.NewStores.{IsTooLong, EndsMaking}
+use Rattle.command_ends.specs.Statuses.{IsAmong, import_statuses, init_statuses}
 use Rattle.command_ends.specs.declared.status.Status.{Status}
 use Rattle.command_ends.specs.declared.status.Status.TheVariants.{Done, SomeRefused, Usage, ProgramRefused, StoreRefused, SourceFault, SinkFault, DiskFault, InputTooLong, NoMemory}
 use Rattle.script_input.proofs.TakenParts.{IsFixed, few_taken, fixed_or_read, part_of_all, all_taken}
@@ -47,6 +48,60 @@ module _ {S K D : Type 0} (source : OfSource.Ghosts S) (sink : OfSink.Ghosts K) 
     by_line (inl x) = cc
     by_line (inr x) = cc
   done (inr (inr (inr (inr e)))) is = subst (MakesStore source sink disk command (s, k, d) (s', k', d')) is e
+
+-- ---- how such a command may end
+
+stops_among : (bytes : List ℕ) (status : Status) → StopsAfter bytes status → IsAmong init_statuses status
+stops_among bytes Done h = absurd h
+stops_among bytes SomeRefused h = absurd h
+stops_among bytes Usage h = absurd h
+stops_among bytes ProgramRefused h = absurd h
+stops_among bytes StoreRefused h = absurd h
+stops_among bytes SourceFault h = inr (inr (inr (inl refl)))
+stops_among bytes SinkFault h = absurd h
+stops_among bytes DiskFault h = inr (inr (inr (inr (inr (inl refl)))))
+stops_among bytes InputTooLong h = inr (inr (inr (inr (inr (inr (inl refl))))))
+stops_among bytes NoMemory h = inr (inr (inr (inr (inr (inr (inr (inl refl)))))))
+
+by_line_among : (status ending : Status) → IsAmong init_statuses ending → (status ≡ ending) ⊎ (status ≡ SinkFault) → IsAmong init_statuses status
+by_line_among status ending among (inl x) = subst (IsAmong init_statuses) (sym x) among
+by_line_among status ending among (inr x) = inr (inr (inr (inr (inl x))))
+
+module _ {S K D : Type 0} (source : OfSource.Ghosts S) (sink : OfSink.Ghosts K) (disk : OfDisk.Ghosts D) (command : Command) (s s' : S) (k k' : K) (d d' : D) where
+  makes_among : (payloads : List (List ℕ)) (lines : List ℕ) (status : Status) → EndsMaking sink disk (k, d) (k', d') payloads lines status → IsAmong init_statuses status
+  makes_among payloads lines Done h = inl refl
+  makes_among payloads lines SomeRefused h = absurd h
+  makes_among payloads lines Usage h = absurd h
+  makes_among payloads lines ProgramRefused h = absurd h
+  makes_among payloads lines StoreRefused h = inr (inr (inl refl))
+  makes_among payloads lines SourceFault h = absurd h
+  makes_among payloads lines SinkFault h = inr (inr (inr (inr (inl refl))))
+  makes_among payloads lines DiskFault h = inr (inr (inr (inr (inr (inl refl)))))
+  makes_among payloads lines InputTooLong h = absurd h
+  makes_among payloads lines NoMemory h = inr (inr (inr (inr (inr (inr (inr (inl refl)))))))
+
+  -- it ends with SomeRefused only if it refuses scripts by its own rules, and never with Usage
+  pub ends_among : (status : Status) → Ends source sink disk command (s, k, d) (s', k', d') status
+      → ((bytes : List ℕ) × ((line : List ℕ) × command.refuses bytes line)) × ((status ≡ SomeRefused) ⊎ (status ≡ SinkFault)) ⊎ IsAmong init_statuses status
+  ends_among status (inl e) = inr (by_line_among status StoreRefused (inr (inr (inl refl))) (given_with sink k k' (refusal_line LogExists) StoreRefused status e.given))
+  ends_among status (inr (inl e)) = inr (stops_among e.bytes status e.stops)
+  ends_among status (inr (inr (inl e))) = inr (by_line_among status ProgramRefused (inr (inl refl)) (given_with sink k k' e.line ProgramRefused status e.given))
+  ends_among status (inr (inr (inr (inl e)))) = inl ((e.bytes, (e.line, e.refused)), given_with sink k k' e.line SomeRefused status e.given)
+  ends_among status (inr (inr (inr (inr e)))) = inr (makes_among e.payloads e.lines status e.ends)
+
+  -- a command with no rules of its own
+  pub init_among : ((bytes line : List ℕ) → command.refuses bytes line → ⊥) → (status : Status) → Ends source sink disk command (s, k, d) (s', k', d') status → IsAmong init_statuses status
+  init_among never status e = by_end (ends_among status e) where
+    by_end : ((bytes : List ℕ) × ((line : List ℕ) × command.refuses bytes line)) × ((status ≡ SomeRefused) ⊎ (status ≡ SinkFault)) ⊎ IsAmong init_statuses status → IsAmong init_statuses status
+    by_end (inl own) = absurd (never own.0.0 own.0.1.0 own.0.1.1)
+    by_end (inr among) = among
+
+  pub import_among : (status : Status) → Ends source sink disk command (s, k, d) (s', k', d') status → IsAmong import_statuses status
+  import_among status e = by_end (ends_among status e) where
+    by_end : ((bytes : List ℕ) × ((line : List ℕ) × command.refuses bytes line)) × ((status ≡ SomeRefused) ⊎ (status ≡ SinkFault)) ⊎ IsAmong init_statuses status → IsAmong import_statuses status
+    by_end (inl (own, inl x)) = inl x
+    by_end (inl (own, inr x)) = inr (inr (inr (inr (inr (inl x)))))
+    by_end (inr among) = inr among
 
 -- ---- the refusal of a program part
 

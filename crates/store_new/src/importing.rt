@@ -1,5 +1,6 @@
 //! The command `import`.
 ghost use Rattle.std.specs.Prelude.{◌≡◌, ◌≤◌, ◌++◌, length, true, IfOk, IfSome, IsErrOf, MatchResult, Ok, Some};
+ghost use Rattle.command_ends.specs.Statuses.{IsAmong, import_statuses};
 ghost use Rattle.answer_text.specs.Lines.{ok_line};
 ghost use Rattle.doc_values.specs.Documents.{DocTree, doc_tree};
 ghost use Rattle.doc_values.specs.Types.{height};
@@ -82,6 +83,7 @@ struct EntryText {
 ///   behind the separator.
 /// - `exists`: if the disk is not empty, nothing is taken from the source, and nothing is written to the disk. The line
 ///   `store refused: log-exists` is written, unless the disk or the sink fails.
+/// - `statuses`: it ends by one of nine statuses, whatever the disk holds.
 /// - `source_fault`, `sink_fault`, `disk_fault`: these statuses come only if that device failed.
 /// - `room`: over a disk whose room is known, `DiskFault` comes only if the script was read to its end, and the disk has no room
 ///   for the mark of a log and its gate, or for the log of the first of the two payloads or of both, and the gate behind it.
@@ -102,6 +104,7 @@ pub fn import<S: Source, K: Sink, D: Disk>(
     ensures at_once { RefusesAtOnce S.Source source.old source.new result }
     ensures exists { KeepsStore S.Source K.Sink D.Disk
         (source.old, sink.old, disk.old) (source.new, sink.new, disk.new) result }
+    ensures statuses { IsAmong import_statuses result }
     ensures source_fault { result ≡ Status.SourceFault → SourceFailed S.Source source.old source.new }
     ensures sink_fault { result ≡ Status.SinkFault → SinkFailed K.Sink sink.old sink.new }
     ensures disk_fault { result ≡ Status.DiskFault → DiskFailed D.Disk disk.old disk.new }

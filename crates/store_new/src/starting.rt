@@ -1,5 +1,6 @@
 //! The command `init`.
 ghost use Rattle.std.specs.Prelude.{◌≡◌, List, ℕ, length, IfOk, IfSome};
+ghost use Rattle.command_ends.specs.Statuses.{IsAmong, init_statuses};
 ghost use Rattle.lens_io.specs.Calls.{SourceFailed, SinkFailed, DiskFailed};
 ghost use Rattle.edit_session.specs.Views.{triple_tree};
 ghost use Rattle.lens_forms.specs.Forms.{form_tree, left_type, right_type};
@@ -48,7 +49,7 @@ use store_records::program_payload;
 ///   behind the separator.
 /// - `exists`: if the disk is not empty, nothing is taken from the source, and nothing is written to the disk. The line
 ///   `store refused: log-exists` is written, unless the disk or the sink fails.
-/// - `document`: the status is never `SomeRefused`.
+/// - `statuses`: it ends by one of eight statuses, whatever the disk holds.
 /// - `source_fault`, `sink_fault`, `disk_fault`: these statuses come only if that device failed.
 /// - `room`: over a disk whose room is known, `DiskFault` comes only if the script was read to its end, and the disk has no room
 ///   for the mark of a log and its gate, or for the log of the payload of the program, and the gate behind it.
@@ -67,7 +68,7 @@ pub fn init<S: Source, K: Sink, D: Disk>(
     ensures at_once { RefusesAtOnce S.Source source.old source.new result }
     ensures exists { KeepsStore S.Source K.Sink D.Disk
         (source.old, sink.old, disk.old) (source.new, sink.new, disk.new) result }
-    ensures document { result ≡ Status.SomeRefused → ⊥ }
+    ensures statuses { IsAmong init_statuses result }
     ensures source_fault { result ≡ Status.SourceFault → SourceFailed S.Source source.old source.new }
     ensures sink_fault { result ≡ Status.SinkFault → SinkFailed K.Sink sink.old sink.new }
     ensures disk_fault { result ≡ Status.DiskFault → DiskFailed D.Disk disk.old disk.new }

@@ -26,12 +26,6 @@ use Rattle.store_undo.specs.UndoRecords.{version_due, snapshot_text, undo_text}
 use Rattle.store_undo.specs.Undoing.{Undoing}
 use Rattle.store_undo.proofs.VersionRecords.{front_stands}
 
--- a refusal is no fault of a source
-pub refuses_sourceless : {K : Type 0} (sink : OfSink.Ghosts K) (old new : K) (refusal : StoreRefusal) (status : Status) → Refuses sink old new refusal status → status ≡ ending.SourceFault → ⊥
-refuses_sourceless sink old new refusal status (inl h) e = cc
-refuses_sourceless sink old new refusal status (inr (inl h)) e = cc
-refuses_sourceless sink old new refusal status (inr (inr h)) e = cc
-
 -- ---- no room
 
 -- the gate behind these payloads, in a log whose closed gate is known

@@ -1,4 +1,5 @@
 //! The command `undo`, from its first call of the disk on.
+ghost use Rattle.command_ends.specs.Statuses.{IsAmong, quiet_statuses};
 ghost use Rattle.std.specs.Prelude.{◌≡◌, ◌⊎◌, List, ℕ, Some, option_to_list};
 ghost use Rattle.lens_io.specs.Calls.{SinkFailed, DiskFailed};
 ghost use Rattle.store_run.specs.Effects.{StandsOn};
@@ -40,7 +41,7 @@ use store_run::{give_stop, pack_store, refuse, refuse_log};
 /// - `refused`: the line `store refused: REASON` is written, unless the disk failed, whose room is not known then, or memory ran
 ///   out before. Nothing is written to the disk. The reasons are `not-a-log`, `bad-record N`, `not-consistent N`, and `nothing-to-undo` if and only if the
 ///   payloads represent a session, and their last `count` records are not all of changes or there are not so many.
-/// - `no_source`, `sink_fault`, `disk_fault`: there is no fault of a source, and these statuses come only if that device failed.
+/// - `statuses`: it ends by one of five statuses, whatever the disk holds. `sink_fault`, `disk_fault`: these come only if that device failed.
 pub fn undo<K: Sink, D: Disk>(alloc: Global, count: u64, sink: &mut K, disk: &mut D) -> Status
     ensures undoes { (store : StoreToUndo D.Disk count disk.old) → result ≡ Status.Done
         → UndoesCall K.Sink D.Disk (sink.old, disk.old) (sink.new, disk.new) store.payloads store.undone }
@@ -66,7 +67,7 @@ pub fn undo<K: Sink, D: Disk>(alloc: Global, count: u64, sink: &mut K, disk: &mu
     ensures refused { (other : RefusedToUndo D.Disk count disk.old)
         → IsUnwritten D.Disk disk.old disk.new
         × EndsRefused K.Sink D.Disk (sink.old, disk.old) (sink.new, disk.new) other.reason result }
-    ensures no_source { result ≡ Status.SourceFault → ⊥ }
+    ensures statuses { IsAmong quiet_statuses result }
     ensures sink_fault { result ≡ Status.SinkFault → SinkFailed K.Sink sink.old sink.new }
     ensures disk_fault { result ≡ Status.DiskFault → DiskFailed D.Disk disk.old disk.new }
 {
@@ -97,7 +98,7 @@ fn undo_log<K: Sink, D: Disk>(
         → undo_refusal count before ≡ Some refusal
         → IsUnwritten D.Disk disk.old disk.new
         × EndsRefused K.Sink D.Disk (sink.old, disk.old) (sink.new, disk.new) refusal result }
-    ensures no_source { result ≡ Status.SourceFault → ⊥ }
+    ensures statuses { IsAmong quiet_statuses result }
     ensures sink_fault { result ≡ Status.SinkFault → SinkFailed K.Sink sink.old sink.new }
     ensures disk_fault { result ≡ Status.DiskFault → DiskFailed D.Disk disk.old disk.new }
 {
@@ -123,19 +124,19 @@ fn undo_payloads<K: Sink, D: Disk>(
     ensures refused { (refusal : StoreRefusal) → undo_refusal count payloads ≡ Some refusal
         → IsUnwritten D.Disk disk.old disk.new
         × EndsRefused K.Sink D.Disk (sink.old, disk.old) (sink.new, disk.new) refusal result }
-    ensures no_source { result ≡ Status.SourceFault → ⊥ }
+    ensures statuses { IsAmong quiet_statuses result }
     ensures sink_fault { result ≡ Status.SinkFault → SinkFailed K.Sink sink.old sink.new }
     ensures disk_fault { result ≡ Status.DiskFault → DiskFailed D.Disk disk.old disk.new }
 {
     match make(alloc, count, payloads) {
-        Ok(making) => store_making(alloc, &making, log, sink, disk),
+        Ok(making) => store_undone(alloc, &making, log, sink, disk),
         Err(MakingFault::Refused(refusal)) => refuse(alloc, refusal, sink),
         Err(MakingFault::NoMemory) => Status::NoMemory,
     }
 }
 
 // Stores what was made, and writes its lines.
-fn store_making<K: Sink, D: Disk>(
+fn store_undone<K: Sink, D: Disk>(
     alloc: Global,
     making: &Making,
     log: &mut Log,
@@ -145,7 +146,7 @@ fn store_making<K: Sink, D: Disk>(
     requires stands { (base : List (List ℕ)) × StandsOn D.Disk disk.old log.old base }
     ensures ends { StoreEnds K.Sink D.Disk (sink.old, disk.old, log.old) (sink.new, disk.new, log.new)
         making.now.texts.lines (option_to_list making.now.version) making.now.texts.snapshot result }
-    ensures no_source { result ≡ Status.SourceFault → ⊥ }
+    ensures statuses { IsAmong quiet_statuses result }
     ensures sink_fault { result ≡ Status.SinkFault → SinkFailed K.Sink sink.old sink.new }
     ensures disk_fault { result ≡ Status.DiskFault → DiskFailed D.Disk disk.old disk.new }
 {

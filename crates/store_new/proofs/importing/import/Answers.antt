@@ -1,8 +1,10 @@
-use Rattle.std.proofs.Common.{arith}
+use Rattle.std.proofs.Common.{arith, inl, inr}
 use Rattle.lens_io.proofs.Increases.{increased_since}
 use Rattle.store_new.proofs.Commands.{ends_behind, finds_store, unwritten_by}
-use Rattle.store_new.proofs.CommandStatuses.{complete, other_line, refuses_at_once, refuses_nothing}
-use Rattle.command_ends.specs.declared.status.Status.TheVariants.{DiskFault}
+use Rattle.store_new.proofs.CommandStatuses.{complete, given_with, import_among, other_line, refuses_at_once, refuses_nothing}
+use Rattle.command_ends.specs.declared.status.Status.TheVariants.{StoreRefused, DiskFault}
+use Rattle.store_run.specs.Refusals.{refusal_line}
+use Rattle.store_run.specs.declared.refusals.StoreRefusal.TheVariants.{LogExists}
 use Rattle.store_new.specs.Import.{import_command}
 use Rattle.store_new.proofs.ImportEnds.{accepts, imports, refuses, refuses_import}
 use Rattle.store_new.proofs.importing.import.Goals as goal
@@ -76,3 +78,15 @@ returns-in-Ok-clause-at_once g c =
 
 pub returns-in-Err-clause-at_once : goal.returns-in-Err-clause-at_once
 returns-in-Err-clause-at_once g c = refuses_nothing g.S.Source c.args.source.now DiskFault (λ is. cc)
+
+pub returns-in-Ok-eq0-clause-statuses : goal.returns-in-Ok-eq0-clause-statuses
+returns-in-Ok-eq0-clause-statuses g c =
+    import_among g.S.Source g.K.Sink g.D.Disk import_command c.args.source.now c.import_empty.new.source c.args.sink.now c.import_empty.new.sink c.len.new.self c.import_empty.new.disk
+    c.import_empty.result c.import_empty.ensures.ends
+
+pub returns-in-Ok-clause-statuses : goal.returns-in-Ok-clause-statuses
+returns-in-Ok-clause-statuses g c =
+    elim (given_with g.K.Sink c.args.sink.now c.give_line.new.sink (refusal_line LogExists) StoreRefused c.give_line.result c.give_line.ensures.gives) [
+      | inl x ↦ inr (inr (inr (inl x)))
+      | inr x ↦ inr (inr (inr (inr (inr (inl x)))))
+    ]

@@ -4,7 +4,7 @@ use Rattle.store_run.specs.Effects.{Adds, Stops}
 use Rattle.store_run.specs.Stopping.{IsOwnStop}
 use Rattle.store_run.specs.declared.stop.Stop.{Stop}
 use Rattle.store_run.proofs.ApplyCausesHold.{caused_sink, caused_disk}
-use Rattle.store_undo.proofs.undo_call.store_making.Goals as goal
+use Rattle.store_undo.proofs.undo_call.store_undone.Goals as goal
 
 pub returns-in-Ok-clause-ends : goal.returns-in-Ok-clause-ends
 returns-in-Ok-clause-ends g c =
