@@ -10,10 +10,13 @@ use Rattle.complement_file.specs.ComplementJson.{tree_of_complement}
 use Rattle.edit_module.specs.Changes.{ChangeTree, one, group}
 use Rattle.edit_journal.specs.EntryJson.{LineFault, tree_of_entry, tree_of_change, change_of_tree, change_counts_fit, change_numbers_fit}
 use Rattle.edit_journal.proofs.Groups.{change_reads_back}
-use Rattle.store_records.specs.RecordJson.{RecordTree, version_record, change_record, snapshot_record, tree_of_program, tree_of_version, tree_of_change_record, tree_of_snapshot, opening_of, single_entry, any_change, version_in, snapshot_in, record_of}
+use Rattle.store_records.specs.RecordJson.{RecordTree, version_record, change_record, snapshot_record, tree_of_program, tree_of_first_program, tree_of_version, tree_of_change_record, tree_of_snapshot, opening_of, single_entry, any_change, version_in, snapshot_in, record_of}
 
 pub program_read : (text : List ℕ) → opening_of (tree_of_program text) ≡ Some (text, 2)
 program_read text = refl
+
+pub first_program_read : (text : List ℕ) → opening_of (tree_of_first_program text) ≡ Some (text, 1)
+first_program_read text = refl
 
 pub version_read : record_of tree_of_version ≡ Some version_record
 version_read = refl

@@ -24,6 +24,10 @@ one_member name content = object (member name content no_members)
 abbrev pub tree_of_program : List ℕ → Data
 tree_of_program text = object (member (codes "program") (string text) (member (codes "version") (count_tree 2) no_members))
 
+-- the same as a store of version 1 has it
+abbrev pub tree_of_first_program : List ℕ → Data
+tree_of_first_program text = one_member (codes "program") (string text)
+
 -- the version 2
 abbrev pub tree_of_version : Data
 tree_of_version = one_member (codes "version") (count_tree 2)

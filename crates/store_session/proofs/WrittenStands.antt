@@ -18,11 +18,12 @@ use Rattle.lens_syntax.specs.Programs.{unbounded}
 use Rattle.lens_syntax.proofs.GrammarAnswers.{read_again}
 use Rattle.accepted_programs.specs.Program.{form_of_program}
 use Rattle.edit_session.specs.Step.{TripleTree, AllStepped}
-use Rattle.store_records.specs.RecordJson.{version_record, change_record, snapshot_record, tree_of_program, tree_of_change_record, opening_of, record_of}
+use Rattle.serde_json.specs.Data.{Data}
+use Rattle.store_records.specs.RecordJson.{version_record, change_record, snapshot_record, tree_of_program, tree_of_first_program, tree_of_change_record, opening_of, record_of}
 use Rattle.store_records.specs.StoredLens.{accepted, form_of_text, with_form, opening_of_payload, lens_and_version}
 use Rattle.store_records.specs.declared.record_fault.ReopenFault.TheVariants.{BadRecord, NotConsistent}
 use Rattle.store_records.proofs.ComplementsAreRead.{read_back}
-use Rattle.store_records.proofs.RecordsAreRead.{program_read, version_read, change_read, snapshot_read}
+use Rattle.store_records.proofs.RecordsAreRead.{program_read, first_program_read, version_read, change_read, snapshot_read}
 use Rattle.store_session.specs.ConsistencyTest.{is_consistent}
 use Rattle.store_session.specs.Stands.{Standing, step_of, is_too_new, after_step, triple_of, after_triple, after_record, at_start, from_opening, stands}
 use Rattle.store_session.specs.Written.{WrittenRecord, the_version, the_change, the_snapshot, tree_of_written, HasRecord, StandsAfter, ReadsAs, AreWritten}
@@ -108,11 +109,20 @@ all_stand ps (w ∷ ws) s end typed h written =
 
 -- ---- the first record
 
-pub program_alone_stands : (text : List ℕ) (program : ProgramTree) (l : FormTree) (p : List ℕ) → unbounded text ≡ Ok program → form_of_program (Ok program) ≡ Ok l
-    → tree_of_text p ≡ Some (tree_of_program (canonical program)) → stands (p ∷ []) ≡ Ok (at_start (l, 2))
-program_alone_stands text program l p is accepted_as reads =
+-- a program in the record of this version
+program_stands_at : (version : ℕ) (tree : Data) (text : List ℕ) (program : ProgramTree) (l : FormTree) (p : List ℕ) → opening_of tree ≡ Some (canonical program, version)
+    → unbounded text ≡ Ok program → form_of_program (Ok program) ≡ Ok l → tree_of_text p ≡ Some tree → stands (p ∷ []) ≡ Ok (at_start (l, version))
+program_stands_at version tree text program l p opens is accepted_as reads =
     let again_read = read_again text program is in
     let form : form_of_text (canonical program) ≡ Some l = ap (λ r. accepted (form_of_program r)) again_read ∙ ap accepted accepted_as in
-    let opening : opening_of_payload p ≡ Some (canonical program, 2) = ap (option_and_then opening_of) reads ∙ program_read (canonical program) in
-    let whole : lens_and_version p ≡ Some (l, 2) = ap (option_and_then with_form) opening ∙ ap (option_map (λ (k : FormTree). (k, 2))) form in
+    let opening : opening_of_payload p ≡ Some (canonical program, version) = ap (option_and_then opening_of) reads ∙ opens in
+    let whole : lens_and_version p ≡ Some (l, version) = ap (option_and_then with_form) opening ∙ ap (option_map (λ (k : FormTree). (k, version))) form in
     ap (from_opening []) whole
+
+pub program_alone_stands : (text : List ℕ) (program : ProgramTree) (l : FormTree) (p : List ℕ) → unbounded text ≡ Ok program → form_of_program (Ok program) ≡ Ok l
+    → tree_of_text p ≡ Some (tree_of_program (canonical program)) → stands (p ∷ []) ≡ Ok (at_start (l, 2))
+program_alone_stands text program l p = program_stands_at 2 (tree_of_program (canonical program)) text program l p (program_read (canonical program))
+
+pub first_program_stands : (text : List ℕ) (program : ProgramTree) (l : FormTree) (p : List ℕ) → unbounded text ≡ Ok program → form_of_program (Ok program) ≡ Ok l
+    → tree_of_text p ≡ Some (tree_of_first_program (canonical program)) → stands (p ∷ []) ≡ Ok (at_start (l, 1))
+first_program_stands text program l p = program_stands_at 1 (tree_of_first_program (canonical program)) text program l p (first_program_read (canonical program))

@@ -20,7 +20,7 @@ ghost use Rattle.program_terms.specs.Terms.{ProgramTree};
 ghost use Rattle.program_writing.specs.Canonical.{canonical};
 ghost use Rattle.lens_syntax.specs.Programs.{unbounded};
 ghost use Rattle.accepted_programs.specs.Program.{form_of_program};
-ghost use Rattle.store_records.specs.RecordJson.{record_in, tree_of_program, tree_of_change_record};
+ghost use Rattle.store_records.specs.RecordJson.{record_in, tree_of_first_program, tree_of_program, tree_of_change_record};
 ghost use Rattle.store_session.specs.ConsistencyTest.{is_consistent};
 ghost use Rattle.store_session.specs.Stands.{Standing, at_start, after_record, stands, step_of};
 ghost use Rattle.store_session.specs.Written.{WrittenRecord, ReadsAs, StandsAfter, AreWritten, SnapshotsKeep, changes_written, RunsTo};
@@ -39,12 +39,17 @@ pub fn one_more_record()
         → stands (payloads ++ payload ∷ []) ≡ after_record (length payloads + 1) before (record_in payload) }
 {}
 
-/// A store that this program began stands: its program alone stands for the initial triple, with no changes, at version 2.
+/// A store that this program began stands: its program alone represents the initial triple, with no changes, at version 2. So does one of
+/// version 1, which has the program and nothing else in its first record.
 pub fn program_stands()
-    ensures { (text : List ℕ) (program : ProgramTree) (form : FormTree) (payload : List ℕ) → unbounded text ≡ Ok program
+    ensures current { (text : List ℕ) (program : ProgramTree) (form : FormTree) (payload : List ℕ) → unbounded text ≡ Ok program
         → form_of_program (Ok program) ≡ Ok form
         → tree_of_text payload ≡ Some (tree_of_program (canonical program))
         → stands (payload ∷ []) ≡ Ok (at_start (form, 2)) }
+    ensures first { (text : List ℕ) (program : ProgramTree) (form : FormTree) (payload : List ℕ) → unbounded text ≡ Ok program
+        → form_of_program (Ok program) ≡ Ok form
+        → tree_of_text payload ≡ Some (tree_of_first_program (canonical program))
+        → stands (payload ∷ []) ≡ Ok (at_start (form, 1)) }
 {}
 
 /// What this program writes behind that stands, too: the version, a change that is accepted, and a consistent snapshot.

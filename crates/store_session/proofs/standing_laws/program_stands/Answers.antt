@@ -1,5 +1,8 @@
-use Rattle.store_session.proofs.WrittenStands.{program_alone_stands}
+use Rattle.store_session.proofs.WrittenStands.{first_program_stands, program_alone_stands}
 use Rattle.store_session.proofs.standing_laws.program_stands.Goals as goal
 
-pub returns : goal.returns
-returns c = program_alone_stands
+pub returns-clause-current : goal.returns-clause-current
+returns-clause-current c = program_alone_stands
+
+pub returns-clause-first : goal.returns-clause-first
+returns-clause-first c = first_program_stands
