@@ -11,7 +11,6 @@ use Rattle.store_run.specs.InTime.{AnswersInTime}
 use Rattle.store_run.specs.Rooms.{most_bytes, TakesTooMany, RunHasNoRoom, IsApplyCause}
 use Rattle.store_session.specs.contracts.instance.StoreSessionStoredSession.TheImpl.{ghosts as sessions}
 use Rattle.editlens_main.specs.Stores.{Store, RefusedStore, StaysInStep, RefusesStore}
-use Rattle.editlens_main.specs.StoreStatus.{EndsAs}
 use Rattle.command_ends.specs.declared.status.Status.{Status}
 use Rattle.command_ends.specs.declared.status.Status.TheVariants.{DiskFault, NoMemory}
 
@@ -24,20 +23,20 @@ module _ {S K D : Type 0} (source : OfSource.Ghosts S) (sink : OfSink.Ghosts K) 
   pub record GoesOn (store : Store disk old.2) : Type 0 where
     -- at its end the journal was read to its end; the answers of the run from the stored state were written, and then its last state. The
     -- accepted changes are stored in order behind what was there, and the store represents the last state.
-    pub continues : IsFinished status → EndsAs (ContinuesCall source sink disk sessions (old.0, old.1) new store.payloads store.state store.version) status
+    pub continues : IsFinished status → ContinuesCall source sink disk sessions (old.0, old.1) new store.payloads store.state store.version status
     -- the state of the store is in its lens's consistency relation, and so is every state of the run
     pub in_step : StaysInStep store.state
     -- At every status: every line that had ended when the source was called last was answered, and its answer written, or the source was not
     -- called. After SourceFault and InputTooLong every line that has ended is answered.
-    pub in_time : EndsAs (AnswersInTime source sink sessions (old.0, old.1) (new.0, new.1) store.state) status
+    pub in_time : AnswersInTime source sink sessions (old.0, old.1) (new.0, new.1) store.state status
     -- what was taken, written and stored at every status
-    pub stops : EndsAs (EndsCall source sink disk sessions old new store.payloads store.state store.version) status
+    pub stops : EndsCall source sink disk sessions old new store.payloads store.state store.version status
     -- At the end of the call, whatever its status, an image of a crash has each change whose `ok` line was written, and at most one more. An
     -- image of any moment of the call was possible before it, or holds what was stored before and the first of the changes that follow.
     pub survives : Unopened ⊎ IsSafeCall source sink disk sessions old new (disk.images old.2) store.payloads store.state store.version
     -- after StoreRefused the log had no room for a payload of the run, after DiskFault the disk had none if its room is known, and after
     -- InputTooLong too many bytes were taken
-    pub caused : EndsAs (IsApplyCause source disk sessions (old.0, old.2) (new.0, new.2) store.payloads store.state store.version) status
+    pub caused : IsApplyCause source disk sessions (old.0, old.2) (new.0, new.2) store.payloads store.state store.version status
     -- it comes to its end, or memory runs out, if no device fails, not too many bytes are taken and the log has room
     pub completes : (SourceFailed source old.0 new.0 → ⊥) → (SinkFailed sink old.1 new.1 → ⊥) → (DiskFailed disk old.2 new.2 → ⊥)
         → (TakesTooMany source old.0 new.0 → ⊥)

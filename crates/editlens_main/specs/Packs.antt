@@ -9,7 +9,6 @@ use Rattle.store_run.specs.Rooms.{most_bytes, PackHasNoRoom, IsPackCause}
 use Rattle.store_session.specs.Journals.{IsStateInStep}
 use Rattle.store_session.specs.contracts.instance.StoreSessionStoredSession.TheImpl.{ghosts as sessions}
 use Rattle.editlens_main.specs.Stores.{Store, RefusedStore, RefusesStore}
-use Rattle.editlens_main.specs.StoreStatus.{EndsAs}
 use Rattle.command_ends.specs.declared.status.Status.{Status}
 use Rattle.command_ends.specs.declared.status.Status.TheVariants.{Done, DiskFault, NoMemory}
 
@@ -25,11 +24,11 @@ module _ {K D : Type 0} (sink : OfSink.Ghosts K) (disk : OfDisk.Ghosts D) (old n
     -- the state of the store is in its lens's consistency relation
     pub in_step : IsStateInStep store.state
     -- what was written and stored at every status
-    pub stops : EndsAs (EndsPack sink disk sessions old new store.payloads store.state store.version) status
+    pub stops : EndsPack sink disk sessions old new store.payloads store.state store.version status
     -- an image of a crash, at each moment of the call and at its end, was possible before the call, or represents the same state
     pub survives : Unopened ⊎ IsSafePack disk sessions old.1 new.1 (disk.images old.1) store.payloads store.state store.version
     -- after StoreRefused the log had no room for what was to be stored, and after DiskFault the disk had none if its room is known
-    pub caused : EndsAs (IsPackCause disk sessions old.1 store.payloads store.state store.version) status
+    pub caused : IsPackCause disk sessions old.1 store.payloads store.state store.version status
     -- it comes to its end, or memory runs out, if no device fails and the log has room
     pub completes : (SinkFailed sink old.0 new.0 → ⊥) → (DiskFailed disk old.1 new.1 → ⊥)
         → (PackHasNoRoom sessions most_bytes store.payloads store.state store.version → ⊥) → (status ≡ Done) ⊎ (status ≡ NoMemory)

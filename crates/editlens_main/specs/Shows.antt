@@ -10,7 +10,6 @@ use Rattle.store_run.specs.ViewCall as call
 use Rattle.store_session.specs.Journals.{IsStateInStep}
 use Rattle.store_session.specs.StoredStates.{StoredState, count_of, state_text}
 use Rattle.editlens_main.specs.Stores.{Store, RefusedStore, RefusesStore}
-use Rattle.editlens_main.specs.StoreStatus.{EndsAs}
 use Rattle.command_ends.specs.declared.status.Status.{Status}
 use Rattle.command_ends.specs.declared.status.Status.TheVariants.{Done, DiskFault, NoMemory}
 
@@ -26,7 +25,7 @@ module _ {K D : Type 0} (sink : OfSink.Ghosts K) (disk : OfDisk.Ghosts D) (old n
   pub record ReadsStore (text : StoredState → List (List ℕ) → List ℕ) : Type 0 where
     -- over a store `show` has written its state lines, and `verify` the number of its changes; or the sink failed at them, or the disk failed
     -- or memory ran out before
-    pub reports : (store : Store disk old.1) → EndsAs (call.Views sink old.0 new.0 (text store.state store.payloads)) status
+    pub reports : (store : Store disk old.1) → call.Views sink old.0 new.0 (text store.state store.payloads) status
     -- the state of the store is in its lens's consistency relation
     pub in_step : (store : Store disk old.1) → IsStateInStep store.state
     -- over a store it comes to its end, or memory runs out, if no device fails

@@ -11,7 +11,6 @@ use Rattle.store_run.specs.StoreRuns.{run}
 use Rattle.store_run.specs.Stores as stores
 use Rattle.store_run.specs.declared.session.Answer.{Answer}
 use Rattle.store_run.specs.declared.refusals.StoreRefusal.{StoreRefusal}
-use Rattle.editlens_main.specs.StoreStatus.{EndsAs}
 use Rattle.command_ends.specs.declared.status.Status.{Status}
 
 -- The bytes of the disk are known, and are a log of payloads that stand for a state of store_session.
@@ -32,4 +31,4 @@ module _ {K D : Type 0} (sink : OfSink.Ghosts K) (disk : OfDisk.Ghosts D) (old n
   -- The line `store refused: REASON` was written in place of all else, and nothing to the disk. Only a disk whose room is not known may
   -- fail before, and memory may run out.
   abbrev pub RefusesStore : StoreRefusal → Type 0
-  RefusesStore reason = IsUnwritten disk old.1 new.1 × EndsAs (EndsRefused sink disk old new reason) status
+  RefusesStore reason = IsUnwritten disk old.1 new.1 × EndsRefused sink disk old new reason status

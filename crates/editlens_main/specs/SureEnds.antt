@@ -4,7 +4,6 @@ use Rattle.std.specs.Prelude.{◌≡◌, ◌⊎◌, ℕ, List}
 use Rattle.store_new.specs.Command.{Command}
 use Rattle.store_new.specs.NewEnds.{IsComplete}
 use Rattle.store_run.specs.Rooms.{most_bytes}
-use Rattle.editlens_main.specs.StoreStatus.{MakesAs}
 use Rattle.command_ends.specs.declared.status.Status.{Status}
 use Rattle.command_ends.specs.declared.status.Status.TheVariants.{StoreRefused, SinkFault, DiskFault}
 
@@ -24,4 +23,4 @@ module _ (status : Status) (is_full : Type 0) where
 
   -- The same of a command that makes a store of these bytes on an empty disk.
   abbrev pub MadeInRoom : Command → List ℕ → Type 0 → Type 0
-  MadeInRoom command bytes no_room = EndsInRoom (MakesAs (IsComplete command bytes) status) ⊎ ((status ≡ DiskFault) × no_room)
+  MadeInRoom command bytes no_room = EndsInRoom (IsComplete command bytes status) ⊎ ((status ≡ DiskFault) × no_room)

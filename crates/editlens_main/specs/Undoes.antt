@@ -13,7 +13,6 @@ use Rattle.store_undo.specs.UndoCauses.{UndoHasNoRoom, IsUndoCause}
 use Rattle.store_undo.specs.UndoRecords.{undo_text, version_due, snapshot_text}
 use Rattle.store_undo.specs.UndoStores.{StoreToUndo, RefusedToUndo}
 use Rattle.editlens_main.specs.Stores.{RefusesStore}
-use Rattle.editlens_main.specs.StoreStatus.{EndsAs}
 use Rattle.command_ends.specs.declared.status.Status.{Status}
 use Rattle.command_ends.specs.declared.status.Status.TheVariants.{Done, StoreRefused, DiskFault, NoMemory}
 
@@ -36,7 +35,7 @@ module _ (count : ℕ) {K D : Type 0} (sink : OfSink.Ghosts K) (disk : OfDisk.Gh
     -- take each document back
     pub continues : status ≡ Done → UndoesCall sink disk old new store.payloads store.undone
     -- what was written and stored at every status
-    pub stops : EndsAs (Exits store) status
+    pub stops : Exits store status
     -- an image of a crash, at each moment of the call and at its end, was possible before the call, or represents the triple before the last
     -- changes or the one from before the call
     pub survives : Unopened ⊎ IsSafeUndo disk old.1 new.1 store.payloads store.undone
@@ -45,7 +44,7 @@ module _ (count : ℕ) {K D : Type 0} (sink : OfSink.Ghosts K) (disk : OfDisk.Gh
     pub unstored : (status ≡ NoMemory) ⊎ (status ≡ StoreRefused) → (image : List ℕ) → disk.images new.1 image
         → disk.images old.1 image ⊎ HoldsNow store.payloads store.undone image
     -- after StoreRefused the log had no room for a record, and after DiskFault the disk had none if its room is known
-    pub caused : EndsAs (IsUndoCause disk old.1 store.payloads store.undone) status
+    pub caused : IsUndoCause disk old.1 store.payloads store.undone status
     -- it comes to its end, or memory runs out, if no device fails and the log has room
     pub completes : (SinkFailed sink old.0 new.0 → ⊥) → (DiskFailed disk old.1 new.1 → ⊥)
         → (UndoHasNoRoom most_bytes store.payloads store.undone → ⊥) → (status ≡ Done) ⊎ (status ≡ NoMemory)

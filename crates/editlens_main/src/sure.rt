@@ -15,7 +15,6 @@ ghost use Rattle.store_undo.specs.UndoCauses.{UndoHasNoRoom};
 ghost use Rattle.store_undo.specs.UndoStores.{StoreToUndo, RefusedToUndo};
 ghost use Rattle.store_run.specs.Rooms.{RunHasNoRoom, PackHasNoRoom};
 ghost use Rattle.editlens_main.specs.Commands.{order_named, uses_disk};
-ghost use Rattle.editlens_main.specs.Status.{ScriptAs};
 ghost use Rattle.editlens_main.specs.Stores.{Store, RefusedStore};
 ghost use Rattle.editlens_main.specs.SureEnds.{EndsInRoom, StoredInRoom, MadeInRoom};
 
@@ -58,24 +57,24 @@ pub fn run_sure(
         → result ≡ Status.DiskFault → ⊥ }
     ensures run_sure { order_named words.now ≡ Some order.Run → length source.old.left ≤ MOST_BYTES
         → EndsInRoom result (length sink.new.held ≡ sink.new.room)
-        (ScriptAs (IsCompleteScript pair_script source.old.left) result) }
+        (IsCompleteScript pair_script source.old.left result) }
     ensures check_sure { order_named words.now ≡ Some order.Check → length source.old.left ≤ MOST_BYTES
         → EndsInRoom result (length sink.new.held ≡ sink.new.room)
-        (ScriptAs (IsCompleteScript types_script source.old.left) result) }
+        (IsCompleteScript types_script source.old.left result) }
     ensures run_reports { order_named words.now ≡ Some order.Run → IsFinished result
-        → ScriptAs (Reports pair_script ⟦<SureSource as Source>⟧ ⟦<SureSink as Sink>⟧
-        (source.old, sink.old) (source.new, sink.new)) result }
+        → Reports pair_script ⟦<SureSource as Source>⟧ ⟦<SureSink as Sink>⟧
+        (source.old, sink.old) (source.new, sink.new) result }
     ensures check_types { order_named words.now ≡ Some order.Check → IsFinished result
-        → ScriptAs (Reports types_script ⟦<SureSource as Source>⟧ ⟦<SureSink as Sink>⟧
-        (source.old, sink.old) (source.new, sink.new)) result }
+        → Reports types_script ⟦<SureSource as Source>⟧ ⟦<SureSink as Sink>⟧
+        (source.old, sink.old) (source.new, sink.new) result }
     ensures gen_sure { (count seed : ℕ) → order_named words.now ≡ Some (Gen count seed) → (result ≡ Status.Done) ⊎ (result ≡ Status.NoMemory)
         ⊎ ((result ≡ Status.SinkFault) × (length sink.new.held ≡ sink.new.room)) }
     ensures hub_sure { order_named words.now ≡ Some Hub → length source.old.left ≤ MOST_BYTES
         → EndsInRoom result (length sink.new.held ≡ sink.new.room)
-        (ScriptAs (IsCompleteScript hub_script source.old.left) result) }
+        (IsCompleteScript hub_script source.old.left result) }
     ensures link_sure { order_named words.now ≡ Some Link → length source.old.left ≤ MOST_BYTES
         → EndsInRoom result (length sink.new.held ≡ sink.new.room)
-        (ScriptAs (IsCompleteScript link_script source.old.left) result) }
+        (IsCompleteScript link_script source.old.left result) }
     ensures init_sure { order_named words.now ≡ Some Init → disk.old.bytes ≡ [] → length source.old.left ≤ MOST_BYTES
         → MadeInRoom result (length sink.new.held ≡ sink.new.room) init_command source.old.left
         (ScriptHasNoRoom ⟦<SureSource as Source>⟧ init_command source.old source.new disk.old.room) }

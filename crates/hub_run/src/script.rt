@@ -1,10 +1,10 @@
 //! The call over the script of a hub.
 
-ghost use Rattle.command_ends.specs.Statuses.{IsFinished};
+ghost use Rattle.command_ends.specs.Statuses.{IsAmong, script_statuses};
 ghost use Rattle.std.specs.Prelude.{◌≡◌, ◌≤◌, IfSome, length};
 ghost use Rattle.lens_io.specs.Calls.{SourceFailed, SinkFailed};
 ghost use Rattle.script_input.specs.declared.limits.TheConstants.{MOST_BYTES};
-ghost use Rattle.script_run.specs.ScriptEnds.{Ended, IsComplete, Reports, Stops};
+ghost use Rattle.script_run.specs.ScriptEnds.{Ended, IsComplete};
 ghost use Rattle.hub_run.specs.HubScript.{hub_script};
 
 use crate::head::{HubHead, read_hub_head};
@@ -12,7 +12,7 @@ use crate::run::HubRun;
 use command_ends::Status;
 use lens_io::{Sink, Source};
 use script_input::piece_buffer;
-use script_run::{answer_alone, answer_part};
+use script_run::{Stopped, answer_alone, answer_part};
 use std::alloc::Global;
 
 /// Runs the script of a hub, with its input and its output.
@@ -35,18 +35,13 @@ use std::alloc::Global;
 ///
 /// `NoMemory` comes only if memory ran out, which no clause can say.
 pub fn run_hub<S: Source, K: Sink>(alloc: Global, source: &mut S, sink: &mut K) -> Status
-    ensures reports { IsFinished result
-        → Reports hub_script S.Source K.Sink (source.old, sink.old) (source.new, sink.new) result }
-    ensures stops_are_clean { Stops hub_script S.Source K.Sink
-        (source.old, sink.old) (source.new, sink.new) result }
-    ensures source_fault { result ≡ Status.SourceFault
-        → SourceFailed S.Source source.old source.new }
-    ensures sink_fault { result ≡ Status.SinkFault
-        → SinkFailed K.Sink sink.old sink.new }
-    ensures complete { IfSome (S.left source.old) (λ bytes. length bytes ≤ MOST_BYTES
-        → (SourceFailed S.Source source.old source.new → ⊥)
-        → (SinkFailed K.Sink sink.old sink.new → ⊥)
+    ensures ended { Ended hub_script S.Source K.Sink (source.old, sink.old) (source.new, sink.new) result }
+    ensures completes { IfSome (S.left source.old) (λ bytes. length bytes ≤ MOST_BYTES
+        → (SourceFailed S.Source source.old source.new → ⊥) → (SinkFailed K.Sink sink.old sink.new → ⊥)
         → IsComplete hub_script bytes result) }
+    ensures statuses { IsAmong script_statuses result }
+    ensures source_fault { result ≡ Status.SourceFault → SourceFailed S.Source source.old source.new }
+    ensures sink_fault { result ≡ Status.SinkFault → SinkFailed K.Sink sink.old sink.new }
 {
     run_script(alloc, source, sink)
 }
@@ -67,6 +62,6 @@ fn run_script<S: Source, K: Sink>(alloc: Global, source: &mut S, sink: &mut K) -
             let opened = HubRun::open(alloc, &pieces);
             answer_part(alloc, opened, input, source, &mut piece, sink)
         }
-        Err(fault) => Status::of_fault(fault),
+        Err(fault) => Stopped::at_piece(fault).status(),
     }
 }

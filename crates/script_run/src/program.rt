@@ -1,4 +1,5 @@
 //! A command over a script whose program part is one program.
+ghost use Rattle.command_ends.specs.Statuses.{IsAmong, script_statuses};
 ghost use Rattle.std.specs.Prelude.{◌≡◌, ◌≤◌, ℕ, List, IfSome, length};
 ghost use Rattle.script_input.specs.declared.limits.TheConstants.{MOST_BYTES};
 ghost use Rattle.lens_io.specs.Calls.{SourceFailed, SinkFailed};
@@ -36,7 +37,7 @@ pub trait ProgramScript: ScriptState {
 /// - `SourceFault`, `InputTooLong`: the answers to exactly the lines of the journal that have ended were written.
 /// - `SinkFault`, `NoMemory`: when the source was called last, every line of the journal that had ended was answered.
 ///
-/// `source_fault`, `sink_fault`: these statuses come only if the source, or the sink, failed. `completes`: over at most 2^30 bytes, if
+/// No other status comes (`statuses`). `source_fault`, `sink_fault`: these come only if the source, or the sink, failed. `completes`: over at most 2^30 bytes, if
 /// neither failed, the call comes to its end, or the program part is refused, or memory ran out. `NoMemory` comes only if memory ran out.
 pub fn run_script<S: Source, K: Sink, A: ProgramScript>(
     alloc: Global,
@@ -47,6 +48,7 @@ pub fn run_script<S: Source, K: Sink, A: ProgramScript>(
     ensures completes { IfSome (S.left source.old) (λ bytes. length bytes ≤ MOST_BYTES
         → (SourceFailed S.Source source.old source.new → ⊥) → (SinkFailed K.Sink sink.old sink.new → ⊥)
         → IsComplete A.ScriptState bytes result) }
+    ensures statuses { IsAmong script_statuses result }
     ensures source_fault { result ≡ Status.SourceFault → SourceFailed S.Source source.old source.new }
     ensures sink_fault { result ≡ Status.SinkFault → SinkFailed K.Sink sink.old sink.new }
 {
