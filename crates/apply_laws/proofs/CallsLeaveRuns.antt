@@ -23,7 +23,6 @@ use Rattle.store_session.proofs.StatesInStep.{stored_sound}
 use Rattle.store_run.specs.ApplyCall.{ContinuesCall, IsSafeCall}
 use Rattle.store_run.specs.StoreRuns.{run, last, kept_of, text_of}
 use Rattle.store_run.specs.declared.session.Answer.{Answer}
-use Rattle.command_ends.specs.declared.status.Status.{Status as StoreStatus}
 use Rattle.editlens_main.specs.Applies.{Applies}
 use Rattle.editlens_main.specs.Stores.{Store}
 use Rattle.command_ends.specs.declared.status.Status.{Status}
@@ -105,9 +104,8 @@ module _ {S K D : Type 0} (source : OfSource.Ghosts S) (sink : OfSink.Ghosts K) 
     ]
 
     -- the call came to its end
-    finished : (ended : StoreStatus) → ContinuesCall source sink disk sessions (old.0, old.1) new store.payloads store.state store.version ended
-        → FinishesRun source sink disk old new before
-    finished ended s =
+    finished : ContinuesCall source sink disk sessions (old.0, old.1) new store.payloads store.state store.version status → FinishesRun source sink disk old new before
+    finished s =
         let after : StoreParts = record { payloads = with_version before ++ kept_of s.steps; state = last before.state s.steps; version = None; stands = s.stand } in
         let lines = lines_of s.bytes in
         let j = journal_run before lines s.steps s.is_run in
@@ -126,7 +124,7 @@ module _ {S K D : Type 0} (source : OfSource.Ghosts S) (sink : OfSink.Ghosts K) 
           text_is steps j = ap (λ l. l ++ state_text (last before.state steps)) j.text ∙ ap (λ u. answer_lines 1 j.journal ++ state_text u) j.at_last
 
     pub finishes_run : Applies source sink disk old new status → IsFinished status → FinishesRun source sink disk old new before
-    finishes_run a h = let e = (a.of_store store).continues h in finished e.0 e.2
+    finishes_run a h = finished ((a.of_store store).continues h)
 
 -- ---- two calls
 

@@ -7,7 +7,6 @@ use Rattle.lens_io.specs.declared.sink.Sink as OfSink
 use Rattle.store_run.specs.Refusals.{IsUnwritten, IsOpening, FailsUnopened}
 use Rattle.store_run.specs.Rooms.{most_bytes}
 use Rattle.store_run.specs.StoreEnds.{StoresBehind}
-use Rattle.command_ends.specs.declared.status.Status.{Status as StoreStatus}
 use Rattle.store_undo.specs.UndoCall.{UndoesCall, IsUntouched, IsSafeUndo, HoldsNow}
 use Rattle.store_undo.specs.UndoCauses.{UndoHasNoRoom, IsUndoCause}
 use Rattle.store_undo.specs.UndoRecords.{undo_text, version_due, snapshot_text}
@@ -19,7 +18,7 @@ use Rattle.command_ends.specs.declared.status.Status.TheVariants.{Done, StoreRef
 module _ (count : ℕ) {K D : Type 0} (sink : OfSink.Ghosts K) (disk : OfDisk.Ghosts D) (old new : K × D) (status : Status) where
   -- What was written and stored: the log was opened, and from there its records were stored and its lines written, or the call was
   -- stopped; or it failed before, and nothing was written.
-  abbrev pub Exits : StoreToUndo disk count old.1 → StoreStatus → Type 0
+  abbrev pub Exits : StoreToUndo disk count old.1 → Status → Type 0
   Exits store ended =
       StoresBehind sink disk old new (λ d1 _. IsOpening disk old.1 d1) store.payloads
       (undo_text store.undone) (option_to_list (version_due store.undone.now.version)) (snapshot_text store.undone) ended
