@@ -2,7 +2,7 @@
 use Rattle.std.proofs.Common.{◌≡◌, ◌⊎◌, inl, inr, List, [], ◌∷◌, refl, sym, subst}
 use Rattle.command_ends.specs.Statuses.{IsAmong, apply_statuses, quiet_statuses}
 use Rattle.command_ends.specs.declared.status.Status.{Status}
-use Rattle.command_ends.specs.declared.status.Status.TheVariants.{StoreRefused, SinkFault, DiskFault, NoMemory}
+use Rattle.command_ends.specs.declared.status.Status.TheVariants.{SourceFault}
 
 -- each of these has P
 abbrev pub Each : (Status → Type 0) → List Status → Type 0
@@ -19,3 +19,6 @@ pub quiet_applies : (status : Status) → IsAmong quiet_statuses status → IsAm
 quiet_applies status among =
     each (IsAmong apply_statuses) quiet_statuses status
     (inl refl, (inr (inr (inl refl)), (inr (inr (inr (inr (inl refl)))), (inr (inr (inr (inr (inr (inl refl))))), (inr (inr (inr (inr (inr (inr (inr (inl refl))))))), tt))))) among
+
+pub quiet_reads_nothing : (status : Status) → IsAmong quiet_statuses status → status ≡ SourceFault → ⊥
+quiet_reads_nothing status among = each (λ s. s ≡ SourceFault → ⊥) quiet_statuses status ((λ e. cc), ((λ e. cc), ((λ e. cc), ((λ e. cc), ((λ e. cc), tt))))) among

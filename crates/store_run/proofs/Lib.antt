@@ -11,6 +11,7 @@ pub mod InTimeEnds
 pub mod Moments
 pub mod OkLineCounts
 pub mod Openings
+pub mod StoreOpenings
 pub mod Outcomes
 pub mod PackCalls
 pub mod RefusalEnds

@@ -8,6 +8,7 @@ pub mod Effects
 pub mod InTime
 pub mod JournalEnds
 pub mod OkLines
+pub mod Opening
 pub mod PackCall
 pub mod Refusals
 pub mod Reopening

@@ -1,25 +1,20 @@
 //! The command `apply`, from its first call of the disk on.
 ghost use Rattle.command_ends.specs.Statuses.{IsAmong, IsFinished, apply_statuses};
-ghost use Rattle.std.specs.Prelude.{◌≡◌, ◌⊎◌, List, ℕ, Ok, Some};
-ghost use Rattle.std.specs.declared.option.Option.{Option};
+ghost use Rattle.std.specs.Prelude.{◌≡◌, ◌⊎◌};
 ghost use Rattle.lens_io.specs.Calls.{IsUnasked, SourceFailed, SinkFailed, DiskFailed};
-ghost use Rattle.gate_log.specs.LogOnDisk.{HoldsPayloads};
 ghost use Rattle.script_input.specs.Taking.{GaveFew};
 ghost use Rattle.script_input.specs.declared.limits.TheConstants.{PIECE_BYTES};
 ghost use Rattle.store_run.specs.ApplyCall.{ContinuesCall, IsSafeCall, IsUnopened, EndsCall};
-ghost use Rattle.store_run.specs.Effects.{StandsOn};
 ghost use Rattle.store_run.specs.InTime.{AnswersInTime};
-ghost use Rattle.store_run.specs.Refusals.{IsUnwritten, EndsRefused, refusal_of_payloads};
+ghost use Rattle.store_run.specs.Refusals.{IsUnwritten, EndsRefused};
 ghost use Rattle.store_run.specs.Rooms.{most_bytes, TakesTooMany, RunHasNoRoom, IsApplyCause};
 ghost use Rattle.store_run.specs.Stores.{Store, RefusedStore};
-ghost use Rattle.store_run.specs.declared.refusals.StoreRefusal.{StoreRefusal};
 
 use crate::continuing::continue_store;
-use crate::refusals::{refuse_log, refuse_payloads};
+use crate::opening::{open_store, refuse_store};
 use crate::session::StoredSession;
 use command_ends::Status;
-use gate_log::{Log, open_log};
-use lens_io::{Disk, Payloads, Sink, Source};
+use lens_io::{Disk, Sink, Source};
 use std::alloc::Global;
 
 /// Opens a store, and goes on with the session for which its payloads stand, by a journal.
@@ -85,115 +80,19 @@ pub fn apply<S: Source, A: StoredSession + Drop, K: Sink, D: Disk>(
     ensures sink_fault { result ≡ Status.SinkFault → SinkFailed K.Sink sink.old sink.new }
     ensures disk_fault { result ≡ Status.DiskFault → DiskFailed D.Disk disk.old disk.new }
 {
-    match open_log(disk) {
-        Ok(log) => {
-            let mut log = log;
-            apply_log::<S, A, K, D>(alloc, &mut log, source, sink, disk)
-        }
-        Err(fault) => refuse_log(alloc, fault, sink),
-    }
-}
-
-// Goes on with a store whose log was opened.
-fn apply_log<S: Source, A: StoredSession + Drop, K: Sink, D: Disk>(
-    alloc: Global,
-    log: &mut Log,
-    source: &mut S,
-    sink: &mut K,
-    disk: &mut D,
-) -> Status
-    requires stands { (base : List (List ℕ)) × StandsOn D.Disk disk.old log.old base }
-    ensures continues { (before : List (List ℕ)) (bytes : List ℕ) (t : A.State)
-        (version : Option (List ℕ))
-        → D.content disk.old ≡ Some bytes → StandsOn D.Disk disk.old log.old before
-        → A.stands_for before ≡ Ok (t, version) → IsFinished result
-        → ContinuesCall S.Source K.Sink D.Disk A.StoredSession
-        (source.old, sink.old) (source.new, sink.new, disk.new)
-        before t version result }
-    ensures safe { (before : List (List ℕ)) (bytes : List ℕ) (t : A.State)
-        (version : Option (List ℕ))
-        → D.content disk.old ≡ Some bytes → StandsOn D.Disk disk.old log.old before
-        → A.stands_for before ≡ Ok (t, version)
-        → IsSafeCall S.Source K.Sink D.Disk A.StoredSession
-        (source.old, sink.old, disk.old) (source.new, sink.new, disk.new)
-        (HoldsPayloads before) before t version }
-    ensures exits { (before : List (List ℕ)) (bytes : List ℕ) (t : A.State)
-        (version : Option (List ℕ))
-        → D.content disk.old ≡ Some bytes → StandsOn D.Disk disk.old log.old before
-        → A.stands_for before ≡ Ok (t, version)
-        → EndsCall S.Source K.Sink D.Disk A.StoredSession
-        (source.old, sink.old, disk.old) (source.new, sink.new, disk.new)
-        before t version result }
-    ensures few { GaveFew S.Source source.old source.new PIECE_BYTES }
-    ensures refused { (before : List (List ℕ)) (bytes : List ℕ) (refusal : StoreRefusal)
-        → D.content disk.old ≡ Some bytes → StandsOn D.Disk disk.old log.old before
-        → refusal_of_payloads (A.stands_for before) ≡ Some refusal
-        → IsUnwritten D.Disk disk.old disk.new × IsUnasked S.Source source.old source.new
-        × EndsRefused K.Sink D.Disk (sink.old, disk.old) (sink.new, disk.new) refusal result }
-    ensures statuses { IsAmong apply_statuses result }
-    ensures source_fault { result ≡ Status.SourceFault
-        → SourceFailed S.Source source.old source.new }
-    ensures sink_fault { result ≡ Status.SinkFault → SinkFailed K.Sink sink.old sink.new }
-    ensures disk_fault { result ≡ Status.DiskFault → DiskFailed D.Disk disk.old disk.new }
-{
-    match log.payloads(alloc, disk) {
-        Ok(payloads) => apply_payloads::<S, A, K, D>(alloc, log, &payloads, source, sink, disk),
-        Err(fault) => refuse_log(alloc, fault, sink),
-    }
-}
-
-// Goes on with a store of these payloads.
-fn apply_payloads<S: Source, A: StoredSession + Drop, K: Sink, D: Disk>(
-    alloc: Global,
-    log: &mut Log,
-    payloads: &Payloads,
-    source: &mut S,
-    sink: &mut K,
-    disk: &mut D,
-) -> Status
-    requires stands { (base : List (List ℕ)) × StandsOn D.Disk disk.old log.old base }
-    ensures continues { (t : A.State) (version : Option (List ℕ))
-        → StandsOn D.Disk disk.old log.old payloads.now
-        → A.stands_for payloads.now ≡ Ok (t, version) → IsFinished result
-        → ContinuesCall S.Source K.Sink D.Disk A.StoredSession
-        (source.old, sink.old) (source.new, sink.new, disk.new)
-        payloads.now t version result }
-    ensures safe { (t : A.State) (version : Option (List ℕ))
-        → StandsOn D.Disk disk.old log.old payloads.now
-        → A.stands_for payloads.now ≡ Ok (t, version)
-        → IsSafeCall S.Source K.Sink D.Disk A.StoredSession
-        (source.old, sink.old, disk.old) (source.new, sink.new, disk.new)
-        (HoldsPayloads payloads.now) payloads.now t version }
-    ensures exits { (t : A.State) (version : Option (List ℕ))
-        → StandsOn D.Disk disk.old log.old payloads.now
-        → A.stands_for payloads.now ≡ Ok (t, version)
-        → EndsCall S.Source K.Sink D.Disk A.StoredSession
-        (source.old, sink.old, disk.old) (source.new, sink.new, disk.new)
-        payloads.now t version result }
-    ensures few { GaveFew S.Source source.old source.new PIECE_BYTES }
-    ensures refused { (refusal : StoreRefusal)
-        → refusal_of_payloads (A.stands_for payloads.now) ≡ Some refusal
-        → IsUnwritten D.Disk disk.old disk.new × IsUnasked S.Source source.old source.new
-        × EndsRefused K.Sink D.Disk (sink.old, disk.old) (sink.new, disk.new) refusal result }
-    ensures statuses { IsAmong apply_statuses result }
-    ensures source_fault { result ≡ Status.SourceFault
-        → SourceFailed S.Source source.old source.new }
-    ensures sink_fault { result ≡ Status.SinkFault → SinkFailed K.Sink sink.old sink.new }
-    ensures disk_fault { result ≡ Status.DiskFault → DiskFailed D.Disk disk.old disk.new }
-{
-    match A::reopen(alloc, payloads) {
-        Ok(opened) => {
-            let mut opened = opened;
+    match open_store::<A, D>(alloc, disk) {
+        Ok(store) => {
+            let mut store = store;
             continue_store(
                 alloc,
-                &mut opened.session,
-                &opened.version,
+                &mut store.opened.session,
+                &store.opened.version,
                 source,
-                log,
+                &mut store.log,
                 disk,
                 sink,
             )
         }
-        Err(fault) => refuse_payloads(alloc, fault, sink),
+        Err(fault) => refuse_store(alloc, fault, sink),
     }
 }

@@ -8,20 +8,20 @@ ghost use Rattle.store_run.specs.ApplyCauses.{Counted, stop_in};
 ghost use Rattle.store_run.specs.CountLines.{packed_line};
 ghost use Rattle.store_run.specs.Effects.{StandsOn, Adds, Stops};
 ghost use Rattle.store_run.specs.PackCall.{PacksCall, IsSafePack, IsUnpacked, EndsPack};
-ghost use Rattle.store_run.specs.Refusals.{IsUnwritten, EndsRefused, refusal_of_payloads};
+ghost use Rattle.store_run.specs.Refusals.{IsUnwritten, EndsRefused};
 ghost use Rattle.store_run.specs.Rooms.{most_bytes, PackHasNoRoom, IsPackCause};
 ghost use Rattle.store_run.specs.Stopping.{IsOwnStop};
 ghost use Rattle.store_run.specs.Stores.{Store, RefusedStore};
-ghost use Rattle.store_run.specs.declared.refusals.StoreRefusal.{StoreRefusal};
 
 use crate::count_lines::packed_line;
-use crate::refusals::{give_stop, refuse_log, refuse_payloads};
+use crate::opening::{open_store, refuse_store};
+use crate::refusals::give_stop;
 use crate::session::StoredSession;
 use crate::stop::Stop;
 use crate::store::{store_and_answer, store_version};
 use command_ends::Status;
-use gate_log::{Log, open_log};
-use lens_io::{Disk, Payloads, Sink};
+use gate_log::Log;
+use lens_io::{Disk, Sink};
 use std::alloc::{AllocError, Global};
 use texts::Bytes;
 
@@ -71,101 +71,20 @@ pub fn pack<A: StoredSession + Drop, K: Sink, D: Disk>(
     ensures sink_fault { result ≡ Status.SinkFault → SinkFailed K.Sink sink.old sink.new }
     ensures disk_fault { result ≡ Status.DiskFault → DiskFailed D.Disk disk.old disk.new }
 {
-    match open_log(disk) {
-        Ok(log) => {
-            let mut log = log;
-            pack_log::<A, K, D>(alloc, &mut log, sink, disk)
-        }
-        Err(fault) => refuse_log(alloc, fault, sink),
-    }
-}
-
-// Packs a store whose log was opened.
-fn pack_log<A: StoredSession + Drop, K: Sink, D: Disk>(
-    alloc: Global,
-    log: &mut Log,
-    sink: &mut K,
-    disk: &mut D,
-) -> Status
-    requires stands { (base : List (List ℕ)) × StandsOn D.Disk disk.old log.old base }
-    ensures packs { (before : List (List ℕ)) (bytes : List ℕ) (t : A.State)
-        (version : Option (List ℕ))
-        → D.content disk.old ≡ Some bytes → StandsOn D.Disk disk.old log.old before
-        → A.stands_for before ≡ Ok (t, version) → IsFinished result
-        → PacksCall K.Sink D.Disk A.StoredSession sink.old (sink.new, disk.new)
-        before t version }
-    ensures safe { (before : List (List ℕ)) (bytes : List ℕ) (t : A.State)
-        (version : Option (List ℕ))
-        → D.content disk.old ≡ Some bytes → StandsOn D.Disk disk.old log.old before
-        → A.stands_for before ≡ Ok (t, version)
-        → IsSafePack D.Disk A.StoredSession disk.old disk.new
-        (HoldsPayloads before) before t version }
-    ensures exits { (before : List (List ℕ)) (bytes : List ℕ) (t : A.State)
-        (version : Option (List ℕ))
-        → D.content disk.old ≡ Some bytes → StandsOn D.Disk disk.old log.old before
-        → A.stands_for before ≡ Ok (t, version)
-        → EndsPack K.Sink D.Disk A.StoredSession (sink.old, disk.old) (sink.new, disk.new)
-        before t version result }
-    ensures refused { (before : List (List ℕ)) (bytes : List ℕ) (refusal : StoreRefusal)
-        → D.content disk.old ≡ Some bytes → StandsOn D.Disk disk.old log.old before
-        → refusal_of_payloads (A.stands_for before) ≡ Some refusal
-        → IsUnwritten D.Disk disk.old disk.new
-        × EndsRefused K.Sink D.Disk (sink.old, disk.old) (sink.new, disk.new) refusal result }
-    ensures statuses { IsAmong quiet_statuses result }
-    ensures sink_fault { result ≡ Status.SinkFault → SinkFailed K.Sink sink.old sink.new }
-    ensures disk_fault { result ≡ Status.DiskFault → DiskFailed D.Disk disk.old disk.new }
-{
-    match log.payloads(alloc, disk) {
-        Ok(payloads) => pack_payloads::<A, K, D>(alloc, log, &payloads, sink, disk),
-        Err(fault) => refuse_log(alloc, fault, sink),
-    }
-}
-
-// Packs a store of these payloads.
-fn pack_payloads<A: StoredSession + Drop, K: Sink, D: Disk>(
-    alloc: Global,
-    log: &mut Log,
-    payloads: &Payloads,
-    sink: &mut K,
-    disk: &mut D,
-) -> Status
-    requires stands { (base : List (List ℕ)) × StandsOn D.Disk disk.old log.old base }
-    ensures packs { (t : A.State) (version : Option (List ℕ))
-        → StandsOn D.Disk disk.old log.old payloads.now
-        → A.stands_for payloads.now ≡ Ok (t, version) → IsFinished result
-        → PacksCall K.Sink D.Disk A.StoredSession sink.old (sink.new, disk.new)
-        payloads.now t version }
-    ensures safe { (t : A.State) (version : Option (List ℕ))
-        → StandsOn D.Disk disk.old log.old payloads.now
-        → A.stands_for payloads.now ≡ Ok (t, version)
-        → IsSafePack D.Disk A.StoredSession disk.old disk.new
-        (HoldsPayloads payloads.now) payloads.now t version }
-    ensures exits { (t : A.State) (version : Option (List ℕ))
-        → StandsOn D.Disk disk.old log.old payloads.now
-        → A.stands_for payloads.now ≡ Ok (t, version)
-        → EndsPack K.Sink D.Disk A.StoredSession (sink.old, disk.old) (sink.new, disk.new)
-        payloads.now t version result }
-    ensures refused { (refusal : StoreRefusal)
-        → refusal_of_payloads (A.stands_for payloads.now) ≡ Some refusal
-        → IsUnwritten D.Disk disk.old disk.new
-        × EndsRefused K.Sink D.Disk (sink.old, disk.old) (sink.new, disk.new) refusal result }
-    ensures statuses { IsAmong quiet_statuses result }
-    ensures sink_fault { result ≡ Status.SinkFault → SinkFailed K.Sink sink.old sink.new }
-    ensures disk_fault { result ≡ Status.DiskFault → DiskFailed D.Disk disk.old disk.new }
-{
-    match A::reopen(alloc, payloads) {
-        Ok(opened) => {
+    match open_store::<A, D>(alloc, disk) {
+        Ok(store) => {
+            let mut store = store;
             pack_session(
                 alloc,
-                &opened.session,
-                opened.count,
-                &opened.version,
-                log,
+                &store.opened.session,
+                store.opened.count,
+                &store.opened.version,
+                &mut store.log,
                 sink,
                 disk,
             )
         }
-        Err(fault) => refuse_payloads(alloc, fault, sink),
+        Err(fault) => refuse_store(alloc, fault, sink),
     }
 }
 

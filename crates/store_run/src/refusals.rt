@@ -4,12 +4,10 @@ ghost use Rattle.command_ends.specs.Statuses.{IsAmong, apply_statuses, quiet_sta
 ghost use Rattle.lens_io.specs.Calls.{Gave, GaveFront, SinkFailed};
 ghost use Rattle.store_run.specs.ApplyEnds.{SaysStop};
 ghost use Rattle.store_run.specs.Stopping.{IsOwnStop};
-ghost use Rattle.store_run.specs.Refusals.{refusal_line, Refuses, EndsAtLog, EndsAtPayloads};
+ghost use Rattle.store_run.specs.Refusals.{refusal_line, Refuses};
 
-use crate::session::ReopenFault;
 use crate::stop::Stop;
 use command_ends::Status;
-use gate_log::LogFault;
 use lens_io::{Sink, give_all};
 use std::alloc::{AllocError, Global};
 use texts::Bytes;
@@ -29,40 +27,6 @@ pub enum StoreRefusal {
     NotConsistent { number: u64 },
     /// The last records are not so many changes as are to be undone.
     NothingToUndo,
-}
-
-/// Ends a command at a fault of the log. A fault of the disk, and running out of memory, write no line; of any other the line
-/// `store refused: REASON` is written.
-pub fn refuse_log<K: Sink>(alloc: Global, fault: LogFault, sink: &mut K) -> Status
-    ensures ends { EndsAtLog K.Sink sink.old sink.new fault result }
-    ensures statuses { IsAmong quiet_statuses result }
-    ensures sink_fault { result ≡ Status.SinkFault → SinkFailed K.Sink sink.old sink.new }
-{
-    match fault {
-        LogFault::NotALog => refuse(alloc, StoreRefusal::NotALog, sink),
-        LogFault::BadRecord { number } => refuse(alloc, StoreRefusal::BadRecord { number }, sink),
-        LogFault::LogExists => refuse(alloc, StoreRefusal::LogExists, sink),
-        LogFault::LogFull => refuse(alloc, StoreRefusal::LogFull, sink),
-        LogFault::DiskFault => Status::DiskFault,
-        LogFault::NoMemory => Status::NoMemory,
-    }
-}
-
-/// Ends a command at payloads that stand for no session. Running out of memory writes no line.
-pub(crate) fn refuse_payloads<K: Sink>(alloc: Global, fault: ReopenFault, sink: &mut K) -> Status
-    ensures ends { EndsAtPayloads K.Sink sink.old sink.new fault result }
-    ensures statuses { IsAmong quiet_statuses result }
-    ensures sink_fault { result ≡ Status.SinkFault → SinkFailed K.Sink sink.old sink.new }
-{
-    match fault {
-        ReopenFault::BadRecord { number } => {
-            refuse(alloc, StoreRefusal::BadRecord { number }, sink)
-        }
-        ReopenFault::NotConsistent { number } => {
-            refuse(alloc, StoreRefusal::NotConsistent { number }, sink)
-        }
-        ReopenFault::NoMemory => Status::NoMemory,
-    }
 }
 
 /// Ends a command by a refusal: its line `store refused: REASON` is written. Only a line with the number of a record allocates.

@@ -1,22 +1,18 @@
 //! The commands `show` and `verify`, which only read a store.
 ghost use Rattle.command_ends.specs.Statuses.{IsAmong, quiet_statuses};
-ghost use Rattle.std.specs.Prelude.{◌≡◌, ◌⊎◌, List, ℕ, Ok, Some, IfOk, IsNone};
-ghost use Rattle.std.specs.declared.option.Option.{Option};
+ghost use Rattle.std.specs.Prelude.{◌≡◌, ◌⊎◌, IfOk, IsNone};
 ghost use Rattle.lens_io.specs.Calls.{SinkFailed, DiskFailed};
 ghost use Rattle.lens_io.specs.DiskRuns.{LeavesOnly};
 ghost use Rattle.store_run.specs.CountLines.{consistent_line};
-ghost use Rattle.store_run.specs.Effects.{StandsOn};
-ghost use Rattle.store_run.specs.Refusals.{IsUnwritten, Refuses, EndsRefused, refusal_of_payloads};
+ghost use Rattle.store_run.specs.Refusals.{IsUnwritten, EndsRefused};
 ghost use Rattle.store_run.specs.Stores.{Store, RefusedStore};
 ghost use Rattle.store_run.specs.ViewCall.{Views, view_text};
-ghost use Rattle.store_run.specs.declared.refusals.StoreRefusal.{StoreRefusal};
 
 use crate::count_lines::consistent_line;
-use crate::refusals::{refuse_log, refuse_payloads};
+use crate::opening::{open_store, refuse_store};
 use crate::session::StoredSession;
 use command_ends::Status;
-use gate_log::{Log, open_log};
-use lens_io::{Disk, Payloads, Sink, give_all};
+use lens_io::{Disk, Sink, give_all};
 use std::alloc::{AllocError, Global};
 use texts::Bytes;
 
@@ -114,67 +110,9 @@ fn view_store<A: StoredSession + Drop, K: Sink, D: Disk>(
     ensures disk_fault { result ≡ Status.DiskFault → DiskFailed D.Disk disk.old disk.new }
     ensures sure { result ≡ Status.DiskFault → IsNone (D.room disk.old) }
 {
-    match open_log(disk) {
-        Ok(log) => view_log::<A, K, D>(alloc, view, &log, sink, disk),
-        Err(fault) => refuse_log(alloc, fault, sink),
-    }
-}
-
-// Writes a view of a store whose log was opened.
-fn view_log<A: StoredSession + Drop, K: Sink, D: Disk>(
-    alloc: Global,
-    view: StoreView,
-    log: &Log,
-    sink: &mut K,
-    disk: &mut D,
-) -> Status
-    requires stands { (base : List (List ℕ)) × StandsOn D.Disk disk.old log.now base }
-    ensures views { (before : List (List ℕ)) (bytes : List ℕ) (t : A.State)
-        (version : Option (List ℕ))
-        → D.content disk.old ≡ Some bytes
-        → StandsOn D.Disk disk.old log.now before
-        → A.stands_for before ≡ Ok (t, version)
-        → Views K.Sink sink.old sink.new
-        (view_text A.StoredSession view t (A.count_of before)) result }
-    ensures refused { (before : List (List ℕ)) (bytes : List ℕ) (refusal : StoreRefusal)
-        → D.content disk.old ≡ Some bytes
-        → StandsOn D.Disk disk.old log.now before
-        → refusal_of_payloads (A.stands_for before) ≡ Some refusal
-        → EndsRefused K.Sink D.Disk (sink.old, disk.old) (sink.new, disk.new) refusal result }
-    ensures unwritten { IsUnwritten D.Disk disk.old disk.new }
-    ensures moments { LeavesOnly D.Disk disk.old disk.new (D.images disk.old) }
-    ensures statuses { IsAmong quiet_statuses result }
-    ensures sink_fault { result ≡ Status.SinkFault → SinkFailed K.Sink sink.old sink.new }
-    ensures disk_fault { result ≡ Status.DiskFault → DiskFailed D.Disk disk.old disk.new }
-    ensures sure { result ≡ Status.DiskFault → IsNone (D.room disk.old) }
-{
-    match log.payloads(alloc, disk) {
-        Ok(payloads) => view_payloads::<A, K>(alloc, view, &payloads, sink),
-        Err(fault) => refuse_log(alloc, fault, sink),
-    }
-}
-
-// Writes a view of a store of these payloads.
-fn view_payloads<A: StoredSession + Drop, K: Sink>(
-    alloc: Global,
-    view: StoreView,
-    payloads: &Payloads,
-    sink: &mut K,
-) -> Status
-    ensures views { (t : A.State) (version : Option (List ℕ))
-        → A.stands_for payloads.now ≡ Ok (t, version)
-        → Views K.Sink sink.old sink.new
-        (view_text A.StoredSession view t (A.count_of payloads.now)) result }
-    ensures refused { (refusal : StoreRefusal)
-        → refusal_of_payloads (A.stands_for payloads.now) ≡ Some refusal
-        → Refuses K.Sink sink.old sink.new refusal result }
-    ensures statuses { IsAmong quiet_statuses result }
-    ensures sink_fault { result ≡ Status.SinkFault → SinkFailed K.Sink sink.old sink.new }
-    ensures no_disk { result ≡ Status.DiskFault → ⊥ }
-{
-    match A::reopen(alloc, payloads) {
-        Ok(opened) => give_view(alloc, &opened.session, opened.count, view, sink),
-        Err(fault) => refuse_payloads(alloc, fault, sink),
+    match open_store::<A, D>(alloc, disk) {
+        Ok(store) => give_view(alloc, &store.opened.session, store.opened.count, view, sink),
+        Err(fault) => refuse_store(alloc, fault, sink),
     }
 }
 

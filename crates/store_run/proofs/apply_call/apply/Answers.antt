@@ -1,48 +1,49 @@
-use Rattle.std.specs.Prelude.{IsNone}
-use Rattle.command_ends.proofs.AmongStatuses.{quiet_applies}
-use Rattle.store_run.specs.Effects.{StandsOn}
-use Rattle.std.proofs.Common.{Option, inl, inr, ℕ, List, Err, ap, subst, ◌∙◌, ◌≡◌, sym, refl}
+use Rattle.std.proofs.Common.{◌≡◌, inl, inr, ℕ, List, Option, Result, Ok, Err, sym, ap, subst, ◌∙◌, refl}
+use Rattle.command_ends.proofs.AmongStatuses.{quiet_applies, quiet_reads_nothing}
 use Rattle.gate_log.specs.LogOnDisk.{HoldsPayloads}
-use Rattle.gate_log.specs.declared.fault.LogFault.{LogFault}
-use Rattle.store_run.proofs.Rooms.{apply_cause, apply_complete}
-use Rattle.store_run.proofs.ApplyCalls.{same_held, opened_later, only_disk, synced_holds, safe_later, safe_synced, held_first}
-use Rattle.store_run.proofs.InTimeEnds.{call_in_time}
-use Rattle.store_run.proofs.StoredPayloads.{images_held, reads_held}
-use Rattle.store_run.proofs.RefusalEnds.{at_disk_fault, at_log_disk, at_log_other, at_log_sourceless, at_log_unfinished}
-use Rattle.gate_log.specs.LogBytes.{payloads, log_of}
-use Rattle.store_run.specs.Refusals.{refusal_of_log}
-use Rattle.store_run.proofs.Openings.{at_content, unwritten_then, same_room, log_refused}
-use Rattle.store_run.proofs.apply_call.apply.Goals as goal
 use Rattle.lens_io.proofs.Increases.{increased_since}
+use Rattle.store_run.specs.ApplyCall.{ContinuesCall, EndsOpened, IsSafeCall}
+use Rattle.store_run.specs.declared.opening.OpenFault.{OpenFault}
+use Rattle.store_run.specs.declared.opening.OpenFault.TheVariants.{DiskFault}
+use Rattle.store_run.proofs.ApplyCalls.{continues_call, held_first, opened_here, opened_later, safe_call, safe_later, safe_synced}
+use Rattle.store_run.proofs.InTimeEnds.{call_in_time}
+use Rattle.store_run.proofs.Rooms.{apply_cause, apply_complete}
+use Rattle.store_run.proofs.StoredPayloads.{images_held, reads_held}
+use Rattle.store_run.proofs.StoreOpenings.{as_opened, ends_refused, fails_to_open, same_fault, unopened_at_disk, unopened_other}
+use Rattle.store_run.proofs.apply_call.apply.Goals as goal
+
+-- ---- the store was opened
 
 pub returns-in-Ok-clause-continues : goal.returns-in-Ok-clause-continues
 returns-in-Ok-clause-continues g c =
+    let source = g.S.Source in
     let disk = g.D.Disk in
     let sink = g.K.Sink in
     let session = g.A.StoredSession in
-    let only = g.met.D.Disk.only_now in
     let hold = images_held disk g.met.D.Disk.content_is_image in
     let reads = reads_held disk in
     let laws = g.met.A.StoredSession in
+    let i = c.args.source.now in
     let k = c.args.sink.now in
     let d = c.args.disk.now in
-    let i = c.args.source.now in
-    let d1 = c.open_log.new.disk in
-    let l = c.in-Ok.log in
-    let log = c.in-Ok.ensures.log in
-    let k' = c.apply_log.new.sink in
-    let d' = c.apply_log.new.disk in
-    let i' = c.apply_log.new.source in
+    let d1 = c.open_store.new.disk in
+    let made = c.in-Ok.store in
+    let t0 = session.state made.opened.session in
+    let v0 = made.opened.version in
+    let i' = c.continue_store.new.source in
+    let k' = c.continue_store.new.sink in
+    let d' = c.continue_store.new.disk in
+    let l' = c.continue_store.new.log in
+    let t' = session.state c.continue_store.new.session in
+    let status = c.continue_store.result in
+    let e = c.continue_store.ensures in
     λ store f.
+    let o = c.in-Ok.ensures.opened store in
     let before = store.payloads in
-    let bytes = store.bytes in
-    let t = store.state in
-    let version = store.version in
-    let told = store.told in
-    let holds = store.holds in
-    let h = store.stands in
-    let st = subst (λ (x : List (List ℕ)). StandsOn disk d1 l x) (same_held (disk.content d) bytes log.0 before told log.1 holds) log.2 in
-    c.apply_log.ensures.continues before bytes t version (c.in-Ok.ensures.content ∙ told) st h f
+    let same = as_opened disk session d d1 store made.log t0 v0 made.opened.count o in
+    let stands = store.stands ∙ ap (λ (x : session.State × Option (List ℕ)). Ok x) (sym same) in
+    subst (λ (x : session.State × Option (List ℕ)). ContinuesCall source sink disk session (i, k) (i', k', d') before x.0 x.1 status) same
+    (continues_call source sink disk session hold reads laws.version_stands laws.change_stands laws.refused_stays laws.version_counts laws.change_counts i i' k k' d1 d' made.log l' before v0 t0 t' status e.exits f o.stands stands)
 
 pub returns-in-Ok-clause-safe : goal.returns-in-Ok-clause-safe
 returns-in-Ok-clause-safe g c =
@@ -50,71 +51,32 @@ returns-in-Ok-clause-safe g c =
     let disk = g.D.Disk in
     let sink = g.K.Sink in
     let session = g.A.StoredSession in
-    let only = g.met.D.Disk.only_now in
     let hold = images_held disk g.met.D.Disk.content_is_image in
     let reads = reads_held disk in
     let laws = g.met.A.StoredSession in
+    let i = c.args.source.now in
     let k = c.args.sink.now in
     let d = c.args.disk.now in
-    let i = c.args.source.now in
-    let d1 = c.open_log.new.disk in
-    let l = c.in-Ok.log in
-    let log = c.in-Ok.ensures.log in
-    let k' = c.apply_log.new.sink in
-    let d' = c.apply_log.new.disk in
-    let i' = c.apply_log.new.source in
+    let d1 = c.open_store.new.disk in
+    let made = c.in-Ok.store in
+    let t0 = session.state made.opened.session in
+    let v0 = made.opened.version in
+    let i' = c.continue_store.new.source in
+    let k' = c.continue_store.new.sink in
+    let d' = c.continue_store.new.disk in
+    let l' = c.continue_store.new.log in
+    let t' = session.state c.continue_store.new.session in
+    let status = c.continue_store.result in
+    let e = c.continue_store.ensures in
     λ store.
+    let o = c.in-Ok.ensures.opened store in
     let before = store.payloads in
-    let bytes = store.bytes in
-    let t = store.state in
-    let version = store.version in
-    let told = store.told in
-    let holds = store.holds in
-    let h = store.stands in
-    let st = subst (λ (x : List (List ℕ)). StandsOn disk d1 l x) (same_held (disk.content d) bytes log.0 before told log.1 holds) log.2 in
-    inr (safe_later source sink disk session hold reads laws.version_stands laws.change_stands laws.refused_stays laws.version_counts laws.change_counts (HoldsPayloads before) (disk.images d) i i' k k' d d1 d' before version t (held_first source sink disk session hold reads laws.version_stands laws.change_stands laws.refused_stays laws.version_counts laws.change_counts before (disk.images d)) c.in-Ok.ensures.moments
-    (c.apply_log.ensures.safe before bytes t version (c.in-Ok.ensures.content ∙ told) st h))
-
-pub returns-in-Err-clause-continues : goal.returns-in-Err-clause-continues
-returns-in-Err-clause-continues g c = λ store f. absurd (at_log_unfinished g.K.Sink c.args.sink.now c.refuse_log.new.sink c.refuse_log.result c.in-Err.fault c.refuse_log.ensures.ends f)
-
-pub returns-in-Err-clause-safe : goal.returns-in-Err-clause-safe
-returns-in-Err-clause-safe g c =
-    let source = g.S.Source in
-    let disk = g.D.Disk in
-    let sink = g.K.Sink in
-    let session = g.A.StoredSession in
-    let only = g.met.D.Disk.only_now in
-    let hold = images_held disk g.met.D.Disk.content_is_image in
-    let reads = reads_held disk in
-    let laws = g.met.A.StoredSession in
-    let k = c.args.sink.now in
-    let d = c.args.disk.now in
-    let i = c.args.source.now in
-    let d1 = c.open_log.new.disk in
-    let k' = c.refuse_log.new.sink in
-    λ store.
-    let before = store.payloads in
-    let bytes = store.bytes in
-    let t = store.state in
-    let version = store.version in
-    let told = store.told in
-    let holds = store.holds in
-    let h = store.stands in
-    let failed = at_disk_fault g.K.Sink c.args.sink.now c.refuse_log.new.sink c.refuse_log.result c.in-Err.fault (only_disk c.in-Err.fault (disk.content d) bytes before told holds c.in-Err.ensures.log) c.refuse_log.ensures.ends in
-    elim c.in-Err.ensures.synced [
-      | inl now ↦ inr (safe_synced source sink disk session hold reads laws.version_stands laws.change_stands laws.refused_stays laws.version_counts laws.change_counts (disk.images d) i i k k' d d1 before version t refl (at_log_other g.K.Sink c.args.sink.now c.refuse_log.new.sink c.refuse_log.result c.in-Err.fault c.refuse_log.ensures.ends)
-          (synced_holds (disk.content d) bytes before (disk.images d1) told holds now) c.in-Err.ensures.moments h)
-      | inr unsynced ↦ inl (failed.0, record { unasked = refl; given = failed.1; only = c.in-Err.ensures.images; moments = c.in-Err.ensures.moments })
-    ]
-
-pub returns-in-Ok-clause-disk_fault : goal.returns-in-Ok-clause-disk_fault
-returns-in-Ok-clause-disk_fault g c =
-    let faults = g.D.Disk.faults in
-    λ e. increased_since (faults c.args.disk.now) (faults c.open_log.new.disk) (faults c.apply_log.new.disk) c.in-Ok.ensures.faults (c.apply_log.ensures.disk_fault e)
-
-pub returns-in-Err-clause-disk_fault : goal.returns-in-Err-clause-disk_fault
-returns-in-Err-clause-disk_fault g c = λ e. c.in-Err.ensures.cause (ap (λ (x : LogFault). Err x) (at_log_disk g.K.Sink c.args.sink.now c.refuse_log.new.sink c.refuse_log.result c.in-Err.fault c.refuse_log.ensures.ends e))
+    let same = as_opened disk session d d1 store made.log t0 v0 made.opened.count o in
+    let stands = store.stands ∙ ap (λ (x : session.State × Option (List ℕ)). Ok x) (sym same) in
+    let here = subst (λ (x : session.State × Option (List ℕ)). IsSafeCall source sink disk session (i, k, d1) (i', k', d') (HoldsPayloads before) before x.0 x.1) same
+    (safe_call source sink disk session hold reads laws.version_stands laws.change_stands laws.refused_stays laws.version_counts laws.change_counts i i' k k' d1 d' before v0 t0 made.log e.safe o.stands stands) in
+    inr (safe_later source sink disk session hold reads laws.version_stands laws.change_stands laws.refused_stays laws.version_counts laws.change_counts (HoldsPayloads before) (disk.images d) i i' k k' d d1 d' before store.version store.state
+    (held_first source sink disk session hold reads laws.version_stands laws.change_stands laws.refused_stays laws.version_counts laws.change_counts before (disk.images d)) c.in-Ok.ensures.opening.moments here)
 
 pub returns-in-Ok-clause-exits : goal.returns-in-Ok-clause-exits
 returns-in-Ok-clause-exits g c =
@@ -122,159 +84,152 @@ returns-in-Ok-clause-exits g c =
     let disk = g.D.Disk in
     let sink = g.K.Sink in
     let session = g.A.StoredSession in
-    let d = c.args.disk.now in
-    let d1 = c.open_log.new.disk in
-    let d' = c.apply_log.new.disk in
-    let l = c.in-Ok.log in
-    let log = c.in-Ok.ensures.log in
+    let hold = images_held disk g.met.D.Disk.content_is_image in
+    let reads = reads_held disk in
+    let laws = g.met.A.StoredSession in
     let i = c.args.source.now in
-    let i' = c.apply_log.new.source in
     let k = c.args.sink.now in
-    let k' = c.apply_log.new.sink in
+    let d = c.args.disk.now in
+    let d1 = c.open_store.new.disk in
+    let made = c.in-Ok.store in
+    let t0 = session.state made.opened.session in
+    let v0 = made.opened.version in
+    let i' = c.continue_store.new.source in
+    let k' = c.continue_store.new.sink in
+    let d' = c.continue_store.new.disk in
+    let l' = c.continue_store.new.log in
+    let t' = session.state c.continue_store.new.session in
+    let status = c.continue_store.result in
+    let e = c.continue_store.ensures in
     λ store.
+    let o = c.in-Ok.ensures.opened store in
     let before = store.payloads in
-    let bytes = store.bytes in
-    let t = store.state in
-    let version = store.version in
-    let told = store.told in
-    let holds = store.holds in
-    let h = store.stands in
-    let st = subst (λ (x : List (List ℕ)). StandsOn disk d1 l x) (same_held (disk.content d) bytes log.0 before told log.1 holds) log.2 in
-    elim (c.apply_log.ensures.exits before bytes t version (c.in-Ok.ensures.content ∙ told) st h) [
-      | inl e ↦ inl (opened_later source sink disk session i i' k k' d d1 d' before t version c.apply_log.result (record { unwritten = record { same = c.in-Ok.ensures.content; only = c.in-Ok.ensures.images; no_write = c.in-Ok.ensures.unwritten }; moments = c.in-Ok.ensures.moments; same_room = c.in-Ok.ensures.room }) e)
-      | inr u ↦ inr (unwritten_then disk d d1 d' (record { same = c.in-Ok.ensures.content; only = c.in-Ok.ensures.images; no_write = c.in-Ok.ensures.unwritten }) u.0, u.1, (u.2.0, λ e. subst (λ (o : Option ℕ). IsNone o) c.in-Ok.ensures.room (u.2.1 e)))
+    let same = as_opened disk session d d1 store made.log t0 v0 made.opened.count o in
+    let stands = store.stands ∙ ap (λ (x : session.State × Option (List ℕ)). Ok x) (sym same) in
+    let here = subst (λ (x : session.State × Option (List ℕ)). EndsOpened source sink disk session (i, k, d1) (i', k', d') before x.0 x.1 status) same
+    (opened_here source sink disk session hold reads laws.version_stands laws.change_stands laws.refused_stays laws.version_counts laws.change_counts g.met.D.Disk.only_now i i' k k' d1 d' made.log l' before v0 t0 t' status e.exits o.stands stands) in
+    inl (opened_later source sink disk session i i' k k' d d1 d' before store.state store.version status c.in-Ok.ensures.opening here)
+
+pub returns-in-Ok-clause-in_time : goal.returns-in-Ok-clause-in_time
+returns-in-Ok-clause-in_time g c =
+    λ store.
+    call_in_time g.S.Source g.K.Sink g.D.Disk g.A.StoredSession c.args.source.now c.continue_store.new.source c.args.sink.now c.continue_store.new.sink c.args.disk.now c.continue_store.new.disk
+    store.payloads store.state store.version c.continue_store.result (returns-in-Ok-clause-exits g c store)
+
+pub returns-in-Ok-clause-disk_fault : goal.returns-in-Ok-clause-disk_fault
+returns-in-Ok-clause-disk_fault g c =
+    let faults = g.D.Disk.faults in
+    λ e. increased_since (faults c.args.disk.now) (faults c.open_store.new.disk) (faults c.continue_store.new.disk) c.in-Ok.ensures.faults (c.continue_store.ensures.disk_fault e)
+
+pub returns-in-Ok-clause-causes : goal.returns-in-Ok-clause-causes
+returns-in-Ok-clause-causes g c =
+    λ store.
+    apply_cause g.S.Source g.K.Sink g.D.Disk g.A.StoredSession c.args.source.now c.continue_store.new.source store.payloads store.state store.version
+    c.args.sink.now c.continue_store.new.sink c.args.disk.now c.continue_store.new.disk store.bytes c.continue_store.result store.told (returns-in-Ok-clause-exits g c store)
+
+pub returns-in-Ok-clause-complete : goal.returns-in-Ok-clause-complete
+returns-in-Ok-clause-complete g c =
+    λ store at_source at_sink at_disk many none.
+    apply_complete g.S.Source g.K.Sink g.D.Disk g.A.StoredSession c.args.source.now c.continue_store.new.source store.payloads store.state store.version
+    c.continue_store.result (g.D.Disk.room c.args.disk.now) (returns-in-Ok-clause-causes g c store)
+    (λ e. at_source (c.continue_store.ensures.source_fault e)) (λ e. at_sink (c.continue_store.ensures.sink_fault e)) (λ e. at_disk (returns-in-Ok-clause-disk_fault g c e)) many none
+
+pub returns-in-Ok-clause-refused : goal.returns-in-Ok-clause-refused
+returns-in-Ok-clause-refused g c = λ other. absurd (c.in-Ok.ensures.refused other)
+
+-- ---- the store was not opened
+
+pub returns-in-Err-clause-continues : goal.returns-in-Err-clause-continues
+returns-in-Err-clause-continues g c = λ store f. absurd (c.refuse_store.ensures.unfinished f)
+
+pub returns-in-Err-clause-safe : goal.returns-in-Err-clause-safe
+returns-in-Err-clause-safe g c =
+    let source = g.S.Source in
+    let disk = g.D.Disk in
+    let sink = g.K.Sink in
+    let session = g.A.StoredSession in
+    let hold = images_held disk g.met.D.Disk.content_is_image in
+    let reads = reads_held disk in
+    let laws = g.met.A.StoredSession in
+    let i = c.args.source.now in
+    let k = c.args.sink.now in
+    let d = c.args.disk.now in
+    let d1 = c.open_store.new.disk in
+    let k' = c.refuse_store.new.sink in
+    let status = c.refuse_store.result in
+    let fault = c.in-Err.fault in
+    let ends = c.refuse_store.ensures.ends in
+    λ store.
+    elim (c.in-Err.ensures.held store) [
+      | inl failed ↦
+        let at_disk = unopened_at_disk sink k k' status fault (same_fault c.open_store.result fault DiskFault c.in-Err.is failed) ends in
+        inl (at_disk.0, record { unasked = refl; given = at_disk.1; only = c.in-Err.ensures.opening.unwritten.only; moments = c.in-Err.ensures.opening.moments })
+      | inr now ↦ inr (safe_synced source sink disk session hold reads laws.version_stands laws.change_stands laws.refused_stays laws.version_counts laws.change_counts (disk.images d) i i k k' d d1 store.payloads store.version store.state refl
+          (unopened_other sink k k' status fault (c.in-Err.ensures.opened store) ends) now c.in-Err.ensures.opening.moments store.stands)
     ]
 
 pub returns-in-Err-clause-exits : goal.returns-in-Err-clause-exits
 returns-in-Err-clause-exits g c =
+    let source = g.S.Source in
     let disk = g.D.Disk in
     let sink = g.K.Sink in
     let session = g.A.StoredSession in
-    let d = c.args.disk.now in
+    let hold = images_held disk g.met.D.Disk.content_is_image in
+    let reads = reads_held disk in
+    let laws = g.met.A.StoredSession in
     let i = c.args.source.now in
     let k = c.args.sink.now in
-    let k' = c.refuse_log.new.sink in
-    λ store.
-    let before = store.payloads in
-    let bytes = store.bytes in
-    let told = store.told in
-    let holds = store.holds in
-    let failed = at_disk_fault sink k k' c.refuse_log.result c.in-Err.fault (only_disk c.in-Err.fault (disk.content d) bytes before told holds c.in-Err.ensures.log) c.refuse_log.ensures.ends in
-    inr (record { same = c.in-Err.ensures.content; only = c.in-Err.ensures.images; no_write = c.in-Err.ensures.unwritten }, refl, ((inl failed.0, failed.1), λ e. c.in-Err.ensures.sure (ap (λ (x : LogFault). Err x) (at_log_disk sink k k' c.refuse_log.result c.in-Err.fault c.refuse_log.ensures.ends e))))
-
-pub returns-in-Ok-clause-refused : goal.returns-in-Ok-clause-refused
-returns-in-Ok-clause-refused g c =
-    let disk = g.D.Disk in
-    let sink = g.K.Sink in
-    let session = g.A.StoredSession in
     let d = c.args.disk.now in
-    let d1 = c.open_log.new.disk in
-    let d' = c.apply_log.new.disk in
-    let log = c.in-Ok.ensures.log in
-    λ other.
-    let bytes = other.bytes in
-    let refusal = other.reason in
-    let told = other.told in
-    let q = other.refused in
-    let is : log_of bytes ≡ payloads log.0 = at_content (disk.content d) bytes (HoldsPayloads log.0) told log.1 in
-    let e = c.apply_log.ensures.refused log.0 bytes refusal (c.in-Ok.ensures.content ∙ told) log.2 (ap (refusal_of_log session) (sym is) ∙ q) in (
-      unwritten_then disk d d1 d' (record { same = c.in-Ok.ensures.content; only = c.in-Ok.ensures.images; no_write = c.in-Ok.ensures.unwritten }) e.0,
-      e.1,
-      same_room sink disk c.args.sink.now c.apply_log.new.sink d d' c.apply_log.result d1 refusal c.in-Ok.ensures.room e.2,
-    )
-
-pub returns-in-Err-clause-refused : goal.returns-in-Err-clause-refused
-returns-in-Err-clause-refused g c =
-    let disk = g.D.Disk in
-    let sink = g.K.Sink in
-    let session = g.A.StoredSession in
-    let d = c.args.disk.now in
-    let d' = c.open_log.new.disk in
-    let i = c.args.source.now in
-    let k = c.args.sink.now in
-    let k' = c.refuse_log.new.sink in
-    λ other.
-    let bytes = other.bytes in
-    let refusal = other.reason in
-    let told = other.told in
-    let q = other.refused in
-    (record { same = c.in-Err.ensures.content; only = c.in-Err.ensures.images; no_write = c.in-Err.ensures.unwritten }, refl, log_refused sink disk k k' d d' c.refuse_log.result session c.in-Err.fault (disk.content d) bytes refusal told c.in-Err.ensures.log q (λ e. c.in-Err.ensures.sure (ap (λ (x : LogFault). Err x) e)) c.refuse_log.ensures.ends)
-
-pub returns-in-Ok-clause-causes : goal.returns-in-Ok-clause-causes
-returns-in-Ok-clause-causes g c =
-    let source = g.S.Source in
-    let disk = g.D.Disk in
-    let sink = g.K.Sink in
-    let session = g.A.StoredSession in
-    λ store.
-    let before = store.payloads in
-    let bytes = store.bytes in
-    let t = store.state in
-    let version = store.version in
-    let told = store.told in
-    apply_cause source sink disk session c.args.source.now c.apply_log.new.source before t version
-    c.args.sink.now c.apply_log.new.sink c.args.disk.now c.apply_log.new.disk bytes c.apply_log.result told (returns-in-Ok-clause-exits g c store)
-
-pub returns-in-Ok-clause-complete : goal.returns-in-Ok-clause-complete
-returns-in-Ok-clause-complete g c =
-    let source = g.S.Source in
-    let disk = g.D.Disk in
-    let sink = g.K.Sink in
-    let session = g.A.StoredSession in
-    λ store at_source at_sink at_disk many none.
-    let before = store.payloads in
-    let t = store.state in
-    let version = store.version in
-    apply_complete source sink disk session c.args.source.now c.apply_log.new.source before t version
-    c.apply_log.result (disk.room c.args.disk.now) (returns-in-Ok-clause-causes g c store)
-    (λ e. at_source (c.apply_log.ensures.source_fault e)) (λ e. at_sink (c.apply_log.ensures.sink_fault e)) (λ e. at_disk (returns-in-Ok-clause-disk_fault g c e)) many none
-
-pub returns-in-Err-clause-causes : goal.returns-in-Err-clause-causes
-returns-in-Err-clause-causes g c =
-    let source = g.S.Source in
-    let disk = g.D.Disk in
-    let sink = g.K.Sink in
-    let session = g.A.StoredSession in
-    λ store.
-    let before = store.payloads in
-    let bytes = store.bytes in
-    let t = store.state in
-    let version = store.version in
-    let told = store.told in
-    apply_cause source sink disk session c.args.source.now c.args.source.now before t version
-    c.args.sink.now c.refuse_log.new.sink c.args.disk.now c.open_log.new.disk bytes c.refuse_log.result told (returns-in-Err-clause-exits g c store)
-
-pub returns-in-Err-clause-complete : goal.returns-in-Err-clause-complete
-returns-in-Err-clause-complete g c =
-    let source = g.S.Source in
-    let disk = g.D.Disk in
-    let sink = g.K.Sink in
-    let session = g.A.StoredSession in
-    λ store at_source at_sink at_disk many none.
-    let before = store.payloads in
-    let t = store.state in
-    let version = store.version in
-    apply_complete source sink disk session c.args.source.now c.args.source.now before t version
-    c.refuse_log.result (disk.room c.args.disk.now) (returns-in-Err-clause-causes g c store)
-    (λ e. absurd (at_log_sourceless sink c.args.sink.now c.refuse_log.new.sink c.refuse_log.result c.in-Err.fault c.refuse_log.ensures.ends e)) (λ e. at_sink (c.refuse_log.ensures.sink_fault e)) (λ e. at_disk (returns-in-Err-clause-disk_fault g c e)) many none
-
-pub returns-in-Ok-clause-in_time : goal.returns-in-Ok-clause-in_time
-returns-in-Ok-clause-in_time g c =
-    let source = g.S.Source in
-    let sink = g.K.Sink in
-    let disk = g.D.Disk in
-    let session = g.A.StoredSession in
-    λ store.
-    call_in_time source sink disk session c.args.source.now c.apply_log.new.source c.args.sink.now c.apply_log.new.sink c.args.disk.now c.apply_log.new.disk store.payloads store.state store.version c.apply_log.result (returns-in-Ok-clause-exits g c store)
+    let d1 = c.open_store.new.disk in
+    let k' = c.refuse_store.new.sink in
+    let status = c.refuse_store.result in
+    let fault = c.in-Err.fault in
+    let ends = c.refuse_store.ensures.ends in
+    λ store. inr (c.in-Err.ensures.opening.unwritten, refl, fails_to_open sink disk k k' d d1 status fault (c.in-Err.ensures.opened store) (λ e. c.in-Err.ensures.sure (ap (λ (x : OpenFault). Err x) e)) ends)
 
 pub returns-in-Err-clause-in_time : goal.returns-in-Err-clause-in_time
 returns-in-Err-clause-in_time g c =
-    let source = g.S.Source in
-    let sink = g.K.Sink in
-    let disk = g.D.Disk in
-    let session = g.A.StoredSession in
     λ store.
-    call_in_time source sink disk session c.args.source.now c.args.source.now c.args.sink.now c.refuse_log.new.sink c.args.disk.now c.open_log.new.disk store.payloads store.state store.version c.refuse_log.result (returns-in-Err-clause-exits g c store)
+    call_in_time g.S.Source g.K.Sink g.D.Disk g.A.StoredSession c.args.source.now c.args.source.now c.args.sink.now c.refuse_store.new.sink c.args.disk.now c.open_store.new.disk
+    store.payloads store.state store.version c.refuse_store.result (returns-in-Err-clause-exits g c store)
+
+pub returns-in-Err-clause-source_fault : goal.returns-in-Err-clause-source_fault
+returns-in-Err-clause-source_fault g c = λ e. absurd (quiet_reads_nothing c.refuse_store.result c.refuse_store.ensures.statuses e)
+
+pub returns-in-Err-clause-disk_fault : goal.returns-in-Err-clause-disk_fault
+returns-in-Err-clause-disk_fault g c = λ e. c.in-Err.ensures.cause (ap (λ (x : OpenFault). Err x) (c.refuse_store.ensures.disk_fault e))
+
+pub returns-in-Err-clause-causes : goal.returns-in-Err-clause-causes
+returns-in-Err-clause-causes g c =
+    λ store.
+    apply_cause g.S.Source g.K.Sink g.D.Disk g.A.StoredSession c.args.source.now c.args.source.now store.payloads store.state store.version
+    c.args.sink.now c.refuse_store.new.sink c.args.disk.now c.open_store.new.disk store.bytes c.refuse_store.result store.told (returns-in-Err-clause-exits g c store)
+
+pub returns-in-Err-clause-complete : goal.returns-in-Err-clause-complete
+returns-in-Err-clause-complete g c =
+    λ store at_source at_sink at_disk many none.
+    apply_complete g.S.Source g.K.Sink g.D.Disk g.A.StoredSession c.args.source.now c.args.source.now store.payloads store.state store.version
+    c.refuse_store.result (g.D.Disk.room c.args.disk.now) (returns-in-Err-clause-causes g c store)
+    (λ e. absurd (quiet_reads_nothing c.refuse_store.result c.refuse_store.ensures.statuses e)) (λ e. at_sink (c.refuse_store.ensures.sink_fault e)) (λ e. at_disk (returns-in-Err-clause-disk_fault g c e)) many none
+
+pub returns-in-Err-clause-refused : goal.returns-in-Err-clause-refused
+returns-in-Err-clause-refused g c =
+    let source = g.S.Source in
+    let disk = g.D.Disk in
+    let sink = g.K.Sink in
+    let session = g.A.StoredSession in
+    let hold = images_held disk g.met.D.Disk.content_is_image in
+    let reads = reads_held disk in
+    let laws = g.met.A.StoredSession in
+    let i = c.args.source.now in
+    let k = c.args.sink.now in
+    let d = c.args.disk.now in
+    let d1 = c.open_store.new.disk in
+    let k' = c.refuse_store.new.sink in
+    let status = c.refuse_store.result in
+    let fault = c.in-Err.fault in
+    let ends = c.refuse_store.ensures.ends in
+    λ other. (c.in-Err.ensures.opening.unwritten, refl, ends_refused sink disk k k' d d1 status fault other.reason (c.in-Err.ensures.refused other) (λ e. c.in-Err.ensures.sure (ap (λ (x : OpenFault). Err x) e)) ends)
 
 pub returns-in-Err-clause-statuses : goal.returns-in-Err-clause-statuses
-returns-in-Err-clause-statuses g c = quiet_applies c.refuse_log.result c.refuse_log.ensures.statuses
+returns-in-Err-clause-statuses g c = quiet_applies c.refuse_store.result c.refuse_store.ensures.statuses
