@@ -1,5 +1,5 @@
 -- What stands at each end of a call over a script.
-use Rattle.command_ends.specs.Statuses.{IsFinished}
+use Rattle.command_ends.specs.Statuses.{IsFinished, end_of}
 use Rattle.std.proofs.Common.{◌≡◌, ◌⊎◌, inl, inr, ℕ, ◌+◌, ◌<◌, ◌≤◌, List, [], ◌++◌, length, Bool, true, false, Option, Some, None, option_map, Result, Ok, Err, refl, sym, ap, ap₂, subst, ◌∙◌, append-nil, append_assoc, arith}
 use Rattle.std.specs.Prelude.{IfOk}
 use Rattle.std.specs.declared.alloc.AllocError.{AllocError}

@@ -4,4 +4,3 @@ pub mod LineStops
 pub mod Report
 pub mod ScriptEnds
 pub mod ScriptSteps
-pub mod Status
