@@ -1,6 +1,6 @@
 -- The opening of a store: from its log and its payloads to its session, or to why it is refused.
 use Rattle.std.proofs.Common.{◌≡◌, ◌⊎◌, inl, inr, ℕ, List, Option, Some, None, Result, Ok, Err, IfSome, [], refl, sym, ap, ap₂, subst, ◌∙◌}
-use Rattle.std.specs.Prelude.{IsNone}
+use Rattle.std.specs.Prelude.{IsErrOf, IsNone}
 use Rattle.std.proofs.lemmas.Option.{same_Some}
 use Rattle.command_ends.specs.Statuses.{IsFinished}
 use Rattle.command_ends.specs.declared.status.Status.{Status}
@@ -27,6 +27,7 @@ use Rattle.store_run.specs.declared.session.ReopenFault.TheVariants as reopening
 use Rattle.store_run.specs.declared.session.StoredSession as OfSession
 use Rattle.store_run.proofs.Openings.{at_content, never_refused}
 use Rattle.store_run.proofs.Outcomes.{same_ok}
+use Rattle.store_run.proofs.RefusalEnds.{GivesOther}
 
 abbrev Payloads : Type 0
 Payloads = List (List ℕ)
@@ -170,9 +171,9 @@ module _ {K : Type 0} (sink : OfSink.Ghosts K) (k k' : K) (status : Status) wher
 
 -- the state and the version of a session that was opened are those of its store
 pub as_opened : {D A : Type 0} (disk : OfDisk.Ghosts D) (session : OfSession.Ghosts A) (d d' : D) (store : Store disk session d) (l : LogState) (state : session.State) (version : Option (List ℕ)) (count : ℕ)
-    → IsOpened disk session d d' store l state version count → (state, version) ≡ (store.state, store.version)
+    → IsOpened disk session d d' store l state version count → ◌≡◌ {A = session.State × Option (List ℕ)} (state, version) (store.state, store.version)
 as_opened disk session d d' store l state version count o = ap₂ (λ (x : session.State) (y : Option (List ℕ)). (x, y)) o.state_is o.version_is
 
 -- an error is one fault
-pub same_fault : {T : Type 0} (r : Result T OpenFault) (fault other : OpenFault) → r ≡ Err fault → r ≡ Err other → fault ≡ other
-same_fault r fault other e f = cc
+pub same_fault : {T : Type 0} (fault other : OpenFault) → IsErrOf {T = T} (Err fault) other → fault ≡ other
+same_fault fault other e = cc

@@ -83,12 +83,13 @@ pub fn apply<S: Source, A: StoredSession + Drop, K: Sink, D: Disk>(
     match open_store::<A, D>(alloc, disk) {
         Ok(store) => {
             let mut store = store;
+            let open = &mut store;
             continue_store(
                 alloc,
-                &mut store.opened.session,
-                &store.opened.version,
+                &mut open.session,
+                &open.version,
                 source,
-                &mut store.log,
+                &mut open.log,
                 disk,
                 sink,
             )

@@ -1,5 +1,5 @@
 //! Opening a store: its log, its payloads, and the session that they represent.
-ghost use Rattle.std.specs.Prelude.{◌≡◌, ◌⊎◌, List, ℕ, IfErr, IfOk, IsErrOf, IsNone, MatchResult, Some};
+ghost use Rattle.std.specs.Prelude.{◌≡◌, ◌⊎◌, ◌≤◌, List, ℕ, IfErr, IfOk, IsErrOf, IsNone, MatchResult, Some};
 ghost use Rattle.command_ends.specs.Statuses.{IsAmong, IsFinished, quiet_statuses};
 ghost use Rattle.lens_io.specs.Calls.{DiskFailed, SinkFailed};
 ghost use Rattle.gate_log.specs.LogOnDisk.{HoldsPayloads};
@@ -9,11 +9,12 @@ ghost use Rattle.store_run.specs.Refusals.{IsOpening};
 ghost use Rattle.store_run.specs.Stores.{RefusedStore, Store};
 
 use crate::refusals::{StoreRefusal, refuse};
-use crate::session::{Opened, ReopenFault, StoredSession};
+use crate::session::{ReopenFault, StoredSession};
 use command_ends::Status;
 use gate_log::{Log, LogFault, open_log};
 use lens_io::{Disk, Payloads, Sink};
 use std::alloc::Global;
+use texts::Bytes;
 
 /// A store that was read: its log, and all its payloads in order.
 #[derive(Drop)]
@@ -22,11 +23,17 @@ pub struct ReadStore {
     pub payloads: Payloads,
 }
 
-/// A store that was opened: its log, and the session that its payloads represent.
+/// A store that was opened.
 #[derive(Drop)]
 pub struct OpenedStore<A> {
+    /// Its log.
     pub log: Log,
-    pub opened: Opened<A>,
+    /// The session that its payloads represent.
+    pub session: A,
+    /// The version record, if it is still to be stored.
+    pub version: Option<Bytes>,
+    /// How many of the payloads are of changes.
+    pub count: u64,
 }
 
 /// Why a store was not opened.
@@ -111,7 +118,7 @@ pub fn open_store<A: StoredSession + Drop, D: Disk>(
 ) -> Result<OpenedStore<A>, OpenFault>
     ensures opened { (store : Store D.Disk A.StoredSession disk.old)
         → MatchResult result (λ made. IsOpened D.Disk A.StoredSession disk.old disk.new store
-        made.log (A.state made.opened.session) made.opened.version made.opened.count) FailsToOpen }
+        made.log (A.state made.session) made.version made.count) FailsToOpen }
     ensures refused { (other : RefusedStore D.Disk A.StoredSession disk.old)
         → MatchResult result (λ _. ⊥) (IsRefusedFor other.reason) }
     ensures held { (store : Store D.Disk A.StoredSession disk.old)
@@ -124,7 +131,12 @@ pub fn open_store<A: StoredSession + Drop, D: Disk>(
 {
     match read_store(alloc, disk) {
         Ok(read) => match A::reopen(alloc, &read.payloads) {
-            Ok(opened) => Ok(OpenedStore { log: read.log, opened }),
+            Ok(opened) => Ok(OpenedStore {
+                log: read.log,
+                session: opened.session,
+                version: opened.version,
+                count: opened.count,
+            }),
             Err(fault) => {
                 drop(read);
                 Err(OpenFault::of_payloads(fault))

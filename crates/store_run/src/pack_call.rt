@@ -74,12 +74,13 @@ pub fn pack<A: StoredSession + Drop, K: Sink, D: Disk>(
     match open_store::<A, D>(alloc, disk) {
         Ok(store) => {
             let mut store = store;
+            let open = &mut store;
             pack_session(
                 alloc,
-                &store.opened.session,
-                store.opened.count,
-                &store.opened.version,
-                &mut store.log,
+                &open.session,
+                open.count,
+                &open.version,
+                &mut open.log,
                 sink,
                 disk,
             )

@@ -111,7 +111,7 @@ fn view_store<A: StoredSession + Drop, K: Sink, D: Disk>(
     ensures sure { result ≡ Status.DiskFault → IsNone (D.room disk.old) }
 {
     match open_store::<A, D>(alloc, disk) {
-        Ok(store) => give_view(alloc, &store.opened.session, store.opened.count, view, sink),
+        Ok(store) => give_view(alloc, &store.session, store.count, view, sink),
         Err(fault) => refuse_store(alloc, fault, sink),
     }
 }

@@ -28,8 +28,9 @@ returns-in-Ok-clause-continues g c =
     let d = c.args.disk.now in
     let d1 = c.open_store.new.disk in
     let made = c.in-Ok.store in
-    let t0 = session.state made.opened.session in
-    let v0 = made.opened.version in
+    let l = made.log in
+    let t0 = session.state made.session in
+    let v0 = made.version in
     let i' = c.continue_store.new.source in
     let k' = c.continue_store.new.sink in
     let d' = c.continue_store.new.disk in
@@ -40,10 +41,10 @@ returns-in-Ok-clause-continues g c =
     λ store f.
     let o = c.in-Ok.ensures.opened store in
     let before = store.payloads in
-    let same = as_opened disk session d d1 store made.log t0 v0 made.opened.count o in
+    let same = as_opened disk session d d1 store l t0 v0 made.count o in
     let stands = store.stands ∙ ap (λ (x : session.State × Option (List ℕ)). Ok x) (sym same) in
     subst (λ (x : session.State × Option (List ℕ)). ContinuesCall source sink disk session (i, k) (i', k', d') before x.0 x.1 status) same
-    (continues_call source sink disk session hold reads laws.version_stands laws.change_stands laws.refused_stays laws.version_counts laws.change_counts i i' k k' d1 d' made.log l' before v0 t0 t' status e.exits f o.stands stands)
+    (continues_call source sink disk session hold reads laws.version_stands laws.change_stands laws.refused_stays laws.version_counts laws.change_counts i i' k k' d1 d' l l' before v0 t0 t' status e.exits f o.stands stands)
 
 pub returns-in-Ok-clause-safe : goal.returns-in-Ok-clause-safe
 returns-in-Ok-clause-safe g c =
@@ -59,8 +60,9 @@ returns-in-Ok-clause-safe g c =
     let d = c.args.disk.now in
     let d1 = c.open_store.new.disk in
     let made = c.in-Ok.store in
-    let t0 = session.state made.opened.session in
-    let v0 = made.opened.version in
+    let l = made.log in
+    let t0 = session.state made.session in
+    let v0 = made.version in
     let i' = c.continue_store.new.source in
     let k' = c.continue_store.new.sink in
     let d' = c.continue_store.new.disk in
@@ -71,10 +73,10 @@ returns-in-Ok-clause-safe g c =
     λ store.
     let o = c.in-Ok.ensures.opened store in
     let before = store.payloads in
-    let same = as_opened disk session d d1 store made.log t0 v0 made.opened.count o in
+    let same = as_opened disk session d d1 store l t0 v0 made.count o in
     let stands = store.stands ∙ ap (λ (x : session.State × Option (List ℕ)). Ok x) (sym same) in
     let here = subst (λ (x : session.State × Option (List ℕ)). IsSafeCall source sink disk session (i, k, d1) (i', k', d') (HoldsPayloads before) before x.0 x.1) same
-    (safe_call source sink disk session hold reads laws.version_stands laws.change_stands laws.refused_stays laws.version_counts laws.change_counts i i' k k' d1 d' before v0 t0 made.log e.safe o.stands stands) in
+    (safe_call source sink disk session hold reads laws.version_stands laws.change_stands laws.refused_stays laws.version_counts laws.change_counts i i' k k' d1 d' before v0 t0 l e.safe o.stands stands) in
     inr (safe_later source sink disk session hold reads laws.version_stands laws.change_stands laws.refused_stays laws.version_counts laws.change_counts (HoldsPayloads before) (disk.images d) i i' k k' d d1 d' before store.version store.state
     (held_first source sink disk session hold reads laws.version_stands laws.change_stands laws.refused_stays laws.version_counts laws.change_counts before (disk.images d)) c.in-Ok.ensures.opening.moments here)
 
@@ -92,8 +94,9 @@ returns-in-Ok-clause-exits g c =
     let d = c.args.disk.now in
     let d1 = c.open_store.new.disk in
     let made = c.in-Ok.store in
-    let t0 = session.state made.opened.session in
-    let v0 = made.opened.version in
+    let l = made.log in
+    let t0 = session.state made.session in
+    let v0 = made.version in
     let i' = c.continue_store.new.source in
     let k' = c.continue_store.new.sink in
     let d' = c.continue_store.new.disk in
@@ -104,10 +107,10 @@ returns-in-Ok-clause-exits g c =
     λ store.
     let o = c.in-Ok.ensures.opened store in
     let before = store.payloads in
-    let same = as_opened disk session d d1 store made.log t0 v0 made.opened.count o in
+    let same = as_opened disk session d d1 store l t0 v0 made.count o in
     let stands = store.stands ∙ ap (λ (x : session.State × Option (List ℕ)). Ok x) (sym same) in
     let here = subst (λ (x : session.State × Option (List ℕ)). EndsOpened source sink disk session (i, k, d1) (i', k', d') before x.0 x.1 status) same
-    (opened_here source sink disk session hold reads laws.version_stands laws.change_stands laws.refused_stays laws.version_counts laws.change_counts g.met.D.Disk.only_now i i' k k' d1 d' made.log l' before v0 t0 t' status e.exits o.stands stands) in
+    (opened_here source sink disk session hold reads laws.version_stands laws.change_stands laws.refused_stays laws.version_counts laws.change_counts g.met.D.Disk.only_now i i' k k' d1 d' l l' before v0 t0 t' status e.exits o.stands stands) in
     inl (opened_later source sink disk session i i' k k' d d1 d' before store.state store.version status c.in-Ok.ensures.opening here)
 
 pub returns-in-Ok-clause-in_time : goal.returns-in-Ok-clause-in_time
@@ -162,7 +165,7 @@ returns-in-Err-clause-safe g c =
     λ store.
     elim (c.in-Err.ensures.held store) [
       | inl failed ↦
-        let at_disk = unopened_at_disk sink k k' status fault (same_fault c.open_store.result fault DiskFault c.in-Err.is failed) ends in
+        let at_disk = unopened_at_disk sink k k' status fault (same_fault fault DiskFault failed) ends in
         inl (at_disk.0, record { unasked = refl; given = at_disk.1; only = c.in-Err.ensures.opening.unwritten.only; moments = c.in-Err.ensures.opening.moments })
       | inr now ↦ inr (safe_synced source sink disk session hold reads laws.version_stands laws.change_stands laws.refused_stays laws.version_counts laws.change_counts (disk.images d) i i k k' d d1 store.payloads store.version store.state refl
           (unopened_other sink k k' status fault (c.in-Err.ensures.opened store) ends) now c.in-Err.ensures.opening.moments store.stands)

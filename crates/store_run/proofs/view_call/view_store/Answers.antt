@@ -12,7 +12,7 @@ returns-in-Ok-clause-views g c =
     λ store.
     let o = c.in-Ok.ensures.opened store in
     subst (λ (n : ℕ). Views g.K.Sink c.args.sink.now c.give_view.new.sink (view_text session c.args.view store.state n) c.give_view.result) o.counted
-    (subst (λ (t : session.State). Views g.K.Sink c.args.sink.now c.give_view.new.sink (view_text session c.args.view t made.opened.count) c.give_view.result) o.state_is c.give_view.ensures.views)
+    (subst (λ (t : session.State). Views g.K.Sink c.args.sink.now c.give_view.new.sink (view_text session c.args.view t made.count) c.give_view.result) o.state_is c.give_view.ensures.views)
 
 pub returns-in-Ok-clause-refused : goal.returns-in-Ok-clause-refused
 returns-in-Ok-clause-refused g c = λ other. absurd (c.in-Ok.ensures.refused other)
