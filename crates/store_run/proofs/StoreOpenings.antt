@@ -9,7 +9,7 @@ use Rattle.lens_io.specs.Calls.{Gave}
 use Rattle.lens_io.specs.declared.disk.Disk as OfDisk
 use Rattle.lens_io.specs.declared.sink.Sink as OfSink
 use Rattle.gate_log.specs.CallEnds.{IsLogRefusal, IsPayloadsFault, NoBadRecord}
-use Rattle.gate_log.specs.LogBytes.{payloads, log_of}
+use Rattle.gate_log.specs.LogBytes.{LogContent, payloads, not_a_log, bad_record, log_of}
 use Rattle.gate_log.specs.LogOnDisk.{LogState, HoldsPayloads}
 use Rattle.gate_log.specs.declared.fault.LogFault.{LogFault}
 use Rattle.gate_log.specs.declared.fault.LogFault.TheVariants as log
@@ -74,10 +74,33 @@ no_disk_of_payloads (reopening.BadRecord n) e = cc
 no_disk_of_payloads (reopening.NotConsistent n) e = cc
 no_disk_of_payloads reopening.NoMemory e = cc
 
+-- a log is read, unless the disk fails or memory runs out
+pub unread_log : (bytes : List ℕ) (held : Payloads) → HoldsPayloads held bytes → (fault : OpenFault) → IsUnreadFor bytes fault → FailsToOpen fault
+unread_log bytes held holds (Refused NotALog) h = let never = sym holds ∙ h in cc
+unread_log bytes held holds (Refused (BadRecord n)) h = let never = sym holds ∙ h in cc
+unread_log bytes held holds (Refused LogExists) h = h
+unread_log bytes held holds (Refused LogFull) h = h
+unread_log bytes held holds (Refused (NotConsistent n)) h = h
+unread_log bytes held holds (Refused NothingToUndo) h = h
+unread_log bytes held holds DiskFault h = tt
+unread_log bytes held holds NoMemory h = tt
+
+-- bytes that are no log are refused for that; `refuse` says why the content of a log is refused
+pub refused_by_log : (refuse : LogContent → Option StoreRefusal) (bytes : List ℕ) (reason : StoreRefusal) → refuse (log_of bytes) ≡ Some reason → refuse not_a_log ≡ Some NotALog
+    → ((n : ℕ) → refuse (bad_record n) ≡ Some (BadRecord n)) → (fault : OpenFault) → IsUnreadFor bytes fault → IsRefusedFor reason fault
+refused_by_log refuse bytes reason q none bad (Refused NotALog) h = same_Some NotALog reason (sym none ∙ ap refuse (sym h) ∙ q)
+refused_by_log refuse bytes reason q none bad (Refused (BadRecord n)) h = same_Some (BadRecord n) reason (sym (bad n) ∙ ap refuse (sym h) ∙ q)
+refused_by_log refuse bytes reason q none bad (Refused LogExists) h = absurd h
+refused_by_log refuse bytes reason q none bad (Refused LogFull) h = absurd h
+refused_by_log refuse bytes reason q none bad (Refused (NotConsistent n)) h = absurd h
+refused_by_log refuse bytes reason q none bad (Refused NothingToUndo) h = absurd h
+refused_by_log refuse bytes reason q none bad DiskFault h = tt
+refused_by_log refuse bytes reason q none bad NoMemory h = tt
+
 -- ---- the session
 
 -- a log holds the same payloads, however they are found
-same_payloads : (bytes : List ℕ) (held before : Payloads) → HoldsPayloads held bytes → HoldsPayloads before bytes → held ≡ before
+pub same_payloads : (bytes : List ℕ) (held before : Payloads) → HoldsPayloads held bytes → HoldsPayloads before bytes → held ≡ before
 same_payloads bytes held before h k = let two = sym h ∙ k in cc
 
 module _ {D A : Type 0} (disk : OfDisk.Ghosts D) (session : OfSession.Ghosts A) (d d' : D) where
@@ -97,14 +120,7 @@ module _ {D A : Type 0} (disk : OfDisk.Ghosts D) (session : OfSession.Ghosts A) 
   -- ---- a store that is not opened
 
   pub unread_store : (store : Store disk session d) (fault : OpenFault) → IsUnreadFor store.bytes fault → FailsToOpen fault
-  unread_store store (Refused NotALog) h = let never = sym store.holds ∙ h in cc
-  unread_store store (Refused (BadRecord n)) h = let never = sym store.holds ∙ h in cc
-  unread_store store (Refused LogExists) h = h
-  unread_store store (Refused LogFull) h = h
-  unread_store store (Refused (NotConsistent n)) h = h
-  unread_store store (Refused NothingToUndo) h = h
-  unread_store store DiskFault h = tt
-  unread_store store NoMemory h = tt
+  unread_store store = unread_log store.bytes store.payloads store.holds
 
   reopened_as : (r : Result (session.State × Option (List ℕ)) ReopenFault) (made : session.State × Option (List ℕ)) (fault : ReopenFault) → r ≡ Ok made → IsReopenFault r fault → FailsToOpen (fault_of_payloads fault)
   reopened_as r made (reopening.BadRecord n) e is = let never = sym e ∙ is in cc
@@ -119,14 +135,7 @@ module _ {D A : Type 0} (disk : OfDisk.Ghosts D) (session : OfSession.Ghosts A) 
   -- ---- bytes that are refused
 
   pub unread_refused : (other : RefusedStore disk session d) (fault : OpenFault) → IsUnreadFor other.bytes fault → IsRefusedFor other.reason fault
-  unread_refused other (Refused NotALog) h = same_Some NotALog other.reason (ap (refusal_of_log session) (sym h) ∙ other.refused)
-  unread_refused other (Refused (BadRecord n)) h = same_Some (BadRecord n) other.reason (ap (refusal_of_log session) (sym h) ∙ other.refused)
-  unread_refused other (Refused LogExists) h = absurd h
-  unread_refused other (Refused LogFull) h = absurd h
-  unread_refused other (Refused (NotConsistent n)) h = absurd h
-  unread_refused other (Refused NothingToUndo) h = absurd h
-  unread_refused other DiskFault h = tt
-  unread_refused other NoMemory h = tt
+  unread_refused other = refused_by_log (refusal_of_log session) other.bytes other.reason other.refused refl (λ n. refl)
 
   refused_payloads : (other : RefusedStore disk session d) (found : Payloads) → HoldsPayloads found other.bytes → refusal_of_payloads (session.stands_for found) ≡ Some other.reason
   refused_payloads other found holds = ap (refusal_of_log session) (sym holds) ∙ other.refused

@@ -137,7 +137,7 @@ module _ {K D : Type 0} (sink : OfSink.Ghosts K) (disk : OfDisk.Ghosts D) (befor
         let now = front_stands before front rest u.now h e in
         record { front = front; rest = rest; parts = e; holds = holds; version = now.0; stand = now.1 }
 
-    holds_before : (c : List ℕ) → HoldsPayloads before c → HoldsNow before u c
+    pub holds_before : (c : List ℕ) → HoldsPayloads before c → HoldsNow before u c
     holds_before c holds = holds_now [] version c refl (subst (λ (x : List (List ℕ)). HoldsPayloads x c) (sym (append-nil before)) holds)
 
     stop_unstored : (k k1 : K) (d d' : D) (l l' : LogState) (stop : Stop) → StoresNone (status_of stop) → StandsOn disk d l before → StopsAt k d l k1 d' l' stop

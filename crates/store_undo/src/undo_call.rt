@@ -16,10 +16,10 @@ ghost use Rattle.store_undo.specs.UndoRecords.{version_due, snapshot_text, undo_
 
 use crate::making::{Making, MakingFault, make};
 use command_ends::Status;
-use gate_log::{Log, open_log};
+use gate_log::Log;
 use lens_io::{Disk, Payloads, Sink};
 use std::alloc::Global;
-use store_run::{give_stop, pack_store, refuse, refuse_log};
+use store_run::{give_stop, pack_store, read_store, refuse, refuse_store};
 
 /// Opens a store, and takes its documents and its complement back to what they were before the last `count` changes.
 ///
@@ -71,40 +71,12 @@ pub fn undo<K: Sink, D: Disk>(alloc: Global, count: u64, sink: &mut K, disk: &mu
     ensures sink_fault { result ≡ Status.SinkFault → SinkFailed K.Sink sink.old sink.new }
     ensures disk_fault { result ≡ Status.DiskFault → DiskFailed D.Disk disk.old disk.new }
 {
-    match open_log(disk) {
-        Ok(log) => {
-            let mut log = log;
-            undo_log(alloc, count, &mut log, sink, disk)
+    match read_store(alloc, disk) {
+        Ok(store) => {
+            let mut log = store.log;
+            undo_payloads(alloc, count, store.payloads, &mut log, sink, disk)
         }
-        Err(fault) => refuse_log(alloc, fault, sink),
-    }
-}
-
-// Undoes the last changes of a store whose log was opened.
-fn undo_log<K: Sink, D: Disk>(
-    alloc: Global,
-    count: u64,
-    log: &mut Log,
-    sink: &mut K,
-    disk: &mut D,
-) -> Status
-    requires stands { (base : List (List ℕ)) × StandsOn D.Disk disk.old log.old base }
-    ensures ends { (before : List (List ℕ)) (bytes : List ℕ) (u : Undoing)
-        → D.content disk.old ≡ Some bytes → StandsOn D.Disk disk.old log.old before
-        → undoing count before ≡ Some u
-        → UndoEnds K.Sink D.Disk (sink.old, disk.old) (sink.new, disk.new) before u result }
-    ensures refused { (before : List (List ℕ)) (bytes : List ℕ) (refusal : StoreRefusal)
-        → D.content disk.old ≡ Some bytes → StandsOn D.Disk disk.old log.old before
-        → undo_refusal count before ≡ Some refusal
-        → IsUnwritten D.Disk disk.old disk.new
-        × EndsRefused K.Sink D.Disk (sink.old, disk.old) (sink.new, disk.new) refusal result }
-    ensures statuses { IsAmong quiet_statuses result }
-    ensures sink_fault { result ≡ Status.SinkFault → SinkFailed K.Sink sink.old sink.new }
-    ensures disk_fault { result ≡ Status.DiskFault → DiskFailed D.Disk disk.old disk.new }
-{
-    match log.payloads(alloc, disk) {
-        Ok(payloads) => undo_payloads(alloc, count, payloads, log, sink, disk),
-        Err(fault) => refuse_log(alloc, fault, sink),
+        Err(fault) => refuse_store(alloc, fault, sink),
     }
 }
 
