@@ -12,9 +12,6 @@ use Rattle.command_ends.specs.declared.status.Status.TheVariants.{Usage, SourceF
 abbrev Not : Status → Status → Type 0
 Not other status = status ≡ other → ⊥
 
-pub quiet_reads_nothing : (status : Status) → IsAmong quiet_statuses status → status ≡ SourceFault → ⊥
-quiet_reads_nothing status among = each (Not SourceFault) quiet_statuses status ((λ e. cc), ((λ e. cc), ((λ e. cc), ((λ e. cc), ((λ e. cc), tt))))) among
-
 pub gen_reads_nothing : (status : Status) → IsAmong gen_statuses status → status ≡ SourceFault → ⊥
 gen_reads_nothing status among = each (Not SourceFault) gen_statuses status ((λ e. cc), ((λ e. cc), ((λ e. cc), tt))) among
 

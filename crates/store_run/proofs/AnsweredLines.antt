@@ -16,6 +16,7 @@ use Rattle.edit_journal.specs.declared.line.Line.{Line}
 use Rattle.edit_journal.proofs.Feeding.{lines_at, joins, in_front}
 use Rattle.script_input.specs.Taking.{TakenInput, TakesMore, TakesNone, StopsAt, CallsOnce}
 use Rattle.script_input.specs.declared.limits.TheConstants.{MOST_BYTES}
+use Rattle.script_input.proofs.LastCalls.{but_last}
 use Rattle.store_run.specs.Answered.{ended_lines, Answers, StopsAmong, AllAt, AnswersFirst, StopsPieces, EndsPieces, ComesOn, AnswersThenTakes, StopsTurn}
 use Rattle.store_run.specs.Effects.{HoldsFirst, StandsOn, Adds, Stops}
 use Rattle.store_run.specs.OkLines.{IsAnswer}
@@ -28,7 +29,7 @@ use Rattle.store_run.specs.declared.stop.Stop.{Stop}
 use Rattle.store_run.specs.declared.stop.Stop.TheVariants.{LogFull, SourceFault, SinkFault, DiskFault, TooLong, NoMemory}
 use Rattle.store_run.proofs.Effects.{adds_none, adds_then, stops_then}
 use Rattle.store_run.proofs.RunParts.{text_append, kept_append, refused_then, last_append, chain_append, are_append, goes_none, goes_then, goes_blank, goes_one}
-use Rattle.store_run.proofs.InTime.{but_last, answered_first, answered_longer, answered_by, answered_take}
+use Rattle.store_run.proofs.InTime.{answered_first, answered_longer, answered_by, answered_take}
 use Rattle.texts.proofs.Tests.{or_false}
 
 abbrev pub progress_at : ℕ → Bool → Progress

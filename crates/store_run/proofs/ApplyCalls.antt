@@ -38,10 +38,6 @@ Payloads = List (List ℕ)
 
 -- ---- what is held is told once
 
-pub same_held : (content : Option (List ℕ)) (bytes : List ℕ) (held before : Payloads) → content ≡ Some bytes → IfSome content (HoldsPayloads held) → HoldsPayloads before bytes → held ≡ before
-same_held None bytes held before e h k = cc
-same_held (Some b) bytes held before e h k = let same : b ≡ bytes = same_Some b bytes e in let two = sym h ∙ ap log_of same ∙ k in cc
-
 module _ {S K D A : Type 0} (source : OfSource.Ghosts S) (sink : OfSink.Ghosts K) (disk : OfDisk.Ghosts D) (session : OfSession.Ghosts A)
     (images_hold : (l : LogState) (d : D) (base : Payloads) (c : List ℕ) → StandsOn disk d l base → disk.images d c → HoldsPayloads base c)
     (read_holds : (l : LogState) (d : D) (base : Payloads) → StandsOn disk d l base → IfSome (disk.content d) (HoldsPayloads base))
@@ -210,22 +206,3 @@ opened_later source sink disk session i i' k k' d d1 d' before t version status 
   stand = o.stand;
   each = o.each;
 }
-
--- a log that holds payloads is refused for a fault of the disk alone
-pub only_disk : (fault : LogFault) (content : Option (List ℕ)) (bytes : List ℕ) (before : Payloads) → content ≡ Some bytes → HoldsPayloads before bytes → IsLogRefusal content fault → fault ≡ log.DiskFault
-only_disk log.DiskFault content bytes before e h r = refl
-only_disk log.NotALog None bytes before e h r = cc
-only_disk log.NotALog (Some b) bytes before e h r = let same : b ≡ bytes = same_Some b bytes e in let two = sym r ∙ ap log_of same ∙ h in cc
-only_disk (log.BadRecord number) None bytes before e h r = cc
-only_disk (log.BadRecord number) (Some b) bytes before e h r = let same : b ≡ bytes = same_Some b bytes e in let two = sym r ∙ ap log_of same ∙ h in cc
-only_disk log.LogExists content bytes before e h r = absurd r
-only_disk log.LogFull content bytes before e h r = absurd r
-only_disk log.NoMemory content bytes before e h r = absurd r
-
-pub synced_holds : (content : Option (List ℕ)) (bytes : List ℕ) (before : Payloads) (images : List ℕ → Type 0) → content ≡ Some bytes → HoldsPayloads before bytes → IfSome content (λ b. Only b images) → (c : List ℕ) → images c → HoldsPayloads before c
-synced_holds None bytes before images e h only c is = cc
-synced_holds (Some b) bytes before images e h only c is = ap log_of (only c is ∙ same_Some b bytes e) ∙ h
-
-pub at_some : {A : Type 0} (o : Option A) (a : A) (P : Type 0) → o ≡ Some a → IfSome o (λ _. P) → P
-at_some None a P e h = cc
-at_some (Some b) a P e h = h

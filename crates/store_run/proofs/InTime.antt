@@ -34,12 +34,6 @@ starts_shorter text xs ys h =
 
 -- ---- the lines of the first of some bytes
 
--- what was there before a piece
-pub but_last : (earlier piece : List ℕ) (n : ℕ) → n ≡ length piece → take (length (earlier ++ piece) - n) (earlier ++ piece) ≡ earlier
-but_last earlier piece n e =
-    let less : length (earlier ++ piece) - n ≡ length earlier = omega (arith, e, length-append earlier piece) in
-    ap (λ (k : ℕ). take k (earlier ++ piece)) less ∙ take-append_seam earlier piece
-
 ended_then : (earlier piece : List ℕ) → ended_lines (earlier ++ piece) ≡ ended_lines earlier ++ (fed (lines_at [] (fed nothing_fed earlier).begun) piece).ended
 ended_then earlier piece =
     ap (λ (f : FedLines). f.ended) (

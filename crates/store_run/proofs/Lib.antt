@@ -4,7 +4,6 @@ pub mod ApplyCausesHold
 pub mod ApplyEndsHold
 pub mod ChangeCounts
 pub mod CrashSafety
-pub mod Decimals
 pub mod Effects
 pub mod InTime
 pub mod InTimeEnds

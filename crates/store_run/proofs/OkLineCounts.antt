@@ -6,6 +6,7 @@ use Rattle.std.proofs.lemmas.List.{take-append-le, take-append-drop, length-drop
 use Rattle.std.proofs.lemmas.Bool.{ltb-true, ltb-false}
 use Rattle.edit_journal.specs.Pieces.{has_no_end}
 use Rattle.edit_journal.proofs.Feeding.{both_plain}
+use Rattle.script_input.proofs.Fronts.{cut_last}
 use Rattle.store_run.specs.Effects.{IsProperFront}
 use Rattle.store_run.specs.OkLines.{cut, begins_ok, is_ok_line, ok_lines, IsLine, IsOtherLine, AllOther}
 use Rattle.store_run.specs.StoreRuns.{AreAnswers, text_of, kept_of}
@@ -22,16 +23,6 @@ cut_line (byte ∷ bytes) rest plain =
     let parts = both_plain byte bytes plain in
     ap (λ b. cond b ((byte ∷ []) ∷ cut ((bytes ++ 10 ∷ []) ++ rest)) (onto_first byte (cut ((bytes ++ 10 ∷ []) ++ rest)))) parts.0
     ∙ ap (onto_first byte) (cut_line bytes rest parts.1)
-
--- bytes without an LF are one line, or none
-cut_plain : (byte : ℕ) (bytes : List ℕ) → has_no_end (byte ∷ bytes) ≡ true → cut (byte ∷ bytes) ≡ (byte ∷ bytes) ∷ []
-cut_plain byte [] plain =
-    let parts = both_plain byte [] plain in
-    ap (λ b. cond b ((byte ∷ []) ∷ []) (onto_first byte [])) parts.0
-cut_plain byte (next ∷ bytes) plain =
-    let parts = both_plain byte (next ∷ bytes) plain in
-    ap (λ b. cond b ((byte ∷ []) ∷ cut (next ∷ bytes)) (onto_first byte (cut (next ∷ bytes)))) parts.0
-    ∙ ap (onto_first byte) (cut_plain next bytes parts.1)
 
 has_end : (text : List ℕ) → has_no_end (text ++ 10 ∷ []) ≡ false
 has_end [] = refl
@@ -63,7 +54,7 @@ count_line line rest h =
 pub count_plain : (bytes : List ℕ) → has_no_end bytes ≡ true → ok_lines bytes ≡ 0
 count_plain [] plain = refl
 count_plain (byte ∷ bytes) plain =
-    ap (λ (x : List (List ℕ)). length (filter is_ok_line x)) (cut_plain byte bytes plain)
+    ap (λ (x : List (List ℕ)). length (filter is_ok_line x)) (cut_last byte bytes plain)
     ∙ none_more (byte ∷ bytes) (begins_ok (byte ∷ bytes)) (has_no_end (byte ∷ bytes)) plain
 
 -- ---- a prefix of a line

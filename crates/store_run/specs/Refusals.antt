@@ -41,21 +41,6 @@ module _ {K : Type 0} (sink : OfSink.Ghosts K) (old new : K) where
       ⊎ (status ≡ ending.SinkFault) × GaveFront sink old new (refusal_line refusal)
       ⊎ (status ≡ ending.NoMemory) × Gave sink old new []
 
-  -- the end at a fault of the log: a fault of the disk, and running out of memory, write no line
-  abbrev pub EndsAtLog : LogFault → Status → Type 0
-  EndsAtLog log.NotALog status = Refuses NotALog status
-  EndsAtLog (log.BadRecord number) status = Refuses (BadRecord number) status
-  EndsAtLog log.LogExists status = Refuses LogExists status
-  EndsAtLog log.LogFull status = Refuses LogFull status
-  EndsAtLog log.DiskFault status = (status ≡ ending.DiskFault) × Gave sink old new []
-  EndsAtLog log.NoMemory status = (status ≡ ending.NoMemory) × Gave sink old new []
-
-  -- the end at payloads that stand for no session
-  abbrev pub EndsAtPayloads : ReopenFault → Status → Type 0
-  EndsAtPayloads (reopening.BadRecord number) status = Refuses (BadRecord number) status
-  EndsAtPayloads (reopening.NotConsistent number) status = Refuses (NotConsistent number) status
-  EndsAtPayloads reopening.NoMemory status = (status ≡ ending.NoMemory) × Gave sink old new []
-
   -- the disk failed, or memory ran out, and nothing was written
   abbrev pub FailsEarly : Status → Type 0
   FailsEarly status = ((status ≡ ending.DiskFault) ⊎ (status ≡ ending.NoMemory)) × Gave sink old new []
