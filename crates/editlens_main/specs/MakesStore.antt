@@ -1,4 +1,4 @@
--- What `init` promises. What it takes, writes and stores at each status is defined in store_new, for `init` by store_new.
+-- What `init` promises. What it takes, writes and stores at each status is defined in store_new.
 use Rattle.std.specs.Prelude.{◌≡◌, ◌⊎◌, ◌<◌, length, IfSome}
 use Rattle.lens_io.specs.declared.disk.Disk as OfDisk
 use Rattle.lens_io.specs.declared.sink.Sink as OfSink
