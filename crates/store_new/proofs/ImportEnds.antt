@@ -20,7 +20,7 @@ use Rattle.store_run.specs.declared.refusals.StoreRefusal.TheVariants.{LogExists
 use Rattle.store_session.specs.Stands.{at_start, stands}
 use Rattle.store_session.specs.Standings.{standing}
 use Rattle.store_session.specs.Written.{the_change}
-use Rattle.store_session.proofs.WrittenStands.{one_stands}
+use Rattle.store_session.specs.WrittenStands.{one_stands}
 use Rattle.texts.specs.declared.side.Side.TheVariants.{Left}
 use Rattle.store_new.specs.NewEnds.{GivesLine, StopsAfter, Ends}
 use Rattle.store_new.specs.NewRooms.{PlanHasNoRoom, ScriptHasNoRoom}

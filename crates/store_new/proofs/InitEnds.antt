@@ -17,7 +17,7 @@ use Rattle.store_run.specs.Refusals.{refusal_line}
 use Rattle.store_run.specs.declared.refusals.StoreRefusal.TheVariants.{LogExists}
 use Rattle.store_records.specs.RecordJson.{tree_of_program}
 use Rattle.store_session.specs.Stands.{at_start, stands}
-use Rattle.store_session.proofs.WrittenStands.{program_alone_stands}
+use Rattle.store_session.specs.WrittenStands.{program_alone_stands}
 use Rattle.store_new.specs.NewEnds.{StopsAfter, Ends}
 use Rattle.store_new.specs.ScriptReading.{ReadsScript, RefusesWith}
 use Rattle.store_new.specs.Init.{program_payload, Begins, Starts, init_command}

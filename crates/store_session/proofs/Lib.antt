@@ -1,8 +1,6 @@
 pub mod AcceptedDepths
 pub mod AnswerLines
 pub mod AnswersMade
-pub mod Appending
-pub mod ConsistencyDecided
 pub mod JournalRuns
 pub mod LastTriple
 pub mod NoLineEnd
@@ -10,4 +8,3 @@ pub mod Openings
 pub mod RecordOrder
 pub mod SnapshotParts
 pub mod StatesInStep
-pub mod WrittenStands

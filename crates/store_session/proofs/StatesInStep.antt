@@ -22,7 +22,7 @@ use Rattle.store_records.specs.declared.record_fault.ReopenFault.{ReopenFault as
 use Rattle.store_records.specs.declared.record_fault.ReopenFault.TheVariants.{BadRecord, NotConsistent}
 use Rattle.store_session.specs.ConsistencyTest.{is_consistent}
 use Rattle.store_session.specs.Stands.{Standing, after_record, after_step, after_triple, is_too_new, step_of, triple_of, stands}
-use Rattle.store_session.proofs.ConsistencyDecided.{consistent_if}
+use Rattle.store_session.specs.ConsistencyDecided.{consistent_if}
 use Rattle.store_session.specs.Journals.{IsStateInStep}
 use Rattle.store_session.specs.StoodInduction.{all_stood}
 use Rattle.store_session.specs.StoredStates.{StoredState, state_of, version_for, opened_as, stands_for}

@@ -1,4 +1,6 @@
 pub mod AnswerSteps
+pub mod Appending
+pub mod ConsistencyDecided
 pub mod ConsistencyTest
 pub mod Journals
 pub mod PayloadLaws
@@ -12,3 +14,4 @@ pub mod TypedStores
 pub mod VersionRecords
 pub mod VersionsOfStores
 pub mod Written
+pub mod WrittenStands

@@ -13,8 +13,8 @@ use Rattle.store_run.specs.declared.session.Answer.{Answer}
 use Rattle.store_session.specs.Stands.{Standing, after_record, stands, step_of}
 use Rattle.store_session.specs.Standings.{standing}
 use Rattle.store_session.specs.Written.{the_change, the_snapshot, HasRecord}
-use Rattle.store_session.proofs.Appending.{stands_append}
-use Rattle.store_session.proofs.WrittenStands.{one_stands}
+use Rattle.store_session.specs.Appending.{stands_append}
+use Rattle.store_session.specs.WrittenStands.{one_stands}
 use Rattle.store_session.specs.StoredStates.{StoredState, state_of, version_text, version_for, opened_as, stands_for, counted, count_of, answer, ReadsAsChange, IsStep, IsSnapshot}
 use Rattle.store_session.specs.AnswerSteps.{Fit, fit_of_line, Steps, kinds}
 use Rattle.store_session.specs.TypedStores.{typed_stood}

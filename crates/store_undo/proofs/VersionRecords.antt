@@ -12,8 +12,8 @@ use Rattle.store_records.specs.RecordJson.{tree_of_version, version_record, reco
 use Rattle.store_records.specs.declared.record_fault.ReopenFault.TheVariants.{BadRecord}
 use Rattle.store_session.specs.Stands.{Standing, after_record, stands}
 use Rattle.store_session.specs.Written.{the_snapshot}
-use Rattle.store_session.proofs.Appending.{stands_append}
-use Rattle.store_session.proofs.WrittenStands.{one_stands}
+use Rattle.store_session.specs.Appending.{stands_append}
+use Rattle.store_session.specs.WrittenStands.{one_stands}
 use Rattle.store_session.specs.StoredStates.{IsSnapshot, state_with}
 use Rattle.store_session.specs.TypedStores.{typed_stood}
 use Rattle.store_undo.specs.UndoRecords.{version_due, version_then}

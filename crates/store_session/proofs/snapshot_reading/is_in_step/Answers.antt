@@ -2,7 +2,7 @@ use Rattle.std.proofs.Common.{rules}
 use Rattle.doc_values.specs.Documents.{doc_tree}
 use Rattle.lens_core.specs.Complements.{comp_tree}
 use Rattle.lens_forms.specs.Forms.{form_tree}
-use Rattle.store_session.proofs.ConsistencyDecided.{all_decided}
+use Rattle.store_session.specs.ConsistencyDecided.{all_decided}
 use Rattle.store_session.proofs.snapshot_reading.is_in_step.Goals as goal
 
 pub returns-clause-tested : goal.returns-clause-tested

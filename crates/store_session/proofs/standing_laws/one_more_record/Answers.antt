@@ -1,4 +1,4 @@
-use Rattle.store_session.proofs.Appending.{stands_append}
+use Rattle.store_session.specs.Appending.{stands_append}
 use Rattle.store_session.proofs.standing_laws.one_more_record.Goals as goal
 
 pub returns : goal.returns

@@ -1,4 +1,4 @@
-use Rattle.store_session.proofs.WrittenStands.{first_program_stands, program_alone_stands}
+use Rattle.store_session.specs.WrittenStands.{first_program_stands, program_alone_stands}
 use Rattle.store_session.proofs.standing_laws.program_stands.Goals as goal
 
 pub returns-clause-current : goal.returns-clause-current

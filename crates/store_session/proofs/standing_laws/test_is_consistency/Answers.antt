@@ -1,4 +1,4 @@
-use Rattle.store_session.proofs.ConsistencyDecided.{consistent_if, consistent_then}
+use Rattle.store_session.specs.ConsistencyDecided.{consistent_if, consistent_then}
 use Rattle.store_session.proofs.standing_laws.test_is_consistency.Goals as goal
 
 pub returns-clause-consistent : goal.returns-clause-consistent

@@ -1,4 +1,4 @@
-use Rattle.store_session.proofs.WrittenStands.{one_stands, all_stand}
+use Rattle.store_session.specs.WrittenStands.{one_stands, all_stand}
 use Rattle.store_session.proofs.standing_laws.written_records_stand.Goals as goal
 
 pub returns-clause-one : goal.returns-clause-one

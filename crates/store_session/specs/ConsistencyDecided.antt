@@ -1,4 +1,5 @@
 -- The test of consistency is true if and only if the three are consistent.
+-- Lemmas, which stand here since the laws of an `impl` cite them.
 use Rattle.std.proofs.Common.{◌≡◌, Bool, true, false, ◌&&◌, Option, None, Some, Result, Ok, Err, IfOk, refl}
 use Rattle.std.specs.Prelude.{◌↔◌, IsTrue}
 use Rattle.texts.proofs.Conjunction.{first, second, both}

@@ -1,4 +1,5 @@
 -- What this program writes stands.
+-- Lemmas, which stand here since the laws of an `impl` cite them.
 use Rattle.std.proofs.Common.{◌≡◌, ℕ, ◌+◌, Bool, true, false, cond, not, List, [], ◌∷◌, ◌++◌, length, map, Option, Some, option_map, option_and_then, Ok, Err, refl, sym, ap, subst, ◌∙◌}
 use Rattle.std.specs.Prelude.{nat_eq}
 use Rattle.std.proofs.lemmas.List.{append-nil, append_assoc}
@@ -27,8 +28,8 @@ use Rattle.store_records.proofs.RecordsAreRead.{program_read, first_program_read
 use Rattle.store_session.specs.ConsistencyTest.{is_consistent}
 use Rattle.store_session.specs.Stands.{Standing, step_of, is_too_new, after_step, triple_of, after_triple, after_record, at_start, from_opening, stands}
 use Rattle.store_session.specs.Written.{WrittenRecord, the_version, the_change, the_snapshot, tree_of_written, HasRecord, StandsAfter, ReadsAs, AreWritten}
-use Rattle.store_session.proofs.ConsistencyDecided.{consistent_then}
-use Rattle.store_session.proofs.Appending.{stands_append}
+use Rattle.store_session.specs.ConsistencyDecided.{consistent_then}
+use Rattle.store_session.specs.Appending.{stands_append}
 use Rattle.std.proofs.lemmas.Bool.{eq-eqb}
 
 -- a change that has a record is read from its tree
