@@ -2,7 +2,7 @@
 
 ghost use Rattle.std.specs.Prelude.{◌≡◌, Some};
 ghost use Rattle.lens_forms.specs.Forms.{form_tree};
-ghost use Rattle.store_records.specs.StoredLens.{stored_form};
+ghost use Rattle.store_records.specs.StoredLens.{stored_lens};
 
 use anyhow::{Result, bail};
 use lens_check::conforms;
@@ -12,7 +12,7 @@ use lens_run::Checked;
 use lens_types::Typed;
 use std::alloc::Global;
 use std::str;
-use store_records::{ReopenFault, snapshot_payload, stored_lens};
+use store_records::{ReopenFault, StoredLens, snapshot_payload, stored_lens};
 use store_session::{Opened, reopen};
 use texts::Twin;
 
@@ -20,17 +20,17 @@ use texts::Twin;
 /// `bad-record NUMBER` or `not-consistent NUMBER`. It is refused if memory runs out.
 pub fn answer(alloc: Global, payloads: &Payloads) -> Result<String> {
     match stored_lens(alloc, payloads) {
-        Ok(typed) => answer_by(alloc, &typed, payloads),
+        Ok(stored) => answer_by(alloc, &stored, payloads),
         Err(fault) => fault_text(alloc, fault),
     }
 }
 
-fn answer_by(alloc: Global, typed: &Typed, payloads: &Payloads) -> Result<String>
-    requires stored { stored_form payloads.now ≡ Some (form_tree typed.now) }
+fn answer_by(alloc: Global, stored: &StoredLens, payloads: &Payloads) -> Result<String>
+    requires stored { stored_lens payloads.now ≡ Some (form_tree stored.now.typed, stored.now.version) }
 {
-    let lens = Checked::new(typed.twin(alloc)?);
-    match reopen(alloc, lens, typed, payloads) {
-        Ok(opened) => opened_text(alloc, typed, &opened),
+    let lens = Checked::new(stored.typed.twin(alloc)?);
+    match reopen(alloc, lens, stored, payloads) {
+        Ok(opened) => opened_text(alloc, &stored.typed, &opened),
         Err(fault) => fault_text(alloc, fault),
     }
 }

@@ -1,7 +1,6 @@
 -- The lens of a text, as the reader and the checker of programs return it.
-use Rattle.std.proofs.Common.{◌≡◌, ℕ, List, Option, Some, None, option_map, option_and_then, Result, Ok, Err, refl, ap}
+use Rattle.std.proofs.Common.{◌≡◌, Option, Some, None, Result, Ok, Err, refl, ap}
 use Rattle.program_terms.specs.Terms.{ProgramTree}
-use Rattle.lens_forms.specs.Forms.{FormTree}
 use Rattle.lens_syntax.specs.Programs.{ProgramCause, cause_of, IsRefusal}
 use Rattle.lens_syntax.specs.declared.fault.ProgramFault.{ProgramFault}
 use Rattle.lens_syntax.specs.declared.fault.ProgramFault.TheVariants as reading
@@ -10,16 +9,7 @@ use Rattle.lens_types.specs.Faults.{IsFaultOf}
 use Rattle.lens_types.specs.declared.fault.TypeFault.{TypeFault}
 use Rattle.lens_types.specs.declared.fault.TypeFault.TheVariants as types
 use Rattle.accepted_programs.specs.Program.{form_of_program, form_without_failure}
-use Rattle.store_records.specs.StoredLens.{accepted, form_of_text, with_form}
-
-form_alone : (o : Option FormTree) (version : ℕ) → option_map (λ (x : FormTree × ℕ). x.0) (option_map (λ (l : FormTree). (l, version)) o) ≡ o
-form_alone (Some l) version = refl
-form_alone None version = refl
-
--- the lens of an opening is that of its text
-pub form_of_opening : (o : Option (List ℕ × ℕ)) → option_map (λ (x : FormTree × ℕ). x.0) (option_and_then with_form o) ≡ option_and_then (λ (p : List ℕ × ℕ). form_of_text p.0) o
-form_of_opening (Some p) = form_alone (form_of_text p.0) p.1
-form_of_opening None = refl
+use Rattle.store_records.specs.StoredLens.{accepted}
 
 -- a text that the reader refuses has no lens
 pub text_has_none : (wanted : Result ProgramTree ProgramCause) (fault : ProgramFault) → IsRefusal (cause_of fault) wanted → (fault ≡ reading.NoMemory → ⊥)
@@ -41,4 +31,4 @@ program_has_none p types.TooLarge h known = ap (λ o. accepted (form_without_fai
 program_has_none p types.TooDeep h known = ap (λ o. accepted (form_without_failure p o)) h
 program_has_none p types.NoMemory h known = absurd (known refl)
 
-pub ruleset opening_rules = (form_of_opening, text_has_none, program_has_none)
+pub ruleset opening_rules = (text_has_none, program_has_none)

@@ -1,5 +1,5 @@
 -- The lens of a store: what its first record says.
--- Read it from the end: `stored_form` and `lens_and_version`.
+-- Read it from the end: `stored_lens` and `lens_and_version`.
 use Rattle.std.specs.Prelude.{ℕ, List, [], ◌∷◌, Option, Some, None, option_map, option_and_then, Result, Ok, Err}
 use Rattle.edit_journal.specs.EntryJson.{tree_of_text}
 use Rattle.lens_forms.specs.Forms.{FormTree}
@@ -27,7 +27,7 @@ opening_of_payload payload = option_and_then opening_of (tree_of_text payload)
 abbrev pub lens_and_version : List ℕ → Option (FormTree × ℕ)
 lens_and_version payload = option_and_then with_form (opening_of_payload payload)
 
--- the lens of the first record
-abbrev pub stored_form : List (List ℕ) → Option FormTree
-stored_form [] = None
-stored_form (p ∷ ps) = option_map (λ o. o.0) (lens_and_version p)
+-- the lens of the first record, with the version that it says
+abbrev pub stored_lens : List (List ℕ) → Option (FormTree × ℕ)
+stored_lens [] = None
+stored_lens (p ∷ ps) = lens_and_version p

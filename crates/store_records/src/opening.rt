@@ -1,13 +1,13 @@
 //! The lens of the first record.
 
-ghost use Rattle.std.specs.Prelude.{◌≡◌, MatchResult, Ok, Some, IfOk, option_and_then, option_map};
+ghost use Rattle.std.specs.Prelude.{◌≡◌, MatchResult, Ok, Some, option_and_then};
 ghost use Rattle.lens_forms.specs.Forms.{form_tree};
 ghost use Rattle.accepted_programs.specs.Program.{form_of_program};
 ghost use Rattle.program_terms.specs.Views.{program_tree};
 ghost use Rattle.serde_json.specs.View.{view};
 ghost use Rattle.store_records.specs.RecordOutcomes.{IsBadFirst};
 ghost use Rattle.store_records.specs.RecordJson.{opening_of};
-ghost use Rattle.store_records.specs.StoredLens.{accepted, form_of_text, lens_and_version, opening_of_payload, stored_form};
+ghost use Rattle.store_records.specs.StoredLens.{accepted, form_of_text, with_form, lens_and_version, stored_lens};
 
 use crate::parts::opening_in;
 use crate::record_fault::ReopenFault;
@@ -16,20 +16,29 @@ use lens_io::Payloads;
 use lens_syntax::{Program, ProgramFault, read_unbounded};
 use lens_types::{TypeFault, Typed, check};
 use serde_json::Value;
-use std::alloc::{AllocError, Global};
-use texts::Bytes;
+use std::alloc::Global;
 
 /// The number of the first record.
 pub(crate) const FIRST: u64 = 1;
 
-/// The lens of the first record, for which the payloads of a store are read.
+/// The lens of a store, and its version.
+#[derive(Drop)]
+pub struct StoredLens {
+    /// The lens of the first record, for which the other records are read.
+    pub typed: Typed,
+    /// The version that the first record says: 1 or 2.
+    pub version: u64,
+}
+
+/// The lens of the first record, for which the payloads of a store are read, and the version that this record says.
 ///
 /// - `BadRecord { number: 1 }`: if and only if there is no first record, it is not the payload of a program, or the grammar or the
 ///   checker refuses its text. The text may have any length, and need not be canonical.
 /// - `NoMemory`: only if memory ran out.
-pub fn stored_lens(alloc: Global, payloads: &Payloads) -> Result<Typed, ReopenFault>
+pub fn stored_lens(alloc: Global, payloads: &Payloads) -> Result<StoredLens, ReopenFault>
     ensures lens { MatchResult result
-        (λ lens. stored_form payloads.now ≡ Some (form_tree lens)) (IsBadFirst (stored_form payloads.now)) }
+        (λ lens. stored_lens payloads.now ≡ Some (form_tree lens.typed, lens.version))
+        (IsBadFirst (stored_lens payloads.now)) }
 {
     let records = payloads.as_slice();
     if records.is_empty() {
@@ -38,11 +47,10 @@ pub fn stored_lens(alloc: Global, payloads: &Payloads) -> Result<Typed, ReopenFa
     lens_of_payload(alloc, records[0].as_slice())
 }
 
-#[tactic(auto, using(crate::proofs::Openings::opening_rules))]
-fn lens_of_payload(alloc: Global, payload: &[u8]) -> Result<Typed, ReopenFault>
+fn lens_of_payload(alloc: Global, payload: &[u8]) -> Result<StoredLens, ReopenFault>
     ensures { MatchResult result
-        (λ lens. option_map (λ o. o.0) (lens_and_version payload.now) ≡ Some (form_tree lens))
-        (IsBadFirst (option_map (λ o. o.0) (lens_and_version payload.now))) }
+        (λ lens. lens_and_version payload.now ≡ Some (form_tree lens.typed, lens.version))
+        (IsBadFirst (lens_and_version payload.now)) }
 {
     match read_tree(alloc, payload)? {
         Some(tree) => lens_of_tree(alloc, &tree),
@@ -50,13 +58,16 @@ fn lens_of_payload(alloc: Global, payload: &[u8]) -> Result<Typed, ReopenFault>
     }
 }
 
-fn lens_of_tree(alloc: Global, tree: &Value) -> Result<Typed, ReopenFault>
+fn lens_of_tree(alloc: Global, tree: &Value) -> Result<StoredLens, ReopenFault>
     ensures { MatchResult result
-        (λ lens. option_and_then (λ o. form_of_text o.0) (opening_of (view tree.now)) ≡ Some (form_tree lens))
-        (IsBadFirst (option_and_then (λ o. form_of_text o.0) (opening_of (view tree.now)))) }
+        (λ lens. option_and_then with_form (opening_of (view tree.now)) ≡ Some (form_tree lens.typed, lens.version))
+        (IsBadFirst (option_and_then with_form (opening_of (view tree.now)))) }
 {
     match opening_in(tree) {
-        Some((text, _)) => lens_of_text(alloc, text.as_bytes()),
+        Some((text, version)) => {
+            let typed = lens_of_text(alloc, text.as_bytes())?;
+            Ok(StoredLens { typed, version })
+        }
         None => Err(ReopenFault::BadRecord { number: FIRST }),
     }
 }
@@ -84,23 +95,4 @@ fn lens_of_program(alloc: Global, program: &Program) -> Result<Typed, ReopenFaul
         Err(TypeFault::NoMemory) => Err(ReopenFault::NoMemory),
         Err(_) => Err(ReopenFault::BadRecord { number: FIRST }),
     }
-}
-
-/// The version that the first payload of a store says, whatever its program is.
-///
-/// None if and only if the payload is not one of a first record. Fails only if memory runs out.
-pub fn stored_version(alloc: Global, payload: &Bytes) -> Result<Option<u64>, AllocError>
-    ensures { IfOk result (λ version. version ≡ option_map (λ o. o.1) (opening_of_payload payload.now)) }
-{
-    match read_tree(alloc, payload.as_slice())? {
-        Some(tree) => Ok(version_of_tree(&tree)),
-        None => Ok(None),
-    }
-}
-
-fn version_of_tree(tree: &Value) -> Option<u64>
-    ensures { result ≡ option_map (λ o. o.1) (opening_of (view tree.now)) }
-{
-    let (_, version) = opening_in(tree)?;
-    Some(version)
 }

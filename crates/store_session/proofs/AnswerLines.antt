@@ -24,7 +24,7 @@ use Rattle.lens_forms.specs.Forms.{left_type, right_type}
 use Rattle.store_run.specs.OkLines.{IsLine, IsAnswer, AreOtherLines, begins_ok}
 use Rattle.store_run.specs.declared.session.Answer.{Answer}
 use Rattle.store_session.specs.StoredStates.{StoredState, state_with, change_text, payload_of, stored_answer, taken, answer_item, answer, state_text}
-use Rattle.store_run.proofs.Decimals.{decimal_plain}
+use Rattle.store_session.proofs.Decimals.{decimal_plain}
 use Rattle.store_session.proofs.NoLineEnd.{text_plain}
 use Rattle.edit_journal.proofs.LinesHeld.{plain_both}
 

@@ -1,10 +1,11 @@
 pub mod AcceptedDepths
 pub mod AnswerLines
 pub mod AnswersMade
+pub mod Decimals
 pub mod JournalRuns
 pub mod LastTriple
 pub mod NoLineEnd
 pub mod Openings
-pub mod RecordOrder
+pub mod PartsStand
 pub mod SnapshotParts
 pub mod StatesInStep

@@ -1,6 +1,6 @@
 //! The session for which payloads stand.
 
-ghost use Rattle.std.specs.Prelude.{◌≡◌, ◌<◌, ◌≤◌, ◌+◌, ℕ, Some, Ok, IfOk, OnOk, MatchResult};
+ghost use Rattle.std.specs.Prelude.{◌≡◌, ◌<◌, ◌≤◌, ◌+◌, length, take, Some, Ok, IfOk, MatchResult};
 ghost use Rattle.serde_json.specs.View.{view};
 ghost use Rattle.edit_module.specs.Views.{change_tree};
 ghost use Rattle.lens_core.specs.Consistency.{IsConsistent};
@@ -10,7 +10,7 @@ ghost use Rattle.edit_session.specs.Step.{IsInStep};
 ghost use Rattle.edit_session.specs.Views.{triple_tree};
 ghost use Rattle.store_records.specs.RecordJson.{record_of, record_in, version_record, change_record, snapshot_record};
 ghost use Rattle.store_records.specs.declared.record_fault.ReopenFault;
-ghost use Rattle.store_records.specs.StoredLens.{lens_and_version, stored_form};
+ghost use Rattle.store_records.specs.StoredLens.{stored_lens};
 ghost use Rattle.store_session.specs.ReopenOutcomes.{IsReopenFault, Reaches};
 ghost use Rattle.store_session.specs.Stands.{after_record, at_start, is_too_new, stands};
 ghost use Rattle.store_session.specs.Standings.{standing};
@@ -24,7 +24,7 @@ use lens_types::Typed;
 use serde_json::Value;
 use std::alloc::Global;
 use store_records::{
-    ReopenFault, VERSION, change_in, is_version_record, read_tree, snapshot_in, stored_version,
+    ReopenFault, StoredLens, VERSION, change_in, is_version_record, read_tree, snapshot_in,
 };
 use texts::Bytes;
 
@@ -41,7 +41,7 @@ pub struct Opened<L: EditLens> {
 
 /// The session for which the payloads of a store stand, the number of its changes, and its version.
 ///
-/// The lens has the meanings of `typed`, and `stored_lens` of the payloads is `typed`. A refusal is that of the first record that
+/// The lens has the meanings of `stored`, which is `stored_lens` of the payloads. A refusal is that of the first record that
 /// is at fault, and the lens is then dropped:
 /// - `BadRecord`: if and only if the record is not a version, entry, group or snapshot record; or it is a version record in a store
 ///   that has version 2 by then, or a group record in one that has version 1; or its change is refused, or in its snapshot a
@@ -54,63 +54,138 @@ pub struct Opened<L: EditLens> {
 pub fn reopen<L: EditLens + Drop>(
     alloc: Global,
     lens: L,
-    typed: &Typed,
+    stored: &StoredLens,
     payloads: &Payloads,
 ) -> Result<Opened<L>, ReopenFault>
     requires means { IsLensOf (L.left_type lens) (L.right_type lens) (L.start lens) (L.holds lens) (L.carried lens)
-        (form_tree typed.now) }
-    requires stored { stored_form payloads.now ≡ Some (form_tree typed.now) }
+        (form_tree stored.now.typed) }
+    requires stored { stored_lens payloads.now ≡ Some (form_tree stored.now.typed, stored.now.version) }
 
     ensures stands { MatchResult result
-        (λ opened. stands payloads.now ≡ Ok (standing (form_tree typed.now) (triple_tree opened.session.triple) opened.count opened.version))
+        (λ opened. stands payloads.now
+        ≡ Ok (standing (form_tree stored.now.typed) (triple_tree opened.session.triple) opened.count opened.version))
         (IsReopenFault (stands payloads.now)) }
     ensures lens { IfOk result (λ opened. opened.session.lens ≡ lens) }
 
     // The session is in step, whatever the payloads are.
-    ensures consistent { IfOk result (λ opened. IsInStep (IsConsistent (form_tree typed.now)) (triple_tree opened.session.triple)) }
+    ensures consistent { IfOk result (λ opened.
+        IsInStep (IsConsistent (form_tree stored.now.typed)) (triple_tree opened.session.triple)) }
 {
-    let records = payloads.as_slice();
-    let mut opened = begin(alloc, lens, typed, &records[0])?;
-    for at in 1..records.len() {
-        take_record(
-            alloc,
-            typed,
-            at as u64 + 1,
-            records[at].as_slice(),
-            &mut opened,
-        )?;
-    }
+    let opened = reopen_first(alloc, lens, stored, payloads, payloads.as_slice().len())?;
     // The proof needs that the session is in step, which this call says.
     let _comp = opened.session.comp();
     Ok(opened)
 }
 
-// The session before any change, for this first payload.
+/// The session for which the first `kept` payloads of a store stand. [`go_on`] opens the others.
+///
+/// The lens has the meanings of `stored`, which is `stored_lens` of the payloads. The refusals are those of [`reopen`] over all
+/// payloads, if one of the first `kept` is at fault; the lens is then dropped.
+pub fn reopen_first<L: EditLens + Drop>(
+    alloc: Global,
+    lens: L,
+    stored: &StoredLens,
+    payloads: &Payloads,
+    kept: usize,
+) -> Result<Opened<L>, ReopenFault>
+    requires means { IsLensOf (L.left_type lens) (L.right_type lens) (L.start lens) (L.holds lens) (L.carried lens)
+        (form_tree stored.now.typed) }
+    requires stored { stored_lens payloads.now ≡ Some (form_tree stored.now.typed, stored.now.version) }
+    requires some { 0 < kept }
+    requires within { kept ≤ length payloads.now }
+    ensures stands { MatchResult result
+        (λ opened. stands (take kept payloads.now)
+        ≡ Ok (standing (form_tree stored.now.typed) (triple_tree opened.session.triple) opened.count opened.version))
+        (IsReopenFault (stands payloads.now)) }
+    ensures lens { IfOk result (λ opened. opened.session.lens ≡ lens) }
+    ensures count { IfOk result (λ opened. opened.count ≤ kept) }
+{
+    let records = payloads.as_slice();
+    let mut opened = begin(alloc, lens, stored)?;
+    take_records(alloc, &stored.typed, records, 1, kept, &mut opened)?;
+    Ok(opened)
+}
+
+/// Goes on from the session for which the first `kept` payloads of a store stand, to that for which all of them stand.
+///
+/// The refusals are those of [`reopen`] over all payloads. The session is then that of the payloads before the one at fault.
+pub fn go_on<L: EditLens>(
+    alloc: Global,
+    typed: &Typed,
+    payloads: &Payloads,
+    kept: usize,
+    opened: &mut Opened<L>,
+) -> Result<(), ReopenFault>
+    requires means { IsLensOf (L.left_type opened.old.session.lens) (L.right_type opened.old.session.lens)
+        (L.start opened.old.session.lens) (L.holds opened.old.session.lens) (L.carried opened.old.session.lens) (form_tree typed.now) }
+    requires within { kept ≤ length payloads.now }
+    requires stood { stands (take kept payloads.now)
+        ≡ Ok (standing (form_tree typed.now) (triple_tree opened.old.session.triple) opened.old.count opened.old.version) }
+    requires count { opened.old.count ≤ kept }
+    ensures stands { Reaches result (stands payloads.now)
+        (standing (form_tree typed.now) (triple_tree opened.new.session.triple) opened.new.count opened.new.version) }
+    ensures lens { opened.new.session.lens ≡ opened.old.session.lens }
+{
+    let records = payloads.as_slice();
+    take_records(alloc, typed, records, kept, records.len(), opened)
+}
+
+// The session before any change.
 fn begin<L: EditLens + Drop>(
     alloc: Global,
     lens: L,
-    typed: &Typed,
-    payload: &Bytes,
+    stored: &StoredLens,
 ) -> Result<Opened<L>, ReopenFault>
     requires means { IsLensOf (L.left_type lens) (L.right_type lens) (L.start lens) (L.holds lens) (L.carried lens)
-        (form_tree typed.now) }
-    requires stored { (version : ℕ) × (lens_and_version payload.now ≡ Some (form_tree typed.now, version)) }
+        (form_tree stored.now.typed) }
     ensures stands { MatchResult result
-        (λ o. (lens_and_version payload.now ≡ Some (form_tree typed.now, o.version))
-        × (standing (form_tree typed.now) (triple_tree o.session.triple) o.count o.version ≡ at_start (form_tree typed.now, o.version)))
+        (λ o. standing (form_tree stored.now.typed) (triple_tree o.session.triple) o.count o.version
+        ≡ at_start (form_tree stored.now.typed, stored.now.version))
         (λ fault. fault ≡ ReopenFault.NoMemory) }
     ensures lens { IfOk result (λ o. o.session.lens ≡ lens) }
     ensures count { IfOk result (λ o. o.count ≡ 0) }
 {
-    let Some(version) = stored_version(alloc, payload)? else {
-        unreachable!()
-    };
     let session = Session::start(alloc, lens)?;
     Ok(Opened {
         session,
         count: 0,
-        version,
+        version: stored.version,
     })
+}
+
+// Goes on by the records from the one place on, up to the other.
+fn take_records<L: EditLens>(
+    alloc: Global,
+    typed: &Typed,
+    records: &[Bytes],
+    from: usize,
+    to: usize,
+    opened: &mut Opened<L>,
+) -> Result<(), ReopenFault>
+    requires means { IsLensOf (L.left_type opened.old.session.lens) (L.right_type opened.old.session.lens)
+        (L.start opened.old.session.lens) (L.holds opened.old.session.lens) (L.carried opened.old.session.lens) (form_tree typed.now) }
+    requires order { from ≤ to }
+    requires within { to ≤ length records.now }
+    requires stood { stands (take from records.now)
+        ≡ Ok (standing (form_tree typed.now) (triple_tree opened.old.session.triple) opened.old.count opened.old.version) }
+    requires count { opened.old.count ≤ from }
+    ensures stands { MatchResult result
+        (λ _. stands (take to records.now)
+        ≡ Ok (standing (form_tree typed.now) (triple_tree opened.new.session.triple) opened.new.count opened.new.version))
+        (IsReopenFault (stands records.now)) }
+    ensures lens { opened.new.session.lens ≡ opened.old.session.lens }
+    ensures count { IfOk result (λ _. opened.new.count ≤ to) }
+{
+    for at in from..to {
+        take_record(
+            alloc,
+            typed,
+            at as u64 + 1,
+            records[at].as_slice(),
+            opened,
+        )?;
+    }
+    Ok(())
 }
 
 // Goes on by the record with this number.

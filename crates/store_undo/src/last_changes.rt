@@ -1,7 +1,7 @@
 //! The last changes of a store.
 
-ghost use Rattle.std.specs.Prelude.{◌≡◌, ◌<◌, IfOk, option_map, drop, length};
-ghost use Rattle.store_undo.specs.Undoing.{changes_of, last_changes, payloads_before};
+ghost use Rattle.std.specs.Prelude.{◌≡◌, IfOk, option_map, drop};
+ghost use Rattle.store_undo.specs.Undoing.{changes_of, last_changes};
 ghost use Rattle.edit_undo.specs.UndoneViews.{change_trees};
 
 use edit_module::Change;
@@ -42,14 +42,4 @@ fn changes_from(
         }
     }
     Ok(Some(changes))
-}
-
-// The payloads before the last ones, which are so many as the count says.
-pub(crate) fn payloads_before(payloads: Payloads, count: u64) -> Payloads
-    requires { count < length payloads }
-    ensures { result ≡ payloads_before count payloads }
-{
-    let mut records = payloads.into_vec();
-    records.truncate(records.len() - count as usize);
-    Payloads::from_vec(records)
 }
