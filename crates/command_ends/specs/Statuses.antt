@@ -1,8 +1,10 @@
 -- The statuses of commands: the exit code of each, and those by which a command came to its end.
 use Rattle.std.specs.Prelude.{◌≡◌, ◌⊎◌, ℕ, List, [], ◌∷◌, Bool, true, false}
 use Rattle.command_ends.specs.declared.status.Status.{Status}
-use Rattle.command_ends.specs.declared.status.Status.TheVariants.{Done, SomeRefused, Usage, ProgramRefused, StoreRefused}
-use Rattle.command_ends.specs.declared.status.Status.TheVariants.{SourceFault, SinkFault, DiskFault, InputTooLong, NoMemory}
+use Rattle.command_ends.specs.declared.status.Status.TheVariants.{Done, SomeRefused, Usage, ProgramRefused}
+use Rattle.command_ends.specs.declared.status.Status.TheVariants.{StoreRefused}
+use Rattle.command_ends.specs.declared.status.Status.TheVariants.{SourceFault, SinkFault, DiskFault, InputTooLong}
+use Rattle.command_ends.specs.declared.status.Status.TheVariants.{NoMemory}
 
 -- the exit code
 abbrev pub code_of : Status → ℕ
@@ -39,7 +41,8 @@ script_statuses = Done ∷ SomeRefused ∷ ProgramRefused ∷ SourceFault ∷ Si
 
 -- a command that makes a store: `init`; and `import`, which may refuse its document, too
 abbrev pub init_statuses : List Status
-init_statuses = Done ∷ ProgramRefused ∷ StoreRefused ∷ SourceFault ∷ SinkFault ∷ DiskFault ∷ InputTooLong ∷ NoMemory ∷ []
+init_statuses =
+    Done ∷ ProgramRefused ∷ StoreRefused ∷ SourceFault ∷ SinkFault ∷ DiskFault ∷ InputTooLong ∷ NoMemory ∷ []
 
 abbrev pub import_statuses : List Status
 import_statuses = SomeRefused ∷ init_statuses

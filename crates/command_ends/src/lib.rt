@@ -1,7 +1,7 @@
 //! How a command of the program ends.
 //!
-//! [`Status`] is what every command returns. specs/Statuses.antt has the exit codes, and which statuses come to the end of a
-//! command.
+//! [`Status`] is what every command returns. specs/Statuses.antt has the exit codes, and which statuses come to the end
+//! of a command.
 #![tactic(auto)]
 
 mod status;

@@ -16,7 +16,8 @@ pub enum Status {
     Usage = 2,
     /// The program part is refused.
     ProgramRefused = 3,
-    /// The disk holds no store, or one that is refused, or the log is full. A command that makes a store: the disk is not empty.
+    /// The disk holds no store, or one that is refused, or the log is full. A command that makes a store: the disk is
+    /// not empty.
     StoreRefused = 4,
     /// The source failed.
     SourceFault = 5,

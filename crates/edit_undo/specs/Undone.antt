@@ -1,5 +1,5 @@
--- The words that take both documents of a triple back over some changes. A lens comes as its two types and its translation of words.
--- Read it from the end: `BringsBack`, `undone`, `undone_each`, `undone_entry`, then `BothTrees`.
+-- The words that take both documents of a triple back over some changes. A lens comes as its two types and its
+-- translation of words. Read it from the end: `BringsBack`, `undone`, `undone_each`, `undone_entry`, then `BothTrees`.
 use Rattle.std.specs.Prelude.{◌≡◌, List, [], ◌∷◌, ◌++◌, Option, Some, None, option_map, option_and_then, Ok, Err}
 use Rattle.texts.specs.declared.side.Side.{Side}
 use Rattle.texts.specs.declared.side.Side.TheVariants.{Left, Right}
@@ -38,9 +38,11 @@ joined_both first second = record { left = joined first.left second.left; right 
 abbrev pub undone_on : TyTree → TyTree → TripleTree → Side → WordTree → WordTree
 undone_on left right t side word = inverse (near side left right) word (document_on side t)
 
--- an entry was carried to this word: the inverse of its own word on its side, and that of the carried word on the other side
+-- an entry was carried to this word: the inverse of its own word on its side, and that of the carried word on the other
+-- side
 abbrev pub undone_entry : TyTree → TyTree → TripleTree → Side × WordTree → WordTree → BothTrees
-undone_entry left right t e word = on_sides e.0 (undone_on left right t e.0 e.1) (undone_on left right t (other e.0) word)
+undone_entry left right t e word =
+    on_sides e.0 (undone_on left right t e.0 e.1) (undone_on left right t (other e.0) word)
 
 -- ---- entries, one after another
 
@@ -49,16 +51,19 @@ abbrev pub undone_behind : BothTrees → TripleTree × BothTrees → TripleTree 
 undone_behind first r = (r.0, joined_both r.1 first)
 
 -- the entry was accepted, and the others go on from its triple
-abbrev pub undone_first : (WordTree → BothTrees) → (TripleTree → Option (TripleTree × BothTrees)) → Stepped → Option (TripleTree × BothTrees)
+abbrev pub undone_first : (WordTree → BothTrees) → (TripleTree → Option (TripleTree × BothTrees)) → Stepped
+    → Option (TripleTree × BothTrees)
 undone_first first others (Ok s) = option_map (undone_behind (first s.1)) (others s.0)
 undone_first first others (Err why) = None
 
--- The triple after some entries, each from the triple that the one before it left, and the words that take its documents back to
--- those of the first triple. There are none if an entry is refused.
-abbrev pub undone_each : TyTree → TyTree → (Side → CompTree → WordTree → Option Translated) → TripleTree → List (Side × WordTree) → Option (TripleTree × BothTrees)
+-- The triple after some entries, each from the triple that the one before it left, and the words that take its
+-- documents back to those of the first triple. There are none if an entry is refused.
+abbrev pub undone_each : TyTree → TyTree → (Side → CompTree → WordTree → Option Translated) → TripleTree
+    → List (Side × WordTree) → Option (TripleTree × BothTrees)
 undone_each left right carried t [] = Some (t, no_words)
 undone_each left right carried t (e ∷ es) =
-    option_and_then (undone_first (λ word. undone_entry left right t e word) (λ next. undone_each left right carried next es))
+    option_and_then (undone_first (λ word. undone_entry left right t e word)
+    (λ next. undone_each left right carried next es))
     (step left right carried t e)
 
 -- ---- changes
@@ -68,9 +73,10 @@ abbrev pub entries_of_all : List ChangeTree → List (Side × WordTree)
 entries_of_all [] = []
 entries_of_all (c ∷ cs) = entries_of c ++ entries_of_all cs
 
--- The triple after some changes, and the words that take its documents back. Each word joins, from the last change to the first and in
--- a group from the last entry to the first, the inverses of the words that acted on its side.
-abbrev pub undone : TyTree → TyTree → (Side → CompTree → WordTree → Option Translated) → TripleTree → List ChangeTree → Option (TripleTree × BothTrees)
+-- The triple after some changes, and the words that take its documents back. Each word joins, from the last change to
+-- the first and in a group from the last entry to the first, the inverses of the words that acted on its side.
+abbrev pub undone : TyTree → TyTree → (Side → CompTree → WordTree → Option Translated) → TripleTree → List ChangeTree
+    → Option (TripleTree × BothTrees)
 undone left right carried t changes = undone_each left right carried t (entries_of_all changes)
 
 -- ---- what the words do

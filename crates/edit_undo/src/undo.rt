@@ -14,12 +14,12 @@ use std::alloc::{AllocError, Global};
 
 /// Steps a session through changes, and returns words that take both documents back to what they were.
 ///
-/// Each word joins, from the last change to the first and in a group from the last entry to the first, the inverses of the words
-/// that acted on its side: on the entry's own side its word, on the other side the carried word. It acts on the document that its
-/// side has then, and gives the one from before.
+/// Each word joins, from the last change to the first and in a group from the last entry to the first, the inverses of
+/// the words that acted on its side: on the entry's own side its word, on the other side the carried word. It acts on
+/// the document that its side has then, and gives the one from before.
 ///
-/// None if and only if an entry of the changes is refused. The session has then taken the steps before that entry. The only error
-/// is running out of memory; the session is then in step, as at any time, and has taken some of the steps.
+/// None if and only if an entry of the changes is refused. The session has then taken the steps before that entry. The
+/// only error is running out of memory; the session is then in step, as at any time, and has taken some of the steps.
 pub fn undo_changes<L: EditLens>(
     alloc: Global,
     session: &mut Session<L>,

@@ -12,9 +12,11 @@ use Rattle.store_run.specs.declared.refusals.StoreRefusal.TheVariants.{LogExists
 use Rattle.command_ends.specs.declared.status.Status.{Status}
 use Rattle.command_ends.specs.declared.status.Status.TheVariants.{Done, DiskFault}
 
-module _ {S K D : Type 0} (source : OfSource.Ghosts S) (sink : OfSink.Ghosts K) (disk : OfDisk.Ghosts D) (old new : S × K × D) (status : Status) where
-  -- If the disk is not empty, nothing is taken from the source and nothing is written to the disk. The line `store refused: log-exists`
-  -- was written, or a beginning of it and the sink failed; or the disk failed or memory ran out before, and nothing was written.
+module _ {S K D : Type 0} (source : OfSource.Ghosts S) (sink : OfSink.Ghosts K) (disk : OfDisk.Ghosts D)
+    (old new : S × K × D) (status : Status) where
+  -- If the disk is not empty, nothing is taken from the source and nothing is written to the disk. The line
+  -- `store refused: log-exists` was written, or a beginning of it and the sink failed; or the disk failed or memory ran
+  -- out before, and nothing was written.
   abbrev pub FindsLog : Type 0
   FindsLog = IfSome (disk.content old.2) (λ bytes. 0 < length bytes
       → (new.0 ≡ old.0) × IsUnwritten disk old.2 new.2
@@ -22,19 +24,20 @@ module _ {S K D : Type 0} (source : OfSource.Ghosts S) (sink : OfSink.Ghosts K) 
       ⊎ ((status ≡ making.DiskFault) ⊎ (status ≡ making.NoMemory)) × (new.1 ≡ old.1)))
 
   pub record MakesStore : Type 0 where
-    -- after Done the script was read to its end and the disk was empty; it holds the program alone, in each image that a crash may leave
-    -- too. That represents the first triple of the lens, whose state lines were written.
+    -- after Done the script was read to its end and the disk was empty; it holds the program alone, in each image that
+    -- a crash may leave too. That represents the first triple of the lens, whose state lines were written.
     pub starts : status ≡ Done → Starts source sink disk old new
     -- what was taken, written and stored at every status, and what a crash leaves
     pub stops : Ends source sink disk init_command old new status
-    -- A program part that is whole and refused is refused, whatever comes after it, unless the sink failed or memory ran out. Then at most the
-    -- rest of the call of the source that ended its separator was read; where no separator came, the source is at its end.
+    -- A program part that is whole and refused is refused, whatever comes after it, unless the sink failed or memory
+    -- ran out. Then at most the rest of the call of the source that ended its separator was read; where no separator
+    -- came, the source is at its end.
     pub at_once : RefusesAtOnce source old.0 new.0 status
     -- a disk of known room fails only if the script was read to its end and the disk has no room for its store
     pub caused : status ≡ DiskFault → IfSome (disk.room old.2) (ScriptHasNoRoom source init_command old.0 new.0)
-    -- over an empty disk and at most 2^30 bytes, if no device fails and the log has room, it comes to its end, or refuses the program part,
-    -- or memory runs out
+    -- over an empty disk and at most 2^30 bytes, if no device fails and the log has room, it comes to its end, or
+    -- refuses the program part, or memory runs out
     pub completes : Completes source sink disk init_command old new status
-    -- over a disk that is not empty the line `store refused: log-exists` was written, unless a device failed or memory ran out; nothing
-    -- was read or stored
+    -- over a disk that is not empty the line `store refused: log-exists` was written, unless a device failed or memory
+    -- ran out; nothing was read or stored
     pub refuses : FindsLog

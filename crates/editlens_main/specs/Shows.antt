@@ -23,14 +23,16 @@ verified state payloads = consistent_line (count_of payloads)
 module _ {K D : Type 0} (sink : OfSink.Ghosts K) (disk : OfDisk.Ghosts D) (old new : K × D) (status : Status) where
   -- what is written of a state and its payloads is given by `text`
   pub record ReadsStore (text : StoredState → List (List ℕ) → List ℕ) : Type 0 where
-    -- over a store `show` has written its state lines, and `verify` the number of its changes; or the sink failed at them, or the disk failed
-    -- or memory ran out before
+    -- over a store `show` has written its state lines, and `verify` the number of its changes; or the sink failed at
+    -- them, or the disk failed or memory ran out before
     pub reports : (store : Store disk old.1) → call.Views sink old.0 new.0 (text store.state store.payloads) status
     -- the state of the store is in its lens's consistency relation
     pub in_step : (store : Store disk old.1) → IsStateInStep store.state
     -- over a store it comes to its end, or memory runs out, if no device fails
-    pub completes : Store disk old.1 → (SinkFailed sink old.0 new.0 → ⊥) → (DiskFailed disk old.1 new.1 → ⊥) → (status ≡ Done) ⊎ (status ≡ NoMemory)
-    -- over bytes that are no store the line `store refused: REASON` was written, unless a device failed or memory ran out
+    pub completes : Store disk old.1 → (SinkFailed sink old.0 new.0 → ⊥) → (DiskFailed disk old.1 new.1 → ⊥)
+        → (status ≡ Done) ⊎ (status ≡ NoMemory)
+    -- over bytes that are no store the line `store refused: REASON` was written, unless a device failed or memory ran
+    -- out
     pub refuses : (other : RefusedStore disk old.1) → RefusesStore sink disk old new status other.reason
     -- nothing is written to the disk
     pub unwritten : IsUnwritten disk old.1 new.1

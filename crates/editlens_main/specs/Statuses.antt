@@ -1,6 +1,7 @@
 -- How each command may end, whatever the devices tell.
 use Rattle.std.specs.Prelude.{List, [], ◌∷◌, Option, Some, None}
-use Rattle.command_ends.specs.Statuses.{IsAmong, apply_statuses, import_statuses, init_statuses, quiet_statuses, script_statuses}
+use Rattle.command_ends.specs.Statuses.{IsAmong, apply_statuses, import_statuses, init_statuses, quiet_statuses}
+use Rattle.command_ends.specs.Statuses.{script_statuses}
 use Rattle.command_ends.specs.declared.status.Status.{Status}
 use Rattle.command_ends.specs.declared.status.Status.TheVariants.{Done, Usage, SinkFault, NoMemory}
 use Rattle.command_words.specs.declared.orders.Order.{Order}

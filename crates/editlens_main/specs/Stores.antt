@@ -1,4 +1,5 @@
--- What the bytes of a disk are to the commands over a store: a store, or refused for a reason. And what a command does where they are refused.
+-- What the bytes of a disk are to the commands over a store: a store, or refused for a reason. And what a command does
+-- where they are refused.
 use Rattle.std.specs.Prelude.{◌≡◌, List, Some}
 use Rattle.edit_journal.specs.declared.line.Line.{Line}
 use Rattle.lens_io.specs.declared.disk.Disk as OfDisk
@@ -21,14 +22,15 @@ Store disk d = stores.Store disk sessions d
 abbrev pub RefusedStore : {D : Type 0} → OfDisk.Ghosts D → D → Type 0
 RefusedStore disk d = stores.RefusedStore disk sessions d
 
--- The state is in its lens's consistency relation. Each run of a journal from it on is the run of the journal's items, and all its states
--- are in that relation.
+-- The state is in its lens's consistency relation. Each run of a journal from it on is the run of the journal's items,
+-- and all its states are in that relation.
 pub record StaysInStep (state : StoredState) : Type 0 where
   pub first : IsStateInStep state
-  pub runs : (lines : List Line) (steps : List (StoredState × Answer)) → run sessions state 0 lines ≡ Some steps → IsJournalRun state 0 lines steps
+  pub runs : (lines : List Line) (steps : List (StoredState × Answer)) → run sessions state 0 lines ≡ Some steps
+      → IsJournalRun state 0 lines steps
 
 module _ {K D : Type 0} (sink : OfSink.Ghosts K) (disk : OfDisk.Ghosts D) (old new : K × D) (status : Status) where
-  -- The line `store refused: REASON` was written in place of all else, and nothing to the disk. Only a disk whose room is not known may
-  -- fail before, and memory may run out.
+  -- The line `store refused: REASON` was written in place of all else, and nothing to the disk. Only a disk whose room
+  -- is not known may fail before, and memory may run out.
   abbrev pub RefusesStore : StoreRefusal → Type 0
   RefusesStore reason = IsUnwritten disk old.1 new.1 × EndsRefused sink disk old new reason status

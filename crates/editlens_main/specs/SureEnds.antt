@@ -1,5 +1,5 @@
--- How a command ends over devices that do not fail: the source and the sink are in memory, and the disk fails only at the end of its room.
--- Read it from the end: `MadeInRoom`, `StoredInRoom`, then `EndsInRoom`.
+-- How a command ends over devices that do not fail: the source and the sink are in memory, and the disk fails only at
+-- the end of its room. Read it from the end: `MadeInRoom`, `StoredInRoom`, then `EndsInRoom`.
 use Rattle.std.specs.Prelude.{◌≡◌, ◌⊎◌, ℕ, List}
 use Rattle.store_new.specs.Command.{Command}
 use Rattle.store_new.specs.NewEnds.{IsComplete}
@@ -13,8 +13,8 @@ module _ (status : Status) (is_full : Type 0) where
   abbrev pub EndsInRoom : Type 0 → Type 0
   EndsInRoom ends = ends ⊎ ((status ≡ SinkFault) × is_full)
 
-  -- The same of a command that stores. The disk fails only if it has no room for what was to be stored next, and the log is refused only if
-  -- it has none. What has no room on a disk of so many bytes is given by `no_room`.
+  -- The same of a command that stores. The disk fails only if it has no room for what was to be stored next, and the
+  -- log is refused only if it has none. What has no room on a disk of so many bytes is given by `no_room`.
   abbrev pub StoredInRoom : Type 0 → (ℕ → Type 0) → ℕ → Type 0
   StoredInRoom ends no_room room =
       EndsInRoom ends

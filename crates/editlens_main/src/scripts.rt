@@ -1,5 +1,5 @@
-//! The commands over a script: `run`, `check`, `hub` and `link`. All but `hub`, whose program part has a program for each view, are the call
-//! of script_run for what a script means to them.
+//! The commands over a script: `run`, `check`, `hub` and `link`. All but `hub`, whose program part has a program for
+//! each view, are the call of script_run for what a script means to them.
 ghost use Rattle.command_ends.specs.Statuses.{IsAmong, script_statuses};
 ghost use Rattle.std.specs.Prelude.{◌≡◌};
 ghost use Rattle.lens_io.specs.Calls.{SourceFailed, SinkFailed};

@@ -1,5 +1,5 @@
-//! The commands over a store that is there: `apply`, `show`, `verify`, `pack` and `undo`. The last is the call of store_undo. Each other
-//! one is the call of store_run with the sessions of store_session.
+//! The commands over a store that is there: `apply`, `show`, `verify`, `pack` and `undo`. The last is the call of
+//! store_undo. Each other one is the call of store_run with the sessions of store_session.
 ghost use Rattle.command_ends.specs.Statuses.{IsAmong, apply_statuses, quiet_statuses};
 ghost use Rattle.std.specs.Prelude.{◌≡◌};
 ghost use Rattle.lens_io.specs.Calls.{SourceFailed, SinkFailed, DiskFailed};

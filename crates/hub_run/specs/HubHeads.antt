@@ -18,7 +18,8 @@ pub record HasPieces (kept : Pieces) (part : List ℕ) : Type 0 where
   pub holds : HoldsPieces kept ended begun
   pub are : pieces part ≡ ended ++ begun ∷ []
 
--- For the helpers of `read_hub_head`. The pieces of the front of a program part are kept, and the last of them has begun, whatever follows.
+-- For the helpers of `read_hub_head`. The pieces of the front of a program part are kept, and the last of them has
+-- begun, whatever follows.
 pub record HoldsFront (kept : Pieces) (front : List ℕ) : Type 0 where
   pub ended : List (List ℕ)
   pub begun : List ℕ

@@ -37,7 +37,8 @@ pub fn read_hub_head<S: Source>(
 ) -> Result<HubHead, TakeFault>
     requires some { 0 < length piece.old }
     requires few { length piece.old ≤ PIECE_BYTES }
-    ensures head { MatchResult result (ReadsHead S.Source source.old source.new) (StopsHead S.Source source.old source.new) }
+    ensures head { MatchResult result (ReadsHead S.Source source.old source.new)
+        (StopsHead S.Source source.old source.new) }
     ensures faults { S.faults source.old ≤ S.faults source.new }
     ensures cause { IsErrOf result TakeFault.SourceFault → Increased (S.faults source.old) (S.faults source.new) }
 {
@@ -72,7 +73,8 @@ fn add_lines(alloc: Global, program: &mut Pieces, input: &mut Input) -> Result<b
 // Adds the last line of an input, which no LF ends, unless it is the separator.
 fn add_last(alloc: Global, program: &mut Pieces, last: Option<Line>) -> Result<(), AllocError>
     ensures { IfOk result (λ _. (front rest : List ℕ) → IsProgramFront front → HoldsFront program.old front
-        → has_no_end rest ≡ true → last ≡ last_line (line_of rest) → HasPieces program.new (program_part (front ++ rest))) }
+        → has_no_end rest ≡ true → last ≡ last_line (line_of rest)
+        → HasPieces program.new (program_part (front ++ rest))) }
 {
     let Some(line) = last else {
         return Ok(());

@@ -13,7 +13,8 @@ ghost use Rattle.hub_run.specs.Pieces.{is_cut, pieces_from};
 #[tactic(auto, using(crate::proofs::PieceLines::line_more))]
 pub fn pieces_come_by_lines()
     ensures { (begun text more : List ℕ) → has_no_end text ≡ true → pieces_from begun (cut (text ++ 10 ∷ more))
-        ≡ (if is_cut text then begun ∷ pieces_from [] (cut more) else pieces_from ((begun ++ text) ++ 10 ∷ []) (cut more)) }
+        ≡ (if is_cut text then begun ∷ pieces_from [] (cut more) else pieces_from ((begun ++ text) ++ 10 ∷ [])
+        (cut more)) }
 {}
 
 /// For every program part that is accepted, the run over any lines goes on to its end. In every state of it, those

@@ -13,8 +13,8 @@ use std::mem;
 /// The most views of a hub.
 pub const MOST_VIEWS: usize = 64;
 
-/// The pieces of a program part: those that a cut has ended, and the one that has begun. Of more than `MOST_VIEWS` pieces only
-/// that there are so many is kept.
+/// The pieces of a program part: those that a cut has ended, and the one that has begun. Of more than `MOST_VIEWS`
+/// pieces only that there are so many is kept.
 #[derive(Drop)]
 pub struct Pieces {
     pub(crate) ended: Vec<ProgramText>,

@@ -21,15 +21,15 @@ use std::alloc::Global;
 /// is written to the sink as it comes. docs/FORMATS.md says what a script is, and docs/MEANING.md what a report says.
 /// The status says how the call ended, and `ended` what holds then:
 ///
-/// - `Done`, `SomeRefused`: the source was read to its end, the answers to the lines of the journal and the state lines were
-///   written, and in every hub of the run each view is in its lens's consistency relation with the hub.
+/// - `Done`, `SomeRefused`: the source was read to its end, the answers to the lines of the journal and the state lines
+///   were written, and in every hub of the run each view is in its lens's consistency relation with the hub.
 /// - `ProgramRefused`: the program part is whole and refused, and its line was written.
 /// - `SourceFault`, `InputTooLong`: the answers to exactly the lines of the journal that have ended were written.
 /// - `SinkFault`, `NoMemory`: when the source was called last, every line of the journal that had ended was answered.
 ///
-/// No other status comes (`statuses`). `source_fault`, `sink_fault`: these come only if the source, or the sink, failed.
-/// `completes`: over at most 2^30 bytes, if neither failed, the call comes to its end, or the program part is refused, or memory
-/// ran out. `NoMemory` comes only if memory ran out, which no clause can say.
+/// No other status comes (`statuses`). `source_fault`, `sink_fault`: these come only if the source, or the sink,
+/// failed. `completes`: over at most 2^30 bytes, if neither failed, the call comes to its end, or the program part is
+/// refused, or memory ran out. `NoMemory` comes only if memory ran out, which no clause can say.
 pub fn run_hub<S: Source, K: Sink>(alloc: Global, source: &mut S, sink: &mut K) -> Status
     ensures ended { Ended hub_script S.Source K.Sink (source.old, sink.old) (source.new, sink.new) result }
     ensures completes { IfSome (S.left source.old) (λ bytes. length bytes ≤ MOST_BYTES

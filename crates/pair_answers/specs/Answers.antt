@@ -9,8 +9,9 @@ use Rattle.edit_session.specs.Run.{carried, no_apply, group_carried, group_no_ap
 use Rattle.answer_text.specs.Lines.{ok_line, no_apply_line, group_line, group_refused_line, fault_line, tree_line}
 use Rattle.pair_answers.specs.ItemRuns.{JournalAnswer}
 
--- The answer to the item with this number: `ok N SIDE WORD` or `refused N no-apply AT CAUSE` to an entry, `ok N group LIST` or
--- `refused N group PART no-apply AT CAUSE` to a group, and `refused N FAULT` to a line that is not a change.
+-- The answer to the item with this number: `ok N SIDE WORD` or `refused N no-apply AT CAUSE` to an entry,
+-- `ok N group LIST` or `refused N group PART no-apply AT CAUSE` to a group, and `refused N FAULT` to a line that is not
+-- a change.
 abbrev pub answer_line : ℕ → JournalAnswer → List ℕ
 answer_line n (carried side w) = ok_line n side w
 answer_line n (no_apply at cause) = no_apply_line n at cause

@@ -1,4 +1,5 @@
--- The run of the lens of a form over the items of a journal. Read it from the end: `triples_of`, `run_of`, `run_from`, then `items_of`.
+-- The run of the lens of a form over the items of a journal. Read it from the end: `triples_of`, `run_of`, `run_from`,
+-- then `items_of`.
 use Rattle.std.specs.Prelude.{List, [], ◌∷◌, Option, if◌then◌else◌}
 use Rattle.edit_journal.specs.Lines.{is_blank}
 use Rattle.edit_journal.specs.EntryJson.{LineFault, change_of_line}

@@ -7,7 +7,8 @@ use Rattle.edit_session.specs.Step.{TripleTree}
 use Rattle.edit_session.specs.Run.{carried, no_apply, group_carried, group_no_apply, no_entry}
 use Rattle.pair_answers.specs.ItemRuns.{JournalAnswer}
 use Rattle.pair_answers.specs.declared.answers.Answer.{Answer}
-use Rattle.pair_answers.specs.declared.answers.Answer.TheVariants.{Carried, NoApply, GroupCarried, GroupNoApply, NoEntry}
+use Rattle.pair_answers.specs.declared.answers.Answer.TheVariants.{Carried, NoApply, GroupCarried, GroupNoApply}
+use Rattle.pair_answers.specs.declared.answers.Answer.TheVariants.{NoEntry}
 
 -- the tree of an answer; there is none for a line of which nothing is known since memory ran out
 abbrev pub answer_tree : Answer → Option JournalAnswer

@@ -19,8 +19,8 @@ use std::alloc::{AllocError, Global};
 
 /// The answer to a line that is not blank, which steps the session by a change: an entry, or a group of entries.
 ///
-/// An entry or a group that does not apply, and a line that is not a change, leave the session as it was. The only error
-/// is running out of memory, which leaves it as it was too.
+/// An entry or a group that does not apply, and a line that is not a change, leave the session as it was. The only
+/// error is running out of memory, which leaves it as it was too.
 pub fn take_item<L: EditLens>(
     alloc: Global,
     session: &mut Session<L>,

@@ -1,4 +1,5 @@
--- What the script of a pair means, to `run` and to `check`. The trait `ScriptState` says so of `PairRun` and of `TypesShown` too.
+-- What the script of a pair means, to `run` and to `check`. The trait `ScriptState` says so of `PairRun` and of
+-- `TypesShown` too.
 use Rattle.accepted_programs.specs.Program.{Refusal, lens_of}
 use Rattle.answer_text.specs.RefusalLines.{refused_part_line}
 use Rattle.edit_session.specs.Step.{TripleTree}

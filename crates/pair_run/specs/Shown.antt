@@ -1,4 +1,5 @@
--- The run of the command `check` over the lines of a script: no line has an answer, and the two types of the lens are written at the end.
+-- The run of the command `check` over the lines of a script: no line has an answer, and the two types of the lens are
+-- written at the end.
 use Rattle.std.specs.Prelude.{ℕ, List, [], ◌++◌, false, Option, Some}
 use Rattle.answer_text.specs.Lines.{type_line}
 use Rattle.edit_journal.specs.declared.line.Line.{Line}

@@ -88,7 +88,8 @@ impl ProgramScript for TypesShown {
 // The refusal of a program part, with its line. Running out of memory is not a refusal.
 fn not_opened(alloc: Global, refused: Refused) -> NotOpened
     requires { IsKnown refused }
-    ensures { (outcome : Result FormTree Refusal) → IsRefusal outcome refused → IsNotOpened types_script outcome result }
+    ensures { (outcome : Result FormTree Refusal) → IsRefusal outcome refused
+        → IsNotOpened types_script outcome result }
 {
     let line = refused_part_line(alloc, &refused);
     drop(refused);

@@ -1,4 +1,5 @@
--- The parts of a script: its program part, and the lines of its journal. Read it from the end: `journal`, then `program_part`.
+-- The parts of a script: its program part, and the lines of its journal. Read it from the end: `journal`, then
+-- `program_part`.
 use Rattle.std.specs.Prelude.{ℕ, ◌==◌, List, [], ◌∷◌, ◌++◌, Bool, false, ◌||◌, if◌then◌else◌, bytes_eq, codes}
 use Rattle.std.specs.List.{onto_first, concat}
 use Rattle.edit_journal.specs.Pieces.{lines_of}
@@ -11,7 +12,8 @@ is_separator line = bytes_eq line (codes "---") || bytes_eq line (codes "---" ++
 
 -- ---- the program part
 
--- The bytes cut behind each LF, which stays at the end of its line. What follows the last LF is a line if it is not empty.
+-- The bytes cut behind each LF, which stays at the end of its line. What follows the last LF is a line if it is not
+-- empty.
 abbrev pub cut : List ℕ → List (List ℕ)
 cut [] = []
 cut (byte ∷ bytes) = if byte == 10 then (byte ∷ []) ∷ cut bytes else onto_first byte (cut bytes)
@@ -42,6 +44,7 @@ abbrev pub behind_separator : List Line → List Line
 behind_separator [] = []
 behind_separator (line ∷ lines) = if is_separator_line line then lines else behind_separator lines
 
--- the lines of the journal, blank ones included: the lines of the bytes, as edit_journal cuts them, behind the separator
+-- the lines of the journal, blank ones included: the lines of the bytes, as edit_journal cuts them, behind the
+-- separator
 abbrev pub journal : List ℕ → List Line
 journal bytes = behind_separator (lines_of bytes)

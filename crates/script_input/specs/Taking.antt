@@ -1,5 +1,6 @@
 -- An input that is read in pieces, and what one more piece adds to it.
-use Rattle.std.specs.Prelude.{◌≡◌, ◌⊎◌, ℕ, ◌+◌, ◌<◌, ◌≤◌, List, [], length, take, Bool, true, false, Result, Ok, Err, IfOk, IfErr}
+use Rattle.std.specs.Prelude.{◌≡◌, ◌⊎◌, ℕ, ◌+◌, ◌<◌, ◌≤◌, List, [], length, take, Bool, true, false, Result, Ok, Err}
+use Rattle.std.specs.Prelude.{IfOk, IfErr}
 use Rattle.std.specs.declared.option.Option.{Option}
 use Rattle.std.specs.Io.KnownBytes.{Consumes, Keeps, IsAtEnd}
 use Rattle.lens_io.specs.Calls.{Took}
@@ -18,15 +19,18 @@ pub record TakenInput : Type 0 where
 abbrev pub IsWithin : TakenInput → Type 0
 IsWithin input = (input.taken ≤ MOST_BYTES + 1) × (length input.lines.ended ≤ input.taken)
 
--- This many bytes were put at the front of the piece; 0 is the end. A fault of the source, and too many bytes before, take none.
+-- This many bytes were put at the front of the piece; 0 is the end. A fault of the source, and too many bytes before,
+-- take none.
 abbrev pub TakesBytes : Option (List ℕ) → Option (List ℕ) → List ℕ → ℕ → Result ℕ TakeFault → Type 0
 TakesBytes left left' piece taken (Ok count) =
-    (count ≤ length piece) × (taken ≤ MOST_BYTES) × (taken + count ≤ MOST_BYTES + 1) × Consumes left left' (take count piece) × (count ≡ 0 → IsAtEnd left')
+    (count ≤ length piece) × (taken ≤ MOST_BYTES) × (taken + count ≤ MOST_BYTES + 1)
+    × Consumes left left' (take count piece) × (count ≡ 0 → IsAtEnd left')
 TakesBytes left left' piece taken (Err SourceFault) = Keeps left left' × (taken ≤ MOST_BYTES)
 TakesBytes left left' piece taken (Err TooLong) = Keeps left left' × (MOST_BYTES < taken)
 TakesBytes left left' piece taken (Err NoMemory) = ⊥
 
--- what the number of bytes that were taken says of a fault: after MOST_BYTES + 1 bytes there are too many, and no more are asked for
+-- what the number of bytes that were taken says of a fault: after MOST_BYTES + 1 bytes there are too many, and no more
+-- are asked for
 abbrev pub StopsAt : ℕ → TakeFault → Type 0
 StopsAt taken SourceFault = taken ≤ MOST_BYTES
 StopsAt taken TooLong = MOST_BYTES < taken
@@ -66,7 +70,8 @@ abbrev pub GaveFew : {S : Type 0} → OfSource.Ghosts S → S → S → ℕ → 
 GaveFew source s s' room = (s' ≡ s) ⊎ (source.last s' ≤ room)
 
 -- These bytes were taken, if any, by one call of the source.
-pub record TakesMore {S : Type 0} (source : OfSource.Ghosts S) (s s' : S) (old new : TakenInput) (result : Result Bool TakeFault) : Type 0 where
+pub record TakesMore {S : Type 0} (source : OfSource.Ghosts S) (s s' : S) (old new : TakenInput)
+    (result : Result Bool TakeFault) : Type 0 where
   pub bytes : List ℕ
   pub consumes : Took source s s' bytes
   pub once : CallsOnce source s s' (length bytes) result
@@ -76,11 +81,13 @@ pub record TakesMore {S : Type 0} (source : OfSource.Ghosts S) (s s' : S) (old n
   pub stays : IfErr result (Stays old new bytes)
 
 -- the same where the bytes are forgotten: the lines stay
-pub record SkipsMore (left left' : Option (List ℕ)) (old new : TakenInput) (result : Result Bool TakeFault) : Type 0 where
+pub record SkipsMore (left left' : Option (List ℕ)) (old new : TakenInput)
+    (result : Result Bool TakeFault) : Type 0 where
   pub bytes : List ℕ
   pub consumes : Consumes left left' bytes
   pub taken : new.taken ≡ old.taken + length bytes
   pub at_most : new.taken ≤ MOST_BYTES + 1
   pub lines : new.lines ≡ old.lines
-  pub skips : IfOk result (λ more. (more ≡ false → IsAtEnd left' × (new.taken ≤ MOST_BYTES)) × (more ≡ true → 0 < length bytes))
+  pub skips : IfOk result (λ more. (more ≡ false → IsAtEnd left' × (new.taken ≤ MOST_BYTES))
+      × (more ≡ true → 0 < length bytes))
   pub stops : IfErr result (StopsSkipping new.taken)

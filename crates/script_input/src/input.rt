@@ -49,8 +49,8 @@ impl Input {
         }
     }
 
-    /// Takes the next piece from the source, by way of a buffer that is not empty, and adds it to the lines. `false` is the
-    /// end of the input.
+    /// Takes the next piece from the source, by way of a buffer that is not empty, and adds it to the lines. `false` is
+    /// the end of the input.
     ///
     /// - `SourceFault`: only if the source's count of faults increased.
     /// - `TooLong`: if and only if more than `MOST_BYTES` bytes were taken before. The source is not asked.
@@ -75,7 +75,8 @@ impl Input {
         Ok(count > 0)
     }
 
-    /// Takes the next piece from the source and forgets it. `false` is the end of the input. Refused as by `take_piece`.
+    /// Takes the next piece from the source and forgets it. `false` is the end of the input. Refused as by
+    /// `take_piece`.
     pub fn skip_piece<S: Source>(
         &mut self,
         source: &mut S,

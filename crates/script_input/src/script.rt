@@ -1,5 +1,6 @@
 //! The program part of a script that is read in pieces.
-ghost use Rattle.std.specs.Prelude.{◌≡◌, ◌<◌, ◌≤◌, ◌++◌, true, [], length, List, ℕ, IfOk, IfErr, IsErrOf, MatchOption, MatchResult, Ok};
+ghost use Rattle.std.specs.Prelude.{◌≡◌, ◌<◌, ◌≤◌, ◌++◌, true, [], length, List, ℕ, IfOk, IfErr, IsErrOf, MatchOption};
+ghost use Rattle.std.specs.Prelude.{MatchResult, Ok};
 ghost use Rattle.lens_forms.specs.Forms.{form_tree};
 ghost use Rattle.lens_io.specs.Causes.{Increased};
 ghost use Rattle.edit_journal.specs.Lines.{line_of};
@@ -53,7 +54,8 @@ impl ProgramText {
     }
 
     fn add_text(&mut self, bytes: &[u8], end: &[u8]) -> Result<(), AllocError>
-        ensures { IfOk result (λ _. (part : List ℕ) → HoldsPart self.old part → HoldsPart self.new ((part ++ bytes.now) ++ end.now)) }
+        ensures { IfOk result (λ _. (part : List ℕ) → HoldsPart self.old part
+            → HoldsPart self.new ((part ++ bytes.now) ++ end.now)) }
     {
         if self.is_long {
             return Ok(());
@@ -76,8 +78,8 @@ impl ProgramText {
         Some(&self.text)
     }
 
-    /// The lens of the program part, or why it is refused: by `ProgramTooLong` if and only if it has more than 65,536 bytes,
-    /// else as `read_lens` of accepted_programs refuses its text.
+    /// The lens of the program part, or why it is refused: by `ProgramTooLong` if and only if it has more than 65,536
+    /// bytes, else as `read_lens` of accepted_programs refuses its text.
     pub fn lens(&self, alloc: Global) -> Result<Typed, Refused>
         ensures lens { (part : List ℕ) → HoldsPart self.now part → MatchResult result
             (λ lens. lens_of part ≡ Ok (form_tree lens)) (λ refused. IsRefusal (lens_of part) refused) }
@@ -111,7 +113,8 @@ pub fn read_head<S: Source>(
 ) -> Result<Head, TakeFault>
     requires some { 0 < length piece.old }
     requires few { length piece.old ≤ PIECE_BYTES }
-    ensures head { MatchResult result (ReadsHead S.Source source.old source.new) (StopsHead S.Source source.old source.new) }
+    ensures head { MatchResult result (ReadsHead S.Source source.old source.new)
+        (StopsHead S.Source source.old source.new) }
     ensures faults { S.faults source.old ≤ S.faults source.new }
     ensures cause { IsErrOf result TakeFault.SourceFault → Increased (S.faults source.old) (S.faults source.new) }
 {
@@ -146,7 +149,8 @@ fn add_lines(program: &mut ProgramText, input: &mut Input) -> Result<bool, Alloc
 // Adds the last line of an input, which no LF ends, unless it is the separator.
 fn add_last(program: &mut ProgramText, last: Option<Line>) -> Result<(), AllocError>
     ensures { IfOk result (λ _. (front rest : List ℕ) → IsProgramFront front → HoldsPart program.old front
-        → has_no_end rest ≡ true → last ≡ last_line (line_of rest) → HoldsPart program.new (program_part (front ++ rest))) }
+        → has_no_end rest ≡ true → last ≡ last_line (line_of rest)
+        → HoldsPart program.new (program_part (front ++ rest))) }
 {
     let Some(line) = last else {
         return Ok(());

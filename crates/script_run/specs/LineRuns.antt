@@ -1,6 +1,7 @@
--- The run over the lines of an input: each line that is not blank is an item, and a state answers the items one after another. What an
--- item makes of a state is given. Read it from the end: `GoesOver`, `written`, then `run`.
-use Rattle.std.specs.Prelude.{◌≡◌, ℕ, ◌+◌, List, [], ◌∷◌, ◌++◌, Bool, ◌||◌, Option, Some, option_map, option_and_then, if◌then◌else◌, map}
+-- The run over the lines of an input: each line that is not blank is an item, and a state answers the items one after
+-- another. What an item makes of a state is given. Read it from the end: `GoesOver`, `written`, then `run`.
+use Rattle.std.specs.Prelude.{◌≡◌, ℕ, ◌+◌, List, [], ◌∷◌, ◌++◌, Bool, ◌||◌, Option, Some, option_map, option_and_then}
+use Rattle.std.specs.Prelude.{if◌then◌else◌, map}
 use Rattle.std.specs.List.{list_any}
 use Rattle.edit_journal.specs.Lines.{is_blank}
 use Rattle.edit_journal.specs.declared.line.Line.{Line}
@@ -50,7 +51,8 @@ module _ {T : Type 0} (answer : T → ℕ → Line → Option (T × Answer)) whe
   abbrev pub run : T → ℕ → List Line → Option (List (T × Answer))
   run t n [] = Some []
   run t n (line ∷ lines) =
-      if is_blank line then run t n lines else option_and_then (λ s. option_map (λ steps. s ∷ steps) (run s.0 (n + 1) lines)) (answer t (n + 1) line)
+      if is_blank line then run t n lines else option_and_then
+      (λ s. option_map (λ steps. s ∷ steps) (run s.0 (n + 1) lines)) (answer t (n + 1) line)
 
   -- every state of a run from this one on: it, and the one after each item, those after refused items included
   abbrev pub states : T → List Line → Option (List T)
@@ -64,7 +66,9 @@ module _ {T : Type 0} (answer : T → ℕ → Line → Option (T × Answer)) whe
   abbrev pub written_after : T → Come → List Line → Option (Written T)
   written_after t p lines = option_map (after_progress t p) (run t p.number lines)
 
-  -- The run goes over these lines: from the first state and progress it comes to the second, whatever was written before and whatever
-  -- lines follow.
+  -- The run goes over these lines: from the first state and progress it comes to the second, whatever was written
+  -- before and whatever lines follow.
   abbrev pub GoesOver : T → Progress → List Line → T → Progress → Type 0
-  GoesOver t p lines t' p' = (given : List ℕ) (more : List Line) → written_after t (come given p) (lines ++ more) ≡ written_after t' (come given p') more
+  GoesOver t p lines t' p' =
+      (given : List ℕ) (more : List Line) → written_after t (come given p) (lines ++ more)
+      ≡ written_after t' (come given p') more

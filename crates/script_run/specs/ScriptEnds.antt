@@ -1,6 +1,7 @@
 -- How a call over a script ends, and what holds then. Read it from the end: `Ended`, `Reports`, `Stops`, then
 -- `IsCleanStop`.
-use Rattle.std.specs.Prelude.{◌≡◌, ◌⊎◌, ℕ, ◌+◌, ◌<◌, ◌≤◌, List, [], ◌++◌, length, true, Some, option_map, Result, Ok, Err}
+use Rattle.std.specs.Prelude.{◌≡◌, ◌⊎◌, ℕ, ◌+◌, ◌<◌, ◌≤◌, List, [], ◌++◌, length, true, Some, option_map, Result, Ok}
+use Rattle.std.specs.Prelude.{Err}
 use Rattle.std.specs.List.{All}
 use Rattle.std.specs.declared.option.Option.{Option}
 use Rattle.lens_io.specs.Calls.{Took, IsRead, IsUnasked, Gave, GaveFront, before_last}
@@ -16,11 +17,13 @@ use Rattle.script_run.specs.Report.{report}
 use Rattle.script_run.specs.declared.script_state.ScriptState as OfScript
 use Rattle.command_ends.specs.Statuses.{IsFinished}
 use Rattle.command_ends.specs.declared.status.Status.{Status}
-use Rattle.command_ends.specs.declared.status.Status.TheVariants.{Done, SomeRefused, ProgramRefused, SourceFault, SinkFault, InputTooLong, NoMemory}
+use Rattle.command_ends.specs.declared.status.Status.TheVariants.{Done, SomeRefused, ProgramRefused, SourceFault}
+use Rattle.command_ends.specs.declared.status.Status.TheVariants.{SinkFault, InputTooLong, NoMemory}
 
 -- The run over these lines goes on to its end, and this holds of every state of it, the first one and those after
 -- refused items included.
-abbrev pub StaysInStep : {T : Type 0} (answer : T → ℕ → Line → Option (T × Answer)) → (T → Type 0) → T → List Line → Type 0
+abbrev pub StaysInStep : {T : Type 0} (answer : T → ℕ → Line → Option (T × Answer)) → (T → Type 0) → T → List Line
+    → Type 0
 StaysInStep {T} answer is_kept t lines = (all : List T) × (states answer t lines ≡ Some all) × All is_kept all
 
 -- A status that may come while the last piece is handled, before it is known that the input is too long.
@@ -111,7 +114,8 @@ module _ {H S : Type 0} (script : OfScript.Ghosts H) (source : OfSource.Ghosts S
   AnswersFirst bytes count = IsUnasked source old new × (bytes ≡ []) ⊎ AnswersInTime bytes count
 
 -- A call from the old devices to the new ones.
-module _ {H S K : Type 0} (script : OfScript.Ghosts H) (source : OfSource.Ghosts S) (sink : OfSink.Ghosts K) (old new : S × K) where
+module _ {H S K : Type 0} (script : OfScript.Ghosts H) (source : OfSource.Ghosts S) (sink : OfSink.Ghosts K)
+    (old new : S × K) where
   -- The source was read to its end and gave these bytes, at most 2^30. Their report, with this status, was written to
   -- the sink. The program part is accepted, and every state of the run is in step.
   pub record Reports (status : Status) : Type 0 where
@@ -136,7 +140,8 @@ module _ {H S K : Type 0} (script : OfScript.Ghosts H) (source : OfSource.Ghosts
   abbrev pub WouldWrite : List ℕ → List ℕ → Type 0
   WouldWrite bytes text =
       GoesOn script bytes × AnswersSome script bytes text
-      ⊎ ((refusal : script.Refusal) × RefusesPart script source old.0 new.0 bytes refusal × (text ≡ script.refusal_line refusal))
+      ⊎ ((refusal : script.Refusal) × RefusesPart script source old.0 new.0 bytes refusal
+      × (text ≡ script.refusal_line refusal))
       ⊎ IsRead source old.0 new.0 × ((status : Status) × (report script bytes ≡ Some (text, status)))
 
   -- ---- what was written, of a call to which the source gave these bytes
@@ -149,13 +154,15 @@ module _ {H S K : Type 0} (script : OfScript.Ghosts H) (source : OfSource.Ghosts
 
   -- The answers to all lines of the journal that an LF has ended were written, and no more.
   abbrev pub HasAnsweredAll : List ℕ → Type 0
-  HasAnsweredAll bytes = GoesOn script bytes × ((text : List ℕ) × AnswersAll script bytes text × Gave sink old.1 new.1 text)
+  HasAnsweredAll bytes =
+      GoesOn script bytes × ((text : List ℕ) × AnswersAll script bytes text × Gave sink old.1 new.1 text)
 
   -- The answers to some of these lines, up to one of them, were written, and no more. They were in time.
   abbrev pub HasAnsweredSome : List ℕ → Type 0
   HasAnsweredSome bytes =
       (text : List ℕ)
-      × AnswersSome script bytes text × Gave sink old.1 new.1 text × AnswersFirst script source old.0 new.0 bytes (length text)
+      × AnswersSome script bytes text × Gave sink old.1 new.1 text
+      × AnswersFirst script source old.0 new.0 bytes (length text)
 
   -- A prefix of what the call was writing was written, and not all of it. The answers were in time.
   abbrev pub HasWrittenPrefix : List ℕ → Type 0
@@ -163,7 +170,8 @@ module _ {H S K : Type 0} (script : OfScript.Ghosts H) (source : OfSource.Ghosts
       (text : List ℕ) × WouldWrite bytes text
       × ((front : GaveFront sink old.1 new.1 text) × AnswersFirst script source old.0 new.0 bytes front.0)
 
-  -- what was written when a call ended with a status. That of a call that is finished is said by `Reports`. No other status comes.
+  -- what was written when a call ended with a status. That of a call that is finished is said by `Reports`. No other
+  -- status comes.
   abbrev pub IsCleanStop : List ℕ → Status → Type 0
   IsCleanStop bytes Done = Unit {0}
   IsCleanStop bytes SomeRefused = Unit {0}

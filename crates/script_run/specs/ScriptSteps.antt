@@ -73,7 +73,8 @@ module _ {H : Type 0} (script : OfScript.Ghosts H) where
 
   -- The report of a program part alone was written, with its status; or the sink failed at it, or memory ran out before
   -- it was made.
-  pub record GivesAlone {K : Type 0} (sink : OfSink.Ghosts K) (old new : K) (accepted : Result script.Accepted script.Refusal)
+  pub record GivesAlone {K : Type 0} (sink : OfSink.Ghosts K) (old new : K)
+      (accepted : Result script.Accepted script.Refusal)
       (status : Status) : Type 0 where
     -- the report, unless memory ran out
     pub made : Result Report AllocError

@@ -27,18 +27,20 @@ pub trait ProgramScript: ScriptState {
 
 /// Runs a script, with its input and its output.
 ///
-/// The source is read in pieces, to its end unless something stops the call before it, and what there is to write for each piece is written
-/// before the next is read. docs/FORMATS.md says what a script is, and docs/MEANING.md what a report says. The status says how the call
-/// ended, and `ended` what holds then:
+/// The source is read in pieces, to its end unless something stops the call before it, and what there is to write for
+/// each piece is written before the next is read. docs/FORMATS.md says what a script is, and docs/MEANING.md what a
+/// report says. The status says how the call ended, and `ended` what holds then:
 ///
-/// - `Done`, `SomeRefused`: the source was read to its end, and the report of what it gave was written: the answer lines of the run over the
-///   lines of the journal, and the state lines of its last state. Every state of the run is in step.
+/// - `Done`, `SomeRefused`: the source was read to its end, and the report of what it gave was written: the answer
+///   lines of the run over the lines of the journal, and the state lines of its last state. Every state of the run is
+///   in step.
 /// - `ProgramRefused`: the program part is whole and refused, and its line was written.
 /// - `SourceFault`, `InputTooLong`: the answers to exactly the lines of the journal that have ended were written.
 /// - `SinkFault`, `NoMemory`: when the source was called last, every line of the journal that had ended was answered.
 ///
-/// No other status comes (`statuses`). `source_fault`, `sink_fault`: these come only if the source, or the sink, failed. `completes`: over at most 2^30 bytes, if
-/// neither failed, the call comes to its end, or the program part is refused, or memory ran out. `NoMemory` comes only if memory ran out.
+/// No other status comes (`statuses`). `source_fault`, `sink_fault`: these come only if the source, or the sink,
+/// failed. `completes`: over at most 2^30 bytes, if neither failed, the call comes to its end, or the program part is
+/// refused, or memory ran out. `NoMemory` comes only if memory ran out.
 pub fn run_script<S: Source, K: Sink, A: ProgramScript>(
     alloc: Global,
     source: &mut S,

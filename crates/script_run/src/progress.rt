@@ -1,5 +1,6 @@
 //! How far a run over the lines of an input has come.
-ghost use Rattle.std.specs.Prelude.{◌≡◌, ◌+◌, ◌^◌, ◌<◌, ◌≤◌, ◌∷◌, ◌++◌, ◌||◌, [], false, List, ℕ, OnErr, OnOk, option_to_list};
+ghost use Rattle.std.specs.Prelude.{◌≡◌, ◌+◌, ◌^◌, ◌<◌, ◌≤◌, ◌∷◌, ◌++◌, ◌||◌, [], false, List, ℕ, OnErr, OnOk};
+ghost use Rattle.std.specs.Prelude.{option_to_list};
 ghost use Rattle.edit_journal.specs.Lines.{is_blank};
 ghost use Rattle.edit_journal.specs.Pieces.{last_line};
 ghost use Rattle.edit_journal.specs.declared.line.Line.{Line};
@@ -10,7 +11,8 @@ use edit_journal::{Line, is_blank};
 use script_input::Input;
 use std::alloc::{AllocError, Global};
 
-/// How far a run has come: how many items it has read, whether one was refused, and the answers that are not written yet.
+/// How far a run has come: how many items it has read, whether one was refused, and the answers that are not written
+/// yet.
 #[derive(Drop)]
 pub struct Progress {
     pub number: u64,
@@ -47,8 +49,8 @@ impl Progress {
     }
 }
 
-/// Handles a line: a blank one is skipped, and any other is an item. The only error is running out of memory, and then the
-/// progress is as it was.
+/// Handles a line: a blank one is skipped, and any other is an item. The only error is running out of memory, and then
+/// the progress is as it was.
 #[tactic(auto, using(crate::proofs::RunSteps::blank_line_step))]
 pub fn handle_line<A: LineAnswers>(
     alloc: Global,
@@ -88,8 +90,8 @@ fn answer_item<A: LineAnswers>(
     progress.add(answer.line.as_slice(), answer.refused)
 }
 
-/// Handles the last line of an input that is at its end, which no LF ends, if there is one. The only error is running out of
-/// memory.
+/// Handles the last line of an input that is at its end, which no LF ends, if there is one. The only error is running
+/// out of memory.
 pub fn handle_last<A: LineAnswers>(
     alloc: Global,
     state: &mut A,

@@ -1,11 +1,13 @@
 //! The loop that answers the lines of an input, piece by piece.
-ghost use Rattle.std.specs.Prelude.{◌≡◌, ◌+◌, ◌^◌, ◌<◌, ◌≤◌, ◌∷◌, [], length, IfOk, IfErr, IsErrOf, MatchResult, OnOk, OnErr};
+ghost use Rattle.std.specs.Prelude.{◌≡◌, ◌+◌, ◌^◌, ◌<◌, ◌≤◌, ◌∷◌, [], length, IfOk, IfErr, IsErrOf, MatchResult, OnOk};
+ghost use Rattle.std.specs.Prelude.{OnErr};
 ghost use Rattle.lens_io.specs.Calls.{SinkFailed};
 ghost use Rattle.lens_io.specs.Causes.{Increased};
 ghost use Rattle.lens_io.specs.Content.{AppendsFront};
 ghost use Rattle.script_input.specs.Taking.{GaveFew, IsWithin};
 ghost use Rattle.script_input.specs.declared.limits.TheConstants.{MOST_BYTES, MOST_KEPT};
-ghost use Rattle.script_run.specs.LineEnds.{GivesAnswers, WritesPart, AnswersLines, StopsLines, AnswersPiece, AnswersPieces};
+ghost use Rattle.script_run.specs.LineEnds.{GivesAnswers, WritesPart, AnswersLines, StopsLines, AnswersPiece};
+ghost use Rattle.script_run.specs.LineEnds.{AnswersPieces};
 
 use crate::line_answers::LineAnswers;
 use crate::progress::{Progress, handle_line};
@@ -19,14 +21,15 @@ use std::alloc::Global;
 /// its end. When the source is asked for the next piece, all lines that have ended are answered, and their answers
 /// are written.
 ///
-/// `Ok` is the progress at the end of the input: all answers are written, and only the line that no LF ends is not handled.
+/// `Ok` is the progress at the end of the input: all answers are written, and only the line that no LF ends is not
+/// handled.
 ///
 /// - `SourceFault`, `SinkFault`: only if the source, or the sink, failed.
 /// - `TooLong`: if and only if more than 2^30 bytes were taken, and neither the sink nor memory stopped the run first.
 /// - `NoMemory`: only if memory ran out.
 ///
-/// After `SourceFault` and `TooLong` the answers to all lines that have ended are written. After `SinkFault` and `NoMemory`
-/// at most the lines that ended in the last piece are unanswered.
+/// After `SourceFault` and `TooLong` the answers to all lines that have ended are written. After `SinkFault` and
+/// `NoMemory` at most the lines that ended in the last piece are unanswered.
 pub fn answer_pieces<S: Source, K: Sink, A: LineAnswers>(
     alloc: Global,
     state: &mut A,
@@ -56,12 +59,12 @@ pub fn answer_pieces<S: Source, K: Sink, A: LineAnswers>(
 
 /// Takes one piece of an input, and writes the answers to the lines that it has ended. `false` is the end of the input.
 ///
-/// It is to be called when all lines that have ended before are answered, and their answers are written; and so it is after
-/// `Ok`. At most one piece is taken. So no more than one piece is ever unanswered.
+/// It is to be called when all lines that have ended before are answered, and their answers are written; and so it is
+/// after `Ok`. At most one piece is taken. So no more than one piece is ever unanswered.
 ///
-/// The errors are those of [`answer_pieces`]. After `SourceFault` and `TooLong` nothing was taken. After `SinkFault` the
-/// answers to some of the lines that the piece has ended are made, and a prefix of them is written, and not all. After
-/// `NoMemory` the answers to some of these lines are written.
+/// The errors are those of [`answer_pieces`]. After `SourceFault` and `TooLong` nothing was taken. After `SinkFault`
+/// the answers to some of the lines that the piece has ended are made, and a prefix of them is written, and not all.
+/// After `NoMemory` the answers to some of these lines are written.
 #[tactic(auto, using(script_input::proofs::EndedLines::few_ended))]
 pub fn answer_piece<S: Source, K: Sink, A: LineAnswers>(
     alloc: Global,

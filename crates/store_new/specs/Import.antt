@@ -103,13 +103,15 @@ entry_payload word = compact_text (tree_of_change_record (one (Left, word)))
 -- The program is that of the script, and the document is that of its journal part. The word that makes the document
 -- from the initial one steps the first triple to this one, whose left document it is, and is translated to this word of
 -- the right side. The triple is consistent, and the two payloads stand for it.
-pub record IsImported (bytes : List ℕ) (program : ProgramTree) (form : FormTree) (doc : DocTree) (after : TripleTree) (word : WordTree) : Type 0 where
+pub record IsImported (bytes : List ℕ) (program : ProgramTree) (form : FormTree) (doc : DocTree) (after : TripleTree)
+    (word : WordTree) : Type 0 where
   pub accepted : IsAccepted (program_part bytes) program form
   pub is_document : document_of_script (left_type form) bytes ≡ Ok doc
   pub steps : step_of form (first_of form) (one (Left, construct (left_type form) doc)) ≡ Some (Ok (after, word ∷ []))
   pub left_is : after.left ≡ doc
   pub in_step : IsInStepFor form after
-  pub stand : stands (program_payload program ∷ entry_payload (construct (left_type form) doc) ∷ []) ≡ Ok (standing form after 1 2)
+  pub stand : stands (program_payload program ∷ entry_payload (construct (left_type form) doc) ∷ [])
+      ≡ Ok (standing form after 1 2)
 
 -- The store of a script: the payload of its program, of version 2, and that of the entry of the left side that makes
 -- the document. The lines are `ok 1 right WORD`, with the translated word, and the state lines of the triple after it.

@@ -51,14 +51,16 @@ pub record IsEntryText (form : FormTree) (doc : DocTree) (payload lines : List �
   pub written : lines ≡ ok_line 1 Right word ++ state_lines form after
 
 -- the payload of the program, which reads as its tree, and that of the entry
-pub record IsImportStore (program : ProgramTree) (form : FormTree) (doc : DocTree) (payloads : List (List ℕ)) (lines : List ℕ) : Type 0 where
+pub record IsImportStore (program : ProgramTree) (form : FormTree) (doc : DocTree) (payloads : List (List ℕ))
+    (lines : List ℕ) : Type 0 where
   pub payload : List ℕ
   pub are : payloads ≡ program_payload program ∷ payload ∷ []
   pub reads : tree_of_text (program_payload program) ≡ Some (tree_of_program (canonical program))
   pub entry : IsEntryText form doc payload lines
 
 -- the same for the document that was found
-pub record IsFoundStore (program : ProgramTree) (form : FormTree) (outcome : Result DocTree ImportRefusal) (payloads : List (List ℕ)) (lines : List ℕ) : Type 0 where
+pub record IsFoundStore (program : ProgramTree) (form : FormTree) (outcome : Result DocTree ImportRefusal)
+    (payloads : List (List ℕ)) (lines : List ℕ) : Type 0 where
   pub doc : DocTree
   pub is : outcome ≡ Ok doc
   pub store : IsImportStore program form doc payloads lines

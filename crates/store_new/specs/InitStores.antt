@@ -10,7 +10,8 @@ use Rattle.store_records.specs.RecordJson.{tree_of_program}
 use Rattle.store_new.specs.Init.{program_payload}
 
 -- the payload of the program, which reads as its tree, and the state lines of the first triple
-pub record IsFirstStore (program : ProgramTree) (form : FormTree) (payloads : List (List ℕ)) (lines : List ℕ) : Type 0 where
+pub record IsFirstStore (program : ProgramTree) (form : FormTree) (payloads : List (List ℕ))
+    (lines : List ℕ) : Type 0 where
   pub are : payloads ≡ program_payload program ∷ []
   pub reads : tree_of_text (program_payload program) ≡ Some (tree_of_program (canonical program))
   pub written : lines ≡ state_lines form (first_of form)

@@ -28,11 +28,14 @@ ghost use Rattle.store_new.specs.Making.{EndsPlan};
 ghost use Rattle.store_new.specs.NewRooms.{PlanHasNoRoom, ScriptHasNoRoom};
 ghost use Rattle.store_new.specs.ImportStores.{EndsImport, IsEntryText, IsFoundStore, IsImportStore, MakesDocument};
 
-use crate::scripts::status_at;
 use crate::document::{DocumentFault, Found, document_of, find_lines};
-use crate::{Accepted, LOG_EXISTS, StoreText, Unread, accepted_part, first_session, give_line, make_store, refuse_program};
-use command_ends::Status;
+use crate::scripts::status_at;
+use crate::{
+    Accepted, LOG_EXISTS, StoreText, Unread, accepted_part, first_session, give_line, make_store,
+    refuse_program,
+};
 use answer_text::ok_line;
+use command_ends::Status;
 use doc_values::Doc;
 use edit_inverse::construct;
 use edit_module::{Change, Entry, Word};
@@ -67,28 +70,32 @@ struct EntryText {
 /// type. The store then holds two payloads: the program, as after `init`, and the entry of the left side whose word
 /// makes the document from the initial one.
 ///
-/// - `imports`: after `Done` the script was read to its end, the disk was empty, it holds the two payloads, and each image that
-///   a crash now may leave does, too. They represent a consistent triple, whose left document is the one that was read. The line
-///   `ok 1 right WORD`, with the translated word, and the state lines of the triple were written.
-/// - `refuses`: after `SomeRefused` the script was read to its end, and `import refused: REASON` was written. The reasons, in
-///   their order: `no-document`, if all lines are blank; `extra-line`, if more than one is not; `line-too-long`, `not-json`,
-///   and `not-of-type`. The disk is as before.
-/// - `ends`: what was taken, what was written and what the disk holds after each status. After `NoMemory` the disk is as before,
-///   or holds a log without a record or with the program alone. The same is so at the line `store refused: log-full`, which comes
-///   if the log would have more than 2^63 - 1 bytes. At each other refusal line the disk is as before. After `DiskFault` it may
-///   hold any bytes. After `SinkFault` at a line that is not a refusal the store is made with both records.
-/// - `at_once`: `ProgramRefused` comes only if the program part is whole and refused: the separator has come with the last
-///   call of the source, so that at most the rest of its block was read, or the source is at its end. If the separator has
-///   come and the part is refused, the status is `ProgramRefused`, or the sink failed or memory ran out, whatever stands
-///   behind the separator.
+/// - `imports`: after `Done` the script was read to its end, the disk was empty, it holds the two payloads, and each
+///   image that a crash now may leave does, too. They represent a consistent triple, whose left document is the one
+///   that was read. The line `ok 1 right WORD`, with the translated word, and the state lines of the triple were
+///   written.
+/// - `refuses`: after `SomeRefused` the script was read to its end, and `import refused: REASON` was written. The
+///   reasons, in their order: `no-document`, if all lines are blank; `extra-line`, if more than one is not;
+///   `line-too-long`, `not-json`, and `not-of-type`. The disk is as before.
+/// - `ends`: what was taken, what was written and what the disk holds after each status. After `NoMemory` the disk is
+///   as before, or holds a log without a record or with the program alone. The same is so at the line
+///   `store refused: log-full`, which comes if the log would have more than 2^63 - 1 bytes. At each other refusal line
+///   the disk is as before. After `DiskFault` it may hold any bytes. After `SinkFault` at a line that is not a refusal
+///   the store is made with both records.
+/// - `at_once`: `ProgramRefused` comes only if the program part is whole and refused: the separator has come with the
+///   last call of the source, so that at most the rest of its block was read, or the source is at its end. If the
+///   separator has come and the part is refused, the status is `ProgramRefused`, or the sink failed or memory ran out,
+///   whatever stands behind the separator.
 /// - `exists`: if the disk is not empty, nothing is taken from the source, and nothing is written to the disk. The line
 ///   `store refused: log-exists` is written, unless the disk or the sink fails.
 /// - `statuses`: it ends by one of nine statuses, whatever the disk holds.
 /// - `source_fault`, `sink_fault`, `disk_fault`: these statuses come only if that device failed.
-/// - `room`: over a disk whose room is known, `DiskFault` comes only if the script was read to its end, and the disk has no room
-///   for the mark of a log and its gate, or for the log of the first of the two payloads or of both, and the gate behind it.
-/// - `complete`: let no device fail, the disk be empty, the script have at most 2^30 bytes, and the log have room. If the program
-///   part is accepted, the store is made or the document is refused. If it is not, the program part is refused. Or memory ran out.
+/// - `room`: over a disk whose room is known, `DiskFault` comes only if the script was read to its end, and the disk
+///   has no room for the mark of a log and its gate, or for the log of the first of the two payloads or of both, and
+///   the gate behind it.
+/// - `complete`: let no device fail, the disk be empty, the script have at most 2^30 bytes, and the log have room. If
+///   the program part is accepted, the store is made or the document is refused. If it is not, the program part is
+///   refused. Or memory ran out.
 pub fn import<S: Source, K: Sink, D: Disk>(
     alloc: Global,
     source: &mut S,
@@ -213,7 +220,8 @@ fn bring<K: Sink, D: Disk>(
     ensures sink_fault { result ≡ Status.SinkFault → SinkFailed K.Sink sink.old sink.new }
     ensures disk_fault { result ≡ Status.DiskFault → DiskFailed D.Disk disk.old disk.new }
     ensures room { result ≡ Status.DiskFault → IfSome (D.room disk.old)
-        (PlanHasNoRoom (IsImportStore (program_tree accepted.now.program) (form_tree accepted.now.lens) (doc_tree doc.now))) }
+        (PlanHasNoRoom (IsImportStore (program_tree accepted.now.program) (form_tree accepted.now.lens)
+        (doc_tree doc.now))) }
 {
     let Ok(store) = import_store(alloc, accepted, doc) else {
         return Status::NoMemory;
@@ -224,7 +232,8 @@ fn bring<K: Sink, D: Disk>(
 // The two payloads and the lines of a program and a document.
 fn import_store(alloc: Global, accepted: &Accepted, doc: &Doc) -> Result<StoreText, AllocError>
     requires typed { has (left_type (form_tree accepted.now.lens)) (doc_tree doc.now) ≡ true }
-    ensures { IfOk result (λ s. IsImportStore (program_tree accepted.now.program) (form_tree accepted.now.lens) (doc_tree doc.now) s.payloads s.lines.items) }
+    ensures { IfOk result (λ s. IsImportStore (program_tree accepted.now.program) (form_tree accepted.now.lens)
+        (doc_tree doc.now) s.payloads s.lines.items) }
 {
     let program = program_payload(alloc, &accepted.program)?;
     let entry = entry_text(alloc, &accepted.lens, doc)?;
@@ -290,7 +299,8 @@ fn document_entry(alloc: Global, lens: &Typed, doc: &Doc) -> Result<Entry, Alloc
 
 // Steps a session by an entry that applies. Returns the translated word.
 fn step_applied<L: EditLens>(session: &mut Session<L>, entry: &Entry) -> Result<Word, AllocError>
-    requires applies { (x : DocTree) × (act (near entry.now.side (L.left_type session.old.lens) (L.right_type session.old.lens))
+    requires applies { (x : DocTree)
+        × (act (near entry.now.side (L.left_type session.old.lens) (L.right_type session.old.lens))
         (word_tree entry.now.word) (document_on entry.now.side (triple_tree session.old.triple)) ≡ Ok x) }
     ensures steps { IfOk result (λ word. step (L.left_type session.old.lens) (L.right_type session.old.lens)
         (L.carried session.old.lens) (triple_tree session.old.triple) (entry_tree entry.now)

@@ -1,12 +1,13 @@
 //! The commands that make a store: `init`, and `import`.
 //!
-//! A store is a log on an empty disk. A command that makes one reads its script to its end, and makes all that it stores and
-//! writes, before it writes to the disk. [`read_script`] reads the program of a script, [`make_store`] makes the store, and
-//! [`refuse_program`] writes why a program part is refused. specs/NewEnds.antt has what holds of such a command after each
-//! status.
+//! A store is a log on an empty disk. A command that makes one reads its script to its end, and makes all that it
+//! stores and writes, before it writes to the disk. [`read_script`] reads the program of a script, [`make_store`] makes
+//! the store, and [`refuse_program`] writes why a program part is refused. specs/NewEnds.antt has what holds of such a
+//! command after each status.
 //!
-//! [`init`] makes a store with the program of a script alone, which represents the first triple of its lens: specs/Init.antt.
-//! [`import`] stores an entry behind the program. The store then represents the left document of the script: specs/Import.antt.
+//! [`init`] makes a store with the program of a script alone, which represents the first triple of its lens:
+//! specs/Init.antt. [`import`] stores an entry behind the program. The store then represents the left document of the
+//! script: specs/Import.antt.
 #![tactic(auto)]
 
 mod document;

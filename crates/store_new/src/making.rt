@@ -28,8 +28,8 @@ pub struct StoreText {
 
 /// Makes an empty log on an empty disk, stores the payloads one after another, and then writes the lines.
 ///
-/// - `room`: over a disk whose room is known, `DiskFault` comes only if it has no room for the mark and its gate, or for the
-///   log of the first of the payloads up to one of them, and the gate behind it.
+/// - `room`: over a disk whose room is known, `DiskFault` comes only if it has no room for the mark and its gate, or
+///   for the log of the first of the payloads up to one of them, and the gate behind it.
 pub fn make_store<K: Sink, D: Disk>(
     alloc: Global,
     payloads: &Payloads,

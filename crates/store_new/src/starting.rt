@@ -19,8 +19,7 @@ ghost use Rattle.store_new.specs.InitStores.{IsFirstStore};
 
 use crate::scripts::status_at;
 use crate::{
-    Accepted, LOG_EXISTS, StoreText, Unread, give_line, make_store, read_script,
-    refuse_program,
+    Accepted, LOG_EXISTS, StoreText, Unread, give_line, make_store, read_script, refuse_program,
 };
 use command_ends::Status;
 use edit_session::Session;
@@ -37,24 +36,26 @@ use store_records::program_payload;
 /// program part is refused as soon as it is whole. The store then holds one payload: the program in canonical text, of
 /// version 2.
 ///
-/// - `starts`: after `Done` the script was read to its end, the disk was empty, it holds that payload alone, and each image
-///   that a crash now may leave does, too. The payload stands for the first triple, whose state lines were written.
-/// - `ends`: what was taken, what was written and what the disk holds after each status. After `ProgramRefused`, and at the line
-///   `store refused: log-exists`, the disk is as before. After `NoMemory` it is as before or holds a log without a record, and so at
-///   the line `store refused: log-full`, which would come at more than 2^63 - 1 bytes. After `DiskFault` it may hold any bytes. After
-///   `SinkFault` at the state lines the store is made.
-/// - `at_once`: `ProgramRefused` comes only if the program part is whole and refused: the separator has come with the last
-///   call of the source, so that at most the rest of its block was read, or the source is at its end. If the separator has
-///   come and the part is refused, the status is `ProgramRefused`, or the sink failed or memory ran out, whatever stands
-///   behind the separator.
+/// - `starts`: after `Done` the script was read to its end, the disk was empty, it holds that payload alone, and each
+///   image that a crash now may leave does, too. The payload stands for the first triple, whose state lines were
+///   written.
+/// - `ends`: what was taken, what was written and what the disk holds after each status. After `ProgramRefused`, and at
+///   the line `store refused: log-exists`, the disk is as before. After `NoMemory` it is as before or holds a log
+///   without a record, and so at the line `store refused: log-full`, which would come at more than 2^63 - 1 bytes.
+///   After `DiskFault` it may hold any bytes. After `SinkFault` at the state lines the store is made.
+/// - `at_once`: `ProgramRefused` comes only if the program part is whole and refused: the separator has come with the
+///   last call of the source, so that at most the rest of its block was read, or the source is at its end. If the
+///   separator has come and the part is refused, the status is `ProgramRefused`, or the sink failed or memory ran out,
+///   whatever stands behind the separator.
 /// - `exists`: if the disk is not empty, nothing is taken from the source, and nothing is written to the disk. The line
 ///   `store refused: log-exists` is written, unless the disk or the sink fails.
 /// - `statuses`: it ends by one of eight statuses, whatever the disk holds.
 /// - `source_fault`, `sink_fault`, `disk_fault`: these statuses come only if that device failed.
-/// - `room`: over a disk whose room is known, `DiskFault` comes only if the script was read to its end, and the disk has no room
-///   for the mark of a log and its gate, or for the log of the payload of the program, and the gate behind it.
-/// - `complete`: if no device failed, and the disk is empty and the script has at most 2^30 bytes, the store is made if the
-///   program part is accepted, and the program part is refused if it is not. Or memory ran out.
+/// - `room`: over a disk whose room is known, `DiskFault` comes only if the script was read to its end, and the disk
+///   has no room for the mark of a log and its gate, or for the log of the payload of the program, and the gate behind
+///   it.
+/// - `complete`: if no device failed, and the disk is empty and the script has at most 2^30 bytes, the store is made if
+///   the program part is accepted, and the program part is refused if it is not. Or memory ran out.
 pub fn init<S: Source, K: Sink, D: Disk>(
     alloc: Global,
     source: &mut S,
@@ -108,12 +109,7 @@ fn init_empty<S: Source, K: Sink, D: Disk>(
 }
 
 // Makes the store of a program.
-fn begin<K: Sink, D: Disk>(
-    alloc: Global,
-    accepted: &Accepted,
-    sink: &mut K,
-    disk: &mut D,
-) -> Status
+fn begin<K: Sink, D: Disk>(alloc: Global, accepted: &Accepted, sink: &mut K, disk: &mut D) -> Status
     ensures ends { EndsPlan K.Sink D.Disk (sink.old, disk.old) (sink.new, disk.new)
         (IsFirstStore (program_tree accepted.now.program) (form_tree accepted.now.lens)) result }
     ensures sink_fault { result ≡ Status.SinkFault → SinkFailed K.Sink sink.old sink.new }
@@ -129,7 +125,8 @@ fn begin<K: Sink, D: Disk>(
 
 // The payload and the state lines of a program.
 fn first_store(alloc: Global, accepted: &Accepted) -> Result<StoreText, AllocError>
-    ensures { IfOk result (λ s. IsFirstStore (program_tree accepted.now.program) (form_tree accepted.now.lens) s.payloads s.lines.items) }
+    ensures { IfOk result (λ s. IsFirstStore (program_tree accepted.now.program)
+        (form_tree accepted.now.lens) s.payloads s.lines.items) }
 {
     let payload = program_payload(alloc, &accepted.program)?;
     let lines = first_lines(alloc, &accepted.lens)?;
@@ -153,7 +150,8 @@ fn first_lines(alloc: Global, lens: &Typed) -> Result<Vec<u8>, AllocError>
 /// A session of a form at its first triple. The only error is running out of memory.
 #[tactic(auto, using(lens_flat::proofs::FormLenses::is_lens_of))]
 pub fn first_session(alloc: Global, lens: &Typed) -> Result<Session<Flat>, AllocError>
-    ensures of_form { IfOk result (λ s. IsLensOf (left_type (form_tree s.lens.typed)) (right_type (form_tree s.lens.typed))
+    ensures of_form { IfOk result (λ s. IsLensOf (left_type (form_tree s.lens.typed))
+        (right_type (form_tree s.lens.typed))
         (missing (form_tree s.lens.typed)) (IsConsistent (form_tree s.lens.typed)) (translate (form_tree s.lens.typed))
         (form_tree lens.now)) }
     ensures first { IfOk result (λ s. triple_tree s.triple ≡ first_of (form_tree lens.now)) }

@@ -1,6 +1,8 @@
 -- Records as JSON: the tree of each record that this program writes, and what a tree is as a record.
--- From the end: `opening_of` and `record_of` read; `tree_of_program`, `tree_of_version`, `tree_of_change_record` and `tree_of_snapshot` write.
-use Rattle.std.specs.Prelude.{ℕ, ◌&&◌, Bool, false, List, Option, Some, None, option_map, option_and_then, Result, Ok, Err, if◌then◌else◌, codes, bytes_eq, nat_eq}
+-- From the end: `opening_of` and `record_of` read; `tree_of_program`, `tree_of_version`, `tree_of_change_record` and
+-- `tree_of_snapshot` write.
+use Rattle.std.specs.Prelude.{ℕ, ◌&&◌, Bool, false, List, Option, Some, None, option_map, option_and_then, Result, Ok}
+use Rattle.std.specs.Prelude.{Err, if◌then◌else◌, codes, bytes_eq, nat_eq}
 use Rattle.std.specs.Option.{option_or}
 use Rattle.serde_json.specs.Data.{Data, string, object, no_members, member}
 use Rattle.serde_json.specs.Find.{as_str}
@@ -22,7 +24,8 @@ one_member name content = object (member name content no_members)
 
 -- the program of this canonical text, in a store of version 2
 abbrev pub tree_of_program : List ℕ → Data
-tree_of_program text = object (member (codes "program") (string text) (member (codes "version") (count_tree 2) no_members))
+tree_of_program text =
+    object (member (codes "program") (string text) (member (codes "version") (count_tree 2) no_members))
 
 -- the same as a store of version 1 has it
 abbrev pub tree_of_first_program : List ℕ → Data
@@ -39,7 +42,9 @@ tree_of_change_record (group es) = tree_of_change (group es)
 
 -- a left document, a complement and a right document of the form
 abbrev pub tree_of_triple : FormTree → DocTree → CompTree → DocTree → Data
-tree_of_triple l x c y = object (member (codes "complement") (tree_of_complement l c) (member (codes "left") (tree_of_document (left_type l) x)
+tree_of_triple l x c y =
+    object (member (codes "complement") (tree_of_complement l c)
+    (member (codes "left") (tree_of_document (left_type l) x)
     (member (codes "right") (tree_of_document (right_type l) y) no_members)))
 
 abbrev pub tree_of_snapshot : FormTree → DocTree → CompTree → DocTree → Data
@@ -58,7 +63,8 @@ program_alone m = if bytes_eq m.0 (codes "program") then option_map (λ text. (t
 
 -- the program and the version 2
 abbrev pub program_with_version : (List ℕ × Data) × (List ℕ × Data) → Option (List ℕ × ℕ)
-program_with_version m = if bytes_eq m.0.0 (codes "program") && (bytes_eq m.1.0 (codes "version") && is_current (count_of m.1.1))
+program_with_version m =
+    if bytes_eq m.0.0 (codes "program") && (bytes_eq m.1.0 (codes "version") && is_current (count_of m.1.1))
     then option_map (λ text. (text, 2)) (as_str m.0.1) else None
 
 abbrev pub opening_from : Option (List ℕ × Data) → Data → Option (List ℕ × ℕ)
@@ -110,7 +116,8 @@ version_in d = if is_version (only_member d) then Some version_record else None
 -- the trees of an object with exactly the members `complement`, `left` and `right`, which are in byte order
 abbrev pub three_parts : Data → Option (Data × Data × Data)
 three_parts (object (member k c (member l x (member m y no_members)))) =
-    if bytes_eq k (codes "complement") && (bytes_eq l (codes "left") && bytes_eq m (codes "right")) then Some (c, x, y) else None
+    if bytes_eq k (codes "complement") && (bytes_eq l (codes "left") && bytes_eq m (codes "right")) then Some
+    (c, x, y) else None
 three_parts _ = None
 
 abbrev pub snapshot_named : List ℕ × Data → Option (Data × Data × Data)
@@ -121,7 +128,9 @@ snapshot_in d = option_and_then snapshot_named (only_member d)
 
 -- the record of a tree: a change, the version, or a snapshot
 abbrev pub record_of : Data → Option RecordTree
-record_of d = option_or (option_map change_record (change_in d)) (option_or (version_in d) (option_map snapshot_record (snapshot_in d)))
+record_of d =
+    option_or (option_map change_record (change_in d)) (option_or (version_in d)
+    (option_map snapshot_record (snapshot_in d)))
 
 -- the record of a payload
 abbrev pub record_in : List ℕ → Option RecordTree

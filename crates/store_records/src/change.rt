@@ -16,10 +16,11 @@ use value_json::only_member;
 
 /// The change of the payload of an entry or of a group.
 ///
-/// None if and only if the payload is not one of these two; the page docs/FORMATS.md has both. The version of the store does not
-/// count, nor whether the change applies. Fails only if memory runs out.
+/// None if and only if the payload is not one of these two; the page docs/FORMATS.md has both. The version of the store
+/// does not count, nor whether the change applies. Fails only if memory runs out.
 pub fn read_change(alloc: Global, payload: &Bytes) -> Result<Option<Change>, AllocError>
-    ensures { IfOk result (λ change. option_map change_tree change ≡ option_and_then change_in (tree_of_text payload.now)) }
+    ensures { IfOk result (λ change. option_map change_tree change
+        ≡ option_and_then change_in (tree_of_text payload.now)) }
 {
     match read_tree(alloc, payload.as_slice())? {
         Some(tree) => change_in(alloc, &tree),

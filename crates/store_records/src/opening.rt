@@ -32,8 +32,8 @@ pub struct StoredLens {
 
 /// The lens of the first record, for which the payloads of a store are read, and the version that this record says.
 ///
-/// - `BadRecord { number: 1 }`: if and only if there is no first record, it is not the payload of a program, or the grammar or the
-///   checker refuses its text. The text may have any length, and need not be canonical.
+/// - `BadRecord { number: 1 }`: if and only if there is no first record, it is not the payload of a program, or the
+///   grammar or the checker refuses its text. The text may have any length, and need not be canonical.
 /// - `NoMemory`: only if memory ran out.
 pub fn stored_lens(alloc: Global, payloads: &Payloads) -> Result<StoredLens, ReopenFault>
     ensures lens { MatchResult result

@@ -4,7 +4,8 @@ ghost use Rattle.std.specs.Prelude.{◌≡◌, ◌&&◌, option_map, codes, byte
 ghost use Rattle.serde_json.specs.View.{view};
 ghost use Rattle.value_json.specs.Numbers.{count_of};
 ghost use Rattle.value_json.specs.Parts.{only_member};
-ghost use Rattle.store_records.specs.RecordJson.{is_current, program_alone, program_with_version, opening_of, is_version, three_parts, snapshot_in};
+ghost use Rattle.store_records.specs.RecordJson.{is_current, program_alone, program_with_version, opening_of};
+ghost use Rattle.store_records.specs.RecordJson.{is_version, three_parts, snapshot_in};
 
 use serde_json::Value;
 use value_json::{only_member, read_count, two_members};

@@ -15,7 +15,8 @@ ghost use Rattle.lens_forms.specs.Forms.{form_tree, left_type, right_type};
 ghost use Rattle.program_terms.specs.Views.{program_tree};
 ghost use Rattle.program_writing.specs.Canonical.{canonical};
 ghost use Rattle.value_json.specs.DocumentJson.{holds_i64s, tree_of_document};
-ghost use Rattle.store_records.specs.RecordJson.{tree_of_program, tree_of_version, tree_of_change_record, tree_of_triple, tree_of_snapshot, one_member};
+ghost use Rattle.store_records.specs.RecordJson.{tree_of_program, tree_of_version, tree_of_change_record};
+ghost use Rattle.store_records.specs.RecordJson.{tree_of_triple, tree_of_snapshot, one_member};
 
 use crate::parts::VERSION;
 use crate::text::payload_of;
@@ -35,10 +36,12 @@ use value_json::{write_doc, write_text};
 ///
 /// Fails only if memory runs out.
 pub fn program_payload(alloc: Global, program: &Program) -> Result<Bytes, AllocError>
-    ensures text { IfOk result (λ bytes. bytes ≡ compact_text (tree_of_program (canonical (program_tree program.now)))) }
+    ensures text { IfOk result
+        (λ bytes. bytes ≡ compact_text (tree_of_program (canonical (program_tree program.now)))) }
 
     // A reader of JSON gives its tree back.
-    ensures reads_back { IfOk result (λ bytes. tree_of_text bytes ≡ Some (tree_of_program (canonical (program_tree program.now)))) }
+    ensures reads_back { IfOk result (λ bytes. tree_of_text bytes
+        ≡ Some (tree_of_program (canonical (program_tree program.now)))) }
 {
     let text = write_program(alloc, program)?;
     let tree = program_record(alloc, text.as_str())?;
@@ -78,14 +81,15 @@ fn record_named(alloc: Global, name: &str, content: Value) -> Result<Value, Allo
 
 /// The payload of a change: an entry under the name `entry`, and a group as in a journal.
 ///
-/// Each insertion and each deletion in the change is of 1 to 65,536 items, as in every change that applies. Fails only if memory
-/// runs out.
+/// Each insertion and each deletion in the change is of 1 to 65,536 items, as in every change that applies. Fails only
+/// if memory runs out.
 pub fn change_payload(alloc: Global, change: &Change) -> Result<Bytes, AllocError>
     requires counts_fit { change_counts_fit (change_tree change.now) ≡ true }
 
     ensures text { IfOk result (λ bytes. bytes ≡ compact_text (tree_of_change_record (change_tree change.now))) }
 
-    // A reader of JSON gives its tree back, unless it nests too deep for it; that of a change that applies does not (`laws`).
+    // A reader of JSON gives its tree back, unless it nests too deep for it; that of a change that applies does not
+    // (`laws`).
     ensures reads_back { IfOk result (λ bytes. depth (tree_of_change_record (change_tree change.now)) ≤ max_depth
         → tree_of_text bytes ≡ Some (tree_of_change_record (change_tree change.now))) }
 
@@ -123,7 +127,8 @@ pub fn snapshot_payload(
     requires right_has { IsTrue (has (right_type (form_tree typed.now)) (doc_tree right.now)) }
 
     ensures text { IfOk result (λ bytes. bytes
-        ≡ compact_text (tree_of_snapshot (form_tree typed.now) (doc_tree left.now) (comp_tree comp.now) (doc_tree right.now))) }
+        ≡ compact_text (tree_of_snapshot (form_tree typed.now) (doc_tree left.now) (comp_tree comp.now)
+        (doc_tree right.now))) }
 
     // A reader of JSON gives its tree back.
     ensures reads_back { IfOk result (λ bytes. tree_of_text bytes

@@ -3,7 +3,8 @@
 use std::alloc::{AllocError, AllocFailed, Global};
 use texts::Twin;
 
-/// Why payloads stand for no session. Records are numbered from 1 on, and the fault is that of the first record that has one.
+/// Why payloads stand for no session. Records are numbered from 1 on, and the fault is that of the first record that
+/// has one.
 #[derive(Clone, Copy, Debug, PartialEq, Eq, Drop)]
 pub enum ReopenFault {
     /// The record is not one that may stand there.

@@ -14,7 +14,9 @@ ghost use Rattle.lens_forms.specs.Forms.{FormTree, left_type, right_type};
 ghost use Rattle.value_json.specs.DocumentJson.{tree_of_document};
 ghost use Rattle.lens_forms.specs.Typing.{is_typed};
 ghost use Rattle.complement_file.specs.ComplementJson.{tree_of_complement};
-ghost use Rattle.store_records.specs.RecordJson.{tree_of_program, tree_of_version, tree_of_change_record, tree_of_snapshot, opening_of, record_of, version_record, change_record, snapshot_record};
+ghost use Rattle.store_records.specs.RecordJson.{tree_of_program, tree_of_version, tree_of_change_record};
+ghost use Rattle.store_records.specs.RecordJson.{tree_of_snapshot, opening_of, record_of, version_record};
+ghost use Rattle.store_records.specs.RecordJson.{change_record, snapshot_record};
 ghost use Rattle.store_records.specs.StoredComplements.{complement_of};
 
 /// The complement that a tree is, and the tree of a complement, belong together.
@@ -44,5 +46,10 @@ pub fn records_are_read()
         → record_of (tree_of_change_record change) ≡ Some (change_record change) }
     ensures snapshot { (form : FormTree) (left : DocTree) (comp : CompTree) (right : DocTree)
         → record_of (tree_of_snapshot form left comp right)
-        ≡ Some (snapshot_record (tree_of_complement form comp, tree_of_document (left_type form) left, tree_of_document (right_type form) right)) }
+        ≡ Some (snapshot_record (
+          tree_of_complement form comp,
+          tree_of_document (left_type form) left,
+          tree_of_document
+              (right_type form) right,
+        )) }
 {}

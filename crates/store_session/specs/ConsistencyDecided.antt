@@ -22,7 +22,8 @@ use Rattle.lens_check.proofs.MatchTests.{match_test}
 use Rattle.store_session.specs.ConsistencyTest.{is_in_image, is_consistent}
 
 module _ (l : FormTree) (x : DocTree) (c : CompTree) (y : DocTree) (typed : is_typed l ≡ true) where
-  judged : (o : Option PatternTree) → image l Left c (pattern_of x) ≡ o → AreTyped l x c y → IsTrue (is_in_image o y) ↔ IsConsistent l x c y
+  judged : (o : Option PatternTree) → image l Left c (pattern_of x) ≡ o → AreTyped l x c y → IsTrue (is_in_image o y)
+      ↔ IsConsistent l x c y
   judged None e a = no_image l x c y typed e
   judged (Some q) e a = in_image (is_match q y) l x c y q typed a e (match_test (is_match q y) q y refl)
 
@@ -54,12 +55,15 @@ same_truth false true f g = g refl
 same_truth false false f g = refl
 
 -- what decides consistency is the test
-pub is_decided : (b : Bool) (l : FormTree) (x : DocTree) (c : CompTree) (y : DocTree) → is_typed l ≡ true → (IsTrue b ↔ IsConsistent l x c y) → b ≡ is_consistent l x c y
+pub is_decided : (b : Bool) (l : FormTree) (x : DocTree) (c : CompTree) (y : DocTree) → is_typed l ≡ true
+    → (IsTrue b ↔ IsConsistent l x c y) → b ≡ is_consistent l x c y
 is_decided b l x c y typed k =
-    same_truth b (is_consistent l x c y) (λ h. consistent_then l x c y typed (k.0 h)) (λ h. k.1 (consistent_if l x c y typed h))
+    same_truth b (is_consistent l x c y) (λ h. consistent_then l x c y typed (k.0 h))
+    (λ h. k.1 (consistent_if l x c y typed h))
 
 -- the same of what a call returns
-pub all_decided : {E : Type 0} (r : Result Bool E) (l : FormTree) (x : DocTree) (c : CompTree) (y : DocTree) → is_typed l ≡ true
+pub all_decided : {E : Type 0} (r : Result Bool E) (l : FormTree) (x : DocTree) (c : CompTree) (y : DocTree)
+    → is_typed l ≡ true
     → IfOk r (λ b. IsTrue b ↔ IsConsistent l x c y) → IfOk r (λ b. b ≡ is_consistent l x c y)
 all_decided (Ok b) l x c y typed k = is_decided b l x c y typed k
 all_decided (Err fault) l x c y typed k = k

@@ -17,4 +17,5 @@ is_in_image (Some q) y = is_match q y
 
 -- Both documents have their types, the complement fits, and the right document is in the image of the left one.
 abbrev pub is_consistent : FormTree → DocTree → CompTree → DocTree → Bool
-is_consistent l x c y = has (left_type l) x && (fits l c && (has (right_type l) y && is_in_image (image l Left c (pattern_of x)) y))
+is_consistent l x c y =
+    has (left_type l) x && (fits l c && (has (right_type l) y && is_in_image (image l Left c (pattern_of x)) y))

@@ -113,8 +113,8 @@ state_text s = lines.state_lines s.form s.triple
 abbrev pub snapshot_text : StoredState → List ℕ
 snapshot_text s = compact_text (tree_of_snapshot s.form s.triple.left s.triple.comp s.triple.right)
 
--- The payload is a snapshot of the state, and is read back as the record of its triple. The triple is consistent, and its
--- ints are i64, as all ints of the program.
+-- The payload is a snapshot of the state, and is read back as the record of its triple. The triple is consistent, and
+-- its ints are i64, as all ints of the program.
 pub record IsSnapshot (s : StoredState) (payload : List ℕ) : Type 0 where
   pub text : payload ≡ snapshot_text s
   pub reads : tree_of_text payload ≡ Some (tree_of_snapshot s.form s.triple.left s.triple.comp s.triple.right)

@@ -1,5 +1,6 @@
 -- The records that this program writes behind the first, and what each makes of what stood before it.
--- In order: `WrittenRecord`, `StandsAfter`, and for lists of records `AreWritten`, `SnapshotsKeep` and `changes_written`.
+-- In order: `WrittenRecord`, `StandsAfter`, and for lists of records `AreWritten`, `SnapshotsKeep` and
+-- `changes_written`.
 use Rattle.std.specs.Prelude.{◌≡◌, ℕ, ◌+◌, List, [], ◌∷◌, ◌++◌, Option, Some, None, Ok, true, map, option_to_list}
 use Rattle.serde_json.specs.Data.{Data}
 use Rattle.value_json.specs.DocumentJson.{holds_i64s}
@@ -29,10 +30,11 @@ tree_of_written l (the_snapshot t) = tree_of_snapshot l t.left t.comp t.right
 -- a change has a tree: its counts and its numbers fit; groups are stored at version 2
 abbrev pub HasRecord : ℕ → ChangeTree → Type 0
 HasRecord version (one e) = (change_counts_fit (one e) ≡ true) × (change_numbers_fit (one e) ≡ true)
-HasRecord version (group es) = (change_counts_fit (group es) ≡ true) × (change_numbers_fit (group es) ≡ true) × (version ≡ 2)
+HasRecord version (group es) =
+    (change_counts_fit (group es) ≡ true) × (change_numbers_fit (group es) ≡ true) × (version ≡ 2)
 
--- The record may be written behind what stands first, and the other stands then. The version 2 is written at version 1; a
--- change is accepted and counts one; a snapshot is consistent, and its ints are i64, as all ints of the program.
+-- The record may be written behind what stands first, and the other stands then. The version 2 is written at version 1;
+-- a change is accepted and counts one; a snapshot is consistent, and its ints are i64, as all ints of the program.
 abbrev pub StandsAfter : Standing → WrittenRecord → Standing → Type 0
 StandsAfter s the_version t = (s.version ≡ 1) × (t ≡ record s { version = 2 })
 StandsAfter s (the_change change) t = HasRecord s.version change
@@ -68,7 +70,9 @@ abbrev pub changes_written : List (List ℕ × WrittenRecord) → List ChangeTre
 changes_written [] = []
 changes_written (w ∷ ws) = option_to_list (change_written w.1) ++ changes_written ws
 
--- the run of a lens over these changes goes from the one triple to the other; F is the type of what may be wrong with a line
+-- the run of a lens over these changes goes from the one triple to the other; F is the type of what may be wrong with a
+-- line
 abbrev pub RunsTo : (F : Type 0) → FormTree → TripleTree → List ChangeTree → TripleTree → Type 0
 RunsTo F l t changes end = (steps : List (TripleTree × AnswerTree F))
-    × (run {F = F} (left_type l) (right_type l) (translate l) t (map (λ c. Ok c) changes) ≡ Some steps) × (last t steps ≡ end)
+    × (run {F =
+    F} (left_type l) (right_type l) (translate l) t (map (λ c. Ok c) changes) ≡ Some steps) × (last t steps ≡ end)

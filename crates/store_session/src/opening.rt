@@ -53,7 +53,9 @@ fn with_version(
     opened: OpenedRecords<Flat>,
 ) -> Result<Opened<StoreSession>, ReopenFault>
     ensures stands { (payloads : List (List ℕ))
-        → stands payloads ≡ Ok (standing (form_tree opened.session.lens.typed) (triple_tree opened.session.triple) opened.count opened.version)
+        → stands payloads
+        ≡ Ok (standing (form_tree opened.session.lens.typed)
+        (triple_tree opened.session.triple) opened.count opened.version)
         → MatchResult result
         (λ o. stands_for payloads ≡ Ok (session_state o.session.session, o.version))
         (IsReopenFault (stands_for payloads)) }

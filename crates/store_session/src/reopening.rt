@@ -41,13 +41,13 @@ pub struct Opened<L: EditLens> {
 
 /// The session for which the payloads of a store stand, the number of its changes, and its version.
 ///
-/// The lens has the meanings of `stored`, which is `stored_lens` of the payloads. A refusal is that of the first record that
-/// is at fault, and the lens is then dropped:
-/// - `BadRecord`: if and only if the record is not a version, entry, group or snapshot record; or it is a version record in a store
-///   that has version 2 by then, or a group record in one that has version 1; or its change is refused, or in its snapshot a
-///   document is not of its type or the complement does not fit.
-/// - `NotConsistent`: if and only if the record is a snapshot of documents of their types and a complement that fits, which are not
-///   consistent.
+/// The lens has the meanings of `stored`, which is `stored_lens` of the payloads. A refusal is that of the first record
+/// that is at fault, and the lens is then dropped:
+/// - `BadRecord`: if and only if the record is not a version, entry, group or snapshot record; or it is a version
+///   record in a store that has version 2 by then, or a group record in one that has version 1; or its change is
+///   refused, or in its snapshot a document is not of its type or the complement does not fit.
+/// - `NotConsistent`: if and only if the record is a snapshot of documents of their types and a complement that fits,
+///   which are not consistent.
 /// - `NoMemory`: only if memory ran out.
 ///
 /// docs/FORMATS.md has the rules. It takes time in proportion to the payloads, beside what changes and snapshots take.
@@ -79,8 +79,8 @@ pub fn reopen<L: EditLens + Drop>(
 
 /// The session for which the first `kept` payloads of a store stand. [`go_on`] opens the others.
 ///
-/// The lens has the meanings of `stored`, which is `stored_lens` of the payloads. The refusals are those of [`reopen`] over all
-/// payloads, if one of the first `kept` is at fault; the lens is then dropped.
+/// The lens has the meanings of `stored`, which is `stored_lens` of the payloads. The refusals are those of [`reopen`]
+/// over all payloads, if one of the first `kept` is at fault; the lens is then dropped.
 pub fn reopen_first<L: EditLens + Drop>(
     alloc: Global,
     lens: L,
@@ -108,7 +108,8 @@ pub fn reopen_first<L: EditLens + Drop>(
 
 /// Goes on from the session for which the first `kept` payloads of a store stand, to that for which all of them stand.
 ///
-/// The refusals are those of [`reopen`] over all payloads. The session is then that of the payloads before the one at fault.
+/// The refusals are those of [`reopen`] over all payloads. The session is then that of the payloads before the one at
+/// fault.
 pub fn go_on<L: EditLens>(
     alloc: Global,
     typed: &Typed,
@@ -117,10 +118,12 @@ pub fn go_on<L: EditLens>(
     opened: &mut Opened<L>,
 ) -> Result<(), ReopenFault>
     requires means { IsLensOf (L.left_type opened.old.session.lens) (L.right_type opened.old.session.lens)
-        (L.start opened.old.session.lens) (L.holds opened.old.session.lens) (L.carried opened.old.session.lens) (form_tree typed.now) }
+        (L.start opened.old.session.lens) (L.holds opened.old.session.lens) (L.carried opened.old.session.lens)
+        (form_tree typed.now) }
     requires within { kept ≤ length payloads.now }
     requires stood { stands (take kept payloads.now)
-        ≡ Ok (standing (form_tree typed.now) (triple_tree opened.old.session.triple) opened.old.count opened.old.version) }
+        ≡ Ok (standing (form_tree typed.now)
+        (triple_tree opened.old.session.triple) opened.old.count opened.old.version) }
     requires count { opened.old.count ≤ kept }
     ensures stands { Reaches result (stands payloads.now)
         (standing (form_tree typed.now) (triple_tree opened.new.session.triple) opened.new.count opened.new.version) }
@@ -163,27 +166,24 @@ fn take_records<L: EditLens>(
     opened: &mut Opened<L>,
 ) -> Result<(), ReopenFault>
     requires means { IsLensOf (L.left_type opened.old.session.lens) (L.right_type opened.old.session.lens)
-        (L.start opened.old.session.lens) (L.holds opened.old.session.lens) (L.carried opened.old.session.lens) (form_tree typed.now) }
+        (L.start opened.old.session.lens) (L.holds opened.old.session.lens) (L.carried opened.old.session.lens)
+        (form_tree typed.now) }
     requires order { from ≤ to }
     requires within { to ≤ length records.now }
     requires stood { stands (take from records.now)
-        ≡ Ok (standing (form_tree typed.now) (triple_tree opened.old.session.triple) opened.old.count opened.old.version) }
+        ≡ Ok (standing (form_tree typed.now)
+        (triple_tree opened.old.session.triple) opened.old.count opened.old.version) }
     requires count { opened.old.count ≤ from }
     ensures stands { MatchResult result
         (λ _. stands (take to records.now)
-        ≡ Ok (standing (form_tree typed.now) (triple_tree opened.new.session.triple) opened.new.count opened.new.version))
+        ≡ Ok (standing (form_tree typed.now)
+        (triple_tree opened.new.session.triple) opened.new.count opened.new.version))
         (IsReopenFault (stands records.now)) }
     ensures lens { opened.new.session.lens ≡ opened.old.session.lens }
     ensures count { IfOk result (λ _. opened.new.count ≤ to) }
 {
     for at in from..to {
-        take_record(
-            alloc,
-            typed,
-            at as u64 + 1,
-            records[at].as_slice(),
-            opened,
-        )?;
+        take_record(alloc, typed, at as u64 + 1, records[at].as_slice(), opened)?;
     }
     Ok(())
 }
@@ -197,10 +197,12 @@ fn take_record<L: EditLens>(
     opened: &mut Opened<L>,
 ) -> Result<(), ReopenFault>
     requires means { IsLensOf (L.left_type opened.old.session.lens) (L.right_type opened.old.session.lens)
-        (L.start opened.old.session.lens) (L.holds opened.old.session.lens) (L.carried opened.old.session.lens) (form_tree typed.now) }
+        (L.start opened.old.session.lens) (L.holds opened.old.session.lens) (L.carried opened.old.session.lens)
+        (form_tree typed.now) }
     requires count { opened.old.count < number }
     ensures stands { Reaches result
-        (after_record number (standing (form_tree typed.now) (triple_tree opened.old.session.triple) opened.old.count opened.old.version)
+        (after_record number (standing (form_tree typed.now)
+        (triple_tree opened.old.session.triple) opened.old.count opened.old.version)
         (record_in payload.now))
         (standing (form_tree typed.now) (triple_tree opened.new.session.triple) opened.new.count opened.new.version) }
     ensures lens { opened.new.session.lens ≡ opened.old.session.lens }
@@ -221,10 +223,12 @@ fn take_tree<L: EditLens>(
     opened: &mut Opened<L>,
 ) -> Result<(), ReopenFault>
     requires means { IsLensOf (L.left_type opened.old.session.lens) (L.right_type opened.old.session.lens)
-        (L.start opened.old.session.lens) (L.holds opened.old.session.lens) (L.carried opened.old.session.lens) (form_tree typed.now) }
+        (L.start opened.old.session.lens) (L.holds opened.old.session.lens) (L.carried opened.old.session.lens)
+        (form_tree typed.now) }
     requires count { opened.old.count < number }
     ensures stands { Reaches result
-        (after_record number (standing (form_tree typed.now) (triple_tree opened.old.session.triple) opened.old.count opened.old.version)
+        (after_record number (standing (form_tree typed.now)
+        (triple_tree opened.old.session.triple) opened.old.count opened.old.version)
         (record_of (view tree.now)))
         (standing (form_tree typed.now) (triple_tree opened.new.session.triple) opened.new.count opened.new.version) }
     ensures lens { opened.new.session.lens ≡ opened.old.session.lens }
@@ -311,9 +315,11 @@ fn take_snapshot<L: EditLens>(
     opened: &mut Opened<L>,
 ) -> Result<(), ReopenFault>
     requires means { IsLensOf (L.left_type opened.old.session.lens) (L.right_type opened.old.session.lens)
-        (L.start opened.old.session.lens) (L.holds opened.old.session.lens) (L.carried opened.old.session.lens) (form_tree typed.now) }
+        (L.start opened.old.session.lens) (L.holds opened.old.session.lens) (L.carried opened.old.session.lens)
+        (form_tree typed.now) }
     ensures stands { Reaches result
-        (after_record number (standing (form_tree typed.now) (triple_tree opened.old.session.triple) opened.old.count opened.old.version)
+        (after_record number (standing (form_tree typed.now)
+        (triple_tree opened.old.session.triple) opened.old.count opened.old.version)
         (Some (snapshot_record (view comp.now, view left.now, view right.now))))
         (standing (form_tree typed.now) (triple_tree opened.new.session.triple) opened.new.count opened.new.version) }
     ensures lens { opened.new.session.lens ≡ opened.old.session.lens }

@@ -13,8 +13,8 @@ ghost use Rattle.store_session.specs.StoredStates.{StoredState, stands_for, answ
 use crate::session::StoreSession;
 use store_run::StoredSession;
 
-/// What payloads stand for is in step, whatever their bytes are: the form of its lens is typed, and its triple is consistent. So a
-/// store of any bytes is refused, or it stands for a consistent triple.
+/// What payloads stand for is in step, whatever their bytes are: the form of its lens is typed, and its triple is
+/// consistent. So a store of any bytes is refused, or it stands for a consistent triple.
 pub fn stored_is_in_step()
     ensures typed { (payloads : List (List ℕ)) (state : StoredState) (version : Option (List ℕ))
         → stands_for payloads ≡ Ok (state, version) → is_typed state.form ≡ true }
@@ -22,8 +22,9 @@ pub fn stored_is_in_step()
         → stands_for payloads ≡ Ok (state, version) → IsStateInStep state }
 {}
 
-/// From a state that is in step every journal is answered to its end, and its run is that of the journal's items: the answer lines and
-/// the last triple are the same, every triple is consistent, and the payloads are those of the accepted changes, in order.
+/// From a state that is in step every journal is answered to its end, and its run is that of the journal's items: the
+/// answer lines and the last triple are the same, every triple is consistent, and the payloads are those of the
+/// accepted changes, in order.
 pub fn answers_are_the_run()
     ensures ends { (state : StoredState) (number : ℕ) (lines : List Line)
         → is_typed state.form ≡ true → IsStateInStep state

@@ -73,9 +73,11 @@ fn read_complement(alloc: Global, typed: &Typed, tree: &Value) -> Result<Option<
 // Whether a triple is consistent.
 pub(crate) fn is_in_step(alloc: Global, typed: &Typed, triple: &Triple) -> Result<bool, AllocError>
     ensures tested { IfOk result (λ b. b
-        ≡ is_consistent (form_tree typed.now) (doc_tree triple.now.left) (comp_tree triple.now.comp) (doc_tree triple.now.right)) }
+        ≡ is_consistent (form_tree typed.now) (doc_tree triple.now.left) (comp_tree triple.now.comp)
+        (doc_tree triple.now.right)) }
     ensures consistent { IfOk result (λ b. IsTrue b
-        ↔ IsConsistent (form_tree typed.now) (doc_tree triple.now.left) (comp_tree triple.now.comp) (doc_tree triple.now.right)) }
+        ↔ IsConsistent (form_tree typed.now) (doc_tree triple.now.left) (comp_tree triple.now.comp)
+        (doc_tree triple.now.right)) }
 {
     // The proof needs that the form is typed, which this call says.
     let _form = typed.form();

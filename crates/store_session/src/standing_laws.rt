@@ -20,10 +20,12 @@ ghost use Rattle.program_terms.specs.Terms.{ProgramTree};
 ghost use Rattle.program_writing.specs.Canonical.{canonical};
 ghost use Rattle.lens_syntax.specs.Programs.{unbounded};
 ghost use Rattle.accepted_programs.specs.Program.{form_of_program};
-ghost use Rattle.store_records.specs.RecordJson.{record_in, tree_of_first_program, tree_of_program, tree_of_change_record};
+ghost use Rattle.store_records.specs.RecordJson.{record_in, tree_of_first_program, tree_of_program};
+ghost use Rattle.store_records.specs.RecordJson.{tree_of_change_record};
 ghost use Rattle.store_session.specs.ConsistencyTest.{is_consistent};
 ghost use Rattle.store_session.specs.Stands.{Standing, at_start, after_record, stands, step_of};
-ghost use Rattle.store_session.specs.Written.{WrittenRecord, ReadsAs, StandsAfter, AreWritten, SnapshotsKeep, changes_written, RunsTo};
+ghost use Rattle.store_session.specs.Written.{WrittenRecord, ReadsAs, StandsAfter, AreWritten, SnapshotsKeep};
+ghost use Rattle.store_session.specs.Written.{changes_written, RunsTo};
 
 /// The test of consistency is true if and only if the three are consistent.
 pub fn test_is_consistency()
@@ -39,14 +41,16 @@ pub fn one_more_record()
         → stands (payloads ++ payload ∷ []) ≡ after_record (length payloads + 1) before (record_in payload) }
 {}
 
-/// A store that this program began stands: its program alone represents the initial triple, with no changes, at version 2. So does one of
-/// version 1, which has the program and nothing else in its first record.
+/// A store that this program began stands: its program alone represents the initial triple, with no changes, at version
+/// 2. So does one of version 1, which has the program and nothing else in its first record.
 pub fn program_stands()
-    ensures current { (text : List ℕ) (program : ProgramTree) (form : FormTree) (payload : List ℕ) → unbounded text ≡ Ok program
+    ensures current { (text : List ℕ) (program : ProgramTree) (form : FormTree) (payload : List ℕ) → unbounded text
+        ≡ Ok program
         → form_of_program (Ok program) ≡ Ok form
         → tree_of_text payload ≡ Some (tree_of_program (canonical program))
         → stands (payload ∷ []) ≡ Ok (at_start (form, 2)) }
-    ensures first { (text : List ℕ) (program : ProgramTree) (form : FormTree) (payload : List ℕ) → unbounded text ≡ Ok program
+    ensures first { (text : List ℕ) (program : ProgramTree) (form : FormTree) (payload : List ℕ) → unbounded text
+        ≡ Ok program
         → form_of_program (Ok program) ≡ Ok form
         → tree_of_text payload ≡ Some (tree_of_first_program (canonical program))
         → stands (payload ∷ []) ≡ Ok (at_start (form, 1)) }
@@ -72,8 +76,9 @@ pub fn accepted_changes_are_shallow()
         → depth (tree_of_change_record change) ≤ max_depth }
 {}
 
-/// What this program writes stands for its run: where each snapshot is of the triple that stands when it is written, the records
-/// end at the last triple of the run over their changes, and count them. `F` is the type of what may be wrong with a line.
+/// What this program writes stands for its run: where each snapshot is of the triple that stands when it is written,
+/// the records end at the last triple of the run over their changes, and count them. `F` is the type of what may be
+/// wrong with a line.
 pub fn written_records_are_a_run<F>()
     ensures triple { (written : List (List ℕ × WrittenRecord)) (before after : Standing)
         → AreWritten before written after → SnapshotsKeep before written

@@ -1,5 +1,5 @@
--- For the helpers of `undo`: what is opened and what is made before anything is stored. Read it from the end: `fault_of`,
--- `IsMakingFault`, `IsMade`, `AreTexts`, `UndoneBy`, then `StoodTwice`.
+-- For the helpers of `undo`: what is opened and what is made before anything is stored. Read it from the end:
+-- `fault_of`, `IsMakingFault`, `IsMade`, `AreTexts`, `UndoneBy`, then `StoodTwice`.
 use Rattle.std.specs.Prelude.{◌≡◌, ℕ, ◌-◌, List, ◌++◌, length, take, codes, nat_lt, if◌then◌else◌, Option, Some, Ok}
 use Rattle.edit_json.specs.WordJson.{tree_of_word}
 use Rattle.answer_text.specs.Lines.{tree_line}
@@ -33,7 +33,8 @@ kept_before count all = if nat_lt count all then all - count else all
 -- What was opened is the session that the payloads represent, and the triple that those before the last ones represent.
 pub record StoodTwice (count : ℕ) (held : List (List ℕ)) (twice : OpenedTwice) : Type 0 where
   pub now : stands held
-      ≡ Ok (standing (form_tree twice.opened.session.lens.typed) (triple_tree twice.opened.session.triple) twice.opened.count twice.opened.version)
+      ≡ Ok (standing (form_tree twice.opened.session.lens.typed)
+      (triple_tree twice.opened.session.triple) twice.opened.count twice.opened.version)
   pub was : Standing
   pub before : stands (take (kept_before count (length held)) held) ≡ Ok was
   pub form : was.form ≡ form_tree twice.opened.session.lens.typed

@@ -1,6 +1,7 @@
 -- The records that `undo` stores and the lines that it writes, and what they are worth.
 -- Read it from the end: `TakesBack`, `new_records`, `undo_text`.
-use Rattle.std.specs.Prelude.{◌≡◌, ℕ, List, [], ◌∷◌, ◌++◌, codes, nat_eq, if◌then◌else◌, Option, Some, None, option_to_list, Ok}
+use Rattle.std.specs.Prelude.{◌≡◌, ℕ, List, [], ◌∷◌, ◌++◌, codes, nat_eq, if◌then◌else◌, Option, Some, None}
+use Rattle.std.specs.Prelude.{option_to_list, Ok}
 use Rattle.serde_json.specs.Written.{compact_text}
 use Rattle.edit_json.specs.WordJson.{tree_of_word}
 use Rattle.answer_text.specs.Lines.{tree_line}
@@ -42,9 +43,13 @@ new_records u = option_to_list (version_due u.now.version) ++ snapshot_text u �
 
 -- ---- what they are worth
 
--- The words act on the documents that there are now, and make those from before the last changes. These are consistent with their
--- complement, and with the new records behind the payloads they are what the store represents.
+-- The words act on the documents that there are now, and make those from before the last changes. These are consistent
+-- with their complement, and with the new records behind the payloads they are what the store represents.
 pub record TakesBack (held : List (List ℕ)) (u : Undoing) : Type 0 where
   pub words : BringsBack (left_type u.now.form) (right_type u.now.form) u.words u.now.triple u.before
   pub consistent : IsConsistent u.now.form u.before.left u.before.comp u.before.right
-  pub stand : stands (held ++ new_records u) ≡ Ok (record u.now { triple = u.before; version = version_then u.now.version })
+  pub stand : stands (held ++ new_records u) ≡ Ok (record u.now {
+    triple =
+        u.before;
+    version = version_then u.now.version;
+  })

@@ -10,14 +10,15 @@ use std::alloc::{AllocError, Global};
 use store_records::read_change;
 use texts::Bytes;
 
-// The last changes, so many as the count says. None if there are not so many payloads behind the first one, or one of them is not
-// of a change.
+// The last changes, so many as the count says. None if there are not so many payloads behind the first one, or one of
+// them is not of a change.
 pub(crate) fn last_changes(
     alloc: Global,
     payloads: &Payloads,
     count: u64,
 ) -> Result<Option<Vec<Change>>, AllocError>
-    ensures { IfOk result (λ changes. option_map (λ cs. change_trees cs.items) changes ≡ last_changes count payloads.now) }
+    ensures { IfOk result (λ changes. option_map (λ cs. change_trees cs.items) changes
+        ≡ last_changes count payloads.now) }
 {
     let records = payloads.as_slice();
     if count >= records.len() as u64 {
@@ -32,7 +33,8 @@ fn changes_from(
     records: &[Bytes],
     from: usize,
 ) -> Result<Option<Vec<Change>>, AllocError>
-    ensures { IfOk result (λ changes. option_map (λ cs. change_trees cs.items) changes ≡ changes_of (drop from records.now)) }
+    ensures { IfOk result (λ changes. option_map (λ cs. change_trees cs.items) changes
+        ≡ changes_of (drop from records.now)) }
 {
     let mut changes = Vec::new(alloc);
     for at in from..records.len() {

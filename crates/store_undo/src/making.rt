@@ -94,18 +94,16 @@ fn refused(fault: ReopenFault) -> MakingFault
 }
 
 // The snapshot of the earlier triple, and the lines of the words that take these changes of it back.
-fn make_texts(
-    alloc: Global,
-    twice: OpenedTwice,
-    changes: &[Change],
-) -> Result<Texts, AllocError>
+fn make_texts(alloc: Global, twice: OpenedTwice, changes: &[Change]) -> Result<Texts, AllocError>
     requires in_step { IsInStep (IsConsistent (form_tree twice.opened.session.lens.typed)) (triple_tree twice.earlier) }
-    requires accepted { (r : TripleTree × BothTrees) × UndoneBy (form_tree twice.opened.session.lens.typed) (triple_tree twice.earlier)
+    requires accepted { (r : TripleTree × BothTrees)
+        × UndoneBy (form_tree twice.opened.session.lens.typed) (triple_tree twice.earlier)
         (change_trees changes.now) r }
     ensures { IfOk result (λ made. (r : TripleTree × BothTrees)
         → UndoneBy (form_tree twice.opened.session.lens.typed) (triple_tree twice.earlier) (change_trees changes.now) r
         → AreTexts (form_tree twice.opened.session.lens.typed) (triple_tree twice.earlier) r.1 made
-        × BringsBack (left_type (form_tree twice.opened.session.lens.typed)) (right_type (form_tree twice.opened.session.lens.typed))
+        × BringsBack (left_type (form_tree twice.opened.session.lens.typed))
+        (right_type (form_tree twice.opened.session.lens.typed))
         r.1 r.0 (triple_tree twice.earlier)) }
 {
     let mut session = twice.opened.session;
@@ -121,7 +119,8 @@ fn words_of(
     session: &mut Session<Flat>,
     changes: &[Change],
 ) -> Result<BothWords, AllocError>
-    requires accepted { (r : TripleTree × BothTrees) × UndoneBy (form_tree session.old.lens.typed) (triple_tree session.old.triple)
+    requires accepted { (r : TripleTree × BothTrees)
+        × UndoneBy (form_tree session.old.lens.typed) (triple_tree session.old.triple)
         (change_trees changes.now) r }
     ensures words { IfOk result (λ words. (r : TripleTree × BothTrees)
         → UndoneBy (form_tree session.old.lens.typed) (triple_tree session.old.triple) (change_trees changes.now) r

@@ -29,8 +29,8 @@ pub(crate) struct OpenedTwice {
     pub(crate) earlier: Triple,
 }
 
-// The session that payloads represent, over the lens of the first one, with the triple from before the last `count` payloads. If
-// there are not so many behind the first one, the triple is that of all.
+// The session that payloads represent, over the lens of the first one, with the triple from before the last `count`
+// payloads. If there are not so many behind the first one, the triple is that of all.
 pub(crate) fn open(
     alloc: Global,
     count: u64,

@@ -27,21 +27,24 @@ use store_run::{give_stop, pack_store, read_store, refuse, refuse_store};
 /// then writes the lines `undo left WORD` and `undo right WORD` and the state lines. Each word takes the document of
 /// its side back. The payloads and the lines are made before anything is stored.
 ///
-/// - `undoes`: after `Done` the payloads are those from before, the version record if there was one to store, and the snapshot.
-///   They represent the triple before the last changes, which is consistent. The lines were written, and the word of each line
-///   acts on the document of its side from before the call and gives that of the snapshot.
-/// - `safe`: whatever the status, an image that a crash leaves holds the payloads from before, or these and the version record,
-///   which represent the triple from before the call; or these and the snapshot, which represent the triple before the last
-///   changes. If the sync of the opening failed, nothing has changed.
+/// - `undoes`: after `Done` the payloads are those from before, the version record if there was one to store, and the
+///   snapshot. They represent the triple before the last changes, which is consistent. The lines were written, and the
+///   word of each line acts on the document of its side from before the call and gives that of the snapshot.
+/// - `safe`: whatever the status, an image that a crash leaves holds the payloads from before, or these and the version
+///   record, which represent the triple from before the call; or these and the snapshot, which represent the triple
+///   before the last changes. If the sync of the opening failed, nothing has changed.
 /// - `exits`: what was written and what is stored after each status, if the last `count` payloads are of changes.
 /// - `unstored`: after `NoMemory` and `StoreRefused` the snapshot is not stored, whatever a crash leaves.
-/// - `causes`: over such payloads `StoreRefused` comes only if the log had no room for the version record or the snapshot, and
-///   `DiskFault`, if the disk's room is known, only if the disk had none. The source is not there, and no item is refused.
+/// - `causes`: over such payloads `StoreRefused` comes only if the log had no room for the version record or the
+///   snapshot, and `DiskFault`, if the disk's room is known, only if the disk had none. The source is not there, and no
+///   item is refused.
 /// - `complete`: so with no fault, and if the log has room, the status is `Done` or `NoMemory`.
-/// - `refused`: the line `store refused: REASON` is written, unless the disk failed, whose room is not known then, or memory ran
-///   out before. Nothing is written to the disk. The reasons are `not-a-log`, `bad-record N`, `not-consistent N`, and `nothing-to-undo` if and only if the
-///   payloads represent a session, and their last `count` records are not all of changes or there are not so many.
-/// - `statuses`: it ends by one of five statuses, whatever the disk holds. `sink_fault`, `disk_fault`: these come only if that device failed.
+/// - `refused`: the line `store refused: REASON` is written, unless the disk failed, whose room is not known then, or
+///   memory ran out before. Nothing is written to the disk. The reasons are `not-a-log`, `bad-record N`,
+///   `not-consistent N`, and `nothing-to-undo` if and only if the payloads represent a session, and their last `count`
+///   records are not all of changes or there are not so many.
+/// - `statuses`: it ends by one of five statuses, whatever the disk holds. `sink_fault`, `disk_fault`: these come only
+///   if that device failed.
 pub fn undo<K: Sink, D: Disk>(alloc: Global, count: u64, sink: &mut K, disk: &mut D) -> Status
     ensures undoes { (store : StoreToUndo D.Disk count disk.old) → result ≡ Status.Done
         → UndoesCall K.Sink D.Disk (sink.old, disk.old) (sink.new, disk.new) store.payloads store.undone }

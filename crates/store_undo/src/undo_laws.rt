@@ -14,8 +14,10 @@ ghost use Rattle.store_undo.specs.Undoing.{Undoing, undoing, undo_refusal, refus
 ///
 /// - `undone`: bytes that are not refused hold payloads whose last changes are undone.
 /// - `refused`: payloads that are refused are not undone.
-/// - `nothing`: `nothing-to-undo` comes only for payloads that represent a session, and their last records are not so many changes.
-/// - `before`: payloads that are undone represent a session, and `undo` stores the triple that those before the last changes represent.
+/// - `nothing`: `nothing-to-undo` comes only for payloads that represent a session, and their last records are not so
+///   many changes.
+/// - `before`: payloads that are undone represent a session, and `undo` stores the triple that those before the last
+///   changes represent.
 pub fn undone_or_refused()
     ensures undone { (count : ℕ) (bytes : List ℕ) → refusal_in count bytes ≡ None
         → (held : List (List ℕ)) × (u : Undoing) × HoldsPayloads held bytes × (undoing count held ≡ Some u) }
@@ -25,7 +27,8 @@ pub fn undone_or_refused()
         → (now : Standing) × (stands held ≡ Ok now) × (last_changes count held ≡ None) }
     ensures before { (count : ℕ) (held : List (List ℕ)) (u : Undoing) → undoing count held ≡ Some u
         → (stands held ≡ Ok u.now)
-        × (was : Standing) × (stands (payloads_before count held) ≡ Ok was) × (was.triple ≡ u.before) × (was.form ≡ u.now.form) }
+        × (was : Standing) × (stands (payloads_before count held) ≡ Ok was) × (was.triple ≡ u.before)
+        × (was.form ≡ u.now.form) }
 {}
 
 /// What a store represents after `undo` is in step: its triple is consistent for the form of its lens.

@@ -34,7 +34,8 @@ pub(crate) fn texts_of(
     session: &Session<Flat>,
     words: &BothWords,
 ) -> Result<Texts, AllocError>
-    ensures { IfOk result (AreTexts (form_tree session.now.lens.typed) (triple_tree session.now.triple) (both_tree words.now)) }
+    ensures { IfOk result (AreTexts (form_tree session.now.lens.typed) (triple_tree session.now.triple)
+        (both_tree words.now)) }
 {
     let snapshot = snapshot_of(alloc, session)?;
     let lines = lines_of(alloc, session, words)?;
