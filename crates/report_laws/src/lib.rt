@@ -26,8 +26,8 @@ use script_run::ScriptState;
 /// - `part`: once the separator has come, the program part stays as it is.
 /// - `lines`: the lines of the journal that an LF has ended are the first lines of the journal.
 pub fn a_script_goes_on()
-    ensures part { (bytes more : List ℕ) → has_separator bytes ≡ true → program_part (bytes ++ more)
-        ≡ program_part bytes }
+    ensures part { (bytes more : List ℕ) → has_separator bytes ≡ true
+        → program_part (bytes ++ more) ≡ program_part bytes }
     ensures lines { (bytes more : List ℕ) → BeginsWith (journal (bytes ++ more)) (journal_lines bytes) }
 {}
 
