@@ -7,7 +7,7 @@ ghost use Rattle.lens_io.specs.Disks.{Steps, Only, SameImages};
 ghost use Rattle.gate_log.specs.CallEnds.{AppendEnds, AppendLeaves, IsAppendFault, IsCreateFault, IsLogRefusal, IsPayloadsFault, IsSynced, NoBadRecord, after_append};
 ghost use Rattle.gate_log.specs.LogBytes.{payloads, mark};
 ghost use Rattle.gate_log.specs.LogOnDisk.{LogState, HoldsOneMore, HoldsPayloads, IsBehind, Stands};
-ghost use Rattle.gate_log.specs.Steps.{IsAppended, IsBeforeOrAfter, IsMarked, IsOpenFault, Opens, leads_to_end};
+ghost use Rattle.gate_log.specs.Steps.{IsAppended, IsBeforeOrAfter, IsMarked, IsOpenFault, KeepsBehind, Opens, leads_to_end};
 
 use crate::LogFault;
 use crate::gates::{Gate, HEAD, OPEN, payload_at, write_and_sync};
@@ -57,7 +57,9 @@ impl Model for Log {
 /// - `LogExists`: if and only if the disk is not empty. Nothing is written then.
 /// - `DiskFault`: only if the disk's count of faults increased. A crash may then leave any bytes.
 ///
-/// It does not allocate. A crash during the call may leave any bytes, too.
+/// It does not allocate. A crash during the call may leave any bytes, too. Whatever comes, the disk is no longer than the empty
+/// log if it was empty (`rest`).
+#[tactic(auto, using(crate::proofs::Behind::behind_rules))]
 pub fn create_log<D: Disk>(disk: &mut D) -> Result<Log, LogFault>
     ensures log { IfOk result (λ log. log ≡ record { gate = 8; count = 0; sound = true }) }
     ensures stands { IfOk result (λ log. Stands (D.content disk.new) (D.images disk.new) log []) }
@@ -70,6 +72,7 @@ pub fn create_log<D: Disk>(disk: &mut D) -> Result<Log, LogFault>
     ensures unwritten { IsErrOf result LogFault.LogExists →
         OnlyReads D.Disk disk.old disk.new }
 
+    ensures rest { Steps (KeepsBehind 9) (D.content disk.old) (D.content disk.new) }
     ensures faults { D.faults disk.old ≤ D.faults disk.new }
     ensures room { D.room disk.new ≡ D.room disk.old }
     ensures possible { IfErr result IsCreateFault }
@@ -216,7 +219,8 @@ impl Log {
     /// - `DiskFault`: only if the disk's count of faults increased. The log has to be opened again. It then has the payloads
     ///   from before, with the new one or without.
     ///
-    /// A crash at any moment of the call leaves the payloads from before, with the new one or without.
+    /// A crash at any moment of the call leaves the payloads from before, with the new one or without. Whatever comes, what
+    /// was behind the place where the log ends then stays (`rest`): a disk that ended before that place ends there at most.
     pub fn append<D: Disk>(
         &mut self,
         alloc: Global,
@@ -241,6 +245,8 @@ impl Log {
             → LeavesOnly D.Disk disk.old disk.new
             (AppendLeaves held payload.now result) }
 
+        ensures rest { Steps (KeepsBehind (self.old.gate + 10 + length payload.now))
+            (D.content disk.old) (D.content disk.new) }
         ensures log { self.new ≡ after_append self.old (length payload.now) result }
         ensures faults { D.faults disk.old ≤ D.faults disk.new }
         ensures room { D.room disk.new ≡ D.room disk.old }
@@ -258,6 +264,7 @@ impl Log {
     }
 
     // Adds a payload, in the words of what the disk held before.
+    #[tactic(auto, using(crate::proofs::Behind::behind_rules))]
     fn append_record<D: Disk>(
         &mut self,
         alloc: Global,
@@ -278,6 +285,8 @@ impl Log {
             → IfSome (D.content disk.old) (λ bytes. IsBeforeOrAfter payload.now bytes c) }
         ensures content { Steps (IsBeforeOrAfter payload.now) (D.content disk.old) (D.content disk.new) }
 
+        ensures rest { Steps (KeepsBehind (self.old.gate + 10 + length payload.now))
+            (D.content disk.old) (D.content disk.new) }
         ensures log { self.new ≡ after_append self.old (length payload.now) result }
         ensures faults { D.faults disk.old ≤ D.faults disk.new }
         ensures room { D.room disk.new ≡ D.room disk.old }

@@ -1,6 +1,6 @@
 -- What a disk holds once a store is made on it, or once the making has stopped.
 -- Read it from the end: `EndsMaking`, `HoldsFirst`, then `HoldsStore`.
-use Rattle.std.specs.Prelude.{◌≡◌, ◌⊎◌, ℕ, ◌+◌, ◌^◌, ◌<◌, ◌≤◌, List, [], ◌++◌, length, IfSome}
+use Rattle.std.specs.Prelude.{◌≡◌, ◌⊎◌, ℕ, ◌+◌, ◌^◌, ◌<◌, ◌≤◌, List, [], ◌++◌, length, drop, IfSome}
 use Rattle.lens_io.specs.Calls.{Gave, GaveFront}
 use Rattle.lens_io.specs.declared.disk.Disk as OfDisk
 use Rattle.lens_io.specs.declared.sink.Sink as OfSink
@@ -17,10 +17,16 @@ abbrev pub IsTooLong : List (List ℕ) → Type 0
 IsTooLong payloads = 2 ^ 63 ≤ closed_gate payloads + 1
 
 module _ {D : Type 0} (disk : OfDisk.Ghosts D) where
-  -- a read of the disk, and each image that a crash now may leave, holds a log with these payloads
+  -- a read of the disk gives nothing behind the end of a log with these payloads
+  abbrev pub EndsThere : D → List (List ℕ) → Type 0
+  EndsThere d payloads = IfSome (disk.content d) (λ bytes. drop (closed_gate payloads + 1) bytes ≡ [])
+
+  -- A read of the disk, and each image that a crash now may leave, holds a log with these payloads. A read gives nothing
+  -- behind the end of the log.
   pub record HoldsStore (d : D) (payloads : List (List ℕ)) : Type 0 where
     pub read : IfSome (disk.content d) (HoldsPayloads payloads)
     pub crash : (c : List ℕ) → disk.images d c → HoldsPayloads payloads c
+    pub ends_there : EndsThere d payloads
 
   -- the same of the first of these payloads: none of them, or some, and not all
   pub record HoldsFirst (d : D) (payloads : List (List ℕ)) : Type 0 where

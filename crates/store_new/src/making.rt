@@ -5,7 +5,7 @@ ghost use Rattle.gate_log.specs.LogOnDisk.{Stands};
 ghost use Rattle.store_run.specs.Rooms.{HasNoRoom};
 ghost use Rattle.store_new.specs.Making.{EndsStore, EndsStopped, StopsAppending};
 ghost use Rattle.store_new.specs.NewRooms.{HasNoRoomToMake};
-ghost use Rattle.store_new.specs.NewStores.{EndsMaking};
+ghost use Rattle.store_new.specs.NewStores.{EndsMaking, EndsThere};
 
 use crate::giving::give_line;
 use command_ends::Status;
@@ -66,6 +66,7 @@ fn fill_log<K: Sink, D: Disk>(
 ) -> Status
     requires gate { log.old.gate ≡ 8 }
     requires stands { Stands (D.content disk.old) (D.images disk.old) log.old [] }
+    requires ends_there { EndsThere D.Disk disk.old [] }
     ensures ends { EndsMaking K.Sink D.Disk (sink.old, disk.old) (sink.new, disk.new)
         payloads.now lines.now result }
     ensures sink_fault { result ≡ Status.SinkFault → SinkFailed K.Sink sink.old sink.new }
@@ -101,7 +102,9 @@ fn append_all<D: Disk>(
 ) -> Result<(), LogFault>
     requires gate { log.old.gate ≡ 8 }
     requires stands { Stands (D.content disk.old) (D.images disk.old) log.old [] }
+    requires ends_there { EndsThere D.Disk disk.old [] }
     ensures stored { OnOk result (Stands (D.content disk.new) (D.images disk.new) log.new payloads.now) }
+    ensures ends_there { OnOk result (EndsThere D.Disk disk.new payloads.now) }
     ensures stopped { IfErr result (StopsAppending D.Disk disk.new payloads.now) }
     ensures faults { D.faults disk.old ≤ D.faults disk.new }
     ensures cause { IsErrOf result LogFault.DiskFault → DiskFailed D.Disk disk.old disk.new }

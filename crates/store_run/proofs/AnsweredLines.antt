@@ -9,7 +9,11 @@ use Rattle.lens_io.specs.DiskRuns.{LeavesOnly}
 use Rattle.lens_io.specs.declared.source.Source as OfSource
 use Rattle.lens_io.specs.declared.sink.Sink as OfSink
 use Rattle.lens_io.specs.declared.disk.Disk as OfDisk
+use Rattle.gate_log.specs.LogBytes.{records_length}
 use Rattle.gate_log.specs.LogOnDisk.{LogState, HoldsPayloads}
+use Rattle.gate_log.specs.Steps.{KeepsBehind}
+use Rattle.gate_log.proofs.Behind.{none_keeps}
+use Rattle.lens_io.specs.Disks.{Steps}
 use Rattle.edit_journal.specs.Lines.{is_blank}
 use Rattle.edit_journal.specs.Pieces.{FedLines, nothing_fed, fed}
 use Rattle.edit_journal.specs.declared.line.Line.{Line}
@@ -27,7 +31,7 @@ use Rattle.store_run.specs.declared.session.StoredSession as OfSession
 use Rattle.store_run.specs.declared.journal.Progress.{Progress}
 use Rattle.store_run.specs.declared.stop.Stop.{Stop}
 use Rattle.store_run.specs.declared.stop.Stop.TheVariants.{LogFull, SourceFault, SinkFault, DiskFault, TooLong, NoMemory}
-use Rattle.store_run.proofs.Effects.{adds_none, adds_then, stops_then}
+use Rattle.store_run.proofs.Effects.{adds_none, adds_then, keeps_at, stops_then}
 use Rattle.store_run.proofs.RunParts.{text_append, kept_append, refused_then, last_append, chain_append, are_append, goes_none, goes_then, goes_blank, goes_one}
 use Rattle.store_run.proofs.InTime.{answered_first, answered_longer, answered_by, answered_take}
 use Rattle.texts.proofs.Tests.{or_false}
@@ -55,7 +59,7 @@ module _ {K D A : Type 0} (sink : OfSink.Ghosts K) (disk : OfDisk.Ghosts D) (ses
   pub stops_none : (k : K) (d : D) (l : LogState) (begun : List ℕ) (more : List (List ℕ)) → Stops sink disk (k, d, l) (k, d, l) NoMemory [] begun [] more
   stops_none k d l begun more =
       let none = adds_none sink disk only_now images_hold k d l in
-      record { given = none.given; stored = none.stored; moments = none.moments; full = tt }
+      record { given = none.given; stored = none.stored; moments = none.moments; full = tt; behind = none_keeps (l.gate + 0 + records_length more + 1) (disk.content d) }
 
   -- ---- lines
 
@@ -235,11 +239,15 @@ module _ {K D A : Type 0} (sink : OfSink.Ghosts K) (disk : OfDisk.Ghosts D) (ses
       → (base : List (List ℕ)) → StandsOn disk d l base → LeavesOnly disk d d' (HoldsFirst base (kept ++ []))
   adds_nil k k' d d' l l' text kept h = (adds_as k k' d d' l l' text text kept (kept ++ []) refl (sym (append-nil kept)) h).moments
 
+  behind_all : (k k' : K) (d d' : D) (l l' : LogState) (text : List ℕ) (kept : List (List ℕ)) → Adds sink disk (k, d, l) (k', d', l') text kept
+      → Steps (KeepsBehind (l.gate + records_length kept + 0 + 1)) (disk.content d) (disk.content d')
+  behind_all k k' d d' l l' text kept h = keeps_at sink disk only_now images_hold d d' (l'.gate + 1) (l.gate + records_length kept + 0 + 1) (omega (arith, h.gate)) h.behind
+
   pub stops_of : (fault : TakeFault) (k k' : K) (d d' : D) (l l' : LogState) (text : List ℕ) (kept : List (List ℕ)) → Adds sink disk (k, d, l) (k', d', l') text kept
       → Stops sink disk (k, d, l) (k', d', l') (stop_of_input fault) text [] kept []
-  stops_of taking.SourceFault k k' d d' l l' text kept h = record { given = h.given; stored = h.stored; moments = adds_nil k k' d d' l l' text kept h; full = tt }
-  stops_of taking.TooLong k k' d d' l l' text kept h = record { given = h.given; stored = h.stored; moments = adds_nil k k' d d' l l' text kept h; full = tt }
-  stops_of taking.NoMemory k k' d d' l l' text kept h = record { given = h.given; stored = h.stored; moments = adds_nil k k' d d' l l' text kept h; full = tt }
+  stops_of taking.SourceFault k k' d d' l l' text kept h = record { given = h.given; stored = h.stored; moments = adds_nil k k' d d' l l' text kept h; full = tt; behind = behind_all k k' d d' l l' text kept h }
+  stops_of taking.TooLong k k' d d' l l' text kept h = record { given = h.given; stored = h.stored; moments = adds_nil k k' d d' l l' text kept h; full = tt; behind = behind_all k k' d d' l l' text kept h }
+  stops_of taking.NoMemory k k' d d' l l' text kept h = record { given = h.given; stored = h.stored; moments = adds_nil k k' d d' l l' text kept h; full = tt; behind = behind_all k k' d d' l l' text kept h }
 
   -- out of memory behind lines that were answered
   pub stops_out : (k k' : K) (d d' : D) (l l' : LogState) (t t' : session.State) (p p' : Progress) (lines rest : List Line)

@@ -1,6 +1,6 @@
 -- How the whole call ends, and what a crash leaves then.
 use Rattle.command_ends.specs.Statuses.{end_of}
-use Rattle.std.proofs.Common.{◌≡◌, ◌⊎◌, inl, inr, ℕ, ◌<◌, List, [], ◌∷◌, ◌++◌, length, take, refl, sym, ap, subst, ◌∙◌, append_assoc, append-nil, arith, length-append}
+use Rattle.std.proofs.Common.{◌≡◌, ◌⊎◌, inl, inr, ℕ, ◌+◌, ◌<◌, List, [], ◌∷◌, ◌++◌, length, take, refl, sym, ap, subst, ◌∙◌, append_assoc, append-nil, arith, length-append}
 use Rattle.std.specs.Prelude.{option_to_list, codes}
 use Rattle.std.proofs.KnownBytes.{Appends-trans, Consumes-nil}
 use Rattle.lens_io.specs.Calls.{Took, IsUnasked, Gave, GaveFront}
@@ -12,6 +12,7 @@ use Rattle.edit_journal.specs.Pieces.{nothing_fed, fed, last_line, lines_of}
 use Rattle.edit_journal.specs.declared.line.Line.{Line}
 use Rattle.edit_journal.proofs.Feeding.{all_lines_given}
 use Rattle.gate_log.specs.LogOnDisk.{LogState, HoldsPayloads}
+use Rattle.gate_log.proofs.Behind.{both_keep}
 use Rattle.script_input.specs.Taking.{TakenInput}
 use Rattle.store_run.specs.Answered.{ended_lines, Answers, StopsAmong, EndsPieces}
 use Rattle.store_run.specs.Crash.{IsAcknowledged, IsCrashSafe}
@@ -111,6 +112,7 @@ module _ {S K D A : Type 0} (source : OfSource.Ghosts S) (sink : OfSink.Ghosts K
           chain = a.chain;
           given = Appends-trans (sink.held k) (sink.held k1) (sink.held k') (text_of a.steps) (session.state_text t') a.adds.given h;
           stored = λ base s. a.adds.stored (base ++ version) (e.adds.stored base s);
+          behind = both_keep (e.l1.gate + 1) (l'.gate + 1) (disk.content d) (disk.content e.d1) (disk.content d') (omega (arith, a.adds.gate)) e.adds.behind a.adds.behind;
           ended = is ∙ ap end_of a.refused;
         }
 

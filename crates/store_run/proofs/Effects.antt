@@ -12,6 +12,9 @@ use Rattle.lens_io.specs.declared.disk.Disk as OfDisk
 use Rattle.gate_log.specs.LogBytes.{records_length}
 use Rattle.gate_log.specs.CallEnds.{AppendEnds, AppendLeaves}
 use Rattle.gate_log.specs.LogOnDisk.{LogState, HoldsPayloads, HoldsOneMore}
+use Rattle.gate_log.specs.Steps.{KeepsBehind}
+use Rattle.gate_log.proofs.Behind.{none_keeps, both_keep}
+use Rattle.lens_io.specs.Disks.{Steps}
 use Rattle.gate_log.specs.declared.fault.LogFault.{LogFault}
 use Rattle.gate_log.specs.declared.fault.LogFault.TheVariants as log
 use Rattle.store_run.specs.Effects.{StandsOn, HoldsFirst, HoldsEither, IsProperFront, begun_at, IsFullAt, Adds, GivesAt, StoresAt, Stops}
@@ -91,6 +94,10 @@ module _ {K D : Type 0} (sink : OfSink.Ghosts K) (disk : OfDisk.Ghosts D)
   stands_as : (l : LogState) (d : D) (a b : Payloads) → a ≡ b → StandsOn disk d l a → StandsOn disk d l b
   stands_as l d a b e h = subst (λ (x : Payloads). StandsOn disk d l x) e h
 
+  -- what is behind a place was there before, and the place is this one
+  pub keeps_at : (d d' : D) (m n : ℕ) → m ≡ n → Steps (KeepsBehind m) (disk.content d) (disk.content d') → Steps (KeepsBehind n) (disk.content d) (disk.content d')
+  keeps_at d d' m n e h = subst (λ (k : ℕ). Steps (KeepsBehind k) (disk.content d) (disk.content d')) e h
+
   -- nothing but the sink was called
   pub adds_given : (k k' : K) (d : D) (l : LogState) (text : List ℕ) → Gave sink k k' text → Adds sink disk (k, d, l) (k', d, l) text []
   adds_given k k' d l text h = record {
@@ -99,6 +106,7 @@ module _ {K D : Type 0} (sink : OfSink.Ghosts K) (disk : OfDisk.Ghosts D)
     moments = λ base s. leaves_same disk d (HoldsFirst base []) (λ c was. first_none base [] c (images_hold l d base c s (only_now d c was)));
     gate = let same : l.gate ≡ l.gate + 0 = omega arith in same;
     same_room = refl;
+    behind = none_keeps (l.gate + 1) (disk.content d);
   }
 
   pub adds_none : (k : K) (d : D) (l : LogState) → Adds sink disk (k, d, l) (k, d, l) [] []
@@ -114,6 +122,7 @@ module _ {K D : Type 0} (sink : OfSink.Ghosts K) (disk : OfDisk.Ghosts D)
         (first_more base kept kept') (first_behind base kept kept') (a.moments base s) (b.moments (base ++ kept) (a.stored base s));
     gate = omega (arith, a.gate, b.gate, records_append kept kept');
     same_room = b.same_room ∙ a.same_room;
+    behind = both_keep (l'.gate + 1) (l''.gate + 1) (disk.content d) (disk.content d') (disk.content d'') (omega (arith, b.gate)) a.behind b.behind;
   }
 
   gives_then : (stop : Stop) (k k' k'' : K) (text done begun : List ℕ) → Gave sink k k' text
@@ -157,6 +166,10 @@ module _ {K D : Type 0} (sink : OfSink.Ghosts K) (disk : OfDisk.Ghosts D)
     full =
         let same : l'.gate + records_length done_kept ≡ l.gate + records_length (kept ++ done_kept) = omega (arith, a.gate, records_append kept done_kept) in
         subst (λ (n : ℕ). IsFullAt stop (disk.room d) n begun_kept) same (subst (λ (o : Option ℕ). IsFullAt stop o (l'.gate + records_length done_kept) begun_kept) a.same_room b.full);
+    behind =
+        let same : l'.gate + records_length done_kept + records_length begun_kept + 1 ≡ l.gate + records_length (kept ++ done_kept) + records_length begun_kept + 1 = omega (arith, a.gate, records_append kept done_kept) in
+        keeps_at d d'' _ _ same
+        (both_keep (l'.gate + 1) (l'.gate + records_length done_kept + records_length begun_kept + 1) (disk.content d) (disk.content d') (disk.content d'') (omega arith) a.behind b.behind);
   }
 
   -- ---- an append
@@ -168,13 +181,15 @@ module _ {K D : Type 0} (sink : OfSink.Ghosts K) (disk : OfDisk.Ghosts D)
   pub append_adds : (k : K) (d d' : D) (l l' : LogState) (payload : List ℕ) → ((base : Payloads) → StandsOn disk d l base → StandsOn disk d' l' (base ++ payload ∷ []))
       → ((base : Payloads) → StandsOn disk d l base → LeavesOnly disk d d' (HoldsOneMore base payload))
       → l'.gate ≡ l.gate + 9 + length payload → disk.room d' ≡ disk.room d
+      → Steps (KeepsBehind (l.gate + 10 + length payload)) (disk.content d) (disk.content d')
       → Adds sink disk (k, d, l) (k, d', l') [] (payload ∷ [])
-  append_adds k d d' l l' payload ends moments gate same = record {
+  append_adds k d d' l l' payload ends moments gate same behind = record {
     given = Appends-nil (sink.held k);
     stored = ends;
     moments = λ base s. leaves_more disk d d' (HoldsOneMore base payload) (HoldsFirst base (payload ∷ [])) (first_one base payload) (moments base s);
     gate = let one : l'.gate ≡ l.gate + (9 + length payload + 0) = omega (arith, gate) in one;
     same_room = same;
+    behind = keeps_at d d' (l.gate + 10 + length payload) (l'.gate + 1) (omega (arith, gate)) behind;
   }
 
   pub append_stops : (k : K) (d d' : D) (l l' : LogState) (payload line : List ℕ) (fault : LogFault) → (base : Payloads) × StandsOn disk d l base
@@ -182,20 +197,23 @@ module _ {K D : Type 0} (sink : OfSink.Ghosts K) (disk : OfDisk.Ghosts D)
       → ((base : Payloads) → StandsOn disk d l base → IfSome (disk.content d') (HoldsOneMore base payload))
       → ((base : Payloads) → StandsOn disk d l base → LeavesOnly disk d d' (AppendLeaves base payload (Err fault)))
       → (fault ≡ log.LogFull → 2 ^ 63 - 1 < l.gate + 10 + length payload) → (fault ≡ log.DiskFault → IfSome (disk.room d) (λ most. most < l.gate + 10 + length payload))
+      → Steps (KeepsBehind (l.gate + 10 + length payload)) (disk.content d) (disk.content d')
       → Stops sink disk (k, d, l) (k, d', l') (stop_of_log fault) [] line [] (payload ∷ [])
-  append_stops k d d' l l' payload line log.LogFull some ends read moments over sure = record {
+  append_stops k d d' l l' payload line log.LogFull some ends read moments over sure behind = record {
     full = let is : 2 ^ 63 - 1 < l.gate + 0 + 10 + length payload = omega (arith, over refl) in is;
     given = Appends-nil (sink.held k);
     stored = λ base s. stands_as l' d' base (base ++ []) (sym (append-nil base)) (ends base s);
     moments = λ base s. leaves_more disk d d' (HoldsPayloads base) (HoldsFirst base []) (first_none base []) (moments base s);
+    behind = keeps_at d d' (l.gate + 10 + length payload) (l.gate + 0 + (9 + length payload + 0) + 1) (omega arith) behind;
   }
-  append_stops k d d' l l' payload line log.NoMemory some ends read moments over sure = record {
+  append_stops k d d' l l' payload line log.NoMemory some ends read moments over sure behind = record {
     full = tt;
     given = Appends-nil (sink.held k);
     stored = λ base s. stands_as l' d' base (base ++ []) (sym (append-nil base)) (ends base s);
     moments = λ base s. leaves_more disk d d' (HoldsPayloads base) (HoldsFirst base []) (first_none base []) (moments base s);
+    behind = keeps_at d d' (l.gate + 10 + length payload) (l.gate + 0 + (9 + length payload + 0) + 1) (omega arith) behind;
   }
-  append_stops k d d' l l' payload line log.DiskFault some ends read moments over sure = record {
+  append_stops k d d' l l' payload line log.DiskFault some ends read moments over sure behind = record {
     full = if_known (disk.room d) (λ most. most < l.gate + 10 + length payload) (λ most. most < l.gate + 0 + 10 + length payload) (λ most h. omega (arith, h)) (sure refl);
     given = Appends-nil (sink.held k);
     stored = λ base s. (
@@ -203,10 +221,11 @@ module _ {K D : Type 0} (sink : OfSink.Ghosts K) (disk : OfDisk.Ghosts D)
       if_known (disk.content d') (HoldsOneMore base payload) (HoldsEither base [] (payload ∷ [])) (either_one base payload) (read base s),
     );
     moments = λ base s. leaves_more disk d d' (HoldsOneMore base payload) (HoldsFirst base (payload ∷ [])) (first_one base payload) (moments base s);
+    behind = keeps_at d d' (l.gate + 10 + length payload) (l.gate + 0 + (9 + length payload + 0) + 1) (omega arith) behind;
   }
-  append_stops k d d' l l' payload line log.NotALog some ends read moments over sure = absurd (ends some.0 some.1)
-  append_stops k d d' l l' payload line (log.BadRecord number) some ends read moments over sure = absurd (ends some.0 some.1)
-  append_stops k d d' l l' payload line log.LogExists some ends read moments over sure = absurd (ends some.0 some.1)
+  append_stops k d d' l l' payload line log.NotALog some ends read moments over sure behind = absurd (ends some.0 some.1)
+  append_stops k d d' l l' payload line (log.BadRecord number) some ends read moments over sure behind = absurd (ends some.0 some.1)
+  append_stops k d d' l l' payload line log.LogExists some ends read moments over sure behind = absurd (ends some.0 some.1)
 
   -- ---- the sink fails at a line
 
@@ -218,17 +237,24 @@ module _ {K D : Type 0} (sink : OfSink.Ghosts K) (disk : OfDisk.Ghosts D)
     given = proper_front (sink.held k) (sink.held k') line h;
     stored = λ base s. stands_as l d base (base ++ []) (sym (append-nil base)) s;
     moments = λ base s. leaves_same disk d (HoldsFirst base []) (λ c was. first_none base [] c (images_hold l d base c s (only_now d c was)));
+    behind = none_keeps (l.gate + 0 + 0 + 1) (disk.content d);
   }
 
   -- at the line of a change that was stored
   pub stored_line_stops : (k k' : K) (d d' : D) (l l' : LogState) (line : List ℕ) (kept : Payloads) → Adds sink disk (k, d, l) (k, d', l') [] kept
       → GaveFront sink k k' line → Stops sink disk (k, d, l) (k', d', l') SinkFault [] line [] kept
-  stored_line_stops k k' d d' l l' line kept a h = record { given = proper_front (sink.held k) (sink.held k') line h; stored = a.stored; moments = a.moments; full = tt }
+  stored_line_stops k k' d d' l l' line kept a h = record {
+    given = proper_front (sink.held k) (sink.held k') line h;
+    stored = a.stored;
+    moments = a.moments;
+    full = tt;
+    behind = keeps_at d d' (l'.gate + 1) (l.gate + 0 + records_length kept + 1) (omega (arith, a.gate)) a.behind;
+  }
 
   -- the sink at a line, however it came out
   pub line_added : (r : Result (Unit {0}) Stop) (k k' : K) (d d' : D) (l l' : LogState) (line : List ℕ) (kept : Payloads) → Adds sink disk (k, d, l) (k, d', l') [] kept
       → OnOk r (Gave sink k k' line) → OnOk r (Adds sink disk (k, d, l) (k', d', l') line kept)
-  line_added (Ok u) k k' d d' l l' line kept a h = record { given = h; stored = a.stored; moments = a.moments; gate = a.gate; same_room = a.same_room }
+  line_added (Ok u) k k' d d' l l' line kept a h = record { given = h; stored = a.stored; moments = a.moments; gate = a.gate; same_room = a.same_room; behind = a.behind }
   line_added (Err stop) k k' d d' l l' line kept a h = tt
 
   pub line_stopped : (r : Result (Unit {0}) Stop) (k k' : K) (d d' : D) (l l' : LogState) (line : List ℕ) (kept : Payloads) → Adds sink disk (k, d, l) (k, d', l') [] kept

@@ -14,7 +14,7 @@ use Rattle.gate_log.specs.LogOnDisk.{LogState, HoldsPayloads}
 use Rattle.gate_log.specs.declared.fault.LogFault.{LogFault}
 use Rattle.gate_log.specs.declared.fault.LogFault.TheVariants as log
 use Rattle.store_run.specs.Effects.{StandsOn}
-use Rattle.store_run.specs.Opening.{EndsUnopened, FailsToOpen, IsOpened, IsRead, IsRefusedFor, IsUnreadFor, fault_of_log, fault_of_payloads}
+use Rattle.store_run.specs.Opening.{EndsUnopened, FailsToOpen, IsOpened, IsReadLog, IsRefusedFor, IsUnreadFor, fault_of_log, fault_of_payloads}
 use Rattle.store_run.specs.Refusals.{EndsRefused, FailsUnopened, Refuses, refusal_in, refusal_of_log, refusal_of_payloads}
 use Rattle.store_run.specs.Reopening.{IsReopenFault}
 use Rattle.store_run.specs.Stores.{Store, RefusedStore}

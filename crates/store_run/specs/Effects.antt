@@ -7,6 +7,8 @@ use Rattle.lens_io.specs.declared.sink.Sink as OfSink
 use Rattle.lens_io.specs.declared.disk.Disk as OfDisk
 use Rattle.gate_log.specs.LogBytes.{records_length}
 use Rattle.gate_log.specs.LogOnDisk.{LogState, HoldsPayloads, Stands}
+use Rattle.gate_log.specs.Steps.{KeepsBehind}
+use Rattle.lens_io.specs.Disks.{Steps}
 use Rattle.store_run.specs.declared.stop.Stop.{Stop}
 use Rattle.store_run.specs.declared.stop.Stop.TheVariants.{LogFull, DiskFault, SinkFault}
 
@@ -79,7 +81,7 @@ module _ {D : Type 0} (disk : OfDisk.Ghosts D) (old new : D × LogState) where
 -- A sink, a disk and the log on it, before a part of a call and after it.
 module _ {K D : Type 0} (sink : OfSink.Ghosts K) (disk : OfDisk.Ghosts D) (old new : K × D × LogState) where
   -- This text was written, and these payloads were stored behind those from before. A crash at any moment leaves the
-  -- first of them. The closed gate lies behind them.
+  -- first of them. The closed gate lies behind them. What is behind the log's end was there before.
   pub record Adds (text : List ℕ) (kept : List (List ℕ)) : Type 0 where
     pub given : Gave sink old.0 new.0 text
     pub stored : (base : List (List ℕ)) → StandsOn disk old.1 old.2 base → StandsOn disk new.1 new.2 (base ++ kept)
@@ -87,12 +89,14 @@ module _ {K D : Type 0} (sink : OfSink.Ghosts K) (disk : OfDisk.Ghosts D) (old n
         → LeavesOnly disk old.1 new.1 (HoldsFirst base kept)
     pub gate : new.2.gate ≡ old.2.gate + records_length kept
     pub same_room : disk.room new.1 ≡ disk.room old.1
+    pub behind : Steps (KeepsBehind (new.2.gate + 1)) (disk.content old.1) (disk.content new.1)
 
   -- A part of a call stopped. These answers were written and these payloads stored, and this answer and payload were
-  -- begun, if any.
+  -- begun, if any. What is behind the place where the log ends with all of them was there before.
   pub record Stops (stop : Stop) (text begun_text : List ℕ) (kept begun : List (List ℕ)) : Type 0 where
     pub given : GivesAt sink old.0 new.0 stop text begun_text
     pub stored : StoresAt disk (old.1, old.2) (new.1, new.2) stop kept begun
     pub moments : (base : List (List ℕ)) → StandsOn disk old.1 old.2 base
         → LeavesOnly disk old.1 new.1 (HoldsFirst base (kept ++ begun_at stop begun))
     pub full : IsFullAt stop (disk.room old.1) (old.2.gate + records_length kept) begun
+    pub behind : Steps (KeepsBehind (old.2.gate + records_length kept + records_length begun + 1)) (disk.content old.1) (disk.content new.1)

@@ -1,5 +1,5 @@
 -- What the opening of a store comes to. Read it from the end: `EndsUnopened` is of a command whose store was not opened,
--- `IsOpened`, `FailsToOpen` and `IsRefusedFor` are of the session, `IsRead` and `IsUnreadFor` of the log.
+-- `IsOpened`, `FailsToOpen` and `IsRefusedFor` are of the session, `IsReadLog` and `IsUnreadFor` of the log.
 use Rattle.std.specs.Prelude.{◌≡◌, ℕ, List, []}
 use Rattle.std.specs.declared.option.Option.{Option}
 use Rattle.command_ends.specs.declared.status.Status.{Status}
@@ -44,7 +44,7 @@ abbrev pub ImagesHold : {D : Type 0} → OfDisk.Ghosts D → D → List (List �
 ImagesHold disk d payloads = (image : List ℕ) → disk.images d image → HoldsPayloads payloads image
 
 -- the bytes are a log of the payloads that were read, and it stands on the disk
-pub record IsRead {D : Type 0} (disk : OfDisk.Ghosts D) (new : D) (bytes : List ℕ) (log : LogState) (payloads : List (List ℕ)) : Type 0 where
+pub record IsReadLog {D : Type 0} (disk : OfDisk.Ghosts D) (new : D) (bytes : List ℕ) (log : LogState) (payloads : List (List ℕ)) : Type 0 where
   pub holds : HoldsPayloads payloads bytes
   pub stands : StandsOn disk new log payloads
 

@@ -4,7 +4,7 @@ ghost use Rattle.command_ends.specs.Statuses.{IsAmong, IsFinished, quiet_statuse
 ghost use Rattle.lens_io.specs.Calls.{DiskFailed, SinkFailed};
 ghost use Rattle.gate_log.specs.LogOnDisk.{HoldsPayloads};
 ghost use Rattle.store_run.specs.Effects.{StandsOn};
-ghost use Rattle.store_run.specs.Opening.{EndsUnopened, FailsToOpen, IsOpened, IsRead, IsRefusedFor, IsUnreadFor, ImagesHold, fault_of_log, fault_of_payloads};
+ghost use Rattle.store_run.specs.Opening.{EndsUnopened, FailsToOpen, IsOpened, IsReadLog, IsRefusedFor, IsUnreadFor, ImagesHold, fault_of_log, fault_of_payloads};
 ghost use Rattle.store_run.specs.Refusals.{IsOpening};
 ghost use Rattle.store_run.specs.Stores.{RefusedStore, Store};
 
@@ -83,7 +83,7 @@ impl OpenFault {
 /// `held`: over a log, whatever the result but `DiskFault`, each image that a crash now may leave holds its payloads.
 pub fn read_store<D: Disk>(alloc: Global, disk: &mut D) -> Result<ReadStore, OpenFault>
     ensures read { (bytes : List ℕ) → D.content disk.old ≡ Some bytes
-        → MatchResult result (λ store. IsRead D.Disk disk.new bytes store.log store.payloads) (IsUnreadFor bytes) }
+        → MatchResult result (λ store. IsReadLog D.Disk disk.new bytes store.log store.payloads) (IsUnreadFor bytes) }
     ensures held { (bytes : List ℕ) (payloads : List (List ℕ))
         → D.content disk.old ≡ Some bytes → HoldsPayloads payloads bytes
         → IsErrOf result OpenFault.DiskFault ⊎ ImagesHold D.Disk disk.new payloads }

@@ -9,7 +9,7 @@ returns-in-Ok-clause-ends g c =
     let disk = g.D.Disk in
     let d = c.append_all.new.disk in
     ends_stored g.K.Sink disk c.args.sink.now c.give_line.new.sink c.args.disk.now d c.give_line.result c.args.payloads.now c.args.lines.now
-    (holds disk g.met.D.Disk.content_is_image d c.append_all.new.log c.args.payloads.now c.in-Ok.ensures.stored) c.give_line.ensures.gives
+    (holds disk g.met.D.Disk.content_is_image d c.append_all.new.log c.args.payloads.now c.in-Ok.ensures.stored c.in-Ok.ensures.ends_there) c.give_line.ensures.gives
 
 pub returns-in-Err-clause-ends : goal.returns-in-Err-clause-ends
 returns-in-Err-clause-ends g c =

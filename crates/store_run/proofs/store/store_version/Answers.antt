@@ -22,7 +22,7 @@ returns-in-Ok-clause-stored g c =
     let payload = c.as_slice.result.now in
     let is : c.args.version.now ≡ Some payload = c.in-Some.is ∙ ap (λ (x : List ℕ). Some x) (sym c.as_slice.ensures) in
     subst (λ (o : Option (List ℕ)). Adds sink disk (k, d, l) (k, d', l') [] (option_to_list o)) (sym is)
-    (append_adds sink disk only hold k d d' l l' payload c.in-Ok.ensures.ends c.in-Ok.ensures.moments (ap (λ (x : LogState). x.gate) c.in-Ok.ensures.log) c.in-Ok.ensures.room)
+    (append_adds sink disk only hold k d d' l l' payload c.in-Ok.ensures.ends c.in-Ok.ensures.moments (ap (λ (x : LogState). x.gate) c.in-Ok.ensures.log) c.in-Ok.ensures.room c.in-Ok.ensures.rest)
 
 pub returns-in-Err-clause-stopped : goal.returns-in-Err-clause-stopped
 returns-in-Err-clause-stopped g c =
@@ -40,7 +40,7 @@ returns-in-Err-clause-stopped g c =
     subst (λ (o : Option (List ℕ)). Stops sink disk (k, d, l) (k, d', l') c.at_append.result [] [] [] (option_to_list o)) (sym is)
     (subst (λ (s : Stop). Stops sink disk (k, d, l) (k, d', l') s [] [] [] (payload ∷ [])) (sym c.at_append.ensures.stop)
     (append_stops sink disk only hold k d d' l l' payload [] c.in-Err.fault c.requires.stands c.in-Err.ensures.ends c.in-Err.ensures.read c.in-Err.ensures.moments
-    (λ e. c.in-Err.ensures.full.0 (ap (λ (x : LogFault). Err x) e)) (λ e. c.in-Err.ensures.sure (ap (λ (x : LogFault). Err x) e))))
+    (λ e. c.in-Err.ensures.full.0 (ap (λ (x : LogFault). Err x) e)) (λ e. c.in-Err.ensures.sure (ap (λ (x : LogFault). Err x) e)) c.in-Err.ensures.rest))
 
 pub returns-in-None-clause-stored : goal.returns-in-None-clause-stored
 returns-in-None-clause-stored g c =
