@@ -21,8 +21,8 @@ module _ {D : Type 0} (disk : OfDisk.Ghosts D) where
   abbrev pub EndsThere : D → List (List ℕ) → Type 0
   EndsThere d payloads = IfSome (disk.content d) (λ bytes. drop (closed_gate payloads + 1) bytes ≡ [])
 
-  -- A read of the disk, and each image that a crash now may leave, holds a log with these payloads. A read gives nothing
-  -- behind the end of the log.
+  -- A read of the disk, and each image that a crash now may leave, holds a log with these payloads. A read gives
+  -- nothing behind the end of the log.
   pub record HoldsStore (d : D) (payloads : List (List ℕ)) : Type 0 where
     pub read : IfSome (disk.content d) (HoldsPayloads payloads)
     pub crash : (c : List ℕ) → disk.images d c → HoldsPayloads payloads c

@@ -12,7 +12,8 @@ use Rattle.lens_io.specs.declared.failed.TakeFault.{TakeFault}
 use Rattle.script_input.specs.Taking.{TakenInput, TakesMore}
 use Rattle.script_input.specs.declared.limits.TheConstants.{MOST_BYTES}
 use Rattle.store_run.specs.Effects.{Adds, Stops}
-use Rattle.store_run.specs.StoreRuns.{GoesOver, AreSteps, AreAnswers, AreAnsweredIn, last, any_refused, text_of, kept_of}
+use Rattle.store_run.specs.StoreRuns.{GoesOver, AreSteps, AreAnswers, AreAnsweredIn, last, any_refused, text_of}
+use Rattle.store_run.specs.StoreRuns.{kept_of}
 use Rattle.store_run.specs.Stopping.{stop_of_input, IsOwnStop}
 use Rattle.store_run.specs.declared.session.Answer.{Answer}
 use Rattle.store_run.specs.declared.session.StoredSession as OfSession
@@ -114,7 +115,8 @@ module _ {S K D A : Type 0} (source : OfSource.Ghosts S) (sink : OfSink.Ghosts K
 
 -- A source, a sink, a disk and the log on it, an input, and a state with its progress, before the turn and after it.
 module _ {S K D A : Type 0} (source : OfSource.Ghosts S) (sink : OfSink.Ghosts K) (disk : OfDisk.Ghosts D)
-    (session : OfSession.Ghosts A) (old new : S × K × D × LogState) (input input' : TakenInput) (t : session.State) (p : Progress) where
+    (session : OfSession.Ghosts A) (old new : S × K × D × LogState) (input input' : TakenInput) (t : session.State)
+    (p : Progress) where
   -- All lines that had ended were answered, and then the source was asked for the next piece.
   pub record AnswersThenTakes (t' : session.State) (p' : Progress) (result : Result Bool TakeFault) : Type 0 where
     pub mid : TakenInput

@@ -1,7 +1,8 @@
 -- The whole command `apply`: what it comes to, and what a crash leaves of it.
 -- Read it from the end: `EndsCall` for each status, `IsSafeCall`, then `ContinuesCall`.
 use Rattle.command_ends.specs.Statuses.{end_of}
-use Rattle.std.specs.Prelude.{◌≡◌, ◌⊎◌, ℕ, ◌+◌, ◌≤◌, List, [], ◌++◌, length, Option, Some, None, Ok, option_to_list, IfSome}
+use Rattle.std.specs.Prelude.{◌≡◌, ◌⊎◌, ℕ, ◌+◌, ◌≤◌, List, [], ◌++◌, length, Option, Some, None, Ok, option_to_list}
+use Rattle.std.specs.Prelude.{IfSome}
 use Rattle.lens_io.specs.Calls.{Took, IsRead, IsUnasked, Gave}
 use Rattle.lens_io.specs.DiskRuns.{LeavesOnly}
 use Rattle.lens_io.specs.declared.source.Source as OfSource

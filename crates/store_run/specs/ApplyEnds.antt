@@ -27,7 +27,8 @@ use Rattle.command_ends.specs.Statuses.{end_of}
 use Rattle.command_ends.specs.declared.status.Status.{Status}
 use Rattle.command_ends.specs.declared.status.Status.TheVariants as ending
 use Rattle.store_run.specs.declared.stop.Stop.{Stop}
-use Rattle.store_run.specs.declared.stop.Stop.TheVariants.{LogFull, SourceFault, SinkFault, DiskFault, TooLong, NoMemory}
+use Rattle.store_run.specs.declared.stop.Stop.TheVariants.{LogFull, SourceFault, SinkFault, DiskFault, TooLong}
+use Rattle.store_run.specs.declared.stop.Stop.TheVariants.{NoMemory}
 
 -- the line that is written if the log is full
 abbrev pub log_full_line : List ℕ

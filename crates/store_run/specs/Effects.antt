@@ -99,4 +99,5 @@ module _ {K D : Type 0} (sink : OfSink.Ghosts K) (disk : OfDisk.Ghosts D) (old n
     pub moments : (base : List (List ℕ)) → StandsOn disk old.1 old.2 base
         → LeavesOnly disk old.1 new.1 (HoldsFirst base (kept ++ begun_at stop begun))
     pub full : IsFullAt stop (disk.room old.1) (old.2.gate + records_length kept) begun
-    pub behind : Steps (KeepsBehind (old.2.gate + records_length kept + records_length begun + 1)) (disk.content old.1) (disk.content new.1)
+    pub behind : Steps (KeepsBehind (old.2.gate + records_length kept + records_length begun + 1)) (disk.content old.1)
+        (disk.content new.1)

@@ -1,5 +1,5 @@
--- What the opening of a store comes to. Read it from the end: `EndsUnopened` is of a command whose store was not opened,
--- `IsOpened`, `FailsToOpen` and `IsRefusedFor` are of the session, `IsReadLog` and `IsUnreadFor` of the log.
+-- What the opening of a store comes to. Read it from the end: `EndsUnopened` is of a command whose store was not
+-- opened, `IsOpened`, `FailsToOpen` and `IsRefusedFor` are of the session, `IsReadLog` and `IsUnreadFor` of the log.
 use Rattle.std.specs.Prelude.{◌≡◌, ℕ, List, []}
 use Rattle.std.specs.declared.option.Option.{Option}
 use Rattle.command_ends.specs.declared.status.Status.{Status}
@@ -17,7 +17,8 @@ use Rattle.store_run.specs.Stores.{Store}
 use Rattle.store_run.specs.declared.opening.OpenFault.{OpenFault}
 use Rattle.store_run.specs.declared.opening.OpenFault.TheVariants.{Refused, DiskFault, NoMemory}
 use Rattle.store_run.specs.declared.refusals.StoreRefusal.{StoreRefusal}
-use Rattle.store_run.specs.declared.refusals.StoreRefusal.TheVariants.{NotALog, LogExists, LogFull, BadRecord, NotConsistent}
+use Rattle.store_run.specs.declared.refusals.StoreRefusal.TheVariants.{NotALog, LogExists, LogFull, BadRecord}
+use Rattle.store_run.specs.declared.refusals.StoreRefusal.TheVariants.{NotConsistent}
 use Rattle.store_run.specs.declared.session.ReopenFault.{ReopenFault}
 use Rattle.store_run.specs.declared.session.ReopenFault.TheVariants as reopening
 use Rattle.store_run.specs.declared.session.StoredSession as OfSession
@@ -44,7 +45,8 @@ abbrev pub ImagesHold : {D : Type 0} → OfDisk.Ghosts D → D → List (List �
 ImagesHold disk d payloads = (image : List ℕ) → disk.images d image → HoldsPayloads payloads image
 
 -- the bytes are a log of the payloads that were read, and it stands on the disk
-pub record IsReadLog {D : Type 0} (disk : OfDisk.Ghosts D) (new : D) (bytes : List ℕ) (log : LogState) (payloads : List (List ℕ)) : Type 0 where
+pub record IsReadLog {D : Type 0} (disk : OfDisk.Ghosts D) (new : D) (bytes : List ℕ) (log : LogState)
+    (payloads : List (List ℕ)) : Type 0 where
   pub holds : HoldsPayloads payloads bytes
   pub stands : StandsOn disk new log payloads
 
@@ -59,7 +61,8 @@ IsUnreadFor bytes NoMemory = Unit {0}
 -- ---- a session that is opened
 
 -- The session, the version record and the count of changes are those of the store, whose log stands on the disk.
-pub record IsOpened {D A : Type 0} (disk : OfDisk.Ghosts D) (session : OfSession.Ghosts A) (old new : D) (store : Store disk session old)
+pub record IsOpened {D A : Type 0} (disk : OfDisk.Ghosts D) (session : OfSession.Ghosts A) (old new : D)
+    (store : Store disk session old)
     (log : LogState) (state : session.State) (version : Option (List ℕ)) (count : ℕ) : Type 0 where
   pub stands : StandsOn disk new log store.payloads
   pub state_is : state ≡ store.state

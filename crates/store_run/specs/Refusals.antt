@@ -9,7 +9,8 @@ use Rattle.gate_log.specs.LogBytes.{LogContent, payloads, not_a_log, bad_record,
 use Rattle.gate_log.specs.declared.fault.LogFault.{LogFault}
 use Rattle.gate_log.specs.declared.fault.LogFault.TheVariants as log
 use Rattle.store_run.specs.declared.refusals.StoreRefusal.{StoreRefusal}
-use Rattle.store_run.specs.declared.refusals.StoreRefusal.TheVariants.{NotALog, LogExists, LogFull, BadRecord, NotConsistent, NothingToUndo}
+use Rattle.store_run.specs.declared.refusals.StoreRefusal.TheVariants.{NotALog, LogExists, LogFull, BadRecord}
+use Rattle.store_run.specs.declared.refusals.StoreRefusal.TheVariants.{NotConsistent, NothingToUndo}
 use Rattle.store_run.specs.declared.session.ReopenFault.{ReopenFault}
 use Rattle.store_run.specs.declared.session.ReopenFault.TheVariants as reopening
 use Rattle.store_run.specs.declared.session.StoredSession as OfSession
@@ -48,7 +49,8 @@ module _ {K : Type 0} (sink : OfSink.Ghosts K) (old new : K) where
 -- ---- before a store is opened
 
 module _ {D : Type 0} (disk : OfDisk.Ghosts D) (old new : D) where
-  -- nothing is written, not even an empty piece: a read of the disk gives what it gave before, and a crash leaves nothing new
+  -- nothing is written, not even an empty piece: a read of the disk gives what it gave before, and a crash leaves
+  -- nothing new
   pub record IsUnwritten : Type 0 where
     pub same : disk.content new ≡ disk.content old
     pub only : (c : List ℕ) → disk.images new c → disk.images old c

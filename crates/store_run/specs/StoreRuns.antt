@@ -1,5 +1,6 @@
 -- The run of a session over the lines of a journal, and what its steps come to.
-use Rattle.std.specs.Prelude.{◌≡◌, ℕ, ◌+◌, List, [], ◌∷◌, ◌++◌, Bool, false, not, ◌||◌, Option, Some, option_map, option_and_then, option_to_list, is_some, if◌then◌else◌}
+use Rattle.std.specs.Prelude.{◌≡◌, ℕ, ◌+◌, List, [], ◌∷◌, ◌++◌, Bool, false, not, ◌||◌, Option, Some, option_map}
+use Rattle.std.specs.Prelude.{option_and_then, option_to_list, is_some, if◌then◌else◌}
 use Rattle.std.specs.Io.{StartsWith}
 use Rattle.edit_journal.specs.Lines.{is_blank}
 use Rattle.edit_journal.specs.declared.line.Line.{Line}

@@ -19,21 +19,23 @@ use std::alloc::Global;
 
 /// Opens a store, and goes on with the session for which its payloads stand, by a journal.
 ///
-/// - `continues`: after `Done` and `SomeRefused` the run goes on from the state for which the payloads from before stand. Its
-///   answer lines and then the state lines were written. The payloads of the changes that were accepted are stored, and all
-///   payloads stand for the last state.
-/// - `safe`: whatever the status, a crash at any moment of the call leaves what the definition says. If the sync of the opening
-///   failed, nothing has changed.
+/// - `continues`: after `Done` and `SomeRefused` the run goes on from the state for which the payloads from before
+///   stand. Its answer lines and then the state lines were written. The payloads of the changes that were accepted are
+///   stored, and all payloads stand for the last state.
+/// - `safe`: whatever the status, a crash at any moment of the call leaves what the definition says. If the sync of the
+///   opening failed, nothing has changed.
 /// - `exits`: what was written and what is stored after each status, if the payloads stand for a session.
-/// - `in_time`: whatever the status, when the source was called last, every line that had ended was answered, and its answer
-///   was written. After `SourceFault` and `InputTooLong` every line that has ended is answered.
+/// - `in_time`: whatever the status, when the source was called last, every line that had ended was answered, and its
+///   answer was written. After `SourceFault` and `InputTooLong` every line that has ended is answered.
 /// - `few`: the last call of the source gave no more than a piece, of 2^16 bytes.
-/// - `causes`: over such payloads `StoreRefused` comes only if the log had no room for a payload of the run, and `DiskFault`, if
-///   the disk's room is known, only if the disk had none. After `InputTooLong` 2^30 + 1 bytes were taken, and after `Done`,
-///   `SomeRefused` and `SourceFault` no more than 2^30.
-/// - `complete`: so with no fault, at most 2^30 bytes and a log that has room, the status is `Done`, `SomeRefused` or `NoMemory`.
-/// - `refused`: if the bytes of the disk are refused, the line `store refused: REASON` is written, unless the disk failed, whose
-///   room is not known then, or memory ran out before. The source is not called, and nothing is written to the disk.
+/// - `causes`: over such payloads `StoreRefused` comes only if the log had no room for a payload of the run, and
+///   `DiskFault`, if the disk's room is known, only if the disk had none. After `InputTooLong` 2^30 + 1 bytes were
+///   taken, and after `Done`, `SomeRefused` and `SourceFault` no more than 2^30.
+/// - `complete`: so with no fault, at most 2^30 bytes and a log that has room, the status is `Done`, `SomeRefused` or
+///   `NoMemory`.
+/// - `refused`: if the bytes of the disk are refused, the line `store refused: REASON` is written, unless the disk
+///   failed, whose room is not known then, or memory ran out before. The source is not called, and nothing is written
+///   to the disk.
 /// - `source_fault`, `sink_fault`, `disk_fault`: these statuses come only if that device failed.
 pub fn apply<S: Source, A: StoredSession + Drop, K: Sink, D: Disk>(
     alloc: Global,

@@ -1,6 +1,7 @@
 //! Going on with a session that was opened, by a journal: what comes before the lines and behind them.
 ghost use Rattle.command_ends.specs.Statuses.{IsAmong, apply_statuses, end_of};
-ghost use Rattle.std.specs.Prelude.{◌≡◌, ◌⊎◌, ◌+◌, ◌^◌, ◌<◌, ◌≤◌, [], false, List, ℕ, IfOk, IfErr, IsErrOf, option_to_list};
+ghost use Rattle.std.specs.Prelude.{◌≡◌, ◌⊎◌, ◌+◌, ◌^◌, ◌<◌, ◌≤◌, [], false, List, ℕ, IfOk, IfErr, IsErrOf};
+ghost use Rattle.std.specs.Prelude.{option_to_list};
 ghost use Rattle.lens_io.specs.Calls.{Gave, GaveFront, SourceFailed, SinkFailed, DiskFailed};
 ghost use Rattle.edit_journal.specs.Pieces.{last_line};
 ghost use Rattle.script_input.specs.Taking.{GaveFew};
@@ -131,12 +132,13 @@ fn answer_stored<S: Source, A: StoredSession, K: Sink, D: Disk>(
 /// Goes on with a session that was opened, by a journal.
 ///
 /// - `exits`: after `Done` and `SomeRefused` the answer lines of the run and then the state lines were written, and the
-///   payloads of the changes that were accepted are stored. After any other status what was written and what is stored is
-///   as the definition says.
-/// - `safe`: whatever the status, each image that a crash now may leave holds the payload of each change whose `ok` line was
-///   written, and at most one more. Each image of a moment since the start of the call holds the first of these payloads.
-/// - `in_time`: whatever the status, when the source was called last, every line that had ended was answered, and its answer
-///   was written. After `SourceFault` and `InputTooLong` every line that has ended is answered.
+///   payloads of the changes that were accepted are stored. After any other status what was written and what is stored
+///   is as the definition says.
+/// - `safe`: whatever the status, each image that a crash now may leave holds the payload of each change whose `ok`
+///   line was written, and at most one more. Each image of a moment since the start of the call holds the first of
+///   these payloads.
+/// - `in_time`: whatever the status, when the source was called last, every line that had ended was answered, and its
+///   answer was written. After `SourceFault` and `InputTooLong` every line that has ended is answered.
 /// - `few`: the last call of the source gave no more than a piece, of 2^16 bytes.
 /// - `source_fault`, `sink_fault`, `disk_fault`: these statuses come only if that device failed.
 pub fn continue_store<S: Source, A: StoredSession, K: Sink, D: Disk>(

@@ -1,5 +1,6 @@
 //! The lines of a journal, one after another, over a session and a store.
-ghost use Rattle.std.specs.Prelude.{◌≡◌, ◌+◌, ◌^◌, ◌<◌, ◌≤◌, ◌∷◌, ◌||◌, not, is_some, [], false, length, List, ℕ, OnOk, IfOk, IfErr, IsErrOf, Ok, option_to_list};
+ghost use Rattle.std.specs.Prelude.{◌≡◌, ◌+◌, ◌^◌, ◌<◌, ◌≤◌, ◌∷◌, ◌||◌, not, is_some, [], false, length, List, ℕ, OnOk};
+ghost use Rattle.std.specs.Prelude.{IfOk, IfErr, IsErrOf, Ok, option_to_list};
 ghost use Rattle.lens_io.specs.Calls.{SourceFailed};
 ghost use Rattle.edit_journal.specs.Lines.{is_blank};
 ghost use Rattle.edit_journal.specs.Pieces.{nothing_fed};
@@ -135,8 +136,8 @@ fn finish_item<K: Sink, D: Disk>(
 
 /// Answers a line. A blank one is skipped, and any other is an item.
 ///
-/// The payload of a change that is accepted is stored before its answer is written, and a refused item makes no call of the
-/// disk. The errors are those of [`answer_pieces`].
+/// The payload of a change that is accepted is stored before its answer is written, and a refused item makes no call of
+/// the disk. The errors are those of [`answer_pieces`].
 pub fn answer_line<A: StoredSession, K: Sink, D: Disk>(
     alloc: Global,
     session: &mut A,
@@ -208,18 +209,18 @@ pub fn answer_lines<A: StoredSession, K: Sink, D: Disk>(
     }
 }
 
-/// Answers the items of a journal as their lines come, up to the end of the input. All lines that have ended are answered
-/// before the source is asked for the next piece.
+/// Answers the items of a journal as their lines come, up to the end of the input. All lines that have ended are
+/// answered before the source is asked for the next piece.
 ///
 /// - `SourceFault`, `SinkFault`, `DiskFault`: only if the source, the sink or the disk failed.
 /// - `TooLong`: only if more than 2^30 bytes were taken.
 /// - `LogFull`: the log has no room for the payload of a change that was accepted.
 /// - `NoMemory`: only if memory ran out.
 ///
-/// After any error, every line that had ended when the source was called last is answered, and its answer was written; or
-/// the source was not called. After `SourceFault` and `TooLong` all lines that have ended are answered. After `LogFull` and
-/// `NoMemory` what is stored is what the `ok` lines say that were written. After `SinkFault` the change whose line was begun
-/// is stored too. After `DiskFault` the change that was not answered is stored or not.
+/// After any error, every line that had ended when the source was called last is answered, and its answer was written;
+/// or the source was not called. After `SourceFault` and `TooLong` all lines that have ended are answered. After
+/// `LogFull` and `NoMemory` what is stored is what the `ok` lines say that were written. After `SinkFault` the change
+/// whose line was begun is stored too. After `DiskFault` the change that was not answered is stored or not.
 pub fn answer_pieces<S: Source, A: StoredSession, K: Sink, D: Disk>(
     alloc: Global,
     session: &mut A,

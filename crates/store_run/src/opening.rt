@@ -4,7 +4,8 @@ ghost use Rattle.command_ends.specs.Statuses.{IsAmong, IsFinished, quiet_statuse
 ghost use Rattle.lens_io.specs.Calls.{DiskFailed, SinkFailed};
 ghost use Rattle.gate_log.specs.LogOnDisk.{HoldsPayloads};
 ghost use Rattle.store_run.specs.Effects.{StandsOn};
-ghost use Rattle.store_run.specs.Opening.{EndsUnopened, FailsToOpen, IsOpened, IsReadLog, IsRefusedFor, IsUnreadFor, ImagesHold, fault_of_log, fault_of_payloads};
+ghost use Rattle.store_run.specs.Opening.{EndsUnopened, FailsToOpen, IsOpened, IsReadLog, IsRefusedFor, IsUnreadFor};
+ghost use Rattle.store_run.specs.Opening.{ImagesHold, fault_of_log, fault_of_payloads};
 ghost use Rattle.store_run.specs.Refusals.{IsOpening};
 ghost use Rattle.store_run.specs.Stores.{RefusedStore, Store};
 
@@ -54,7 +55,9 @@ impl OpenFault {
     {
         match fault {
             LogFault::NotALog => OpenFault::Refused(StoreRefusal::NotALog),
-            LogFault::BadRecord { number } => OpenFault::Refused(StoreRefusal::BadRecord { number }),
+            LogFault::BadRecord { number } => OpenFault::Refused(StoreRefusal::BadRecord {
+                number,
+            }),
             LogFault::LogExists => OpenFault::Refused(StoreRefusal::LogExists),
             LogFault::LogFull => OpenFault::Refused(StoreRefusal::LogFull),
             LogFault::DiskFault => OpenFault::DiskFault,
@@ -67,8 +70,12 @@ impl OpenFault {
         ensures { result ≡ fault_of_payloads fault }
     {
         match fault {
-            ReopenFault::BadRecord { number } => OpenFault::Refused(StoreRefusal::BadRecord { number }),
-            ReopenFault::NotConsistent { number } => OpenFault::Refused(StoreRefusal::NotConsistent { number }),
+            ReopenFault::BadRecord { number } => OpenFault::Refused(StoreRefusal::BadRecord {
+                number,
+            }),
+            ReopenFault::NotConsistent { number } => OpenFault::Refused(
+                StoreRefusal::NotConsistent { number },
+            ),
             ReopenFault::NoMemory => OpenFault::NoMemory,
         }
     }
@@ -76,7 +83,8 @@ impl OpenFault {
 
 /// Opens the log of a store and reads its payloads. Nothing is written to the disk.
 ///
-/// - `Refused`: `NotALog` or `BadRecord`, if and only if the bytes of the disk are no log, or a record passes their end.
+/// - `Refused`: `NotALog` or `BadRecord`, if and only if the bytes of the disk are no log, or a record passes their
+///   end.
 /// - `DiskFault`: only if the disk failed, and never if its room is known.
 /// - `NoMemory`: only if memory ran out.
 ///
@@ -146,8 +154,8 @@ pub fn open_store<A: StoredSession + Drop, D: Disk>(
     }
 }
 
-/// Ends a command whose store was not opened. If it is refused, the line `store refused: REASON` is written; a fault of the
-/// disk, and running out of memory, write no line.
+/// Ends a command whose store was not opened. If it is refused, the line `store refused: REASON` is written; a fault of
+/// the disk, and running out of memory, write no line.
 pub fn refuse_store<K: Sink>(alloc: Global, fault: OpenFault, sink: &mut K) -> Status
     ensures ends { EndsUnopened K.Sink sink.old sink.new fault result }
     ensures statuses { IsAmong quiet_statuses result }

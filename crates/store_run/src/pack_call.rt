@@ -27,18 +27,19 @@ use texts::Bytes;
 
 /// Opens a store, stores a snapshot of the session for which its payloads stand, and then writes the line of `pack`.
 ///
-/// - `packs`: after `Done` the payloads are those from before, the version record if there was one to store, and a snapshot.
-///   They stand for the same state, and the line was written.
-/// - `safe`: whatever the status, an image that a crash leaves holds the payloads from before, or these and the version record,
-///   or these and a snapshot, and each of these lists stands for the same state. If the sync of the opening failed, nothing
-///   has changed.
+/// - `packs`: after `Done` the payloads are those from before, the version record if there was one to store, and a
+///   snapshot. They stand for the same state, and the line was written.
+/// - `safe`: whatever the status, an image that a crash leaves holds the payloads from before, or these and the version
+///   record, or these and a snapshot, and each of these lists stands for the same state. If the sync of the opening
+///   failed, nothing has changed.
 /// - `exits`: what was written and what is stored after each status, if the payloads stand for a session.
-/// - `causes`: over such payloads `StoreRefused` comes only if the log had no room for the version record or the snapshot, and
-///   `DiskFault`, if the disk's room is known, only if the disk had none.
+/// - `causes`: over such payloads `StoreRefused` comes only if the log had no room for the version record or the
+///   snapshot, and `DiskFault`, if the disk's room is known, only if the disk had none.
 /// - `complete`: so with no fault, and if the log has room, the status is `Done` or `NoMemory`.
-/// - `refused`: if the bytes of the disk are refused, the line `store refused: REASON` is written, unless the disk failed, whose
-///   room is not known then, or memory ran out before. Nothing is written to the disk.
-/// - `statuses`: it ends by one of five statuses, whatever the disk holds. `sink_fault`, `disk_fault`: these come only if that device failed.
+/// - `refused`: if the bytes of the disk are refused, the line `store refused: REASON` is written, unless the disk
+///   failed, whose room is not known then, or memory ran out before. Nothing is written to the disk.
+/// - `statuses`: it ends by one of five statuses, whatever the disk holds. `sink_fault`, `disk_fault`: these come only
+///   if that device failed.
 pub fn pack<A: StoredSession + Drop, K: Sink, D: Disk>(
     alloc: Global,
     sink: &mut K,

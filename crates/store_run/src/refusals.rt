@@ -29,7 +29,8 @@ pub enum StoreRefusal {
     NothingToUndo,
 }
 
-/// Ends a command by a refusal: its line `store refused: REASON` is written. Only a line with the number of a record allocates.
+/// Ends a command by a refusal: its line `store refused: REASON` is written. Only a line with the number of a record
+/// allocates.
 pub fn refuse<K: Sink>(alloc: Global, refusal: StoreRefusal, sink: &mut K) -> Status
     ensures refuses { Refuses K.Sink sink.old sink.new refusal result }
     ensures statuses { IsAmong quiet_statuses result }

@@ -42,7 +42,8 @@ pub struct Opened<A> {
     pub count: u64,
 }
 
-/// Why payloads stand for no session. Records are numbered from 1, and the fault is that of the first record that has one.
+/// Why payloads stand for no session. Records are numbered from 1, and the fault is that of the first record that has
+/// one.
 #[derive(Clone, Copy, Debug, PartialEq, Eq)]
 pub enum ReopenFault {
     /// The record is not one that may stand there.

@@ -14,8 +14,8 @@ use texts::Bytes;
 /// Stores a payload, and then writes its answer line. It makes no other call of the disk or of the sink.
 ///
 /// - `LogFull`, `NoMemory`: what is stored and what was written is as before.
-/// - `DiskFault`: each image that a crash now may leave holds the payloads from before, with this one or without it. Nothing
-///   was written.
+/// - `DiskFault`: each image that a crash now may leave holds the payloads from before, with this one or without it.
+///   Nothing was written.
 /// - `SinkFault`: the payload is stored, and a prefix of the line was written, and not all of it.
 pub fn store_and_answer<K: Sink, D: Disk>(
     alloc: Global,
@@ -62,7 +62,8 @@ pub(crate) fn give_line<K: Sink>(sink: &mut K, line: &[u8]) -> Result<(), Stop>
 /// Stores the version record, if there is one to store. The sink is not called; it is there for the clauses alone.
 ///
 /// - `LogFull`, `NoMemory`: what is stored is as before.
-/// - `DiskFault`: each image that a crash now may leave holds the payloads from before, with the version record or without.
+/// - `DiskFault`: each image that a crash now may leave holds the payloads from before, with the version record or
+///   without.
 pub fn store_version<K: Sink, D: Disk>(
     alloc: Global,
     log: &mut Log,

@@ -27,12 +27,14 @@ enum StoreView {
 
 /// Opens a store, and writes the state lines of the session for which its payloads stand.
 ///
-/// - `views`: if the payloads stand for a session, the text is written, unless the disk failed or memory ran out before.
+/// - `views`: if the payloads stand for a session, the text is written, unless the disk failed or memory ran out
+///   before.
 /// - `refused`: if the bytes of the disk are refused, the line `store refused: REASON` is written in its place.
 /// - `unwritten`, `moments`: nothing is written to the disk, and a crash leaves nothing new.
 /// - `complete`: over such payloads and with no fault the status is `Done` or `NoMemory`.
 /// - `statuses`: it ends by one of five statuses, whatever the disk holds.
-/// - `sink_fault`, `disk_fault`, `sure`: these statuses come only if that device failed; a disk whose room is known does not.
+/// - `sink_fault`, `disk_fault`, `sure`: these statuses come only if that device failed; a disk whose room is known
+///   does not.
 pub fn show<A: StoredSession + Drop, K: Sink, D: Disk>(
     alloc: Global,
     sink: &mut K,
@@ -59,12 +61,14 @@ pub fn show<A: StoredSession + Drop, K: Sink, D: Disk>(
 
 /// Opens a store, and writes the line `consistent N`, N the number of changes that were accepted.
 ///
-/// - `views`: if the payloads stand for a session, the text is written, unless the disk failed or memory ran out before.
+/// - `views`: if the payloads stand for a session, the text is written, unless the disk failed or memory ran out
+///   before.
 /// - `refused`: if the bytes of the disk are refused, the line `store refused: REASON` is written in its place.
 /// - `unwritten`, `moments`: nothing is written to the disk, and a crash leaves nothing new.
 /// - `complete`: over such payloads and with no fault the status is `Done` or `NoMemory`.
 /// - `statuses`: it ends by one of five statuses, whatever the disk holds.
-/// - `sink_fault`, `disk_fault`, `sure`: these statuses come only if that device failed; a disk whose room is known does not.
+/// - `sink_fault`, `disk_fault`, `sure`: these statuses come only if that device failed; a disk whose room is known
+///   does not.
 pub fn verify<A: StoredSession + Drop, K: Sink, D: Disk>(
     alloc: Global,
     sink: &mut K,
