@@ -31,14 +31,14 @@ kept_is count held cs last =
     ap (λ (b : Bool). take (cond b (length held - count) (length held)) held) some.0
 
 module _ (count : ℕ) (held : List (List ℕ)) (twice : OpenedTwice) (cs : List ChangeTree) (stood : StoodTwice count held twice) (last : last_changes count held ≡ Some cs) where
-  form : FormTree
+  abbrev form : FormTree
   form = form_tree twice.opened.session.lens.typed
 
-  now : Standing
+  abbrev now : Standing
   now = standing form (triple_tree twice.opened.session.triple) twice.opened.count twice.opened.version
 
   -- what stood before the changes is what was opened first
-  pub UndoneTwice : BothTrees → Type 0
+  abbrev UndoneTwice : BothTrees → Type 0
   UndoneTwice words = UndoneBy form (triple_tree twice.earlier) cs (now.triple, words)
 
   same_before : stood.was ≡ (stood_then count held now cs stood.now last).was

@@ -1,19 +1,21 @@
 //! The session that the payloads of a store represent, opened in two parts.
 
-ghost use Rattle.std.specs.Prelude.{◌≡◌, ◌<◌, ◌≤◌, ◌-◌, ℕ, length, nat_lt, if◌then◌else◌, Some, IfOk, MatchResult};
+ghost use Rattle.std.specs.Prelude.{◌≡◌, ◌<◌, ◌≤◌, length, take, Some, Ok, IfOk, MatchResult};
 ghost use Rattle.edit_session.specs.Step.{IsInStep};
 ghost use Rattle.edit_session.specs.Views.{triple_tree};
 ghost use Rattle.lens_core.specs.Consistency.{IsConsistent};
 ghost use Rattle.lens_forms.specs.Forms.{form_tree};
 ghost use Rattle.store_records.specs.StoredLens.{stored_lens};
-ghost use Rattle.store_session.specs.ReopenOutcomes.{IsReopenFault};
+ghost use Rattle.store_session.specs.ReopenOutcomes.{IsReopenFault, Reaches};
 ghost use Rattle.store_session.specs.Stands.{stands};
+ghost use Rattle.store_session.specs.Standings.{standing};
 ghost use Rattle.store_undo.specs.Making.{StoodTwice, kept_before};
 ghost use Rattle.store_undo.specs.UndoRecords.{version_due};
 
 use edit_session::{Session, Triple};
 use lens_flat::Flat;
 use lens_io::Payloads;
+use lens_types::Typed;
 use std::alloc::{AllocError, Global};
 use store_records::{ReopenFault, StoredLens, stored_lens, version_payload};
 use store_session::{Opened, go_on, reopen_first};
@@ -57,9 +59,33 @@ fn open_with(
     let lens = Flat::compile(alloc, &stored.typed)?;
     let kept = kept_before(count, payloads.as_slice().len());
     let mut opened = reopen_first(alloc, lens, stored, payloads, kept)?;
-    let earlier = triple_of(alloc, &opened.session)?;
-    go_on(alloc, &stored.typed, payloads, kept, &mut opened)?;
+    let earlier = open_rest(alloc, &stored.typed, payloads, kept, &mut opened)?;
     Ok(OpenedTwice { opened, earlier })
+}
+
+// Opens the payloads behind the first ones, which are so many. Returns the triple from before them.
+#[tactic(auto, using(lens_flat::proofs::FormLenses::is_lens_of))]
+fn open_rest(
+    alloc: Global,
+    typed: &Typed,
+    payloads: &Payloads,
+    kept: usize,
+    opened: &mut Opened<Flat>,
+) -> Result<Triple, ReopenFault>
+    requires form { form_tree opened.old.session.lens.typed ≡ form_tree typed.now }
+    requires within { kept ≤ length payloads.now }
+    requires stood { stands (take kept payloads.now)
+        ≡ Ok (standing (form_tree typed.now) (triple_tree opened.old.session.triple) opened.old.count opened.old.version) }
+    requires count { opened.old.count ≤ kept }
+    ensures stands { Reaches result (stands payloads.now)
+        (standing (form_tree typed.now) (triple_tree opened.new.session.triple) opened.new.count opened.new.version) }
+    ensures earlier { IfOk result (λ t. triple_tree t ≡ triple_tree opened.old.session.triple) }
+    ensures in_step { IfOk result (λ t. IsInStep (IsConsistent (form_tree typed.now)) (triple_tree t)) }
+    ensures lens { opened.new.session.lens ≡ opened.old.session.lens }
+{
+    let earlier = triple_of(alloc, &opened.session)?;
+    go_on(alloc, typed, payloads, kept, opened)?;
+    Ok(earlier)
 }
 
 // How many payloads are before the last ones; all, unless so many are behind the first one.

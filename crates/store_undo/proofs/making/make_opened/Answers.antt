@@ -8,11 +8,11 @@ make_texts-requires c =
     let cs = change_trees c.as_slice.result.now in
     let read = sym (rw c.in-Some.is at c.in_ok-changes.ensures) in
     let last = read ∙ ap (λ x. Some (change_trees x)) (sym c.as_slice.ensures.value) in
-    record { in_step = c.requires.in_step; accepted = accepted_of c.args.count c.args.payloads.now c.args.twice cs c.requires last }
+    record { in_step = c.requires.stood.in_step; accepted = accepted_of c.args.count c.args.payloads.now c.args.twice cs c.requires.stood last }
 
 pub returns : goal.returns
 returns c =
     let cs = change_trees c.as_slice.result.now in
     let read = sym (rw c.in-Some.is at c.in_ok-changes.ensures) in
     let last = read ∙ ap (λ x. Some (change_trees x)) (sym c.as_slice.ensures.value) in
-    made_of c.args.count c.args.payloads.now c.args.twice cs c.requires last _ c.in_ok-version.ensures c.in_ok-texts.ensures
+    made_of c.args.count c.args.payloads.now c.args.twice cs c.requires.stood last _ c.in_ok-version.ensures c.in_ok-texts.ensures
