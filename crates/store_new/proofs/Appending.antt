@@ -22,8 +22,8 @@ too_long front rest payload gate at full = omega (arith, at, full, records_lengt
 
 -- ---- nothing is behind the end
 
-none_left : (n : ℕ) → drop n {A = ℕ} [] ≡ []
-none_left n = drop_all n [] (omega arith)
+none_left : (n : ℕ) (bytes : List ℕ) → bytes ≡ [] → drop n bytes ≡ []
+none_left n bytes none = drop_all n bytes (omega (arith, ap length none))
 
 -- where nothing was behind a place, and what is behind a later one stays, nothing is behind that one
 pub still_ends : (m n k : ℕ) (old new : Option (List ℕ)) → m ≤ n → k ≡ n → IfSome old (λ bytes. drop m bytes ≡ []) → Steps (KeepsBehind n) old new
@@ -37,7 +37,7 @@ still_ends m n k (Some old) (Some new) within e h keeps =
     ∙ (keeps
     ∙ (ap (λ (j : ℕ). drop j old) (sym on)
     ∙ (sym (drop-drop (n - m) m old)
-    ∙ (ap (drop (n - m)) h ∙ none_left (n - m)))))
+    ∙ none_left (n - m) (drop m old) h)))
 
 nothing_behind : (bytes : List ℕ) → length bytes ≡ 0 → drop 0 bytes ≡ []
 nothing_behind bytes h = drop_all 0 bytes (omega (arith, h))

@@ -7,9 +7,9 @@ ghost use Rattle.accepted_programs.specs.Refused.{IsKnown, IsRefusal};
 ghost use Rattle.store_new.specs.NewEnds.{GivesLine};
 ghost use Rattle.store_new.specs.ScriptReading.{RefusesWith};
 
-use command_ends::Status;
 use accepted_programs::Refused;
 use answer_text::refused_part_line;
+use command_ends::Status;
 use lens_io::{Sink, give_all};
 use std::alloc::Global;
 

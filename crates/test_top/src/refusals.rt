@@ -174,7 +174,9 @@ fn parts_that_are_not_there(rt: HostRuntime) {
 // The version that a store of this one payload has. None if it is not a first record.
 fn version_in(alloc: Global, payload: &str) -> Option<u64> {
     let mut records = Vec::new(alloc);
-    records.push(Bytes::from_vec(payload.as_bytes().to_vec(alloc).ok()?)).ok()?;
+    records
+        .push(Bytes::from_vec(payload.as_bytes().to_vec(alloc).ok()?))
+        .ok()?;
     let stored = stored_lens(alloc, &Payloads::from_vec(records)).ok()?;
     Some(stored.version)
 }
@@ -196,11 +198,7 @@ fn texts_that_are_not_there(rt: HostRuntime) {
 #[test]
 fn statuses_behind_a_line(rt: HostRuntime) {
     let alloc = rt.alloc();
-    for status in [
-        Status::SourceFault,
-        Status::DiskFault,
-        Status::InputTooLong,
-    ] {
+    for status in [Status::SourceFault, Status::DiskFault, Status::InputTooLong] {
         let mut sink = MemSink::new(alloc, Vec::new(alloc), Vec::new(alloc));
         assert_eq!(rt; give_line(&mut sink, b"a line\n", status), status);
         assert_eq!(rt; sink.bytes(), b"a line\n".as_slice());

@@ -31,7 +31,7 @@ returns-in-Err-Stopped-clause-ends g c =
     let s' = c.read_script.new.source in
     let k = c.args.sink.now in
     let d = c.args.disk.now in
-    subst (λ status. Ends g.S.Source g.K.Sink g.D.Disk init_command (s, k, d) (s', k, d) status) (sym c.at_piece.ensures)
+    subst (λ status. Ends g.S.Source g.K.Sink g.D.Disk init_command (s, k, d) (s', k, d) status) (sym c.status_at.ensures)
     (ends_front g.S.Source g.K.Sink g.D.Disk init_command s s' k d c.in-Err-Stopped.fault r)
 
 pub returns-in-Err-Refused-clause-source_fault : goal.returns-in-Err-Refused-clause-source_fault

@@ -17,7 +17,7 @@ returns c =
     let earlier = triple_tree c.in_ok-earlier.earlier in
     let was = standing form (triple_tree first.session.triple) first.count first.version in
     let form_is : form ≡ form_tree last.session.lens.typed =
-        sym (ap (λ x. form_tree x.typed) (c.in_ok-earlier.ensures.lens ∙ c.in_ok-opened.ensures.lens) ∙ c.in_ok-lens.ensures) in
+    sym (ap (λ x. form_tree x.typed) (c.in_ok-earlier.ensures.lens ∙ c.in_ok-opened.ensures.lens) ∙ c.in_ok-lens.ensures) in
     let kept_is = c.kept_before-kept.ensures.is ∙ ap (λ (ps : List (List ℕ)). kept_before c.args.count (length ps)) c.as_slice.ensures in
     record {
       stands = record {

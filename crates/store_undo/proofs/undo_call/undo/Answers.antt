@@ -139,8 +139,8 @@ returns-in-Err-clause-safe g c =
     λ store.
     elim (c.in-Err.ensures.held store.bytes store.payloads store.told store.holds) [
       | inl failed ↦
-        let at_disk = unopened_at_disk g.K.Sink k k' status fault (same_fault fault DiskFault failed) ends in
-        inl (at_disk.0, record { given = at_disk.1; only = c.in-Err.ensures.opening.unwritten.only; moments = c.in-Err.ensures.opening.moments })
+          let at_disk = unopened_at_disk g.K.Sink k k' status fault (same_fault fault DiskFault failed) ends in
+          inl (at_disk.0, record { given = at_disk.1; only = c.in-Err.ensures.opening.unwritten.only; moments = c.in-Err.ensures.opening.moments })
       | inr now ↦ inr (safe_kept g.K.Sink disk hold reads k k' d d1 store.payloads store.undone (stood_now c.args.count store.payloads store.undone store.is) now c.in-Err.ensures.opening.moments)
     ]
 
@@ -173,8 +173,8 @@ returns-in-Err-clause-unstored g c =
     λ store none image now.
     elim (c.in-Err.ensures.held store.bytes store.payloads store.told store.holds) [
       | inl failed ↦
-        let at_disk = unopened_at_disk g.K.Sink k k' status fault (same_fault fault DiskFault failed) ends in
-        other_status status (HoldsNow store.payloads store.undone image) none (inr (inr at_disk.0))
+          let at_disk = unopened_at_disk g.K.Sink k k' status fault (same_fault fault DiskFault failed) ends in
+          other_status status (HoldsNow store.payloads store.undone image) none (inr (inr at_disk.0))
       | inr held ↦ holds_before g.K.Sink disk store.payloads store.undone hold (stood_now c.args.count store.payloads store.undone store.is) image (held image now)
     ]
 
