@@ -51,11 +51,11 @@ impl From<AllocError> for MakingFault {
 }
 
 // What `undo` stores and writes over these payloads, or why they are refused.
-pub(crate) fn make(alloc: Global, count: u64, payloads: &Payloads) -> Result<Making, MakingFault>
-    ensures { MatchResult result (IsMade count payloads.now) (IsMakingFault (undo_refusal count payloads.now)) }
+pub(crate) fn make(alloc: Global, count: u64, payloads: Payloads) -> Result<Making, MakingFault>
+    ensures { MatchResult result (IsMade count payloads) (IsMakingFault (undo_refusal count payloads)) }
 {
-    match open(alloc, count, payloads) {
-        Ok(opened) => make_opened(alloc, count, payloads, opened),
+    match open(alloc, count, &payloads) {
+        Ok(opened) => make_opened(alloc, count, &payloads, opened),
         Err(fault) => Err(refused(fault)),
     }
 }

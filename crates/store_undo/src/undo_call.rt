@@ -103,7 +103,7 @@ fn undo_payloads<K: Sink, D: Disk>(
     ensures sink_fault { result ≡ Status.SinkFault → SinkFailed K.Sink sink.old sink.new }
     ensures disk_fault { result ≡ Status.DiskFault → DiskFailed D.Disk disk.old disk.new }
 {
-    match make(alloc, count, &payloads) {
+    match make(alloc, count, payloads) {
         Ok(making) => store_undone(alloc, &making, log, sink, disk),
         Err(MakingFault::Refused(refusal)) => refuse(alloc, refusal, sink),
         Err(MakingFault::NoMemory) => Status::NoMemory,
