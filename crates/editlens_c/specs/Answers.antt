@@ -1,4 +1,5 @@
--- What an answer says: a status with its numbers, and the length of the text. Read it from the end: `IsWritten`, `part_of`, `IsAnswer`.
+-- What an answer says: a status with its numbers, and the length of the text. Read it from the end: `IsWritten`,
+-- `part_of`, `IsAnswer`.
 use Rattle.std.specs.Prelude.{◌≡◌, ◌<◌, ◌==◌, ℕ, List, ◌++◌, length, drop, Bool, true, false, Option, None, Some, if◌then◌else◌}
 use Rattle.kept_sessions.specs.Kept.{text_of}
 use Rattle.kept_sessions.specs.declared.kept.Kept.{Kept}
@@ -6,7 +7,7 @@ use Rattle.kept_sessions.specs.declared.kept.Kept.TheVariants as kept
 use Rattle.kept_sessions.specs.declared.outcome.Outcome.{Outcome}
 use Rattle.kept_sessions.specs.declared.outcome.Outcome.TheVariants as outcome
 use Rattle.kept_sessions.specs.declared.outcome.Part.{Part}
-use Rattle.kept_sessions.specs.declared.outcome.Part.TheVariants.{State, Left, Complement, Right, LeftType, RightType}
+use Rattle.kept_sessions.specs.declared.outcome.Part.TheVariants.{State, Left, Complement, Right, LeftType, RightType, Snapshot, Change, UndoLeft, UndoRight}
 use Rattle.editlens_c.specs.declared.answer.Answer.{Answer}
 use Rattle.editlens_c.specs.declared.codes.TheConstants as code
 use Rattle.editlens_c.specs.declared.reasons.Reason.{Reason}
@@ -16,6 +17,7 @@ abbrev pub closed_status : Kept → ℕ
 closed_status (kept.Open r) = code.DONE
 closed_status (kept.Refused refused line) = code.PROGRAM_REFUSED
 closed_status (kept.StateRefused fault) = code.STATE_REFUSED
+closed_status (kept.RecordsRefused fault) = code.RECORDS_REFUSED
 closed_status kept.NoMemory = code.NO_SESSION
 
 abbrev pub status_of : Outcome → Kept → ℕ
@@ -25,6 +27,7 @@ status_of (outcome.NoApply part at cause) k = code.REFUSED
 status_of (outcome.NotAChange fault) k = code.REFUSED
 status_of outcome.LineFeed k = code.LINE_FEED
 status_of outcome.Full k = code.FULL
+status_of outcome.NoChange k = code.NO_CHANGE
 status_of outcome.NoMemory k = code.NO_MEMORY
 status_of outcome.NoSession k = closed_status k
 
@@ -33,6 +36,7 @@ abbrev pub number_of : Kept → ℕ
 number_of (kept.Open r) = r.number
 number_of (kept.Refused refused line) = 0
 number_of (kept.StateRefused fault) = 0
+number_of (kept.RecordsRefused fault) = 0
 number_of kept.NoMemory = 0
 
 -- the answer has this status and this reason, the number of items of what is kept, and the length of its text
@@ -52,9 +56,14 @@ part_of n = if n == code.STATE then Some State
     else if n == code.RIGHT then Some Right
     else if n == code.LEFT_TYPE then Some LeftType
     else if n == code.RIGHT_TYPE then Some RightType
+    else if n == code.SNAPSHOT then Some Snapshot
+    else if n == code.CHANGE then Some Change
+    else if n == code.UNDO_LEFT then Some UndoLeft
+    else if n == code.UNDO_RIGHT then Some UndoRight
     else None
 
--- a text has room: it is at the head of the buffer, and the rest is as it was; or the buffer is too small, and as it was
+-- a text has room: it is at the head of the buffer, and the rest is as it was; or the buffer is too small, and as it
+-- was
 abbrev pub IsWritten : List ℕ → List ℕ → Bool → List ℕ → Type 0
 IsWritten text old true new = new ≡ text ++ drop (length text) old
 IsWritten text old false new = (length old < length text) × (new ≡ old)

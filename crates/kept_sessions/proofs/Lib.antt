@@ -1,4 +1,12 @@
+pub mod CutTexts
 pub mod GivenLines
+pub mod ImportSteps
+pub mod ItemSteps
+pub mod LogRecords
+pub mod LoggedLines
+pub mod OpenedRecords
 pub mod PartTexts
 pub mod RefusedPrograms
 pub mod SameStates
+pub mod UndoneSteps
+pub mod UndoneTexts

@@ -19,6 +19,7 @@ use Rattle.kept_sessions.specs.declared.running.Running.{Running}
 abbrev pub is_taken : Outcome → Bool
 is_taken outcome.LineFeed = false
 is_taken outcome.Full = false
+is_taken outcome.NoChange = false
 is_taken outcome.NoMemory = false
 is_taken outcome.NoSession = false
 is_taken end = true
@@ -38,7 +39,8 @@ abbrev pub IsGiven : Kept → List (List ℕ) → List ℕ → Kept → Type 0
 IsGiven before [] texts after = (texts ≡ []) × (after ≡ before)
 IsGiven before (line ∷ lines) texts after = IsGivenFirst before line texts (λ next rest. IsGiven next lines rest after)
 
--- the text is all that a run of the program writes for these lines: the answer lines of its items, then the last state lines
+-- the text is all that a run of the program writes for these lines: the answer lines of its items, then the last state
+-- lines
 pub record IsReported (program : List ℕ) (lines : List (List ℕ)) (text : List ℕ) : Type 0 where
   pub form : FormTree
   pub lens : lens_of program ≡ Ok form

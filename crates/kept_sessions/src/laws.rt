@@ -1,19 +1,26 @@
 //! Laws of sessions that a caller keeps. Each function here does nothing: its clauses are the laws.
-ghost use Rattle.std.specs.Prelude.{◌≡◌, ◌++◌, ℕ, List, Ok};
+ghost use Rattle.std.specs.Prelude.{◌≡◌, ◌++◌, ◌∷◌, [], ℕ, List, Ok, Some};
+ghost use Rattle.std.specs.declared.option.Option.{Option};
 ghost use Rattle.accepted_programs.specs.Program.{lens_of};
 ghost use Rattle.edit_session.specs.Step.{TripleTree};
 ghost use Rattle.edit_session.specs.Views.{triple_tree};
 ghost use Rattle.journal_answers.specs.Runs.{IsInStepFor};
-ghost use Rattle.lens_forms.specs.Forms.{FormTree};
+ghost use Rattle.lens_forms.specs.Forms.{FormTree, left_type, right_type};
+ghost use Rattle.kept_sessions.specs.Changes.{IsMade, IsWordBack};
 ghost use Rattle.kept_sessions.specs.Journals.{IsGiven, IsReported, IsSameState};
-ghost use Rattle.kept_sessions.specs.Kept.{IsOpened, IsResumed, IsShown, text_of};
+ghost use Rattle.kept_sessions.specs.Kept.{IsOpened, IsFresh, IsResumed, IsReopened, IsShown, text_of};
+ghost use Rattle.kept_sessions.specs.Logs.{IsLog, IsLogged, IsSameSession};
 ghost use Rattle.kept_sessions.specs.States.{IsPartText};
+ghost use Rattle.kept_sessions.specs.Steps.{form_of, IsLineStep};
 ghost use Rattle.kept_sessions.specs.declared.kept.Kept.{Kept as KeptValue};
+ghost use Rattle.kept_sessions.specs.declared.kept.Kept.TheVariants.{Open};
 ghost use Rattle.kept_sessions.specs.declared.outcome.Outcome.TheVariants.{Done};
-ghost use Rattle.kept_sessions.specs.declared.outcome.Part.TheVariants.{State, Left, Complement, Right};
+ghost use Rattle.kept_sessions.specs.declared.outcome.Part.TheVariants.{State, Left, Complement, Right, Snapshot, Change, UndoLeft, UndoRight};
+ghost use Rattle.kept_sessions.specs.declared.running.Accepted.{Accepted as AcceptedValue};
+ghost use Rattle.kept_sessions.specs.declared.running.Running.{Running as RunningValue};
 
-/// A session that is opened, given the lines of a journal and then shown answers as a run: its texts, one after another, are
-/// all that the run of the program writes for these lines.
+/// A session that is opened, given the lines of a journal and then shown answers as a run: its texts, one after
+/// another, are all that the run of the program writes for these lines.
 #[tactic(auto, using(crate::proofs::GivenLines::is_reported))]
 pub fn sessions_answer_as_a_run()
     ensures { (program : List ℕ) (lines : List (List ℕ)) (texts : List ℕ) (first last shown : KeptValue)
@@ -21,11 +28,71 @@ pub fn sessions_answer_as_a_run()
         → IsReported program lines (texts ++ text_of shown) }
 {}
 
-/// What is resumed from the texts that a session showed is at the same lens, documents and complement, unless memory ran out.
+/// What is resumed from the texts that a session showed is at the same lens, documents and complement, unless memory
+/// ran out.
 #[tactic(auto, using(crate::proofs::SameStates::is_same_state))]
 pub fn shown_states_are_resumed()
-    ensures { (program left comp right : List ℕ) (form : FormTree) (triple : TripleTree) (resumed : KeptValue)
+    ensures { (program left comp right : List ℕ) (form : FormTree) (triple : TripleTree)
+        (last : Option AcceptedValue) (resumed : KeptValue)
         → lens_of program ≡ Ok form → IsInStepFor form triple
-        → IsPartText form triple Left left → IsPartText form triple Complement comp → IsPartText form triple Right right
+        → IsPartText form triple last Left left → IsPartText form triple last Complement comp
+        → IsPartText form triple last Right right
         → IsResumed program left comp right resumed → IsSameState form triple resumed }
+{}
+
+/// A log that a caller keeps of a session is reopened as that session, unless memory ran out: the record from opening
+/// it, and behind it the record of each change that was accepted. Lines may have been refused, and memory may have run
+/// out in between.
+pub fn logs_are_reopened()
+    ensures { (program : List ℕ) (lines records : List (List ℕ)) (first : RunningValue) (last reopened : KeptValue)
+        → IsOpened program (Open first) → IsLogged (Open first) lines records last
+        → IsReopened (first.text.items ∷ records) reopened
+        → IsSameSession last reopened }
+{}
+
+/// The records of a log stand for its session, one after another.
+///
+/// - `opened`: the record from opening a session at its first documents.
+/// - `snapshot`: the record from opening any other session over a program, and a snapshot.
+/// - `change`: one more change that was accepted.
+/// - `one_more_snapshot`: one more snapshot, at any time.
+/// - `reopened`: what is reopened from a log is its session, and the log goes on.
+pub fn records_stand()
+    ensures opened { (program : List ℕ) (r : RunningValue) → IsOpened program (Open r)
+        → IsLog (r.text.items ∷ []) r }
+    ensures snapshot { (program text : List ℕ) (last : Option AcceptedValue) (r : RunningValue)
+        → IsFresh program r → IsPartText (form_of r) (triple_tree r.session.triple) last Snapshot text
+        → IsLog (r.text.items ∷ text ∷ []) r }
+    ensures change { (records : List (List ℕ)) (line text : List ℕ) (before after : RunningValue)
+        → IsLog records before → IsLineStep before line Done after
+        → IsPartText (form_of after) (triple_tree after.session.triple) after.accepted Change text
+        → IsLog (records ++ text ∷ []) after }
+    ensures one_more_snapshot { (records : List (List ℕ)) (text : List ℕ) (last : Option AcceptedValue)
+        (r : RunningValue)
+        → IsLog records r → IsPartText (form_of r) (triple_tree r.session.triple) last Snapshot text
+        → IsLog (records ++ text ∷ []) r }
+    ensures reopened { (records : List (List ℕ)) (r : RunningValue) (reopened : KeptValue) → IsLog records r
+        → IsReopened records reopened → IsSameState (form_of r) (triple_tree r.session.triple) reopened }
+    ensures goes_on { (records : List (List ℕ)) (r again : RunningValue) → IsLog records r
+        → IsReopened records (Open again) → IsLog records again }
+{}
+
+/// The words that are shown of the last change take the documents of the session back to what they were before its
+/// line.
+pub fn words_take_back()
+    ensures left { (line text : List ℕ) (before after : RunningValue) → IsLineStep before line Done after
+        → IsPartText (form_of after) (triple_tree after.session.triple) after.accepted UndoLeft text
+        → IsWordBack (left_type (form_of after)) (triple_tree after.session.triple).left
+        (triple_tree before.session.triple).left text }
+    ensures right { (line text : List ℕ) (before after : RunningValue) → IsLineStep before line Done after
+        → IsPartText (form_of after) (triple_tree after.session.triple) after.accepted UndoRight text
+        → IsWordBack (right_type (form_of after)) (triple_tree after.session.triple).right
+        (triple_tree before.session.triple).right text }
+{}
+
+/// What is kept of a line that was accepted is its change, which the lens accepts. So its parts are shown, unless
+/// memory runs out.
+pub fn accepted_is_made()
+    ensures { (line : List ℕ) (before after : RunningValue) (kept : AcceptedValue)
+        → IsLineStep before line Done after → after.accepted ≡ Some kept → IsMade (form_of after) kept }
 {}
