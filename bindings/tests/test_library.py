@@ -105,7 +105,7 @@ class OverBytes(unittest.TestCase):
     def test_a_log_is_reopened(self):
         with library.Kept(SMALL.encode()) as kept:
             records = [kept.opening]
-            self.assertEqual(json.loads(kept.opening), {"program": SMALL, "version": 2})
+            self.assertEqual(json.loads(kept.opening), {"program": SMALL.rstrip("\n"), "version": 2})
             for line in (
                 b'{"side":"left","edit":[{"at":["hours",[{"set":8}]]}]}',
                 b'{"side":"left","edit":[{"at":["none",[]]}]}',

@@ -100,7 +100,7 @@ fn a_state_is_resumed_if_it_is_consistent() {
 fn a_log_is_reopened() {
     let mut session = Session::open(SMALL).unwrap();
     let mut records = vec![session.opening().to_string()];
-    assert_eq!(records[0], r#"{"program":"main {hours ~ time: id int, left done: bool}\n","version":2}"#);
+    assert_eq!(records[0], r#"{"program":"main {hours ~ time: id int, left done: bool}","version":2}"#);
     assert_eq!(session.change(), Err(Error::NoChange));
     for line in [
         r#"{"side":"left","edit":[{"at":["hours",[{"set":8}]]}]}"#,
