@@ -45,17 +45,26 @@ module _ (left right : TyTree) (carried : Side → CompTree → WordTree → Opt
       translated_own s x (document_on (other s) t) (carried s t.comp w) m (subst (λ a. after_action left right carried t s w a ≡ Some (Ok m)) acts h)
 
 -- the word that makes a document makes it from the document of the first triple
-pub made_first : (form : FormTree) (s : Side) (doc : DocTree) → act (side_type form s) (construct (side_type form s) doc) (initial (side_type form s)) ≡ Ok doc
-    → act (side_type form s) (construct (side_type form s) doc) (document_on s (first_of form)) ≡ Ok doc
-made_first form s doc h = ap (act (side_type form s) (construct (side_type form s) doc)) (first_document form s) ∙ h
+pub made_first : (form l : FormTree) (s : Side) (doc : DocTree) (ty : TyTree) (word : WordTree) (t : TripleTree) → l ≡ form → t ≡ first_of form → ty ≡ side_type form s
+    → act ty word (initial ty) ≡ Ok doc → act (near s (left_type l) (right_type l)) word (document_on s t) ≡ Ok doc
+made_first form l s doc ty word t lens first is makes =
+    subst (λ (f : FormTree). act (side_type f s) word (document_on s t) ≡ Ok doc) (sym lens)
+    (subst (λ u. act (side_type form s) word (document_on s u) ≡ Ok doc) (sym first)
+    (ap (act (side_type form s) word) (first_document form s) ∙ subst (λ x. act x word (initial x) ≡ Ok doc) is makes))
 
-pub brought : (form : FormTree) (s : Side) (doc : DocTree) (t : TripleTree) (word : WordTree)
-    → act (side_type form s) (construct (side_type form s) doc) (initial (side_type form s)) ≡ Ok doc
-    → step (left_type form) (right_type form) (translate form) (first_of form) (s, construct (side_type form s) doc) ≡ Some (Ok (t, word))
-    → IsInStepFor form t → Brings form s doc t
-brought form s doc t word makes steps in_step = record {
-  word = word;
-  stepped = steps;
-  has = step_own (left_type form) (right_type form) (translate form) (first_of form) s (construct (side_type form s) doc) doc (t, word) steps (made_first form s doc makes);
-  in_step = in_step;
-}
+-- the step from the first triple, where the word is the one that makes the document
+abbrev Steps : FormTree → TripleTree → Side × WordTree → TripleTree → WordTree → Type 0
+Steps form t e after word = step (left_type form) (right_type form) (translate form) t e ≡ Some (Ok (after, word))
+
+pub brought : (form l : FormTree) (s : Side) (doc : DocTree) (ty : TyTree) (w : WordTree) (t after : TripleTree) (word : WordTree) → l ≡ form → t ≡ first_of form
+    → ty ≡ side_type form s → w ≡ construct ty doc → act ty w (initial ty) ≡ Ok doc → Steps l t (s, w) after word → IsInStepFor l after → Brings form s doc after
+brought form l s doc ty w t after word lens first is made makes steps in_step =
+    let acts = made_first form l s doc ty w t lens first is makes in
+    let exact : w ≡ construct (side_type form s) doc = made ∙ ap (λ x. construct x doc) is in
+    record {
+      word = word;
+      stepped = subst (λ x. Steps form (first_of form) (s, x) after word) exact
+          (subst (λ u. Steps form u (s, w) after word) first (subst (λ (f : FormTree). Steps f t (s, w) after word) lens steps));
+      has = step_own (left_type l) (right_type l) (translate l) t s w doc (after, word) steps acts;
+      in_step = subst (λ (f : FormTree). IsInStepFor f after) lens in_step;
+    }

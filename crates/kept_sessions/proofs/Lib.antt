@@ -1,9 +1,12 @@
 pub mod CutTexts
+pub mod FirstRecords
+pub mod FreshSessions
 pub mod GivenLines
 pub mod ImportSteps
 pub mod ItemSteps
 pub mod LogRecords
 pub mod LoggedLines
+pub mod MadeChanges
 pub mod OpenedRecords
 pub mod PartTexts
 pub mod RefusedPrograms

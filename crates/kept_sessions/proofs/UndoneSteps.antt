@@ -72,12 +72,27 @@ change_undone form t u (group es) words h =
     let k = each_undone (left_type form) (right_type form) (translate form) t es u words h in
     (k.0, ap (λ rest. undone_each (left_type form) (right_type form) (translate form) t rest) (append-nil es) ∙ k.1)
 
--- what is found of one change: its words take it back, or it is refused
-pub found_back : {E : Type 0} (r : Result (Option BothWords) E) (form : FormTree) (before after : TripleTree) (change : ChangeTree)
-    → IfOk r (λ found. option_map (λ (w : BothWords). (after, both_tree w)) found ≡ undone (left_type form) (right_type form) (translate form) before (change ∷ []))
-    → IfOk r (λ found. IfSome found (λ (w : BothWords). BringsBack (left_type form) (right_type form) (both_tree w) after before))
-    → IfOk r (λ found. MatchOption found (undone (left_type form) (right_type form) (translate form) before (change ∷ []) ≡ None)
+-- what is found of some changes, and what its words do
+abbrev pub Finds : {E : Type 0} → Result (Option BothWords) E → FormTree → TripleTree → TripleTree → List ChangeTree → Type 0
+Finds r form before after changes = IfOk r (λ found. option_map (λ (w : BothWords). (after, both_tree w)) found ≡ undone (left_type form) (right_type form) (translate form) before changes)
+
+abbrev pub FindsBack : {E : Type 0} → Result (Option BothWords) E → FormTree → TripleTree → TripleTree → Type 0
+FindsBack r form before after = IfOk r (λ found. IfSome found (λ (w : BothWords). BringsBack (left_type form) (right_type form) (both_tree w) after before))
+
+abbrev pub HasWayBack : {E : Type 0} → Result (Option BothWords) E → FormTree → TripleTree → ChangeTree → Type 0
+HasWayBack r form before change = IfOk r (λ found. MatchOption found (undone (left_type form) (right_type form) (translate form) before (change ∷ []) ≡ None)
     (λ (w : BothWords). IsWayBack form before change (both_tree w)))
-found_back (Ok (Some w)) form before after change h k = record { after = after; undoes = sym h; back = k }
-found_back (Ok None) form before after change h k = sym h
-found_back (Err fault) form before after change h k = tt
+
+found_here : {E : Type 0} (r : Result (Option BothWords) E) (form : FormTree) (before after : TripleTree) (change : ChangeTree)
+    → Finds r form before after (change ∷ []) → FindsBack r form before after → HasWayBack r form before change
+found_here (Ok (Some w)) form before after change h k = record { after = after; undoes = sym h; back = k }
+found_here (Ok None) form before after change h k = sym h
+found_here (Err fault) form before after change h k = tt
+
+-- what is found of one change: its words take it back, or it is refused
+pub found_back : {E : Type 0} (r : Result (Option BothWords) E) (l form : FormTree) (t before after : TripleTree) (changes : List ChangeTree) (change : ChangeTree)
+    → l ≡ form → t ≡ before → changes ≡ change ∷ [] → Finds r l t after changes → FindsBack r l t after → HasWayBack r form before change
+found_back r l form t before after changes change lens triple one h k =
+    found_here r form before after change
+    (subst (λ cs. Finds r form before after cs) one (subst (λ x. Finds r form x after changes) triple (subst (λ (f : FormTree). Finds r f t after changes) lens h)))
+    (subst (λ x. FindsBack r form x after) triple (subst (λ (f : FormTree). FindsBack r f t after) lens k))

@@ -132,11 +132,13 @@ IsResumed program left comp right k = IsRefusedProgram program k
 
 -- ---- reopening
 
--- the records stand for the session, no item was given, and the text is the record that the log is owed
+-- the records stand for the session, which is consistent; no item was given, and the text is the record that the log is
+-- owed
 pub record IsStanding (records : List (List ℕ)) (r : Running) : Type 0 where
   pub count : ℕ
   pub version : ℕ
   pub stand : stands records ≡ Ok (standing (form_of r) (triple_tree r.session.triple) count version)
+  pub in_step : IsInStepFor (form_of r) (triple_tree r.session.triple)
   pub number : r.number ≡ 0
   pub accepted : r.accepted ≡ None
   pub text : r.text.items ≡ owed_record version

@@ -23,27 +23,40 @@ pub(crate) struct Begun {
 }
 
 // The lens of a program with the first record, or why the program is refused.
-#[tactic(auto, using(accepted_programs::proofs::Refusals::syntax_refused))]
+#[tactic(auto, using(accepted_programs::proofs::Refusals::known_error))]
 pub(crate) fn begin(alloc: Global, program: &[u8]) -> Result<Begun, Refused>
     ensures begun { MatchResult result
         (λ b. (lens_of program.now ≡ Ok (form_tree b.typed)) × IsFirstRecord program.now b.text.items)
-        (IsRefusal (lens_of program.now)) }
+        (λ refused. IsRefusal (lens_of program.now) refused) }
     ensures known { IfErr result IsKnown }
 {
-    match read_program(alloc, program) {
-        Ok(program) => with_lens(alloc, &program),
+    begin_text(alloc, program)
+}
+
+// The same of the text, by one clause.
+#[tactic(auto, using(accepted_programs::proofs::Refusals::syntax_refused))]
+fn begin_text(alloc: Global, text: &[u8]) -> Result<Begun, Refused>
+    ensures { MatchResult result
+        (λ b. (lens_of text.now ≡ Ok (form_tree b.typed)) × IsFirstRecord text.now b.text.items)
+        (λ refused. IsRefusal (lens_of text.now) refused) }
+{
+    match read_program(alloc, text) {
+        Ok(program) => {
+            let begun = begin_program(alloc, &program);
+            drop(program);
+            begun
+        }
         Err(ProgramFault::NoMemory) => Err(Refused::NoMemory),
         Err(fault) => Err(Refused::Syntax(fault)),
     }
 }
 
-// The lens of a program with its first record.
-fn with_lens(alloc: Global, program: &Program) -> Result<Begun, Refused>
-    ensures begun { MatchResult result
+// The lens of a program that is read, with its first record.
+fn begin_program(alloc: Global, program: &Program) -> Result<Begun, Refused>
+    ensures { MatchResult result
         (λ b. (form_of_program (Ok (program_tree program.now)) ≡ Ok (form_tree b.typed))
         × IsTextOf (tree_of_program (canonical (program_tree program.now))) b.text.items)
-        (IsRefusal (form_of_program (Ok (program_tree program.now)))) }
-    ensures known { IfErr result IsKnown }
+        (λ refused. IsRefusal (form_of_program (Ok (program_tree program.now))) refused) }
 {
     match check(alloc, program) {
         Ok(typed) => match first_record(alloc, program) {
@@ -59,5 +72,6 @@ fn with_lens(alloc: Global, program: &Program) -> Result<Begun, Refused>
 fn first_record(alloc: Global, program: &Program) -> Result<Vec<u8>, AllocError>
     ensures { IfOk result (λ text. IsTextOf (tree_of_program (canonical (program_tree program.now))) text.items) }
 {
-    Ok(program_payload(alloc, program)?.into_vec())
+    let payload = program_payload(alloc, program)?;
+    Ok(payload.into_vec())
 }

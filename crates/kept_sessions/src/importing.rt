@@ -1,8 +1,8 @@
 //! The session of which one document is given, or why there is none.
-ghost use Rattle.std.specs.Prelude.{◌≡◌, List, ℕ, true, Ok, IfOk};
+ghost use Rattle.std.specs.Prelude.{◌≡◌, List, ℕ, true, Ok, IfOk, IsTrue};
 ghost use Rattle.accepted_programs.specs.Program.{lens_of};
 ghost use Rattle.doc_values.specs.Documents.{doc_tree};
-ghost use Rattle.doc_values.specs.Types.{ty_tree};
+ghost use Rattle.doc_values.specs.Types.{ty_tree, is_well_formed};
 ghost use Rattle.doc_values.specs.Typing.{has};
 ghost use Rattle.edit_session.specs.Views.{triple_tree};
 ghost use Rattle.lens_forms.specs.Forms.{form_tree};
@@ -49,7 +49,8 @@ fn imported(alloc: Global, begun: Begun, side: Side, document: &[u8]) -> Kept
 
 // The type of a side.
 fn side_type(typed: &Typed, side: Side) -> &Ty
-    ensures { ty_tree result.now ≡ side_type (form_tree typed.now) side }
+    ensures is { ty_tree result.now ≡ side_type (form_tree typed.now) side }
+    ensures well_formed { IsTrue (is_well_formed (ty_tree result.now)) }
 {
     match side {
         Side::Left => typed.left(),
@@ -96,9 +97,8 @@ fn session_with(
     let word = construct(alloc, side_type(typed, side), doc)?;
     let entry = Entry { side, word };
     match session.step(&entry) {
-        Ok(_word) => {
-            // The proof needs that the session is in step, which this call says.
-            let _comp = session.comp();
+        Ok(word) => {
+            drop(word);
             Ok(session)
         }
         Err(StepFault::NoApply { .. }) => unreachable!(),

@@ -2,6 +2,7 @@
 ghost use Rattle.std.specs.Prelude.{◌≡◌, ℕ, List, Ok, Some, IfOk, MatchResult};
 ghost use Rattle.edit_journal.specs.Pieces.{texts_of};
 ghost use Rattle.edit_session.specs.Views.{triple_tree};
+ghost use Rattle.journal_answers.specs.Runs.{IsInStepFor};
 ghost use Rattle.lens_forms.specs.Forms.{form_tree};
 ghost use Rattle.stored_records.specs.StoredLens.{stored_form};
 ghost use Rattle.stored_sessions.specs.Outcomes.{IsReopenFault};
@@ -48,6 +49,7 @@ fn with_version(alloc: Global, opened: Opened<Flat>) -> Kept
     ensures { (records : List (List ℕ))
         → stands records ≡ Ok (standing (form_tree opened.session.lens.typed) (triple_tree opened.session.triple)
         opened.count opened.version)
+        → IsInStepFor (form_tree opened.session.lens.typed) (triple_tree opened.session.triple)
         → IsReopened records result }
 {
     match owed_record(alloc, opened.version) {
@@ -72,6 +74,8 @@ fn open_records(alloc: Global, payloads: &Payloads) -> Result<Opened<Flat>, Reop
         (λ o. stands payloads.now
         ≡ Ok (standing (form_tree o.session.lens.typed) (triple_tree o.session.triple) o.count o.version))
         (IsReopenFault (stands payloads.now)) }
+    ensures in_step { IfOk result
+        (λ o. IsInStepFor (form_tree o.session.lens.typed) (triple_tree o.session.triple)) }
 {
     match stored_lens(alloc, payloads) {
         Ok(typed) => open_with(alloc, &typed, payloads),
@@ -86,6 +90,8 @@ fn open_with(alloc: Global, typed: &Typed, payloads: &Payloads) -> Result<Opened
         (λ o. stands payloads.now
         ≡ Ok (standing (form_tree o.session.lens.typed) (triple_tree o.session.triple) o.count o.version))
         (IsReopenFault (stands payloads.now)) }
+    ensures in_step { IfOk result
+        (λ o. IsInStepFor (form_tree o.session.lens.typed) (triple_tree o.session.triple)) }
 {
     let lens = Flat::compile(alloc, typed)?;
     stored_sessions::reopen(alloc, lens, typed, payloads)
