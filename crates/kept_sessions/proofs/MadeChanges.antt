@@ -29,7 +29,7 @@ text_of_line (Err fault) form a P h = tt
 
 -- the triple is not consistent
 pub not_in_step : (form : FormTree) (a : Accepted) → (IsInStepFor form (triple_tree a.before) → ⊥) → IsMade form a → ⊥
-not_in_step form a no m = no m.in_step
+not_in_step form a apart m = apart m.in_step
 
 not_both : (x : TripleTree × BothTrees) (o : Option (TripleTree × BothTrees)) → o ≡ Some x → o ≡ None → ⊥
 not_both x o h k = cc

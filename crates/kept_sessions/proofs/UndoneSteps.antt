@@ -92,7 +92,7 @@ found_here (Err fault) form before after change h k = tt
 -- what is found of one change: its words take it back, or it is refused
 pub found_back : {E : Type 0} (r : Result (Option BothWords) E) (l form : FormTree) (t before after : TripleTree) (changes : List ChangeTree) (change : ChangeTree)
     → l ≡ form → t ≡ before → changes ≡ change ∷ [] → Finds r l t after changes → FindsBack r l t after → HasWayBack r form before change
-found_back r l form t before after changes change lens triple one h k =
+found_back r l form t before after changes change lens triple alone_is h k =
     found_here r form before after change
-    (subst (λ cs. Finds r form before after cs) one (subst (λ x. Finds r form x after changes) triple (subst (λ (f : FormTree). Finds r f t after changes) lens h)))
+    (subst (λ cs. Finds r form before after cs) alone_is (subst (λ x. Finds r form x after changes) triple (subst (λ (f : FormTree). Finds r f t after changes) lens h)))
     (subst (λ x. FindsBack r form x after) triple (subst (λ (f : FormTree). FindsBack r f t after) lens k))

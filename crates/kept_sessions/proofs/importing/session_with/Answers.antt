@@ -4,6 +4,8 @@ use Rattle.doc_values.specs.Types.{ty_tree}
 use Rattle.doc_values.specs.Typing.{has}
 use Rattle.edit_module.specs.Views.{word_tree}
 use Rattle.edit_session.specs.Views.{triple_tree}
+use Rattle.journal_answers.specs.Runs.{IsInStepFor}
+use Rattle.lens_flat.specs.declared.flat.ReadyForm.{ReadyForm}
 use Rattle.lens_forms.specs.Forms.{form_tree}
 use Rattle.kept_sessions.proofs.ImportSteps.{made_first, brought}
 use Rattle.kept_sessions.proofs.importing.session_with.Goals as goal
@@ -26,4 +28,5 @@ returns-in-Ok-clause-brings c =
     brought (form_tree c.args.typed.now) (form_tree s.lens.typed) c.args.side (doc_tree c.args.doc.now) (ty_tree c.side_type.result.now) (word_tree c.in_ok-word.word)
     (triple_tree s.triple) (triple_tree c.step.new.self.triple) (word_tree c.in-Ok.word)
     c.in_ok-session.ensures.form c.in_ok-session.ensures.first c.side_type.ensures.is c.in_ok-word.ensures.exact (c.in_ok-word.ensures.makes c.side_type.ensures.well_formed)
-    c.in-Ok.ensures.steps c.in-Ok.ensures.consistent
+    c.in-Ok.ensures.steps
+    (subst (λ (l : ReadyForm). IsInStepFor (form_tree l.typed) (triple_tree c.step.new.self.triple)) c.in-Ok.ensures.lens c.in-Ok.ensures.consistent)
