@@ -1,10 +1,10 @@
 -- A program that is read is begun as its text is.
 use Rattle.std.proofs.Common.{◌≡◌, ℕ, List, Result, Ok, Err, sym, ap, subst, ◌∙◌}
 use Rattle.std.specs.Prelude.{MatchResult}
-use Rattle.accepted_programs.specs.Program.{Refusal, form_of_program, lens_of}
+use Rattle.accepted_programs.specs.Program.{form_of_program, lens_of}
 use Rattle.accepted_programs.specs.Refused.{IsRefusal}
 use Rattle.accepted_programs.specs.declared.program.Refused.{Refused}
-use Rattle.lens_forms.specs.Forms.{FormTree, form_tree}
+use Rattle.lens_forms.specs.Forms.{form_tree}
 use Rattle.lens_syntax.specs.Programs.{bounded}
 use Rattle.program_terms.specs.Terms.{ProgramTree}
 use Rattle.program_writing.specs.Canonical.{canonical}

@@ -1,6 +1,5 @@
 -- The lines that a session is given are answered as a run answers them.
-use Rattle.std.proofs.Common.{◌≡◌, ℕ, ◌+◌, List, [], ◌∷◌, ◌++◌, Bool, true, false, cond, map, Option, Some, option_map, option_and_then, Result, Ok, refl, sym, ap, ap₂, subst, ◌∙◌, append_assoc}
-use Rattle.accepted_programs.specs.Program.{lens_of}
+use Rattle.std.proofs.Common.{◌≡◌, ℕ, ◌+◌, List, [], ◌∷◌, ◌++◌, Bool, true, false, cond, map, Some, option_map, option_and_then, refl, sym, ap, ap₂, subst, ◌∙◌}
 use Rattle.edit_journal.specs.EntryJson.{change_of_line}
 use Rattle.edit_journal.specs.Lines.{line_of, is_blank}
 use Rattle.edit_journal.specs.declared.line.Line.{Line}
@@ -9,12 +8,12 @@ use Rattle.edit_session.specs.Sessions.{SessionOf}
 use Rattle.edit_session.specs.Step.{TripleTree}
 use Rattle.edit_session.specs.Views.{triple_tree}
 use Rattle.journal_answers.specs.Answers.{answer_line, answer_lines, state_lines}
-use Rattle.journal_answers.specs.Runs.{JournalItem, JournalAnswer, items_of, run_from, first_of}
+use Rattle.journal_answers.specs.Runs.{JournalItem, JournalAnswer, items_of, run_from}
 use Rattle.lens_core.specs.Translation.{translate}
 use Rattle.lens_flat.specs.declared.flat.ReadyForm.{ReadyForm}
 use Rattle.lens_forms.specs.Forms.{FormTree, form_tree, left_type, right_type}
-use Rattle.kept_sessions.specs.Journals.{is_taken, IsGivenFirst, IsGiven, IsReported}
-use Rattle.kept_sessions.specs.Kept.{IsStarted, IsOpened, IfOpen, takes_line, takes_bytes, IsStepped, shows_part, IsShown, text_of}
+use Rattle.kept_sessions.specs.Journals.{is_taken, IsGiven, IsReported}
+use Rattle.kept_sessions.specs.Kept.{IsStarted, IsOpened, takes_bytes, IsStepped, shows_part, IsShown, text_of}
 use Rattle.kept_sessions.specs.Steps.{form_of, has_line_feed, line_step, IsLineStep}
 use Rattle.kept_sessions.specs.declared.kept.Kept.{Kept}
 use Rattle.kept_sessions.specs.declared.kept.Kept.TheVariants as kept

@@ -1,5 +1,5 @@
 -- What a line that was accepted makes of a triple, and what any other leaves.
-use Rattle.std.proofs.Common.{◌≡◌, ℕ, List, [], ◌∷◌, Bool, true, false, Option, Some, None, option_map, Result, Ok, Err, refl, sym, ap, subst}
+use Rattle.std.proofs.Common.{◌≡◌, ℕ, List, [], ◌∷◌, Bool, true, false, Option, Some, None, option_map, Ok, Err, refl, sym, ap}
 use Rattle.serde_json.specs.Data.{Data}
 use Rattle.texts.specs.declared.side.Side.{Side}
 use Rattle.edit_module.specs.Changes.{ChangeTree, one, group}
@@ -17,7 +17,6 @@ use Rattle.lens_core.specs.Translation.{translate}
 use Rattle.lens_forms.specs.Forms.{FormTree, left_type, right_type}
 use Rattle.stored_sessions.specs.Stands.{step_of}
 use Rattle.kept_sessions.specs.Steps.{outcome_of}
-use Rattle.kept_sessions.specs.declared.outcome.Outcome.{Outcome}
 use Rattle.kept_sessions.specs.declared.outcome.Outcome.TheVariants as outcome
 
 -- ---- the step of a change

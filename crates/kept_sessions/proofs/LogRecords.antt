@@ -1,7 +1,6 @@
 -- The records of a log stand for its session.
 use Rattle.std.proofs.Common.{◌≡◌, ℕ, ◌+◌, List, [], ◌∷◌, ◌++◌, Bool, true, false, cond, Option, Some, None, Result, Ok, Err, refl, sym, ap, subst, ◌∙◌}
-use Rattle.std.specs.Prelude.{nat_le}
-use Rattle.accepted_programs.specs.Program.{Refusal, form_of_program, lens_of}
+use Rattle.accepted_programs.specs.Program.{form_of_program, lens_of}
 use Rattle.accepted_programs.proofs.AcceptedForms.{accepted_typed}
 use Rattle.edit_journal.specs.EntryJson.{change_of_line}
 use Rattle.edit_journal.specs.Lines.{line_of, is_blank}
@@ -9,7 +8,6 @@ use Rattle.edit_journal.specs.declared.line.Line.{Line}
 use Rattle.edit_module.specs.Changes.{ChangeTree, one, group}
 use Rattle.edit_module.specs.Words.{WordTree}
 use Rattle.edit_session.specs.Run.{take_item}
-use Rattle.edit_session.specs.Sessions.{SessionOf}
 use Rattle.edit_session.specs.Step.{TripleTree}
 use Rattle.edit_session.specs.Views.{triple_tree}
 use Rattle.journal_answers.specs.Runs.{IsInStepFor, first_of}
@@ -26,7 +24,7 @@ use Rattle.stored_sessions.specs.Stands.{Standing, stands, step_of}
 use Rattle.stored_sessions.specs.Views.{standing}
 use Rattle.stored_sessions.specs.Written.{the_change, the_snapshot, HasRecord}
 use Rattle.stored_sessions.proofs.WrittenStands.{one_stands, program_alone_stands}
-use Rattle.kept_sessions.specs.Changes.{IsKept, IsKeptAs, IsMade, IsChangeText, HasChangeText}
+use Rattle.kept_sessions.specs.Changes.{IsKept, IsMade, IsChangeText, HasChangeText}
 use Rattle.kept_sessions.specs.Journals.{IsSameState}
 use Rattle.kept_sessions.specs.Kept.{IsFresh, IsStarted, IsReopened}
 use Rattle.kept_sessions.specs.Logs.{IsLog}

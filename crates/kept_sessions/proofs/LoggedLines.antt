@@ -1,21 +1,19 @@
 -- The records of lines that a session was given stand for the session behind them.
-use Rattle.std.proofs.Common.{◌≡◌, ℕ, List, [], ◌∷◌, ◌++◌, Bool, true, false, Some, Ok, refl, sym, ap, subst, ◌∙◌, append_assoc}
+use Rattle.std.proofs.Common.{◌≡◌, ℕ, List, [], ◌∷◌, ◌++◌, Bool, true, false, Ok, sym, ap, subst, ◌∙◌, append_assoc}
 use Rattle.std.proofs.lemmas.List.{append-nil}
 use Rattle.edit_journal.specs.EntryJson.{change_of_line}
 use Rattle.edit_journal.specs.Lines.{line_of, is_blank}
 use Rattle.edit_journal.specs.declared.line.Line.{Line}
 use Rattle.edit_session.specs.Run.{is_refused}
 use Rattle.edit_session.specs.Sessions.{SessionOf}
-use Rattle.edit_session.specs.Step.{TripleTree}
 use Rattle.edit_session.specs.Views.{triple_tree}
 use Rattle.journal_answers.specs.Runs.{JournalAnswer}
 use Rattle.lens_flat.specs.declared.flat.ReadyForm.{ReadyForm}
 use Rattle.lens_forms.specs.Forms.{FormTree, form_tree}
 use Rattle.lens_forms.specs.Typing.{is_typed}
-use Rattle.stored_sessions.specs.Stands.{stands}
 use Rattle.stored_sessions.specs.Views.{standing}
-use Rattle.kept_sessions.specs.Kept.{IsOpened, IsReopened, IfOpen, takes_line, takes_bytes, IsStepped, shows_part, IsShown, text_of}
-use Rattle.kept_sessions.specs.Logs.{IsLog, IsSameSession, IsRecorded, records_line, IsLoggedFirst, IsLogged}
+use Rattle.kept_sessions.specs.Kept.{IsOpened, IsReopened, IfOpen, takes_line, takes_bytes, IsStepped, shows_part, text_of}
+use Rattle.kept_sessions.specs.Logs.{IsLog, IsSameSession, IsRecorded, records_line, IsLogged}
 use Rattle.kept_sessions.specs.Steps.{form_of, has_line_feed, outcome_of, IsItemStep, line_step, IsLineStep, IsAsBefore}
 use Rattle.kept_sessions.specs.declared.kept.Kept.{Kept}
 use Rattle.kept_sessions.specs.declared.kept.Kept.TheVariants as kept

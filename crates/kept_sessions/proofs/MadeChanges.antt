@@ -1,5 +1,5 @@
 -- Why no change was accepted last.
-use Rattle.std.proofs.Common.{◌≡◌, List, [], ◌∷◌, Option, Some, None, Result, Ok, Err, subst}
+use Rattle.std.proofs.Common.{◌≡◌, [], ◌∷◌, Option, Some, None, Result, Ok, Err, subst}
 use Rattle.std.specs.Prelude.{IfOk, MatchOption}
 use Rattle.edit_journal.specs.EntryJson.{change_of_line}
 use Rattle.edit_module.specs.Changes.{ChangeTree}

@@ -1,5 +1,5 @@
 -- Records without a lens stand for nothing.
-use Rattle.std.proofs.Common.{◌≡◌, ℕ, List, [], ◌∷◌, Option, Some, None, option_map, Result, Ok, Err, refl, sym, ap, ◌∙◌}
+use Rattle.std.proofs.Common.{◌≡◌, ℕ, List, [], ◌∷◌, Option, Some, None, option_map, Err, refl, sym, ap, ◌∙◌}
 use Rattle.lens_forms.specs.Forms.{FormTree}
 use Rattle.stored_records.specs.Outcomes.{IsBadFirst}
 use Rattle.stored_records.specs.StoredLens.{lens_and_version, stored_form}

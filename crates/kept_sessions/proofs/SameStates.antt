@@ -1,6 +1,5 @@
 -- What is resumed from the texts that a session showed is the same session.
-use Rattle.std.proofs.Common.{◌≡◌, ℕ, List, true, Option, Some, Result, Ok, Err, refl, sym, ap, subst, ◌∙◌}
-use Rattle.serde_json.specs.Data.{Data}
+use Rattle.std.proofs.Common.{◌≡◌, ℕ, List, true, Option, Some, Result, Ok, Err, refl, sym, subst, ◌∙◌}
 use Rattle.accepted_programs.specs.Program.{Refusal, lens_of}
 use Rattle.accepted_programs.proofs.AcceptedForms.{accepted_typed}
 use Rattle.complement_file.proofs.TreesDiffer as complements

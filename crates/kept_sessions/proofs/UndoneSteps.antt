@@ -1,10 +1,10 @@
 -- A change that is accepted is undone.
-use Rattle.std.proofs.Common.{◌≡◌, List, [], ◌∷◌, ◌++◌, Option, Some, None, option_map, option_and_then, Result, Ok, Err, refl, sym, ap, subst, ◌∙◌}
+use Rattle.std.proofs.Common.{◌≡◌, List, [], ◌∷◌, Option, Some, None, option_map, option_and_then, Result, Ok, Err, sym, ap, subst, ◌∙◌}
 use Rattle.std.proofs.lemmas.List.{append-nil}
 use Rattle.std.specs.Prelude.{IfOk, IfSome, MatchOption}
 use Rattle.texts.specs.declared.side.Side.{Side}
 use Rattle.doc_values.specs.Types.{TyTree}
-use Rattle.edit_module.specs.Changes.{ChangeTree, one, group, entries_of}
+use Rattle.edit_module.specs.Changes.{ChangeTree, one, group}
 use Rattle.edit_module.specs.Words.{WordTree}
 use Rattle.lens_core.specs.Complements.{CompTree}
 use Rattle.lens_core.specs.Translation.{Translated, translate}

@@ -1,13 +1,10 @@
 -- The words that are shown of the last change take the documents back.
-use Rattle.std.proofs.Common.{◌≡◌, ℕ, List, [], ◌∷◌, Option, Some, None, Ok, refl, sym, ap, subst, ◌∙◌}
+use Rattle.std.proofs.Common.{◌≡◌, ℕ, List, [], ◌∷◌, Option, Some, None, Ok, sym, ap, subst, ◌∙◌}
 use Rattle.texts.specs.declared.side.Side.{Side}
 use Rattle.texts.specs.declared.side.Side.TheVariants.{Left, Right}
-use Rattle.doc_values.specs.Documents.{DocTree}
-use Rattle.doc_values.specs.Types.{TyTree}
 use Rattle.edit_journal.specs.EntryJson.{change_of_line}
 use Rattle.edit_journal.specs.Lines.{line_of, is_blank}
 use Rattle.edit_journal.specs.declared.line.Line.{Line}
-use Rattle.edit_module.specs.Action.{act}
 use Rattle.edit_module.specs.Changes.{ChangeTree}
 use Rattle.edit_module.specs.Words.{WordTree}
 use Rattle.edit_session.specs.Step.{TripleTree}

@@ -1,4 +1,4 @@
-use Rattle.std.proofs.Common.{ℕ, List, sym, ap, subst, ◌∙◌}
+use Rattle.std.proofs.Common.{sym, ap, subst, ◌∙◌}
 use Rattle.doc_values.specs.Documents.{doc_tree}
 use Rattle.edit_session.specs.Sessions.{SessionOf}
 use Rattle.edit_session.specs.Views.{triple_tree}

@@ -1,4 +1,4 @@
-use Rattle.std.proofs.Common.{◌≡◌, true, refl, sym, ap, subst, ◌∙◌}
+use Rattle.std.proofs.Common.{◌≡◌, true, sym, subst}
 use Rattle.doc_values.specs.Documents.{doc_tree}
 use Rattle.doc_values.specs.Types.{ty_tree}
 use Rattle.doc_values.specs.Typing.{has}

@@ -1,11 +1,10 @@
-use Rattle.std.proofs.Common.{ℕ, List, sym, ap, subst, ◌∙◌}
+use Rattle.std.proofs.Common.{sym, ap, subst, ◌∙◌}
 use Rattle.edit_session.specs.Sessions.{SessionOf}
 use Rattle.edit_session.specs.Views.{triple_tree}
 use Rattle.lens_flat.specs.declared.flat.ReadyForm.{ReadyForm}
 use Rattle.lens_forms.specs.Forms.{form_tree}
 use Rattle.kept_sessions.specs.Records.{IsFirstRecord}
 use Rattle.kept_sessions.specs.Steps.{session_form}
-use Rattle.kept_sessions.specs.declared.running.Running.{Running}
 use Rattle.kept_sessions.proofs.FreshSessions as fresh
 use Rattle.kept_sessions.proofs.opening.started.Goals as goal
 

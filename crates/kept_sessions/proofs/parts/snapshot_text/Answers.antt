@@ -1,4 +1,3 @@
-use Rattle.std.proofs.Common.{rules}
 use Rattle.edit_session.specs.Views.{triple_tree}
 use Rattle.journal_answers.proofs.InStep.{in_step_fits}
 use Rattle.lens_forms.specs.Forms.{form_tree}

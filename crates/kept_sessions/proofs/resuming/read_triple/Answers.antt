@@ -16,4 +16,4 @@ returns-in_default-3 c =
     let right = subst (λ ty. (doc : DocTree) → IsDocumentText ty c.args.right.now doc → ⊥) c.right.ensures.right none in
     let left : IsOfType (left_type (form_tree c.args.typed.now)) c.args.left.now = search rules in
     let comp : IsOfForm (form_tree c.args.typed.now) c.args.comp.now = search rules in
-    (left, (comp, right))
+    (left, comp, right)
