@@ -5,6 +5,7 @@ pub mod GivenLines
 pub mod ImportSteps
 pub mod ItemSteps
 pub mod LogRecords
+pub mod LogTexts
 pub mod LoggedLines
 pub mod MadeChanges
 pub mod OpenedRecords

@@ -1,4 +1,4 @@
--- The log that a caller keeps of a session. Read it from the end: `IsLogged`, `IsLoggedFirst`, then `IsLog`.
+-- The log that a caller keeps of a session. Read it from the end: `IsLogged`, `IsLoggedFirst`, `IsLog`, then `log_text`.
 use Rattle.std.specs.Prelude.{◌≡◌, ℕ, List, [], ◌∷◌, ◌++◌, true, Ok}
 use Rattle.edit_session.specs.Views.{triple_tree}
 use Rattle.lens_forms.specs.Typing.{is_typed}
@@ -13,6 +13,11 @@ use Rattle.kept_sessions.specs.declared.outcome.Outcome.{Outcome}
 use Rattle.kept_sessions.specs.declared.outcome.Outcome.TheVariants as outcome
 use Rattle.kept_sessions.specs.declared.outcome.Part.TheVariants as part
 use Rattle.kept_sessions.specs.declared.running.Running.{Running}
+
+-- the records, with an LF behind each
+abbrev pub log_text : List (List ℕ) → List ℕ
+log_text [] = []
+log_text (text ∷ records) = text ++ 10 ∷ log_text records
 
 -- the records stand for the session, in a log of version 2
 pub record IsLog (records : List (List ℕ)) (r : Running) : Type 0 where

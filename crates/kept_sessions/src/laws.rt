@@ -1,7 +1,9 @@
 //! Laws of sessions that a caller keeps. Each function here does nothing: its clauses are the laws.
-ghost use Rattle.std.specs.Prelude.{◌≡◌, ◌++◌, ◌∷◌, [], ℕ, List, Ok, Some};
+ghost use Rattle.std.specs.Prelude.{◌≡◌, ◌++◌, ◌∷◌, [], ℕ, List, Ok, Some, true};
+ghost use Rattle.std.specs.List.{list_all};
 ghost use Rattle.std.specs.declared.option.Option.{Option};
 ghost use Rattle.accepted_programs.specs.Program.{lens_of};
+ghost use Rattle.edit_journal.specs.Pieces.{has_no_end, texts_of};
 ghost use Rattle.edit_session.specs.Step.{TripleTree};
 ghost use Rattle.edit_session.specs.Views.{triple_tree};
 ghost use Rattle.journal_answers.specs.Runs.{IsInStepFor};
@@ -9,7 +11,8 @@ ghost use Rattle.lens_forms.specs.Forms.{FormTree, left_type, right_type};
 ghost use Rattle.kept_sessions.specs.Changes.{IsMade, IsWordBack};
 ghost use Rattle.kept_sessions.specs.Journals.{IsGiven, IsReported, IsSameState};
 ghost use Rattle.kept_sessions.specs.Kept.{IsOpened, IsFresh, IsResumed, IsReopened, IsShown, text_of};
-ghost use Rattle.kept_sessions.specs.Logs.{IsLog, IsLogged, IsSameSession};
+ghost use Rattle.kept_sessions.specs.Logs.{IsLog, IsLogged, IsSameSession, log_text};
+ghost use Rattle.kept_sessions.specs.Records.{IsFirstRecord, owed_record};
 ghost use Rattle.kept_sessions.specs.States.{IsPartText};
 ghost use Rattle.kept_sessions.specs.Steps.{form_of, IsLineStep};
 ghost use Rattle.kept_sessions.specs.declared.kept.Kept.{Kept as KeptValue};
@@ -41,13 +44,30 @@ pub fn shown_states_are_resumed()
 {}
 
 /// A log that a caller keeps of a session is reopened as that session, unless memory ran out: the record from opening
-/// it, and behind it the record of each change that was accepted. Lines may have been refused, and memory may have run
-/// out in between.
+/// it, and behind it the record of each change that was accepted, with an LF behind each. Lines may have been refused,
+/// and memory may have run out in between.
 pub fn logs_are_reopened()
     ensures { (program : List ℕ) (lines records : List (List ℕ)) (first : RunningValue) (last reopened : KeptValue)
         → IsOpened program (Open first) → IsLogged (Open first) lines records last
-        → IsReopened (first.text.items ∷ records) reopened
+        → IsReopened (texts_of (log_text (first.text.items ∷ records))) reopened
         → IsSameSession last reopened }
+{}
+
+/// No record that this library makes has an LF in it. So the text of a log is cut into its records.
+///
+/// - `first`: the record from opening a session over a program.
+/// - `change`, `snapshot`: the records that are shown.
+/// - `owed`: the record from reopening the log of an old store.
+/// - `cut`: the text of records without an LF in them is cut into these records.
+pub fn records_are_cut()
+    ensures first { (program text : List ℕ) → IsFirstRecord program text → has_no_end text ≡ true }
+    ensures change { (form : FormTree) (triple : TripleTree) (last : Option AcceptedValue) (text : List ℕ)
+        → IsPartText form triple last Change text → has_no_end text ≡ true }
+    ensures snapshot { (form : FormTree) (triple : TripleTree) (last : Option AcceptedValue) (text : List ℕ)
+        → IsPartText form triple last Snapshot text → has_no_end text ≡ true }
+    ensures owed { (version : ℕ) → has_no_end (owed_record version) ≡ true }
+    ensures cut { (records : List (List ℕ)) → list_all has_no_end records ≡ true
+        → texts_of (log_text records) ≡ records }
 {}
 
 /// The records of a log stand for its session, one after another.
