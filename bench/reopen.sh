@@ -1,17 +1,17 @@
 #!/usr/bin/env bash
 # Times the reopening of stored records: bash bench/reopen.sh [N], N being 100,000 where none is given. The first line is for N records of
 # entries on a list of 1,000 records, beside `run` on the same journal (wanted: at most 1.5 times). The second is for one snapshot of an
-# address book of N records, which is read, decided and opened (wanted: under 1.5 s). Each is the time of `stored_cases` on one case, less
+# address book of N records, which is read, decided and opened (wanted: under 1.5 s). Each is the time of `case_stores` on one case, less
 # that of a case with the same payloads whose first one is bad, so that reading the file of cases does not count. It is run by hand; both
 # programs are built by `rt run` in their folders.
 set -eu
 
 here=$(cd "$(dirname "${BASH_SOURCE[0]}")/.." && pwd)
-for program in editlens stored_cases; do
+for program in editlens case_stores; do
     [ -x "$here/crates/$program/out/$program" ] || { echo "build $program first: rt run in crates/$program" >&2; exit 1; }
 done
 
-exec python3 - "$here/crates/editlens/out/editlens" "$here/crates/stored_cases/out/stored_cases" "${1:-100000}" <<'PYTHON'
+exec python3 - "$here/crates/editlens/out/editlens" "$here/crates/case_stores/out/case_stores" "${1:-100000}" <<'PYTHON'
 import json, os, subprocess, sys, tempfile, time
 
 program, reopener, count = sys.argv[1], sys.argv[2], int(sys.argv[3])

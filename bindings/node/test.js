@@ -30,7 +30,7 @@ const example = (name) => fs.readFileSync(path.join(top, 'examples', name), 'utf
 assert.strictEqual(report(example('tasks.script')), example('tasks.out'));
 
 const files = ['runs', 'groups', 'lenses', 'lenses_reference'];
-const data = Buffer.concat(files.map((it) => fs.readFileSync(path.join(top, 'crates', 'command_cases', 'data', `${it}.cases`))));
+const data = Buffer.concat(files.map((it) => fs.readFileSync(path.join(top, 'crates', 'case_commands', 'data', `${it}.cases`))));
 let at = 0;
 let tried = 0;
 while (at < data.length && tried < 500) {

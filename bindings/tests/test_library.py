@@ -39,7 +39,7 @@ def report(script):
 
 def cases(name, words):
     """The input and the output of each step of a file that has these words."""
-    data, at = read("crates", "command_cases", "data", name), 0
+    data, at = read("crates", "case_commands", "data", name), 0
     while at < len(data):
         end = data.index(b"\n", at)
         step, begin = json.loads(data[at:end]), end + 1

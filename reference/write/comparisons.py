@@ -1,4 +1,4 @@
-"""Writes the cases of lens_compare: the programs and the entries of the cases of command_cases that run a lens.
+"""Writes the cases of case_lenses: the programs and the entries of the cases of case_commands that run a lens.
 
 Refused programs are left out, and lines that are not entries.
 """
@@ -10,7 +10,7 @@ from .. import TOP
 from ..steps import read_steps
 from . import lines_of
 
-CASES = os.path.join(TOP, "crates", "command_cases", "data")
+CASES = os.path.join(TOP, "crates", "case_commands", "data")
 NAMES = ("lenses", "lenses_reference", "commands", "runs")
 MOST_BYTES = 20_000
 SEPARATOR = "\n---\n"
@@ -70,4 +70,4 @@ def cases():
 
 def files():
     """The file of cases."""
-    yield "lens_compare/data/lenses.jsonl", b"".join(cases())
+    yield "case_lenses/data/lenses.jsonl", b"".join(cases())

@@ -1,4 +1,4 @@
-"""Writes cases of consistency for consistent_cases, worked out by the rules of docs/MEANING.md and docs/FORMATS.md."""
+"""Writes cases of consistency for case_consistency, worked out by the rules of docs/MEANING.md and docs/FORMATS.md."""
 
 from editlens.plans import contents, form_of, hold
 
@@ -185,4 +185,4 @@ def rows(chance, count):
 def files():
     """The file of cases."""
     lines = "".join(line + "\n" for line in rows(Triples(7), 700))
-    yield "consistent_cases/data/consistency_reference.jsonl", lines.encode()
+    yield "case_consistency/data/consistency_reference.jsonl", lines.encode()

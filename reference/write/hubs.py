@@ -1,4 +1,4 @@
-"""Writes runs of hubs for command_cases, worked out by the rules of docs/MEANING.md and docs/EDITS.md."""
+"""Writes runs of hubs for case_commands, worked out by the rules of docs/MEANING.md and docs/EDITS.md."""
 
 import random
 
@@ -54,4 +54,4 @@ def rows():
 
 def files():
     """The file of cases."""
-    yield "command_cases/data/hub_rows.cases", b"".join(rows())
+    yield "case_commands/data/hub_rows.cases", b"".join(rows())

@@ -1,4 +1,4 @@
-"""Writes constructions and inverses for layer_cases, by the tables of docs/EDITS.md. An inverse that brings nothing back stops it."""
+"""Writes constructions and inverses for case_layers, by the tables of docs/EDITS.md. An inverse that brings nothing back stops it."""
 
 from editlens.construct import construct
 from editlens.edits import NoApply, act
@@ -54,4 +54,4 @@ def rows(chance, count):
 
 def files():
     """The file of cases."""
-    yield "layer_cases/data/inverses_reference.jsonl", lines_of(rows(Chance(20), 500))
+    yield "case_layers/data/inverses_reference.jsonl", lines_of(rows(Chance(20), 500))

@@ -1,4 +1,4 @@
-"""Writes cases of shapes, edits, documents and journal lines for layer_cases, from the rules of docs/EDITS.md and docs/FORMATS.md."""
+"""Writes cases of shapes, edits, documents and journal lines for case_layers, from the rules of docs/EDITS.md and docs/FORMATS.md."""
 
 import itertools
 import json
@@ -88,4 +88,4 @@ def files():
         ("documents", itertools.chain(document_rows(chance, 600), type_rows(chance, 150))),
         ("lines", entry_rows(chance, 200)),
     ):
-        yield f"layer_cases/data/{name}_reference.jsonl", lines_of(rows)
+        yield f"case_layers/data/{name}_reference.jsonl", lines_of(rows)

@@ -1,4 +1,4 @@
-"""Writes runs of lenses for command_cases, worked out by the rules of docs/EDITS.md."""
+"""Writes runs of lenses for case_commands, worked out by the rules of docs/EDITS.md."""
 
 from editlens.edits import NoApply, act
 from editlens.json_text import write_json
@@ -100,4 +100,4 @@ def nested_rows():
 
 def files():
     """The file of cases."""
-    yield "command_cases/data/lenses_reference.cases", b"".join([*container_rows(), *part_rows(), *nested_rows()])
+    yield "case_commands/data/lenses_reference.cases", b"".join([*container_rows(), *part_rows(), *nested_rows()])

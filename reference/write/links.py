@@ -1,4 +1,4 @@
-"""Writes long runs of two sites that take turns for command_cases.
+"""Writes long runs of two sites that take turns for case_commands.
 
 Each run has 1,000 events: they lose, repeat and reorder packets, and restart sites.
 """
@@ -79,4 +79,4 @@ RIGHT_CARD = {"p": lambda c: [{"at": [c.choice(("label", "note")), [{"set": "t%d
 def files():
     """The file of cases."""
     lenses = ((("part", TAGS), (PLAIN, PLAIN)), (PARTED, (LEFT_CARD, RIGHT_CARD)))
-    yield "command_cases/data/link_schedules.cases", b"".join(schedule(*lens, seed) for seed in range(4) for lens in lenses)
+    yield "case_commands/data/link_schedules.cases", b"".join(schedule(*lens, seed) for seed in range(4) for lens in lenses)

@@ -1,4 +1,4 @@
-"""Writes the questions of log_cases about logs, each with the answer that is wanted. reference/CASES.md says what a line means."""
+"""Writes the questions of case_logs about logs, each with the answer that is wanted. reference/CASES.md says what a line means."""
 
 import random
 
@@ -135,4 +135,4 @@ def packs():
 
 def files():
     """The input of the program."""
-    yield "log_cases/stdin", "".join([*opens(), *crashes(), *stops(), *sizes(), *fars(), *packs()]).encode()
+    yield "case_logs/stdin", "".join([*opens(), *crashes(), *stops(), *sizes(), *fars(), *packs()]).encode()

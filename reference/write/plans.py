@@ -1,4 +1,4 @@
-"""Rows of plans and places for layer_cases: every edit of small shapes, and those at the bounds."""
+"""Rows of plans and places for case_layers: every edit of small shapes, and those at the bounds."""
 
 import itertools
 

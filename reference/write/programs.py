@@ -1,4 +1,4 @@
-"""Writes cases of programs for layer_cases, worked out by the rules of docs/LANGUAGE.md."""
+"""Writes cases of programs for case_layers, worked out by the rules of docs/LANGUAGE.md."""
 
 from editlens.types import tokens, write_type
 
@@ -128,5 +128,5 @@ def check_rows(chance, count):
 def files():
     """The files of cases. One source of chance goes through both, in this order."""
     chance = ProgramChance(14)
-    yield "layer_cases/data/programs_reference.jsonl", lines_of([*program_rows(chance, 600), *token_rows(chance, 300)])
-    yield "layer_cases/data/types_reference.jsonl", lines_of(check_rows(chance, 600))
+    yield "case_layers/data/programs_reference.jsonl", lines_of([*program_rows(chance, 600), *token_rows(chance, 300)])
+    yield "case_layers/data/types_reference.jsonl", lines_of(check_rows(chance, 600))

@@ -1,4 +1,4 @@
-"""Writes rows of stores for command_cases. Each step is worked out by hand, and its stores are put together from their payloads."""
+"""Writes rows of stores for case_commands. Each step is worked out by hand, and its stores are put together from their payloads."""
 
 import json
 
@@ -252,4 +252,4 @@ def forged():
 
 def files():
     """The file of cases."""
-    yield "command_cases/data/store_rows.cases", b"".join([*runs(), *stores(), *sequences(), *address_book(), *forged()])
+    yield "case_commands/data/store_rows.cases", b"".join([*runs(), *stores(), *sequences(), *address_book(), *forged()])

@@ -1,4 +1,4 @@
-"""Writes the cases of tag_cases, worked out on plain lists of Python. reference/CASES.md says what a line means."""
+"""Writes the cases of case_tags, worked out on plain lists of Python. reference/CASES.md says what a line means."""
 
 import random
 
@@ -102,5 +102,5 @@ def script():
 def files():
     """The input of the program, and its output where no case differs."""
     found = script()
-    yield "tag_cases/stdin", ("\n".join(found.lines) + "\n").encode()
-    yield "tag_cases/stdout", f"tags: {found.cases} cases, 0 differ\n".encode()
+    yield "case_tags/stdin", ("\n".join(found.lines) + "\n").encode()
+    yield "case_tags/stdout", f"tags: {found.cases} cases, 0 differ\n".encode()

@@ -1,4 +1,4 @@
-"""Writes rows of `undo` and `import` for command_cases. Each step is worked out by hand, and its stores are put together from their payloads."""
+"""Writes rows of `undo` and `import` for case_commands. Each step is worked out by hand, and its stores are put together from their payloads."""
 
 from ..stores import entry, line, log, program
 from .stores import ADD, GROUP, PLAIN, SET, SPLIT, STATE, USAGE, step
@@ -149,4 +149,4 @@ def refused_imports():
 def files():
     """The file of cases."""
     parts = (counts, behind_records, refused, sequences, splits, imports, refused_imports)
-    yield "command_cases/data/undo_rows.cases", b"".join(row for part in parts for row in part())
+    yield "case_commands/data/undo_rows.cases", b"".join(row for part in parts for row in part())

@@ -216,6 +216,6 @@ def test_the_case_files_are_what_their_writers_make():
     ran = subprocess.run([sys.executable, os.path.join(TOP, "reference", "write_all"), "--check"], stdout=subprocess.PIPE, text=True)
     assert ran.returncode == 0 and ran.stdout.endswith(" 0 differ\n"), ran.stdout
     said = read("reference/CASES.md")
-    names = re.findall(r"(?m)^(\w+)\.cases$", read("crates/command_cases/args"))
-    assert names, "command_cases reads no file"
-    assert not [it for it in names if f"`{it}`" not in said], "CASES.md does not say where each file of command_cases comes from"
+    names = re.findall(r"(?m)^(\w+)\.cases$", read("crates/case_commands/args"))
+    assert names, "case_commands reads no file"
+    assert not [it for it in names if f"`{it}`" not in said], "CASES.md does not say where each file of case_commands comes from"

@@ -41,7 +41,7 @@ fn the_example_of_the_tasks() {
 fn five_hundred_cases() {
     let data: Vec<u8> = ["runs", "groups", "lenses", "lenses_reference"]
         .iter()
-        .flat_map(|name| std::fs::read(top().join(format!("crates/command_cases/data/{name}.cases"))).unwrap())
+        .flat_map(|name| std::fs::read(top().join(format!("crates/case_commands/data/{name}.cases"))).unwrap())
         .collect();
     let (mut rest, mut tried) = (&data[..], 0);
     while !rest.is_empty() && tried < 500 {

@@ -1,6 +1,6 @@
 -- The lines that the program writes, each with the line feed at its end.
--- From the end: `tree_line` and `type_line`, the refusals of a program, `fault_line`, `group_refused_line` and `group_line`,
--- `no_apply_line` and `ok_line`.
+-- From the end: `tree_line` and `type_line`, the refusals of a program, `fault_line`, `group_refused_line` and
+-- `group_line`, `no_apply_line` and `ok_line`.
 use Rattle.std.specs.Prelude.{ℕ, List, ◌++◌, codes, decimal}
 use Rattle.serde_json.specs.Data.{Data}
 use Rattle.serde_json.specs.Written.{compact_text}
@@ -17,21 +17,28 @@ use Rattle.answer_text.specs.Reasons.{cause_text, fault_text, syntax_reason, typ
 
 -- `ok N SIDE WORD`: an entry was accepted, and it was translated to this word of this side
 abbrev pub ok_line : ℕ → Side → WordTree → List ℕ
-ok_line number side word = codes "ok " ++ decimal number ++ codes " " ++ side_text side ++ codes " " ++ compact_text (tree_of_word word) ++ codes "\n"
+ok_line number side word =
+    codes "ok " ++ decimal number ++ codes " " ++ side_text side ++ codes " " ++ compact_text (tree_of_word word)
+    ++ codes "\n"
 
 -- `refused N no-apply AT CAUSE`: the primitive with the number AT, from 0, is the first of the edit that does not apply
 abbrev pub no_apply_line : ℕ → ℕ → Cause → List ℕ
-no_apply_line number at cause = codes "refused " ++ decimal number ++ codes " no-apply " ++ decimal at ++ codes " " ++ cause_text cause ++ codes "\n"
+no_apply_line number at cause =
+    codes "refused " ++ decimal number ++ codes " no-apply " ++ decimal at ++ codes " " ++ cause_text cause
+    ++ codes "\n"
 
--- `ok N group LIST`: a group was accepted, and its entries were translated to these words, each of the side that is beside it
+-- `ok N group LIST`: a group was accepted, and its entries were translated to these words, each of the side that is
+-- beside it
 abbrev pub group_line : ℕ → List (Side × WordTree) → List ℕ
-group_line number words = codes "ok " ++ decimal number ++ codes " group " ++ compact_text (tree_of_entries words) ++ codes "\n"
+group_line number words =
+    codes "ok " ++ decimal number ++ codes " group " ++ compact_text (tree_of_entries words) ++ codes "\n"
 
--- `refused N group PART no-apply AT CAUSE`: the entry with the number PART, from 0, is the first of the group that does not apply, and
--- the primitive with the number AT, from 0, is the first of that entry that does not
+-- `refused N group PART no-apply AT CAUSE`: the entry with the number PART, from 0, is the first of the group that does
+-- not apply, and the primitive with the number AT, from 0, is the first of that entry that does not
 abbrev pub group_refused_line : ℕ → ℕ → ℕ → Cause → List ℕ
 group_refused_line number part at cause =
-    codes "refused " ++ decimal number ++ codes " group " ++ decimal part ++ codes " no-apply " ++ decimal at ++ codes " " ++ cause_text cause ++ codes "\n"
+    codes "refused " ++ decimal number ++ codes " group " ++ decimal part ++ codes " no-apply " ++ decimal at
+    ++ codes " " ++ cause_text cause ++ codes "\n"
 
 -- `refused N FAULT`: the line is not a change
 abbrev pub fault_line : ℕ → LineFault → List ℕ

@@ -2,10 +2,12 @@
 -- From the end: `typing_reason`, `syntax_reason`, `fault_text`, `cause_text`.
 use Rattle.std.specs.Prelude.{ℕ, List, ◌++◌, codes, decimal}
 use Rattle.edit_module.specs.declared.fault.Cause.{Cause}
-use Rattle.edit_module.specs.declared.fault.Cause.TheVariants.{Kind, Place, Tag, Range, Overflow, Value, Present, Length, Deep}
+use Rattle.edit_module.specs.declared.fault.Cause.TheVariants.{Kind, Place, Tag, Range, Overflow, Value, Present}
+use Rattle.edit_module.specs.declared.fault.Cause.TheVariants.{Length, Deep}
 use Rattle.edit_journal.specs.EntryJson.{LineFault, line_too_long, not_json, not_an_entry, not_an_edit}
 use Rattle.lens_syntax.specs.Programs.{ProgramCause, too_long, not_a_program, unknown_name, repeated_name}
-use Rattle.lens_types.specs.Checking.{Failure, middle_differs, repeated_field, repeated_tag, repeated_member, not_a_member, too_large, too_deep}
+use Rattle.lens_types.specs.Checking.{Failure, middle_differs, repeated_field, repeated_tag, repeated_member}
+use Rattle.lens_types.specs.Checking.{not_a_member, too_large, too_deep}
 use Rattle.program_writing.specs.Canonical.{canonical_name, canonical_type}
 
 -- why a primitive does not apply
@@ -36,7 +38,8 @@ syntax_reason (repeated_name at) = codes "repeated-name " ++ decimal at
 
 -- why a program has no type: types in canonical text, and a name or a member as a field is written there
 abbrev pub typing_reason : Failure → List ℕ
-typing_reason (middle_differs left right) = codes "middle-differs " ++ canonical_type left ++ codes " " ++ canonical_type right
+typing_reason (middle_differs left right) =
+    codes "middle-differs " ++ canonical_type left ++ codes " " ++ canonical_type right
 typing_reason (repeated_field name) = codes "repeated-field " ++ canonical_name name
 typing_reason (repeated_tag name) = codes "repeated-tag " ++ canonical_name name
 typing_reason (repeated_member name) = codes "repeated-member " ++ canonical_name name

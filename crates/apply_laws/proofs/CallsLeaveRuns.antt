@@ -1,11 +1,12 @@
 -- What a call over a store leaves is a run over it.
+use Rattle.command_ends.specs.Statuses.{IsFinished}
 use Rattle.std.proofs.Common.{arith, ◌≡◌, ◌⊎◌, inl, inr, ℕ, List, ◌++◌, length, true, None, Some, refl, ap, subst, ◌∙◌}
 use Rattle.std.specs.Prelude.{IfSome}
 use Rattle.std.proofs.lemmas.List.{length-map, append_assoc, append-nil}
 use Rattle.edit_journal.specs.Pieces.{lines_of}
 use Rattle.edit_journal.specs.declared.line.Line.{Line}
-use Rattle.journal_answers.specs.Answers.{answer_lines, text_from}
-use Rattle.journal_answers.specs.Runs.{JournalItem, items_of}
+use Rattle.pair_answers.specs.Answers.{answer_lines, text_from}
+use Rattle.pair_answers.specs.ItemRuns.{JournalItem, items_of}
 use Rattle.lens_io.specs.Calls.{Took, Gave}
 use Rattle.lens_io.specs.declared.disk.Disk as OfDisk
 use Rattle.lens_io.specs.declared.sink.Sink as OfSink
@@ -14,19 +15,17 @@ use Rattle.gate_log.specs.LogOnDisk.{HoldsPayloads}
 use Rattle.lens_forms.specs.Typing.{is_typed}
 use Rattle.store_session.specs.Journals.{accepted_changes, IsStateInStep, IsJournalRun}
 use Rattle.store_session.specs.StoredStates.{StoredState, change_text, state_text}
-use Rattle.store_session.specs.Views.{session_state}
+use Rattle.store_session.specs.SessionStates.{session_state}
 use Rattle.store_session.specs.contracts.instance.StoreSessionStoredSession.TheImpl.{ghosts as sessions}
 use Rattle.store_session.specs.declared.session.StoreSession.{StoreSession}
 use Rattle.store_session.proofs.JournalRuns.{runs_alike}
 use Rattle.store_session.proofs.StatesInStep.{stored_sound}
-use Rattle.stored_run.specs.ApplyCall.{ContinuesCall, IsSafeCall}
-use Rattle.stored_run.specs.Runs.{run, last, kept_of, text_of}
-use Rattle.stored_run.specs.declared.session.Answer.{Answer}
-use Rattle.stored_run.specs.declared.status.Status.{Status as StoreStatus}
+use Rattle.store_run.specs.ApplyCall.{ContinuesCall, IsSafeCall}
+use Rattle.store_run.specs.StoreRuns.{run, last, kept_of, text_of}
+use Rattle.store_run.specs.declared.session.Answer.{Answer}
 use Rattle.editlens_main.specs.Applies.{Applies}
-use Rattle.editlens_main.specs.Statuses.{IsFinished}
 use Rattle.editlens_main.specs.Stores.{Store}
-use Rattle.editlens_main.specs.declared.status.Status.{Status}
+use Rattle.command_ends.specs.declared.status.Status.{Status}
 use Rattle.apply_laws.specs.StoreRuns.{StoreParts, with_version, HoldsRun}
 use Rattle.apply_laws.specs.TwoCalls.{parts_of, LeavesRun, FinishesRun, StaysUnopened, ContinuesRun}
 use Rattle.apply_laws.proofs.LeftPayloads.{LeavesPayloads, leaves_payloads}
@@ -105,9 +104,8 @@ module _ {S K D : Type 0} (source : OfSource.Ghosts S) (sink : OfSink.Ghosts K) 
     ]
 
     -- the call came to its end
-    finished : (ended : StoreStatus) → ContinuesCall source sink disk sessions (old.0, old.1) new store.payloads store.state store.version ended
-        → FinishesRun source sink disk old new before
-    finished ended s =
+    finished : ContinuesCall source sink disk sessions (old.0, old.1) new store.payloads store.state store.version status → FinishesRun source sink disk old new before
+    finished s =
         let after : StoreParts = record { payloads = with_version before ++ kept_of s.steps; state = last before.state s.steps; version = None; stands = s.stand } in
         let lines = lines_of s.bytes in
         let j = journal_run before lines s.steps s.is_run in
@@ -126,7 +124,7 @@ module _ {S K D : Type 0} (source : OfSource.Ghosts S) (sink : OfSink.Ghosts K) 
           text_is steps j = ap (λ l. l ++ state_text (last before.state steps)) j.text ∙ ap (λ u. answer_lines 1 j.journal ++ state_text u) j.at_last
 
     pub finishes_run : Applies source sink disk old new status → IsFinished status → FinishesRun source sink disk old new before
-    finishes_run a h = let e = (a.of_store store).continues h in finished e.0 e.2
+    finishes_run a h = finished ((a.of_store store).continues h)
 
 -- ---- two calls
 

@@ -7,7 +7,7 @@ use Rattle.edit_journal.specs.EntryJson.{change_of_line}
 use Rattle.edit_journal.specs.Lines.{is_blank, line_of}
 use Rattle.edit_journal.specs.Pieces.{texts_of, lines_of}
 use Rattle.edit_journal.specs.declared.line.Line.{Line}
-use Rattle.journal_answers.specs.Runs.{items_of}
+use Rattle.pair_answers.specs.ItemRuns.{items_of}
 use Rattle.apply_laws.specs.CutJournals.{EndsALine}
 
 -- ---- texts

@@ -2,9 +2,9 @@
 use Rattle.std.proofs.Common.{◌≡◌, ℕ, ◌+◌, List, [], ◌∷◌, ◌++◌, Bool, true, false, cond, Option, Some, refl, ap, ◌∙◌}
 use Rattle.edit_journal.specs.Lines.{is_blank}
 use Rattle.edit_journal.specs.declared.line.Line.{Line}
-use Rattle.stored_run.specs.Runs.{run}
-use Rattle.stored_run.specs.declared.session.Answer.{Answer}
-use Rattle.stored_run.specs.declared.session.StoredSession as OfSession
+use Rattle.store_run.specs.StoreRuns.{run}
+use Rattle.store_run.specs.declared.session.Answer.{Answer}
+use Rattle.store_run.specs.declared.session.StoredSession as OfSession
 use Rattle.apply_laws.proofs.Sequences.{put_first, first_made, first_is}
 
 module _ {A : Type 0} (session : OfSession.Ghosts A) where

@@ -3,19 +3,16 @@ use Rattle.std.proofs.Common.{arith, ◌≡◌, ◌⊎◌, inl, inr, ℕ, ◌+�
 use Rattle.std.specs.Prelude.{option_to_list}
 use Rattle.edit_journal.specs.declared.line.Line.{Line}
 use Rattle.gate_log.specs.LogOnDisk.{HoldsPayloads}
-use Rattle.stored_run.specs.Crash.{IsAcknowledged}
-use Rattle.stored_run.specs.OkLines.{ok_lines}
-use Rattle.stored_run.specs.Runs.{run, last, kept_of}
-use Rattle.stored_run.specs.declared.session.Answer.{Answer}
-use Rattle.stored_run.specs.declared.session.StoredSession as OfSession
+use Rattle.store_run.proofs.OkLineCounts.{few_kept}
+use Rattle.store_run.specs.Crash.{IsAcknowledged}
+use Rattle.store_run.specs.OkLines.{ok_lines}
+use Rattle.store_run.specs.StoreRuns.{run, last, kept_of}
+use Rattle.store_run.specs.declared.session.Answer.{Answer}
+use Rattle.store_run.specs.declared.session.StoredSession as OfSession
 use Rattle.apply_laws.proofs.FirstLines.{FirstLines, first_lines}
 
 abbrev Payloads : Type 0
 Payloads = List (List ℕ)
-
-at_most_one : (o : Option (List ℕ)) → length (option_to_list o) ≤ 1
-at_most_one None = omega arith
-at_most_one (Some p) = omega arith
 
 module _ {A : Type 0} (session : OfSession.Ghosts A) (before : Payloads) (t : session.State) (version : Option (List ℕ)) where
   -- The image holds payloads that stand for the state behind some steps, the run of the first ones of these lines. They are those
@@ -64,7 +61,7 @@ module _ {A : Type 0} (session : OfSession.Ghosts A) (before : Payloads) (t : se
     leaves_none s none holds =
         let counts = ap length s.5 in
         let together = length-append (option_to_list version) (kept_of s.0) in
-        let one = at_most_one s.2 in
+        let one = few_kept s.2 in
         leaves_front [] s (subst (λ l. HoldsPayloads l image) (sym (append-nil before)) holds) (omega (arith, none)) (omega (arith, counts, together, one))
 
     -- the image holds the version record, and payloads behind it
@@ -81,7 +78,7 @@ module _ {A : Type 0} (session : OfSession.Ghosts A) (before : Payloads) (t : se
       few (inl none) =
           let front = length-append (option_to_list version) a.front in
           let same = ap length none in
-          let one = at_most_one s.2 in
+          let one = few_kept s.2 in
           let counts = counted in
           omega (arith, front, same, one, counts)
       few (inr none) =

@@ -7,7 +7,7 @@ use Rattle.edit_module.specs.Changes.{ChangeTree, one, group}
 use Rattle.edit_module.specs.Words.{WordTree}
 use Rattle.edit_session.specs.Run.{answered, group_answered, any_refused, is_refused, last, run, take_item}
 use Rattle.edit_session.specs.Step.{TripleTree, Stepped, AllStepped, step, step_each}
-use Rattle.journal_answers.specs.Runs.{JournalItem, JournalAnswer}
+use Rattle.pair_answers.specs.ItemRuns.{JournalItem, JournalAnswer}
 use Rattle.lens_core.specs.Complements.{CompTree}
 use Rattle.lens_core.specs.Translation.{Translated}
 use Rattle.store_session.specs.Journals.{accepted_change, accepted_changes}

@@ -5,7 +5,7 @@ use Rattle.std.specs.List.{AllByRecursion}
 use Rattle.std.proofs.lemmas.List.{map-append}
 use Rattle.edit_session.specs.Run.{last, take_item}
 use Rattle.edit_session.specs.Step.{TripleTree}
-use Rattle.journal_answers.specs.Runs.{JournalItem, JournalAnswer, IsInStepFor, run_from}
+use Rattle.pair_answers.specs.ItemRuns.{JournalItem, JournalAnswer, IsInStepFor, run_from}
 use Rattle.lens_core.specs.Translation.{translate}
 use Rattle.lens_forms.specs.Forms.{FormTree, left_type, right_type}
 use Rattle.lens_forms.specs.Typing.{is_typed}

@@ -3,7 +3,7 @@ use Rattle.std.proofs.Common.{◌≡◌, List, ◌++◌, Some, None, map, sym, a
 use Rattle.std.specs.Prelude.{option_to_list}
 use Rattle.edit_session.specs.Run.{last}
 use Rattle.edit_session.specs.Step.{TripleTree}
-use Rattle.journal_answers.specs.Runs.{JournalItem, JournalAnswer, run_from}
+use Rattle.pair_answers.specs.ItemRuns.{JournalItem, JournalAnswer, run_from}
 use Rattle.store_session.specs.Journals.{accepted_changes}
 use Rattle.store_session.specs.StoredStates.{state_with, change_text}
 use Rattle.apply_laws.specs.CutJournals.{ComeToTheSame}

@@ -2,7 +2,7 @@
 -- Read it from the end: `ComeToTheSame`, then `EndsALine`.
 use Rattle.std.specs.Prelude.{◌≡◌, ◌⊎◌, ℕ, List, [], ◌∷◌, ◌++◌}
 use Rattle.edit_session.specs.Step.{TripleTree}
-use Rattle.journal_answers.specs.Runs.{JournalAnswer}
+use Rattle.pair_answers.specs.ItemRuns.{JournalAnswer}
 use Rattle.apply_laws.specs.StoreRuns.{StoreParts}
 
 -- the bytes end with an LF, or there are none: what follows them begins a line

@@ -4,7 +4,7 @@ use Rattle.std.specs.Prelude.{◌≡◌, List, [], ◌∷◌, map, Some, Ok, fal
 use Rattle.edit_module.specs.Changes.{ChangeTree}
 use Rattle.edit_session.specs.Run.{any_refused, is_refused, last}
 use Rattle.edit_session.specs.Step.{TripleTree}
-use Rattle.journal_answers.specs.Runs.{JournalItem, JournalAnswer, run_from}
+use Rattle.pair_answers.specs.ItemRuns.{JournalItem, JournalAnswer, run_from}
 use Rattle.lens_forms.specs.Forms.{FormTree}
 use Rattle.store_session.specs.Journals.{accepted_changes}
 

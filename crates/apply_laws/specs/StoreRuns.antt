@@ -4,7 +4,7 @@ use Rattle.std.specs.Prelude.{◌≡◌, ◌⊎◌, ℕ, List, ◌++◌, map, Op
 use Rattle.std.specs.List.{AllByRecursion}
 use Rattle.edit_session.specs.Run.{last}
 use Rattle.edit_session.specs.Step.{TripleTree}
-use Rattle.journal_answers.specs.Runs.{JournalItem, JournalAnswer, IsInStepFor, run_from}
+use Rattle.pair_answers.specs.ItemRuns.{JournalItem, JournalAnswer, IsInStepFor, run_from}
 use Rattle.store_session.specs.Journals.{IsStateInStep, accepted_changes}
 use Rattle.store_session.specs.StoredStates.{StoredState, state_with, stands_for, change_text}
 use Rattle.apply_laws.specs.OneRun.{as_items, accepted_steps}

@@ -1,22 +1,22 @@
 -- Calls of `apply` over a store, and what a second call makes of what the first one left.
 -- Read it from the end: `ContinuesRun`, then `FinishesRun` and `LeavesRun`.
+use Rattle.command_ends.specs.Statuses.{IsFinished}
 use Rattle.std.specs.Prelude.{◌≡◌, ◌⊎◌, ℕ, ◌+◌, ◌≤◌, List, ◌++◌, length, None, IfSome}
 use Rattle.edit_journal.specs.Pieces.{lines_of}
 use Rattle.edit_journal.specs.declared.line.Line.{Line}
 use Rattle.edit_session.specs.Step.{TripleTree}
 use Rattle.gate_log.specs.LogOnDisk.{HoldsPayloads}
-use Rattle.journal_answers.specs.Answers.{text_from}
-use Rattle.journal_answers.specs.Runs.{JournalItem, JournalAnswer, items_of}
+use Rattle.pair_answers.specs.Answers.{text_from}
+use Rattle.pair_answers.specs.ItemRuns.{JournalItem, JournalAnswer, items_of}
 use Rattle.lens_io.specs.Calls.{Took, IsRead, Gave}
 use Rattle.lens_io.specs.declared.disk.Disk as OfDisk
 use Rattle.lens_io.specs.declared.sink.Sink as OfSink
 use Rattle.lens_io.specs.declared.source.Source as OfSource
 use Rattle.store_session.specs.Journals.{accepted_changes}
-use Rattle.stored_run.specs.OkLines.{ok_lines}
+use Rattle.store_run.specs.OkLines.{ok_lines}
 use Rattle.editlens_main.specs.Applies.{Unopened}
-use Rattle.editlens_main.specs.Statuses.{IsFinished}
 use Rattle.editlens_main.specs.Stores.{Store}
-use Rattle.editlens_main.specs.declared.status.Status.{Status}
+use Rattle.command_ends.specs.declared.status.Status.{Status}
 use Rattle.apply_laws.specs.StoreRuns.{StoreParts, HoldsRun, AreOneRun}
 
 -- the parts of the store on a disk

@@ -5,15 +5,15 @@
 //! calls together. Each function does nothing: its clauses are the laws.
 #![tactic(auto)]
 
+ghost use Rattle.command_ends.specs.Statuses.{IsFinished};
 ghost use Rattle.std.specs.Prelude.{◌≡◌, ◌⊎◌, ℕ, ◌++◌, List, Some};
 ghost use Rattle.edit_journal.specs.Pieces.{lines_of};
 ghost use Rattle.edit_session.specs.Step.{TripleTree};
-ghost use Rattle.journal_answers.specs.Runs.{JournalItem, JournalAnswer, items_of, run_from};
+ghost use Rattle.pair_answers.specs.ItemRuns.{JournalItem, JournalAnswer, items_of, run_from};
 ghost use Rattle.lens_forms.specs.Forms.{FormTree};
 ghost use Rattle.editlens_main.specs.Applies.{Applies};
-ghost use Rattle.editlens_main.specs.Statuses.{IsFinished};
 ghost use Rattle.editlens_main.specs.Stores.{Store};
-ghost use Rattle.editlens_main.specs.declared.status.Status.{Status};
+ghost use Rattle.command_ends.specs.declared.status.Status.{Status};
 ghost use Rattle.apply_laws.specs.CutJournals.{EndsALine, ComeToTheSame};
 ghost use Rattle.apply_laws.specs.OneRun.{IsRunOfAccepted};
 ghost use Rattle.apply_laws.specs.StoreRuns.{StoreParts, HoldsRun, AreOneRun};

@@ -17,7 +17,9 @@ undo_app = with_rule (new_app (codes "undo")) (required_word (codes "count"))
 
 -- no help flag, no help command, and a subcommand is required
 abbrev pub top_app : App
-top_app = on_top (λ s. record s { subcommand_required = true }) (on_top (λ s. record s { disable_help_subcommand = true }) (on_top (λ s. record s { disable_help_flag = true }) (new_app (codes "editlens"))))
+top_app =
+    on_top (λ s. record s { subcommand_required = true }) (on_top (λ s. record s { disable_help_subcommand = true })
+    (on_top (λ s. record s { disable_help_flag = true }) (new_app (codes "editlens"))))
 
 -- a command line with this command of one word besides
 abbrev pub with_plain : App → List ℕ → App
@@ -25,12 +27,16 @@ with_plain app name = with_subcommand app (new_app name).top
 
 -- the commands that read a script alone
 abbrev pub script_apps : App
-script_apps = with_plain (with_plain (with_plain (with_plain top_app (codes "run")) (codes "check")) (codes "hub")) (codes "link")
+script_apps =
+    with_plain (with_plain (with_plain (with_plain top_app (codes "run")) (codes "check")) (codes "hub")) (codes "link")
 
 -- these and the commands of one word over a store
 abbrev pub store_apps : App
 store_apps =
-    with_plain (with_plain (with_plain (with_plain (with_plain (with_plain script_apps (codes "init")) (codes "apply")) (codes "show")) (codes "verify")) (codes "pack")) (codes "import")
+    with_plain
+    (with_plain
+    (with_plain (with_plain (with_plain (with_plain script_apps (codes "init")) (codes "apply")) (codes "show"))
+    (codes "verify")) (codes "pack")) (codes "import")
 
 -- the whole command line
 abbrev pub editlens_app : App

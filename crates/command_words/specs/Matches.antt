@@ -1,5 +1,6 @@
 -- The command of what clap found in the words. The main definition is `order_of_match`.
-use Rattle.std.specs.Prelude.{ℕ, ◌==◌, List, [], ◌∷◌, Bool, false, Option, Some, None, codes, if◌then◌else◌, bytes_eq, option_and_then}
+use Rattle.std.specs.Prelude.{ℕ, ◌==◌, List, [], ◌∷◌, Bool, false, Option, Some, None, codes, if◌then◌else◌, bytes_eq}
+use Rattle.std.specs.Prelude.{option_and_then}
 use Rattle.clap.specs.Walk.{Row, first_of}
 use Rattle.command_words.specs.Orders.{plain_order, undo_order, gen_order}
 use Rattle.command_words.specs.declared.orders.Order.{Order}
@@ -18,10 +19,12 @@ order_of_rows words name rows =
     if words == 2 then plain_order name
     else (
     if words == 3 then (if bytes_eq name (codes "undo") then undo_of_value (first_of (codes "count") rows) else None)
-    else (if bytes_eq name (codes "gen") then gen_of_values (first_of (codes "count") rows) (first_of (codes "seed") rows) else None)
+    else (if bytes_eq name (codes "gen") then gen_of_values (first_of (codes "count") rows)
+    (first_of (codes "seed") rows) else None)
     )
 
--- the command of the subcommand that clap found with its arguments; `words` is the number of words, and `word` the second of them
+-- the command of the subcommand that clap found with its arguments; `words` is the number of words, and `word` the
+-- second of them
 abbrev pub order_of_match : ℕ → List ℕ → Option (List ℕ × List Row) → Option Order
 order_of_match words word None = None
 order_of_match words word (Some found) = if bytes_eq found.0 word then order_of_rows words found.0 found.1 else None

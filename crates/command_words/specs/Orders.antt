@@ -1,10 +1,13 @@
 -- The command that the words name. A word is its bytes, and the program's name is the first word.
--- Read it from the end: `HasFewEntries` is the bound on `gen` and `undo`, `only_reads` tells the commands apart, and `order_of` has a line for each number of words.
-use Rattle.std.specs.Prelude.{ℕ, ◌≤◌, ◌+◌, ◌-◌, ◌*◌, ◌^◌, List, [], ◌∷◌, Bool, true, false, ◌&&◌, nat_lt, nat_le, length, Option, Some, None, codes, if◌then◌else◌, bytes_eq, option_map, option_and_then}
+-- Read it from the end: `HasFewEntries` is the bound on `gen` and `undo`, `only_reads` tells the commands apart, and
+-- `order_of` has a line for each number of words.
+use Rattle.std.specs.Prelude.{ℕ, ◌≤◌, ◌+◌, ◌-◌, ◌*◌, ◌^◌, List, [], ◌∷◌, Bool, true, false, ◌&&◌, nat_lt, nat_le}
+use Rattle.std.specs.Prelude.{length, Option, Some, None, codes, if◌then◌else◌, bytes_eq, option_map, option_and_then}
 use Rattle.std.specs.List.{list_all}
 use Rattle.std.specs.Char.{is_ascii_digit}
 use Rattle.command_words.specs.declared.orders.Order.{Order}
-use Rattle.command_words.specs.declared.orders.Order.TheVariants.{Run, Check, Init, Apply, Show, Verify, Pack, Gen, Hub, Link, Undo, Import}
+use Rattle.command_words.specs.declared.orders.Order.TheVariants.{Run, Check, Init, Apply, Show, Verify, Pack, Gen, Hub}
+use Rattle.command_words.specs.declared.orders.Order.TheVariants.{Link, Undo, Import}
 
 -- the number whose digits are those of n and then these
 abbrev pub decimal_after : ℕ → List ℕ → ℕ
@@ -13,7 +16,9 @@ decimal_after n (c ∷ cs) = decimal_after (10 * n + (c - 48)) cs
 
 -- one to twenty ASCII digits, of a number below 2 ^ 64
 abbrev pub number_of : List ℕ → Option ℕ
-number_of word = if list_all is_ascii_digit word && (nat_lt 0 (length word) && (nat_le (length word) 20 && nat_lt (decimal_after 0 word) (2 ^ 64))) then Some (decimal_after 0 word) else None
+number_of word =
+    if list_all is_ascii_digit word && (nat_lt 0 (length word) &&
+    (nat_le (length word) 20 && nat_lt (decimal_after 0 word) (2 ^ 64))) then Some (decimal_after 0 word) else None
 
 -- such a number from 1 to 10,000
 abbrev pub count_of : List ℕ → Option ℕ

@@ -1,9 +1,9 @@
 //! The words of the command line.
 //!
 //! `read_words` returns the command that the words name: the program's name, then a command of one
-//! word, as `run` or `apply`, or `undo K`, or `gen N SEED`. The words that name a command are defined in specs/Orders.antt. They are read
-//! with `clap`, as specs/CommandLine.antt describes the command line to it. `only_reads` tells whether the words name a command that
-//! only reads the store.
+//! word, as `run` or `apply`, or `undo K`, or `gen N SEED`. The words that name a command are defined in
+//! specs/Orders.antt. They are read with `clap`, as specs/CommandLine.antt describes the command line to it.
+//! `only_reads` tells whether the words name a command that only reads the store.
 #![tactic(auto)]
 
 mod command_line;

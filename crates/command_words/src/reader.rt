@@ -1,5 +1,6 @@
 // Reads the words.
-ghost use Rattle.std.specs.Prelude.{◌≡◌, Some, None, IfOk, IsErrOf, map, string_bytes, bytes_eq, codes, length, true, if◌then◌else◌};
+ghost use Rattle.std.specs.Prelude.{◌≡◌, Some, None, IfOk, IsErrOf, map, string_bytes, bytes_eq, codes, length, true};
+ghost use Rattle.std.specs.Prelude.{if◌then◌else◌};
 ghost use Rattle.clap.specs.Matches.{found_of, first_value};
 ghost use Rattle.clap.specs.Simple.{subcommand_of, subcommand_rows_of};
 ghost use Rattle.clap.specs.Takes.{takes};
@@ -143,7 +144,9 @@ fn order_of_match(matches: &ArgMatches<'_>, word: &str, words: usize) -> Option<
 }
 
 fn gen_of_match(name: &str, inner: &ArgMatches<'_>) -> Option<Order>
-    ensures { result ≡ (if bytes_eq name.now (codes "gen") then gen_of_values (first_value (found_of inner.now) (codes "count")) (first_value (found_of inner.now) (codes "seed")) else None) }
+    ensures { result
+        ≡ (if bytes_eq name.now (codes "gen") then gen_of_values (first_value (found_of inner.now) (codes "count"))
+        (first_value (found_of inner.now) (codes "seed")) else None) }
 {
     if name != "gen" {
         return None;
@@ -154,7 +157,9 @@ fn gen_of_match(name: &str, inner: &ArgMatches<'_>) -> Option<Order>
 }
 
 fn undo_of_match(name: &str, inner: &ArgMatches<'_>) -> Option<Order>
-    ensures { result ≡ (if bytes_eq name.now (codes "undo") then undo_of_value (first_value (found_of inner.now) (codes "count")) else None) }
+    ensures { result
+        ≡ (if bytes_eq name.now (codes "undo") then undo_of_value
+        (first_value (found_of inner.now) (codes "count")) else None) }
 {
     if name != "undo" {
         return None;

@@ -17,8 +17,8 @@ use Rattle.edit_journal.specs.EntryJson.{not_an_edit}
 use Rattle.editlens_main.specs.Generated.{summary_lines}
 use Rattle.edit_session.specs.Step.{TripleTree}
 use Rattle.edit_session.specs.Run.{carried, no_apply, no_entry}
-use Rattle.journal_answers.specs.Answers.{answer_line, state_lines}
-use Rattle.journal_answers.specs.Runs.{first_of, run_of}
+use Rattle.pair_answers.specs.Answers.{answer_line, state_lines}
+use Rattle.pair_answers.specs.ItemRuns.{first_of, run_of}
 
 -- `{a ~ b: id int}`
 abbrev ab : FormTree

@@ -1,8 +1,7 @@
 mod Examples
 pub mod OrderClauses
-pub mod ScriptStatuses
 pub mod Statuses
 pub mod StoreRefusals
-pub mod StoreStatuses
+pub mod FoundLogs
 pub mod StoresInStep
 pub mod SureEnds

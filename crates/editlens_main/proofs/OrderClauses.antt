@@ -1,4 +1,5 @@
 -- What holds of each command, from what holds of the order that was read. And nothing was done: memory ran out at the words.
+use Rattle.command_ends.specs.Statuses.{IsFinished}
 use Rattle.std.proofs.Common.{◌≡◌, inl, inr, ℕ, List, [], true, false, true≢false, Option, Some, None, IfSome, refl, sym, ap, subst, ◌∙◌, arith}
 use Rattle.std.proofs.KnownBytes.{Appends-nil, Consumes-nil}
 use Rattle.std.proofs.lemmas.Option.{same_Some}
@@ -6,21 +7,18 @@ use Rattle.command_words.specs.declared.orders.Order.{Order}
 use Rattle.lens_io.specs.declared.disk.Disk as OfDisk
 use Rattle.lens_io.specs.declared.sink.Sink as OfSink
 use Rattle.lens_io.specs.declared.source.Source as OfSource
-use Rattle.script_run.proofs.Ends.{ended_never}
-use Rattle.script_run.specs.Ends.{EveryRunStaysInStep}
-use Rattle.script_run.specs.declared.state.ScriptState as OfScript
-use Rattle.script_run.specs.declared.status.ScriptStatus.TheVariants as scripts
-use Rattle.stored_run.proofs.Moments.{leaves_same}
-use Rattle.stored_run.proofs.Openings.{unwritten_none}
-use Rattle.stored_run.specs.InTime.{EndsAtSource}
-use Rattle.stored_run.specs.Refusals.{IsUnwritten}
-use Rattle.stored_run.specs.declared.refusals.StoreRefusal.{StoreRefusal}
-use Rattle.stored_run.specs.declared.status.Status.TheVariants as store
-use Rattle.making_steps.specs.Command.{Command}
-use Rattle.making_steps.specs.Ends.{Ends, Completes, RefusesAtOnce}
-use Rattle.making_steps.specs.declared.status.MakingStatus.TheVariants as making
-use Rattle.store_import.specs.Import.{import_command}
-use Rattle.store_making.specs.Init.{init_command}
+use Rattle.script_run.proofs.ScriptEndsHold.{ended_never}
+use Rattle.script_run.specs.ScriptEnds.{EveryRunStaysInStep}
+use Rattle.script_run.specs.declared.script_state.ScriptState as OfScript
+use Rattle.store_run.proofs.Moments.{leaves_same}
+use Rattle.store_run.proofs.Openings.{unwritten_none}
+use Rattle.store_run.specs.InTime.{EndsAtSource}
+use Rattle.store_run.specs.Refusals.{IsUnwritten}
+use Rattle.store_run.specs.declared.refusals.StoreRefusal.{StoreRefusal}
+use Rattle.store_new.specs.Command.{Command}
+use Rattle.store_new.specs.NewEnds.{Ends, Completes, RefusesAtOnce}
+use Rattle.store_new.specs.Import.{import_command}
+use Rattle.store_new.specs.Init.{init_command}
 use Rattle.store_session.specs.StoredStates.{StoredState}
 use Rattle.store_session.proofs.StatesInStep.{stored_sound}
 use Rattle.editlens_main.specs.Applies.{Applies}
@@ -32,13 +30,10 @@ use Rattle.editlens_main.specs.OrderEnds.{EndsOrder}
 use Rattle.editlens_main.specs.Packs.{Packs}
 use Rattle.editlens_main.specs.Runs.{RunsScript}
 use Rattle.editlens_main.specs.Shows.{ReadsStore}
-use Rattle.editlens_main.specs.Statuses.{IsFinished}
-use Rattle.editlens_main.specs.StoreStatus.{MakesAs}
 use Rattle.editlens_main.specs.Stores.{RefusesStore}
 use Rattle.editlens_main.specs.Undoes.{Undoes}
-use Rattle.editlens_main.specs.declared.status.Status.{Status}
-use Rattle.editlens_main.specs.declared.status.Status.TheVariants.{NoMemory}
-use Rattle.editlens_main.proofs.ScriptStatuses.{script_never}
+use Rattle.command_ends.specs.declared.status.Status.{Status}
+use Rattle.command_ends.specs.declared.status.Status.TheVariants.{NoMemory}
 use Rattle.editlens_main.proofs.StoresInStep.{stays_in_step}
 
 pub not_reading : (o p : Order) → o ≡ p → reads_source (Some p) ≡ true → reads_source (Some o) ≡ false → ⊥
@@ -61,60 +56,54 @@ not_memory : IsFinished NoMemory → ⊥
 not_memory (inl e) = cc
 not_memory (inr e) = cc
 
+-- the bytes of a source, where they are known
+by_bytes : (o : Option (List ℕ)) (P : List ℕ → Type 0) → ((bytes : List ℕ) → P bytes) → IfSome o P
+by_bytes None P f = tt
+by_bytes (Some bytes) P f = f bytes
+
 -- so no command has come to its end
 module _ {S K : Type 0} (source : OfSource.Ghosts S) (sink : OfSink.Ghosts K) (old : S × K) where
   -- a command over a script
   pub never_script : {H : Type 0} (script : OfScript.Ghosts H) → EveryRunStaysInStep script → RunsScript script source sink old old NoMemory
   never_script script every_run = record {
     reports = λ f. absurd (not_memory f);
-    stops = (scripts.NoMemory, refl, (ended_never script every_run source sink old.0 old.1).stops);
-    completes = script_never script (source.left old.0) _ _;
+    stops = (ended_never script every_run source sink old.0 old.1).stops;
+    completes = by_bytes (source.left old.0) _ (λ bytes few r f. ((λ program is. inr refl), λ refusal none. inr refl));
   }
 
 pub never_gen : {K : Type 0} (sink : OfSink.Ghosts K) (old : K) (count seed : ℕ) → Generates count seed sink old old NoMemory
 never_gen sink old count seed = record { reports = Appends-nil (sink.held old); completes = λ f. inr refl }
 
 -- nor at a fault of the source
-never_at_source : EndsAtSource store.NoMemory → ⊥
+never_at_source : EndsAtSource NoMemory → ⊥
 never_at_source (inl e) = cc
 never_at_source (inr e) = cc
-
--- the bytes of a source, where they are known
-by_bytes : (o : Option (List ℕ)) (P : List ℕ → Type 0) → ((bytes : List ℕ) → P bytes) → IfSome o P
-by_bytes None P f = tt
-by_bytes (Some bytes) P f = f bytes
 
 module _ {S K D : Type 0} (source : OfSource.Ghosts S) (sink : OfSink.Ghosts K) (disk : OfDisk.Ghosts D) (old : S × K × D) where
   nothing_written : IsUnwritten disk old.2 old.2
   nothing_written = unwritten_none disk old.2
 
   never_finds : FindsLog source sink disk old old NoMemory
-  never_finds = by_bytes (disk.content old.2) _ (λ bytes some. (refl, nothing_written, (making.NoMemory, refl, inr (inr refl, refl))))
+  never_finds = by_bytes (disk.content old.2) _ (λ bytes some. (refl, nothing_written, inr (inr refl, refl)))
 
   -- nothing was taken, and nothing was written
-  never_ends : (command : Command) → MakesAs (Ends source sink disk command old old) NoMemory
-  never_ends command = (
-    making.NoMemory,
-    refl,
-    inr (inl (record {
-      bytes = [];
-      took = Consumes-nil (source.left old.0);
-      at_most = omega arith;
-      stops = tt;
-      unwritten = nothing_written;
-      given = Appends-nil (sink.held old.1);
-    })),
-  )
+  never_ends : (command : Command) → Ends source sink disk command old old NoMemory
+  never_ends command =
+      inr (inl (record {
+        bytes = [];
+        took = Consumes-nil (source.left old.0);
+        at_most = omega arith;
+        stops = tt;
+        unwritten = nothing_written;
+        given = Appends-nil (sink.held old.1);
+      }))
 
-  never_complete : (command : Command) → MakesAs (Completes source sink disk command old old) NoMemory
-  never_complete command = (
-    making.NoMemory,
-    refl,
-    λ empty. by_bytes (source.left old.0) _ (λ bytes few r f w. record { accepted = λ part room. tt; refused = λ refusal is. tt }),
-  )
+  never_complete : (command : Command) → Completes source sink disk command old old NoMemory
+  never_complete command =
+      λ empty. by_bytes (source.left old.0) _ (λ bytes few r f w. record { accepted = λ part room. tt; refused = λ refusal is. tt })
 
-  never_at_once : MakesAs (RefusesAtOnce source old.0 old.0) NoMemory
-  never_at_once = (making.NoMemory, refl, record { bytes = []; took = Consumes-nil (source.left old.0); only = λ e. cc; whole = λ has refusal is. tt })
+  never_at_once : RefusesAtOnce source old.0 old.0 NoMemory
+  never_at_once = record { bytes = []; took = Consumes-nil (source.left old.0); only = λ e. cc; whole = λ has refusal is. tt }
 
   pub never_init : MakesStore source sink disk old old NoMemory
   never_init = record {
@@ -142,12 +131,8 @@ module _ {S K D : Type 0} (source : OfSource.Ghosts S) (sink : OfSink.Ghosts K) 
     of_store = λ s. record {
       continues = λ f. absurd (not_memory f);
       in_step = stays_in_step s.payloads s.state s.version s.stands;
-      in_time = (
-        store.NoMemory,
-        refl,
-        record { bytes = []; took = Consumes-nil (source.left old.0); given = []; gave = Appends-nil (sink.held old.1); first = inl refl; all = λ e. absurd (never_at_source e) },
-      );
-      stops = (store.NoMemory, refl, inr (nothing_written, refl, ((inr refl, Appends-nil (sink.held old.1)), λ e. cc)));
+      in_time = record { bytes = []; took = Consumes-nil (source.left old.0); given = []; gave = Appends-nil (sink.held old.1); first = inl refl; all = λ e. absurd (never_at_source e) };
+      stops = inr (nothing_written, refl, ((inr refl, Appends-nil (sink.held old.1)), λ e. cc));
       survives = inl (
         inr refl,
         record {
@@ -157,23 +142,23 @@ module _ {S K D : Type 0} (source : OfSource.Ghosts S) (sink : OfSink.Ghosts K) 
           moments = leaves_same disk old.2 (disk.images old.2) (only old.2);
         },
       );
-      caused = (store.NoMemory, refl, tt);
+      caused = tt;
       completes = λ r f w many full. inr refl;
     };
-    refuses = λ other. ((nothing_written, (store.NoMemory, refl, inr ((inr refl, Appends-nil (sink.held old.1)), λ e. cc))), refl);
+    refuses = λ other. ((nothing_written, inr ((inr refl, Appends-nil (sink.held old.1)), λ e. cc)), refl);
   }
 
 module _ {K D : Type 0} (sink : OfSink.Ghosts K) (disk : OfDisk.Ghosts D) (old : K × D) (only : (d : D) (c : List ℕ) → disk.images_since d (disk.moment d) c → disk.images d c) where
   -- the store was not opened, and nothing has changed
   never_refuses : (reason : StoreRefusal) → RefusesStore sink disk old old NoMemory reason
-  never_refuses reason = (unwritten_none disk old.1, (store.NoMemory, refl, inr ((inr refl, Appends-nil (sink.held old.0)), λ e. cc)))
+  never_refuses reason = (unwritten_none disk old.1, inr ((inr refl, Appends-nil (sink.held old.0)), λ e. cc))
 
   pub never_pack : Packs sink disk old old NoMemory
   never_pack = record {
     of_store = λ s. record {
       continues = λ f. absurd (not_memory f);
       in_step = (stored_sound s.payloads s.state s.version s.stands).1;
-      stops = (store.NoMemory, refl, inr (unwritten_none disk old.1, ((inr refl, Appends-nil (sink.held old.0)), λ e. cc)));
+      stops = inr (unwritten_none disk old.1, ((inr refl, Appends-nil (sink.held old.0)), λ e. cc));
       survives = inl (
         inr refl,
         record {
@@ -182,7 +167,7 @@ module _ {K D : Type 0} (sink : OfSink.Ghosts K) (disk : OfDisk.Ghosts D) (old :
           moments = leaves_same disk old.1 (disk.images old.1) (only old.1);
         },
       );
-      caused = (store.NoMemory, refl, tt);
+      caused = tt;
       completes = λ f w full. inr refl;
     };
     refuses = λ other. never_refuses other.reason;
@@ -192,7 +177,7 @@ module _ {K D : Type 0} (sink : OfSink.Ghosts K) (disk : OfDisk.Ghosts D) (old :
   never_undo count = record {
     of_store = λ s. record {
       continues = λ e. cc;
-      stops = (store.NoMemory, refl, inr (unwritten_none disk old.1, ((inr refl, Appends-nil (sink.held old.0)), λ e. cc)));
+      stops = inr (unwritten_none disk old.1, ((inr refl, Appends-nil (sink.held old.0)), λ e. cc));
       survives = inl (
         inr refl,
         record {
@@ -202,7 +187,7 @@ module _ {K D : Type 0} (sink : OfSink.Ghosts K) (disk : OfDisk.Ghosts D) (old :
         },
       );
       unstored = λ e image now. inl now;
-      caused = (store.NoMemory, refl, tt);
+      caused = tt;
       completes = λ f w full. inr refl;
     };
     refuses = λ other. never_refuses other.reason;
@@ -210,7 +195,7 @@ module _ {K D : Type 0} (sink : OfSink.Ghosts K) (disk : OfDisk.Ghosts D) (old :
 
   pub never_view : (text : StoredState → List (List ℕ) → List ℕ) → ReadsStore sink disk old old NoMemory text
   never_view text = record {
-    reports = λ s. (store.NoMemory, refl, inr (inr (inr refl, Appends-nil (sink.held old.0))));
+    reports = λ s. inr (inr (inr refl, Appends-nil (sink.held old.0)));
     in_step = λ s. (stored_sound s.payloads s.state s.version s.stands).1;
     completes = λ s f w. inr refl;
     refuses = λ other. never_refuses other.reason;

@@ -1,35 +1,16 @@
--- What holds of a status that is among some, and what a command that may end so never ends with.
-use Rattle.std.proofs.Common.{◌≡◌, inl, inr, List, [], ◌∷◌, Option, Some, None, false, refl, sym, subst}
+-- What a command that may end by one of some statuses never ends with.
+use Rattle.command_ends.proofs.AmongStatuses.{each}
+use Rattle.command_ends.specs.Statuses.{IsAmong, apply_statuses, import_statuses, init_statuses, quiet_statuses, script_statuses}
+use Rattle.std.proofs.Common.{◌≡◌, inl, inr, Option, Some, None, false, refl}
 use Rattle.command_words.specs.declared.orders.Order.{Order}
 use Rattle.command_words.specs.declared.orders.Order.TheVariants as order
 use Rattle.editlens_main.specs.Commands.{uses_disk}
-use Rattle.editlens_main.specs.Statuses.{IsAmong, MayEnd, script_statuses, making_statuses, store_statuses, quiet_statuses, gen_statuses, statuses_of}
-use Rattle.editlens_main.specs.declared.status.Status.{Status}
-use Rattle.editlens_main.specs.declared.status.Status.TheVariants.{Usage, SourceFault, DiskFault, NoMemory}
-
--- each of these has P
-abbrev Each : (Status → Type 0) → List Status → Type 0
-Each P [] = Unit {0}
-Each P (one ∷ more) = P one × Each P more
-
-each : (P : Status → Type 0) (list : List Status) (status : Status) → Each P list → IsAmong list status → P status
-each P [] status all among = absurd among
-each P (one ∷ more) status all (inl e) = subst P (sym e) all.0
-each P (one ∷ more) status all (inr among) = each P more status all.1 among
+use Rattle.editlens_main.specs.Statuses.{MayEnd, gen_statuses, statuses_of}
+use Rattle.command_ends.specs.declared.status.Status.{Status}
+use Rattle.command_ends.specs.declared.status.Status.TheVariants.{Usage, SourceFault, DiskFault, NoMemory}
 
 abbrev Not : Status → Status → Type 0
 Not other status = status ≡ other → ⊥
-
--- a command over a store that never ends with the source's fault
-pub without_source : (status : Status) → IsAmong store_statuses status → (status ≡ SourceFault → ⊥) → IsAmong quiet_statuses status
-without_source status (inl e) never = inl e
-without_source status (inr (inl e)) never = inr (inl e)
-without_source status (inr (inr (inl e))) never = inr (inr (inl e))
-without_source status (inr (inr (inr (inl e)))) never = absurd (never e)
-without_source status (inr (inr (inr (inr among)))) never = inr (inr (inr among))
-
-pub quiet_reads_nothing : (status : Status) → IsAmong quiet_statuses status → status ≡ SourceFault → ⊥
-quiet_reads_nothing status among = each (Not SourceFault) quiet_statuses status ((λ e. cc), ((λ e. cc), ((λ e. cc), ((λ e. cc), ((λ e. cc), ((λ e. cc), ((λ e. cc), tt))))))) among
 
 pub gen_reads_nothing : (status : Status) → IsAmong gen_statuses status → status ≡ SourceFault → ⊥
 gen_reads_nothing status among = each (Not SourceFault) gen_statuses status ((λ e. cc), ((λ e. cc), ((λ e. cc), tt))) among
@@ -43,21 +24,28 @@ gen_stores_nothing status among = each (Not DiskFault) gen_statuses status ((λ 
 -- ---- for any words
 
 script_not_usage : (status : Status) → IsAmong script_statuses status → status ≡ Usage → ⊥
-script_not_usage status among = each (Not Usage) script_statuses status ((λ e. cc), ((λ e. cc), ((λ e. cc), ((λ e. cc), ((λ e. cc), ((λ e. cc), ((λ e. cc), tt))))))) among
+script_not_usage status among =
+    each (Not Usage) script_statuses status ((λ e. cc), ((λ e. cc), ((λ e. cc), ((λ e. cc), ((λ e. cc), ((λ e. cc), ((λ e. cc), tt))))))) among
 
-making_not_usage : (status : Status) → IsAmong making_statuses status → status ≡ Usage → ⊥
-making_not_usage status among =
-    each (Not Usage) making_statuses status ((λ e. cc), ((λ e. cc), ((λ e. cc), ((λ e. cc), ((λ e. cc), ((λ e. cc), ((λ e. cc), ((λ e. cc), ((λ e. cc), tt))))))))) among
+init_not_usage : (status : Status) → IsAmong init_statuses status → status ≡ Usage → ⊥
+init_not_usage status among =
+    each (Not Usage) init_statuses status ((λ e. cc), ((λ e. cc), ((λ e. cc), ((λ e. cc), ((λ e. cc), ((λ e. cc), ((λ e. cc), ((λ e. cc), tt)))))))) among
 
-store_not_usage : (status : Status) → IsAmong store_statuses status → status ≡ Usage → ⊥
-store_not_usage status among =
-    each (Not Usage) store_statuses status ((λ e. cc), ((λ e. cc), ((λ e. cc), ((λ e. cc), ((λ e. cc), ((λ e. cc), ((λ e. cc), ((λ e. cc), tt)))))))) among
+import_not_usage : (status : Status) → IsAmong import_statuses status → status ≡ Usage → ⊥
+import_not_usage status among =
+    each (Not Usage) import_statuses status ((λ e. cc), ((λ e. cc), ((λ e. cc), ((λ e. cc), ((λ e. cc), ((λ e. cc), ((λ e. cc), ((λ e. cc), ((λ e. cc), tt))))))))) among
+
+apply_not_usage : (status : Status) → IsAmong apply_statuses status → status ≡ Usage → ⊥
+apply_not_usage status among =
+    each (Not Usage) apply_statuses status ((λ e. cc), ((λ e. cc), ((λ e. cc), ((λ e. cc), ((λ e. cc), ((λ e. cc), ((λ e. cc), ((λ e. cc), tt)))))))) among
 
 quiet_not_usage : (status : Status) → IsAmong quiet_statuses status → status ≡ Usage → ⊥
-quiet_not_usage status among = each (Not Usage) quiet_statuses status ((λ e. cc), ((λ e. cc), ((λ e. cc), ((λ e. cc), ((λ e. cc), ((λ e. cc), ((λ e. cc), tt))))))) among
+quiet_not_usage status among =
+    each (Not Usage) quiet_statuses status ((λ e. cc), ((λ e. cc), ((λ e. cc), ((λ e. cc), ((λ e. cc), tt))))) among
 
 gen_not_usage : (status : Status) → IsAmong gen_statuses status → status ≡ Usage → ⊥
-gen_not_usage status among = each (Not Usage) gen_statuses status ((λ e. cc), ((λ e. cc), ((λ e. cc), tt))) among
+gen_not_usage status among =
+    each (Not Usage) gen_statuses status ((λ e. cc), ((λ e. cc), ((λ e. cc), tt))) among
 
 -- only words that name no command end with Usage
 pub only_usage : (q : Option Order) (status : Status) → MayEnd q status → status ≡ Usage → q ≡ None
@@ -65,9 +53,9 @@ only_usage None status may e = refl
 only_usage (Some order.Run) status may e = absurd (script_not_usage status may e)
 only_usage (Some order.Check) status may e = absurd (script_not_usage status may e)
 only_usage (Some (order.Gen count seed)) status may e = absurd (gen_not_usage status may e)
-only_usage (Some order.Init) status may e = absurd (making_not_usage status may e)
-only_usage (Some order.Import) status may e = absurd (making_not_usage status may e)
-only_usage (Some order.Apply) status may e = absurd (store_not_usage status may e)
+only_usage (Some order.Init) status may e = absurd (init_not_usage status may e)
+only_usage (Some order.Import) status may e = absurd (import_not_usage status may e)
+only_usage (Some order.Apply) status may e = absurd (apply_not_usage status may e)
 only_usage (Some order.Show) status may e = absurd (quiet_not_usage status may e)
 only_usage (Some order.Verify) status may e = absurd (quiet_not_usage status may e)
 only_usage (Some order.Pack) status may e = absurd (quiet_not_usage status may e)
@@ -97,12 +85,12 @@ memory_may_end None = inr (inr (inl refl))
 memory_may_end (Some order.Run) = inr (inr (inr (inr (inr (inr (inl refl))))))
 memory_may_end (Some order.Check) = inr (inr (inr (inr (inr (inr (inl refl))))))
 memory_may_end (Some (order.Gen count seed)) = inr (inr (inl refl))
-memory_may_end (Some order.Init) = inr (inr (inr (inr (inr (inr (inr (inr (inl refl))))))))
+memory_may_end (Some order.Init) = inr (inr (inr (inr (inr (inr (inr (inl refl)))))))
 memory_may_end (Some order.Import) = inr (inr (inr (inr (inr (inr (inr (inr (inl refl))))))))
 memory_may_end (Some order.Apply) = inr (inr (inr (inr (inr (inr (inr (inl refl)))))))
-memory_may_end (Some order.Show) = inr (inr (inr (inr (inr (inr (inl refl))))))
-memory_may_end (Some order.Verify) = inr (inr (inr (inr (inr (inr (inl refl))))))
-memory_may_end (Some order.Pack) = inr (inr (inr (inr (inr (inr (inl refl))))))
-memory_may_end (Some (order.Undo count)) = inr (inr (inr (inr (inr (inr (inl refl))))))
+memory_may_end (Some order.Show) = inr (inr (inr (inr (inl refl))))
+memory_may_end (Some order.Verify) = inr (inr (inr (inr (inl refl))))
+memory_may_end (Some order.Pack) = inr (inr (inr (inr (inl refl))))
+memory_may_end (Some (order.Undo count)) = inr (inr (inr (inr (inl refl))))
 memory_may_end (Some order.Hub) = inr (inr (inr (inr (inr (inr (inl refl))))))
 memory_may_end (Some order.Link) = inr (inr (inr (inr (inr (inr (inl refl))))))

@@ -1,13 +1,13 @@
 -- Any bytes are refused as a store, or hold a state that is in step.
 use Rattle.std.proofs.Common.{◌≡◌, inl, inr, List, ℕ, Some, Result, Ok, Err, refl, sym, ap, ◌∙◌}
 use Rattle.gate_log.specs.LogBytes.{LogContent, payloads, not_a_log, bad_record, log_of}
-use Rattle.stored_records.specs.declared.fault.ReopenFault.{ReopenFault as RecordFault}
-use Rattle.stored_records.specs.declared.fault.ReopenFault.TheVariants as of_records
-use Rattle.stored_run.specs.Refusals.{refusal_of_payloads, refusal_of_log, refusal_in}
-use Rattle.stored_run.specs.declared.refusals.StoreRefusal.{StoreRefusal}
-use Rattle.stored_run.specs.declared.refusals.StoreRefusal.TheVariants.{NotALog, BadRecord, NotConsistent}
-use Rattle.stored_run.proofs.Openings.{never_refused}
-use Rattle.stored_sessions.specs.Stands.{Standing, stands}
+use Rattle.store_records.specs.declared.record_fault.ReopenFault.{ReopenFault as RecordFault}
+use Rattle.store_records.specs.declared.record_fault.ReopenFault.TheVariants as of_records
+use Rattle.store_run.specs.Refusals.{refusal_of_payloads, refusal_of_log, refusal_in}
+use Rattle.store_run.specs.declared.refusals.StoreRefusal.{StoreRefusal}
+use Rattle.store_run.specs.declared.refusals.StoreRefusal.TheVariants.{NotALog, BadRecord, NotConsistent}
+use Rattle.store_run.proofs.Openings.{never_refused}
+use Rattle.store_session.specs.Stands.{Standing, stands}
 use Rattle.store_session.specs.StoredStates.{state_of, version_for, opened_as, stands_for}
 use Rattle.store_session.specs.contracts.instance.StoreSessionStoredSession.TheImpl.{ghosts as sessions}
 use Rattle.store_session.proofs.StatesInStep.{stored_sound}

@@ -2,7 +2,7 @@
 use Rattle.std.proofs.Common.{◌≡◌, ℕ, List, Option, Ok}
 use Rattle.store_session.specs.StoredStates.{StoredState, stands_for}
 use Rattle.store_session.proofs.JournalRuns.{runs_alike}
-use Rattle.store_session.specs.Views.{session_state}
+use Rattle.store_session.specs.SessionStates.{session_state}
 use Rattle.store_session.specs.declared.session.StoreSession.{StoreSession}
 use Rattle.store_session.proofs.StatesInStep.{stored_sound}
 use Rattle.editlens_main.specs.Stores.{StaysInStep}

@@ -1,64 +1,32 @@
 -- How commands end over devices that do not fail.
-use Rattle.std.proofs.Common.{◌≡◌, ◌⊎◌, inl, inr, ℕ, ◌+◌, ◌≤◌, List, [], length, Option, Some, None, refl, sym, ap, subst, ◌∙◌, arith}
+use Rattle.command_ends.specs.Statuses.{IsFinished}
+use Rattle.std.proofs.Common.{◌≡◌, ◌⊎◌, inl, inr, ℕ, ◌+◌, ◌≤◌, List, [], length, Option, Some, refl, subst, arith}
 use Rattle.std.specs.Io.KnownBytes.{Consumes}
 use Rattle.std.specs.Prelude.{IfSome, IsNone}
-use Rattle.std.proofs.lemmas.Option.{same_Some}
-use Rattle.journal_input.specs.declared.limits.TheConstants.{MOST_BYTES}
+use Rattle.script_input.specs.declared.limits.TheConstants.{MOST_BYTES}
 use Rattle.lens_io.specs.Causes.{Increased}
 use Rattle.lens_io.specs.declared.disk.Disk as OfDisk
 use Rattle.lens_io.specs.declared.sink.Sink as OfSink
 use Rattle.lens_io.specs.declared.source.Source as OfSource
-use Rattle.making_steps.specs.Command.{Command}
-use Rattle.making_steps.specs.Ends.{Ends}
-use Rattle.making_steps.specs.Scripts.{IsAcceptedPart}
-use Rattle.making_steps.specs.declared.status.MakingStatus.{MakingStatus}
-use Rattle.making_steps.specs.declared.status.MakingStatus.TheVariants as making
-use Rattle.making_steps.proofs.CommandStatuses.{by_end}
-use Rattle.script_run.specs.Ends.{Stops, Reports, IsComplete, IsFinished as IsScriptFinished}
-use Rattle.script_run.specs.declared.state.ScriptState as OfScript
-use Rattle.script_run.specs.declared.status.ScriptStatus.{ScriptStatus}
-use Rattle.script_run.specs.declared.status.ScriptStatus.TheVariants as script
+use Rattle.store_new.specs.Command.{Command}
+use Rattle.store_new.specs.NewEnds.{Ends}
+use Rattle.store_new.specs.Scripts.{IsAcceptedPart}
+use Rattle.store_new.proofs.CommandStatuses.{by_end}
+use Rattle.script_run.specs.ScriptEnds.{Stops, Reports, IsComplete}
+use Rattle.script_run.specs.declared.script_state.ScriptState as OfScript
 use Rattle.script_run.proofs.Complete.{complete}
 use Rattle.store_session.specs.StoredStates.{StoredState}
 use Rattle.store_session.specs.contracts.instance.StoreSessionStoredSession.TheImpl.{ghosts as sessions}
 use Rattle.store_undo.specs.UndoCauses.{UndoHasNoRoom, IsCauseInRoom as IsUndoCauseInRoom}
 use Rattle.store_undo.specs.Undoing.{Undoing}
-use Rattle.stored_run.specs.Refusals.{EndsRefused}
-use Rattle.stored_run.specs.Rooms.{RunHasNoRoom, IsCauseInRoom, PackHasNoRoom, IsPackCauseInRoom}
-use Rattle.stored_run.specs.ViewCall.{Views}
-use Rattle.stored_run.specs.declared.refusals.StoreRefusal.{StoreRefusal}
-use Rattle.stored_run.specs.declared.status.Status.TheVariants as store
-use Rattle.editlens_main.specs.ScriptStatus.{status_of_script, ScriptAs}
-use Rattle.editlens_main.specs.Statuses.{IsFinished}
-use Rattle.editlens_main.specs.StoreStatus.{status_of_store, status_of_making, EndsAs, MakesAs}
+use Rattle.store_run.specs.Refusals.{EndsRefused}
+use Rattle.store_run.specs.Rooms.{RunHasNoRoom, IsCauseInRoom, PackHasNoRoom, IsPackCauseInRoom}
+use Rattle.store_run.specs.ViewCall.{Views}
+use Rattle.store_run.specs.declared.refusals.StoreRefusal.{StoreRefusal}
 use Rattle.editlens_main.specs.SureEnds.{EndsInRoom, StoredInRoom, MadeInRoom}
-use Rattle.editlens_main.specs.declared.status.Status.{Status}
-use Rattle.editlens_main.specs.declared.status.Status.TheVariants.{Done, SomeRefused, ProgramRefused, StoreRefused, SourceFault, SinkFault, DiskFault, InputTooLong, NoMemory}
-use Rattle.script_parts.proofs.TakenParts.{few_taken}
-
--- ---- the status of a script
-
-abbrev script_at : Status → Option ScriptStatus
-script_at Done = Some script.Done
-script_at SomeRefused = Some script.SomeRefused
-script_at ProgramRefused = Some script.ProgramRefused
-script_at SourceFault = Some script.SourceFault
-script_at SinkFault = Some script.SinkFault
-script_at InputTooLong = Some script.InputTooLong
-script_at NoMemory = Some script.NoMemory
-script_at status = None
-
-at_own : (ended : ScriptStatus) → script_at (status_of_script ended) ≡ Some ended
-at_own script.Done = refl
-at_own script.SomeRefused = refl
-at_own script.ProgramRefused = refl
-at_own script.SourceFault = refl
-at_own script.SinkFault = refl
-at_own script.InputTooLong = refl
-at_own script.NoMemory = refl
-
-same_script : (status : Status) (e f : ScriptStatus) → status ≡ status_of_script e → status ≡ status_of_script f → f ≡ e
-same_script status e f x y = same_Some f e (sym (at_own f) ∙ (ap script_at (sym y ∙ x) ∙ at_own e))
+use Rattle.command_ends.specs.declared.status.Status.{Status}
+use Rattle.command_ends.specs.declared.status.Status.TheVariants.{Done, SomeRefused, Usage, ProgramRefused, StoreRefused, SourceFault, SinkFault, DiskFault, InputTooLong, NoMemory}
+use Rattle.script_input.proofs.TakenParts.{few_taken}
 
 -- ---- each command
 
@@ -68,56 +36,71 @@ module _ (status : Status) (is_full : Type 0) (source : status ≡ SourceFault �
     took_known taken h = subst (λ o. Consumes o (devices.left new) taken) known h
 
     pub apply_in_room : (room : ℕ) (before : List (List ℕ)) (t : StoredState) (version : Option (List ℕ))
-        → EndsAs (IsCauseInRoom devices sessions old new (Some room) before t version) status
+        → IsCauseInRoom devices sessions old new (Some room) before t version status
         → StoredInRoom status is_full (IsFinished status ⊎ (status ≡ NoMemory)) (λ most. RunHasNoRoom devices sessions old new most before t version) room
-    apply_in_room room before t version (store.Done, is, h) = inl (inl (inl (inl is)))
-    apply_in_room room before t version (store.SomeRefused, is, h) = inl (inl (inl (inr is)))
-    apply_in_room room before t version (store.StoreRefused, is, h) = inr (inr (is, h))
-    apply_in_room room before t version (store.SourceFault, is, h) = absurd (source is)
-    apply_in_room room before t version (store.SinkFault, is, h) = inl (inr (is, sink is))
-    apply_in_room room before t version (store.DiskFault, is, h) = inr (inl (is, h))
-    apply_in_room room before t version (store.InputTooLong, is, h) =
-        let over : length h.bytes ≡ MOST_BYTES + 1 = h.over in
-        absurd (omega (arith, few, over, few_taken bytes (devices.left new) h.bytes (took_known h.bytes h.consumes)))
-    apply_in_room room before t version (store.NoMemory, is, h) = inl (inl (inr is))
+    apply_in_room room before t version = by_status status refl where
+      by_status : (s : Status) → status ≡ s → IsCauseInRoom devices sessions old new (Some room) before t version s
+          → StoredInRoom status is_full (IsFinished status ⊎ (status ≡ NoMemory)) (λ most. RunHasNoRoom devices sessions old new most before t version) room
+      by_status Done is h = inl (inl (inl (inl is)))
+      by_status SomeRefused is h = inl (inl (inl (inr is)))
+      by_status Usage is h = absurd h
+      by_status ProgramRefused is h = absurd h
+      by_status StoreRefused is h = inr (inr (is, h))
+      by_status SourceFault is h = absurd (source is)
+      by_status SinkFault is h = inl (inr (is, sink is))
+      by_status DiskFault is h = inr (inl (is, h))
+      by_status InputTooLong is h =
+          let over : length h.bytes ≡ MOST_BYTES + 1 = h.over in
+          absurd (omega (arith, few, over, few_taken bytes (devices.left new) h.bytes (took_known h.bytes h.consumes)))
+      by_status NoMemory is h = inl (inl (inr is))
 
-  pub pack_in_room : (room : ℕ) (before : List (List ℕ)) (t : StoredState) (version : Option (List ℕ)) → EndsAs (IsPackCauseInRoom sessions (Some room) before t version) status
+  pub pack_in_room : (room : ℕ) (before : List (List ℕ)) (t : StoredState) (version : Option (List ℕ)) → IsPackCauseInRoom sessions (Some room) before t version status
       → StoredInRoom status is_full ((status ≡ Done) ⊎ (status ≡ NoMemory)) (λ most. PackHasNoRoom sessions most before t version) room
-  pack_in_room room before t version (store.Done, is, h) = inl (inl (inl is))
-  pack_in_room room before t version (store.SomeRefused, is, h) = absurd h
-  pack_in_room room before t version (store.StoreRefused, is, h) = inr (inr (is, h))
-  pack_in_room room before t version (store.SourceFault, is, h) = absurd h
-  pack_in_room room before t version (store.SinkFault, is, h) = inl (inr (is, sink is))
-  pack_in_room room before t version (store.DiskFault, is, h) = inr (inl (is, h))
-  pack_in_room room before t version (store.InputTooLong, is, h) = absurd h
-  pack_in_room room before t version (store.NoMemory, is, h) = inl (inl (inr is))
+  pack_in_room room before t version = by_status status refl where
+    by_status : (s : Status) → status ≡ s → IsPackCauseInRoom sessions (Some room) before t version s
+        → StoredInRoom status is_full ((status ≡ Done) ⊎ (status ≡ NoMemory)) (λ most. PackHasNoRoom sessions most before t version) room
+    by_status Done is h = inl (inl (inl is))
+    by_status SomeRefused is h = absurd h
+    by_status Usage is h = absurd h
+    by_status ProgramRefused is h = absurd h
+    by_status StoreRefused is h = inr (inr (is, h))
+    by_status SourceFault is h = absurd h
+    by_status SinkFault is h = inl (inr (is, sink is))
+    by_status DiskFault is h = inr (inl (is, h))
+    by_status InputTooLong is h = absurd h
+    by_status NoMemory is h = inl (inl (inr is))
 
-  pub undo_in_room : (room : ℕ) (before : List (List ℕ)) (u : Undoing) → EndsAs (IsUndoCauseInRoom (Some room) before u) status
+  pub undo_in_room : (room : ℕ) (before : List (List ℕ)) (u : Undoing) → IsUndoCauseInRoom (Some room) before u status
       → StoredInRoom status is_full ((status ≡ Done) ⊎ (status ≡ NoMemory)) (λ most. UndoHasNoRoom most before u) room
-  undo_in_room room before u (store.Done, is, h) = inl (inl (inl is))
-  undo_in_room room before u (store.SomeRefused, is, h) = absurd h
-  undo_in_room room before u (store.StoreRefused, is, h) = inr (inr (is, h))
-  undo_in_room room before u (store.SourceFault, is, h) = absurd h
-  undo_in_room room before u (store.SinkFault, is, h) = inl (inr (is, sink is))
-  undo_in_room room before u (store.DiskFault, is, h) = inr (inl (is, h))
-  undo_in_room room before u (store.InputTooLong, is, h) = absurd h
-  undo_in_room room before u (store.NoMemory, is, h) = inl (inl (inr is))
+  undo_in_room room before u = by_status status refl where
+    by_status : (s : Status) → status ≡ s → IsUndoCauseInRoom (Some room) before u s
+        → StoredInRoom status is_full ((status ≡ Done) ⊎ (status ≡ NoMemory)) (λ most. UndoHasNoRoom most before u) room
+    by_status Done is h = inl (inl (inl is))
+    by_status SomeRefused is h = absurd h
+    by_status Usage is h = absurd h
+    by_status ProgramRefused is h = absurd h
+    by_status StoreRefused is h = inr (inr (is, h))
+    by_status SourceFault is h = absurd h
+    by_status SinkFault is h = inl (inr (is, sink is))
+    by_status DiskFault is h = inr (inl (is, h))
+    by_status InputTooLong is h = absurd h
+    by_status NoMemory is h = inl (inl (inr is))
 
   -- a command that only reads a store
-  pub view_in_room : {K : Type 0} (device : OfSink.Ghosts K) (old new : K) (text : List ℕ) → (status ≡ DiskFault → ⊥) → EndsAs (Views device old new text) status → EndsInRoom status is_full ((status ≡ Done) ⊎ (status ≡ NoMemory))
-  view_in_room device old new text no_disk (ended, is, inl (e, given)) = inl (inl (is ∙ ap status_of_store e))
-  view_in_room device old new text no_disk (ended, is, inr (inl (e, given))) = let failed : status ≡ SinkFault = is ∙ ap status_of_store e in inr (failed, sink failed)
-  view_in_room device old new text no_disk (ended, is, inr (inr (inl e, given))) = absurd (no_disk (is ∙ ap status_of_store e))
-  view_in_room device old new text no_disk (ended, is, inr (inr (inr e, given))) = inl (inr (is ∙ ap status_of_store e))
+  pub view_in_room : {K : Type 0} (device : OfSink.Ghosts K) (old new : K) (text : List ℕ) → (status ≡ DiskFault → ⊥) → Views device old new text status → EndsInRoom status is_full ((status ≡ Done) ⊎ (status ≡ NoMemory))
+  view_in_room device old new text no_disk (inl (e, given)) = inl (inl e)
+  view_in_room device old new text no_disk (inr (inl (e, given))) = inr (e, sink e)
+  view_in_room device old new text no_disk (inr (inr (inl e, given))) = absurd (no_disk e)
+  view_in_room device old new text no_disk (inr (inr (inr e, given))) = inl (inr e)
 
   -- a command over bytes that are no store
-  pub refused_in_room : {K D : Type 0} (device : OfSink.Ghosts K) (disk : OfDisk.Ghosts D) (old new : K × D) (known : IsNone (disk.room old.1) → ⊥) (refusal : StoreRefusal) → EndsAs (EndsRefused device disk old new refusal) status
+  pub refused_in_room : {K D : Type 0} (device : OfSink.Ghosts K) (disk : OfDisk.Ghosts D) (old new : K × D) (known : IsNone (disk.room old.1) → ⊥) (refusal : StoreRefusal) → EndsRefused device disk old new refusal status
       → EndsInRoom status is_full ((status ≡ StoreRefused) ⊎ (status ≡ NoMemory))
-  refused_in_room device disk old new known refusal (ended, is, inl (inl (e, given))) = inl (inl (is ∙ ap status_of_store e))
-  refused_in_room device disk old new known refusal (ended, is, inl (inr (inl (e, given)))) = let failed : status ≡ SinkFault = is ∙ ap status_of_store e in inr (failed, sink failed)
-  refused_in_room device disk old new known refusal (ended, is, inl (inr (inr (e, given)))) = inl (inr (is ∙ ap status_of_store e))
-  refused_in_room device disk old new known refusal (ended, is, inr ((inl e, given), sure)) = absurd (known (sure e))
-  refused_in_room device disk old new known refusal (ended, is, inr ((inr e, given), sure)) = inl (inr (is ∙ ap status_of_store e))
+  refused_in_room device disk old new known refusal (inl (inl (e, given))) = inl (inl e)
+  refused_in_room device disk old new known refusal (inl (inr (inl (e, given)))) = inr (e, sink e)
+  refused_in_room device disk old new known refusal (inl (inr (inr (e, given)))) = inl (inr e)
+  refused_in_room device disk old new known refusal (inr ((inl e, given), sure)) = absurd (known (sure e))
+  refused_in_room device disk old new known refusal (inr ((inr e, given), sure)) = inl (inr e)
 
   -- a command that makes a store on an empty disk
   module _ {S K D : Type 0} (devices : OfSource.Ghosts S) (gifts : OfSink.Ghosts K) (disk : OfDisk.Ghosts D) (command : Command)
@@ -125,60 +108,53 @@ module _ (status : Status) (is_full : Type 0) (source : status ≡ SourceFault �
       (refuses : (bytes line : List ℕ) → command.refuses bytes line → IsAcceptedPart bytes) (old new : S × K × D)
       (bytes : List ℕ) (known : devices.left old.0 ≡ Some bytes) (empty : disk.content old.2 ≡ Some []) (few : length bytes ≤ MOST_BYTES)
       (no_room : Type 0) (full : status ≡ DiskFault → no_room) where
-    no_device : (ended : MakingStatus) → status ≡ status_of_making ended → Ends devices gifts disk command old new ended → (ended ≡ making.SinkFault → ⊥) → (ended ≡ making.DiskFault → ⊥)
-        → MadeInRoom status is_full command bytes no_room
-    no_device ended is ends no_sink no_disk =
-        inl (inl (
-          ended,
-          is,
-          by_end devices gifts disk command accepts refuses ⊥ (ended ≡ making.SinkFault) (ended ≡ making.DiskFault) old.0 new.0 old.1 new.1 old.2 new.2 ended bytes (devices.left new.0) ends known refl
-              (λ e. source (is ∙ ap status_of_making e)) (λ e. e) (λ e. e) empty few (λ e. e) no_sink no_disk,
-        ))
+    pub made_in_room : Ends devices gifts disk command old new status → MadeInRoom status is_full command bytes no_room
+    made_in_room ends = by_status status refl where
+      no_device : (status ≡ SinkFault → ⊥) → (status ≡ DiskFault → ⊥) → MadeInRoom status is_full command bytes no_room
+      no_device no_sink no_disk =
+          inl (inl (by_end devices gifts disk command accepts refuses ⊥ (status ≡ SinkFault) (status ≡ DiskFault) old.0 new.0 old.1 new.1 old.2 new.2 status bytes (devices.left new.0) ends known refl
+              source (λ e. e) (λ e. e) empty few (λ e. e) no_sink no_disk))
 
-    pub made_in_room : MakesAs (Ends devices gifts disk command old new) status → MadeInRoom status is_full command bytes no_room
-    made_in_room (making.SinkFault, is, ends) = inl (inr (is, sink is))
-    made_in_room (making.DiskFault, is, ends) = inr (is, full is)
-    made_in_room (making.Done, is, ends) = no_device making.Done is ends (λ e. cc) (λ e. cc)
-    made_in_room (making.SomeRefused, is, ends) = no_device making.SomeRefused is ends (λ e. cc) (λ e. cc)
-    made_in_room (making.ProgramRefused, is, ends) = no_device making.ProgramRefused is ends (λ e. cc) (λ e. cc)
-    made_in_room (making.StoreRefused, is, ends) = no_device making.StoreRefused is ends (λ e. cc) (λ e. cc)
-    made_in_room (making.SourceFault, is, ends) = no_device making.SourceFault is ends (λ e. cc) (λ e. cc)
-    made_in_room (making.InputTooLong, is, ends) = no_device making.InputTooLong is ends (λ e. cc) (λ e. cc)
-    made_in_room (making.NoMemory, is, ends) = no_device making.NoMemory is ends (λ e. cc) (λ e. cc)
+      by_status : (s : Status) → status ≡ s → MadeInRoom status is_full command bytes no_room
+      by_status SinkFault is = inl (inr (is, sink is))
+      by_status DiskFault is = inr (is, full is)
+      by_status Done is = no_device (λ e. cc) (λ e. cc)
+      by_status SomeRefused is = no_device (λ e. cc) (λ e. cc)
+      by_status Usage is = no_device (λ e. cc) (λ e. cc)
+      by_status ProgramRefused is = no_device (λ e. cc) (λ e. cc)
+      by_status StoreRefused is = no_device (λ e. cc) (λ e. cc)
+      by_status SourceFault is = no_device (λ e. cc) (λ e. cc)
+      by_status InputTooLong is = no_device (λ e. cc) (λ e. cc)
+      by_status NoMemory is = no_device (λ e. cc) (λ e. cc)
 
   -- a command over a script
   module _ {H S K : Type 0} (meaning : OfScript.Ghosts H) (devices : OfSource.Ghosts S) (gifts : OfSink.Ghosts K) (old new : S × K)
       (bytes : List ℕ) (known : devices.left old.0 ≡ Some bytes) (few : length bytes ≤ MOST_BYTES)
-      (reports : IsFinished status → ScriptAs (Reports meaning devices gifts old new) status) where
-    finished : (ended : ScriptStatus) → status ≡ status_of_script ended → IsScriptFinished ended → IsFinished status
-    finished ended is (inl e) = inl (is ∙ ap status_of_script e)
-    finished ended is (inr e) = inr (is ∙ ap status_of_script e)
-
-    reported : (ended : ScriptStatus) → status ≡ status_of_script ended → IsScriptFinished ended → Reports meaning devices gifts old new ended
-    reported ended is h =
-        let r = reports (finished ended is h) in
-        subst (Reports meaning devices gifts old new) (same_script status ended r.0 is r.1) r.2
-
+      (reports : IsFinished status → Reports meaning devices gifts old new status) where
     -- the command is complete, unless the sink failed
-    abbrev CompletesUnless : List ℕ → ScriptStatus → Type 0
-    CompletesUnless b ended = length b ≤ MOST_BYTES → (⊥ → ⊥) → ((ended ≡ script.SinkFault) → ⊥) → IsComplete meaning b ended
+    abbrev CompletesUnless : List ℕ → Type 0
+    CompletesUnless b = length b ≤ MOST_BYTES → (⊥ → ⊥) → ((status ≡ SinkFault) → ⊥) → IsComplete meaning b status
 
-    no_sink_fault : (ended : ScriptStatus) → status ≡ status_of_script ended → Stops meaning devices gifts old new ended → (ended ≡ script.SinkFault → ⊥)
-        → EndsInRoom status is_full (ScriptAs (IsComplete meaning bytes) status)
-    no_sink_fault ended is stops no_sink =
-        let h : IfSome (Some bytes) (λ b. CompletesUnless b ended) =
-        subst (λ o. IfSome o (λ b. CompletesUnless b ended)) known
-        (complete meaning devices gifts old new ⊥ (ended ≡ script.SinkFault) ended (record { stops = stops; reports = reported ended is }) (λ e. source (is ∙ ap status_of_script e)) (λ e. e)) in
-        inl (ended, is, h few (λ e. e) no_sink)
+    pub script_in_room : Stops meaning devices gifts old new status → EndsInRoom status is_full (IsComplete meaning bytes status)
+    script_in_room stops = by_status status refl where
+      no_sink_fault : (status ≡ SinkFault → ⊥) → EndsInRoom status is_full (IsComplete meaning bytes status)
+      no_sink_fault no_sink =
+          let h : IfSome (Some bytes) CompletesUnless =
+          subst (λ o. IfSome o CompletesUnless) known
+          (complete meaning devices gifts old new ⊥ (status ≡ SinkFault) status (record { stops = stops; reports = reports }) source (λ e. e)) in
+          inl (h few (λ e. e) no_sink)
 
-    pub script_in_room : ScriptAs (Stops meaning devices gifts old new) status → EndsInRoom status is_full (ScriptAs (IsComplete meaning bytes) status)
-    script_in_room (script.SinkFault, is, stops) = inr (is, sink is)
-    script_in_room (script.Done, is, stops) = no_sink_fault script.Done is stops (λ e. cc)
-    script_in_room (script.SomeRefused, is, stops) = no_sink_fault script.SomeRefused is stops (λ e. cc)
-    script_in_room (script.ProgramRefused, is, stops) = no_sink_fault script.ProgramRefused is stops (λ e. cc)
-    script_in_room (script.SourceFault, is, stops) = no_sink_fault script.SourceFault is stops (λ e. cc)
-    script_in_room (script.InputTooLong, is, stops) = no_sink_fault script.InputTooLong is stops (λ e. cc)
-    script_in_room (script.NoMemory, is, stops) = no_sink_fault script.NoMemory is stops (λ e. cc)
+      by_status : (s : Status) → status ≡ s → EndsInRoom status is_full (IsComplete meaning bytes status)
+      by_status SinkFault is = inr (is, sink is)
+      by_status Done is = no_sink_fault (λ e. cc)
+      by_status SomeRefused is = no_sink_fault (λ e. cc)
+      by_status Usage is = no_sink_fault (λ e. cc)
+      by_status ProgramRefused is = no_sink_fault (λ e. cc)
+      by_status StoreRefused is = no_sink_fault (λ e. cc)
+      by_status SourceFault is = no_sink_fault (λ e. cc)
+      by_status DiskFault is = no_sink_fault (λ e. cc)
+      by_status InputTooLong is = no_sink_fault (λ e. cc)
+      by_status NoMemory is = no_sink_fault (λ e. cc)
 
 -- ---- devices that do not fail
 

@@ -1,4 +1,5 @@
--- What the words of the command line name, the program's name first. The words of each command are defined in command_words.
+-- What the words of the command line name, the program's name first. The words of each command are defined in
+-- command_words.
 use Rattle.std.specs.Prelude.{ℕ, List, [], ◌∷◌, ◌++◌, Bool, true, false, Option, Some, String, map, string_bytes, codes}
 use Rattle.std.specs.declared.alloc.Global.{Global}
 use Rattle.command_words.specs.Orders.{order_of}

@@ -6,8 +6,8 @@ use Rattle.std.specs.Io.KnownBytes.{Appends}
 use Rattle.lens_io.specs.Content.{AppendsFront}
 use Rattle.generated_run.specs.Journal.{summary_of}
 use Rattle.generated_run.specs.declared.summary.Summary.{Summary}
-use Rattle.editlens_main.specs.declared.status.Status.{Status}
-use Rattle.editlens_main.specs.declared.status.Status.TheVariants.{Done, SinkFault, NoMemory}
+use Rattle.command_ends.specs.declared.status.Status.{Status}
+use Rattle.command_ends.specs.declared.status.Status.TheVariants.{Done, SinkFault, NoMemory}
 
 -- `accepted A` and `refused R`
 abbrev pub count_lines : Summary → List ℕ
@@ -15,7 +15,9 @@ count_lines s = codes "accepted " ++ decimal s.accepted ++ codes "\nrefused " ++
 
 -- `names P`, `nums O` and `sum S`
 abbrev pub list_lines : Summary → List ℕ
-list_lines s = codes "names " ++ decimal s.names ++ codes "\nnums " ++ decimal s.nums ++ codes "\nsum " ++ signed_decimal s.sum ++ codes "\n"
+list_lines s =
+    codes "names " ++ decimal s.names ++ codes "\nnums " ++ decimal s.nums ++ codes "\nsum " ++ signed_decimal s.sum
+    ++ codes "\n"
 
 -- the five lines
 abbrev pub summary_lines : Summary → List ℕ
@@ -30,7 +32,9 @@ pub record Summarizes (count seed : ℕ) (made : Summary) : Type 0 where
 -- What was written, for each status.
 -- Done: the summary. SinkFault: a prefix of it, and not all. NoMemory: nothing. There is no other status.
 abbrev pub WritesSummary : ℕ → ℕ → Option (List ℕ) → Option (List ℕ) → Status → Type 0
-WritesSummary count seed held held' Done = (made : Summary) × Summarizes count seed made × Appends held held' (summary_lines made)
-WritesSummary count seed held held' SinkFault = (made : Summary) × Summarizes count seed made × AppendsFront held held' (summary_lines made)
+WritesSummary count seed held held' Done =
+    (made : Summary) × Summarizes count seed made × Appends held held' (summary_lines made)
+WritesSummary count seed held held' SinkFault =
+    (made : Summary) × Summarizes count seed made × AppendsFront held held' (summary_lines made)
 WritesSummary count seed held held' NoMemory = Appends held held' []
 WritesSummary count seed held held' status = ⊥

@@ -3,31 +3,33 @@ use Rattle.std.specs.Prelude.{◌≡◌, IfSome}
 use Rattle.lens_io.specs.declared.disk.Disk as OfDisk
 use Rattle.lens_io.specs.declared.sink.Sink as OfSink
 use Rattle.lens_io.specs.declared.source.Source as OfSource
-use Rattle.making_steps.specs.Ends.{Ends, Completes, RefusesAtOnce}
-use Rattle.making_steps.specs.Rooms.{ScriptHasNoRoom}
-use Rattle.store_import.specs.Import.{Imports, RefusesImport, import_command}
+use Rattle.store_new.specs.NewEnds.{Ends, Completes, RefusesAtOnce}
+use Rattle.store_new.specs.NewRooms.{ScriptHasNoRoom}
+use Rattle.store_new.specs.Import.{Imports, RefusesImport, import_command}
 use Rattle.editlens_main.specs.MakesStore.{FindsLog}
-use Rattle.editlens_main.specs.StoreStatus.{MakesAs}
-use Rattle.editlens_main.specs.declared.status.Status.{Status}
-use Rattle.editlens_main.specs.declared.status.Status.TheVariants.{Done, SomeRefused, DiskFault}
+use Rattle.command_ends.specs.declared.status.Status.{Status}
+use Rattle.command_ends.specs.declared.status.Status.TheVariants.{Done, SomeRefused, DiskFault}
 
-module _ {S K D : Type 0} (source : OfSource.Ghosts S) (sink : OfSink.Ghosts K) (disk : OfDisk.Ghosts D) (old new : S × K × D) (status : Status) where
+module _ {S K D : Type 0} (source : OfSource.Ghosts S) (sink : OfSink.Ghosts K) (disk : OfDisk.Ghosts D)
+    (old new : S × K × D) (status : Status) where
   pub record ImportsStore : Type 0 where
-    -- after Done the disk was empty, and holds the program and the entry that makes the document; its answer and the state lines were written, for a
-    -- consistent triple whose left document is the one that was read
+    -- after Done the disk was empty, and holds the program and the entry that makes the document; its answer and the
+    -- state lines were written, for a consistent triple whose left document is the one that was read
     pub brings : status ≡ Done → Imports source sink disk old new
-    -- after SomeRefused the script has no document of the left type; the line `import refused: REASON` was written, and the disk is as before
+    -- after SomeRefused the script has no document of the left type; the line `import refused: REASON` was written, and
+    -- the disk is as before
     pub declines : status ≡ SomeRefused → RefusesImport source sink disk old new
     -- what was taken, written and stored at every status, and what a crash leaves
-    pub stops : MakesAs (Ends source sink disk import_command old new) status
-    -- A program part that is whole and refused is refused, whatever comes after it, unless the sink failed or memory ran out. Then at most the
-    -- rest of the call of the source that ended its separator was read; where no separator came, the source is at its end.
-    pub at_once : MakesAs (RefusesAtOnce source old.0 new.0) status
+    pub stops : Ends source sink disk import_command old new status
+    -- A program part that is whole and refused is refused, whatever comes after it, unless the sink failed or memory
+    -- ran out. Then at most the rest of the call of the source that ended its separator was read; where no separator
+    -- came, the source is at its end.
+    pub at_once : RefusesAtOnce source old.0 new.0 status
     -- a disk of known room fails only if the script was read to its end and the disk has no room for its store
     pub caused : status ≡ DiskFault → IfSome (disk.room old.2) (ScriptHasNoRoom source import_command old.0 new.0)
-    -- over an empty disk and at most 2^30 bytes, if no device fails and the log has room, it comes to its end, or refuses the program part
-    -- or the document, or memory runs out
-    pub completes : MakesAs (Completes source sink disk import_command old new) status
-    -- over a disk that is not empty the line `store refused: log-exists` was written, unless a device failed or memory ran out; nothing
-    -- was read or stored
+    -- over an empty disk and at most 2^30 bytes, if no device fails and the log has room, it comes to its end, or
+    -- refuses the program part or the document, or memory runs out
+    pub completes : Completes source sink disk import_command old new status
+    -- over a disk that is not empty the line `store refused: log-exists` was written, unless a device failed or memory
+    -- ran out; nothing was read or stored
     pub refuses : FindsLog source sink disk old new status

@@ -7,12 +7,9 @@ pub mod MakesStore
 pub mod OrderEnds
 pub mod Packs
 pub mod Runs
-pub mod ScriptStatus
 pub mod Shows
-pub mod Status
 pub mod Statuses
 pub mod StoreBytes
-pub mod StoreStatus
 pub mod Stores
 pub mod SureEnds
 pub mod Top

@@ -12,9 +12,10 @@ use Rattle.editlens_main.specs.Packs.{Packs}
 use Rattle.editlens_main.specs.Runs.{Runs, Checks, RunsHub, RunsLink}
 use Rattle.editlens_main.specs.Shows.{Shows, Verifies}
 use Rattle.editlens_main.specs.Undoes.{Undoes}
-use Rattle.editlens_main.specs.declared.status.Status.{Status}
+use Rattle.command_ends.specs.declared.status.Status.{Status}
 
-module _ {S K D : Type 0} (source : OfSource.Ghosts S) (sink : OfSink.Ghosts K) (disk : OfDisk.Ghosts D) (old new : S × K × D) (status : Status) where
+module _ {S K D : Type 0} (source : OfSource.Ghosts S) (sink : OfSink.Ghosts K) (disk : OfDisk.Ghosts D)
+    (old new : S × K × D) (status : Status) where
   abbrev pub EndsOrder : Order → Type 0
   EndsOrder order.Run = Runs source sink (old.0, old.1) (new.0, new.1) status
   EndsOrder order.Check = Checks source sink (old.0, old.1) (new.0, new.1) status

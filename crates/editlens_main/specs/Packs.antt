@@ -1,17 +1,16 @@
 -- What `pack` promises. Read it from the end: `Packs`, then `Keeps`.
+use Rattle.command_ends.specs.Statuses.{IsFinished}
 use Rattle.std.specs.Prelude.{◌≡◌, ◌⊎◌}
 use Rattle.lens_io.specs.Calls.{SinkFailed, DiskFailed}
 use Rattle.lens_io.specs.declared.disk.Disk as OfDisk
 use Rattle.lens_io.specs.declared.sink.Sink as OfSink
-use Rattle.stored_run.specs.PackCall.{PacksCall, IsUnpacked, IsSafePack, EndsPack}
-use Rattle.stored_run.specs.Rooms.{most_bytes, PackHasNoRoom, IsPackCause}
+use Rattle.store_run.specs.PackCall.{PacksCall, IsUnpacked, IsSafePack, EndsPack}
+use Rattle.store_run.specs.Rooms.{most_bytes, PackHasNoRoom, IsPackCause}
 use Rattle.store_session.specs.Journals.{IsStateInStep}
 use Rattle.store_session.specs.contracts.instance.StoreSessionStoredSession.TheImpl.{ghosts as sessions}
-use Rattle.editlens_main.specs.Statuses.{IsFinished}
 use Rattle.editlens_main.specs.Stores.{Store, RefusedStore, RefusesStore}
-use Rattle.editlens_main.specs.StoreStatus.{EndsAs}
-use Rattle.editlens_main.specs.declared.status.Status.{Status}
-use Rattle.editlens_main.specs.declared.status.Status.TheVariants.{Done, DiskFault, NoMemory}
+use Rattle.command_ends.specs.declared.status.Status.{Status}
+use Rattle.command_ends.specs.declared.status.Status.TheVariants.{Done, DiskFault, NoMemory}
 
 module _ {K D : Type 0} (sink : OfSink.Ghosts K) (disk : OfDisk.Ghosts D) (old new : K × D) (status : Status) where
   -- the store was not opened, and nothing has changed
@@ -25,17 +24,21 @@ module _ {K D : Type 0} (sink : OfSink.Ghosts K) (disk : OfDisk.Ghosts D) (old n
     -- the state of the store is in its lens's consistency relation
     pub in_step : IsStateInStep store.state
     -- what was written and stored at every status
-    pub stops : EndsAs (EndsPack sink disk sessions old new store.payloads store.state store.version) status
-    -- an image of a crash, at each moment of the call and at its end, was possible before the call, or represents the same state
-    pub survives : Unopened ⊎ IsSafePack disk sessions old.1 new.1 (disk.images old.1) store.payloads store.state store.version
-    -- after StoreRefused the log had no room for what was to be stored, and after DiskFault the disk had none if its room is known
-    pub caused : EndsAs (IsPackCause disk sessions old.1 store.payloads store.state store.version) status
+    pub stops : EndsPack sink disk sessions old new store.payloads store.state store.version status
+    -- an image of a crash, at each moment of the call and at its end, was possible before the call, or represents the
+    -- same state
+    pub survives : Unopened
+        ⊎ IsSafePack disk sessions old.1 new.1 (disk.images old.1) store.payloads store.state store.version
+    -- after StoreRefused the log had no room for what was to be stored, and after DiskFault the disk had none if its
+    -- room is known
+    pub caused : IsPackCause disk sessions old.1 store.payloads store.state store.version status
     -- it comes to its end, or memory runs out, if no device fails and the log has room
     pub completes : (SinkFailed sink old.0 new.0 → ⊥) → (DiskFailed disk old.1 new.1 → ⊥)
-        → (PackHasNoRoom sessions most_bytes store.payloads store.state store.version → ⊥) → (status ≡ Done) ⊎ (status ≡ NoMemory)
+        → (PackHasNoRoom sessions most_bytes store.payloads store.state store.version → ⊥) → (status ≡ Done)
+        ⊎ (status ≡ NoMemory)
 
   pub record Packs : Type 0 where
     pub of_store : (store : Store disk old.1) → Keeps store
-    -- over bytes that are no store the line `store refused: REASON` was written, unless a device failed or memory ran out; nothing is
-    -- written to the disk
+    -- over bytes that are no store the line `store refused: REASON` was written, unless a device failed or memory ran
+    -- out; nothing is written to the disk
     pub refuses : (other : RefusedStore disk old.1) → RefusesStore sink disk old new status other.reason

@@ -4,15 +4,14 @@ use Rattle.lens_io.specs.Calls.{SinkFailed, DiskFailed}
 use Rattle.lens_io.specs.DiskRuns.{LeavesOnly}
 use Rattle.lens_io.specs.declared.disk.Disk as OfDisk
 use Rattle.lens_io.specs.declared.sink.Sink as OfSink
-use Rattle.stored_run.specs.CountLines.{consistent_line}
-use Rattle.stored_run.specs.Refusals.{IsUnwritten}
-use Rattle.stored_run.specs.ViewCall as call
+use Rattle.store_run.specs.CountLines.{consistent_line}
+use Rattle.store_run.specs.Refusals.{IsUnwritten}
+use Rattle.store_run.specs.ViewCall as call
 use Rattle.store_session.specs.Journals.{IsStateInStep}
 use Rattle.store_session.specs.StoredStates.{StoredState, count_of, state_text}
 use Rattle.editlens_main.specs.Stores.{Store, RefusedStore, RefusesStore}
-use Rattle.editlens_main.specs.StoreStatus.{EndsAs}
-use Rattle.editlens_main.specs.declared.status.Status.{Status}
-use Rattle.editlens_main.specs.declared.status.Status.TheVariants.{Done, DiskFault, NoMemory}
+use Rattle.command_ends.specs.declared.status.Status.{Status}
+use Rattle.command_ends.specs.declared.status.Status.TheVariants.{Done, DiskFault, NoMemory}
 
 -- what `show` writes of a state, and what `verify` writes of the payloads that stand for it
 abbrev pub shown : StoredState → List (List ℕ) → List ℕ
@@ -24,14 +23,16 @@ verified state payloads = consistent_line (count_of payloads)
 module _ {K D : Type 0} (sink : OfSink.Ghosts K) (disk : OfDisk.Ghosts D) (old new : K × D) (status : Status) where
   -- what is written of a state and its payloads is given by `text`
   pub record ReadsStore (text : StoredState → List (List ℕ) → List ℕ) : Type 0 where
-    -- over a store `show` has written its state lines, and `verify` the number of its changes; or the sink failed at them, or the disk failed
-    -- or memory ran out before
-    pub reports : (store : Store disk old.1) → EndsAs (call.Views sink old.0 new.0 (text store.state store.payloads)) status
+    -- over a store `show` has written its state lines, and `verify` the number of its changes; or the sink failed at
+    -- them, or the disk failed or memory ran out before
+    pub reports : (store : Store disk old.1) → call.Views sink old.0 new.0 (text store.state store.payloads) status
     -- the state of the store is in its lens's consistency relation
     pub in_step : (store : Store disk old.1) → IsStateInStep store.state
     -- over a store it comes to its end, or memory runs out, if no device fails
-    pub completes : Store disk old.1 → (SinkFailed sink old.0 new.0 → ⊥) → (DiskFailed disk old.1 new.1 → ⊥) → (status ≡ Done) ⊎ (status ≡ NoMemory)
-    -- over bytes that are no store the line `store refused: REASON` was written, unless a device failed or memory ran out
+    pub completes : Store disk old.1 → (SinkFailed sink old.0 new.0 → ⊥) → (DiskFailed disk old.1 new.1 → ⊥)
+        → (status ≡ Done) ⊎ (status ≡ NoMemory)
+    -- over bytes that are no store the line `store refused: REASON` was written, unless a device failed or memory ran
+    -- out
     pub refuses : (other : RefusedStore disk old.1) → RefusesStore sink disk old new status other.reason
     -- nothing is written to the disk
     pub unwritten : IsUnwritten disk old.1 new.1

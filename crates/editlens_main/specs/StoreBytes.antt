@@ -4,8 +4,8 @@ use Rattle.gate_log.specs.LogOnDisk.{HoldsPayloads}
 use Rattle.store_session.specs.Journals.{IsStateInStep}
 use Rattle.store_session.specs.StoredStates.{StoredState, stands_for}
 use Rattle.store_session.specs.contracts.instance.StoreSessionStoredSession.TheImpl.{ghosts as sessions}
-use Rattle.stored_run.specs.Refusals.{refusal_in}
-use Rattle.stored_run.specs.declared.refusals.StoreRefusal.{StoreRefusal}
+use Rattle.store_run.specs.Refusals.{refusal_in}
+use Rattle.store_run.specs.declared.refusals.StoreRefusal.{StoreRefusal}
 
 -- The bytes are a log, and its payloads represent this state, which is in step.
 pub record HoldsState (bytes : List ℕ) : Type 0 where

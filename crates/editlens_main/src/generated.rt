@@ -1,10 +1,11 @@
 //! The command `gen`: the generated run, and its summary.
+ghost use Rattle.command_ends.specs.Statuses.{IsAmong};
 ghost use Rattle.std.specs.Prelude.{◌≡◌, ◌⊎◌, ◌≤◌, IfOk, string_bytes};
 ghost use Rattle.lens_io.specs.Calls.{SinkFailed};
 ghost use Rattle.editlens_main.specs.Generated.{WritesSummary, count_lines, list_lines, summary_lines};
-ghost use Rattle.editlens_main.specs.Statuses.{IsAmong, gen_statuses};
+ghost use Rattle.editlens_main.specs.Statuses.{gen_statuses};
 
-use crate::Status;
+use command_ends::Status;
 use generated_run::{Summary, generate};
 use lens_io::{Sink, give_all};
 use std::alloc::{AllocError, Global};

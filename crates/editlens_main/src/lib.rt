@@ -1,11 +1,13 @@
 //! The top call: what the program does with its words, its input and its output.
 //!
-//! [`editlens`] is the complete program apart from its real streams. Its contract is the main theorem: a clause for each command, which
-//! names the record of what the command promises, in a file of specs/ with the record's name (`Runs`, `Applies`, `Undoes`). The commands over
-//! a script are calls of pair_run, hub_run and link_run, and what the report of a script is, is in specs/Report.antt of script_run. The
-//! commands over a store are calls of stored_run, store_making, store_import and store_undo.
+//! [`editlens`] is the complete program apart from its real streams. Its contract is the main theorem: a clause for
+//! each command, which names the record of what the command promises, in a file of specs/ with the record's name
+//! (`Runs`, `Applies`, `Undoes`). The commands over a script are calls of script_run and hub_run, and what the report
+//! of a script is, is in specs/Report.antt of script_run. The commands over a store are calls of store_run, store_new
+//! and store_undo.
 //!
-//! [`run_program`] is the same over the real streams and the file of the store, and [`run_sure`] over devices that never fail.
+//! [`run_program`] is the same over the real streams and the file of the store, and [`run_sure`] over devices that
+//! never fail.
 #![tactic(auto)]
 
 mod generated;
@@ -13,13 +15,12 @@ pub mod laws;
 mod makings;
 mod real;
 mod scripts;
-mod status;
 mod stores;
 mod sure;
 mod top;
 mod usage;
 
+pub use command_ends::Status;
 pub use real::run_program;
-pub use status::Status;
 pub use sure::run_sure;
 pub use top::editlens;

@@ -1,15 +1,14 @@
-//! The commands `init` and `import`, which make a store. They are the calls of store_making and of store_import.
+//! The commands `init` and `import`, which make a store. They are calls of store_new.
+ghost use Rattle.command_ends.specs.Statuses.{IsAmong, import_statuses, init_statuses};
 ghost use Rattle.std.specs.Prelude.{◌≡◌};
 ghost use Rattle.lens_io.specs.Calls.{SourceFailed, SinkFailed, DiskFailed};
 ghost use Rattle.editlens_main.specs.ImportsStore.{ImportsStore};
 ghost use Rattle.editlens_main.specs.MakesStore.{MakesStore};
-ghost use Rattle.editlens_main.specs.Statuses.{IsAmong, making_statuses};
 
-use crate::Status;
+use command_ends::Status;
 use lens_io::{Disk, Sink, Source};
 use std::alloc::Global;
-use store_import::import;
-use store_making::init;
+use store_new::{import, init};
 
 /// Makes a store of a program.
 pub fn run_init<S: Source, K: Sink, D: Disk>(
@@ -20,13 +19,12 @@ pub fn run_init<S: Source, K: Sink, D: Disk>(
 ) -> Status
     ensures makes { MakesStore S.Source K.Sink D.Disk
         (source.old, sink.old, disk.old) (source.new, sink.new, disk.new) result }
-    ensures statuses { IsAmong making_statuses result }
+    ensures statuses { IsAmong init_statuses result }
     ensures source_fault { result ≡ Status.SourceFault → SourceFailed S.Source source.old source.new }
     ensures sink_fault { result ≡ Status.SinkFault → SinkFailed K.Sink sink.old sink.new }
     ensures disk_fault { result ≡ Status.DiskFault → DiskFailed D.Disk disk.old disk.new }
 {
-    let ended = init(alloc, source, sink, disk);
-    Status::of_making(ended)
+    init(alloc, source, sink, disk)
 }
 
 /// Makes a store of a program that stands for a left document.
@@ -38,11 +36,10 @@ pub fn run_import<S: Source, K: Sink, D: Disk>(
 ) -> Status
     ensures imports { ImportsStore S.Source K.Sink D.Disk
         (source.old, sink.old, disk.old) (source.new, sink.new, disk.new) result }
-    ensures statuses { IsAmong making_statuses result }
+    ensures statuses { IsAmong import_statuses result }
     ensures source_fault { result ≡ Status.SourceFault → SourceFailed S.Source source.old source.new }
     ensures sink_fault { result ≡ Status.SinkFault → SinkFailed K.Sink sink.old sink.new }
     ensures disk_fault { result ≡ Status.DiskFault → DiskFailed D.Disk disk.old disk.new }
 {
-    let ended = import(alloc, source, sink, disk);
-    Status::of_making(ended)
+    import(alloc, source, sink, disk)
 }

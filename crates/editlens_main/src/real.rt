@@ -10,13 +10,14 @@ use std::io::{self, ErrorKind};
 const STORE: &str = "editlens.store";
 
 /// The program: the top call with the words of the command line, over standard input, standard output and
-/// the file `editlens.store` of the current folder. The file is opened at the first call of the disk, and made by the first write.
+/// the file `editlens.store` of the current folder. The file is opened at the first call of the disk, and made by the
+/// first write.
 ///
-/// `show` and `verify` open the file for reading. The commands that write it hold a lock on the folder from before their first look
-/// at the file to their end, and end with `DiskFault` if another program holds it.
+/// `show` and `verify` open the file for reading. The commands that write it hold a lock on the folder from before
+/// their first look at the file to their end, and end with `DiskFault` if another program holds it.
 ///
-/// The status is that of [`editlens`], or `NoMemory` if memory ran out at the words. What the streams and the file give and take is
-/// not known to the prover, so no clause speaks of it; nothing is written to standard error.
+/// The status is that of [`editlens`], or `NoMemory` if memory ran out at the words. What the streams and the file give
+/// and take is not known to the prover, so no clause speaks of it; nothing is written to standard error.
 pub fn run_program(rt: &HostRuntime) -> Status {
     let Ok(words) = given_words(rt) else {
         return Status::NoMemory;

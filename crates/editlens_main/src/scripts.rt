@@ -1,11 +1,11 @@
-//! The commands over a script: `run`, `check`, `hub` and `link`. All but `hub`, whose program part has a program for each view, are the call
-//! of script_run for what a script means to them.
+//! The commands over a script: `run`, `check`, `hub` and `link`. All but `hub`, whose program part has a program for
+//! each view, are the call of script_run for what a script means to them.
+ghost use Rattle.command_ends.specs.Statuses.{IsAmong, script_statuses};
 ghost use Rattle.std.specs.Prelude.{◌≡◌};
 ghost use Rattle.lens_io.specs.Calls.{SourceFailed, SinkFailed};
 ghost use Rattle.editlens_main.specs.Runs.{Runs, Checks, RunsHub, RunsLink};
-ghost use Rattle.editlens_main.specs.Statuses.{IsAmong, script_statuses};
 
-use crate::Status;
+use command_ends::Status;
 use hub_run::run_hub;
 use lens_io::{Sink, Source};
 use link_run::LinkRun;
@@ -20,8 +20,7 @@ pub fn run_pair_script<S: Source, K: Sink>(alloc: Global, source: &mut S, sink: 
     ensures source_fault { result ≡ Status.SourceFault → SourceFailed S.Source source.old source.new }
     ensures sink_fault { result ≡ Status.SinkFault → SinkFailed K.Sink sink.old sink.new }
 {
-    let ended = run_script::<S, K, PairRun>(alloc, source, sink);
-    Status::of_script(ended)
+    run_script::<S, K, PairRun>(alloc, source, sink)
 }
 
 /// Shows the two types of the lens of a script.
@@ -31,8 +30,7 @@ pub fn check_script<S: Source, K: Sink>(alloc: Global, source: &mut S, sink: &mu
     ensures source_fault { result ≡ Status.SourceFault → SourceFailed S.Source source.old source.new }
     ensures sink_fault { result ≡ Status.SinkFault → SinkFailed K.Sink sink.old sink.new }
 {
-    let ended = run_script::<S, K, TypesShown>(alloc, source, sink);
-    Status::of_script(ended)
+    run_script::<S, K, TypesShown>(alloc, source, sink)
 }
 
 /// Keeps one document in step with many views, by the edits of a script.
@@ -42,8 +40,7 @@ pub fn run_hub_script<S: Source, K: Sink>(alloc: Global, source: &mut S, sink: &
     ensures source_fault { result ≡ Status.SourceFault → SourceFailed S.Source source.old source.new }
     ensures sink_fault { result ≡ Status.SinkFault → SinkFailed K.Sink sink.old sink.new }
 {
-    let ended = run_hub(alloc, source, sink);
-    Status::of_script(ended)
+    run_hub(alloc, source, sink)
 }
 
 /// Keeps two documents in step over two sites that take turns, by the events of a script.
@@ -53,6 +50,5 @@ pub fn run_link_script<S: Source, K: Sink>(alloc: Global, source: &mut S, sink: 
     ensures source_fault { result ≡ Status.SourceFault → SourceFailed S.Source source.old source.new }
     ensures sink_fault { result ≡ Status.SinkFault → SinkFailed K.Sink sink.old sink.new }
 {
-    let ended = run_script::<S, K, LinkRun>(alloc, source, sink);
-    Status::of_script(ended)
+    run_script::<S, K, LinkRun>(alloc, source, sink)
 }

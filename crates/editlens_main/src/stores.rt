@@ -1,19 +1,19 @@
-//! The commands over a store that is there: `apply`, `show`, `verify`, `pack` and `undo`. The last is the call of store_undo. Each other
-//! one is the call of stored_run with the sessions of store_session.
+//! The commands over a store that is there: `apply`, `show`, `verify`, `pack` and `undo`. The last is the call of
+//! store_undo. Each other one is the call of store_run with the sessions of store_session.
+ghost use Rattle.command_ends.specs.Statuses.{IsAmong, apply_statuses, quiet_statuses};
 ghost use Rattle.std.specs.Prelude.{◌≡◌};
 ghost use Rattle.lens_io.specs.Calls.{SourceFailed, SinkFailed, DiskFailed};
 ghost use Rattle.editlens_main.specs.Applies.{Applies};
 ghost use Rattle.editlens_main.specs.Packs.{Packs};
 ghost use Rattle.editlens_main.specs.Shows.{Shows, Verifies};
-ghost use Rattle.editlens_main.specs.Statuses.{IsAmong, quiet_statuses, store_statuses};
 ghost use Rattle.editlens_main.specs.Undoes.{Undoes};
 
-use crate::Status;
+use command_ends::Status;
 use lens_io::{Disk, Sink, Source};
 use std::alloc::Global;
+use store_run::{apply, pack, show, verify};
 use store_session::StoreSession;
 use store_undo::undo;
-use stored_run::{apply, pack, show, verify};
 
 /// Goes on with the session of the store, by a journal.
 pub fn run_apply<S: Source, K: Sink, D: Disk>(
@@ -24,13 +24,12 @@ pub fn run_apply<S: Source, K: Sink, D: Disk>(
 ) -> Status
     ensures applies { Applies S.Source K.Sink D.Disk
         (source.old, sink.old, disk.old) (source.new, sink.new, disk.new) result }
-    ensures statuses { IsAmong store_statuses result }
+    ensures statuses { IsAmong apply_statuses result }
     ensures source_fault { result ≡ Status.SourceFault → SourceFailed S.Source source.old source.new }
     ensures sink_fault { result ≡ Status.SinkFault → SinkFailed K.Sink sink.old sink.new }
     ensures disk_fault { result ≡ Status.DiskFault → DiskFailed D.Disk disk.old disk.new }
 {
-    let ended = apply::<S, StoreSession, K, D>(alloc, source, sink, disk);
-    Status::of_store(ended)
+    apply::<S, StoreSession, K, D>(alloc, source, sink, disk)
 }
 
 /// Shows the state of the store.
@@ -40,8 +39,7 @@ pub fn run_show<K: Sink, D: Disk>(alloc: Global, sink: &mut K, disk: &mut D) -> 
     ensures sink_fault { result ≡ Status.SinkFault → SinkFailed K.Sink sink.old sink.new }
     ensures disk_fault { result ≡ Status.DiskFault → DiskFailed D.Disk disk.old disk.new }
 {
-    let ended = show::<StoreSession, K, D>(alloc, sink, disk);
-    Status::of_store(ended)
+    show::<StoreSession, K, D>(alloc, sink, disk)
 }
 
 /// Counts the changes of the store.
@@ -51,8 +49,7 @@ pub fn run_verify<K: Sink, D: Disk>(alloc: Global, sink: &mut K, disk: &mut D) -
     ensures sink_fault { result ≡ Status.SinkFault → SinkFailed K.Sink sink.old sink.new }
     ensures disk_fault { result ≡ Status.DiskFault → DiskFailed D.Disk disk.old disk.new }
 {
-    let ended = verify::<StoreSession, K, D>(alloc, sink, disk);
-    Status::of_store(ended)
+    verify::<StoreSession, K, D>(alloc, sink, disk)
 }
 
 /// Adds a snapshot to the store.
@@ -62,8 +59,7 @@ pub fn run_pack<K: Sink, D: Disk>(alloc: Global, sink: &mut K, disk: &mut D) -> 
     ensures sink_fault { result ≡ Status.SinkFault → SinkFailed K.Sink sink.old sink.new }
     ensures disk_fault { result ≡ Status.DiskFault → DiskFailed D.Disk disk.old disk.new }
 {
-    let ended = pack::<StoreSession, K, D>(alloc, sink, disk);
-    Status::of_store(ended)
+    pack::<StoreSession, K, D>(alloc, sink, disk)
 }
 
 /// Takes the store back to what it was before its last changes.
@@ -73,6 +69,5 @@ pub fn run_undo<K: Sink, D: Disk>(alloc: Global, count: u64, sink: &mut K, disk:
     ensures sink_fault { result ≡ Status.SinkFault → SinkFailed K.Sink sink.old sink.new }
     ensures disk_fault { result ≡ Status.DiskFault → DiskFailed D.Disk disk.old disk.new }
 {
-    let ended = undo(alloc, count, sink, disk);
-    Status::of_store(ended)
+    undo(alloc, count, sink, disk)
 }

@@ -1,7 +1,8 @@
 //! The top call.
 ghost use Rattle.std.specs.Prelude.{◌≡◌, ℕ, Some, None, false};
 ghost use Rattle.command_words.specs.Orders.{HasFewEntries};
-ghost use Rattle.command_words.specs.declared.orders.Order.TheVariants.{Gen, Init, Import, Apply, Show, Verify, Pack, Undo, Hub, Link};
+ghost use Rattle.command_words.specs.declared.orders.Order.TheVariants.{Gen, Init, Import, Apply, Show, Verify, Pack};
+ghost use Rattle.command_words.specs.declared.orders.Order.TheVariants.{Undo, Hub, Link};
 ghost use Rattle.command_words.specs.declared.orders.Order.TheVariants as order;
 ghost use Rattle.lens_io.specs.Calls.{SourceFailed, SinkFailed, DiskFailed};
 ghost use Rattle.editlens_main.specs.Applies.{Applies};
@@ -17,41 +18,47 @@ ghost use Rattle.editlens_main.specs.Statuses.{MayEnd};
 ghost use Rattle.editlens_main.specs.Top.{GivesUsage, LeavesAlone, IsCaused};
 ghost use Rattle.editlens_main.specs.Undoes.{Undoes};
 
-use crate::Status;
 use crate::generated::run_generated;
 use crate::makings::{run_import, run_init};
 use crate::scripts::{check_script, run_hub_script, run_link_script, run_pair_script};
 use crate::stores::{run_apply, run_pack, run_show, run_undo, run_verify};
 use crate::usage::USAGE;
+use command_ends::Status;
 use command_words::{Order, WordsFault, read_words};
 use lens_io::{Disk, Sink, Source, give_all};
 use std::alloc::Global;
 
 /// Does what the program's words say, with its input, its output and its store.
 ///
-/// There is a clause for each command, and it names a record: what the command promises, field by field, in a file of specs/ with the
-/// record's name (`Verifies` stands beside `Shows`; `run`, `check`, `hub` and `link` have one record, `RunsScript`, over what a script means to
-/// each). The fields have the same names everywhere:
+/// There is a clause for each command, and it names a record: what the command promises, field by field, in a file of
+/// specs/ with the record's name (`Verifies` stands beside `Shows`; `run`, `check`, `hub` and `link` have one record,
+/// `RunsScript`, over what a script means to each). The fields have the same names everywhere:
 ///
-/// - `reports` or `continues`, and `starts` and `brings` of the commands that make a store: what was read, written and stored where the
-///   command came to its end, with the status `Done` or `SomeRefused`. `declines`: what `import` does with `SomeRefused`.
-/// - `in_step`: the state of a store, and every state of a run from it on, is in its lens's consistency relation. `reports` says it of a run.
-/// - `stops`: what was taken, written and stored at every status, or at every other one. `unstored`: when `undo` has stored no snapshot.
-/// - `survives`: what a crash leaves of the store, at each moment of the call and at its end. `unwritten`: nothing is written to the disk.
+/// - `reports` or `continues`, and `starts` and `brings` of the commands that make a store: what was read, written and
+///   stored where the command came to its end, with the status `Done` or `SomeRefused`. `declines`: what `import` does
+///   with `SomeRefused`.
+/// - `in_step`: the state of a store, and every state of a run from it on, is in its lens's consistency relation.
+///   `reports` says it of a run.
+/// - `stops`: what was taken, written and stored at every status, or at every other one. `unstored`: when `undo` has
+///   stored no snapshot.
+/// - `survives`: what a crash leaves of the store, at each moment of the call and at its end. `unwritten`: nothing is
+///   written to the disk.
 /// - `caused`: why such a status came.
-/// - `completes`: over at most 2^30 bytes, if no device fails and the log has room, the command comes to its end; or the program part or the
-///   document is refused, or memory runs out.
+/// - `completes`: over at most 2^30 bytes, if no device fails and the log has room, the command comes to its end; or
+///   the program part or the document is refused, or memory runs out.
 /// - `refuses`: what is done where the bytes of the disk are no store; by `init` and `import`, where there are any.
 ///
-/// The other clauses hold whatever the words are. `usage`: words that name no command give the usage line. `statuses`: how each command may
-/// end. `leaves`: a command that does not use the source or the disk leaves it as it was. `causes`: `SourceFault`, `SinkFault` and
-/// `DiskFault` come only if the device failed.
+/// The other clauses hold whatever the words are. `usage`: words that name no command give the usage line. `statuses`:
+/// how each command may end. `leaves`: a command that does not use the source or the disk leaves it as it was.
+/// `causes`: `SourceFault`, `SinkFault` and `DiskFault` come only if the device failed.
 ///
-/// Whatever bytes a disk holds, they are refused as a store, or their state is in its lens's consistency relation: the law
-/// `laws::every_disk_is_refused_or_in_step`. Which stores `undo` refuses is the law `store_undo::laws::undone_or_refused`.
+/// Whatever bytes a disk holds, they are refused as a store, or their state is in its lens's consistency relation: the
+/// law `laws::every_disk_is_refused_or_in_step`. Which stores `undo` refuses is the law
+/// `store_undo::undo_laws::undone_or_refused`.
 ///
-/// `NoMemory` comes only if memory ran out, which no clause can say. Whether a program part is accepted is said by a definition that
-/// follows the reader (`bounded` of lens_syntax). It is the grammar's: the law `lens_syntax::laws::reading_follows_the_grammar`.
+/// `NoMemory` comes only if memory ran out, which no clause can say. Whether a program part is accepted is said by a
+/// definition that follows the reader (`bounded` of lens_syntax). It is the grammar's: the law
+/// `lens_syntax::laws::reading_follows_the_grammar`.
 ///
 /// docs/FORMATS.md says what the words, a script and a store are, and docs/MEANING.md what a report says.
 pub fn editlens<S: Source, K: Sink, D: Disk>(

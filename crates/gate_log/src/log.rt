@@ -1,13 +1,16 @@
 //! The log: its calls, and what a crash leaves of them.
-ghost use Rattle.std.specs.Prelude.{◌≡◌, ◌⊎◌, ◌↔◌, ◌+◌, ◌*◌, ◌-◌, ◌^◌, ◌<◌, ◌≤◌, [], ◌∷◌, ◌++◌, List, ℕ, true, length, IfOk, IfErr, OnOk, OnErr, MatchResult, IsErrOf, IsOk, IsTrue, IfSome, IsNone};
+ghost use Rattle.std.specs.Prelude.{◌≡◌, ◌⊎◌, ◌↔◌, ◌+◌, ◌*◌, ◌-◌, ◌^◌, ◌<◌, ◌≤◌, [], ◌∷◌, ◌++◌, List, ℕ, true, length};
+ghost use Rattle.std.specs.Prelude.{IfOk, IfErr, OnOk, OnErr, MatchResult, IsErrOf, IsOk, IsTrue, IfSome, IsNone};
 ghost use Rattle.std.specs.Int.{w64, to_le_bytes};
 ghost use Rattle.lens_io.specs.Causes.{Increased};
 ghost use Rattle.lens_io.specs.DiskRuns.{LeavesOnly, OnlyReads};
 ghost use Rattle.lens_io.specs.Disks.{Steps, Only, SameImages};
-ghost use Rattle.gate_log.specs.CallEnds.{AppendEnds, AppendLeaves, IsAppendFault, IsCreateFault, IsLogRefusal, IsPayloadsFault, IsSynced, NoBadRecord, after_append};
+ghost use Rattle.gate_log.specs.CallEnds.{AppendEnds, AppendLeaves, IsAppendFault, IsCreateFault, IsLogRefusal};
+ghost use Rattle.gate_log.specs.CallEnds.{IsPayloadsFault, IsSynced, NoBadRecord, after_append};
 ghost use Rattle.gate_log.specs.LogBytes.{payloads, mark};
 ghost use Rattle.gate_log.specs.LogOnDisk.{LogState, HoldsOneMore, HoldsPayloads, IsBehind, Stands};
-ghost use Rattle.gate_log.specs.Steps.{IsAppended, IsBeforeOrAfter, IsMarked, IsOpenFault, Opens, leads_to_end};
+ghost use Rattle.gate_log.specs.Steps.{IsAppended, IsBeforeOrAfter, IsMarked, IsOpenFault, KeepsBehind, Opens};
+ghost use Rattle.gate_log.specs.Steps.{leads_to_end};
 
 use crate::LogFault;
 use crate::gates::{Gate, HEAD, OPEN, payload_at, write_and_sync};
@@ -57,7 +60,9 @@ impl Model for Log {
 /// - `LogExists`: if and only if the disk is not empty. Nothing is written then.
 /// - `DiskFault`: only if the disk's count of faults increased. A crash may then leave any bytes.
 ///
-/// It does not allocate. A crash during the call may leave any bytes, too.
+/// It does not allocate. A crash during the call may leave any bytes, too. Whatever comes, the disk is no longer than
+/// the empty log if it was empty (`rest`).
+#[tactic(auto, using(crate::proofs::Behind::behind_rules))]
 pub fn create_log<D: Disk>(disk: &mut D) -> Result<Log, LogFault>
     ensures log { IfOk result (λ log. log ≡ record { gate = 8; count = 0; sound = true }) }
     ensures stands { IfOk result (λ log. Stands (D.content disk.new) (D.images disk.new) log []) }
@@ -70,6 +75,7 @@ pub fn create_log<D: Disk>(disk: &mut D) -> Result<Log, LogFault>
     ensures unwritten { IsErrOf result LogFault.LogExists →
         OnlyReads D.Disk disk.old disk.new }
 
+    ensures rest { Steps (KeepsBehind 9) (D.content disk.old) (D.content disk.new) }
     ensures faults { D.faults disk.old ≤ D.faults disk.new }
     ensures room { D.room disk.new ≡ D.room disk.old }
     ensures possible { IfErr result IsCreateFault }
@@ -95,8 +101,8 @@ pub fn create_log<D: Disk>(disk: &mut D) -> Result<Log, LogFault>
 /// - `BadRecord`: if and only if this record's gate is open and the record passes the end of the disk.
 /// - `DiskFault`: only if the disk's count of faults increased.
 ///
-/// It reads gates and lengths, and not payloads: where gates stand close together, in pieces of at most 64 KiB. It does not
-/// allocate.
+/// It reads gates and lengths, and not payloads: where gates stand close together, in pieces of at most 64 KiB. It does
+/// not allocate.
 pub fn open_log<D: Disk>(disk: &mut D) -> Result<Log, LogFault>
     ensures log { MatchResult result
         (λ log. (held : List (List ℕ)) × IfSome (D.content disk.old) (HoldsPayloads held)
@@ -111,6 +117,7 @@ pub fn open_log<D: Disk>(disk: &mut D) -> Result<Log, LogFault>
 
     ensures faults { D.faults disk.old ≤ D.faults disk.new }
     ensures room { D.room disk.new ≡ D.room disk.old }
+    ensures unwritten { D.writes disk.new ≡ D.writes disk.old }
     ensures cause { IsErrOf result LogFault.DiskFault
         → Increased (D.faults disk.old) (D.faults disk.new) }
     ensures sure { IsErrOf result LogFault.DiskFault → IsNone (D.room disk.old) }
@@ -121,8 +128,8 @@ pub fn open_log<D: Disk>(disk: &mut D) -> Result<Log, LogFault>
 
 // Reads the mark and the gates.
 //
-// Another program may add records meanwhile, and a gate that it has opened leads past the length that was asked for before. So
-// where a record passes the end, and the disk has grown, the reading begins anew.
+// Another program may add records meanwhile, and a gate that it has opened leads past the length that was asked for
+// before. So where a record passes the end, and the disk has grown, the reading begins anew.
 fn opened<D: Disk>(disk: &mut D) -> Result<Log, LogFault>
     ensures opens { IfSome (D.content disk.old) (λ bytes. Opens bytes result) }
     ensures sound { IfOk result (λ log. log.sound ≡ true) }
@@ -212,10 +219,12 @@ impl Log {
     ///
     /// - `LogFull`: if and only if the log would pass 2^63 - 1 bytes. The log and the disk are as they were.
     /// - `NoMemory`: only if memory ran out, before any call of the disk. The log and the disk are as they were.
-    /// - `DiskFault`: only if the disk's count of faults increased. The log has to be opened again. It then has the payloads
-    ///   from before, with the new one or without.
+    /// - `DiskFault`: only if the disk's count of faults increased. The log has to be opened again. It then has the
+    ///   payloads from before, with the new one or without.
     ///
-    /// A crash at any moment of the call leaves the payloads from before, with the new one or without.
+    /// A crash at any moment of the call leaves the payloads from before, with the new one or without. Whatever comes,
+    /// what was behind the place where the log ends then stays (`rest`): a disk that ended before that place ends there
+    /// at most.
     pub fn append<D: Disk>(
         &mut self,
         alloc: Global,
@@ -240,6 +249,8 @@ impl Log {
             → LeavesOnly D.Disk disk.old disk.new
             (AppendLeaves held payload.now result) }
 
+        ensures rest { Steps (KeepsBehind (self.old.gate + 10 + length payload.now))
+            (D.content disk.old) (D.content disk.new) }
         ensures log { self.new ≡ after_append self.old (length payload.now) result }
         ensures faults { D.faults disk.old ≤ D.faults disk.new }
         ensures room { D.room disk.new ≡ D.room disk.old }
@@ -257,6 +268,7 @@ impl Log {
     }
 
     // Adds a payload, in the words of what the disk held before.
+    #[tactic(auto, using(crate::proofs::Behind::behind_rules))]
     fn append_record<D: Disk>(
         &mut self,
         alloc: Global,
@@ -277,6 +289,8 @@ impl Log {
             → IfSome (D.content disk.old) (λ bytes. IsBeforeOrAfter payload.now bytes c) }
         ensures content { Steps (IsBeforeOrAfter payload.now) (D.content disk.old) (D.content disk.new) }
 
+        ensures rest { Steps (KeepsBehind (self.old.gate + 10 + length payload.now))
+            (D.content disk.old) (D.content disk.new) }
         ensures log { self.new ≡ after_append self.old (length payload.now) result }
         ensures faults { D.faults disk.old ≤ D.faults disk.new }
         ensures room { D.room disk.new ≡ D.room disk.old }
@@ -305,9 +319,9 @@ impl Log {
 
     /// Reads all the payloads, in order. It writes nothing.
     ///
-    /// - `BadRecord`: only for one of the log's records, and never if the disk's content is known. Else this record's gate or
-    ///   length, as it was read in this call, does not lead to the log's end, or the disk's length, as it was read in this
-    ///   call, ends before the record does.
+    /// - `BadRecord`: only for one of the log's records, and never if the disk's content is known. Else this record's
+    ///   gate or length, as it was read in this call, does not lead to the log's end, or the disk's length, as it was
+    ///   read in this call, ends before the record does.
     /// - `DiskFault`: only if the disk's count of faults increased.
     /// - `NoMemory`: only if memory ran out.
     pub fn payloads<D: Disk>(&self, alloc: Global, disk: &mut D) -> Result<Payloads, LogFault>

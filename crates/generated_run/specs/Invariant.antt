@@ -1,5 +1,6 @@
 -- What holds of the documents after each entry of a generated journal: helper forms for the proofs.
-use Rattle.std.specs.Prelude.{◌≡◌, ℕ, ◌+◌, ◌*◌, ◌^◌, ◌<◌, ◌≤◌, ℤ, pos, negsuc, codes, List, [], ◌∷◌, length, Option, option_map}
+use Rattle.std.specs.Prelude.{◌≡◌, ℕ, ◌+◌, ◌*◌, ◌^◌, ◌<◌, ◌≤◌, ℤ, pos, negsuc, codes, List, [], ◌∷◌, length, Option}
+use Rattle.std.specs.Prelude.{option_map}
 use Rattle.doc_values.specs.Documents.{DocTree, int, rec, no_docs, more_docs}
 use Rattle.lens_core.specs.Consistency.{contents_with, list_doc}
 use Rattle.edit_session.specs.Step.{TripleTree}

@@ -1,6 +1,7 @@
 -- A generated journal: its entries, made from a seed, and the summary of its run.
 -- Read it from the end: `summary_of`, then `journal`, `entries` and `next_seed`.
-use Rattle.std.specs.Prelude.{ℕ, ℤ, pos, ◌+ℤ◌, length, zero, suc, ◌+◌, ◌*◌, ◌/◌, ◌%◌, ◌^◌, nat_eq, nat_lt, if◌then◌else◌, codes, List, [], ◌∷◌, map, Option, Some, None, option_map, Ok}
+use Rattle.std.specs.Prelude.{ℕ, ℤ, pos, ◌+ℤ◌, length, zero, suc, ◌+◌, ◌*◌, ◌/◌, ◌%◌, ◌^◌, nat_eq, nat_lt}
+use Rattle.std.specs.Prelude.{if◌then◌else◌, codes, List, [], ◌∷◌, map, Option, Some, None, option_map, Ok}
 use Rattle.texts.specs.declared.side.Side.{Side}
 use Rattle.texts.specs.declared.side.Side.TheVariants.{Left, Right}
 use Rattle.hold_shapes.specs.declared.edit.Place.TheVariants.{Index}
@@ -30,9 +31,10 @@ drawn_from s = s / 2 ^ 33
 
 -- ---- the choice of an entry
 
--- Entry k, of the drawn number d, where there are p texts and o numbers in the documents; the first line that fits. Of an empty list
--- an item is inserted. The rest of d divided by 4 decides: 0 inserts a number, 1 an item; 2 moves an item, from a place by the quotient
--- to a place by k; 3 adds k to a number, whose place is by the quotient, and where there is no number it inserts an item.
+-- Entry k, of the drawn number d, where there are p texts and o numbers in the documents; the first line that fits. Of
+-- an empty list an item is inserted. The rest of d divided by 4 decides: 0 inserts a number, 1 an item; 2 moves an
+-- item, from a place by the quotient to a place by k; 3 adds k to a number, whose place is by the quotient, and where
+-- there is no number it inserts an item.
 abbrev pub choice : ℕ → ℕ → ℕ → ℕ → Choice
 choice k p o d =
     if nat_eq (p + o) 0 then InsertItem
@@ -69,7 +71,8 @@ abbrev pub entry_of : Choice → Side × WordTree
 entry_of InsertItem = (Left, insertion)
 entry_of InsertNumber = in_numbers insertion
 entry_of (MoveItem i j) = (Left, more_primitives (shape (MoveEdit i j)) no_primitives)
-entry_of (AddToNumber i k) = in_numbers (more_primitives (modify (Index i) (more_primitives (add (pos k)) no_primitives)) no_primitives)
+entry_of (AddToNumber i k) =
+    in_numbers (more_primitives (modify (Index i) (more_primitives (add (pos k)) no_primitives)) no_primitives)
 
 -- the entry of a choice, and the rest after it, which goes on with the new counts of texts and numbers
 abbrev pub with_choice : Choice → ℕ → ℕ → (ℕ → ℕ → List (Side × WordTree)) → List (Side × WordTree)
@@ -139,7 +142,8 @@ abbrev pub first_triple : TripleTree
 first_triple = first (left_type generated_form) (right_type generated_form) (missing generated_form)
 
 abbrev pub run_from : TripleTree → List (Side × WordTree) → Option (List (TripleTree × AnswerTree ⊥))
-run_from t es = run (left_type generated_form) (right_type generated_form) (translate generated_form) t (map entry_item es)
+run_from t es =
+    run (left_type generated_form) (right_type generated_form) (translate generated_form) t (map entry_item es)
 
 -- the summary of the journal of this count and seed
 abbrev pub summary_of : ℕ → ℕ → Option Summary

@@ -80,7 +80,8 @@ fn on_items(alloc: Global, edit: ShapeEdit) -> Result<Entry, AllocError>
 
 // An edit of the right list of numbers.
 fn on_numbers(alloc: Global, primitive: Primitive) -> Result<Entry, AllocError>
-    ensures { IfOk result (λ entry. entry_tree entry ≡ in_numbers (more_primitives (primitive_tree primitive) no_primitives)) }
+    ensures { IfOk result (λ entry. entry_tree entry
+        ≡ in_numbers (more_primitives (primitive_tree primitive) no_primitives)) }
 {
     let inner = word_of(alloc, primitive)?;
     let nums = Name::from_string(String::from_str(alloc, "nums")?);

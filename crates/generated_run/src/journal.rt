@@ -19,8 +19,8 @@ use std::alloc::{AllocError, Global};
 /// Runs a generated journal of this many entries, from 1 to 10,000, through a session of the fixed program.
 ///
 /// The entries are made from the seed. The session begins with the initial documents. Every entry is accepted, so
-/// `accepted` is the count and `refused` is 0. Entry number k adds at most k, so the sum is at most 50,005,000. Fails only
-/// if memory runs out.
+/// `accepted` is the count and `refused` is 0. Entry number k adds at most k, so the sum is at most 50,005,000. Fails
+/// only if memory runs out.
 pub fn generate(alloc: Global, count: u64, seed: u64) -> Result<Summary, AllocError>
     requires positive { 1 ≤ count }
     requires bounded { count ≤ 10000 }
@@ -75,10 +75,14 @@ fn take_entry(
     requires bounded { before < 10000 }
     requires generated { IsGenerated before progress.names progress.nums (triple_tree session.old.triple) }
     ensures lens { session.new.lens ≡ session.old.lens }
-    ensures generated { IfOk result (λ next. IsGenerated (before + 1) next.names next.nums (triple_tree session.new.triple)) }
+    ensures generated { IfOk result (λ next. IsGenerated (before + 1) next.names next.nums
+        (triple_tree session.new.triple)) }
     ensures counted { IfOk result (λ next. (rest : ℕ)
-        → counted before (triple_tree session.old.triple) (run_from (triple_tree session.old.triple) (entries (suc rest) (before + 1) progress.seed progress.names progress.nums))
-        ≡ counted (before + 1) (triple_tree session.new.triple) (run_from (triple_tree session.new.triple) (entries rest (before + 1 + 1) next.seed next.names next.nums))) }
+        → counted before (triple_tree session.old.triple) (run_from (triple_tree session.old.triple)
+        (entries (suc rest) (before + 1) progress.seed progress.names progress.nums))
+        ≡ counted (before + 1) (triple_tree session.new.triple)
+        (run_from (triple_tree session.new.triple)
+        (entries rest (before + 1 + 1) next.seed next.names next.nums))) }
 {
     let number = before + 1;
     let seed = next_seed(progress.seed);

@@ -12,7 +12,7 @@ use Rattle.hub_run.specs.FormLenses.{form_lens}
 use Rattle.hub_run.specs.FoundLenses.{HasLeft}
 use Rattle.hub_run.specs.Lenses.{HubRefusal, too_many_views, views_differ, with_left, view_with, form_of_view, first_left, then_forms, forms_from, forms_of, lenses_of}
 use Rattle.hub_run.specs.Pieces.{is_cut, pieces, pieces_from}
-use Rattle.script_parts.specs.Lines.{cut, up_to_line_end}
+use Rattle.script_input.specs.Lines.{cut, up_to_line_end}
 
 abbrev Same : TyTree → List FormTree → Type 0
 Same = SameLeft form_lens

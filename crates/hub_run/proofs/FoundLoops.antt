@@ -6,12 +6,12 @@ use Rattle.std.proofs.lemmas.List.{drop_all, length-map, map-append}
 use Rattle.lens_forms.specs.Forms.{FormTree, form_tree}
 use Rattle.view_hub.specs.Laws.{HaveOneLeftType}
 use Rattle.lens_types.specs.declared.typed.Typed.{Typed}
-use Rattle.script_parts.specs.Parts.{HoldsPart}
+use Rattle.script_input.specs.Parts.{HoldsPart}
 use Rattle.hub_run.specs.HeldPieces.{HoldsEach, HoldsUnless}
 use Rattle.hub_run.specs.Lenses.{too_many_views, form_of_view, first_left, then_forms, forms_from, forms_of}
 use Rattle.hub_run.specs.FormLenses.{form_lens}
 use Rattle.hub_run.specs.FoundLenses.{HasLeft, IsRefused}
-use Rattle.script_parts.specs.declared.script.ProgramText.{ProgramText}
+use Rattle.script_input.specs.declared.script.ProgramText.{ProgramText}
 use Rattle.hub_run.specs.declared.pieces.TheConstants.{MOST_VIEWS}
 use Rattle.hub_run.specs.declared.views.HubRefused.{HubRefused}
 use Rattle.hub_run.specs.declared.views.HubRefused.TheVariants.{TooManyViews, InView, ViewsDiffer, NoMemory}

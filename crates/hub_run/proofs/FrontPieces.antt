@@ -3,16 +3,16 @@ use Rattle.std.proofs.Common.{◌≡◌, ℕ, List, [], ◌∷◌, ◌++◌, Boo
 use Rattle.edit_journal.specs.Lines.{line_of}
 use Rattle.edit_journal.specs.Pieces.{last_line, has_no_end}
 use Rattle.edit_journal.specs.declared.line.Line.{Line}
-use Rattle.script_parts.specs.Lines.{cut, program_part, is_separator_line}
-use Rattle.script_parts.specs.PartSteps.{IsProgramFront}
-use Rattle.script_parts.proofs.Fronts.{cut_last, up_to_last, separator_line, last_separator, last_in_part}
+use Rattle.script_input.specs.Lines.{cut, program_part, is_separator_line}
+use Rattle.script_input.specs.PartSteps.{IsProgramFront}
+use Rattle.script_input.proofs.Fronts.{cut_last, up_to_last, separator_line, last_separator, last_in_part}
 use Rattle.hub_run.specs.HeldPieces.{HoldsPieces, HoldsIf, HoldsAfter}
 use Rattle.hub_run.specs.HubHeads.{HoldsFront, HasPieces}
 use Rattle.hub_run.specs.Pieces.{is_cut, pieces, pieces_from}
 use Rattle.hub_run.specs.declared.pieces.Pieces.{Pieces}
 use Rattle.hub_run.proofs.PieceLines.{line_more}
-use Rattle.script_parts.proofs.AddedLines.{joined}
-use Rattle.script_parts.proofs.ProgramTexts.{no_line, same_line}
+use Rattle.script_input.proofs.AddedLines.{joined}
+use Rattle.script_input.proofs.ProgramTexts.{no_line, same_line}
 
 -- ---- the front
 

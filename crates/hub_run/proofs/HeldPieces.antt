@@ -2,9 +2,9 @@
 use Rattle.std.proofs.Common.{◌≡◌, ℕ, suc, ◌+◌, ◌<◌, ◌≤◌, List, [], ◌∷◌, ◌++◌, length, Bool, true, false, refl, ap, arith, length-append}
 use Rattle.std.specs.Prelude.{bytes_eq, codes, ◌||◌}
 use Rattle.hub_run.specs.Pieces.{is_cut}
-use Rattle.script_parts.specs.Parts.{HoldsPart}
+use Rattle.script_input.specs.Parts.{HoldsPart}
 use Rattle.hub_run.specs.HeldPieces.{HoldsEach, HoldsUnless}
-use Rattle.script_parts.specs.declared.script.ProgramText.{ProgramText}
+use Rattle.script_input.specs.declared.script.ProgramText.{ProgramText}
 use Rattle.hub_run.specs.declared.pieces.TheConstants.{MOST_VIEWS}
 use Rattle.texts.proofs.Tests.{bytes_eq-is}
 

@@ -3,16 +3,16 @@ use Rattle.std.proofs.Common.{◌≡◌, ℕ, List, [], ◌∷◌, ◌++◌, Boo
 use Rattle.edit_journal.specs.Lines.{line_of}
 use Rattle.edit_journal.specs.Pieces.{FedLines, take_first}
 use Rattle.edit_journal.specs.declared.line.Line.{Line}
-use Rattle.script_parts.specs.Lines.{is_separator, is_separator_line}
+use Rattle.script_input.specs.Lines.{is_separator, is_separator_line}
 use Rattle.hub_run.specs.HeldPieces.{HoldsPieces, HoldsAfter}
-use Rattle.script_parts.specs.PartSteps.{IsProgramFront, MovesOn}
+use Rattle.script_input.specs.PartSteps.{IsProgramFront, MovesOn}
 use Rattle.hub_run.specs.HubHeads.{HoldsFront, AddsLines}
-use Rattle.journal_input.specs.Taking.{TakenInput}
+use Rattle.script_input.specs.Taking.{TakenInput}
 use Rattle.hub_run.specs.declared.pieces.Pieces.{Pieces}
-use Rattle.script_parts.proofs.Fronts.{longer_front, whole_head, separator_line}
-use Rattle.script_parts.proofs.TakenLines.{IsSplit, splits}
+use Rattle.script_input.proofs.Fronts.{longer_front, whole_head, separator_line}
+use Rattle.script_input.proofs.TakenLines.{IsSplit, splits}
 use Rattle.hub_run.proofs.FrontPieces.{front_part, front_line}
-use Rattle.script_parts.proofs.AddedLines.{joined, same_lines, none_taken}
+use Rattle.script_input.proofs.AddedLines.{joined, same_lines, none_taken}
 
 module _ (bytes : List ℕ) (old new : TakenInput) (program : Pieces) (m : MovesOn bytes old (λ front _. IsProgramFront front × HoldsFront program front)) where
   taken_rest : (line : Line) → (Some line, new.lines) ≡ take_first old.lines → IsSplit m.rest line new.lines

@@ -1,8 +1,8 @@
 -- The pieces of a program part that comes line by line.
 use Rattle.std.proofs.Common.{◌≡◌, ℕ, List, [], ◌∷◌, ◌++◌, true, cond, sym, ap, ◌∙◌, append_assoc}
 use Rattle.edit_journal.specs.Pieces.{has_no_end}
-use Rattle.script_parts.specs.Lines.{cut}
-use Rattle.script_parts.proofs.Fronts.{cut_line, up_to_end}
+use Rattle.script_input.specs.Lines.{cut}
+use Rattle.script_input.proofs.Fronts.{cut_line, up_to_end}
 use Rattle.hub_run.specs.Pieces.{is_cut, pieces_from}
 
 pub line_more : (begun text more : List ℕ) → has_no_end text ≡ true

@@ -1,5 +1,6 @@
 -- For the helpers of the answers: which answers have a line.
-use Rattle.edit_journal.specs.declared.fault.EntryFault.TheVariants.{LineTooLong, NotJson, NotAnEntry, NotAnEdit, NoMemory}
+use Rattle.edit_journal.specs.declared.fault.EntryFault.TheVariants.{LineTooLong, NotJson, NotAnEntry, NotAnEdit}
+use Rattle.edit_journal.specs.declared.fault.EntryFault.TheVariants.{NoMemory}
 use Rattle.hub_run.specs.declared.answers.HubAnswer.{HubAnswer}
 use Rattle.hub_run.specs.declared.answers.HubAnswer.TheVariants.{Carried, NoView, NoApply, NoEdit}
 

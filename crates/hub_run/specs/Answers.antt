@@ -31,14 +31,15 @@ tree_of_words ws = array (items_of_words ws)
 -- `ok N HUBWORD LIST`: the edit was accepted; LIST is the array of the views' words
 abbrev pub ok_line : ℕ → CarriedTree → List ℕ
 ok_line number words =
-    codes "ok " ++ decimal number ++ codes " " ++ compact_text (tree_of_word words.hub) ++ codes " " ++ compact_text (tree_of_words words.views) ++ codes "\n"
+    codes "ok " ++ decimal number ++ codes " " ++ compact_text (tree_of_word words.hub) ++ codes " "
+    ++ compact_text (tree_of_words words.views) ++ codes "\n"
 
 -- `refused N no-view`: the edit names no view
 abbrev pub no_view_line : ℕ → List ℕ
 no_view_line number = codes "refused " ++ decimal number ++ codes " no-view\n"
 
--- The answer to the item with this number: `ok N HUBWORD LIST`, `refused N no-view`, `refused N no-apply AT CAUSE`, or `refused N FAULT` to
--- a line that is not an edit.
+-- The answer to the item with this number: `ok N HUBWORD LIST`, `refused N no-view`, `refused N no-apply AT CAUSE`, or
+-- `refused N FAULT` to a line that is not an edit.
 abbrev pub answer_line : ℕ → HubAnswerTree → List ℕ
 answer_line n (carried words) = ok_line n words
 answer_line n no_view = no_view_line n

@@ -1,6 +1,7 @@
 -- A line of a hub's journal: the tree of an edit, and the edit that a tree, a text and a line are.
 -- From the end: `edit_of_line`, `edit_of_text`, `edit_of_tree`, and the other way `tree_of_edit`.
-use Rattle.std.specs.Prelude.{ℕ, ◌&&◌, ◌^◌, Bool, true, false, List, Option, Some, None, option_map, Result, Ok, Err, if◌then◌else◌, codes, bytes_eq, nat_lt}
+use Rattle.std.specs.Prelude.{ℕ, ◌&&◌, ◌^◌, Bool, true, false, List, Option, Some, None, option_map, Result, Ok, Err}
+use Rattle.std.specs.Prelude.{if◌then◌else◌, codes, bytes_eq, nat_lt}
 use Rattle.serde_json.specs.Data.{Data, string, object, no_members, member}
 use Rattle.value_json.specs.Numbers.{count_of, count_tree}
 use Rattle.edit_module.specs.Words.{WordTree}
@@ -37,11 +38,12 @@ is_hub _ = false
 abbrev pub place_of_tree : Data → Option Place
 place_of_tree d = if is_hub d then Some at_hub else option_map at_view (count_of d)
 
--- The place and the tree of the edit, where the tree is an object with exactly the members `at` and `edit`, which are in byte order, and
--- `at` is a place.
+-- The place and the tree of the edit, where the tree is an object with exactly the members `at` and `edit`, which are
+-- in byte order, and `at` is a place.
 abbrev pub parts_of : Data → Option (Place × Data)
 parts_of (object (member k at (member l edit no_members))) =
-    if bytes_eq k (codes "at") && bytes_eq l (codes "edit") then option_map (λ place. (place, edit)) (place_of_tree at) else None
+    if bytes_eq k (codes "at") && bytes_eq l (codes "edit") then option_map (λ place. (place, edit))
+    (place_of_tree at) else None
 parts_of _ = None
 
 -- with the place, the word that the edit is

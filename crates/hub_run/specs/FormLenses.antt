@@ -7,7 +7,14 @@ use Rattle.lens_core.specs.declared.lens.EditLens as OfLens
 
 -- the lens of a form
 abbrev pub form_lens : OfLens.Ghosts FormTree
-form_lens = record { left_type = left_type; right_type = right_type; start = missing; holds = IsConsistent; carried = translate }
+form_lens =
+    record {
+      left_type = left_type;
+      right_type = right_type;
+      start = missing;
+      holds = IsConsistent;
+      carried = translate;
+    }
 
 -- the lens of what stands for another, which has a lens
 abbrev pub lens_by : {L F : Type 0} → (L → F) → OfLens.Ghosts F → OfLens.Ghosts L

@@ -1,8 +1,8 @@
 -- What the code keeps of the pieces of a program part. Read it from the end: `HoldsPieces`, then `HoldsAfter`.
 use Rattle.std.specs.Prelude.{ℕ, ◌<◌, ◌≤◌, List, [], ◌∷◌, ◌++◌, length, Bool, true, false}
-use Rattle.script_parts.specs.Parts.{HoldsPart}
+use Rattle.script_input.specs.Parts.{HoldsPart}
 use Rattle.hub_run.specs.Pieces.{is_cut}
-use Rattle.script_parts.specs.declared.script.ProgramText.{ProgramText}
+use Rattle.script_input.specs.declared.script.ProgramText.{ProgramText}
 use Rattle.hub_run.specs.declared.pieces.Pieces.{Pieces}
 use Rattle.hub_run.specs.declared.pieces.TheConstants.{MOST_VIEWS}
 

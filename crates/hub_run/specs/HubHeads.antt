@@ -1,10 +1,10 @@
 -- What the reading of the pieces of a program part has found. Read it from the end: `ReadsHead`.
 use Rattle.std.specs.Prelude.{◌≡◌, ℕ, List, [], ◌∷◌, ◌++◌, Bool, true, false}
 use Rattle.lens_io.specs.declared.source.Source as OfSource
-use Rattle.script_parts.specs.Coming.{ended_lines}
-use Rattle.script_parts.specs.Lines.{cut}
-use Rattle.script_parts.specs.Parts.{IsHead, ReadsPart, ReadsAll}
-use Rattle.script_parts.specs.PartSteps.{IsProgramFront}
+use Rattle.script_input.specs.Coming.{ended_lines}
+use Rattle.script_input.specs.Lines.{cut}
+use Rattle.script_input.specs.Parts.{IsHead, ReadsPart, ReadsAll}
+use Rattle.script_input.specs.PartSteps.{IsProgramFront}
 use Rattle.hub_run.specs.Pieces.{pieces, pieces_from}
 use Rattle.hub_run.specs.HeldPieces.{HoldsPieces}
 use Rattle.hub_run.specs.declared.head.HubHead.{HubHead}
@@ -18,7 +18,8 @@ pub record HasPieces (kept : Pieces) (part : List ℕ) : Type 0 where
   pub holds : HoldsPieces kept ended begun
   pub are : pieces part ≡ ended ++ begun ∷ []
 
--- For the helpers of `read_hub_head`. The pieces of the front of a program part are kept, and the last of them has begun, whatever follows.
+-- For the helpers of `read_hub_head`. The pieces of the front of a program part are kept, and the last of them has
+-- begun, whatever follows.
 pub record HoldsFront (kept : Pieces) (front : List ℕ) : Type 0 where
   pub ended : List (List ℕ)
   pub begun : List ℕ

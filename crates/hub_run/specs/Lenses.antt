@@ -1,6 +1,7 @@
 -- The lenses of the views of a program part, or why it is refused, and the line of a refusal.
 -- Read it from the end: `refusal_line`, then `lenses_of`.
-use Rattle.std.specs.Prelude.{ℕ, List, [], ◌∷◌, ◌++◌, length, Option, None, Some, Result, Ok, Err, if◌then◌else◌, nat_lt, codes, decimal}
+use Rattle.std.specs.Prelude.{ℕ, List, [], ◌∷◌, ◌++◌, length, Option, None, Some, Result, Ok, Err, if◌then◌else◌}
+use Rattle.std.specs.Prelude.{nat_lt, codes, decimal}
 use Rattle.doc_values.specs.Types.{TyTree, is_same_ty}
 use Rattle.lens_forms.specs.Forms.{FormTree, left_type}
 use Rattle.accepted_programs.specs.Program.{Refusal, lens_of}
@@ -35,14 +36,16 @@ first_left [] = None
 first_left (form ∷ forms) = Some (left_type form)
 
 -- What is found, behind forms that were found before; the first view that is refused refuses them all.
-abbrev pub then_forms : (List FormTree → Result (List FormTree) HubRefusal) → List FormTree → Result FormTree HubRefusal → Result (List FormTree) HubRefusal
+abbrev pub then_forms : (List FormTree → Result (List FormTree) HubRefusal) → List FormTree → Result FormTree HubRefusal
+    → Result (List FormTree) HubRefusal
 then_forms others before (Ok form) = others (before ++ form ∷ [])
 then_forms others before (Err refusal) = Err refusal
 
 -- the forms of the views before, and of these pieces behind them
 abbrev pub forms_from : List (List ℕ) → List FormTree → Result (List FormTree) HubRefusal
 forms_from [] before = Ok before
-forms_from (piece ∷ others) before = then_forms (forms_from others) before (form_of_view (first_left before) (length before) piece)
+forms_from (piece ∷ others) before =
+    then_forms (forms_from others) before (form_of_view (first_left before) (length before) piece)
 
 -- the lenses of these pieces, of which there are at most 64
 abbrev pub forms_of : List (List ℕ) → Result (List FormTree) HubRefusal

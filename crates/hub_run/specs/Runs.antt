@@ -1,7 +1,8 @@
--- The run of a hub over the lines of a journal, and the lines of its last state. The run over lines is `run` of line_stream, from the state
--- and the answer that are defined here.
+-- The run of a hub over the lines of a journal, and the lines of its last state. The run over lines is `run` of
+-- script_run, from the state and the answer that are defined here.
 -- Read it from the end: `IsInStep`, `first_state`, `answer`, then `state_text`.
-use Rattle.std.specs.Prelude.{◌≡◌, ℕ, ◌+◌, List, [], ◌∷◌, ◌++◌, slice_get, Option, Some, option_map, Result, Ok, Err, codes, decimal}
+use Rattle.std.specs.Prelude.{◌≡◌, ℕ, ◌+◌, List, [], ◌∷◌, ◌++◌, slice_get, Option, Some, option_map, Result, Ok, Err}
+use Rattle.std.specs.Prelude.{codes, decimal}
 use Rattle.doc_values.specs.Documents.{DocTree, unit}
 use Rattle.edit_module.specs.Words.{WordTree}
 use Rattle.edit_journal.specs.EntryJson.{LineFault}
@@ -12,7 +13,7 @@ use Rattle.lens_forms.specs.Forms.{FormTree, left_type, right_type}
 use Rattle.lens_core.specs.Complements.{CompTree}
 use Rattle.lens_core.specs.declared.lens.EditLens as OfLens
 use Rattle.answer_text.specs.Lines.{tree_line}
-use Rattle.line_stream.specs.declared.state.Answer.{Answer}
+use Rattle.script_run.specs.declared.line_answers.Answer.{Answer}
 use Rattle.view_hub.specs.Hubs as hubs
 use Rattle.view_hub.specs.Hubs.{ViewTree, HubTree, Place, CarriedTree, step, first_hub}
 use Rattle.view_hub.specs.Laws.{IsHub}
@@ -79,7 +80,8 @@ state_text t = state_lines t.forms t.hub
 
 -- the state after the item with this number, and its answer line
 abbrev pub answered : List FormTree → ℕ → HubTree × HubAnswerTree → HubState × Answer
-answered forms n s = (record { forms = forms; hub = s.0 }, record { line = answer_line n s.1; refused = is_refused s.1 })
+answered forms n s =
+    (record { forms = forms; hub = s.0 }, record { line = answer_line n s.1; refused = is_refused s.1 })
 
 -- what the item with this number makes of a state: an edit steps the hub, and any other line leaves it
 abbrev pub answer : HubState → ℕ → Line → Option (HubState × Answer)
@@ -94,7 +96,7 @@ hub_of (form ∷ forms) = first_hub form_lens form (form ∷ forms)
 abbrev pub first_state : List FormTree → HubState
 first_state forms = record { forms = forms; hub = hub_of forms }
 
--- The lenses are those of these forms, and each view's complement and document are in its lens's consistency relation with the hub's
--- document.
+-- The lenses are those of these forms, and each view's complement and document are in its lens's consistency relation
+-- with the hub's document.
 abbrev pub IsInStep : List FormTree → HubState → Type 0
 IsInStep forms t = (t.forms ≡ forms) × IsHub form_lens forms t.hub

@@ -4,16 +4,16 @@ ghost use Rattle.std.specs.Prelude.{◌≡◌, ◌<◌, ◌≤◌, ◌++◌, tru
 ghost use Rattle.lens_io.specs.Causes.{Increased};
 ghost use Rattle.edit_journal.specs.Lines.{line_of};
 ghost use Rattle.edit_journal.specs.Pieces.{nothing_fed, fed, last_line, has_no_end};
-ghost use Rattle.journal_input.specs.declared.limits.TheConstants.{PIECE_BYTES};
-ghost use Rattle.script_parts.specs.Lines.{is_separator, is_separator_line, program_part};
-ghost use Rattle.script_parts.specs.Parts.{StopsHead};
-ghost use Rattle.script_parts.specs.PartSteps.{IsProgramFront, MovesOn};
+ghost use Rattle.script_input.specs.declared.limits.TheConstants.{PIECE_BYTES};
+ghost use Rattle.script_input.specs.Lines.{is_separator, is_separator_line, program_part};
+ghost use Rattle.script_input.specs.Parts.{StopsHead};
+ghost use Rattle.script_input.specs.PartSteps.{IsProgramFront, MovesOn};
 ghost use Rattle.hub_run.specs.HubHeads.{HoldsFront, HasPieces, AddsLines, ReadsHead};
 
 use crate::pieces::Pieces;
 use edit_journal::Line;
-use journal_input::Input;
 use lens_io::{Source, TakeFault};
+use script_input::Input;
 use std::alloc::{AllocError, Global};
 
 /// The pieces of the program part of a script, as far as its input was read.
@@ -37,7 +37,8 @@ pub fn read_hub_head<S: Source>(
 ) -> Result<HubHead, TakeFault>
     requires some { 0 < length piece.old }
     requires few { length piece.old ≤ PIECE_BYTES }
-    ensures head { MatchResult result (ReadsHead S.Source source.old source.new) (StopsHead S.Source source.old source.new) }
+    ensures head { MatchResult result (ReadsHead S.Source source.old source.new)
+        (StopsHead S.Source source.old source.new) }
     ensures faults { S.faults source.old ≤ S.faults source.new }
     ensures cause { IsErrOf result TakeFault.SourceFault → Increased (S.faults source.old) (S.faults source.new) }
 {
@@ -72,7 +73,8 @@ fn add_lines(alloc: Global, program: &mut Pieces, input: &mut Input) -> Result<b
 // Adds the last line of an input, which no LF ends, unless it is the separator.
 fn add_last(alloc: Global, program: &mut Pieces, last: Option<Line>) -> Result<(), AllocError>
     ensures { IfOk result (λ _. (front rest : List ℕ) → IsProgramFront front → HoldsFront program.old front
-        → has_no_end rest ≡ true → last ≡ last_line (line_of rest) → HasPieces program.new (program_part (front ++ rest))) }
+        → has_no_end rest ≡ true → last ≡ last_line (line_of rest)
+        → HasPieces program.new (program_part (front ++ rest))) }
 {
     let Some(line) = last else {
         return Ok(());

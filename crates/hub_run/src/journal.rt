@@ -18,7 +18,8 @@ use view_hub::{Hub, HubFault, HubSide};
 
 /// The answer to a line that is not blank, which steps the hub.
 ///
-/// An edit that is refused, and a line that is not an edit, leave the hub as it was. The only error is running out of memory.
+/// An edit that is refused, and a line that is not an edit, leave the hub as it was. The only error is running out of
+/// memory.
 pub fn take_item<L: EditLens>(
     alloc: Global,
     hub: &mut Hub<L>,

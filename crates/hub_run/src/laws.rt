@@ -3,8 +3,8 @@
 
 ghost use Rattle.std.specs.Prelude.{◌≡◌, ◌++◌, ◌∷◌, [], List, ℕ, true, if◌then◌else◌};
 ghost use Rattle.edit_journal.specs.Pieces.{has_no_end};
-ghost use Rattle.script_parts.specs.Lines.{cut};
-ghost use Rattle.script_run.specs.Ends.{EveryRunStaysInStep};
+ghost use Rattle.script_input.specs.Lines.{cut};
+ghost use Rattle.script_run.specs.ScriptEnds.{EveryRunStaysInStep};
 ghost use Rattle.hub_run.specs.HubScript.{hub_script};
 ghost use Rattle.hub_run.specs.Pieces.{is_cut, pieces_from};
 
@@ -13,7 +13,8 @@ ghost use Rattle.hub_run.specs.Pieces.{is_cut, pieces_from};
 #[tactic(auto, using(crate::proofs::PieceLines::line_more))]
 pub fn pieces_come_by_lines()
     ensures { (begun text more : List ℕ) → has_no_end text ≡ true → pieces_from begun (cut (text ++ 10 ∷ more))
-        ≡ (if is_cut text then begun ∷ pieces_from [] (cut more) else pieces_from ((begun ++ text) ++ 10 ∷ []) (cut more)) }
+        ≡ (if is_cut text then begun ∷ pieces_from [] (cut more) else pieces_from ((begun ++ text) ++ 10 ∷ [])
+        (cut more)) }
 {}
 
 /// For every program part that is accepted, the run over any lines goes on to its end. In every state of it, those

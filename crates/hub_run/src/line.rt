@@ -10,7 +10,8 @@ ghost use Rattle.edit_journal.specs.Reading.{Gives};
 ghost use Rattle.edit_journal.specs.declared.fault.EntryFault;
 ghost use Rattle.view_hub.specs.Hubs.{Place};
 ghost use Rattle.view_hub.specs.Views.{place_of};
-ghost use Rattle.hub_run.specs.EditJson.{tree_of_edit, place_fits, is_hub, place_of_tree, parts_of, edit_of_tree, edit_of_text, edit_of_line};
+ghost use Rattle.hub_run.specs.EditJson.{tree_of_edit, place_fits, is_hub, place_of_tree, parts_of, edit_of_tree};
+ghost use Rattle.hub_run.specs.EditJson.{edit_of_text, edit_of_line};
 ghost use Rattle.hub_run.specs.Views.{edit_tree};
 
 use edit_journal::{EntryFault, Line, read_edit, read_tree};

@@ -6,15 +6,15 @@ ghost use Rattle.hub_run.specs.Pieces.{is_cut, is_cut_line};
 ghost use Rattle.hub_run.specs.HeldPieces.{HoldsPieces, HoldsAfter};
 
 use edit_journal::Line;
-use script_parts::ProgramText;
+use script_input::ProgramText;
 use std::alloc::{AllocError, Global};
 use std::mem;
 
 /// The most views of a hub.
 pub const MOST_VIEWS: usize = 64;
 
-/// The pieces of a program part: those that a cut has ended, and the one that has begun. Of more than `MOST_VIEWS` pieces only
-/// that there are so many is kept.
+/// The pieces of a program part: those that a cut has ended, and the one that has begun. Of more than `MOST_VIEWS`
+/// pieces only that there are so many is kept.
 #[derive(Drop)]
 pub struct Pieces {
     pub(crate) ended: Vec<ProgramText>,

@@ -2,7 +2,7 @@
 
 ghost use Rattle.std.specs.Prelude.{◌≡◌, ℕ, List, map, Some, IfOk, MatchResult};
 ghost use Rattle.lens_forms.specs.Forms.{form_tree};
-ghost use Rattle.script_run.specs.Ending.{Opens, IsNotOpened};
+ghost use Rattle.script_run.specs.ScriptSteps.{Opens, IsNotOpened};
 ghost use Rattle.view_hub.specs.Laws.{HaveOneLeftType};
 ghost use Rattle.view_hub.specs.Views.{hub_tree};
 ghost use Rattle.hub_run.specs.FormLenses.{form_lens};
@@ -21,8 +21,7 @@ use crate::views::{HubRefused, refusal_line};
 use edit_journal::Line;
 use lens_flat::Flat;
 use lens_types::Typed;
-use line_stream::Answer;
-use script_run::{NotOpened, ScriptState};
+use script_run::{Answer, NotOpened, ScriptState};
 use std::alloc::{AllocError, Global};
 use std::marker::Model;
 use texts::Bytes;

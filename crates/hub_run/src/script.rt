@@ -1,63 +1,56 @@
 //! The call over the script of a hub.
 
+ghost use Rattle.command_ends.specs.Statuses.{IsAmong, script_statuses};
 ghost use Rattle.std.specs.Prelude.{◌≡◌, ◌≤◌, IfSome, length};
 ghost use Rattle.lens_io.specs.Calls.{SourceFailed, SinkFailed};
-ghost use Rattle.journal_input.specs.declared.limits.TheConstants.{MOST_BYTES};
-ghost use Rattle.script_run.specs.Ends.{Ended, IsComplete, IsFinished, Reports, Stops};
+ghost use Rattle.script_input.specs.declared.limits.TheConstants.{MOST_BYTES};
+ghost use Rattle.script_run.specs.ScriptEnds.{Ended, IsComplete};
 ghost use Rattle.hub_run.specs.HubScript.{hub_script};
 
 use crate::head::{HubHead, read_hub_head};
 use crate::run::HubRun;
-use journal_input::piece_buffer;
+use command_ends::Status;
 use lens_io::{Sink, Source};
-use script_run::{ScriptStatus, answer_alone, answer_part};
+use script_input::piece_buffer;
+use script_run::{Stopped, answer_alone, answer_part};
 use std::alloc::Global;
 
 /// Runs the script of a hub, with its input and its output.
 ///
 /// The source is read in pieces, to its end unless something stops the call before it, and the report of what was read
 /// is written to the sink as it comes. docs/FORMATS.md says what a script is, and docs/MEANING.md what a report says.
-/// The status says how the call ended, and the clauses say what holds then:
+/// The status says how the call ended, and `ended` what holds then:
 ///
-/// - `reports`: after `Done` and `SomeRefused` the source was read to its end, the answers to the lines of the journal
-///   and the state lines were written, and in every hub of the run each view is in its lens's consistency relation with
-///   the hub.
-/// - `stops_are_clean`: what was taken from the source, at most 2^30 + 1 bytes, and written to the sink for every other
-///   status. After `SourceFault` and `InputTooLong` these are the answers to exactly the lines of the journal that have
-///   ended. After `SinkFault` and `NoMemory` all lines that had ended when the source was called last are answered.
-///   `ProgramRefused` comes only if the program part is refused, when the source has given the end of the separator, or
-///   is at its end.
-/// - `source_fault`, `sink_fault`: these statuses come only if the source, or the sink, failed.
-/// - `complete`: if neither device failed, the call comes to its end, or the program part is refused, or memory ran
-///   out.
+/// - `Done`, `SomeRefused`: the source was read to its end, the answers to the lines of the journal and the state lines
+///   were written, and in every hub of the run each view is in its lens's consistency relation with the hub.
+/// - `ProgramRefused`: the program part is whole and refused, and its line was written.
+/// - `SourceFault`, `InputTooLong`: the answers to exactly the lines of the journal that have ended were written.
+/// - `SinkFault`, `NoMemory`: when the source was called last, every line of the journal that had ended was answered.
 ///
-/// `NoMemory` comes only if memory ran out, which no clause can say.
-pub fn run_hub<S: Source, K: Sink>(alloc: Global, source: &mut S, sink: &mut K) -> ScriptStatus
-    ensures reports { IsFinished result
-        → Reports hub_script S.Source K.Sink (source.old, sink.old) (source.new, sink.new) result }
-    ensures stops_are_clean { Stops hub_script S.Source K.Sink
-        (source.old, sink.old) (source.new, sink.new) result }
-    ensures source_fault { result ≡ ScriptStatus.SourceFault
-        → SourceFailed S.Source source.old source.new }
-    ensures sink_fault { result ≡ ScriptStatus.SinkFault
-        → SinkFailed K.Sink sink.old sink.new }
-    ensures complete { IfSome (S.left source.old) (λ bytes. length bytes ≤ MOST_BYTES
-        → (SourceFailed S.Source source.old source.new → ⊥)
-        → (SinkFailed K.Sink sink.old sink.new → ⊥)
+/// No other status comes (`statuses`). `source_fault`, `sink_fault`: these come only if the source, or the sink,
+/// failed. `completes`: over at most 2^30 bytes, if neither failed, the call comes to its end, or the program part is
+/// refused, or memory ran out. `NoMemory` comes only if memory ran out, which no clause can say.
+pub fn run_hub<S: Source, K: Sink>(alloc: Global, source: &mut S, sink: &mut K) -> Status
+    ensures ended { Ended hub_script S.Source K.Sink (source.old, sink.old) (source.new, sink.new) result }
+    ensures completes { IfSome (S.left source.old) (λ bytes. length bytes ≤ MOST_BYTES
+        → (SourceFailed S.Source source.old source.new → ⊥) → (SinkFailed K.Sink sink.old sink.new → ⊥)
         → IsComplete hub_script bytes result) }
+    ensures statuses { IsAmong script_statuses result }
+    ensures source_fault { result ≡ Status.SourceFault → SourceFailed S.Source source.old source.new }
+    ensures sink_fault { result ≡ Status.SinkFault → SinkFailed K.Sink sink.old sink.new }
 {
     run_script(alloc, source, sink)
 }
 
-fn run_script<S: Source, K: Sink>(alloc: Global, source: &mut S, sink: &mut K) -> ScriptStatus
+fn run_script<S: Source, K: Sink>(alloc: Global, source: &mut S, sink: &mut K) -> Status
     ensures ended { Ended hub_script S.Source K.Sink (source.old, sink.old) (source.new, sink.new) result }
-    ensures source_fault { result ≡ ScriptStatus.SourceFault
+    ensures source_fault { result ≡ Status.SourceFault
         → SourceFailed S.Source source.old source.new }
-    ensures sink_fault { result ≡ ScriptStatus.SinkFault
+    ensures sink_fault { result ≡ Status.SinkFault
         → SinkFailed K.Sink sink.old sink.new }
 {
     let Ok(mut piece) = piece_buffer(alloc) else {
-        return ScriptStatus::NoMemory;
+        return Status::NoMemory;
     };
     match read_hub_head(alloc, source, &mut piece) {
         Ok(HubHead::Whole(pieces)) => answer_alone(alloc, HubRun::open(alloc, &pieces), sink),
@@ -65,6 +58,6 @@ fn run_script<S: Source, K: Sink>(alloc: Global, source: &mut S, sink: &mut K) -
             let opened = HubRun::open(alloc, &pieces);
             answer_part(alloc, opened, input, source, &mut piece, sink)
         }
-        Err(fault) => ScriptStatus::of_fault(fault),
+        Err(fault) => Stopped::at_piece(fault).status(),
     }
 }

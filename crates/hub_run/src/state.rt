@@ -18,7 +18,8 @@ use std::alloc::{AllocError, Global};
 use texts::Bytes;
 use view_hub::Hub;
 
-/// `hub JSON` and a line feed: the document of a hub, which has the left type of the form. The only error is running out of memory.
+/// `hub JSON` and a line feed: the document of a hub, which has the left type of the form. The only error is running
+/// out of memory.
 pub fn hub_line(alloc: Global, typed: &Typed, hub: &Doc) -> Result<Bytes, AllocError>
     requires has_type { IsTrue (has (left_type (form_tree typed.now)) (doc_tree hub.now)) }
     ensures line { IfOk result (λ line. line ≡ hub_line (form_tree typed.now) (doc_tree hub.now)) }
@@ -26,9 +27,11 @@ pub fn hub_line(alloc: Global, typed: &Typed, hub: &Doc) -> Result<Bytes, AllocE
     document_line(alloc, "hub", typed.left(), hub)
 }
 
-/// `view V JSON` and `complement V JSON`, each with a line feed: the document and the complement of the view with this number.
+/// `view V JSON` and `complement V JSON`, each with a line feed: the document and the complement of the view with this
+/// number.
 ///
-/// The document has the right type of the form, and the complement fits the form. The only error is running out of memory.
+/// The document has the right type of the form, and the complement fits the form. The only error is running out of
+/// memory.
 pub fn lines_of_view(
     alloc: Global,
     number: u64,

@@ -1,16 +1,18 @@
 //! The lenses of the views, or why a program part is refused.
 
-ghost use Rattle.std.specs.Prelude.{◌≡◌, ◌≢◌, ◌++◌, ◌∷◌, [], List, ℕ, IfOk, IfErr, MatchResult, Option, Result, Ok, Err, codes, length, map};
+ghost use Rattle.std.specs.Prelude.{◌≡◌, ◌≢◌, ◌++◌, ◌∷◌, [], List, ℕ, IfOk, IfErr, MatchResult, Option, Result, Ok};
+ghost use Rattle.std.specs.Prelude.{Err, codes, length, map};
 ghost use Rattle.doc_values.specs.Types.{TyTree};
 ghost use Rattle.lens_forms.specs.Forms.{FormTree, form_tree};
 ghost use Rattle.view_hub.specs.Laws.{HaveOneLeftType};
 ghost use Rattle.accepted_programs.specs.Refused.{IsKnown, IsRefusal};
 ghost use Rattle.accepted_programs.specs.Program.{Refusal};
 ghost use Rattle.answer_text.specs.Lines.{program_refused_line};
-ghost use Rattle.script_parts.specs.Parts.{HoldsPart};
+ghost use Rattle.script_input.specs.Parts.{HoldsPart};
 ghost use Rattle.hub_run.specs.HeldPieces.{HoldsPieces};
 ghost use Rattle.answer_text.specs.RefusalLines.{reason};
-ghost use Rattle.hub_run.specs.Lenses.{HubRefusal, view_with, with_left, form_of_view, first_left, forms_of, view_reason, refusal_line, views_differ};
+ghost use Rattle.hub_run.specs.Lenses.{HubRefusal, view_with, with_left, form_of_view, first_left, forms_of};
+ghost use Rattle.hub_run.specs.Lenses.{view_reason, refusal_line, views_differ};
 ghost use Rattle.hub_run.specs.FormLenses.{form_lens};
 ghost use Rattle.hub_run.specs.FoundLenses.{IsRefusalOf, IsRefused, HasRefusalLine, HasLeft};
 
@@ -18,7 +20,7 @@ use crate::pieces::Pieces;
 use accepted_programs::Refused;
 use answer_text::{program_refused_line, refused_part_line};
 use lens_types::Typed;
-use script_parts::ProgramText;
+use script_input::ProgramText;
 use std::alloc::{AllocError, AllocFailed, Global};
 use texts::Bytes;
 
@@ -61,16 +63,18 @@ impl<T: Drop> From<AllocFailed<T>> for HubRefused {
 }
 
 impl Pieces {
-    /// The lenses of the views, one for each piece, or why the program part is refused. It is refused by the first of these:
+    /// The lenses of the views, one for each piece, or why the program part is refused. It is refused by the first of
+    /// these:
     ///
     /// - `TooManyViews`: if and only if there are more than 64 pieces.
-    /// - Then, for each piece in order, `InView`: if and only if its program is refused, with the number of the view and the cause
-    ///   that `read_lens` of accepted_programs has; a piece of more than 65,536 bytes is too long.
+    /// - Then, for each piece in order, `InView`: if and only if its program is refused, with the number of the view
+    ///   and the cause that `read_lens` of accepted_programs has; a piece of more than 65,536 bytes is too long.
     /// - For the same piece after that, `ViewsDiffer`: if and only if its left type is not the same as view 0's.
     ///
     /// `NoMemory` says nothing of the program part.
     pub fn lenses(&self, alloc: Global) -> Result<Vec<Typed>, HubRefused>
-        ensures lenses { (ended : List (List ℕ)) (begun : List ℕ) → HoldsPieces self.now ended begun → MatchResult result
+        ensures lenses { (ended : List (List ℕ)) (begun : List ℕ) → HoldsPieces self.now ended begun
+            → MatchResult result
             (λ lenses. forms_of (ended ++ begun ∷ []) ≡ Ok (map form_tree lenses.items))
             (λ refused. IsRefused (forms_of (ended ++ begun ∷ [])) refused) }
         ensures one_left { IfOk result (λ lenses.
@@ -91,8 +95,8 @@ impl Pieces {
     }
 }
 
-/// The lens of the view behind those that were found before, with the number that they are, or why it is refused. It is refused by
-/// the first of these:
+/// The lens of the view behind those that were found before, with the number that they are, or why it is refused. It is
+/// refused by the first of these:
 ///
 /// - `InView`: if and only if its program is refused, with the number of the view and the cause that `read_lens` of
 ///   accepted_programs has; a piece of more than 65,536 bytes is too long.
@@ -129,8 +133,10 @@ fn refused_view(number: u64, refused: Refused) -> HubRefused
 // The lens, if its left type is that of the first.
 fn with_left(before: &[Typed], lens: Typed) -> Result<Typed, HubRefused>
     ensures lens { MatchResult result
-        (λ same. with_left (first_left (map form_tree before.now)) (length before.now) (form_tree lens) ≡ Ok (form_tree same))
-        (λ refused. IsRefused (with_left (first_left (map form_tree before.now)) (length before.now) (form_tree lens)) refused) }
+        (λ same. with_left (first_left (map form_tree before.now)) (length before.now) (form_tree lens)
+        ≡ Ok (form_tree same))
+        (λ refused. IsRefused (with_left (first_left (map form_tree before.now)) (length before.now)
+        (form_tree lens)) refused) }
     ensures same_left { IfOk result (λ same. HasLeft (first_left (map form_tree before.now)) (form_tree same)) }
     ensures known { IfErr result HasRefusalLine }
 {
@@ -140,13 +146,16 @@ fn with_left(before: &[Typed], lens: Typed) -> Result<Typed, HubRefused>
     Ok(lens)
 }
 
-/// `program refused: too-many-views`, `program refused: view V REASON` or `program refused: views-differ V`, and a line feed.
+/// `program refused: too-many-views`, `program refused: view V REASON` or `program refused: views-differ V`, and a line
+/// feed.
 ///
-/// REASON is that of the same refusal of a program that stands alone. Running out of memory is not a refusal, and the only error.
+/// REASON is that of the same refusal of a program that stands alone. Running out of memory is not a refusal, and the
+/// only error.
 pub fn refusal_line(alloc: Global, refused: &HubRefused) -> Result<Bytes, AllocError>
     requires has_line { HasRefusalLine refused.now }
     ensures refusal { IfOk result (λ _. refused.now ≢ HubRefused.NoMemory) }
-    ensures line { IfOk result (λ line. (refusal : HubRefusal) → IsRefusalOf refused.now refusal → line ≡ refusal_line refusal) }
+    ensures line { IfOk result (λ line. (refusal : HubRefusal) → IsRefusalOf refused.now refusal → line
+        ≡ refusal_line refusal) }
 {
     match refused {
         HubRefused::TooManyViews => program_refused_line(alloc, "too-many-views"),

@@ -8,8 +8,8 @@ use Rattle.edit_session.specs.Run.{take_item, last}
 use Rattle.edit_session.specs.Sessions.{SessionOf}
 use Rattle.edit_session.specs.Step.{TripleTree}
 use Rattle.edit_session.specs.Views.{triple_tree}
-use Rattle.journal_answers.specs.Answers.{answer_line, answer_lines, state_lines}
-use Rattle.journal_answers.specs.Runs.{JournalItem, JournalAnswer, items_of, run_from, first_of}
+use Rattle.pair_answers.specs.Answers.{answer_line, answer_lines, state_lines}
+use Rattle.pair_answers.specs.ItemRuns.{JournalItem, JournalAnswer, items_of, run_from, first_of}
 use Rattle.lens_core.specs.Translation.{translate}
 use Rattle.lens_flat.specs.declared.flat.ReadyForm.{ReadyForm}
 use Rattle.lens_forms.specs.Forms.{FormTree, form_tree, left_type, right_type}

@@ -10,7 +10,7 @@ use Rattle.lens_forms.specs.Forms.{FormTree}
 use Rattle.lens_forms.specs.Measures.{form_height}
 use Rattle.lens_forms.specs.declared.limits.TheConstants.{GREATEST_HEIGHT}
 use Rattle.complement_file.specs.ComplementJson.{tree_of_complement}
-use Rattle.stored_records.proofs.ComplementDepths.{low}
+use Rattle.store_records.proofs.ComplementDepths.{low}
 use Rattle.value_json.proofs.TreeDepths.{shallow}
 use Rattle.value_json.specs.DocumentJson.{tree_of_document, holds_i64s}
 use Rattle.kept_sessions.specs.States.{IsTextOf, IsWrittenDocument}

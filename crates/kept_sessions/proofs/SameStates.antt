@@ -10,7 +10,7 @@ use Rattle.doc_values.specs.Types.{TyTree}
 use Rattle.edit_journal.specs.EntryJson.{tree_of_text}
 use Rattle.edit_session.specs.Step.{TripleTree}
 use Rattle.edit_session.specs.Views.{triple_tree}
-use Rattle.journal_answers.specs.Runs.{IsInStepFor}
+use Rattle.pair_answers.specs.ItemRuns.{IsInStepFor}
 use Rattle.lens_core.specs.Complements.{CompTree}
 use Rattle.lens_forms.specs.Forms.{FormTree, left_type, right_type}
 use Rattle.lens_forms.specs.Typing.{is_typed}

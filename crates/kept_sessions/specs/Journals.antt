@@ -4,8 +4,8 @@ use Rattle.accepted_programs.specs.Program.{lens_of}
 use Rattle.edit_journal.specs.Lines.{line_of}
 use Rattle.edit_session.specs.Step.{TripleTree}
 use Rattle.edit_session.specs.Views.{triple_tree}
-use Rattle.journal_answers.specs.Answers.{text_from}
-use Rattle.journal_answers.specs.Runs.{JournalAnswer, items_of, run_of, first_of}
+use Rattle.pair_answers.specs.Answers.{text_from}
+use Rattle.pair_answers.specs.ItemRuns.{JournalAnswer, items_of, run_of, first_of}
 use Rattle.lens_forms.specs.Forms.{FormTree}
 use Rattle.kept_sessions.specs.Kept.{IsStepped, text_of}
 use Rattle.kept_sessions.specs.Steps.{form_of}

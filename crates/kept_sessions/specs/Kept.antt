@@ -5,7 +5,7 @@ use Rattle.accepted_programs.specs.Refused.{IsRefusal}
 use Rattle.accepted_programs.specs.declared.program.Refused.{Refused}
 use Rattle.answer_text.specs.RefusalLines.{IsLineOf}
 use Rattle.edit_session.specs.Views.{triple_tree}
-use Rattle.journal_answers.specs.Runs.{IsInStepFor, first_of}
+use Rattle.pair_answers.specs.ItemRuns.{IsInStepFor, first_of}
 use Rattle.lens_forms.specs.Forms.{FormTree}
 use Rattle.kept_sessions.specs.States.{IsStateText, IsStateFault, IsPartText}
 use Rattle.kept_sessions.specs.Steps.{form_of, has_line_feed, IsLineStep, IsAsBefore}

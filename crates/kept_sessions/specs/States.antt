@@ -13,8 +13,8 @@ use Rattle.lens_core.specs.Complements.{CompTree, Fits}
 use Rattle.complement_file.specs.ComplementJson.{tree_of_complement}
 use Rattle.program_writing.specs.Canonical.{canonical_type}
 use Rattle.edit_session.specs.Step.{TripleTree}
-use Rattle.journal_answers.specs.Answers.{state_lines}
-use Rattle.journal_answers.specs.Runs.{IsInStepFor}
+use Rattle.pair_answers.specs.Answers.{state_lines}
+use Rattle.pair_answers.specs.ItemRuns.{IsInStepFor}
 use Rattle.kept_sessions.specs.declared.outcome.Part.{Part}
 use Rattle.kept_sessions.specs.declared.outcome.Part.TheVariants as part
 use Rattle.kept_sessions.specs.declared.outcome.StateFault.{StateFault}

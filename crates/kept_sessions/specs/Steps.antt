@@ -9,8 +9,8 @@ use Rattle.edit_journal.specs.declared.line.Line.{Line}
 use Rattle.edit_session.specs.Run.{take_item, carried, no_apply, group_carried, group_no_apply, no_entry}
 use Rattle.edit_session.specs.Sessions.{SessionOf}
 use Rattle.edit_session.specs.Views.{triple_tree}
-use Rattle.journal_answers.specs.Answers.{answer_line}
-use Rattle.journal_answers.specs.Runs.{JournalAnswer}
+use Rattle.pair_answers.specs.Answers.{answer_line}
+use Rattle.pair_answers.specs.ItemRuns.{JournalAnswer}
 use Rattle.lens_core.specs.Translation.{translate}
 use Rattle.lens_flat.specs.declared.flat.ReadyForm.{ReadyForm}
 use Rattle.lens_forms.specs.Forms.{FormTree, form_tree, left_type, right_type}

@@ -3,7 +3,7 @@ ghost use Rattle.std.specs.Prelude.{◌≡◌, ◌++◌, ℕ, List, Ok};
 ghost use Rattle.accepted_programs.specs.Program.{lens_of};
 ghost use Rattle.edit_session.specs.Step.{TripleTree};
 ghost use Rattle.edit_session.specs.Views.{triple_tree};
-ghost use Rattle.journal_answers.specs.Runs.{IsInStepFor};
+ghost use Rattle.pair_answers.specs.ItemRuns.{IsInStepFor};
 ghost use Rattle.lens_forms.specs.Forms.{FormTree};
 ghost use Rattle.kept_sessions.specs.Journals.{IsGiven, IsReported, IsSameState};
 ghost use Rattle.kept_sessions.specs.Kept.{IsOpened, IsResumed, IsShown, text_of};

@@ -3,7 +3,7 @@ ghost use Rattle.std.specs.Prelude.{◌≡◌, List, ℕ, IfOk, Ok};
 ghost use Rattle.accepted_programs.specs.Program.{lens_of};
 ghost use Rattle.accepted_programs.specs.Refused.{IsKnown, IsRefusal};
 ghost use Rattle.edit_session.specs.Views.{triple_tree};
-ghost use Rattle.journal_answers.specs.Runs.{first_of};
+ghost use Rattle.pair_answers.specs.ItemRuns.{first_of};
 ghost use Rattle.lens_forms.specs.Forms.{form_tree};
 ghost use Rattle.kept_sessions.specs.Kept.{IsOpened, IsRefusedProgram};
 

@@ -1,12 +1,12 @@
 //! How a call ends, what can be shown, and why a state is refused.
 ghost use Rattle.std.specs.Prelude.{◌≡◌, IfSome};
-ghost use Rattle.journal_answers.specs.AnswerLines.{HasAnswerLine};
-ghost use Rattle.journal_answers.specs.Views.{answer_tree};
+ghost use Rattle.pair_answers.specs.AnswerLines.{HasAnswerLine};
+ghost use Rattle.pair_answers.specs.ItemViews.{answer_tree};
 ghost use Rattle.kept_sessions.specs.Steps.{outcome_of};
 
 use edit_journal::EntryFault;
 use edit_module::Cause;
-use journal_answers::Answer;
+use pair_answers::Answer;
 use std::alloc::{AllocError, AllocFailed};
 
 /// How a call ended.

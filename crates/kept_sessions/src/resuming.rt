@@ -5,7 +5,7 @@ ghost use Rattle.accepted_programs.specs.Program.{lens_of};
 ghost use Rattle.doc_values.specs.Documents.{DocTree, doc_tree};
 ghost use Rattle.doc_values.specs.Types.{ty_tree};
 ghost use Rattle.edit_session.specs.Views.{triple_tree};
-ghost use Rattle.journal_answers.specs.Runs.{IsInStepFor};
+ghost use Rattle.pair_answers.specs.ItemRuns.{IsInStepFor};
 ghost use Rattle.lens_core.specs.Complements.{CompTree, comp_tree};
 ghost use Rattle.lens_forms.specs.Forms.{form_tree};
 ghost use Rattle.kept_sessions.specs.Kept.{IsResumed};
@@ -25,7 +25,7 @@ use lens_flat::Flat;
 use lens_types::Typed;
 use serde_json::Value;
 use std::alloc::{AllocError, Global};
-use stored_records::read_tree;
+use store_records::read_tree;
 use value_json::{DocFault, read_doc};
 
 // The session over a program that goes on from the state of these texts, or why there is none.

@@ -1,7 +1,7 @@
 //! A session with the number of its last item and the text that answers the last call.
 ghost use Rattle.std.specs.Prelude.{◌≡◌, ◌+◌, ◌^◌, ◌<◌, [], IfOk, OnOk, OnErr};
 ghost use Rattle.edit_session.specs.Views.{triple_tree};
-ghost use Rattle.journal_answers.specs.Runs.{IsInStepFor};
+ghost use Rattle.pair_answers.specs.ItemRuns.{IsInStepFor};
 ghost use Rattle.kept_sessions.specs.States.{IsPartText};
 ghost use Rattle.kept_sessions.specs.Steps.{session_form, form_of, Answers, IsLineStep, IsAsBefore};
 
@@ -9,8 +9,8 @@ use crate::outcome::{Outcome, Part, outcome_of};
 use crate::parts::part_text;
 use edit_journal::{Line, is_blank};
 use edit_session::{Session, Triple};
-use journal_answers::{answer_line, take_item};
 use lens_flat::Flat;
+use pair_answers::{answer_line, take_item};
 use std::alloc::{AllocError, Global};
 use texts::Twin;
 

@@ -11,7 +11,7 @@ use Rattle.lens_core.specs.LensOf.{IsLensOf}
 use Rattle.lens_core.specs.Translation.{Translated, translate}
 use Rattle.edit_session.specs.Step.{TripleTree, IsInStep}
 use Rattle.value_json.proofs.Facts.{map_some}
-use Rattle.journal_answers.proofs.InStep.{in_step_fits}
+use Rattle.pair_answers.proofs.InStep.{in_step_fits}
 use Rattle.turn_link.specs.Sites.{LeftTree, RightTree}
 use Rattle.turn_link.specs.Links.{LinkTree, triple_at, left_of, right_of}
 use Rattle.turn_link.specs.Laws.{IsLinked, AreSites}

@@ -12,8 +12,8 @@ use Rattle.lens_core.specs.Sides.{near}
 use Rattle.lens_core.specs.Translation.{Translated}
 use Rattle.edit_session.specs.Step.{TripleTree, Stepped, document_on, step}
 use Rattle.value_json.proofs.Facts.{bind_some, map_some}
-use Rattle.journal_answers.proofs.ActingCounts.{acting_fits}
-use Rattle.journal_answers.proofs.StepCounts.{carried_fits}
+use Rattle.pair_answers.proofs.ActingCounts.{acting_fits}
+use Rattle.pair_answers.proofs.StepCounts.{carried_fits}
 use Rattle.turn_link.specs.declared.event.Told.{Told}
 use Rattle.turn_link.specs.declared.event.Told.TheVariants.{Draft, Sealed, Packet, Taken, Stale, Restarted}
 use Rattle.turn_link.specs.Turns.{BatchTree, Refusal, not_turn, last_number, no_batch, is_even, is_turn, last_made}

@@ -11,7 +11,8 @@ use Rattle.complement_file.specs.ComplementJson.{tree_of_complement}
 use Rattle.edit_json.specs.WordJson.{tree_of_word}
 use Rattle.edit_session.specs.Step.{TripleTree}
 use Rattle.answer_text.specs.Lines.{no_apply_line, tree_line}
-use Rattle.turn_link.specs.Turns.{Refusal, not_turn, no_apply, last_number, unfit, ahead, bad_batch, no_batch, no_packet}
+use Rattle.turn_link.specs.Turns.{Refusal, not_turn, no_apply, last_number, unfit, ahead, bad_batch, no_batch}
+use Rattle.turn_link.specs.Turns.{no_packet}
 use Rattle.turn_link.specs.Links.{ToldTree, told_draft, sealed, packet, taken, stale, restarted, LinkTree, triple_at}
 use Rattle.link_run.specs.EventJson.{EventCause, line_too_long, not_json, not_an_event, not_an_edit}
 use Rattle.link_run.specs.Items.{AnswerTree, told, refused, no_event}
@@ -29,14 +30,15 @@ refused_line n text = codes "refused " ++ decimal n ++ codes " " ++ text ++ code
 -- `ok N draft`, `ok N batch K WORD`, `ok N packet P`, `ok N taken K`, `ok N stale K` and `ok N restart`
 abbrev pub told_line : ℕ → ToldTree → List ℕ
 told_line n told_draft = accepted_line n (codes "draft")
-told_line n (sealed b) = accepted_line n (codes "batch " ++ decimal b.number ++ codes " " ++ compact_text (tree_of_word b.word))
+told_line n (sealed b) =
+    accepted_line n (codes "batch " ++ decimal b.number ++ codes " " ++ compact_text (tree_of_word b.word))
 told_line n (packet p) = accepted_line n (codes "packet " ++ decimal p)
 told_line n (taken k) = accepted_line n (codes "taken " ++ decimal k)
 told_line n (stale k) = accepted_line n (codes "stale " ++ decimal k)
 told_line n restarted = accepted_line n (codes "restart")
 
--- `refused N not-turn K`, `refused N no-apply AT CAUSE`, `refused N last-number`, `refused N no-batch` and `refused N no-packet COUNT`.
--- The last three are refusals of a site alone, and no event of a link is refused so.
+-- `refused N not-turn K`, `refused N no-apply AT CAUSE`, `refused N last-number`, `refused N no-batch` and
+-- `refused N no-packet COUNT`. The last three are refusals of a site alone, and no event of a link is refused so.
 abbrev pub refusal_line : ℕ → Refusal → List ℕ
 refusal_line n (not_turn k) = refused_line n (codes "not-turn " ++ decimal k)
 refusal_line n (no_apply at cause) = no_apply_line n at cause
@@ -78,8 +80,9 @@ shown_lines form x y c a b =
 abbrev pub triple_of : FormTree → LinkTree → ℕ → Option TripleTree
 triple_of form s k = triple_at (left_type form) (right_type form) (missing form) (translate form) s.made k
 
--- the state lines of a link: the left document and the complement that its left site shows, and the right document that its right
--- site shows
+-- the state lines of a link: the left document and the complement that its left site shows, and the right document that
+-- its right site shows
 abbrev pub state_lines : FormTree → LinkTree → Option (List ℕ)
 state_lines form s =
-    option_and_then (λ t. option_map (λ u. shown_lines form t.left u.right t.comp s.left_number s.right_number) (triple_of form s s.right_number)) (triple_of form s s.left_number)
+    option_and_then (λ t. option_map (λ u. shown_lines form t.left u.right t.comp s.left_number s.right_number)
+    (triple_of form s s.right_number)) (triple_of form s s.left_number)

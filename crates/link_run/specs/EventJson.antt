@@ -1,6 +1,7 @@
 -- Events of a link as JSON: the tree of an event, and the event that a tree, a text and a line are.
 -- From the end: `event_of_line`, `event_of_text`, `event_of_tree`, and the other way `tree_of_event`.
-use Rattle.std.specs.Prelude.{ℕ, Bool, true, List, Option, Some, None, option_map, option_and_then, Result, Err, if◌then◌else◌, codes, bytes_eq, ok_or}
+use Rattle.std.specs.Prelude.{ℕ, Bool, true, List, Option, Some, None, option_map, option_and_then, Result, Err}
+use Rattle.std.specs.Prelude.{if◌then◌else◌, codes, bytes_eq, ok_or}
 use Rattle.serde_json.specs.Data.{Data, string, array, object, no_items, item, no_members, member}
 use Rattle.texts.specs.declared.side.Side.{Side}
 use Rattle.value_json.specs.Numbers.{count_of, count_tree}
@@ -25,7 +26,8 @@ tree_of_side side = string (side_text side)
 
 -- `{"edit":[SIDE,WORD]}`, `{"seal":SIDE}`, `{"send":SIDE}`, `{"deliver":P}` and `{"restart":SIDE}`
 abbrev pub tree_of_event : EventTree → Data
-tree_of_event (edit side w) = one_member (codes "edit") (array (item (tree_of_side side) (item (tree_of_word w) no_items)))
+tree_of_event (edit side w) =
+    one_member (codes "edit") (array (item (tree_of_side side) (item (tree_of_word w) no_items)))
 tree_of_event (seal side) = one_member (codes "seal") (tree_of_side side)
 tree_of_event (send side) = one_member (codes "send") (tree_of_side side)
 tree_of_event (deliver p) = one_member (codes "deliver") (count_tree p)
@@ -44,8 +46,8 @@ event_numbers_fit _ = true
 
 -- ---- the event that a tree is
 
--- why a line is not an event, in the order in which it is tested: it is too long, its text is not JSON, its tree has not the form of an
--- event, the edit in it is not a word
+-- why a line is not an event, in the order in which it is tested: it is too long, its text is not JSON, its tree has
+-- not the form of an event, the edit in it is not a word
 pub data EventCause : Type 0 where
   line_too_long : EventCause
   not_json : EventCause

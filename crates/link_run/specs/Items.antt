@@ -1,5 +1,5 @@
--- What an item of a script makes of a link. A lens comes as its two types, its first complement and its translation of words.
--- Read it from the end: `take_item`, `AnswerTree`, then `ScriptItem`.
+-- What an item of a script makes of a link. A lens comes as its two types, its first complement and its translation of
+-- words. Read it from the end: `take_item`, `AnswerTree`, then `ScriptItem`.
 use Rattle.std.specs.Prelude.{Bool, true, false, Option, Some, option_map, Result, Ok, Err}
 use Rattle.texts.specs.declared.side.Side.{Side}
 use Rattle.doc_values.specs.Types.{TyTree}
@@ -31,7 +31,8 @@ abbrev pub answered : LinkTree → Result (LinkTree × ToldTree) Refusal → Lin
 answered s (Ok r) = (r.0, told r.1)
 answered s (Err why) = (s, refused why)
 
-module _ (left : TyTree) (right : TyTree) (start : CompTree) (carried : Side → CompTree → WordTree → Option Translated) where
+module _ (left : TyTree) (right : TyTree) (start : CompTree)
+    (carried : Side → CompTree → WordTree → Option Translated) where
   -- an event happens to the link; a line that is not an event leaves the link as it was, and its fault is the answer
   abbrev pub take_item : LinkTree → ScriptItem → Option (LinkTree × AnswerTree)
   take_item s (Ok event) = option_map (answered s) (happens left right start carried s event)

@@ -2,7 +2,7 @@
 use Rattle.lens_forms.specs.Forms.{FormTree}
 use Rattle.accepted_programs.specs.Program.{Refusal, lens_of}
 use Rattle.turn_link.specs.Links.{LinkTree}
-use Rattle.script_run.specs.declared.state.ScriptState as OfScript
+use Rattle.script_run.specs.declared.script_state.ScriptState as OfScript
 use Rattle.answer_text.specs.RefusalLines.{refused_part_line}
 use Rattle.link_run.specs.Runs.{first_link, line_answer, state_of, state_text, IsInTurnsWith}
 use Rattle.link_run.specs.declared.script.LinkRun.{LinkRun}

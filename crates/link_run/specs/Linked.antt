@@ -10,9 +10,11 @@ module _ {L : Type 0} (lens : OfLens.Ghosts L) where
   -- the link is in turns, each of its entries acted and was carried, and each draft acts
   abbrev pub IsLinkedOf : LinkOf L → Type 0
   IsLinkedOf s =
-      IsLinked (lens.holds s.left.lens) (lens.left_type s.left.lens) (lens.right_type s.left.lens) (lens.start s.left.lens) (lens.carried s.left.lens) (link_tree s)
+      IsLinked (lens.holds s.left.lens) (lens.left_type s.left.lens) (lens.right_type s.left.lens)
+      (lens.start s.left.lens) (lens.carried s.left.lens) (link_tree s)
 
   -- the link after an item, and the answer to it
   abbrev pub take_item_of : LinkOf L → ScriptItem → Option (LinkTree × AnswerTree)
   take_item_of s item =
-      take_item (lens.left_type s.left.lens) (lens.right_type s.left.lens) (lens.start s.left.lens) (lens.carried s.left.lens) (link_tree s) item
+      take_item (lens.left_type s.left.lens) (lens.right_type s.left.lens) (lens.start s.left.lens)
+      (lens.carried s.left.lens) (link_tree s) item

@@ -1,6 +1,6 @@
--- The run of the command `link` over the lines of a script: its first link, what a line makes of a link, what is written of the last one,
--- and what holds of every link of a run. A state of the run is a link with the form of its lens.
--- Read it from the end: `IsInTurnsWith`, `state_text`, `line_answer`, then `first_link`.
+-- The run of the command `link` over the lines of a script: its first link, what a line makes of a link, what is
+-- written of the last one, and what holds of every link of a run. A state of the run is a link with the form of its
+-- lens. Read it from the end: `IsInTurnsWith`, `state_text`, `line_answer`, then `first_link`.
 use Rattle.std.specs.Prelude.{◌≡◌, ℕ, List, [], Option, None, Some, option_map}
 use Rattle.edit_journal.specs.declared.line.Line.{Line}
 use Rattle.lens_forms.specs.Forms.{FormTree, left_type, right_type, form_tree}
@@ -8,7 +8,7 @@ use Rattle.lens_core.specs.Complements.{missing}
 use Rattle.lens_core.specs.Consistency.{IsConsistent}
 use Rattle.lens_core.specs.Translation.{translate}
 use Rattle.lens_flat.specs.declared.flat.ReadyForm.{ReadyForm}
-use Rattle.line_stream.specs.declared.state.Answer.{Answer}
+use Rattle.script_run.specs.declared.line_answers.Answer.{Answer}
 use Rattle.turn_link.specs.Links.{LinkTree, link_start}
 use Rattle.turn_link.specs.Laws.{IsLinked}
 use Rattle.turn_link.specs.LinkViews.{LinkOf, link_tree}
@@ -26,7 +26,9 @@ numbered form n step = ((form, step.0), record { line = answer_line n step.1; re
 
 -- what the item with this number makes of a link: the event of the line happens to it, or the line is refused
 abbrev pub line_answer : FormTree × LinkTree → ℕ → Line → Option ((FormTree × LinkTree) × Answer)
-line_answer s n line = option_map (numbered s.0 n) (take_item (left_type s.0) (right_type s.0) (missing s.0) (translate s.0) s.1 (event_of_line line))
+line_answer s n line =
+    option_map (numbered s.0 n) (take_item (left_type s.0) (right_type s.0) (missing s.0) (translate s.0) s.1
+    (event_of_line line))
 
 abbrev pub text_or_none : Option (List ℕ) → List ℕ
 text_or_none (Some text) = text

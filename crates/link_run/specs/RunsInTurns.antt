@@ -1,5 +1,5 @@
--- Every run of a script goes on to its end, and each of its links is in turns and has state lines. All are lemmas, and stand here since the
--- laws of an `impl` cite them.
+-- Every run of a script goes on to its end, and each of its links is in turns and has state lines. All are lemmas, and
+-- stand here since the laws of an `impl` cite them.
 use Rattle.std.proofs.Common.{◌≡◌, ℕ, true, false, Some, option_map, Result, Ok, Err, refl, sym, ap, ap₂, subst}
 use Rattle.std.specs.Prelude.{option_and_then}
 use Rattle.texts.specs.declared.side.Side.TheVariants.{Left, Right}
@@ -12,9 +12,9 @@ use Rattle.lens_core.specs.Complements.{missing}
 use Rattle.lens_core.specs.Consistency.{IsConsistent}
 use Rattle.lens_core.specs.Translation.{translate}
 use Rattle.form_steps.specs.LawsOfForms.{form_starts, form_edits}
-use Rattle.line_stream.specs.declared.state.Answer.{Answer}
+use Rattle.script_run.specs.declared.line_answers.Answer.{Answer}
 use Rattle.accepted_programs.proofs.AcceptedForms.{accepted_typed}
-use Rattle.script_run.specs.Ends.{EveryRunStaysInStep}
+use Rattle.script_run.specs.ScriptEnds.{EveryRunStaysInStep}
 use Rattle.script_run.proofs.StepsStay.{every_run as every_step}
 use Rattle.turn_link.specs.Turns.{Refusal}
 use Rattle.turn_link.specs.Links.{ToldTree, LinkTree, link_start, link_after}
@@ -40,7 +40,9 @@ module _ (form : FormTree) where
         lens = refl;
         linked = k;
         text = shown_lines form near.left far.right near.comp s.left_number s.right_number;
-        shown = ap₂ (λ o p. option_and_then (λ (t : TripleTree). option_map (λ (u : TripleTree). shown_lines form t.left u.right t.comp s.left_number s.right_number) p) o)
+        shown =
+            ap₂ (λ o p. option_and_then (λ (t : TripleTree). option_map
+            (λ (u : TripleTree). shown_lines form t.left u.right t.comp s.left_number s.right_number) p) o)
             k.left_draft.at_number k.right_draft.at_number;
       }
 
@@ -49,12 +51,14 @@ module _ (form : FormTree) where
     abbrev StepsOn : LinkTree → ℕ → ScriptItem → FormTree → Type 0
     StepsOn s n item f =
         (r : (FormTree × LinkTree) × Answer)
-        × (option_map (numbered f n) (take_item (left_type f) (right_type f) (missing f) (translate f) s item) ≡ Some r) × IsInTurnsWith form r.0
+        × (option_map (numbered f n) (take_item (left_type f) (right_type f) (missing f) (translate f) s item) ≡ Some r)
+        × IsInTurnsWith form r.0
 
     steps_on : (s : LinkTree) (n : ℕ) (item : ScriptItem) → IsLinkOf form s → StepsOn s n item form
     steps_on s n (Err cause) k = (numbered form n (s, no_event cause), refl, linked_kept s k)
     steps_on s n (Ok e) k =
-        let g = goes_on (IsConsistent form) (left_type form) (right_type form) (missing form) (translate form) (form_edits form typed Left) (form_edits form typed Right) s k e in
+        let g = goes_on (IsConsistent form) (left_type form) (right_type form) (missing form) (translate form)
+        (form_edits form typed Left) (form_edits form typed Right) s k e in
         let next = answered s g.0 in (
           numbered form n next,
           ap (λ o. option_map (numbered form n) (option_map (answered s) o)) g.1,
@@ -63,10 +67,13 @@ module _ (form : FormTree) where
 
     steps_stay : (t : FormTree × LinkTree) (n : ℕ) (line : Line) → is_blank line ≡ false → IsInTurnsWith form t
         → (r : (FormTree × LinkTree) × Answer) × (line_answer t n line ≡ Some r) × IsInTurnsWith form r.0
-    steps_stay t n line not_blank k = subst (StepsOn t.1 n (event_of_line line)) (sym k.lens) (steps_on t.1 n (event_of_line line) k.linked)
+    steps_stay t n line not_blank k =
+        subst (StepsOn t.1 n (event_of_line line)) (sym k.lens) (steps_on t.1 n (event_of_line line) k.linked)
 
 pub every_run : EveryRunStaysInStep link_script
 every_run part form accepted lines =
     let typed = accepted_typed part form accepted in
-    let k = start_linked (IsConsistent form) (left_type form) (right_type form) (missing form) (translate form) (form_starts form typed) in
-    every_step line_answer (IsInTurnsWith form) (steps_stay form typed) (first_link form) (linked_kept form link_start k) lines
+    let k = start_linked (IsConsistent form) (left_type form) (right_type form) (missing form) (translate form)
+    (form_starts form typed) in
+    every_step line_answer (IsInTurnsWith form) (steps_stay form typed) (first_link form)
+    (linked_kept form link_start k) lines

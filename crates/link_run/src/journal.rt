@@ -23,14 +23,14 @@ pub(crate) fn answer_item(
     link: &mut Link<Flat>,
     number: u64,
     line: &Line,
-) -> Result<line_stream::Answer, AllocError>
+) -> Result<script_run::Answer, AllocError>
     ensures { IfOk result (λ a. line_answer (state_of link.old) number line.now
         ≡ Some (state_of link.new, a)) }
 {
     let answer = take_item(alloc, link, line)?;
     let line = answer_line(alloc, number, &answer)?;
     let refused = answer.is_refused();
-    Ok(line_stream::Answer { line, refused })
+    Ok(script_run::Answer { line, refused })
 }
 
 /// The answer to a line that is not blank, which makes the event happen that the line is.

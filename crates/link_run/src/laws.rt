@@ -3,7 +3,7 @@
 ghost use Rattle.std.specs.Prelude.{◌≡◌, true, Ok};
 ghost use Rattle.serde_json.specs.Data.{Data};
 ghost use Rattle.turn_link.specs.Links.{EventTree};
-ghost use Rattle.script_run.specs.Ends.{EveryRunStaysInStep};
+ghost use Rattle.script_run.specs.ScriptEnds.{EveryRunStaysInStep};
 ghost use Rattle.link_run.specs.EventJson.{tree_of_event, event_of_tree, event_counts_fit, event_numbers_fit};
 ghost use Rattle.link_run.specs.LinkScript.{link_script};
 

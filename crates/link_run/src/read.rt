@@ -5,7 +5,9 @@ ghost use Rattle.serde_json.specs.View.{view};
 ghost use Rattle.edit_journal.specs.EntryJson.{side_of, tree_of_line};
 ghost use Rattle.turn_link.specs.Links.{EventTree};
 ghost use Rattle.turn_link.specs.Views.{event_tree};
-ghost use Rattle.link_run.specs.EventJson.{side_of_tree, side_and_edit, edit_of_parts, delivery_of, event_of_member, event_of_tree, event_of_text, event_of_line, tree_of_event, event_counts_fit, event_numbers_fit, not_an_event};
+ghost use Rattle.link_run.specs.EventJson.{side_of_tree, side_and_edit, edit_of_parts, delivery_of, event_of_member};
+ghost use Rattle.link_run.specs.EventJson.{event_of_tree, event_of_text, event_of_line, tree_of_event};
+ghost use Rattle.link_run.specs.EventJson.{event_counts_fit, event_numbers_fit, not_an_event};
 ghost use Rattle.link_run.specs.Reading.{Gives};
 ghost use Rattle.link_run.specs.declared.fault.EventFault;
 

@@ -3,14 +3,14 @@ use Rattle.std.proofs.Common.{◌≡◌, ℕ, List, Bool, Option, Some, option_m
 use Rattle.std.specs.Prelude.{IfSome}
 use Rattle.edit_session.specs.Run.{is_refused}
 use Rattle.edit_session.specs.Step.{TripleTree}
-use Rattle.journal_answers.proofs.AnswersHaveLines.{has_tree, is_so}
-use Rattle.journal_answers.specs.AnswerLines.{HasAnswerLine}
-use Rattle.journal_answers.specs.Answers.{answer_line}
-use Rattle.journal_answers.specs.Runs.{JournalAnswer}
-use Rattle.journal_answers.specs.Views.{answer_tree, step_with}
-use Rattle.journal_answers.specs.declared.answers.Answer.{Answer}
+use Rattle.pair_answers.proofs.AnswersHaveLines.{has_tree, is_so}
+use Rattle.pair_answers.specs.AnswerLines.{HasAnswerLine}
+use Rattle.pair_answers.specs.Answers.{answer_line}
+use Rattle.pair_answers.specs.ItemRuns.{JournalAnswer}
+use Rattle.pair_answers.specs.ItemViews.{answer_tree, step_with}
+use Rattle.pair_answers.specs.declared.answers.Answer.{Answer}
 use Rattle.lens_forms.specs.Forms.{FormTree}
-use Rattle.line_stream.specs.declared.state.Answer as stream
+use Rattle.script_run.specs.declared.line_answers.Answer as stream
 use Rattle.pair_run.specs.Runs.{numbered}
 
 -- the answer line with whether the item was refused

@@ -1,4 +1,5 @@
--- What the script of a pair means, to `run` and to `check`. The trait `ScriptState` says so of `PairRun` and of `TypesShown` too.
+-- What the script of a pair means, to `run` and to `check`. The trait `ScriptState` says so of `PairRun` and of
+-- `TypesShown` too.
 use Rattle.accepted_programs.specs.Program.{Refusal, lens_of}
 use Rattle.answer_text.specs.RefusalLines.{refused_part_line}
 use Rattle.edit_session.specs.Step.{TripleTree}
@@ -7,7 +8,7 @@ use Rattle.pair_run.specs.Runs.{IsPairInStep, first_pair, line_answer, state_of,
 use Rattle.pair_run.specs.Shown.{IsShown, no_answer, same_form, type_lines}
 use Rattle.pair_run.specs.declared.pair.PairRun.{PairRun}
 use Rattle.pair_run.specs.declared.shown.TypesShown.{TypesShown}
-use Rattle.script_run.specs.declared.state.ScriptState as OfScript
+use Rattle.script_run.specs.declared.script_state.ScriptState as OfScript
 
 -- to `run`: its documents and their complement are kept in step, by the changes of the journal
 abbrev pub pair_script : OfScript.Ghosts PairRun

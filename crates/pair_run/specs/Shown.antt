@@ -1,9 +1,10 @@
--- The run of the command `check` over the lines of a script: no line has an answer, and the two types of the lens are written at the end.
+-- The run of the command `check` over the lines of a script: no line has an answer, and the two types of the lens are
+-- written at the end.
 use Rattle.std.specs.Prelude.{ℕ, List, [], ◌++◌, false, Option, Some}
 use Rattle.answer_text.specs.Lines.{type_line}
 use Rattle.edit_journal.specs.declared.line.Line.{Line}
 use Rattle.lens_forms.specs.Forms.{FormTree, left_type, right_type}
-use Rattle.line_stream.specs.declared.state.Answer.{Answer}
+use Rattle.script_run.specs.declared.line_answers.Answer.{Answer}
 use Rattle.texts.specs.declared.side.Side.TheVariants.{Left, Right}
 
 -- a state is the lens, from the start on

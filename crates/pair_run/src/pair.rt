@@ -5,18 +5,17 @@ ghost use Rattle.accepted_programs.specs.Refused.{IsKnown, IsRefusal};
 ghost use Rattle.lens_forms.specs.Forms.{FormTree, form_tree};
 ghost use Rattle.pair_run.specs.Runs.{first_pair, line_answer, state_of, state_text};
 ghost use Rattle.pair_run.specs.Scripts.{pair_script};
-ghost use Rattle.script_run.specs.Ending.{Opens, IsNotOpened};
+ghost use Rattle.script_run.specs.ScriptSteps.{Opens, IsNotOpened};
 
 use accepted_programs::Refused;
 use answer_text::refused_part_line;
 use edit_journal::Line;
 use edit_session::Session;
-use journal_answers::{answer_line, state_lines, take_item};
 use lens_flat::Flat;
 use lens_types::Typed;
-use line_stream::Answer;
-use script_parts::ProgramText;
-use script_run::{NotOpened, ProgramScript, ScriptState};
+use pair_answers::{answer_line, state_lines, take_item};
+use script_input::ProgramText;
+use script_run::{Answer, NotOpened, ProgramScript, ScriptState};
 use std::alloc::{AllocError, Global};
 use texts::Bytes;
 

@@ -5,15 +5,14 @@ ghost use Rattle.accepted_programs.specs.Refused.{IsKnown, IsRefusal};
 ghost use Rattle.lens_forms.specs.Forms.{FormTree, form_tree};
 ghost use Rattle.pair_run.specs.Scripts.{types_script};
 ghost use Rattle.pair_run.specs.Shown.{type_lines};
-ghost use Rattle.script_run.specs.Ending.{IsNotOpened};
+ghost use Rattle.script_run.specs.ScriptSteps.{IsNotOpened};
 
 use accepted_programs::Refused;
 use answer_text::{refused_part_line, type_line};
 use edit_journal::Line;
 use lens_types::Typed;
-use line_stream::Answer;
-use script_parts::ProgramText;
-use script_run::{NotOpened, ProgramScript, ScriptState};
+use script_input::ProgramText;
+use script_run::{Answer, NotOpened, ProgramScript, ScriptState};
 use std::alloc::{AllocError, Global};
 use texts::{Bytes, Side};
 
@@ -89,7 +88,8 @@ impl ProgramScript for TypesShown {
 // The refusal of a program part, with its line. Running out of memory is not a refusal.
 fn not_opened(alloc: Global, refused: Refused) -> NotOpened
     requires { IsKnown refused }
-    ensures { (outcome : Result FormTree Refusal) → IsRefusal outcome refused → IsNotOpened types_script outcome result }
+    ensures { (outcome : Result FormTree Refusal) → IsRefusal outcome refused
+        → IsNotOpened types_script outcome result }
 {
     let line = refused_part_line(alloc, &refused);
     drop(refused);

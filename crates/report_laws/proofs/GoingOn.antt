@@ -5,13 +5,13 @@ use Rattle.std.specs.List.{list_any}
 use Rattle.std.proofs.lemmas.Bool.{eqb-true}
 use Rattle.edit_journal.specs.Pieces.{FedLines, nothing_fed, fed, last_line, lines_of, has_no_end}
 use Rattle.edit_journal.proofs.Feeding.{joins, plain, in_front, all_lines_given, plain_more}
-use Rattle.script_parts.specs.Lines.{is_separator, is_separator_line, program_part, journal}
-use Rattle.script_parts.specs.Coming.{ended_lines, has_separator, journal_lines}
-use Rattle.script_parts.specs.Parts.{IsHead}
-use Rattle.script_parts.specs.PartSteps.{IsProgramFront}
-use Rattle.script_parts.proofs.Fronts.{no_front, longer_front, whole_head}
+use Rattle.script_input.specs.Lines.{is_separator, is_separator_line, program_part, journal}
+use Rattle.script_input.specs.Coming.{ended_lines, has_separator, journal_lines}
+use Rattle.script_input.specs.Parts.{IsHead}
+use Rattle.script_input.specs.PartSteps.{IsProgramFront}
+use Rattle.script_input.proofs.Fronts.{no_front, longer_front, whole_head}
 use Rattle.report_laws.specs.Beginnings.{BeginsWith}
-use Rattle.script_parts.proofs.TakenParts.{none_behind}
+use Rattle.script_input.proofs.TakenParts.{none_behind}
 
 -- ---- lines that have ended are the first ones
 

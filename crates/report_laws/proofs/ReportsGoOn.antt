@@ -3,14 +3,14 @@ use Rattle.std.proofs.Common.{◌≡◌, ℕ, List, [], ◌∷◌, ◌++◌, Boo
 use Rattle.std.specs.Prelude.{option_map}
 use Rattle.value_json.proofs.Facts.{map_some}
 use Rattle.edit_journal.specs.declared.line.Line.{Line}
-use Rattle.line_stream.specs.Runs.{answer_lines, last, of_steps, run}
-use Rattle.script_parts.specs.Lines.{program_part, journal}
-use Rattle.script_parts.specs.Coming.{has_separator}
-use Rattle.script_run.specs.Ends.{answers_with, AnswersBut, AnswersSome}
+use Rattle.script_run.specs.LineRuns.{answer_lines, last, of_steps, run}
+use Rattle.script_input.specs.Lines.{program_part, journal}
+use Rattle.script_input.specs.Coming.{has_separator}
+use Rattle.script_run.specs.ScriptEnds.{answers_with, AnswersBut, AnswersSome}
 use Rattle.script_run.specs.Report.{report, report_with, run_report, with_state}
-use Rattle.script_run.specs.declared.state.ScriptState as OfScript
-use Rattle.script_run.specs.declared.status.ScriptStatus.{ScriptStatus}
-use Rattle.script_run.specs.declared.status.ScriptStatus.TheVariants.{ProgramRefused}
+use Rattle.script_run.specs.declared.script_state.ScriptState as OfScript
+use Rattle.command_ends.specs.declared.status.Status.{Status}
+use Rattle.command_ends.specs.declared.status.Status.TheVariants.{ProgramRefused}
 use Rattle.report_laws.specs.Beginnings.{BeginsWith}
 use Rattle.report_laws.proofs.GoingOn.{part_stays, no_journal, lines_first}
 use Rattle.report_laws.proofs.RunsGoOn.{answers-begin, run-begins}
@@ -28,7 +28,7 @@ module _ {H : Type 0} (script : OfScript.Ghosts H) where
   -- ---- a run that goes on
 
   -- the report of a run over lines and more begins with the answers to the lines
-  report_begins : (t : script.State) (lines more : List Line) (text whole : List ℕ) (status : ScriptStatus) → option_map answer_lines (run script.answer t 0 lines) ≡ Some text
+  report_begins : (t : script.State) (lines more : List Line) (text whole : List ℕ) (status : Status) → option_map answer_lines (run script.answer t 0 lines) ≡ Some text
       → run_report script t (lines ++ more) ≡ Some (whole, status) → BeginsWith whole text
   report_begins t lines more text whole status answers reported =
       let some = map_some answer_lines (run script.answer t 0 lines) text answers in
@@ -37,7 +37,7 @@ module _ {H : Type 0} (script : OfScript.Ghosts H) where
       let on = run-begins script.answer lines more t 0 some.0 all.0 some.1 all.1 in
       let first = answers-begin some.0 on.rest in
       let state = script.state_text (last t all.0) in
-      let is : whole ≡ answer_lines all.0 ++ state = sym (ap (λ (r : List ℕ × ScriptStatus). r.0) written.2) ∙ sym (ap (λ w. (with_state script w).0) all.2) in
+      let is : whole ≡ answer_lines all.0 ++ state = sym (ap (λ (r : List ℕ × Status). r.0) written.2) ∙ sym (ap (λ w. (with_state script w).0) all.2) in
       record {
         rest = first.rest ++ state;
         is = is ∙ ap (λ l. answer_lines l ++ state) on.is ∙ ap (λ l. l ++ state) first.is
@@ -45,7 +45,7 @@ module _ {H : Type 0} (script : OfScript.Ghosts H) where
       }
 
   -- the same where the program part is accepted or refused
-  answers_begin : (outcome : Result script.Accepted script.Refusal) (lines others : List Line) (text whole : List ℕ) (status : ScriptStatus) → answers_with script outcome lines ≡ Some text
+  answers_begin : (outcome : Result script.Accepted script.Refusal) (lines others : List Line) (text whole : List ℕ) (status : Status) → answers_with script outcome lines ≡ Some text
       → report_with script outcome (lines ++ others) ≡ Some (whole, status) → BeginsWith whole text
   answers_begin (Ok program) lines others text whole status answers reported = report_begins (script.start program) lines others text whole status answers reported
   answers_begin (Err refusal) lines others text whole status answers reported =
@@ -58,7 +58,7 @@ module _ {H : Type 0} (script : OfScript.Ghosts H) where
 
   -- ---- the report
 
-  module _ (bytes more text whole : List ℕ) (status : ScriptStatus) (rest : List Line) (a : AnswersBut script bytes rest text) (reported : report script (bytes ++ more) ≡ Some (whole, status)) where
+  module _ (bytes more text whole : List ℕ) (status : Status) (rest : List Line) (a : AnswersBut script bytes rest text) (reported : report script (bytes ++ more) ≡ Some (whole, status)) where
     -- the separator has come, and the program part is known
     with_part : has_separator bytes ≡ true → BeginsWith whole text
     with_part has =
@@ -79,7 +79,7 @@ module _ {H : Type 0} (script : OfScript.Ghosts H) where
       by_test true e = with_part e
       by_test false e = without_part e
 
-  pub answers_first : (bytes text : List ℕ) → AnswersSome script bytes text → (more whole : List ℕ) (status : ScriptStatus)
+  pub answers_first : (bytes text : List ℕ) → AnswersSome script bytes text → (more whole : List ℕ) (status : Status)
       → report script (bytes ++ more) ≡ Some (whole, status) → BeginsWith whole text
   answers_first bytes text a more whole status reported = run_begins bytes more text whole status a.0 a.1 reported
 

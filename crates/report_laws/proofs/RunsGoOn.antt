@@ -4,8 +4,8 @@ use Rattle.std.specs.Prelude.{option_map, option_and_then}
 use Rattle.value_json.proofs.Facts.{map_some}
 use Rattle.edit_journal.specs.Lines.{is_blank}
 use Rattle.edit_journal.specs.declared.line.Line.{Line}
-use Rattle.line_stream.specs.Runs.{answer_lines, run}
-use Rattle.line_stream.specs.declared.state.Answer.{Answer}
+use Rattle.script_run.specs.LineRuns.{answer_lines, run}
+use Rattle.script_run.specs.declared.line_answers.Answer.{Answer}
 use Rattle.report_laws.specs.Beginnings.{BeginsWith}
 
 module _ {T : Type 0} where

@@ -1,16 +1,17 @@
 -- What was written when a call stopped is the beginning of the report of its whole input.
+use Rattle.command_ends.specs.Statuses.{IsFinished}
 use Rattle.std.proofs.Common.{◌≡◌, inl, inr, ℕ, List, [], ◌++◌, take, drop, Option, Some, refl, sym, ap, subst, ◌∙◌, append_assoc, append-nil, take-append-drop}
 use Rattle.std.specs.Io.KnownBytes.{Appends}
 use Rattle.lens_io.specs.Calls.{IsRead}
 use Rattle.lens_io.specs.declared.sink.Sink as OfSink
 use Rattle.lens_io.specs.declared.source.Source as OfSource
-use Rattle.script_parts.specs.Coming.{IsWhole}
-use Rattle.script_parts.specs.Lines.{program_part, journal}
-use Rattle.script_run.specs.Ends.{IsFinished, AnswersSome, RefusesPart, WouldWrite, IsCleanStop}
+use Rattle.script_input.specs.Coming.{IsWhole}
+use Rattle.script_input.specs.Lines.{program_part, journal}
+use Rattle.script_run.specs.ScriptEnds.{AnswersSome, RefusesPart, WouldWrite, IsCleanStop}
 use Rattle.script_run.specs.Report.{report}
-use Rattle.script_run.specs.declared.state.ScriptState as OfScript
-use Rattle.script_run.specs.declared.status.ScriptStatus.{ScriptStatus}
-use Rattle.script_run.specs.declared.status.ScriptStatus.TheVariants.{Done, SomeRefused, ProgramRefused, SourceFault, SinkFault, InputTooLong, NoMemory}
+use Rattle.script_run.specs.declared.script_state.ScriptState as OfScript
+use Rattle.command_ends.specs.declared.status.Status.{Status}
+use Rattle.command_ends.specs.declared.status.Status.TheVariants.{Done, SomeRefused, Usage, ProgramRefused, StoreRefused, SourceFault, SinkFault, DiskFault, InputTooLong, NoMemory}
 use Rattle.report_laws.specs.Beginnings.{BeginsWith, WritesBeginning}
 use Rattle.report_laws.proofs.ReportsGoOn.{answers_first, refused, refusal_stays}
 
@@ -24,11 +25,11 @@ front_of count whole text b = record {
   is = b.is ∙ ap (λ l. l ++ b.rest) (sym (take-append-drop count text)) ∙ append_assoc (take count text) (drop count text) b.rest;
 }
 
-same_text : (one other : Option (List ℕ × ScriptStatus)) (x y : List ℕ × ScriptStatus) → one ≡ Some x → other ≡ Some y → one ≡ other → x.0 ≡ y.0
+same_text : (one other : Option (List ℕ × Status)) (x y : List ℕ × Status) → one ≡ Some x → other ≡ Some y → one ≡ other → x.0 ≡ y.0
 same_text one other x y h k e =
     let same : Some x ≡ Some y = sym h ∙ e ∙ k in
     let pair : x ≡ y = cc in
-    ap (λ (r : List ℕ × ScriptStatus). r.0) pair
+    ap (λ (r : List ℕ × Status). r.0) pair
 
 module _ {H S K : Type 0} (script : OfScript.Ghosts H) (source : OfSource.Ghosts S) (sink : OfSink.Ghosts K) (old new : S × K) where
   module _ (held held' : List ℕ) (known : sink.held old.1 ≡ Some held) (known' : sink.held new.1 ≡ Some held') where
@@ -36,7 +37,7 @@ module _ {H S K : Type 0} (script : OfScript.Ghosts H) (source : OfSource.Ghosts
     gave_known : (text : List ℕ) → Appends (sink.held old.1) (sink.held new.1) text → held' ≡ held ++ text
     gave_known text h = subst (λ o. Appends (Some held) o text) known' (subst (λ o. Appends o (sink.held new.1) text) known h)
 
-    module _ (bytes more whole : List ℕ) (status : ScriptStatus) (end : IsRead source old.0 new.0 → more ≡ []) (reported : report script (bytes ++ more) ≡ Some (whole, status)) where
+    module _ (bytes more whole : List ℕ) (status : Status) (end : IsRead source old.0 new.0 → more ≡ []) (reported : report script (bytes ++ more) ≡ Some (whole, status)) where
       -- at its end nothing follows
       at_end : IsRead source old.0 new.0 → report script (bytes ++ more) ≡ report script bytes
       at_end e = ap (λ l. report script (bytes ++ l)) (end e) ∙ ap (report script) (append-nil bytes)
@@ -63,7 +64,7 @@ module _ {H S K : Type 0} (script : OfScript.Ghosts H) (source : OfSource.Ghosts
       would_begin text (inr (inr e)) =
           itself whole text (same_text (report script (bytes ++ more)) (report script bytes) (whole, status) (text, e.1.0) reported e.1.1 (at_end e.0))
 
-      pub stop_begins : (stop : ScriptStatus) → (IsFinished stop → ⊥) → IsCleanStop script source sink old new bytes stop → WritesBeginning held held' whole
+      pub stop_begins : (stop : Status) → (IsFinished stop → ⊥) → IsCleanStop script source sink old new bytes stop → WritesBeginning held held' whole
       stop_begins Done not clean = absurd (not (inl refl))
       stop_begins SomeRefused not clean = absurd (not (inr refl))
       stop_begins ProgramRefused not clean = record {
@@ -79,3 +80,6 @@ module _ {H S K : Type 0} (script : OfScript.Ghosts H) (source : OfSource.Ghosts
       }
       stop_begins InputTooLong not clean = record { text = clean.1.0; appends = gave_known clean.1.0 clean.1.2; begins = answers clean.1.0 ([], clean.1.1) }
       stop_begins NoMemory not clean = record { text = clean.0; appends = gave_known clean.0 clean.2; begins = answers clean.0 clean.1 }
+      stop_begins Usage not clean = absurd clean
+      stop_begins StoreRefused not clean = absurd clean
+      stop_begins DiskFault not clean = absurd clean

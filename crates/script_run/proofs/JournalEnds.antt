@@ -9,27 +9,27 @@ use Rattle.lens_io.specs.declared.source.Source as OfSource
 use Rattle.edit_journal.specs.Pieces.{FedLines, nothing_fed, fed, last_line}
 use Rattle.edit_journal.specs.declared.line.Line.{Line}
 use Rattle.edit_journal.proofs.Feeding.{joins, all_lines_given}
-use Rattle.journal_input.specs.Taking.{TakenInput, GaveFew}
-use Rattle.journal_input.specs.declared.limits.TheConstants.{MOST_BYTES, PIECE_BYTES}
-use Rattle.journal_input.proofs.LastCalls.{but_last}
-use Rattle.line_stream.specs.Answered.{AreAnswered, ComesTo, AnswersBefore, AnswersFirst as StreamFirst, StopsRun, EndsRun}
-use Rattle.line_stream.specs.Runs.{come, answer_lines, of_steps, run, written, written_after}
-use Rattle.line_stream.specs.declared.progress.Progress.{Progress}
-use Rattle.line_stream.specs.declared.state.Answer.{Answer}
-use Rattle.line_stream.specs.declared.stopped.Stopped.{Stopped}
-use Rattle.line_stream.specs.declared.stopped.Stopped.TheVariants as stop
-use Rattle.line_stream.proofs.RunSteps.{at_end}
-use Rattle.script_parts.specs.Coming.{journal_lines}
-use Rattle.script_parts.specs.Lines.{program_part, journal}
-use Rattle.script_parts.specs.Parts.{IsHead, IsTaken}
-use Rattle.script_run.specs.Ending.{Gives, EndsReport}
-use Rattle.script_run.specs.Ends.{EveryRunStaysInStep, answers_with, AnswersAll, AnswersBut, AnswersFirst, GoesOn}
+use Rattle.script_input.specs.Taking.{TakenInput, GaveFew}
+use Rattle.script_input.specs.declared.limits.TheConstants.{MOST_BYTES, PIECE_BYTES}
+use Rattle.script_input.proofs.LastCalls.{but_last}
+use Rattle.script_run.specs.LineEnds.{AreAnswered, ComesTo, AnswersBefore, AnswersFirst as StreamFirst, StopsRun, EndsRun}
+use Rattle.script_run.specs.LineRuns.{come, answer_lines, of_steps, run, written, written_after}
+use Rattle.script_run.specs.declared.progress.Progress.{Progress}
+use Rattle.script_run.specs.declared.line_answers.Answer.{Answer}
+use Rattle.script_run.specs.declared.stopped.Stopped.{Stopped}
+use Rattle.script_run.specs.declared.stopped.Stopped.TheVariants as stop
+use Rattle.script_run.proofs.RunSteps.{at_end}
+use Rattle.script_input.specs.Coming.{journal_lines}
+use Rattle.script_input.specs.Lines.{program_part, journal}
+use Rattle.script_input.specs.Parts.{IsHead, IsTaken}
+use Rattle.script_run.specs.ScriptSteps.{Gives, EndsReport}
+use Rattle.script_run.specs.ScriptEnds.{EveryRunStaysInStep, answers_with, AnswersAll, AnswersBut, AnswersFirst, GoesOn}
+use Rattle.script_run.specs.LineStops.{status_of}
 use Rattle.script_run.specs.Report.{with_state, report_with, report}
-use Rattle.script_run.specs.Status.{status_of}
 use Rattle.script_run.specs.declared.report.Report.{Report}
-use Rattle.script_run.specs.declared.state.ScriptState as OfScript
-use Rattle.script_run.specs.declared.status.ScriptStatus.{ScriptStatus}
-use Rattle.script_run.proofs.Ends.{EndsSo, has_part, lines_stay, first_at_part, ended_source, ended_long, ended_memory, ended_sink, ended_report}
+use Rattle.script_run.specs.declared.script_state.ScriptState as OfScript
+use Rattle.command_ends.specs.declared.status.Status.{Status}
+use Rattle.script_run.proofs.ScriptEndsHold.{EndsSo, has_part, lines_stay, first_at_part, ended_source, ended_long, ended_memory, ended_sink, ended_report}
 
 -- the answer lines of a run, from what it comes to
 text_of : {T : Type 0} (t : T) (o : Option (List (T × Answer))) (text : List ℕ) (refused : Bool) (state : T) → option_map (of_steps t) o ≡ Some (text, refused, state) → option_map answer_lines o ≡ Some text
@@ -160,7 +160,7 @@ module _ {H S K : Type 0} (script : OfScript.Ghosts H) (stay : EveryRunStaysInSt
         ∙ ap (λ o. option_map (with_state script) o) runs
         ∙ ap₂ (λ x s. Some (x, s)) same (sym r.status)
 
-    pub run_ends : (r : Result Report AllocError) (status : ScriptStatus) → Took source mid s' more → IfOk r (EndsReport script u p next.lines.begun) → Gives sink mid_k k' r status
+    pub run_ends : (r : Result Report AllocError) (status : Status) → Took source mid s' more → IfOk r (EndsReport script u p next.lines.begun) → Gives sink mid_k k' r status
         → EndsSo script stay source sink (s, k) (s', k') status
     run_ends r status c h gives =
         ended_report script stay source sink s s' k mid_k k' (whole more) (took_whole more c) e.at_end e.gave_nothing (omega (arith, length_whole more, e.within)) e.given

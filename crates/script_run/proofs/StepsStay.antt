@@ -4,9 +4,9 @@ use Rattle.std.specs.List.{All}
 use Rattle.std.proofs.lemmas.List.Elements.{All-nil, All-cons}
 use Rattle.edit_journal.specs.Lines.{is_blank}
 use Rattle.edit_journal.specs.declared.line.Line.{Line}
-use Rattle.line_stream.specs.Runs.{run}
-use Rattle.line_stream.specs.declared.state.Answer.{Answer}
-use Rattle.script_run.specs.Ends.{StaysInStep}
+use Rattle.script_run.specs.LineRuns.{run}
+use Rattle.script_run.specs.declared.line_answers.Answer.{Answer}
+use Rattle.script_run.specs.ScriptEnds.{StaysInStep}
 
 -- Each item is answered from a state that is in step, and the next state is in step.
 abbrev pub EachStepStays : {T : Type 0} → (T → ℕ → Line → Option (T × Answer)) → (T → Type 0) → Type 0

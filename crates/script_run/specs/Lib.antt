@@ -1,4 +1,6 @@
-pub mod Ending
-pub mod Ends
+pub mod LineEnds
+pub mod LineRuns
+pub mod LineStops
 pub mod Report
-pub mod Status
+pub mod ScriptEnds
+pub mod ScriptSteps

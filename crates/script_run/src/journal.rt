@@ -1,18 +1,18 @@
 //! The journal of a script.
 ghost use Rattle.std.specs.Prelude.{◌≡◌, ◌<◌, ◌≤◌, List, ℕ, Ok, length};
 ghost use Rattle.lens_io.specs.Calls.{SourceFailed, SinkFailed};
-ghost use Rattle.journal_input.specs.Taking.{IsWithin};
-ghost use Rattle.journal_input.specs.declared.limits.TheConstants.{PIECE_BYTES};
-ghost use Rattle.script_parts.specs.Parts.{IsTaken, IsHead};
-ghost use Rattle.script_run.specs.Ends.{Ended, EveryRunStaysInStep};
+ghost use Rattle.script_input.specs.Taking.{IsWithin};
+ghost use Rattle.script_input.specs.declared.limits.TheConstants.{PIECE_BYTES};
+ghost use Rattle.script_input.specs.Parts.{IsTaken, IsHead};
+ghost use Rattle.script_run.specs.ScriptEnds.{Ended, EveryRunStaysInStep};
 
+use crate::answer_pieces;
 use crate::lines::ScriptLines;
 use crate::report::{give_report, last_report};
-use crate::state::ScriptState;
-use crate::status::ScriptStatus;
-use journal_input::Input;
+use crate::script_state::ScriptState;
+use command_ends::Status;
 use lens_io::{Sink, Source};
-use line_stream::answer_pieces;
+use script_input::Input;
 use std::alloc::Global;
 
 /// Answers a journal as it comes, and ends with the state lines. The program part before it is accepted, and the state
@@ -26,7 +26,7 @@ pub fn answer_script<S: Source, K: Sink, A: ScriptState>(
     source: &mut S,
     piece: &mut [u8],
     sink: &mut K,
-) -> ScriptStatus
+) -> Status
     requires some { 0 < length piece.old }
     requires few { length piece.old ≤ PIECE_BYTES }
     requires within { IsWithin input }
@@ -35,9 +35,9 @@ pub fn answer_script<S: Source, K: Sink, A: ScriptState>(
         → IsTaken S.Source start source.old input front rest → IsHead front part
         → A.accepted part ≡ Ok program → A.state state ≡ A.start program
         → Ended A.ScriptState S.Source K.Sink (start, sink.old) (source.new, sink.new) result }
-    ensures source_fault { result ≡ ScriptStatus.SourceFault
+    ensures source_fault { result ≡ Status.SourceFault
         → SourceFailed S.Source source.old source.new }
-    ensures sink_fault { result ≡ ScriptStatus.SinkFault
+    ensures sink_fault { result ≡ Status.SinkFault
         → SinkFailed K.Sink sink.old sink.new }
 {
     let mut lines = ScriptLines { state };
@@ -54,7 +54,7 @@ fn answer_lines<S: Source, K: Sink, A: ScriptState>(
     source: &mut S,
     piece: &mut [u8],
     sink: &mut K,
-) -> ScriptStatus
+) -> Status
     requires some { 0 < length piece.old }
     requires few { length piece.old ≤ PIECE_BYTES }
     requires within { IsWithin input }
@@ -63,14 +63,14 @@ fn answer_lines<S: Source, K: Sink, A: ScriptState>(
         → IsTaken S.Source start source.old input front rest → IsHead front part
         → A.accepted part ≡ Ok program → A.state lines.old.state ≡ A.start program
         → Ended A.ScriptState S.Source K.Sink (start, sink.old) (source.new, sink.new) result }
-    ensures source_fault { result ≡ ScriptStatus.SourceFault
+    ensures source_fault { result ≡ Status.SourceFault
         → SourceFailed S.Source source.old source.new }
-    ensures sink_fault { result ≡ ScriptStatus.SinkFault
+    ensures sink_fault { result ≡ Status.SinkFault
         → SinkFailed K.Sink sink.old sink.new }
 {
     let mut input = input;
     match answer_pieces(alloc, lines, &mut input, source, piece, sink) {
         Ok(progress) => give_report(last_report(alloc, lines, progress, input), sink),
-        Err(stopped) => ScriptStatus::of_stop(stopped),
+        Err(stopped) => stopped.status(),
     }
 }

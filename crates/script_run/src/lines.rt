@@ -1,8 +1,8 @@
 //! The state of a script as one that answers lines.
 
-use crate::state::ScriptState;
+use crate::script_state::ScriptState;
+use crate::{Answer, LineAnswers};
 use edit_journal::Line;
-use line_stream::{Answer, LineAnswers};
 use std::alloc::{AllocError, Global};
 
 /// The state of a script.

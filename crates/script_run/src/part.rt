@@ -1,18 +1,18 @@
 //! What comes once the program part of a script was read.
 ghost use Rattle.std.specs.Prelude.{◌≡◌, ◌<◌, ◌≤◌, List, ℕ, length};
 ghost use Rattle.lens_io.specs.Calls.{SourceFailed, SinkFailed};
-ghost use Rattle.journal_input.specs.Taking.{IsWithin};
-ghost use Rattle.journal_input.specs.declared.limits.TheConstants.{PIECE_BYTES};
-ghost use Rattle.script_parts.specs.Parts.{IsTaken, IsHead};
-ghost use Rattle.script_run.specs.Ends.{Ended, EveryRunStaysInStep};
-ghost use Rattle.script_run.specs.Ending.{GivesAlone, Opens};
+ghost use Rattle.script_input.specs.Taking.{IsWithin};
+ghost use Rattle.script_input.specs.declared.limits.TheConstants.{PIECE_BYTES};
+ghost use Rattle.script_input.specs.Parts.{IsTaken, IsHead};
+ghost use Rattle.script_run.specs.ScriptEnds.{Ended, EveryRunStaysInStep};
+ghost use Rattle.script_run.specs.ScriptSteps.{GivesAlone, Opens};
 
 use crate::journal::answer_script;
 use crate::report::{first_report, give_report, refusal};
-use crate::state::{NotOpened, ScriptState};
-use crate::status::ScriptStatus;
-use journal_input::Input;
+use crate::script_state::{NotOpened, ScriptState};
+use command_ends::Status;
 use lens_io::{Sink, Source};
+use script_input::Input;
 use std::alloc::Global;
 
 /// Goes on behind a program part and its separator. `opened` is the state before the journal, or why there is none.
@@ -33,7 +33,7 @@ pub fn answer_part<S: Source, K: Sink, A: ScriptState>(
     source: &mut S,
     piece: &mut [u8],
     sink: &mut K,
-) -> ScriptStatus
+) -> Status
     requires some { 0 < length piece.old }
     requires few { length piece.old ≤ PIECE_BYTES }
     requires within { IsWithin input }
@@ -42,9 +42,9 @@ pub fn answer_part<S: Source, K: Sink, A: ScriptState>(
         → IsTaken S.Source start source.old input front rest → IsHead front part
         → Opens A.ScriptState (A.accepted part) opened
         → Ended A.ScriptState S.Source K.Sink (start, sink.old) (source.new, sink.new) result }
-    ensures source_fault { result ≡ ScriptStatus.SourceFault
+    ensures source_fault { result ≡ Status.SourceFault
         → SourceFailed S.Source source.old source.new }
-    ensures sink_fault { result ≡ ScriptStatus.SinkFault
+    ensures sink_fault { result ≡ Status.SinkFault
         → SinkFailed K.Sink sink.old sink.new }
 {
     match opened {
@@ -67,11 +67,11 @@ pub fn answer_alone<K: Sink, A: ScriptState>(
     alloc: Global,
     opened: Result<A, NotOpened>,
     sink: &mut K,
-) -> ScriptStatus
+) -> Status
     ensures gives { (part : List ℕ) → Opens A.ScriptState (A.accepted part) opened
         → GivesAlone A.ScriptState K.Sink sink.old sink.new (A.accepted part) result }
-    ensures no_fault { result ≡ ScriptStatus.SourceFault → ⊥ }
-    ensures sink_fault { result ≡ ScriptStatus.SinkFault
+    ensures no_fault { result ≡ Status.SourceFault → ⊥ }
+    ensures sink_fault { result ≡ Status.SinkFault
         → SinkFailed K.Sink sink.old sink.new }
 {
     match opened {

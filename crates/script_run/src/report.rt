@@ -1,21 +1,21 @@
 //! What is written at the end of an input, and the status.
 ghost use Rattle.std.specs.Prelude.{◌≡◌, ◌+◌, ◌^◌, ◌<◌, ◌++◌, [], IfOk};
 ghost use Rattle.lens_io.specs.Calls.{SinkFailed};
-ghost use Rattle.script_run.specs.Ending.{EndsReport, Gives, HasEnd};
+ghost use Rattle.script_run.specs.ScriptSteps.{EndsReport, Gives, HasEnd};
 
 use crate::lines::ScriptLines;
-use crate::state::{NotOpened, ScriptState};
-use crate::status::ScriptStatus;
-use journal_input::Input;
+use crate::script_state::{NotOpened, ScriptState};
+use crate::{Progress, handle_last};
+use command_ends::Status;
 use lens_io::{Sink, give_all};
-use line_stream::{Progress, handle_last};
+use script_input::Input;
 use std::alloc::{AllocError, Global};
 
 /// What is written at the end of an input, and the status.
 #[derive(Drop)]
 pub struct Report {
     pub text: Vec<u8>,
-    pub status: ScriptStatus,
+    pub status: Status,
 }
 
 /// The end of the report of a run whose input is at its end: the answers that are not written yet, with that to the
@@ -33,7 +33,7 @@ pub fn last_report<A: ScriptState>(
 {
     let mut progress = progress;
     handle_last(alloc, lines, &mut progress, input)?;
-    let status = ScriptStatus::ending(progress.refused);
+    let status = Status::at_end(progress.refused);
     let text = with_state(alloc, &lines.state, progress.text)?;
     Ok(Report { text, status })
 }
@@ -55,13 +55,13 @@ fn with_state<A: ScriptState>(
 /// The report of a script without a journal: the state lines alone. The only error is running out of memory.
 pub fn first_report<A: ScriptState>(alloc: Global, state: &A) -> Result<Report, AllocError>
     ensures text { IfOk result (λ r. r.text.items ≡ A.state_text (A.state state.now)) }
-    ensures status { IfOk result (λ r. r.status ≡ ScriptStatus.Done) }
+    ensures status { IfOk result (λ r. r.status ≡ Status.Done) }
     ensures end { HasEnd result }
 {
     let lines = state.state_lines(alloc)?;
     Ok(Report {
         text: lines.into_vec(),
-        status: ScriptStatus::Done,
+        status: Status::Done,
     })
 }
 
@@ -69,30 +69,30 @@ pub fn first_report<A: ScriptState>(alloc: Global, state: &A) -> Result<Report, 
 /// memory.
 pub fn refusal(refused: NotOpened) -> Result<Report, AllocError>
     ensures line { IfOk result (λ r. refused ≡ NotOpened.Refused r.text.items) }
-    ensures status { IfOk result (λ r. r.status ≡ ScriptStatus.ProgramRefused) }
+    ensures status { IfOk result (λ r. r.status ≡ Status.ProgramRefused) }
     ensures end { HasEnd result }
 {
     match refused {
         NotOpened::Refused(line) => Ok(Report {
             text: line.into_vec(),
-            status: ScriptStatus::ProgramRefused,
+            status: Status::ProgramRefused,
         }),
         NotOpened::NoMemory => Err(AllocError),
     }
 }
 
 /// Writes a report, and ends with its status. Out of memory there is none.
-pub fn give_report<K: Sink>(report: Result<Report, AllocError>, sink: &mut K) -> ScriptStatus
+pub fn give_report<K: Sink>(report: Result<Report, AllocError>, sink: &mut K) -> Status
     requires { HasEnd report }
     ensures gives { Gives K.Sink sink.old sink.new report result }
-    ensures no_fault { result ≡ ScriptStatus.SourceFault → ⊥ }
-    ensures sink_fault { result ≡ ScriptStatus.SinkFault → SinkFailed K.Sink sink.old sink.new }
+    ensures no_fault { result ≡ Status.SourceFault → ⊥ }
+    ensures sink_fault { result ≡ Status.SinkFault → SinkFailed K.Sink sink.old sink.new }
 {
     let Ok(report) = report else {
-        return ScriptStatus::NoMemory;
+        return Status::NoMemory;
     };
     match give_all(sink, &report.text) {
         Ok(()) => report.status,
-        Err(_) => ScriptStatus::SinkFault,
+        Err(_) => Status::SinkFault,
     }
 }

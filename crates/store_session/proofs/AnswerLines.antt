@@ -18,13 +18,13 @@ use Rattle.edit_session.specs.Step.{TripleTree}
 use Rattle.edit_session.specs.Run.{carried, no_apply, group_carried, group_no_apply, no_entry, is_refused}
 use Rattle.answer_text.specs.Reasons.{cause_text, fault_text}
 use Rattle.answer_text.specs.Lines.{tree_line}
-use Rattle.journal_answers.specs.Answers.{answer_line}
-use Rattle.journal_answers.specs.Runs.{JournalItem, JournalAnswer}
+use Rattle.pair_answers.specs.Answers.{answer_line}
+use Rattle.pair_answers.specs.ItemRuns.{JournalItem, JournalAnswer}
 use Rattle.lens_forms.specs.Forms.{left_type, right_type}
-use Rattle.stored_run.specs.OkLines.{IsLine, IsAnswer, AreOtherLines, begins_ok}
-use Rattle.stored_run.specs.declared.session.Answer.{Answer}
+use Rattle.store_run.specs.OkLines.{IsLine, IsAnswer, AreOtherLines, begins_ok}
+use Rattle.store_run.specs.declared.session.Answer.{Answer}
 use Rattle.store_session.specs.StoredStates.{StoredState, state_with, change_text, payload_of, stored_answer, taken, answer_item, answer, state_text}
-use Rattle.stored_run.proofs.Decimals.{decimal_plain}
+use Rattle.store_session.proofs.Decimals.{decimal_plain}
 use Rattle.store_session.proofs.NoLineEnd.{text_plain}
 use Rattle.edit_journal.proofs.LinesHeld.{plain_both}
 

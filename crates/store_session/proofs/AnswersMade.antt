@@ -16,13 +16,13 @@ use Rattle.edit_journal.specs.declared.fault.EntryFault.TheVariants.{LineTooLong
 use Rattle.edit_session.specs.Run.{answered, group_answered}
 use Rattle.edit_session.specs.Step.{TripleTree, Stepped, AllStepped, step, step_each, alone}
 use Rattle.answer_text.specs.Lines.{ok_line, no_apply_line, group_line, group_refused_line, fault_line}
-use Rattle.journal_answers.specs.Runs.{JournalItem, JournalAnswer}
+use Rattle.pair_answers.specs.ItemRuns.{JournalItem, JournalAnswer}
 use Rattle.lens_core.specs.Translation.{translate}
 use Rattle.lens_forms.specs.Forms.{FormTree, left_type, right_type}
 use Rattle.lens_forms.specs.declared.limits.TheConstants.{GREATEST_HEIGHT}
-use Rattle.stored_records.specs.RecordJson.{tree_of_change_record}
-use Rattle.stored_run.specs.declared.session.Answer.{Answer}
-use Rattle.stored_sessions.proofs.AcceptedDepths.{accepted_low}
+use Rattle.store_records.specs.RecordJson.{tree_of_change_record}
+use Rattle.store_run.specs.declared.session.Answer.{Answer}
+use Rattle.store_session.proofs.AcceptedDepths.{accepted_low}
 use Rattle.store_session.specs.StoredStates.{StoredState, state_with, change_text, stored_answer, answer_item}
 
 -- an answer with this line and this payload

@@ -10,12 +10,12 @@ use Rattle.edit_journal.specs.declared.line.Line.{Line}
 use Rattle.edit_session.specs.Run as journals
 use Rattle.edit_session.specs.Run.{is_refused}
 use Rattle.edit_session.specs.Step.{TripleTree}
-use Rattle.journal_answers.specs.Answers.{answer_line}
-use Rattle.journal_answers.specs.Runs.{JournalItem, JournalAnswer, IsInStepFor, items_of}
+use Rattle.pair_answers.specs.Answers.{answer_line}
+use Rattle.pair_answers.specs.ItemRuns.{JournalItem, JournalAnswer, IsInStepFor, items_of}
 use Rattle.lens_forms.specs.Forms.{FormTree}
 use Rattle.lens_forms.specs.Typing.{is_typed}
-use Rattle.stored_run.specs.Runs.{run, kept_of, any_refused}
-use Rattle.stored_run.specs.declared.session.Answer.{Answer}
+use Rattle.store_run.specs.StoreRuns.{run, kept_of, any_refused}
+use Rattle.store_run.specs.declared.session.Answer.{Answer}
 use Rattle.store_session.specs.Journals.{accepted_change, accepted_changes, IsStateInStep, IsRunOfItems, IsJournalRun}
 use Rattle.store_session.specs.StoredStates.{StoredState, state_with, change_text, payload_of, stored_answer, taken, answer_item, answer, stored_session}
 use Rattle.store_session.proofs.AnswerLines.{has_payload}

@@ -1,6 +1,11 @@
-pub mod NoLineEnd
+pub mod AcceptedDepths
 pub mod AnswerLines
 pub mod AnswersMade
-pub mod Openings
-pub mod StatesInStep
+pub mod Decimals
 pub mod JournalRuns
+pub mod LastTriple
+pub mod NoLineEnd
+pub mod Openings
+pub mod PartsStand
+pub mod SnapshotParts
+pub mod StatesInStep

@@ -7,7 +7,7 @@ use Rattle.json.specs.Print.{escape_letter, escape_byte, escape, quoted}
 use Rattle.serde_json.specs.Data.{Num, unsigned, negative, float, Data, null, boolean, number, string, array, object, Items, no_items, item, Members, no_members, member}
 use Rattle.serde_json.specs.Written.{number_text, compact_text, items_text, members_text, comma_if}
 use Rattle.edit_journal.specs.Pieces.{has_no_end}
-use Rattle.stored_run.proofs.Decimals.{decimal_plain, cons_plain, no_ten}
+use Rattle.store_session.proofs.Decimals.{decimal_plain, cons_plain, no_ten}
 use Rattle.edit_journal.proofs.LinesHeld.{plain_both}
 
 -- ---- numbers

@@ -2,29 +2,24 @@
 use Rattle.std.proofs.Common.{◌≡◌, ℕ, List, [], ◌∷◌, Option, Some, None, option_map, Result, Ok, Err, refl, sym, ap, subst, ◌∙◌}
 use Rattle.lens_forms.specs.Forms.{FormTree}
 use Rattle.edit_session.specs.Step.{TripleTree}
-use Rattle.stored_records.specs.Outcomes.{IsBadFirst}
-use Rattle.stored_records.specs.StoredLens.{lens_and_version, stored_form}
-use Rattle.stored_records.specs.declared.fault.ReopenFault.{ReopenFault as RecordFault}
-use Rattle.stored_records.specs.declared.fault.ReopenFault.TheVariants as of_records
-use Rattle.stored_run.specs.Reopening.{IsReopenFault}
-use Rattle.stored_run.specs.declared.session.ReopenFault.{ReopenFault}
-use Rattle.stored_run.specs.declared.session.ReopenFault.TheVariants as of_stores
-use Rattle.stored_sessions.specs.Outcomes.{IsReopenFault as IsRecordFault}
-use Rattle.stored_sessions.specs.Stands.{from_opening, stands}
-use Rattle.stored_sessions.specs.Views.{standing}
+use Rattle.store_records.specs.RecordOutcomes.{IsBadFirst}
+use Rattle.store_records.specs.StoredLens.{lens_and_version, stored_lens}
+use Rattle.store_records.specs.declared.record_fault.ReopenFault.{ReopenFault as RecordFault}
+use Rattle.store_records.specs.declared.record_fault.ReopenFault.TheVariants as of_records
+use Rattle.store_run.specs.Reopening.{IsReopenFault}
+use Rattle.store_run.specs.declared.session.ReopenFault.{ReopenFault}
+use Rattle.store_run.specs.declared.session.ReopenFault.TheVariants as of_stores
+use Rattle.store_session.specs.ReopenOutcomes.{IsReopenFault as IsRecordFault}
+use Rattle.store_session.specs.Stands.{from_opening, stands}
+use Rattle.store_session.specs.Standings.{standing}
 use Rattle.store_session.specs.StoredStates.{StoredState, state_with, version_for, fault_of, opened_as, stands_for, counted, count_of}
 
-no_opening : (ps : List (List ℕ)) (o : Option (FormTree × ℕ)) → option_map {U = FormTree} (λ (x : FormTree × ℕ). x.0) o ≡ None
-    → from_opening ps o ≡ Err (of_records.BadRecord 1)
-no_opening ps (Some x) h = cc
-no_opening ps None h = refl
-
-no_lens : (ps : List (List ℕ)) → stored_form ps ≡ None → stands ps ≡ Err (of_records.BadRecord 1)
+no_lens : (ps : List (List ℕ)) → stored_lens ps ≡ None → stands ps ≡ Err (of_records.BadRecord 1)
 no_lens [] h = refl
-no_lens (p ∷ ps) h = no_opening ps (lens_and_version p) h
+no_lens (p ∷ ps) h = ap (from_opening ps) h
 
 -- a store without a lens stands for nothing
-pub bad_first : (ps : List (List ℕ)) (fault : RecordFault) → IsBadFirst (stored_form ps) fault → IsRecordFault (stands ps) fault
+pub bad_first : (ps : List (List ℕ)) (fault : RecordFault) → IsBadFirst (stored_lens ps) fault → IsRecordFault (stands ps) fault
 bad_first ps (of_records.BadRecord number) h = no_lens ps h.1 ∙ ap (λ n. Err (of_records.BadRecord n)) (sym h.0)
 bad_first ps (of_records.NotConsistent number) h = absurd h
 bad_first ps of_records.NoMemory h = tt

@@ -12,17 +12,17 @@ use Rattle.edit_session.specs.Run.{answered, group_answered, take_item}
 use Rattle.edit_session.specs.Step.{TripleTree, Stepped, AllStepped, alone, step, step_each}
 use Rattle.edit_session.proofs.RunInStep.{runs_stay_in_step}
 use Rattle.form_steps.specs.LawsOfForms.{form_starts, form_edits}
-use Rattle.journal_answers.specs.Runs.{JournalItem, JournalAnswer, IsInStepFor}
+use Rattle.pair_answers.specs.ItemRuns.{JournalItem, JournalAnswer, IsInStepFor}
 use Rattle.lens_core.specs.Consistency.{IsConsistent}
 use Rattle.lens_core.specs.Translation.{translate}
 use Rattle.lens_forms.specs.Forms.{FormTree, left_type, right_type}
 use Rattle.lens_forms.specs.Typing.{is_typed}
-use Rattle.stored_records.specs.RecordJson.{RecordTree, version_record, change_record, snapshot_record}
-use Rattle.stored_records.specs.declared.fault.ReopenFault.{ReopenFault as RecordFault}
-use Rattle.stored_records.specs.declared.fault.ReopenFault.TheVariants.{BadRecord, NotConsistent}
-use Rattle.stored_sessions.specs.ConsistencyTest.{is_consistent}
-use Rattle.stored_sessions.specs.Stands.{Standing, after_record, after_step, after_triple, is_too_new, step_of, triple_of, stands}
-use Rattle.stored_sessions.proofs.ConsistencyDecided.{consistent_if}
+use Rattle.store_records.specs.RecordJson.{RecordTree, version_record, change_record, snapshot_record}
+use Rattle.store_records.specs.declared.record_fault.ReopenFault.{ReopenFault as RecordFault}
+use Rattle.store_records.specs.declared.record_fault.ReopenFault.TheVariants.{BadRecord, NotConsistent}
+use Rattle.store_session.specs.ConsistencyTest.{is_consistent}
+use Rattle.store_session.specs.Stands.{Standing, after_record, after_step, after_triple, is_too_new, step_of, triple_of, stands}
+use Rattle.store_session.specs.ConsistencyDecided.{consistent_if}
 use Rattle.store_session.specs.Journals.{IsStateInStep}
 use Rattle.store_session.specs.StoodInduction.{all_stood}
 use Rattle.store_session.specs.StoredStates.{StoredState, state_of, version_for, opened_as, stands_for}

@@ -1,16 +1,17 @@
 -- The run of a stored session over the lines of a journal, beside the run of the journal's items.
 -- Read it from the end: `IsJournalRun` and `IsRunOfItems`, then `accepted_changes`.
-use Rattle.std.specs.Prelude.{◌≡◌, ℕ, ◌+◌, List, [], ◌∷◌, ◌++◌, Option, Some, None, Ok, Err, map, option_to_list, if◌then◌else◌}
+use Rattle.std.specs.Prelude.{◌≡◌, ℕ, ◌+◌, List, [], ◌∷◌, ◌++◌, Option, Some, None, Ok, Err, map, option_to_list}
+use Rattle.std.specs.Prelude.{if◌then◌else◌}
 use Rattle.std.specs.List.{AllByRecursion}
 use Rattle.edit_module.specs.Changes.{ChangeTree}
 use Rattle.edit_journal.specs.declared.line.Line.{Line}
 use Rattle.edit_session.specs.Step.{TripleTree}
 use Rattle.edit_session.specs.Run as journals
 use Rattle.edit_session.specs.Run.{is_refused}
-use Rattle.journal_answers.specs.Answers.{answer_lines}
-use Rattle.journal_answers.specs.Runs.{JournalItem, JournalAnswer, IsInStepFor, items_of, run_from}
-use Rattle.stored_run.specs.Runs.{text_of, kept_of, any_refused, last}
-use Rattle.stored_run.specs.declared.session.Answer.{Answer}
+use Rattle.pair_answers.specs.Answers.{answer_lines}
+use Rattle.pair_answers.specs.ItemRuns.{JournalItem, JournalAnswer, IsInStepFor, items_of, run_from}
+use Rattle.store_run.specs.StoreRuns.{text_of, kept_of, any_refused, last}
+use Rattle.store_run.specs.declared.session.Answer.{Answer}
 use Rattle.store_session.specs.StoredStates.{StoredState, state_with, change_text}
 
 -- the change of an item, where the answer accepts it
@@ -28,9 +29,11 @@ accepted_changes (item ∷ items) (s ∷ steps) = option_to_list (accepted_chang
 abbrev pub IsStateInStep : StoredState → Type 0
 IsStateInStep s = IsInStepFor s.form s.triple
 
--- The steps from a state on, behind n items, are those of the run of these items of a journal: the same answer lines, the same triple at
--- the end, refused where that run refuses. All states are consistent. The payloads are those of the changes that were accepted, in order.
-pub record IsRunOfItems (s : StoredState) (n : ℕ) (items : List JournalItem) (steps : List (StoredState × Answer)) : Type 0 where
+-- The steps from a state on, behind n items, are those of the run of these items of a journal: the same answer lines,
+-- the same triple at the end, refused where that run refuses. All states are consistent. The payloads are those of the
+-- changes that were accepted, in order.
+pub record IsRunOfItems (s : StoredState) (n : ℕ) (items : List JournalItem)
+    (steps : List (StoredState × Answer)) : Type 0 where
   pub journal : List (TripleTree × JournalAnswer)
   pub is_run : run_from s.form s.triple items ≡ Some journal
   pub text : text_of steps ≡ answer_lines (n + 1) journal

@@ -10,18 +10,18 @@ use Rattle.edit_journal.specs.EntryJson.{change_of_line, tree_of_text}
 use Rattle.edit_journal.specs.declared.line.Line.{Line}
 use Rattle.edit_session.specs.Step.{TripleTree}
 use Rattle.edit_session.specs.Run.{is_refused, take_item}
-use Rattle.journal_answers.specs.Answers as lines
-use Rattle.journal_answers.specs.Runs.{JournalItem, JournalAnswer, IsInStepFor}
+use Rattle.pair_answers.specs.Answers as lines
+use Rattle.pair_answers.specs.ItemRuns.{JournalItem, JournalAnswer, IsInStepFor}
 use Rattle.lens_core.specs.Translation.{translate}
 use Rattle.lens_forms.specs.Forms.{FormTree, left_type, right_type}
-use Rattle.stored_records.specs.RecordJson.{tree_of_version, tree_of_change_record, tree_of_snapshot}
-use Rattle.stored_records.specs.declared.fault.ReopenFault.{ReopenFault as RecordFault}
-use Rattle.stored_records.specs.declared.fault.ReopenFault.TheVariants as of_records
-use Rattle.stored_run.specs.declared.session.Answer.{Answer}
-use Rattle.stored_run.specs.declared.session.ReopenFault.{ReopenFault}
-use Rattle.stored_run.specs.declared.session.ReopenFault.TheVariants as of_stores
-use Rattle.stored_run.specs.declared.session.StoredSession as OfSession
-use Rattle.stored_sessions.specs.Stands.{Standing, stands}
+use Rattle.store_records.specs.RecordJson.{tree_of_version, tree_of_change_record, tree_of_snapshot}
+use Rattle.store_records.specs.declared.record_fault.ReopenFault.{ReopenFault as RecordFault}
+use Rattle.store_records.specs.declared.record_fault.ReopenFault.TheVariants as of_records
+use Rattle.store_run.specs.declared.session.Answer.{Answer}
+use Rattle.store_run.specs.declared.session.ReopenFault.{ReopenFault}
+use Rattle.store_run.specs.declared.session.ReopenFault.TheVariants as of_stores
+use Rattle.store_run.specs.declared.session.StoredSession as OfSession
+use Rattle.store_session.specs.Stands.{Standing, stands}
 
 -- the form of the lens, and the triple
 pub record StoredState : Type 0 where
@@ -109,9 +109,14 @@ IsStep s n line made = IfSome made.1.payload (ReadsAsChange (change_of_line line
 abbrev pub state_text : StoredState → List ℕ
 state_text s = lines.state_lines s.form s.triple
 
--- The payload is a snapshot of the state: it is read back as the record of the state's triple. The triple is
--- consistent, and its ints are i64, as all ints of the program.
+-- the payload of a snapshot: the record of the state's triple as compact JSON
+abbrev pub snapshot_text : StoredState → List ℕ
+snapshot_text s = compact_text (tree_of_snapshot s.form s.triple.left s.triple.comp s.triple.right)
+
+-- The payload is a snapshot of the state, and is read back as the record of its triple. The triple is consistent, and
+-- its ints are i64, as all ints of the program.
 pub record IsSnapshot (s : StoredState) (payload : List ℕ) : Type 0 where
+  pub text : payload ≡ snapshot_text s
   pub reads : tree_of_text payload ≡ Some (tree_of_snapshot s.form s.triple.left s.triple.comp s.triple.right)
   pub consistent : IsInStepFor s.form s.triple
   pub left_whole : holds_i64s s.triple.left ≡ true

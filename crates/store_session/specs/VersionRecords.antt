@@ -5,7 +5,7 @@ use Rattle.std.specs.Str.{is_utf8, chars}
 use lib.Utf8.{encode}
 use Rattle.json.specs.Print.{escape_byte}
 use Rattle.serde_json.proofs.OnLiterals.{serde_json_on_literals}
-use Rattle.stored_records.specs.RecordJson.{version_record, record_in}
+use Rattle.store_records.specs.RecordJson.{version_record, record_in}
 use Rattle.store_session.specs.StoredStates.{version_text}
 
 pub version_in : record_in version_text ≡ Some version_record

@@ -12,13 +12,13 @@ ghost use Rattle.edit_journal.specs.EntryJson.{change_counts_fit};
 ghost use Rattle.edit_journal.specs.Reading.{cause_of, IsRefused};
 ghost use Rattle.edit_journal.specs.declared.fault.EntryFault;
 ghost use Rattle.edit_session.specs.Step.{TripleTree};
-ghost use Rattle.journal_answers.specs.Runs.{JournalItem};
+ghost use Rattle.pair_answers.specs.ItemRuns.{JournalItem};
 ghost use Rattle.lens_forms.specs.Forms.{FormTree, form_tree, left_type, right_type};
 ghost use Rattle.lens_forms.specs.declared.limits.TheConstants.{GREATEST_HEIGHT};
-ghost use Rattle.stored_records.specs.RecordJson.{tree_of_change_record};
-ghost use Rattle.stored_run.specs.OkLines.{IsAnswer};
+ghost use Rattle.store_records.specs.RecordJson.{tree_of_change_record};
+ghost use Rattle.store_run.specs.OkLines.{IsAnswer};
 ghost use Rattle.store_session.specs.StoredStates.{answer, answer_item, change_text, state_with, ReadsAsChange, IsStep};
-ghost use Rattle.store_session.specs.Views.{session_state};
+ghost use Rattle.store_session.specs.SessionStates.{session_state};
 
 use answer_text::{fault_line, group_line, group_refused_line, no_apply_line, ok_line};
 use edit_journal::{EntryFault, Line, read_entry};
@@ -26,8 +26,8 @@ use edit_module::{Change, Entry};
 use edit_session::{GroupFault, Session, StepFault};
 use lens_flat::Flat;
 use std::alloc::{AllocError, Global};
-use stored_records::change_payload;
-use stored_run::Answer;
+use store_records::change_payload;
+use store_run::Answer;
 use texts::Bytes;
 
 // Answers the item with this number, which steps the session if it is a change that is accepted. The line is read once.

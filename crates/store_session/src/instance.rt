@@ -4,18 +4,18 @@ use crate::answering::answer_item;
 use crate::opening::open;
 use crate::session::StoreSession;
 use crate::showing::shown;
-use crate::snapshots::snapshot_of;
+use crate::snapshot_making::snapshot_of;
 use edit_journal::Line;
 use lens_io::Payloads;
 use std::alloc::{AllocError, Global};
-use stored_run::{Answer, Opened, ReopenFault, StoredSession};
+use store_run::{Answer, Opened, ReopenFault, StoredSession};
 use texts::Bytes;
 
 impl StoredSession for StoreSession {
     ghost use Rattle.store_session.specs.StoredStates as states;
     ghost use Rattle.store_session.specs.AnswerSteps.{refused_stays};
     ghost use Rattle.store_session.specs.PayloadLaws as laws;
-    ghost use Rattle.store_session.specs.Views.{session_state};
+    ghost use Rattle.store_session.specs.SessionStates.{session_state};
 
     ghost State = { states.StoredState };
 

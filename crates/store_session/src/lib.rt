@@ -1,16 +1,27 @@
-//! A session of the program as a store has it.
+//! What the payloads of a store represent, and the session of the program that a store has.
 //!
-//! [`StoreSession`] is the session for which the payloads of a store stand. It is a [`StoredSession`](stored_run::StoredSession), so
-//! the commands over a store run with it. specs/StoredStates.antt defines its state, what payloads stand for, and the answer to a line.
-//! [`laws`] says what follows: a store of any bytes is refused or in step, and a journal is answered as a run over scripts answers it.
+//! [`reopen`] returns the session that payloads represent, with the number of changes and the version of the store, or
+//! the first record that is at fault. Payloads may come from anywhere: what they represent is in step. The definition
+//! is `stands` in specs/Stands.antt. What this program writes stands ([`standing_laws`]). docs/FORMATS.md has the rules
+//! with examples.
+//!
+//! [`StoreSession`] is that session. It is a [`StoredSession`](store_run::StoredSession), so the commands over a store
+//! run with it. specs/StoredStates.antt defines its state, what payloads represent, and the answer to a line.
+//! [`session_laws`] says what follows: a store of any bytes is refused or in step, and a journal is answered as a run
+//! over scripts answers it.
 #![tactic(auto)]
 
 mod answering;
 mod instance;
-pub mod laws;
 mod opening;
+mod reopening;
 mod session;
+pub mod session_laws;
 mod showing;
-mod snapshots;
+mod snapshot_making;
+mod snapshot_reading;
+pub mod standing_laws;
 
+pub use crate::reopening::{Opened, go_on, reopen, reopen_first};
 pub use crate::session::StoreSession;
+pub use crate::snapshot_making::snapshot_of;

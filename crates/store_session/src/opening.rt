@@ -3,22 +3,21 @@
 ghost use Rattle.std.specs.Prelude.{◌≡◌, ℕ, List, Ok, Some, IfOk, MatchResult};
 ghost use Rattle.edit_session.specs.Views.{triple_tree};
 ghost use Rattle.lens_forms.specs.Forms.{form_tree};
-ghost use Rattle.stored_records.specs.StoredLens.{stored_form};
-ghost use Rattle.stored_run.specs.Reopening.{IsReopenFault};
-ghost use Rattle.stored_sessions.specs.Outcomes.{IsReopenFault as IsRecordFault};
-ghost use Rattle.stored_sessions.specs.Stands.{stands};
-ghost use Rattle.stored_sessions.specs.Views.{standing};
+ghost use Rattle.store_records.specs.StoredLens.{stored_lens};
+ghost use Rattle.store_run.specs.Reopening.{IsReopenFault};
+ghost use Rattle.store_session.specs.ReopenOutcomes.{IsReopenFault as IsRecordFault};
+ghost use Rattle.store_session.specs.Stands.{stands};
+ghost use Rattle.store_session.specs.Standings.{standing};
 ghost use Rattle.store_session.specs.StoredStates.{stands_for, count_of, fault_of, version_for};
-ghost use Rattle.store_session.specs.Views.{session_state};
+ghost use Rattle.store_session.specs.SessionStates.{session_state};
 
 use crate::session::StoreSession;
+use crate::{Opened as OpenedRecords, reopen};
 use lens_flat::Flat;
 use lens_io::Payloads;
-use lens_types::Typed;
 use std::alloc::{AllocError, Global};
-use stored_records::{ReopenFault as RecordFault, stored_lens, version_payload};
-use stored_run::{Opened, ReopenFault};
-use stored_sessions::{Opened as OpenedRecords, reopen};
+use store_records::{ReopenFault as RecordFault, StoredLens, stored_lens, version_payload};
+use store_run::{Opened, ReopenFault};
 use texts::Bytes;
 
 // The version of a store whose version record is still to be stored.
@@ -54,7 +53,9 @@ fn with_version(
     opened: OpenedRecords<Flat>,
 ) -> Result<Opened<StoreSession>, ReopenFault>
     ensures stands { (payloads : List (List ℕ))
-        → stands payloads ≡ Ok (standing (form_tree opened.session.lens.typed) (triple_tree opened.session.triple) opened.count opened.version)
+        → stands payloads
+        ≡ Ok (standing (form_tree opened.session.lens.typed)
+        (triple_tree opened.session.triple) opened.count opened.version)
         → MatchResult result
         (λ o. stands_for payloads ≡ Ok (session_state o.session.session, o.version))
         (IsReopenFault (stands_for payloads)) }
@@ -90,7 +91,7 @@ fn open_records(alloc: Global, payloads: &Payloads) -> Result<OpenedRecords<Flat
         (IsRecordFault (stands payloads.now)) }
 {
     match stored_lens(alloc, payloads) {
-        Ok(typed) => open_with(alloc, &typed, payloads),
+        Ok(stored) => open_with(alloc, &stored, payloads),
         Err(fault) => Err(fault),
     }
 }
@@ -98,15 +99,15 @@ fn open_records(alloc: Global, payloads: &Payloads) -> Result<OpenedRecords<Flat
 #[tactic(auto, using(lens_flat::proofs::FormLenses::is_lens_of))]
 fn open_with(
     alloc: Global,
-    typed: &Typed,
+    stored: &StoredLens,
     payloads: &Payloads,
 ) -> Result<OpenedRecords<Flat>, RecordFault>
-    requires stored { stored_form payloads.now ≡ Some (form_tree typed.now) }
+    requires stored { stored_lens payloads.now ≡ Some (form_tree stored.now.typed, stored.now.version) }
     ensures stands { MatchResult result
         (λ o. stands payloads.now
         ≡ Ok (standing (form_tree o.session.lens.typed) (triple_tree o.session.triple) o.count o.version))
         (IsRecordFault (stands payloads.now)) }
 {
-    let lens = Flat::compile(alloc, typed)?;
-    reopen(alloc, lens, typed, payloads)
+    let lens = Flat::compile(alloc, &stored.typed)?;
+    reopen(alloc, lens, stored, payloads)
 }

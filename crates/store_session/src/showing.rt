@@ -1,13 +1,13 @@
 //! The state lines of a session.
 
 ghost use Rattle.std.specs.Prelude.{◌≡◌, IfOk};
-ghost use Rattle.stored_run.specs.OkLines.{AreOtherLines};
+ghost use Rattle.store_run.specs.OkLines.{AreOtherLines};
 ghost use Rattle.store_session.specs.StoredStates.{state_text};
-ghost use Rattle.store_session.specs.Views.{session_state};
+ghost use Rattle.store_session.specs.SessionStates.{session_state};
 
 use edit_session::Session;
-use journal_answers::state_lines;
 use lens_flat::Flat;
+use pair_answers::state_lines;
 use std::alloc::{AllocError, Global};
 use texts::Bytes;
 

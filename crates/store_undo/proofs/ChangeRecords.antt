@@ -9,13 +9,13 @@ use Rattle.edit_journal.specs.EntryJson.{tree_of_text}
 use Rattle.lens_core.specs.Translation.{translate}
 use Rattle.lens_forms.specs.Forms.{FormTree, left_type, right_type}
 use Rattle.edit_session.specs.Step.{TripleTree, AllStepped}
-use Rattle.stored_records.specs.RecordJson.{change_record, snapshot_record, change_in, version_in, snapshot_in, record_of, record_in}
-use Rattle.stored_records.specs.declared.fault.ReopenFault.TheVariants.{BadRecord}
-use Rattle.stored_sessions.specs.Stands.{Standing, step_of, is_too_new, after_step, after_record, after_payloads}
+use Rattle.store_records.specs.RecordJson.{change_record, snapshot_record, change_in, version_in, snapshot_in, record_of, record_in}
+use Rattle.store_records.specs.declared.record_fault.ReopenFault.TheVariants.{BadRecord}
+use Rattle.store_session.specs.Stands.{Standing, step_of, is_too_new, after_step, after_record, after_payloads}
 use Rattle.store_undo.specs.Undoing.{change_of, changes_of}
 use Rattle.store_undo.proofs.Splitting.{went_on}
-use Rattle.undo_words.specs.Undone.{BothTrees, no_words, joined_both, undone_behind, undone, entries_of_all}
-use Rattle.undo_words.proofs.Accepted.{change_goes}
+use Rattle.edit_undo.specs.Undone.{BothTrees, no_words, joined_both, undone_behind, undone, entries_of_all}
+use Rattle.edit_undo.proofs.Accepted.{change_goes}
 
 -- ---- the record of a change
 

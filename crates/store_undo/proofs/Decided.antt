@@ -7,14 +7,14 @@ use Rattle.gate_log.specs.LogBytes.{LogContent, payloads, not_a_log, bad_record,
 use Rattle.gate_log.specs.LogOnDisk.{HoldsPayloads}
 use Rattle.lens_core.specs.Consistency.{IsConsistent}
 use Rattle.lens_forms.specs.Forms.{FormTree}
-use Rattle.stored_records.specs.RecordJson.{RecordTree, version_record, change_record, snapshot_record, record_in}
-use Rattle.stored_records.specs.StoredLens.{lens_and_version}
-use Rattle.stored_records.specs.declared.fault.ReopenFault.{ReopenFault}
-use Rattle.stored_records.specs.declared.fault.ReopenFault.TheVariants as reopening
-use Rattle.stored_run.specs.declared.refusals.StoreRefusal.{StoreRefusal}
-use Rattle.stored_run.specs.declared.refusals.StoreRefusal.TheVariants.{NothingToUndo}
-use Rattle.stored_sessions.specs.ConsistencyTest.{is_consistent}
-use Rattle.stored_sessions.specs.Stands.{Standing, step_of, after_step, after_triple, triple_of, is_too_new, after_record, going_on, after_payloads, at_start, from_opening, stands}
+use Rattle.store_records.specs.RecordJson.{RecordTree, version_record, change_record, snapshot_record, record_in}
+use Rattle.store_records.specs.StoredLens.{lens_and_version}
+use Rattle.store_records.specs.declared.record_fault.ReopenFault.{ReopenFault}
+use Rattle.store_records.specs.declared.record_fault.ReopenFault.TheVariants as reopening
+use Rattle.store_run.specs.declared.refusals.StoreRefusal.{StoreRefusal}
+use Rattle.store_run.specs.declared.refusals.StoreRefusal.TheVariants.{NothingToUndo}
+use Rattle.store_session.specs.ConsistencyTest.{is_consistent}
+use Rattle.store_session.specs.Stands.{Standing, step_of, after_step, after_triple, triple_of, is_too_new, after_record, going_on, after_payloads, at_start, from_opening, stands}
 use Rattle.store_undo.specs.UndoRecords.{new_records, version_then, TakesBack}
 use Rattle.store_undo.specs.Undoing.{Undoing, undoing_from, undoing_of, undoing, last_changes, payloads_before, refusal_of, refusal_of_log, refusal_in, undo_refusal}
 use Rattle.store_undo.proofs.Earlier.{stood_then}

@@ -6,11 +6,11 @@ use Rattle.std.proofs.lemmas.List.{take-append-drop, length-take-le}
 use Rattle.edit_module.specs.Changes.{ChangeTree}
 use Rattle.lens_core.specs.Translation.{translate}
 use Rattle.lens_forms.specs.Forms.{FormTree, left_type, right_type}
-use Rattle.stored_sessions.specs.Stands.{Standing, stands}
+use Rattle.store_session.specs.Stands.{Standing, stands}
 use Rattle.store_undo.specs.Undoing.{changes_of, last_payloads, payloads_before, last_changes, undoing_from, undoing_of, undoing}
 use Rattle.store_undo.proofs.Splitting.{stood_before}
 use Rattle.store_undo.proofs.ChangeRecords.{TakesOver, takes_over}
-use Rattle.undo_words.specs.Undone.{BothTrees, undone}
+use Rattle.edit_undo.specs.Undone.{BothTrees, undone}
 
 pub some_last : (b : Bool) (o : Option (List ChangeTree)) (cs : List ChangeTree) → cond b o None ≡ Some cs → (b ≡ true) × (o ≡ Some cs)
 some_last true o cs h = (refl, h)

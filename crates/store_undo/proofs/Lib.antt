@@ -1,9 +1,9 @@
-pub mod Splitting
 pub mod ChangeRecords
+pub mod Decided
 pub mod Earlier
-pub mod VersionRecords
+pub mod Makings
+pub mod Splitting
 pub mod UndoCalls
 pub mod UndoCauses
 pub mod UndoRefusals
-pub mod Makings
-pub mod Decided
+pub mod VersionRecords

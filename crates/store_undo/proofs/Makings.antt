@@ -1,44 +1,77 @@
--- What is made, from what its parts say.
-use Rattle.std.proofs.Common.{◌≡◌, ℕ, ◌<◌, List, ◌∷◌, [], ◌++◌, Some, Ok, ap, subst, ◌∙◌}
-use Rattle.std.specs.Prelude.{option_to_list}
+-- What is made, from what was opened and from what its parts say.
+use Rattle.std.proofs.Common.{◌≡◌, ℕ, ◌-◌, ◌<◌, Bool, true, false, cond, List, ◌∷◌, [], ◌++◌, length, take, Result, Some, Ok, Err, refl, sym, ap, subst, ◌∙◌}
+use Rattle.std.specs.Prelude.{nat_lt, option_to_list}
 use Rattle.edit_module.specs.Changes.{ChangeTree}
 use Rattle.edit_session.specs.Step.{TripleTree}
-use Rattle.lens_core.specs.Translation.{translate}
-use Rattle.lens_forms.specs.Forms.{FormTree, left_type, right_type}
-use Rattle.stored_sessions.specs.Stands.{Standing, stands}
-use Rattle.store_undo.specs.Making.{AreTexts, IsMade}
+use Rattle.edit_session.specs.Views.{triple_tree}
+use Rattle.lens_forms.specs.Forms.{FormTree, form_tree, left_type, right_type}
+use Rattle.store_records.specs.declared.record_fault.ReopenFault.{ReopenFault}
+use Rattle.store_session.specs.Stands.{Standing, stands}
+use Rattle.store_session.specs.Standings.{standing}
+use Rattle.store_undo.specs.Making.{AreTexts, IsMade, StoodTwice, UndoneBy, kept_before}
 use Rattle.store_undo.specs.UndoRecords.{version_due, version_then}
-use Rattle.store_undo.specs.Undoing.{payloads_before, last_changes}
+use Rattle.store_undo.specs.Undoing.{changes_of, last_payloads, payloads_before, last_changes}
 use Rattle.store_undo.specs.declared.making.Making.{Making}
-use Rattle.store_undo.proofs.Earlier.{stood_then}
+use Rattle.store_undo.specs.declared.opening.OpenedTwice.{OpenedTwice}
+use Rattle.store_undo.proofs.Earlier.{stood_then, some_last}
 use Rattle.store_undo.proofs.VersionRecords.{undone_stands}
-use Rattle.undo_words.specs.Undone.{BothTrees, BringsBack, undone}
+use Rattle.edit_undo.specs.Undone.{BothTrees, BringsBack}
 
--- the words of a standing's changes
-abbrev UndoneBy : Standing → List ChangeTree → TripleTree × BothTrees → Type 0
-UndoneBy was cs r = undone (left_type was.form) (right_type was.form) (translate was.form) was.triple cs ≡ Some r
+same_standing : (s t : Standing) (r : Result Standing ReopenFault) → r ≡ Ok s → r ≡ Ok t → s ≡ t
+same_standing s t (Ok now) e f =
+    let one : now ≡ s = cc in
+    let other : now ≡ t = cc in
+    sym one ∙ other
+same_standing s t (Err fault) e f = cc
 
-module _ (count : ℕ) (held before : List (List ℕ)) (now : Standing) (cs : List ChangeTree) (h : stands held ≡ Ok now) (last : last_changes count held ≡ Some cs) (is : before ≡ payloads_before count held) where
-  pub accepted_of : (was : Standing) × (r : TripleTree × BothTrees) × (stands before ≡ Ok was) × UndoneBy was cs r
-  accepted_of =
-      let stood = stood_then count held now cs h last in
-      (stood.was, (now.triple, stood.over.words), ap stands is ∙ stood.stood, stood.over.undone_is)
+-- where there are so many changes, the payloads before them are kept
+kept_is : (count : ℕ) (held : List (List ℕ)) (cs : List ChangeTree) → last_changes count held ≡ Some cs → take (kept_before count (length held)) held ≡ payloads_before count held
+kept_is count held cs last =
+    let some = some_last (nat_lt count (length held)) (changes_of (last_payloads count held)) cs last in
+    ap (λ (b : Bool). take (cond b (length held - count) (length held)) held) some.0
 
-  pub made_of : (made : Making) → made.version ≡ version_due now.version
-      → ((was : Standing) (r : TripleTree × BothTrees) → stands before ≡ Ok was → UndoneBy was cs r
-      → AreTexts was.form was.triple r.1 made.texts × BringsBack (left_type was.form) (right_type was.form) r.1 r.0 was.triple)
+module _ (count : ℕ) (held : List (List ℕ)) (twice : OpenedTwice) (cs : List ChangeTree) (stood : StoodTwice count held twice) (last : last_changes count held ≡ Some cs) where
+  abbrev form : FormTree
+  form = form_tree twice.opened.session.lens.typed
+
+  abbrev now : Standing
+  now = standing form (triple_tree twice.opened.session.triple) twice.opened.count twice.opened.version
+
+  -- what stood before the changes is what was opened first
+  abbrev UndoneTwice : BothTrees → Type 0
+  UndoneTwice words = UndoneBy form (triple_tree twice.earlier) cs (now.triple, words)
+
+  same_before : stood.was ≡ (stood_then count held now cs stood.now last).was
+  same_before =
+      let parts = stood_then count held now cs stood.now last in
+      same_standing stood.was parts.was (stands (payloads_before count held)) (sym (ap stands (kept_is count held cs last)) ∙ stood.before) parts.stood
+
+  undone_twice : UndoneTwice (stood_then count held now cs stood.now last).over.words
+  undone_twice =
+      let parts = stood_then count held now cs stood.now last in
+      let at_was = subst (λ (s : Standing). UndoneBy s.form s.triple cs (now.triple, parts.over.words)) (sym same_before) parts.over.undone_is in
+      let at_form = subst (λ (l : FormTree). UndoneBy l stood.was.triple cs (now.triple, parts.over.words)) stood.form at_was in
+      subst (λ (t : TripleTree). UndoneBy form t cs (now.triple, parts.over.words)) stood.triple at_form
+
+  pub accepted_of : (r : TripleTree × BothTrees) × UndoneBy form (triple_tree twice.earlier) cs r
+  accepted_of = ((now.triple, (stood_then count held now cs stood.now last).over.words), undone_twice)
+
+  pub made_of : (made : Making) → made.version ≡ version_due twice.opened.version
+      → ((r : TripleTree × BothTrees) → UndoneBy form (triple_tree twice.earlier) cs r
+      → AreTexts form (triple_tree twice.earlier) r.1 made.texts × BringsBack (left_type form) (right_type form) r.1 r.0 (triple_tree twice.earlier))
       → IsMade count held made
   made_of made version texts =
-      let stood = stood_then count held now cs h last in
-      let was = stood.was in
-      let words = stood.over.words in
-      let here = texts was (now.triple, words) (ap stands is ∙ stood.stood) stood.over.undone_is in
-      let are = subst (λ (l : FormTree). AreTexts l was.triple words made.texts) stood.over.form here.0 in
-      let back = subst (λ (l : FormTree). BringsBack (left_type l) (right_type l) words now.triple was.triple) stood.over.form here.1 in
-      let stand = undone_stands held now was.triple made.texts.snapshot h are.snapshot in
+      let parts = stood_then count held now cs stood.now last in
+      let words = parts.over.words in
+      let same : triple_tree twice.earlier ≡ parts.was.triple = sym stood.triple ∙ ap (λ (s : Standing). s.triple) same_before in
+      let here = texts (now.triple, words) undone_twice in
+      let are = subst (λ (t : TripleTree). AreTexts form t words made.texts) same here.0 in
+      let back = subst (λ (t : TripleTree). BringsBack (left_type form) (right_type form) words now.triple t) same here.1 in
+      let was = parts.was in
+      let stand = undone_stands held now was.triple made.texts.snapshot stood.now are.snapshot in
       record {
         u = record { now = now; before = was.triple; words = words };
-        is = stood.undoes;
+        is = parts.undoes;
         version = version;
         snapshot = are.snapshot.text;
         lines = are.lines;

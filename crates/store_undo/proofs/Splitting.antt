@@ -1,25 +1,10 @@
 -- Payloads that stand, in two parts: the first part stands, and the second goes on from it.
-use Rattle.std.proofs.Common.{◌≡◌, ℕ, ◌+◌, ◌<◌, List, [], ◌∷◌, ◌++◌, length, Option, Some, None, Result, Ok, Err, refl, sym, ap, ◌∙◌, arith}
+use Rattle.std.proofs.Common.{◌≡◌, ℕ, ◌+◌, ◌<◌, List, [], ◌∷◌, ◌++◌, length, Option, Some, None, Result, Ok, Err, refl, sym, ◌∙◌, arith}
 use Rattle.lens_forms.specs.Forms.{FormTree}
-use Rattle.stored_records.specs.RecordJson.{record_in}
-use Rattle.stored_records.specs.StoredLens.{lens_and_version}
-use Rattle.stored_records.specs.declared.fault.ReopenFault.{ReopenFault}
-use Rattle.stored_sessions.specs.Stands.{Standing, going_on, after_record, after_payloads, at_start, from_opening, stands}
-
-split_step : (n m : ℕ) (ps qs : List (List ℕ)) (r : Result Standing ReopenFault)
-    → ((t : Standing) → after_payloads (n + 1) t (ps ++ qs) ≡ going_on (λ u. after_payloads m u qs) (after_payloads (n + 1) t ps))
-    → going_on (λ t. after_payloads (n + 1) t (ps ++ qs)) r ≡ going_on (λ u. after_payloads m u qs) (going_on (λ t. after_payloads (n + 1) t ps) r)
-split_step n m ps qs (Ok t) h = h t
-split_step n m ps qs (Err fault) h = refl
-
--- the second part is numbered on from the first
-pub after_both : (n m : ℕ) (s : Standing) (ps qs : List (List ℕ)) → m ≡ n + length ps
-    → after_payloads n s (ps ++ qs) ≡ going_on (λ u. after_payloads m u qs) (after_payloads n s ps)
-after_both n m s [] qs e =
-    let same : n ≡ m = omega (arith, e) in
-    ap (λ (k : ℕ). after_payloads k s qs) same
-after_both n m s (p ∷ ps) qs e =
-    split_step n m ps qs (after_record n s (record_in p)) (λ t. after_both (n + 1) m t ps qs (omega (arith, e)))
+use Rattle.store_records.specs.StoredLens.{lens_and_version}
+use Rattle.store_records.specs.declared.record_fault.ReopenFault.{ReopenFault}
+use Rattle.store_session.specs.Stands.{Standing, going_on, after_payloads, at_start, from_opening, stands}
+use Rattle.store_session.proofs.PartsStand.{after_both}
 
 pub went_on : (others : Standing → Result Standing ReopenFault) (r : Result Standing ReopenFault) (end : Standing) → going_on others r ≡ Ok end
     → (s : Standing) × (r ≡ Ok s) × (others s ≡ Ok end)

@@ -7,24 +7,24 @@ use Rattle.lens_io.specs.declared.sink.Sink as OfSink
 use Rattle.gate_log.specs.LogOnDisk.{LogState, HoldsPayloads}
 use Rattle.edit_module.specs.Changes.{ChangeTree}
 use Rattle.edit_session.specs.Step.{TripleTree}
-use Rattle.stored_records.specs.declared.fault.ReopenFault.{ReopenFault}
-use Rattle.stored_run.specs.Effects.{HoldsFirst, StandsOn, Stops}
-use Rattle.stored_run.specs.Refusals.{IsUnwritten, IsOpening, FailsUnopened}
-use Rattle.stored_run.specs.StoreEnds.{StoreEnds, StoresBehind}
-use Rattle.stored_run.specs.declared.status.Status.{Status}
-use Rattle.stored_run.specs.declared.status.Status.TheVariants as ending
-use Rattle.stored_run.specs.declared.stop.Stop.{Stop}
-use Rattle.stored_run.proofs.Effects.{first_all}
-use Rattle.stored_run.proofs.Moments.{leaves_more, leaves_then}
-use Rattle.stored_run.proofs.Openings.{opening_then}
-use Rattle.stored_run.proofs.PackCalls.{never_finished, now_at, moments_at}
-use Rattle.stored_sessions.specs.Stands.{Standing, stands}
+use Rattle.store_records.specs.declared.record_fault.ReopenFault.{ReopenFault}
+use Rattle.store_run.specs.Effects.{HoldsFirst, StandsOn, Stops}
+use Rattle.store_run.specs.Refusals.{IsUnwritten, IsOpening, FailsUnopened}
+use Rattle.store_run.specs.StoreEnds.{StoreEnds, StoresBehind}
+use Rattle.command_ends.specs.declared.status.Status.{Status}
+use Rattle.command_ends.specs.declared.status.Status.TheVariants as ending
+use Rattle.store_run.specs.declared.stop.Stop.{Stop}
+use Rattle.store_run.proofs.Effects.{first_all}
+use Rattle.store_run.proofs.Moments.{leaves_more, leaves_then}
+use Rattle.store_run.proofs.Openings.{opening_then}
+use Rattle.store_run.proofs.PackCalls.{never_finished, now_at, moments_at}
+use Rattle.store_session.specs.Stands.{Standing, stands}
 use Rattle.store_undo.specs.UndoCall.{IsImage, UndoesCall, IsSafeUndo}
 use Rattle.store_undo.specs.UndoEnds.{UndoEnds}
 use Rattle.store_undo.specs.UndoRecords.{version_due, snapshot_text, undo_text, TakesBack}
 use Rattle.store_undo.specs.Undoing.{Undoing, undoing_from, undoing_of, undoing, last_changes, payloads_before}
 use Rattle.store_undo.proofs.VersionRecords.{front_stands}
-use Rattle.undo_words.specs.Undone.{BothTrees}
+use Rattle.edit_undo.specs.Undone.{BothTrees}
 
 -- ---- what undoing says of the payloads
 
@@ -163,19 +163,19 @@ module _ {K D : Type 0} (sink : OfSink.Ghosts K) (disk : OfDisk.Ghosts D)
     safe_of_ends status (inr e) = safe_kept e.holds e.opens.moments
 
   -- behind calls of the disk that only read
-  pub ends_behind : (d0 : D) (status : Status) → disk.content d ≡ disk.content d0 → ((c : List ℕ) → disk.images d c → disk.images d0 c) → LeavesOnly disk d0 d (disk.images d0) → disk.room d ≡ disk.room d0
+  pub ends_behind : (d0 : D) (status : Status) → IsOpening disk d0 d
       → UndoEnds sink disk (k, d) (k', d') before u status → UndoEnds sink disk (k, d0) (k', d') before u status
-  ends_behind d0 status same only moments roomy (inl e) = inl (record {
+  ends_behind d0 status first (inl e) = inl (record {
     d1 = e.d1;
     log = e.log;
     log' = e.log';
-    opens = opening_then disk d0 d e.d1 same only moments roomy e.opens;
+    opens = opening_then disk d0 d e.d1 first e.opens;
     stands = e.stands;
     takes_back = e.takes_back;
     ends = e.ends;
   })
-  ends_behind d0 status same only moments roomy (inr e) = inr (record {
-    opens = opening_then disk d0 d d' same only moments roomy e.opens;
+  ends_behind d0 status first (inr e) = inr (record {
+    opens = opening_then disk d0 d d' first e.opens;
     holds = e.holds;
-    fails = (e.fails.0, λ x. subst (λ (o : Option ℕ). IsNone o) roomy (e.fails.1 x));
+    fails = (e.fails.0, λ x. subst (λ (o : Option ℕ). IsNone o) first.same_room (e.fails.1 x));
   })

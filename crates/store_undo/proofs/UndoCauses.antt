@@ -5,32 +5,26 @@ use Rattle.gate_log.specs.LogBytes.{records_length, closed_gate}
 use Rattle.lens_io.specs.declared.disk.Disk as OfDisk
 use Rattle.lens_io.specs.declared.sink.Sink as OfSink
 use Rattle.gate_log.specs.LogOnDisk.{LogState, HoldsPayloads}
-use Rattle.stored_run.specs.Effects.{IsOver, StandsOn, Stops}
-use Rattle.stored_run.specs.Ends.{status_of}
-use Rattle.stored_run.specs.Refusals.{Refuses, IsUnwritten, IsOpening, FailsUnopened}
-use Rattle.stored_run.specs.Rooms.{most_bytes, HasNoRoom}
-use Rattle.stored_run.specs.StoreEnds.{StoreEnds, StoresBehind}
-use Rattle.stored_run.specs.Stopping.{IsOwnStop}
-use Rattle.stored_run.specs.declared.refusals.StoreRefusal.{StoreRefusal}
-use Rattle.stored_run.specs.declared.status.Status.{Status}
-use Rattle.stored_run.specs.declared.status.Status.TheVariants as ending
-use Rattle.stored_run.specs.declared.stop.Stop.{Stop}
-use Rattle.stored_run.specs.declared.stop.Stop.TheVariants.{LogFull, SourceFault, SinkFault, DiskFault, TooLong, NoMemory}
-use Rattle.stored_run.proofs.Effects.{records_append, room_over}
-use Rattle.stored_run.proofs.Rooms.{gate_of, none_some}
-use Rattle.stored_sessions.specs.Stands.{stands}
+use Rattle.store_run.specs.Effects.{IsOver, StandsOn, Stops}
+use Rattle.store_run.specs.ApplyEnds.{status_of}
+use Rattle.store_run.specs.Refusals.{Refuses, IsUnwritten, IsOpening, FailsUnopened}
+use Rattle.store_run.specs.Rooms.{most_bytes, HasNoRoom}
+use Rattle.store_run.specs.StoreEnds.{StoreEnds, StoresBehind}
+use Rattle.store_run.specs.Stopping.{IsOwnStop}
+use Rattle.store_run.specs.declared.refusals.StoreRefusal.{StoreRefusal}
+use Rattle.command_ends.specs.declared.status.Status.{Status}
+use Rattle.command_ends.specs.declared.status.Status.TheVariants as ending
+use Rattle.store_run.specs.declared.stop.Stop.{Stop}
+use Rattle.store_run.specs.declared.stop.Stop.TheVariants.{LogFull, SourceFault, SinkFault, DiskFault, TooLong, NoMemory}
+use Rattle.store_run.proofs.Effects.{records_append, if_known}
+use Rattle.store_run.proofs.Rooms.{gate_of, none_some}
+use Rattle.store_session.specs.Stands.{stands}
 use Rattle.store_undo.specs.UndoCall.{HoldsNow}
 use Rattle.store_undo.specs.UndoCauses.{UndoHasNoRoom, IsCauseInRoom}
 use Rattle.store_undo.specs.UndoEnds.{UndoEnds}
 use Rattle.store_undo.specs.UndoRecords.{version_due, snapshot_text, undo_text}
 use Rattle.store_undo.specs.Undoing.{Undoing}
 use Rattle.store_undo.proofs.VersionRecords.{front_stands}
-
--- a refusal is no fault of a source
-pub refuses_sourceless : {K : Type 0} (sink : OfSink.Ghosts K) (old new : K) (refusal : StoreRefusal) (status : Status) → Refuses sink old new refusal status → status ≡ ending.SourceFault → ⊥
-refuses_sourceless sink old new refusal status (inl h) e = cc
-refuses_sourceless sink old new refusal status (inr (inl h)) e = cc
-refuses_sourceless sink old new refusal status (inr (inr h)) e = cc
 
 -- ---- no room
 
@@ -65,6 +59,8 @@ undo_complete ending.DiskFault o before u h sink disk none = absurd (disk refl)
 undo_complete ending.SomeRefused o before u h sink disk none = absurd h
 undo_complete ending.SourceFault o before u h sink disk none = absurd h
 undo_complete ending.InputTooLong o before u h sink disk none = absurd h
+undo_complete ending.Usage o before u h sink disk none = absurd h
+undo_complete ending.ProgramRefused o before u h sink disk none = absurd h
 
 -- ---- statuses
 
@@ -105,8 +101,8 @@ module _ {K D : Type 0} (sink : OfSink.Ghosts K) (disk : OfDisk.Ghosts D) (befor
     stop_cause : (stop : Stop) → IsOwnStop stop → StopsAt k d l k1 d' l' stop → IsCauseInRoom (disk.room d) before u (status_of stop)
     stop_cause LogFull own (inl s) = over_version most_bytes s.full
     stop_cause LogFull own (inr s) = over_snapshot most_bytes s.full
-    stop_cause DiskFault own (inl s) = room_over (disk.room d) (λ most. IsOver most (l.gate + records_length []) version) (λ most. UndoHasNoRoom most before u) over_version s.full
-    stop_cause DiskFault own (inr s) = room_over (disk.room d) (λ most. IsOver most (l.gate + records_length version) last) (λ most. UndoHasNoRoom most before u) over_snapshot s.full
+    stop_cause DiskFault own (inl s) = if_known (disk.room d) (λ most. IsOver most (l.gate + records_length []) version) (λ most. UndoHasNoRoom most before u) over_version s.full
+    stop_cause DiskFault own (inr s) = if_known (disk.room d) (λ most. IsOver most (l.gate + records_length version) last) (λ most. UndoHasNoRoom most before u) over_snapshot s.full
     stop_cause SinkFault own s = tt
     stop_cause NoMemory own s = tt
     stop_cause SourceFault own s = absurd own
@@ -141,7 +137,7 @@ module _ {K D : Type 0} (sink : OfSink.Ghosts K) (disk : OfDisk.Ghosts D) (befor
         let now = front_stands before front rest u.now h e in
         record { front = front; rest = rest; parts = e; holds = holds; version = now.0; stand = now.1 }
 
-    holds_before : (c : List ℕ) → HoldsPayloads before c → HoldsNow before u c
+    pub holds_before : (c : List ℕ) → HoldsPayloads before c → HoldsNow before u c
     holds_before c holds = holds_now [] version c refl (subst (λ (x : List (List ℕ)). HoldsPayloads x c) (sym (append-nil before)) holds)
 
     stop_unstored : (k k1 : K) (d d' : D) (l l' : LogState) (stop : Stop) → StoresNone (status_of stop) → StandsOn disk d l before → StopsAt k d l k1 d' l' stop

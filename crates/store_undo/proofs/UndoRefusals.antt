@@ -1,22 +1,16 @@
 -- Payloads and logs that are refused.
-use Rattle.std.proofs.Common.{◌≡◌, inl, inr, ℕ, List, Option, Some, None, Result, Ok, Err, refl, sym, ap, subst, ◌∙◌}
+use Rattle.std.proofs.Common.{◌≡◌, inl, ℕ, List, Option, Some, None, Result, Ok, Err, refl, sym, ap, subst, ◌∙◌}
 use Rattle.std.proofs.lemmas.Option.{same_Some}
-use Rattle.std.specs.Prelude.{option_and_then, IsNone}
+use Rattle.std.specs.Prelude.{option_and_then}
 use Rattle.lens_io.specs.declared.disk.Disk as OfDisk
 use Rattle.lens_io.specs.declared.sink.Sink as OfSink
-use Rattle.gate_log.specs.CallEnds.{IsLogRefusal}
-use Rattle.gate_log.specs.LogBytes.{not_a_log, bad_record, log_of}
-use Rattle.gate_log.specs.declared.fault.LogFault.{LogFault}
-use Rattle.gate_log.specs.declared.fault.LogFault.TheVariants as log
 use Rattle.edit_module.specs.Changes.{ChangeTree}
-use Rattle.stored_records.specs.declared.fault.ReopenFault.{ReopenFault}
-use Rattle.stored_run.specs.Refusals.{Refuses, EndsAtLog, EndsRefused}
-use Rattle.stored_run.specs.declared.refusals.StoreRefusal.{StoreRefusal}
-use Rattle.stored_run.specs.declared.refusals.StoreRefusal.TheVariants.{NotALog, BadRecord}
-use Rattle.stored_run.specs.declared.status.Status.{Status}
-use Rattle.stored_run.proofs.Openings.{at_content}
-use Rattle.stored_sessions.specs.Stands.{Standing, stands}
-use Rattle.store_undo.specs.Undoing.{Undoing, undoing_from, undoing_of, undoing, last_changes, payloads_before, refusal_of, refusal_of_log, refusal_in, undo_refusal}
+use Rattle.store_records.specs.declared.record_fault.ReopenFault.{ReopenFault}
+use Rattle.store_run.specs.Refusals.{Refuses, EndsRefused}
+use Rattle.store_run.specs.declared.refusals.StoreRefusal.{StoreRefusal}
+use Rattle.command_ends.specs.declared.status.Status.{Status}
+use Rattle.store_session.specs.Stands.{Standing, stands}
+use Rattle.store_undo.specs.Undoing.{Undoing, undoing_from, undoing_of, undoing, last_changes, payloads_before, refusal_of, undo_refusal}
 
 module _ {K D : Type 0} (sink : OfSink.Ghosts K) (disk : OfDisk.Ghosts D) (k k' : K) (d d' : D) (status : Status) where
   -- the line of a refusal that is the one that there is
@@ -24,21 +18,6 @@ module _ {K D : Type 0} (sink : OfSink.Ghosts K) (disk : OfDisk.Ghosts D) (k k' 
   same_refusal r r' o is q ends =
       let same : r ≡ r' = same_Some r r' (sym is ∙ q) in
       inl (subst (λ (x : StoreRefusal). Refuses sink k k' x status) same ends)
-
-  -- the opening of bytes that are refused
-  pub log_refused : (count : ℕ) (fault : LogFault) (o : Option (List ℕ)) (bytes : List ℕ) (refusal : StoreRefusal)
-      → o ≡ Some bytes → IsLogRefusal o fault → refusal_in count bytes ≡ Some refusal → (fault ≡ log.DiskFault → IsNone (disk.room d)) → EndsAtLog sink k k' fault status
-      → EndsRefused sink disk (k, d) (k', d') refusal status
-  log_refused count log.NotALog o bytes refusal e r q sure ends =
-      let is = at_content o bytes (λ b. log_of b ≡ not_a_log) e r in
-      same_refusal NotALog refusal (refusal_in count bytes) (ap (refusal_of_log count) is) q ends
-  log_refused count (log.BadRecord n) o bytes refusal e r q sure ends =
-      let is = at_content o bytes (λ b. log_of b ≡ bad_record n) e r in
-      same_refusal (BadRecord n) refusal (refusal_in count bytes) (ap (refusal_of_log count) is) q ends
-  log_refused count log.DiskFault o bytes refusal e r q sure ends = inr ((inl ends.0, ends.1), λ x. sure refl)
-  log_refused count log.LogExists o bytes refusal e r q sure ends = absurd r
-  log_refused count log.LogFull o bytes refusal e r q sure ends = absurd r
-  log_refused count log.NoMemory o bytes refusal e r q sure ends = absurd r
 
 -- ---- what undoing comes to is no refusal
 

@@ -8,13 +8,14 @@ use Rattle.json.specs.Print.{escape_byte}
 use Rattle.serde_json.proofs.OnLiterals.{serde_json_on_literals}
 use Rattle.serde_json.specs.Written.{compact_text}
 use Rattle.edit_session.specs.Step.{TripleTree}
-use Rattle.stored_records.specs.RecordJson.{tree_of_version, version_record, record_in}
-use Rattle.stored_records.specs.declared.fault.ReopenFault.TheVariants.{BadRecord}
-use Rattle.stored_sessions.specs.Stands.{Standing, after_record, stands}
-use Rattle.stored_sessions.specs.Written.{the_snapshot}
-use Rattle.stored_sessions.proofs.Appending.{stands_append}
-use Rattle.stored_sessions.proofs.WrittenStands.{one_stands}
-use Rattle.store_undo.specs.Making.{IsSnapshot}
+use Rattle.store_records.specs.RecordJson.{tree_of_version, version_record, record_in}
+use Rattle.store_records.specs.declared.record_fault.ReopenFault.TheVariants.{BadRecord}
+use Rattle.store_session.specs.Stands.{Standing, after_record, stands}
+use Rattle.store_session.specs.Written.{the_snapshot}
+use Rattle.store_session.specs.Appending.{stands_append}
+use Rattle.store_session.specs.WrittenStands.{one_stands}
+use Rattle.store_session.specs.StoredStates.{IsSnapshot, state_with}
+use Rattle.store_session.specs.TypedStores.{typed_stood}
 use Rattle.store_undo.specs.UndoRecords.{version_due, version_then}
 
 abbrev version_text : List ℕ
@@ -32,19 +33,19 @@ pub version_stands : (held : List (List ℕ)) (s : Standing) → stands held ≡
 version_stands held s h is = stands_append held version_text s h ∙ version_taken (length held + 1) s is
 
 -- the snapshot of a triple stands for it
-pub snapshot_stands : (held : List (List ℕ)) (s : Standing) (t : TripleTree) (payload : List ℕ) → stands held ≡ Ok s → IsSnapshot s.form t payload → stands (held ++ payload ∷ []) ≡ Ok (record s { triple = t })
+pub snapshot_stands : (held : List (List ℕ)) (s : Standing) (t : TripleTree) (payload : List ℕ) → stands held ≡ Ok s → IsSnapshot (state_with s.form t) payload → stands (held ++ payload ∷ []) ≡ Ok (record s { triple = t })
 snapshot_stands held s t payload h is =
-    one_stands held payload (the_snapshot t) s (record s { triple = t }) is.typed h is.reads (is.consistent, is.left_ints, is.right_ints, refl)
+    one_stands held payload (the_snapshot t) s (record s { triple = t }) (typed_stood held s h) h is.reads (is.consistent, is.left_whole, is.right_whole, refl)
 
 -- the version record, if it is to be stored, and then a snapshot
-at_version : (b : Bool) (held : List (List ℕ)) (s : Standing) (t : TripleTree) (payload : List ℕ) → stands held ≡ Ok s → nat_eq s.version 1 ≡ b → IsSnapshot s.form t payload
+at_version : (b : Bool) (held : List (List ℕ)) (s : Standing) (t : TripleTree) (payload : List ℕ) → stands held ≡ Ok s → nat_eq s.version 1 ≡ b → IsSnapshot (state_with s.form t) payload
     → stands (held ++ (option_to_list (cond b (Some version_text) None) ++ payload ∷ [])) ≡ Ok (record s { triple = t; version = cond b 2 s.version })
 at_version true held s t payload h is snapshot =
     ap stands (sym (append_assoc held (version_text ∷ []) (payload ∷ [])))
     ∙ snapshot_stands (held ++ version_text ∷ []) (record s { version = 2 }) t payload (version_stands held s h is) snapshot
 at_version false held s t payload h is snapshot = snapshot_stands held s t payload h snapshot
 
-pub undone_stands : (held : List (List ℕ)) (s : Standing) (t : TripleTree) (payload : List ℕ) → stands held ≡ Ok s → IsSnapshot s.form t payload
+pub undone_stands : (held : List (List ℕ)) (s : Standing) (t : TripleTree) (payload : List ℕ) → stands held ≡ Ok s → IsSnapshot (state_with s.form t) payload
     → stands (held ++ (option_to_list (version_due s.version) ++ payload ∷ [])) ≡ Ok (record s { triple = t; version = version_then s.version })
 undone_stands held s t payload h snapshot = at_version (nat_eq s.version 1) held s t payload h refl snapshot
 

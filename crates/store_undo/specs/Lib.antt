@@ -1,7 +1,7 @@
-pub mod Undoing
-pub mod UndoRecords
-pub mod UndoCall
 pub mod Making
-pub mod UndoEnds
+pub mod UndoCall
 pub mod UndoCauses
+pub mod UndoEnds
+pub mod UndoRecords
 pub mod UndoStores
+pub mod Undoing

@@ -1,41 +1,53 @@
--- For the helpers of `undo`: what is made before anything is stored. Read it from the end: `fault_of`, `IsMakingFault`, `IsMade`, then
--- `AreTexts`.
-use Rattle.std.specs.Prelude.{◌≡◌, ℕ, List, ◌++◌, codes, true, Option, Some}
-use Rattle.serde_json.specs.Written.{compact_text}
-use Rattle.value_json.specs.DocumentJson.{holds_i64s}
+-- For the helpers of `undo`: what is opened and what is made before anything is stored. Read it from the end:
+-- `fault_of`, `IsMakingFault`, `IsMade`, `AreTexts`, `UndoneBy`, then `StoodTwice`.
+use Rattle.std.specs.Prelude.{◌≡◌, ℕ, ◌-◌, List, ◌++◌, length, take, codes, nat_lt, if◌then◌else◌, Option, Some, Ok}
 use Rattle.edit_json.specs.WordJson.{tree_of_word}
-use Rattle.edit_journal.specs.EntryJson.{tree_of_text}
 use Rattle.answer_text.specs.Lines.{tree_line}
-use Rattle.journal_answers.specs.Answers.{state_lines}
+use Rattle.pair_answers.specs.Answers.{state_lines}
+use Rattle.edit_module.specs.Changes.{ChangeTree}
 use Rattle.lens_core.specs.Consistency.{IsConsistent}
-use Rattle.lens_forms.specs.Forms.{FormTree}
-use Rattle.lens_forms.specs.Typing.{is_typed}
-use Rattle.edit_session.specs.Step.{TripleTree}
-use Rattle.stored_records.specs.RecordJson.{tree_of_snapshot}
-use Rattle.stored_records.specs.declared.fault.ReopenFault.{ReopenFault}
-use Rattle.stored_records.specs.declared.fault.ReopenFault.TheVariants as reopening
-use Rattle.stored_run.specs.declared.refusals.StoreRefusal.{StoreRefusal}
-use Rattle.stored_run.specs.declared.refusals.StoreRefusal.TheVariants.{BadRecord, NotConsistent}
+use Rattle.lens_core.specs.Translation.{translate}
+use Rattle.lens_forms.specs.Forms.{FormTree, form_tree, left_type, right_type}
+use Rattle.edit_session.specs.Step.{TripleTree, IsInStep}
+use Rattle.edit_session.specs.Views.{triple_tree}
+use Rattle.store_records.specs.declared.record_fault.ReopenFault.{ReopenFault}
+use Rattle.store_records.specs.declared.record_fault.ReopenFault.TheVariants as reopening
+use Rattle.store_session.specs.Stands.{Standing, stands}
+use Rattle.store_session.specs.Standings.{standing}
+use Rattle.store_session.specs.StoredStates.{IsSnapshot, state_with}
+use Rattle.store_run.specs.declared.refusals.StoreRefusal.{StoreRefusal}
+use Rattle.store_run.specs.declared.refusals.StoreRefusal.TheVariants.{BadRecord, NotConsistent}
 use Rattle.store_undo.specs.Undoing.{Undoing, undoing}
 use Rattle.store_undo.specs.UndoRecords.{undo_text, version_due, snapshot_text, TakesBack}
 use Rattle.store_undo.specs.declared.making.MakingFault.{MakingFault}
 use Rattle.store_undo.specs.declared.making.MakingFault.TheVariants.{Refused, NoMemory}
 use Rattle.store_undo.specs.declared.making.Making.{Making}
+use Rattle.store_undo.specs.declared.opening.OpenedTwice.{OpenedTwice}
 use Rattle.store_undo.specs.declared.undo_texts.Texts.{Texts}
-use Rattle.undo_words.specs.Undone.{BothTrees}
+use Rattle.edit_undo.specs.Undone.{BothTrees, undone}
 
--- the payload is a snapshot of the triple, which is consistent and is read back from it
-pub record IsSnapshot (l : FormTree) (t : TripleTree) (payload : List ℕ) : Type 0 where
-  pub text : payload ≡ compact_text (tree_of_snapshot l t.left t.comp t.right)
-  pub reads : tree_of_text payload ≡ Some (tree_of_snapshot l t.left t.comp t.right)
-  pub typed : is_typed l ≡ true
-  pub consistent : IsConsistent l t.left t.comp t.right
-  pub left_ints : holds_i64s t.left ≡ true
-  pub right_ints : holds_i64s t.right ≡ true
+-- how many payloads are before the last ones; all, unless so many are behind the first one
+abbrev pub kept_before : ℕ → ℕ → ℕ
+kept_before count all = if nat_lt count all then all - count else all
+
+-- What was opened is the session that the payloads represent, and the triple that those before the last ones represent.
+pub record StoodTwice (count : ℕ) (held : List (List ℕ)) (twice : OpenedTwice) : Type 0 where
+  pub now : stands held
+      ≡ Ok (standing (form_tree twice.opened.session.lens.typed)
+      (triple_tree twice.opened.session.triple) twice.opened.count twice.opened.version)
+  pub was : Standing
+  pub before : stands (take (kept_before count (length held)) held) ≡ Ok was
+  pub form : was.form ≡ form_tree twice.opened.session.lens.typed
+  pub triple : was.triple ≡ triple_tree twice.earlier
+  pub in_step : IsInStep (IsConsistent (form_tree twice.opened.session.lens.typed)) (triple_tree twice.earlier)
+
+-- the triple after these changes of a triple, and the words that take them back
+abbrev pub UndoneBy : FormTree → TripleTree → List ChangeTree → TripleTree × BothTrees → Type 0
+UndoneBy l t changes r = undone (left_type l) (right_type l) (translate l) t changes ≡ Some r
 
 -- the texts are the snapshot of a triple, and the lines of the two words with the state lines of the triple
 pub record AreTexts (l : FormTree) (t : TripleTree) (words : BothTrees) (made : Texts) : Type 0 where
-  pub snapshot : IsSnapshot l t made.snapshot
+  pub snapshot : IsSnapshot (state_with l t) made.snapshot
   pub lines : made.lines ≡ tree_line (codes "undo left") (tree_of_word words.left)
       ++ (tree_line (codes "undo right") (tree_of_word words.right) ++ state_lines l t)
 

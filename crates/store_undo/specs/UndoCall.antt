@@ -6,7 +6,7 @@ use Rattle.lens_io.specs.DiskRuns.{LeavesOnly}
 use Rattle.lens_io.specs.declared.disk.Disk as OfDisk
 use Rattle.lens_io.specs.declared.sink.Sink as OfSink
 use Rattle.gate_log.specs.LogOnDisk.{HoldsPayloads}
-use Rattle.stored_sessions.specs.Stands.{stands}
+use Rattle.store_session.specs.Stands.{stands}
 use Rattle.store_undo.specs.Undoing.{Undoing}
 use Rattle.store_undo.specs.UndoRecords.{version_due, new_records, undo_text, TakesBack}
 

@@ -2,9 +2,9 @@
 -- `IsCauseInRoom` by the status, then `UndoHasNoRoom`.
 use Rattle.std.specs.Prelude.{ℕ, List, Option, IfSome}
 use Rattle.lens_io.specs.declared.disk.Disk as OfDisk
-use Rattle.stored_run.specs.Rooms.{most_bytes, HasNoRoom}
-use Rattle.stored_run.specs.declared.status.Status.{Status}
-use Rattle.stored_run.specs.declared.status.Status.TheVariants as ending
+use Rattle.store_run.specs.Rooms.{most_bytes, HasNoRoom}
+use Rattle.command_ends.specs.declared.status.Status.{Status}
+use Rattle.command_ends.specs.declared.status.Status.TheVariants as ending
 use Rattle.store_undo.specs.Undoing.{Undoing}
 use Rattle.store_undo.specs.UndoRecords.{new_records}
 
@@ -12,15 +12,15 @@ use Rattle.store_undo.specs.UndoRecords.{new_records}
 abbrev pub UndoHasNoRoom : ℕ → List (List ℕ) → Undoing → Type 0
 UndoHasNoRoom most before u = HasNoRoom most before (new_records u)
 
--- What holds after each status of `undo` over payloads whose last changes are undone; it never is one of the last
--- three. The room of the disk is given, if it is known.
+-- What holds after each status of `undo` over payloads whose last changes are undone. The room of the disk is given, if
+-- it is known. No status comes that is not named.
 abbrev pub IsCauseInRoom : Option ℕ → List (List ℕ) → Undoing → Status → Type 0
 IsCauseInRoom room before u ending.StoreRefused = UndoHasNoRoom most_bytes before u
 IsCauseInRoom room before u ending.DiskFault = IfSome room (λ most. UndoHasNoRoom most before u)
-IsCauseInRoom room before u ending.SourceFault = ⊥
-IsCauseInRoom room before u ending.InputTooLong = ⊥
-IsCauseInRoom room before u ending.SomeRefused = ⊥
-IsCauseInRoom room before u status = Unit {0}
+IsCauseInRoom room before u ending.Done = Unit {0}
+IsCauseInRoom room before u ending.SinkFault = Unit {0}
+IsCauseInRoom room before u ending.NoMemory = Unit {0}
+IsCauseInRoom room before u status = ⊥
 
 -- the same over this disk
 abbrev pub IsUndoCause : {D : Type 0} → OfDisk.Ghosts D → D → List (List ℕ) → Undoing → Status → Type 0

@@ -4,10 +4,10 @@ use Rattle.std.specs.Prelude.{◌⊎◌, ℕ, List, option_to_list}
 use Rattle.lens_io.specs.declared.disk.Disk as OfDisk
 use Rattle.lens_io.specs.declared.sink.Sink as OfSink
 use Rattle.gate_log.specs.LogOnDisk.{LogState, HoldsPayloads}
-use Rattle.stored_run.specs.Effects.{StandsOn}
-use Rattle.stored_run.specs.Refusals.{IsOpening, FailsUnopened}
-use Rattle.stored_run.specs.StoreEnds.{StoreEnds}
-use Rattle.stored_run.specs.declared.status.Status.{Status}
+use Rattle.store_run.specs.Effects.{StandsOn}
+use Rattle.store_run.specs.Refusals.{IsOpening, FailsUnopened}
+use Rattle.store_run.specs.StoreEnds.{StoreEnds}
+use Rattle.command_ends.specs.declared.status.Status.{Status}
 use Rattle.store_undo.specs.Undoing.{Undoing}
 use Rattle.store_undo.specs.UndoRecords.{undo_text, version_due, snapshot_text, TakesBack}
 

@@ -1,16 +1,19 @@
 -- The records that `undo` stores and the lines that it writes, and what they are worth.
 -- Read it from the end: `TakesBack`, `new_records`, `undo_text`.
-use Rattle.std.specs.Prelude.{◌≡◌, ℕ, List, [], ◌∷◌, ◌++◌, codes, nat_eq, if◌then◌else◌, Option, Some, None, option_to_list, Ok}
+use Rattle.std.specs.Prelude.{◌≡◌, ℕ, List, [], ◌∷◌, ◌++◌, codes, nat_eq, if◌then◌else◌, Option, Some, None}
+use Rattle.std.specs.Prelude.{option_to_list, Ok}
 use Rattle.serde_json.specs.Written.{compact_text}
 use Rattle.edit_json.specs.WordJson.{tree_of_word}
 use Rattle.answer_text.specs.Lines.{tree_line}
-use Rattle.journal_answers.specs.Answers.{state_lines}
+use Rattle.pair_answers.specs.Answers.{state_lines}
 use Rattle.lens_forms.specs.Forms.{left_type, right_type}
 use Rattle.lens_core.specs.Consistency.{IsConsistent}
-use Rattle.stored_records.specs.RecordJson.{tree_of_version, tree_of_snapshot}
-use Rattle.stored_sessions.specs.Stands.{stands}
+use Rattle.store_session.specs.StoredStates as states
+use Rattle.store_session.specs.StoredStates.{state_with}
+use Rattle.store_records.specs.RecordJson.{tree_of_version}
+use Rattle.store_session.specs.Stands.{stands}
 use Rattle.store_undo.specs.Undoing.{Undoing}
-use Rattle.undo_words.specs.Undone.{BringsBack}
+use Rattle.edit_undo.specs.Undone.{BringsBack}
 
 -- ---- the lines
 
@@ -32,7 +35,7 @@ version_then version = if nat_eq version 1 then 2 else version
 
 -- the snapshot of the triple before the last changes
 abbrev pub snapshot_text : Undoing → List ℕ
-snapshot_text u = compact_text (tree_of_snapshot u.now.form u.before.left u.before.comp u.before.right)
+snapshot_text u = states.snapshot_text (state_with u.now.form u.before)
 
 -- the version record, if it is still to be stored, and the snapshot
 abbrev pub new_records : Undoing → List (List ℕ)
@@ -40,9 +43,13 @@ new_records u = option_to_list (version_due u.now.version) ++ snapshot_text u �
 
 -- ---- what they are worth
 
--- The words act on the documents that there are now, and make those from before the last changes. These are consistent with their
--- complement, and with the new records behind the payloads they are what the store represents.
+-- The words act on the documents that there are now, and make those from before the last changes. These are consistent
+-- with their complement, and with the new records behind the payloads they are what the store represents.
 pub record TakesBack (held : List (List ℕ)) (u : Undoing) : Type 0 where
   pub words : BringsBack (left_type u.now.form) (right_type u.now.form) u.words u.now.triple u.before
   pub consistent : IsConsistent u.now.form u.before.left u.before.comp u.before.right
-  pub stand : stands (held ++ new_records u) ≡ Ok (record u.now { triple = u.before; version = version_then u.now.version })
+  pub stand : stands (held ++ new_records u) ≡ Ok (record u.now {
+    triple =
+        u.before;
+    version = version_then u.now.version;
+  })

@@ -2,7 +2,7 @@
 use Rattle.std.specs.Prelude.{◌≡◌, ℕ, List, Some}
 use Rattle.lens_io.specs.declared.disk.Disk as OfDisk
 use Rattle.gate_log.specs.LogOnDisk.{HoldsPayloads}
-use Rattle.stored_run.specs.declared.refusals.StoreRefusal.{StoreRefusal}
+use Rattle.store_run.specs.declared.refusals.StoreRefusal.{StoreRefusal}
 use Rattle.store_undo.specs.Undoing.{Undoing, undoing, refusal_in}
 
 module _ {D : Type 0} (disk : OfDisk.Ghosts D) (count : ℕ) (d : D) where

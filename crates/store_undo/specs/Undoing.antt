@@ -1,19 +1,20 @@
 -- What undoing the last changes of a store comes to, or why the store is refused.
 -- Read it from the end: `refusal_in`, `undo_refusal`, `undoing`, then `last_changes`.
-use Rattle.std.specs.Prelude.{ℕ, ◌-◌, List, [], ◌∷◌, length, take, drop, nat_lt, if◌then◌else◌, Option, Some, None, option_map, option_and_then, Result, Ok, Err}
+use Rattle.std.specs.Prelude.{ℕ, ◌-◌, List, [], ◌∷◌, length, take, drop, nat_lt, if◌then◌else◌, Option, Some, None}
+use Rattle.std.specs.Prelude.{option_map, option_and_then, Result, Ok, Err}
 use Rattle.gate_log.specs.LogBytes.{LogContent, payloads, not_a_log, bad_record, log_of}
 use Rattle.edit_module.specs.Changes.{ChangeTree}
 use Rattle.edit_journal.specs.EntryJson.{tree_of_text}
 use Rattle.edit_session.specs.Step.{TripleTree}
 use Rattle.lens_core.specs.Translation.{translate}
 use Rattle.lens_forms.specs.Forms.{left_type, right_type}
-use Rattle.stored_records.specs.RecordJson.{change_in}
-use Rattle.stored_records.specs.declared.fault.ReopenFault.{ReopenFault}
-use Rattle.stored_records.specs.declared.fault.ReopenFault.TheVariants as reopening
-use Rattle.stored_run.specs.declared.refusals.StoreRefusal.{StoreRefusal}
-use Rattle.stored_run.specs.declared.refusals.StoreRefusal.TheVariants.{NotALog, BadRecord, NotConsistent, NothingToUndo}
-use Rattle.stored_sessions.specs.Stands.{Standing, stands}
-use Rattle.undo_words.specs.Undone.{BothTrees, undone}
+use Rattle.store_records.specs.RecordJson.{change_in}
+use Rattle.store_records.specs.declared.record_fault.ReopenFault.{ReopenFault}
+use Rattle.store_records.specs.declared.record_fault.ReopenFault.TheVariants as reopening
+use Rattle.store_run.specs.declared.refusals.StoreRefusal.{StoreRefusal}
+use Rattle.store_run.specs.declared.refusals.StoreRefusal.TheVariants.{NotALog, BadRecord, NotConsistent, NothingToUndo}
+use Rattle.store_session.specs.Stands.{Standing, stands}
+use Rattle.edit_undo.specs.Undone.{BothTrees, undone}
 
 -- ---- the last changes
 
@@ -33,7 +34,8 @@ last_payloads count held = drop (length held - count) held
 abbrev pub payloads_before : ℕ → List (List ℕ) → List (List ℕ)
 payloads_before count held = take (length held - count) held
 
--- the last changes, so many as the count says; there are none unless so many payloads are behind the first one, and all are of changes
+-- the last changes, so many as the count says; there are none unless so many payloads are behind the first one, and all
+-- are of changes
 abbrev pub last_changes : ℕ → List (List ℕ) → Option (List ChangeTree)
 last_changes count held = if nat_lt count (length held) then changes_of (last_payloads count held) else None
 
@@ -53,7 +55,9 @@ undoing_from now changes (Ok was) =
 undoing_from now changes (Err fault) = None
 
 abbrev pub undoing_of : ℕ → List (List ℕ) → Result Standing ReopenFault → Option Undoing
-undoing_of count held (Ok now) = option_and_then (λ changes. undoing_from now changes (stands (payloads_before count held))) (last_changes count held)
+undoing_of count held (Ok now) =
+    option_and_then (λ changes. undoing_from now changes (stands (payloads_before count held)))
+    (last_changes count held)
 undoing_of count held (Err fault) = None
 
 -- what undoing the last changes of these payloads comes to, so many as the count says
@@ -62,7 +66,8 @@ undoing count held = undoing_of count held (stands held)
 
 -- ---- refusals
 
--- payloads are refused that represent no session, and those that represent one if their last records are not so many changes
+-- payloads are refused that represent no session, and those that represent one if their last records are not so many
+-- changes
 abbrev pub refusal_of : Result Standing ReopenFault → Option (List ChangeTree) → Option StoreRefusal
 refusal_of (Ok now) (Some changes) = None
 refusal_of (Ok now) None = Some NothingToUndo

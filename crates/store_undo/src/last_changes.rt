@@ -1,23 +1,24 @@
 //! The last changes of a store.
 
-ghost use Rattle.std.specs.Prelude.{◌≡◌, ◌<◌, IfOk, option_map, drop, length};
-ghost use Rattle.store_undo.specs.Undoing.{changes_of, last_changes, payloads_before};
-ghost use Rattle.undo_words.specs.Views.{change_trees};
+ghost use Rattle.std.specs.Prelude.{◌≡◌, IfOk, option_map, drop};
+ghost use Rattle.store_undo.specs.Undoing.{changes_of, last_changes};
+ghost use Rattle.edit_undo.specs.UndoneViews.{change_trees};
 
 use edit_module::Change;
 use lens_io::Payloads;
 use std::alloc::{AllocError, Global};
-use stored_records::read_change;
+use store_records::read_change;
 use texts::Bytes;
 
-// The last changes, so many as the count says. None if there are not so many payloads behind the first one, or one of them is not
-// of a change.
+// The last changes, so many as the count says. None if there are not so many payloads behind the first one, or one of
+// them is not of a change.
 pub(crate) fn last_changes(
     alloc: Global,
     payloads: &Payloads,
     count: u64,
 ) -> Result<Option<Vec<Change>>, AllocError>
-    ensures { IfOk result (λ changes. option_map (λ cs. change_trees cs.items) changes ≡ last_changes count payloads.now) }
+    ensures { IfOk result (λ changes. option_map (λ cs. change_trees cs.items) changes
+        ≡ last_changes count payloads.now) }
 {
     let records = payloads.as_slice();
     if count >= records.len() as u64 {
@@ -32,7 +33,8 @@ fn changes_from(
     records: &[Bytes],
     from: usize,
 ) -> Result<Option<Vec<Change>>, AllocError>
-    ensures { IfOk result (λ changes. option_map (λ cs. change_trees cs.items) changes ≡ changes_of (drop from records.now)) }
+    ensures { IfOk result (λ changes. option_map (λ cs. change_trees cs.items) changes
+        ≡ changes_of (drop from records.now)) }
 {
     let mut changes = Vec::new(alloc);
     for at in from..records.len() {
@@ -42,14 +44,4 @@ fn changes_from(
         }
     }
     Ok(Some(changes))
-}
-
-// The payloads before the last ones, which are so many as the count says.
-pub(crate) fn payloads_before(payloads: Payloads, count: u64) -> Payloads
-    requires { count < length payloads }
-    ensures { result ≡ payloads_before count payloads }
-{
-    let mut records = payloads.into_vec();
-    records.truncate(records.len() - count as usize);
-    Payloads::from_vec(records)
 }

@@ -1,17 +1,17 @@
 //! The command `undo` over a store.
 //!
-//! [`undo`] takes both documents and the complement back to what they were before the last changes. It stores a snapshot of that
-//! triple behind the payloads, and writes words that take each document back. What undoing comes to is `undoing` in
-//! specs/Undoing.antt, and the words are `undone` of undo_words. specs/UndoCall.antt has what a call comes to, and what a
-//! crash leaves of it.
+//! [`undo`] takes both documents and the complement back to what they were before the last changes. It stores a
+//! snapshot of that triple behind the payloads, and writes words that take each document back. What undoing comes to is
+//! `undoing` in specs/Undoing.antt, and the words are `undone` of edit_undo. specs/UndoCall.antt has what a call comes
+//! to, and what a crash leaves of it.
 #![tactic(auto)]
 
 mod last_changes;
-mod laws;
 mod making;
 mod opening;
 mod undo_call;
+mod undo_laws;
 mod undo_texts;
 
-pub use laws::{undone_is_in_step, undone_or_refused};
 pub use undo_call::undo;
+pub use undo_laws::{undone_is_in_step, undone_or_refused};

@@ -1,29 +1,27 @@
 //! What `undo` stores and writes, which is made before anything is stored.
 
-ghost use Rattle.std.specs.Prelude.{◌≡◌, Ok, Some, IfOk, MatchResult};
+ghost use Rattle.std.specs.Prelude.{◌≡◌, IfOk, MatchResult};
 ghost use Rattle.edit_session.specs.Step.{TripleTree, IsInStep};
 ghost use Rattle.lens_core.specs.Consistency.{IsConsistent};
 ghost use Rattle.edit_session.specs.Views.{triple_tree};
-ghost use Rattle.lens_core.specs.Translation.{translate};
 ghost use Rattle.lens_forms.specs.Forms.{form_tree, left_type, right_type};
-ghost use Rattle.stored_sessions.specs.Stands.{Standing, stands};
-ghost use Rattle.store_undo.specs.Making.{AreTexts, IsMade, IsMakingFault, fault_of};
+ghost use Rattle.store_undo.specs.Making.{AreTexts, IsMade, IsMakingFault, StoodTwice, UndoneBy, fault_of};
 ghost use Rattle.store_undo.specs.Undoing.{undo_refusal};
-ghost use Rattle.undo_words.specs.Undone.{BothTrees, BringsBack, undone};
-ghost use Rattle.undo_words.specs.Views.{both_tree, change_trees};
+ghost use Rattle.edit_undo.specs.Undone.{BothTrees, BringsBack};
+ghost use Rattle.edit_undo.specs.UndoneViews.{both_tree, change_trees};
 
-use crate::last_changes::{last_changes, payloads_before};
-use crate::opening::{open, open_again, version_record};
+use crate::last_changes::last_changes;
+use crate::opening::{OpenedTwice, open, triple_of, version_record};
 use crate::undo_texts::{Texts, texts_of};
 use edit_module::Change;
-use edit_session::{Session, Triple};
+use edit_session::Session;
+use edit_undo::{BothWords, undo_changes};
 use lens_flat::Flat;
 use lens_io::Payloads;
 use std::alloc::{AllocError, Global};
-use stored_records::ReopenFault;
-use stored_run::StoreRefusal;
-use texts::{Bytes, Twin};
-use undo_words::{BothWords, undo_changes};
+use store_records::ReopenFault;
+use store_run::StoreRefusal;
+use texts::Bytes;
 
 // What is stored and written: the version record, if there is one to store, the snapshot and the lines.
 #[derive(Drop)]
@@ -56,30 +54,27 @@ impl From<AllocError> for MakingFault {
 pub(crate) fn make(alloc: Global, count: u64, payloads: Payloads) -> Result<Making, MakingFault>
     ensures { MatchResult result (IsMade count payloads) (IsMakingFault (undo_refusal count payloads)) }
 {
-    match open(alloc, &payloads) {
-        Ok(opened) => make_opened(alloc, count, payloads, opened.version),
+    match open(alloc, count, &payloads) {
+        Ok(opened) => make_opened(alloc, count, &payloads, opened),
         Err(fault) => Err(refused(fault)),
     }
 }
 
-// The same over payloads that represent a session, in a store of this version.
+// The same over payloads that represent a session, which was opened.
 fn make_opened(
     alloc: Global,
     count: u64,
-    payloads: Payloads,
-    version: u64,
+    payloads: &Payloads,
+    twice: OpenedTwice,
 ) -> Result<Making, MakingFault>
-    requires stood { (now : Standing) × (stands payloads ≡ Ok now) }
-    ensures { (now : Standing) → stands payloads ≡ Ok now → version ≡ now.version
-        → MatchResult result (IsMade count payloads) (IsMakingFault (undo_refusal count payloads)) }
+    requires stood { StoodTwice count payloads.now twice }
+    ensures { MatchResult result (IsMade count payloads.now) (IsMakingFault (undo_refusal count payloads.now)) }
 {
-    let Some(changes) = last_changes(alloc, &payloads, count)? else {
+    let Some(changes) = last_changes(alloc, payloads, count)? else {
         return Err(MakingFault::Refused(StoreRefusal::NothingToUndo));
     };
-    let before = payloads_before(payloads, count);
-    let listed = changes.as_slice();
-    let texts = make_texts(alloc, &before, listed)?;
-    let version = version_record(alloc, version)?;
+    let version = version_record(alloc, twice.opened.version)?;
+    let texts = make_texts(alloc, twice, changes.as_slice())?;
     Ok(Making { version, texts })
 }
 
@@ -98,16 +93,21 @@ fn refused(fault: ReopenFault) -> MakingFault
     }
 }
 
-// The snapshot of what these payloads represent, and the lines of the words that take the changes behind them back.
-fn make_texts(alloc: Global, before: &Payloads, changes: &[Change]) -> Result<Texts, AllocError>
-    requires accepted { (was : Standing) × (r : TripleTree × BothTrees) × (stands before.now ≡ Ok was)
-        × (undone (left_type was.form) (right_type was.form) (translate was.form) was.triple (change_trees changes.now) ≡ Some r) }
-    ensures { IfOk result (λ made. (was : Standing) (r : TripleTree × BothTrees) → stands before.now ≡ Ok was
-        → undone (left_type was.form) (right_type was.form) (translate was.form) was.triple (change_trees changes.now) ≡ Some r
-        → AreTexts was.form was.triple r.1 made
-        × BringsBack (left_type was.form) (right_type was.form) r.1 r.0 was.triple) }
+// The snapshot of the earlier triple, and the lines of the words that take these changes of it back.
+fn make_texts(alloc: Global, twice: OpenedTwice, changes: &[Change]) -> Result<Texts, AllocError>
+    requires in_step { IsInStep (IsConsistent (form_tree twice.opened.session.lens.typed)) (triple_tree twice.earlier) }
+    requires accepted { (r : TripleTree × BothTrees)
+        × UndoneBy (form_tree twice.opened.session.lens.typed) (triple_tree twice.earlier)
+        (change_trees changes.now) r }
+    ensures { IfOk result (λ made. (r : TripleTree × BothTrees)
+        → UndoneBy (form_tree twice.opened.session.lens.typed) (triple_tree twice.earlier) (change_trees changes.now) r
+        → AreTexts (form_tree twice.opened.session.lens.typed) (triple_tree twice.earlier) r.1 made
+        × BringsBack (left_type (form_tree twice.opened.session.lens.typed))
+        (right_type (form_tree twice.opened.session.lens.typed))
+        r.1 r.0 (triple_tree twice.earlier)) }
 {
-    let mut session = open_again(alloc, before)?;
+    let mut session = twice.opened.session;
+    session.replace(twice.earlier);
     let words = words_of(alloc, &mut session, changes)?;
     let texts = texts_of(alloc, &session, &words)?;
     Ok(texts)
@@ -120,11 +120,10 @@ fn words_of(
     changes: &[Change],
 ) -> Result<BothWords, AllocError>
     requires accepted { (r : TripleTree × BothTrees)
-        × (undone (left_type (form_tree session.old.lens.typed)) (right_type (form_tree session.old.lens.typed))
-        (translate (form_tree session.old.lens.typed)) (triple_tree session.old.triple) (change_trees changes.now) ≡ Some r) }
+        × UndoneBy (form_tree session.old.lens.typed) (triple_tree session.old.triple)
+        (change_trees changes.now) r }
     ensures words { IfOk result (λ words. (r : TripleTree × BothTrees)
-        → undone (left_type (form_tree session.old.lens.typed)) (right_type (form_tree session.old.lens.typed))
-        (translate (form_tree session.old.lens.typed)) (triple_tree session.old.triple) (change_trees changes.now) ≡ Some r
+        → UndoneBy (form_tree session.old.lens.typed) (triple_tree session.old.triple) (change_trees changes.now) r
         → (both_tree words ≡ r.1)
         × BringsBack (left_type (form_tree session.old.lens.typed)) (right_type (form_tree session.old.lens.typed))
         r.1 r.0 (triple_tree session.old.triple)) }
@@ -137,15 +136,4 @@ fn words_of(
     };
     session.replace(earlier);
     Ok(words)
-}
-
-// A copy of the triple of a session.
-fn triple_of(alloc: Global, session: &Session<Flat>) -> Result<Triple, AllocError>
-    ensures is { IfOk result (λ t. triple_tree t ≡ triple_tree session.now.triple) }
-    ensures consistent { IfOk result (λ t. IsInStep (IsConsistent (form_tree session.now.lens.typed)) (triple_tree t)) }
-{
-    let left = session.left().twin(alloc)?;
-    let comp = session.comp().twin(alloc)?;
-    let right = session.right().twin(alloc)?;
-    Ok(Triple { left, comp, right })
 }

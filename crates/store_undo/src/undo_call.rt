@@ -1,11 +1,12 @@
 //! The command `undo`, from its first call of the disk on.
+ghost use Rattle.command_ends.specs.Statuses.{IsAmong, quiet_statuses};
 ghost use Rattle.std.specs.Prelude.{◌≡◌, ◌⊎◌, List, ℕ, Some, option_to_list};
 ghost use Rattle.lens_io.specs.Calls.{SinkFailed, DiskFailed};
-ghost use Rattle.stored_run.specs.Effects.{StandsOn};
-ghost use Rattle.stored_run.specs.Refusals.{IsUnwritten, IsOpening, EndsRefused, FailsUnopened};
-ghost use Rattle.stored_run.specs.Rooms.{most_bytes};
-ghost use Rattle.stored_run.specs.StoreEnds.{StoresBehind, StoreEnds};
-ghost use Rattle.stored_run.specs.declared.refusals.StoreRefusal.{StoreRefusal};
+ghost use Rattle.store_run.specs.Effects.{StandsOn};
+ghost use Rattle.store_run.specs.Refusals.{IsUnwritten, IsOpening, EndsRefused, FailsUnopened};
+ghost use Rattle.store_run.specs.Rooms.{most_bytes};
+ghost use Rattle.store_run.specs.StoreEnds.{StoresBehind, StoreEnds};
+ghost use Rattle.store_run.specs.declared.refusals.StoreRefusal.{StoreRefusal};
 ghost use Rattle.store_undo.specs.UndoCall.{HoldsNow, UndoesCall, IsSafeUndo, IsUntouched};
 ghost use Rattle.store_undo.specs.UndoCauses.{UndoHasNoRoom, IsUndoCause};
 ghost use Rattle.store_undo.specs.UndoEnds.{UndoEnds};
@@ -14,10 +15,11 @@ ghost use Rattle.store_undo.specs.Undoing.{Undoing, undoing, undo_refusal};
 ghost use Rattle.store_undo.specs.UndoRecords.{version_due, snapshot_text, undo_text};
 
 use crate::making::{Making, MakingFault, make};
-use gate_log::{Log, open_log};
+use command_ends::Status;
+use gate_log::Log;
 use lens_io::{Disk, Payloads, Sink};
 use std::alloc::Global;
-use stored_run::{Status, give_stop, pack_store, refuse, refuse_log};
+use store_run::{give_stop, pack_store, read_store, refuse, refuse_store};
 
 /// Opens a store, and takes its documents and its complement back to what they were before the last `count` changes.
 ///
@@ -25,21 +27,24 @@ use stored_run::{Status, give_stop, pack_store, refuse, refuse_log};
 /// then writes the lines `undo left WORD` and `undo right WORD` and the state lines. Each word takes the document of
 /// its side back. The payloads and the lines are made before anything is stored.
 ///
-/// - `undoes`: after `Done` the payloads are those from before, the version record if there was one to store, and the snapshot.
-///   They represent the triple before the last changes, which is consistent. The lines were written, and the word of each line
-///   acts on the document of its side from before the call and gives that of the snapshot.
-/// - `safe`: whatever the status, an image that a crash leaves holds the payloads from before, or these and the version record,
-///   which represent the triple from before the call; or these and the snapshot, which represent the triple before the last
-///   changes. If the sync of the opening failed, nothing has changed.
+/// - `undoes`: after `Done` the payloads are those from before, the version record if there was one to store, and the
+///   snapshot. They represent the triple before the last changes, which is consistent. The lines were written, and the
+///   word of each line acts on the document of its side from before the call and gives that of the snapshot.
+/// - `safe`: whatever the status, an image that a crash leaves holds the payloads from before, or these and the version
+///   record, which represent the triple from before the call; or these and the snapshot, which represent the triple
+///   before the last changes. If the sync of the opening failed, nothing has changed.
 /// - `exits`: what was written and what is stored after each status, if the last `count` payloads are of changes.
 /// - `unstored`: after `NoMemory` and `StoreRefused` the snapshot is not stored, whatever a crash leaves.
-/// - `causes`: over such payloads `StoreRefused` comes only if the log had no room for the version record or the snapshot, and
-///   `DiskFault`, if the disk's room is known, only if the disk had none. The source is not there, and no item is refused.
+/// - `causes`: over such payloads `StoreRefused` comes only if the log had no room for the version record or the
+///   snapshot, and `DiskFault`, if the disk's room is known, only if the disk had none. The source is not there, and no
+///   item is refused.
 /// - `complete`: so with no fault, and if the log has room, the status is `Done` or `NoMemory`.
-/// - `refused`: the line `store refused: REASON` is written, unless the disk failed, whose room is not known then, or memory ran
-///   out before. Nothing is written to the disk. The reasons are `not-a-log`, `bad-record N`, `not-consistent N`, and `nothing-to-undo` if and only if the
-///   payloads represent a session, and their last `count` records are not all of changes or there are not so many.
-/// - `no_source`, `sink_fault`, `disk_fault`: there is no fault of a source, and these statuses come only if that device failed.
+/// - `refused`: the line `store refused: REASON` is written, unless the disk failed, whose room is not known then, or
+///   memory ran out before. Nothing is written to the disk. The reasons are `not-a-log`, `bad-record N`,
+///   `not-consistent N`, and `nothing-to-undo` if and only if the payloads represent a session, and their last `count`
+///   records are not all of changes or there are not so many.
+/// - `statuses`: it ends by one of five statuses, whatever the disk holds. `sink_fault`, `disk_fault`: these come only
+///   if that device failed.
 pub fn undo<K: Sink, D: Disk>(alloc: Global, count: u64, sink: &mut K, disk: &mut D) -> Status
     ensures undoes { (store : StoreToUndo D.Disk count disk.old) → result ≡ Status.Done
         → UndoesCall K.Sink D.Disk (sink.old, disk.old) (sink.new, disk.new) store.payloads store.undone }
@@ -65,44 +70,16 @@ pub fn undo<K: Sink, D: Disk>(alloc: Global, count: u64, sink: &mut K, disk: &mu
     ensures refused { (other : RefusedToUndo D.Disk count disk.old)
         → IsUnwritten D.Disk disk.old disk.new
         × EndsRefused K.Sink D.Disk (sink.old, disk.old) (sink.new, disk.new) other.reason result }
-    ensures no_source { result ≡ Status.SourceFault → ⊥ }
+    ensures statuses { IsAmong quiet_statuses result }
     ensures sink_fault { result ≡ Status.SinkFault → SinkFailed K.Sink sink.old sink.new }
     ensures disk_fault { result ≡ Status.DiskFault → DiskFailed D.Disk disk.old disk.new }
 {
-    match open_log(disk) {
-        Ok(log) => {
-            let mut log = log;
-            undo_log(alloc, count, &mut log, sink, disk)
+    match read_store(alloc, disk) {
+        Ok(store) => {
+            let mut log = store.log;
+            undo_payloads(alloc, count, store.payloads, &mut log, sink, disk)
         }
-        Err(fault) => refuse_log(alloc, fault, sink),
-    }
-}
-
-// Undoes the last changes of a store whose log was opened.
-fn undo_log<K: Sink, D: Disk>(
-    alloc: Global,
-    count: u64,
-    log: &mut Log,
-    sink: &mut K,
-    disk: &mut D,
-) -> Status
-    requires stands { (base : List (List ℕ)) × StandsOn D.Disk disk.old log.old base }
-    ensures ends { (before : List (List ℕ)) (bytes : List ℕ) (u : Undoing)
-        → D.content disk.old ≡ Some bytes → StandsOn D.Disk disk.old log.old before
-        → undoing count before ≡ Some u
-        → UndoEnds K.Sink D.Disk (sink.old, disk.old) (sink.new, disk.new) before u result }
-    ensures refused { (before : List (List ℕ)) (bytes : List ℕ) (refusal : StoreRefusal)
-        → D.content disk.old ≡ Some bytes → StandsOn D.Disk disk.old log.old before
-        → undo_refusal count before ≡ Some refusal
-        → IsUnwritten D.Disk disk.old disk.new
-        × EndsRefused K.Sink D.Disk (sink.old, disk.old) (sink.new, disk.new) refusal result }
-    ensures no_source { result ≡ Status.SourceFault → ⊥ }
-    ensures sink_fault { result ≡ Status.SinkFault → SinkFailed K.Sink sink.old sink.new }
-    ensures disk_fault { result ≡ Status.DiskFault → DiskFailed D.Disk disk.old disk.new }
-{
-    match log.payloads(alloc, disk) {
-        Ok(payloads) => undo_payloads(alloc, count, payloads, log, sink, disk),
-        Err(fault) => refuse_log(alloc, fault, sink),
+        Err(fault) => refuse_store(alloc, fault, sink),
     }
 }
 
@@ -122,19 +99,19 @@ fn undo_payloads<K: Sink, D: Disk>(
     ensures refused { (refusal : StoreRefusal) → undo_refusal count payloads ≡ Some refusal
         → IsUnwritten D.Disk disk.old disk.new
         × EndsRefused K.Sink D.Disk (sink.old, disk.old) (sink.new, disk.new) refusal result }
-    ensures no_source { result ≡ Status.SourceFault → ⊥ }
+    ensures statuses { IsAmong quiet_statuses result }
     ensures sink_fault { result ≡ Status.SinkFault → SinkFailed K.Sink sink.old sink.new }
     ensures disk_fault { result ≡ Status.DiskFault → DiskFailed D.Disk disk.old disk.new }
 {
     match make(alloc, count, payloads) {
-        Ok(making) => store_making(alloc, &making, log, sink, disk),
+        Ok(making) => store_undone(alloc, &making, log, sink, disk),
         Err(MakingFault::Refused(refusal)) => refuse(alloc, refusal, sink),
         Err(MakingFault::NoMemory) => Status::NoMemory,
     }
 }
 
 // Stores what was made, and writes its lines.
-fn store_making<K: Sink, D: Disk>(
+fn store_undone<K: Sink, D: Disk>(
     alloc: Global,
     making: &Making,
     log: &mut Log,
@@ -144,7 +121,7 @@ fn store_making<K: Sink, D: Disk>(
     requires stands { (base : List (List ℕ)) × StandsOn D.Disk disk.old log.old base }
     ensures ends { StoreEnds K.Sink D.Disk (sink.old, disk.old, log.old) (sink.new, disk.new, log.new)
         making.now.texts.lines (option_to_list making.now.version) making.now.texts.snapshot result }
-    ensures no_source { result ≡ Status.SourceFault → ⊥ }
+    ensures statuses { IsAmong quiet_statuses result }
     ensures sink_fault { result ≡ Status.SinkFault → SinkFailed K.Sink sink.old sink.new }
     ensures disk_fault { result ≡ Status.DiskFault → DiskFailed D.Disk disk.old disk.new }
 {

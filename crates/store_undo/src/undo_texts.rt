@@ -6,20 +6,20 @@ ghost use Rattle.edit_json.specs.WordJson.{tree_of_word};
 ghost use Rattle.edit_module.specs.Views.{word_tree};
 ghost use Rattle.edit_session.specs.Views.{triple_tree};
 ghost use Rattle.answer_text.specs.Lines.{tree_line};
-ghost use Rattle.journal_answers.specs.Answers.{state_lines};
+ghost use Rattle.pair_answers.specs.Answers.{state_lines};
 ghost use Rattle.lens_forms.specs.Forms.{form_tree};
-ghost use Rattle.store_undo.specs.Making.{IsSnapshot, AreTexts};
-ghost use Rattle.undo_words.specs.Views.{both_tree};
+ghost use Rattle.store_undo.specs.Making.{AreTexts};
+ghost use Rattle.edit_undo.specs.UndoneViews.{both_tree};
 
 use edit_json::append_word;
 use edit_module::Word;
 use edit_session::Session;
-use journal_answers::state_lines;
+use edit_undo::BothWords;
 use lens_flat::Flat;
+use pair_answers::state_lines;
 use std::alloc::{AllocError, Global};
-use stored_records::snapshot_payload;
+use store_session::snapshot_of;
 use texts::Bytes;
-use undo_words::BothWords;
 
 // The payload of a snapshot, and the lines of `undo`.
 #[derive(Drop)]
@@ -34,23 +34,12 @@ pub(crate) fn texts_of(
     session: &Session<Flat>,
     words: &BothWords,
 ) -> Result<Texts, AllocError>
-    ensures { IfOk result (AreTexts (form_tree session.now.lens.typed) (triple_tree session.now.triple) (both_tree words.now)) }
+    ensures { IfOk result (AreTexts (form_tree session.now.lens.typed) (triple_tree session.now.triple)
+        (both_tree words.now)) }
 {
     let snapshot = snapshot_of(alloc, session)?;
     let lines = lines_of(alloc, session, words)?;
     Ok(Texts { snapshot, lines })
-}
-
-// The payload of a snapshot of the session's triple.
-fn snapshot_of(alloc: Global, session: &Session<Flat>) -> Result<Bytes, AllocError>
-    ensures { IfOk result (IsSnapshot (form_tree session.now.lens.typed) (triple_tree session.now.triple)) }
-{
-    let typed = session.lens().typed();
-    let (left, comp, right) = (session.left(), session.comp(), session.right());
-    // The proof needs that the form is typed, which this call says.
-    let _form = typed.form();
-    let payload = snapshot_payload(alloc, typed, left, comp, right)?;
-    Ok(payload)
 }
 
 // The lines `undo left WORD` and `undo right WORD`, and the state lines of the session.

@@ -45,12 +45,12 @@ abbrev pub tagged_by : FieldTrees → Option (List ℕ × Data) → Option DocTr
 tagged_by fs None = None
 tagged_by fs (Some p) = option_and_then (λ t. option_map (alt p.0) (document_of t p.1)) (lookup_type fs p.0)
 
-tag_cases : (k : List ℕ) (d : Data) (o : Option TyTree) → (elim o [ None ↦ None | Some t ↦ option_map (alt k) (document_of t d) ]) ≡ option_and_then (λ t. option_map (alt k) (document_of t d)) o
-tag_cases k d None = refl
-tag_cases k d (Some t) = refl
+case_tags : (k : List ℕ) (d : Data) (o : Option TyTree) → (elim o [ None ↦ None | Some t ↦ option_map (alt k) (document_of t d) ]) ≡ option_and_then (λ t. option_map (alt k) (document_of t d)) o
+case_tags k d None = refl
+case_tags k d (Some t) = refl
 
 pub alt_of : (fs : FieldTrees) (d : Data) → document_of (ty_alt fs) d ≡ tagged_by fs (only_member d)
-alt_of fs (object (member k d no_members)) = tag_cases k d (lookup_type fs k)
+alt_of fs (object (member k d no_members)) = case_tags k d (lookup_type fs k)
 alt_of fs d = refl
 
 pub list_of : (t : TyTree) (d : Data) → document_of (ty_list t) d ≡ option_and_then (λ ds. option_map list_document (item_documents t ds)) (as_array d)

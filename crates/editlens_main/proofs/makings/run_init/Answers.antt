@@ -1,26 +1,14 @@
-use Rattle.editlens_main.proofs.StoreStatuses.{finds_log}
+use Rattle.editlens_main.proofs.FoundLogs.{finds_log}
 use Rattle.editlens_main.proofs.makings.run_init.Goals as goal
 
 pub returns-clause-makes : goal.returns-clause-makes
 returns-clause-makes g c =
-    let e = c.init-ended.ensures in
-    let ended = c.init-ended.result in
-    let is = c.of_making.ensures.is in
+    let e = c.init.ensures in
     record {
-      starts = λ h. e.starts (c.of_making.ensures.done h);
-      stops = (ended, is, e.ends);
-      at_once = (ended, is, e.at_once);
-      caused = λ h. e.room (c.of_making.ensures.disk h);
-      completes = (ended, is, e.complete);
-      refuses = finds_log g.S.Source g.K.Sink g.D.Disk (c.args.source.now, c.args.sink.now, c.args.disk.now)
-          (c.init-ended.new.source, c.init-ended.new.sink, c.init-ended.new.disk) ended c.of_making.result is e.exists;
+      starts = e.starts;
+      stops = e.ends;
+      at_once = e.at_once;
+      caused = e.room;
+      completes = e.complete;
+      refuses = finds_log g.S.Source g.K.Sink g.D.Disk (c.args.source.now, c.args.sink.now, c.args.disk.now) (c.init.new.source, c.init.new.sink, c.init.new.disk) c.init.result e.exists;
     }
-
-pub returns-clause-source_fault : goal.returns-clause-source_fault
-returns-clause-source_fault g c = λ e. c.init-ended.ensures.source_fault (c.of_making.ensures.source e)
-
-pub returns-clause-sink_fault : goal.returns-clause-sink_fault
-returns-clause-sink_fault g c = λ e. c.init-ended.ensures.sink_fault (c.of_making.ensures.sink e)
-
-pub returns-clause-disk_fault : goal.returns-clause-disk_fault
-returns-clause-disk_fault g c = λ e. c.init-ended.ensures.disk_fault (c.of_making.ensures.disk e)

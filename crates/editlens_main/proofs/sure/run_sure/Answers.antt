@@ -5,10 +5,10 @@ use Rattle.lens_io.specs.contracts.mem_source.SureSourceSource.TheImpl.{ghosts a
 use Rattle.lens_io.specs.contracts.sure_disk.SureDiskDisk.TheImpl.{ghosts as sure_disk}
 use Rattle.link_run.specs.LinkScript.{link_script}
 use Rattle.pair_run.specs.Scripts.{pair_script, types_script}
-use Rattle.store_import.proofs.ImportEnds as imported
-use Rattle.store_import.specs.Import.{import_command}
-use Rattle.store_making.proofs.InitEnds.{accepts, refuses}
-use Rattle.store_making.specs.Init.{init_command}
+use Rattle.store_new.proofs.ImportEnds as imported
+use Rattle.store_new.specs.Import.{import_command}
+use Rattle.store_new.proofs.InitEnds.{accepts, refuses}
+use Rattle.store_new.specs.Init.{init_command}
 use Rattle.editlens_main.specs.Commands.{order_named}
 use Rattle.editlens_main.specs.Shows.{shown, verified}
 use Rattle.editlens_main.proofs.Statuses.{only_usage, never_disk}

@@ -1,10 +1,11 @@
 use Rattle.std.proofs.Common.{Some, sym, subst, refl}
+use Rattle.command_ends.proofs.AmongStatuses.{quiet_reads_nothing}
 use Rattle.command_words.specs.Orders.{HasFewEntries}
 use Rattle.command_words.specs.declared.orders.Order.TheVariants.{Run, Check, Init, Import, Apply, Show, Verify, Pack, Undo, Hub, Link}
 use Rattle.editlens_main.specs.OrderEnds.{EndsOrder}
 use Rattle.editlens_main.specs.Statuses.{MayEnd}
 use Rattle.editlens_main.proofs.OrderClauses.{not_reading, not_diskless}
-use Rattle.editlens_main.proofs.Statuses.{quiet_reads_nothing, gen_reads_nothing, script_stores_nothing, gen_stores_nothing}
+use Rattle.editlens_main.proofs.Statuses.{gen_reads_nothing, script_stores_nothing, gen_stores_nothing}
 use Rattle.editlens_main.proofs.top.run_order.Goals as goal
 
 pub returns-in-Run-clause-ends : goal.returns-in-Run-clause-ends

@@ -1,9 +1,9 @@
 use Rattle.std.proofs.Common.{◌≡◌, ℕ, List, [], ◌++◌, true, sym, ◌∙◌}
 use Rattle.edit_journal.specs.Lines.{line_of}
 use Rattle.edit_journal.specs.Pieces.{last_line, has_no_end}
-use Rattle.script_parts.specs.Lines.{program_part}
-use Rattle.script_parts.specs.PartSteps.{IsProgramFront}
-use Rattle.journal_input.proofs.Outcomes.{if_ok}
+use Rattle.script_input.specs.Lines.{program_part}
+use Rattle.script_input.specs.PartSteps.{IsProgramFront}
+use Rattle.script_input.proofs.Outcomes.{if_ok}
 use Rattle.hub_run.specs.HeldPieces.{HoldsPieces, HoldsAfter}
 use Rattle.hub_run.specs.HubHeads.{HoldsFront, HasPieces}
 use Rattle.hub_run.proofs.FrontPieces.{last_added}

@@ -1,7 +1,7 @@
 use Rattle.std.proofs.Common.{◌≡◌, ℕ, List, ◌++◌, length}
 use Rattle.edit_journal.specs.Pieces.{nothing_fed, fed}
 use Rattle.hub_run.specs.HubHeads.{HoldsFront}
-use Rattle.script_parts.specs.PartSteps.{IsProgramFront, MovesOn}
+use Rattle.script_input.specs.PartSteps.{IsProgramFront, MovesOn}
 use Rattle.hub_run.proofs.head.add_lines.Given as goal
 
 -- the lines that were taken went to the program part

@@ -1,11 +1,11 @@
 use Rattle.std.proofs.Common.{◌≡◌, ◌++◌, Ok, refl, sym, subst, ◌∙◌, arith}
 use Rattle.lens_io.specs.declared.failed.TakeFault.TheVariants.{NoMemory}
-use Rattle.script_parts.specs.Parts.{StopsHead}
+use Rattle.script_input.specs.Parts.{StopsHead}
 use Rattle.hub_run.specs.HubHeads.{HoldsFront, HasPieces, ReadsHead, AddsLines}
-use Rattle.script_parts.specs.PartSteps.{MovesOn}
-use Rattle.journal_input.specs.Taking.{TakesMore}
-use Rattle.script_parts.proofs.Heads.{reads_nothing, part_read, waits, reads_more, head_stops, none_left, last_is, all_read, waits_stops, head_runs_out}
-use Rattle.journal_input.proofs.Outcomes.{by_error}
+use Rattle.script_input.specs.PartSteps.{MovesOn}
+use Rattle.script_input.specs.Taking.{TakesMore}
+use Rattle.script_input.proofs.Heads.{reads_nothing, part_read, waits, reads_more, head_stops, none_left, last_is, all_read, waits_stops, head_runs_out}
+use Rattle.script_input.proofs.Outcomes.{by_error}
 use Rattle.hub_run.proofs.FrontPieces.{front_nothing}
 use Rattle.hub_run.proofs.head.read_hub_head.Goals as goal
 

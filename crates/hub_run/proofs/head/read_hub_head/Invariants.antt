@@ -1,6 +1,6 @@
 use Rattle.std.proofs.Common.{◌≡◌, ◌+◌, ◌-◌, ◌≤◌, length}
-use Rattle.journal_input.specs.declared.limits.TheConstants.{MOST_BYTES}
-use Rattle.script_parts.proofs.Heads.{ReadsOn}
+use Rattle.script_input.specs.declared.limits.TheConstants.{MOST_BYTES}
+use Rattle.script_input.proofs.Heads.{ReadsOn}
 use Rattle.hub_run.specs.HubHeads.{HoldsFront, HasPieces}
 use Rattle.hub_run.proofs.head.read_hub_head.Given as goal
 

@@ -1,8 +1,9 @@
-use Rattle.std.proofs.Common.{sym, subst}
-use Rattle.script_parts.specs.Lines.{program_part}
-use Rattle.script_parts.proofs.Heads.{part_within}
-use Rattle.script_run.specs.Ends.{Ended}
-use Rattle.script_run.proofs.Ends.{ended_never, ended_head, ended_alone}
+use Rattle.std.proofs.Common.{sym, subst, ap, ◌∙◌}
+use Rattle.script_input.specs.Lines.{program_part}
+use Rattle.script_input.proofs.Heads.{part_within}
+use Rattle.script_run.specs.LineStops.{status_of}
+use Rattle.script_run.specs.ScriptEnds.{Ended}
+use Rattle.script_run.proofs.ScriptEndsHold.{ended_never, ended_head, ended_alone}
 use Rattle.hub_run.specs.HubHeads.{HasPieces}
 use Rattle.hub_run.specs.HubScript.{hub_script}
 use Rattle.hub_run.proofs.FormsInStep.{accepted_in_step}
@@ -35,5 +36,5 @@ returns-clause-ended g c =
     let start = c.args.source.now in
     let now = c.read_hub_head.new.source in
     let k = c.args.sink.now in
-    subst (Ended hub_script g.S.Source g.K.Sink (start, k) (now, k)) (sym c.of_fault.ensures)
+    subst (Ended hub_script g.S.Source g.K.Sink (start, k) (now, k)) (sym (c.status.ensures ∙ ap status_of c.at_piece.ensures))
     (ended_head hub_script accepted_in_step g.S.Source g.K.Sink start now k c.in-Err.fault c.in-Err.ensures.head)

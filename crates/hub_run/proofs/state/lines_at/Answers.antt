@@ -1,7 +1,7 @@
 use Rattle.std.proofs.Common.{◌≡◌, sym, ap, ap₂, ◌∙◌}
 use Rattle.std.specs.Option.{option_copied}
 use Rattle.doc_values.specs.Documents.{doc_tree}
-use Rattle.journal_input.proofs.Outcomes.{if_ok}
+use Rattle.script_input.proofs.Outcomes.{if_ok}
 use Rattle.lens_core.specs.Complements.{comp_tree}
 use Rattle.lens_flat.specs.declared.flat.ReadyForm.{ReadyForm}
 use Rattle.lens_forms.specs.Forms.{form_tree}

@@ -2,7 +2,7 @@ use Rattle.std.proofs.Common.{◌≡◌, IsTrue, sym, ap, subst, ◌∙◌, ◌+
 use Rattle.doc_values.specs.Documents.{doc_tree}
 use Rattle.doc_values.specs.Typing.{has}
 use Rattle.lens_forms.specs.Forms.{form_tree, left_type}
-use Rattle.journal_input.proofs.Outcomes.{if_ok}
+use Rattle.script_input.proofs.Outcomes.{if_ok}
 use Rattle.view_hub.specs.Views.{hub_tree}
 use Rattle.hub_run.specs.Runs.{hub_line, view_lines, state_lines}
 use Rattle.hub_run.proofs.StateLines.{some_typed, first_has, state_text_is}

@@ -1,5 +1,5 @@
 use Rattle.edit_session.specs.Views.{triple_tree}
-use Rattle.journal_answers.proofs.InStep.{in_step_fits}
+use Rattle.pair_answers.proofs.InStep.{in_step_fits}
 use Rattle.lens_forms.specs.Forms.{form_tree}
 use Rattle.kept_sessions.proofs.parts.part_text.Goals as goal
 

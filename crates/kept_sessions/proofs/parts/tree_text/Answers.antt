@@ -1,6 +1,6 @@
 use Rattle.std.proofs.Common.{◌≡◌, string_bytes, sym, subst, rules}
 use Rattle.serde_json.specs.View.{view}
-use Rattle.stored_records.proofs.PayloadTrees.{string_read}
+use Rattle.store_records.proofs.PayloadTrees.{string_read}
 use Rattle.kept_sessions.specs.States.{IsTextOf}
 use Rattle.kept_sessions.proofs.parts.tree_text.Goals as goal
 

@@ -1,7 +1,7 @@
 use Rattle.std.proofs.Common.{Ok, Err, length, sym, subst, arith}
 use Rattle.lens_io.specs.Content.{IsFull}
-use Rattle.line_stream.specs.Answered.{AnswersPieces}
-use Rattle.script_run.specs.Ends.{Ended}
+use Rattle.script_run.specs.LineEnds.{AnswersPieces}
+use Rattle.script_run.specs.ScriptEnds.{Ended}
 use Rattle.script_run.proofs.JournalEnds.{run_ends, run_stops}
 use Rattle.script_run.proofs.journal.answer_lines.Goals as goal
 use Rattle.lens_io.proofs.Increases.{sink_failed_since}
@@ -39,7 +39,7 @@ returns-in-Err-clause-ended g c = λ start front rest part program t head is fir
     let k' = c.answer_pieces.new.sink in
     let end = script.state c.answer_pieces.new.state.state in
     let p = subst (λ u. AnswersPieces script.answer u g.S.Source now now' input next (sink.held k) (sink.held k') end (Err c.in-Err.stopped)) first c.in-Err.ensures.answers in
-    subst (Ended script g.S.Source sink (start, k) (now', k')) (sym c.of_stop.ensures)
+    subst (Ended script g.S.Source sink (start, k) (now', k')) (sym c.status.ensures)
     (run_stops script c.requires.in_step g.S.Source sink start now now' input front rest part t head program is (length c.args.piece.now) c.requires.few c.in-Err.ensures.few k k' p.more c.in-Err.stopped p.consumes p.at_most
     p.has_ended)
 

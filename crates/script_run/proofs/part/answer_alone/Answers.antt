@@ -1,6 +1,6 @@
 use Rattle.std.proofs.Common.{subst}
-use Rattle.script_run.specs.Ending.{Opens}
-use Rattle.script_run.proofs.Ends.{alone_opened, alone_unopened}
+use Rattle.script_run.specs.ScriptSteps.{Opens}
+use Rattle.script_run.proofs.ScriptEndsHold.{alone_opened, alone_unopened}
 use Rattle.script_run.proofs.part.answer_alone.Goals as goal
 
 pub returns-in-Ok-clause-gives : goal.returns-in-Ok-clause-gives

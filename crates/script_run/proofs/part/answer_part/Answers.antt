@@ -1,6 +1,6 @@
 use Rattle.std.proofs.Common.{subst}
-use Rattle.script_run.specs.Ending.{Opens}
-use Rattle.script_run.proofs.Ends.{ended_unopened}
+use Rattle.script_run.specs.ScriptSteps.{Opens}
+use Rattle.script_run.proofs.ScriptEndsHold.{ended_unopened}
 use Rattle.script_run.proofs.part.answer_part.Goals as goal
 
 pub returns-in-Ok-clause-ended : goal.returns-in-Ok-clause-ended

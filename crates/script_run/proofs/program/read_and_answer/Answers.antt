@@ -1,9 +1,10 @@
-use Rattle.std.proofs.Common.{sym, subst}
-use Rattle.script_parts.specs.Lines.{program_part}
-use Rattle.script_parts.specs.Parts.{HoldsPart}
-use Rattle.script_parts.proofs.Heads.{part_within}
-use Rattle.script_run.specs.Ends.{Ended}
-use Rattle.script_run.proofs.Ends.{ended_never, ended_head, ended_alone}
+use Rattle.std.proofs.Common.{sym, subst, ap, ◌∙◌}
+use Rattle.script_input.specs.Lines.{program_part}
+use Rattle.script_input.specs.Parts.{HoldsPart}
+use Rattle.script_input.proofs.Heads.{part_within}
+use Rattle.script_run.specs.LineStops.{status_of}
+use Rattle.script_run.specs.ScriptEnds.{Ended}
+use Rattle.script_run.proofs.ScriptEndsHold.{ended_never, ended_head, ended_alone}
 use Rattle.script_run.proofs.program.read_and_answer.Goals as goal
 
 pub answer_part-requires-clause-within : goal.answer_part-requires-clause-within
@@ -33,5 +34,5 @@ returns-clause-ended g c =
     let start = c.args.source.now in
     let now = c.read_head.new.source in
     let k = c.args.sink.now in
-    subst (Ended g.A.ScriptState g.S.Source g.K.Sink (start, k) (now, k)) (sym c.of_fault.ensures)
+    subst (Ended g.A.ScriptState g.S.Source g.K.Sink (start, k) (now, k)) (sym (c.status.ensures ∙ ap status_of c.at_piece.ensures))
     (ended_head g.A.ScriptState g.met.A.ProgramScript.every_run g.S.Source g.K.Sink start now k c.in-Err.fault c.in-Err.ensures.head)

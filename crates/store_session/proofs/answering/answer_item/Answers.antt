@@ -7,7 +7,7 @@ use Rattle.edit_journal.specs.EntryJson.{change_of_line}
 use Rattle.edit_session.specs.Views.{triple_tree}
 use Rattle.lens_forms.specs.Forms.{form_tree}
 use Rattle.store_session.specs.StoredStates.{ReadsAsChange}
-use Rattle.store_session.specs.Views.{session_state}
+use Rattle.store_session.specs.SessionStates.{session_state}
 use Rattle.store_session.proofs.AnswerLines.{item_is_answer}
 use Rattle.store_session.proofs.answering.answer_item.Goals as goal
 

@@ -1,4 +1,4 @@
-use Rattle.store_session.specs.Views.{session_state}
+use Rattle.store_session.specs.SessionStates.{session_state}
 use Rattle.store_session.proofs.AnswerLines.{states_are_other}
 use Rattle.store_session.proofs.showing.shown.Goals as goal
 

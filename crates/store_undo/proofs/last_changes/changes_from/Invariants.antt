@@ -2,7 +2,7 @@ use Rattle.std.proofs.Common.{◌≡◌, List, ◌++◌, drop}
 use Rattle.std.specs.Prelude.{option_map}
 use Rattle.edit_module.specs.Changes.{ChangeTree}
 use Rattle.store_undo.specs.Undoing.{changes_of}
-use Rattle.undo_words.specs.Views.{change_trees}
+use Rattle.edit_undo.specs.UndoneViews.{change_trees}
 use Rattle.store_undo.proofs.last_changes.changes_from.Given as goal
 
 -- behind the changes that were read come those of the payloads that are left

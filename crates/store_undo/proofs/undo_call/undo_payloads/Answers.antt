@@ -1,14 +1,13 @@
 use Rattle.std.proofs.Common.{inl, inr, ℕ, List, Option, subst, refl}
 use Rattle.std.specs.Prelude.{option_to_list}
 use Rattle.std.proofs.KnownBytes.{Appends-nil}
-use Rattle.stored_run.specs.StoreEnds.{StoreEnds}
-use Rattle.stored_run.proofs.Openings.{unwritten_none, opening_none}
-use Rattle.stored_run.proofs.StoredPayloads.{images_held}
+use Rattle.store_run.specs.StoreEnds.{StoreEnds}
+use Rattle.store_run.proofs.Openings.{unwritten_none, opening_none}
+use Rattle.store_run.proofs.StoredPayloads.{images_held}
 use Rattle.store_undo.specs.Making.{IsMakingFault}
 use Rattle.store_undo.specs.UndoEnds.{UndoEnds}
 use Rattle.store_undo.specs.UndoRecords.{version_due, snapshot_text}
 use Rattle.store_undo.specs.Undoing.{Undoing, undoing, undo_refusal}
-use Rattle.store_undo.proofs.UndoCauses.{refuses_sourceless}
 use Rattle.store_undo.proofs.UndoRefusals.{same_refusal, never_refused, same_undoing}
 use Rattle.store_undo.proofs.undo_call.undo_payloads.Goals as goal
 
@@ -17,15 +16,15 @@ returns-in-Ok-clause-ends g c =
     let disk = g.D.Disk in
     let only = g.met.D.Disk.only_now in
     let k = c.args.sink.now in
-    let k' = c.store_making.new.sink in
+    let k' = c.store_undone.new.sink in
     let d = c.args.disk.now in
-    let d' = c.store_making.new.disk in
+    let d' = c.store_undone.new.disk in
     let l = c.args.log.now in
-    let l' = c.store_making.new.log in
+    let l' = c.store_undone.new.log in
     let before = c.args.payloads in
     let made = c.in-Ok.ensures in
     let making = c.in-Ok.making in
-    let status = c.store_making.result in
+    let status = c.store_undone.result in
     λ u st h.
     let same = same_undoing (undoing c.args.count before) made.u u made.is h in
     subst (λ (x : Undoing). UndoEnds g.K.Sink disk (k, d) (k', d') before x status) same
@@ -40,7 +39,7 @@ returns-in-Ok-clause-ends g c =
           subst (λ (y : List ℕ). StoreEnds g.K.Sink disk (k, d, l) (k', d', l') y (option_to_list (version_due made.u.now.version)) (snapshot_text made.u) status) made.lines
           (subst (λ (v : Option (List ℕ)). StoreEnds g.K.Sink disk (k, d, l) (k', d', l') making.texts.lines (option_to_list v) (snapshot_text made.u) status) made.version
           (subst (λ (x : List ℕ). StoreEnds g.K.Sink disk (k, d, l) (k', d', l') making.texts.lines (option_to_list making.version) x status) made.snapshot
-          c.store_making.ensures.ends));
+          c.store_undone.ensures.ends));
     }))
 
 pub returns-in-Ok-clause-refused : goal.returns-in-Ok-clause-refused
@@ -78,6 +77,3 @@ pub returns-in-Err-NoMemory-clause-refused : goal.returns-in-Err-NoMemory-clause
 returns-in-Err-NoMemory-clause-refused g c =
     let disk = g.D.Disk in
     λ refusal q. (unwritten_none disk c.args.disk.now, inr ((inr refl, Appends-nil (g.K.Sink.held c.args.sink.now)), λ e. cc))
-
-pub returns-in-Err-Refused-clause-no_source : goal.returns-in-Err-Refused-clause-no_source
-returns-in-Err-Refused-clause-no_source g c = λ e. refuses_sourceless g.K.Sink c.args.sink.now c.refuse.new.sink c.in-Err-Refused.refusal c.refuse.result c.refuse.ensures.refuses e

@@ -3,7 +3,7 @@ use Rattle.serde_json.specs.Written.{compact_text}
 use Rattle.edit_json.specs.WordJson.{tree_of_word}
 use Rattle.edit_module.specs.Views.{word_tree}
 use Rattle.edit_session.specs.Views.{triple_tree}
-use Rattle.journal_answers.specs.Answers.{state_lines}
+use Rattle.pair_answers.specs.Answers.{state_lines}
 use Rattle.lens_forms.specs.Forms.{form_tree}
 use Rattle.store_undo.proofs.undo_texts.lines_of.Goals as goal
 

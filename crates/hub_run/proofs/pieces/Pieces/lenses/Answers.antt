@@ -2,9 +2,9 @@ use Rattle.std.proofs.Common.{◌≡◌, ◌<◌, ◌≤◌, ℕ, List, ◌++◌
 use Rattle.std.specs.Prelude.{Result, Ok}
 use Rattle.lens_forms.specs.Forms.{FormTree, form_tree}
 use Rattle.lens_types.specs.declared.typed.Typed.{Typed}
-use Rattle.script_parts.specs.Parts.{HoldsPart}
-use Rattle.script_parts.specs.declared.script.ProgramText.{ProgramText}
-use Rattle.journal_input.proofs.Outcomes.{by_error}
+use Rattle.script_input.specs.Parts.{HoldsPart}
+use Rattle.script_input.specs.declared.script.ProgramText.{ProgramText}
+use Rattle.script_input.proofs.Outcomes.{by_error}
 use Rattle.hub_run.specs.FoundLenses.{IsRefused, HasLeft}
 use Rattle.hub_run.specs.Lenses.{HubRefusal, too_many_views, first_left, form_of_view, forms_of}
 use Rattle.hub_run.proofs.FoundLoops.{view_found, view_not_found, last_found, last_not_found, few_forms, many_forms, kept_few, kept_many, view_joins, last_joins}

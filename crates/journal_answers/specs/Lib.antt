@@ -1,4 +1,0 @@
-pub mod AnswerLines
-pub mod Answers
-pub mod Runs
-pub mod Views

@@ -1,0 +1,53 @@
+-- An answer that has a line has a tree, and what a fault of a line says of both.
+use Rattle.std.proofs.Common.{◌≡◌, ℕ, List, true, Option, None, Some, option_map, Result, Ok, Err, length, refl, sym, subst, ◌∙◌}
+use Rattle.std.specs.Prelude.{IfOk, IfSome}
+use Rattle.std.specs.List.{list_all}
+use Rattle.std.proofs.lemmas.List.{length-map}
+use Rattle.edit_module.specs.Views.{word_tree, entry_tree, word_trees, entry_trees}
+use Rattle.edit_module.specs.declared.entry.Entry.{Entry}
+use Rattle.edit_module.specs.declared.word.Word.{Word}
+use Rattle.edit_json.specs.WordJson.{counts_fit}
+use Rattle.pair_answers.proofs.StepCounts.{Counted}
+use Rattle.edit_journal.specs.EntryJson.{LineFault}
+use Rattle.edit_journal.specs.Reading.{cause_of}
+use Rattle.edit_journal.specs.declared.fault.EntryFault.{EntryFault}
+use Rattle.edit_journal.specs.declared.fault.EntryFault.TheVariants.{LineTooLong, NotJson, NotAnEntry, NotAnEdit, NoMemory}
+use Rattle.edit_session.specs.Run.{no_entry}
+use Rattle.answer_text.specs.Lines.{fault_line}
+use Rattle.pair_answers.specs.AnswerLines.{HasAnswerLine}
+use Rattle.pair_answers.specs.Answers.{answer_line}
+use Rattle.pair_answers.specs.ItemRuns.{JournalAnswer}
+use Rattle.pair_answers.specs.ItemViews.{answer_tree}
+use Rattle.pair_answers.specs.declared.answers.Answer.{Answer}
+use Rattle.pair_answers.specs.declared.answers.Answer.TheVariants.{Carried, NoApply, GroupCarried, GroupNoApply, NoEntry}
+
+pub has_tree : (answer : Answer) → HasAnswerLine answer → (a : JournalAnswer) × (answer_tree answer ≡ Some a)
+has_tree (Carried side w) h = (_, refl)
+has_tree (NoApply at cause) h = (_, refl)
+has_tree (GroupCarried group words) h = (_, refl)
+has_tree (GroupNoApply part at cause) h = (_, refl)
+has_tree (NoEntry LineTooLong) h = (_, refl)
+has_tree (NoEntry NotJson) h = (_, refl)
+has_tree (NoEntry NotAnEntry) h = (_, refl)
+has_tree (NoEntry NotAnEdit) h = (_, refl)
+has_tree (NoEntry NoMemory) h = absurd h
+
+pub is_so : (P : JournalAnswer → Type 0) (o : Option JournalAnswer) (a : JournalAnswer) → o ≡ Some a → IfSome o P → P a
+is_so P None a e h = cc
+is_so P (Some b) a e h = let same : b ≡ a = cc in subst P same h
+
+-- and its line is that of the cause
+pub fault_has_line : (o : Option LineFault) (number : ℕ) (line : List ℕ) → ((cause : LineFault) → o ≡ Some cause → line ≡ fault_line number cause)
+    → IfSome (option_map no_entry o) (λ (a : JournalAnswer). line ≡ answer_line number a)
+fault_has_line None number line h = tt
+fault_has_line (Some cause) number line h = h cause refl
+
+pub fault_line_is : {E : Type 0} (r : Result (List ℕ) E) (answer : Answer) (fault : EntryFault) (number : ℕ) → answer ≡ NoEntry fault
+    → IfOk r (λ line. (cause : LineFault) → cause_of fault ≡ Some cause → line ≡ fault_line number cause)
+    → IfOk r (λ line. IfSome (answer_tree answer) (λ a. line ≡ answer_line number a))
+fault_line_is (Ok line) answer fault number is h = subst (λ x. IfSome (answer_tree x) (λ a. line ≡ answer_line number a)) (sym is) (fault_has_line (cause_of fault) number line h)
+fault_line_is (Err e) answer fault number is h = tt
+
+-- a group that was accepted has a line
+pub words_counted : (es : List Entry) (ws : List Word) → Counted (entry_trees es) (word_trees ws) → (length ws ≡ length es) × (list_all counts_fit (word_trees ws) ≡ true)
+words_counted es ws c = (sym (length-map ws word_tree) ∙ c.0 ∙ length-map es entry_tree, c.1)

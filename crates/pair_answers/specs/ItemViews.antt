@@ -1,0 +1,23 @@
+-- The trees that answers stand for, and the steps that they make.
+use Rattle.std.specs.Prelude.{Option, Some, option_map}
+use Rattle.edit_module.specs.Changes.{carried_to}
+use Rattle.edit_module.specs.Views.{word_tree, entry_trees, word_trees}
+use Rattle.edit_journal.specs.Reading.{cause_of}
+use Rattle.edit_session.specs.Step.{TripleTree}
+use Rattle.edit_session.specs.Run.{carried, no_apply, group_carried, group_no_apply, no_entry}
+use Rattle.pair_answers.specs.ItemRuns.{JournalAnswer}
+use Rattle.pair_answers.specs.declared.answers.Answer.{Answer}
+use Rattle.pair_answers.specs.declared.answers.Answer.TheVariants.{Carried, NoApply, GroupCarried, GroupNoApply}
+use Rattle.pair_answers.specs.declared.answers.Answer.TheVariants.{NoEntry}
+
+-- the tree of an answer; there is none for a line of which nothing is known since memory ran out
+abbrev pub answer_tree : Answer → Option JournalAnswer
+answer_tree (Carried side w) = Some (carried side (word_tree w))
+answer_tree (NoApply at cause) = Some (no_apply at cause)
+answer_tree (GroupCarried group words) = Some (group_carried (carried_to (entry_trees group) (word_trees words)))
+answer_tree (GroupNoApply part at cause) = Some (group_no_apply part at cause)
+answer_tree (NoEntry fault) = option_map no_entry (cause_of fault)
+
+-- the step of a run that comes to this triple with this answer
+abbrev pub step_with : TripleTree → Answer → Option (TripleTree × JournalAnswer)
+step_with t answer = option_map (λ a. (t, a)) (answer_tree answer)

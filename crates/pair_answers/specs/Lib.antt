@@ -1,0 +1,4 @@
+pub mod AnswerLines
+pub mod Answers
+pub mod ItemRuns
+pub mod ItemViews

@@ -1,4 +1,0 @@
-pub mod Coming
-pub mod Lines
-pub mod PartSteps
-pub mod Parts

@@ -1,0 +1,147 @@
+use Rattle.std.proofs.Common.{◌≡◌, ◌∷◌, [], ◌++◌, refl, sym, ap, subst, ◌∙◌, append_assoc, append-nil, length, arith}
+use Rattle.std.specs.Prelude.{MatchResult}
+use Rattle.script_input.proofs.EndedLines.{taken_line, none_taken}
+use Rattle.script_input.proofs.Outcomes.{as_error}
+use Rattle.script_run.specs.LineEnds.{AnswersLines, StopsLines}
+use Rattle.script_run.proofs.AnsweredLines.{nothing_answered, answers_on, stops_on, stops_before, stops_given, then_given}
+use Rattle.script_run.proofs.stream.answer_ended.Goals as goal
+
+pub lines-init : goal.lines-init
+lines-init g c =
+    let answer = g.A.LineAnswers.answer in
+    let state = g.A.LineAnswers.state in
+    let start = c.args.state.now in
+    record {
+      goes = ([], refl, nothing_answered answer (state start) c.args.progress.now (g.K.Sink.held c.args.sink.now));
+      begun = refl;
+      count = refl;
+      number = omega arith;
+      sink_faults = omega arith;
+      empty_takes = omega arith;
+    }
+
+pub returns-in_err-answer_line-in-Ok-Some-clause-answers : goal.returns-in_err-answer_line-in-Ok-Some-clause-answers
+returns-in_err-answer_line-in-Ok-Some-clause-answers g c =
+    let answer = g.A.LineAnswers.answer in
+    let state = g.A.LineAnswers.state in
+    let start = c.args.state.now in
+    let now = c.lines.state in
+    let held = g.K.Sink.held c.args.sink.now in
+    let held' = g.K.Sink.held c.lines.sink in
+    let h = c.lines.invariant.goes in
+    let ended = c.args.input.now.lines.ended in
+    let new = c.take_line.new.self in
+    let line = c.in-Ok-Some.line in
+    let taken = taken_line line new.lines c.lines.input.lines (ap (λ l. (l, new.lines)) (sym c.in-Ok-Some.field-0-is) ∙ c.in-Ok-Some.ensures.taken) in
+    let next = c.answer_line.new.state in
+    let p = c.lines.progress in
+    let p' = c.answer_line.new.progress in
+    let held'' = g.K.Sink.held c.answer_line.new.sink in
+    let stopped = c.in_err-answer_line-in-Ok-Some.field-0.0 in
+    let stop = c.in_err-answer_line-in-Ok-Some.ensures.answers in
+    let rest = new.lines.ended in
+    let wide = stops_before answer (state now) p (line ∷ []) rest held' held'' stopped stop in
+    as_error c.from_residual.result (λ r. MatchResult r (λ _. AnswersLines answer (state start) c.args.progress.now ended held held'' (state next) p')
+    (StopsLines answer (state start) c.args.progress.now ended held held'')) stopped
+    (stops_on answer (state start) (state now) c.args.progress.now p h.0 held held' h.2 ended (line ∷ rest) held'' stopped (h.1 ∙ ap (λ l. h.0 ++ l) taken.0) wide)
+    c.from_residual.ensures.1
+
+pub lines-preserved-in_ok-answer_line-in-Ok-Some : goal.lines-preserved-in_ok-answer_line-in-Ok-Some
+lines-preserved-in_ok-answer_line-in-Ok-Some g c =
+    let answer = g.A.LineAnswers.answer in
+    let state = g.A.LineAnswers.state in
+    let start = c.args.state.now in
+    let now = c.lines.state in
+    let held = g.K.Sink.held c.args.sink.now in
+    let held' = g.K.Sink.held c.lines.sink in
+    let h = c.lines.invariant.goes in
+    let ended = c.args.input.now.lines.ended in
+    let new = c.take_line.new.self in
+    let line = c.in-Ok-Some.line in
+    let taken = taken_line line new.lines c.lines.input.lines (ap (λ l. (l, new.lines)) (sym c.in-Ok-Some.field-0-is) ∙ c.in-Ok-Some.ensures.taken) in
+    let next = c.answer_line.new.state in
+    let p = c.lines.progress in
+    let p' = c.answer_line.new.progress in
+    let held'' = g.K.Sink.held c.answer_line.new.sink in
+    let e = c.in_ok-answer_line-in-Ok-Some.ensures in
+    let a = e.answers in
+    record {
+      goes = (
+        h.0 ++ line ∷ [],
+        h.1 ∙ ap (λ l. h.0 ++ l) taken.0 ∙ sym (append_assoc h.0 (line ∷ []) new.lines.ended),
+        answers_on answer (state start) (state now) c.args.progress.now p h.0 held held' h.2 (state next) p' (line ∷ []) held'' a,
+      );
+      begun = taken.1 ∙ c.lines.invariant.begun;
+      count = c.in-Ok-Some.ensures.count ∙ c.lines.invariant.count;
+      number = omega (arith, e.number, c.lines.invariant.number, ap length taken.0);
+      sink_faults = omega (arith, c.lines.invariant.sink_faults, e.sink_faults.0);
+      empty_takes = omega (arith, c.lines.invariant.empty_takes, e.sink_faults.1);
+    }
+
+pub lines-preserved : goal.lines-preserved
+lines-preserved g c =
+    let answer = g.A.LineAnswers.answer in
+    let state = g.A.LineAnswers.state in
+    let start = c.args.state.now in
+    let now = c.lines.state in
+    let held = g.K.Sink.held c.args.sink.now in
+    let held' = g.K.Sink.held c.lines.sink in
+    let h = c.lines.invariant.goes in
+    let ended = c.args.input.now.lines.ended in
+    let new = c.take_line.new.self in
+    let line = c.in-Ok-Some.line in
+    let taken = taken_line line new.lines c.lines.input.lines (ap (λ l. (l, new.lines)) (sym c.in-Ok-Some.field-0-is) ∙ c.in-Ok-Some.ensures.taken) in
+    let next = c.answer_line.new.state in
+    let p = c.lines.progress in
+    let p' = c.answer_line.new.progress in
+    let held'' = g.K.Sink.held c.answer_line.new.sink in
+    let e = c.in_ok-answer_line-in-Ok-Some.ensures in
+    let a = e.answers in
+    record {
+      goes = (
+        h.0 ++ line ∷ [],
+        h.1 ∙ ap (λ l. h.0 ++ l) taken.0 ∙ sym (append_assoc h.0 (line ∷ []) new.lines.ended),
+        answers_on answer (state start) (state now) c.args.progress.now p h.0 held held' h.2 (state next) p' (line ∷ []) held'' a,
+      );
+      begun = taken.1 ∙ c.lines.invariant.begun;
+      count = c.in-Ok-Some.ensures.count ∙ c.lines.invariant.count;
+      number = omega (arith, e.number, c.lines.invariant.number, ap length taken.0);
+      sink_faults = omega (arith, c.lines.invariant.sink_faults, e.sink_faults.0);
+      empty_takes = omega (arith, c.lines.invariant.empty_takes, e.sink_faults.1);
+    }
+
+pub returns-in-Ok-None-clause-answers : goal.returns-in-Ok-None-clause-answers
+returns-in-Ok-None-clause-answers g c =
+    let answer = g.A.LineAnswers.answer in
+    let state = g.A.LineAnswers.state in
+    let start = c.args.state.now in
+    let now = c.lines.state in
+    let held = g.K.Sink.held c.args.sink.now in
+    let held' = g.K.Sink.held c.lines.sink in
+    let h = c.lines.invariant.goes in
+    let ended = c.args.input.now.lines.ended in
+    let new = c.take_line.new.self in
+    let none = none_taken new.lines c.lines.input.lines (ap (λ l. (l, new.lines)) (sym c.in-Ok-None.field-0-is) ∙ c.in-Ok-None.ensures.taken) in
+    let all : ended ≡ h.0 = h.1 ∙ ap (λ l. h.0 ++ l) none.0 ∙ append-nil h.0 in
+    let held'' = g.K.Sink.held c.give_answers.new.sink in
+    let p'' = c.give_answers.new.progress in
+    subst (λ e. MatchResult c.give_answers.result (λ _. AnswersLines answer (state start) c.args.progress.now e held held'' (state now) p'')
+    (StopsLines answer (state start) c.args.progress.now e held held'')) (sym all)
+    (then_given answer (state start) (state now) c.args.progress.now c.lines.progress h.0 held held' h.2 c.give_answers.result p'' held'' c.give_answers.ensures.given c.give_answers.ensures.stopped)
+
+pub returns-in-Err-clause-answers : goal.returns-in-Err-clause-answers
+returns-in-Err-clause-answers g c =
+    let answer = g.A.LineAnswers.answer in
+    let state = g.A.LineAnswers.state in
+    let start = c.args.state.now in
+    let now = c.lines.state in
+    let held = g.K.Sink.held c.args.sink.now in
+    let held' = g.K.Sink.held c.lines.sink in
+    let h = c.lines.invariant.goes in
+    let ended = c.args.input.now.lines.ended in
+    let new = c.take_line.new.self in
+    let next = c.lines.input.lines.ended in
+    let held'' = g.K.Sink.held c.out_of_memory.new.sink in
+    let stopped = c.out_of_memory.result in
+    stops_on answer (state start) (state now) c.args.progress.now c.lines.progress h.0 held held' h.2 ended next held'' stopped h.1
+    (stops_given answer (state now) c.lines.progress next held' held'' stopped c.out_of_memory.ensures.writes)

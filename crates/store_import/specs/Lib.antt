@@ -1,4 +1,0 @@
-pub mod Found
-pub mod Helpers
-pub mod Import
-pub mod Plans

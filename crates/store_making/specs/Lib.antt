@@ -1,2 +1,0 @@
-pub mod Init
-pub mod Plans

@@ -1,0 +1,12 @@
+pub mod Appending
+pub mod CommandStatuses
+pub mod Commands
+pub mod FirstSteps
+pub mod FoundLines
+pub mod FoundPieces
+pub mod ImportEnds
+pub mod InitEnds
+pub mod MakingEnds
+pub mod NewRoomsHold
+pub mod Reading
+pub mod ScriptsRead

@@ -1,0 +1,110 @@
+-- What the reading of a script has found.
+use Rattle.std.proofs.Common.{◌≡◌, inl, inr, ℕ, ◌+◌, ◌≤◌, List, [], ◌++◌, length, true, false, Ok, Err, sym, ap, subst, ◌∙◌, append_assoc, length-append, arith}
+use Rattle.std.proofs.KnownBytes.{Consumes-trans}
+use Rattle.accepted_programs.specs.Program.{lens_of}
+use Rattle.accepted_programs.specs.Refused.{IsKnown, IsRefusal}
+use Rattle.accepted_programs.specs.declared.program.Refused.{Refused}
+use Rattle.lens_forms.specs.Forms.{FormTree}
+use Rattle.lens_io.specs.Calls.{Took}
+use Rattle.lens_io.specs.declared.failed.TakeFault.{TakeFault}
+use Rattle.lens_io.specs.declared.failed.TakeFault.TheVariants as taking
+use Rattle.lens_io.specs.declared.source.Source as OfSource
+use Rattle.script_input.specs.Skipped.{SkipsRest}
+use Rattle.script_input.specs.Taking.{TakenInput, StopsAt, StopsSkipping}
+use Rattle.script_input.specs.declared.limits.TheConstants.{MOST_BYTES}
+use Rattle.program_terms.specs.Terms.{ProgramTree}
+use Rattle.script_input.specs.Coming.{has_separator, HadNoPart, HasLastPiece, HasPart}
+use Rattle.script_input.specs.Lines.{program_part}
+use Rattle.script_input.specs.Parts.{HoldsPart, ReadsPart, ReadsAll, StopsHead}
+use Rattle.script_input.specs.declared.script.ProgramText.{ProgramText}
+use Rattle.store_new.specs.NewEnds.{StopsAfter}
+use Rattle.store_new.specs.ScriptReading.{ReadsScript, ReadsRefused, ReadsFront}
+use Rattle.store_new.specs.Reading.{status_at}
+use Rattle.store_new.specs.Scripts.{IsAccepted, IsAcceptedPart, GoesOn}
+
+-- ---- a stop
+
+-- before the separator nothing is refused
+none_yet : (bytes : List ℕ) → has_separator bytes ≡ false → GoesOn bytes
+none_yet bytes none has = let never : true ≡ false = sym has ∙ none in cc
+
+-- the reading stopped behind a program part that is accepted
+stops_behind : (bytes : List ℕ) (fault : TakeFault) → IsAcceptedPart bytes → StopsAt (length bytes) fault → StopsAfter bytes (status_at fault)
+stops_behind bytes taking.SourceFault accepted stops = (stops, λ has. accepted)
+stops_behind bytes taking.TooLong accepted stops = (stops, λ has. accepted)
+stops_behind bytes taking.NoMemory accepted stops = tt
+
+nothing_has : has_separator [] ≡ true → ⊥
+nothing_has h = cc
+
+-- ---- a script that is a program part alone
+
+module _ {S : Type 0} (source : OfSource.Ghosts S) (s s' : S) where
+  -- the reading stopped before the separator
+  pub head_stops : (fault : TakeFault) → StopsHead source s s' fault → ReadsFront source s s' fault
+  head_stops fault h = record { bytes = h.bytes; took = h.consumes; at_most = h.at_most; stops = by_fault fault h } where
+    by_fault : (fault : TakeFault) → (h : StopsHead source s s' fault) → StopsAfter h.bytes (status_at fault)
+    by_fault taking.SourceFault h = (h.stops, none_yet h.bytes h.not_yet)
+    by_fault taking.TooLong h = (h.stops, none_yet h.bytes h.not_yet)
+    by_fault taking.NoMemory h = tt
+
+  module _ (program : ProgramText) (r : ReadsAll source s s' HoldsPart program) where
+    pub alone_read : (p : ProgramTree) (l : FormTree) → ((part : List ℕ) → HoldsPart program part → IsAccepted part p l) → ReadsScript source s s' p l
+    alone_read p l accepted = record { bytes = r.bytes; took = r.whole.consumes; read = r.whole.at_end; within = r.whole.within; accepted = accepted (program_part r.bytes) r.holds }
+
+    pub alone_refused : (refused : Refused) → ((part : List ℕ) → HoldsPart program part → IsRefusal (lens_of part) refused) → IsKnown refused → ReadsRefused source s s' refused
+    alone_refused refused is known = record { bytes = r.bytes; took = r.whole.consumes; at_most = omega (arith, r.whole.within); whole = inr r.whole.at_end; is = is (program_part r.bytes) r.holds; known = known }
+
+-- ---- a script with a separator
+
+module _ {S : Type 0} (source : OfSource.Ghosts S) (s mid : S) (program : ProgramText) (input : TakenInput) (r : ReadsPart source s mid HoldsPart program input) where
+  pub part_of : (more : List ℕ) → program_part ((r.front ++ r.rest) ++ more) ≡ r.part
+  part_of more = ap program_part (append_assoc r.front r.rest more) ∙ r.head.is_part (r.rest ++ more)
+
+  -- the separator has come with the last call of the source
+  has_part : HasPart source s mid (r.front ++ r.rest)
+  has_part = record { last = called r.taken.last; has = r.head.has r.rest; stays = λ more. part_of more ∙ sym (r.head.is_part r.rest) } where
+    called : HadNoPart source s mid (r.front ++ r.rest) → HasLastPiece source s mid (r.front ++ r.rest)
+    called (inl (unasked, none)) = absurd (nothing_has (subst (λ b. has_separator b ≡ true) none (r.head.has r.rest)))
+    called (inr last) = last
+
+  pub part_refused : (refused : Refused) → ((part : List ℕ) → HoldsPart program part → IsRefusal (lens_of part) refused) → IsKnown refused → ReadsRefused source s mid refused
+  part_refused refused is known = record {
+    bytes = r.front ++ r.rest;
+    took = r.taken.consumes;
+    at_most = r.taken.few;
+    whole = inl has_part;
+    is = subst (λ part. IsRefusal (lens_of part) refused) (sym (r.head.is_part r.rest)) (is r.part r.holds);
+    known = known;
+  }
+
+  count : (more : List ℕ) → length ((r.front ++ r.rest) ++ more) ≡ input.taken + length more
+  count more = length-append (r.front ++ r.rest) more ∙ ap (λ n. n + length more) (sym r.taken.count)
+
+  pub rest_accepted : (p : ProgramTree) (l : FormTree) (more : List ℕ) → ((part : List ℕ) → HoldsPart program part → IsAccepted part p l) → IsAccepted (program_part ((r.front ++ r.rest) ++ more)) p l
+  rest_accepted p l more accepted = subst (λ part. IsAccepted part p l) (sym (part_of more)) (accepted r.part r.holds)
+
+  module _ (s' : S) (p : ProgramTree) (l : FormTree) (accepted : (part : List ℕ) → HoldsPart program part → IsAccepted part p l) where
+    pub rest_read : SkipsRest input.taken (source.left mid) (source.left s') (Ok tt) → ReadsScript source s s' p l
+    rest_read skips = record {
+      bytes = (r.front ++ r.rest) ++ skips.more;
+      took = Consumes-trans (source.left s) (source.left mid) (source.left s') (r.front ++ r.rest) skips.more r.taken.consumes skips.consumes;
+      read = skips.ends.0;
+      within = omega (arith, count skips.more, skips.ends.1);
+      accepted = rest_accepted p l skips.more accepted;
+    }
+
+    pub rest_stops : (fault : TakeFault) (more : List ℕ) → Took source mid s' more → input.taken + length more ≤ MOST_BYTES + 1 → StopsAt (input.taken + length more) fault → ReadsFront source s s' fault
+    rest_stops fault more took few stops = record {
+      bytes = (r.front ++ r.rest) ++ more;
+      took = Consumes-trans (source.left s) (source.left mid) (source.left s') (r.front ++ r.rest) more r.taken.consumes took;
+      at_most = omega (arith, count more, few);
+      stops = stops_behind ((r.front ++ r.rest) ++ more) fault (l, (rest_accepted p l more accepted).has_lens) (subst (λ n. StopsAt n fault) (sym (count more)) stops);
+    }
+
+    pub skip_stops : (fault : TakeFault) → SkipsRest input.taken (source.left mid) (source.left s') (Err fault) → ReadsFront source s s' fault
+    skip_stops fault skips = rest_stops fault skips.more skips.consumes skips.at_most (as_stop fault skips.stops) where
+      as_stop : (fault : TakeFault) → StopsSkipping (input.taken + length skips.more) fault → StopsAt (input.taken + length skips.more) fault
+      as_stop taking.SourceFault h = h
+      as_stop taking.TooLong h = h
+      as_stop taking.NoMemory h = absurd h

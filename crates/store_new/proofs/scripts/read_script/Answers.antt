@@ -1,0 +1,24 @@
+use Rattle.lens_forms.specs.Forms.{form_tree}
+use Rattle.program_terms.specs.Views.{program_tree}
+use Rattle.store_new.proofs.Reading.{part_refused, rest_read, skip_stops}
+use Rattle.store_new.proofs.scripts.read_script.Goals as goal
+
+pub returns-in-Ok-skip_rest-clause-script : goal.returns-in-Ok-skip_rest-clause-script
+returns-in-Ok-skip_rest-clause-script g c =
+    let part = c.in-Ok-Separated in
+    let accepted = c.in-Ok-accepted_part-2.accepted in
+    rest_read g.S.Source c.args.source.now c.read_head.new.source part.program part.input (rw part.field-0-is at part.ensures.head) c.skip_rest.new.source
+    (program_tree accepted.program) (form_tree accepted.lens) c.in-Ok-accepted_part-2.ensures.accepted c.in-Ok-skip_rest.ensures.skips
+
+pub returns-in-Ok-accepted_part-2-clause-script : goal.returns-in-Ok-accepted_part-2-clause-script
+returns-in-Ok-accepted_part-2-clause-script g c =
+    let part = c.in-Ok-Separated in
+    let accepted = c.in-Ok-accepted_part-2.accepted in
+    skip_stops g.S.Source c.args.source.now c.read_head.new.source part.program part.input (rw part.field-0-is at part.ensures.head) c.skip_rest.new.source
+    (program_tree accepted.program) (form_tree accepted.lens) c.in-Ok-accepted_part-2.ensures.accepted c.in-Err-skip_rest.fault c.in-Err-skip_rest.ensures.skips
+
+pub returns-in-Ok-Separated-clause-script : goal.returns-in-Ok-Separated-clause-script
+returns-in-Ok-Separated-clause-script g c =
+    let part = c.in-Ok-Separated in
+    let refused = c.in-Err-accepted_part-2 in
+    part_refused g.S.Source c.args.source.now c.read_head.new.source part.program part.input (rw part.field-0-is at part.ensures.head) refused.refused refused.ensures.accepted refused.ensures.known

@@ -1,0 +1,14 @@
+pub mod Command
+pub mod Found
+pub mod Import
+pub mod ImportReading
+pub mod ImportStores
+pub mod Init
+pub mod InitStores
+pub mod Making
+pub mod NewEnds
+pub mod NewRooms
+pub mod NewStores
+pub mod Reading
+pub mod ScriptReading
+pub mod Scripts

@@ -1,0 +1,6 @@
+pub mod AppliedWords
+pub mod ComplementDepths
+pub mod ComplementsAreRead
+pub mod Openings
+pub mod PayloadTrees
+pub mod RecordsAreRead

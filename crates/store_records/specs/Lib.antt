@@ -1,0 +1,4 @@
+pub mod RecordJson
+pub mod RecordOutcomes
+pub mod StoredComplements
+pub mod StoredLens

@@ -1,0 +1,56 @@
+//! Why payloads stand for no session.
+
+use std::alloc::{AllocError, AllocFailed, Global};
+use texts::Twin;
+
+/// Why payloads stand for no session. Records are numbered from 1 on, and the fault is that of the first record that
+/// has one.
+#[derive(Clone, Copy, Debug, PartialEq, Eq, Drop)]
+pub enum ReopenFault {
+    /// The record is not one that may stand there.
+    BadRecord {
+        /// The number of the record.
+        number: u64,
+    },
+    /// The record is a snapshot whose triple is not consistent.
+    NotConsistent {
+        /// The number of the record.
+        number: u64,
+    },
+    /// Memory ran out, which says nothing of the payloads.
+    NoMemory,
+}
+
+impl From<AllocError> for ReopenFault {
+    ghost use Rattle.std.specs.Prelude.{◌≡◌};
+    ghost use Rattle.store_records.specs.declared.record_fault.ReopenFault.TheVariants.{NoMemory};
+
+    ghost from_gives = { λ _ fault. fault ≡ NoMemory };
+
+    fn from(_: AllocError) -> ReopenFault {
+        ReopenFault::NoMemory
+    }
+}
+
+impl<T: Drop> From<AllocFailed<T>> for ReopenFault {
+    ghost use Rattle.std.specs.Prelude.{◌≡◌};
+    ghost use Rattle.store_records.specs.declared.record_fault.ReopenFault.TheVariants.{NoMemory};
+
+    ghost from_gives = { λ _ fault. fault ≡ NoMemory };
+
+    fn from(_: AllocFailed<T>) -> ReopenFault {
+        ReopenFault::NoMemory
+    }
+}
+
+impl Twin for ReopenFault {
+    ghost use Rattle.store_records.specs.declared.record_fault.ReopenFault.{ReopenFault};
+
+    ghost Meaning = { ReopenFault };
+
+    ghost meaning = { λ f. f };
+
+    fn twin(&self, _alloc: Global) -> Result<Self, AllocError> {
+        Ok(*self)
+    }
+}

@@ -1,0 +1,37 @@
+//! The commands over a store that is there: `apply`, `pack`, `show` and `verify`.
+//!
+//! A store is a log on a disk, and its payloads stand for a session. [`apply`] answers the lines of a journal. It
+//! stores the payload of each change that it accepts, and only then writes its answer. [`pack`] stores a snapshot of
+//! the session. [`show`] and [`verify`] only read. Each begins with [`open_store`], or ends with [`refuse_store`].
+//!
+//! However `apply` ends, each line that had ended when the source was called last is answered, and its answer was
+//! written: `AnswersInTime` in specs/InTime.antt. So a line is answered before more is asked for.
+//!
+//! A crash at any moment leaves a disk that holds the payload of each change whose `ok` line was written:
+//! `IsAcknowledged` in specs/Crash.antt, and `IsSafeCall` in specs/ApplyCall.antt for the complete call.
+//! `ContinuesCall` beside it is what a call that came to its end has done. The clauses are proved over any source, sink
+//! and disk, and over any session with the calls and the laws of [`StoredSession`].
+#![tactic(auto)]
+
+mod apply_call;
+mod continuing;
+mod count_lines;
+mod journal;
+mod opening;
+mod pack_call;
+mod refusals;
+mod session;
+mod stop;
+mod store;
+mod view_call;
+
+pub use apply_call::apply;
+pub use continuing::{answer_journal, continue_store};
+pub use journal::{Progress, answer_line, answer_lines, answer_pieces};
+pub use opening::{OpenFault, OpenedStore, ReadStore, open_store, read_store, refuse_store};
+pub use pack_call::{pack, pack_store};
+pub use refusals::{StoreRefusal, give_stop, refuse};
+pub use session::{Answer, Opened, ReopenFault, StoredSession};
+pub use stop::Stop;
+pub use store::{store_and_answer, store_version};
+pub use view_call::{show, verify};

@@ -1,4 +1,0 @@
-pub mod StoredComplements
-pub mod RecordJson
-pub mod StoredLens
-pub mod Outcomes

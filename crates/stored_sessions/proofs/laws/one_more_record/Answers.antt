@@ -1,5 +1,0 @@
-use Rattle.stored_sessions.proofs.Appending.{stands_append}
-use Rattle.stored_sessions.proofs.laws.one_more_record.Goals as goal
-
-pub returns : goal.returns
-returns c = λ ps p s h. stands_append ps p s h

@@ -1,8 +1,0 @@
-use Rattle.stored_sessions.proofs.ConsistencyDecided.{consistent_if, consistent_then}
-use Rattle.stored_sessions.proofs.laws.test_is_consistency.Goals as goal
-
-pub returns-clause-consistent : goal.returns-clause-consistent
-returns-clause-consistent c = λ l x k y typed h. consistent_if l x k y typed h
-
-pub returns-clause-tested : goal.returns-clause-tested
-returns-clause-tested c = λ l x k y typed h. consistent_then l x k y typed h

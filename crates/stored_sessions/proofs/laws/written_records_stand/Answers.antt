@@ -1,8 +1,0 @@
-use Rattle.stored_sessions.proofs.WrittenStands.{one_stands, all_stand}
-use Rattle.stored_sessions.proofs.laws.written_records_stand.Goals as goal
-
-pub returns-clause-one : goal.returns-clause-one
-returns-clause-one c = one_stands
-
-pub returns-clause-all : goal.returns-clause-all
-returns-clause-all c = all_stand

@@ -1,5 +1,0 @@
-pub mod Parts
-pub mod Steps
-pub mod Entries
-pub mod Accepted
-pub mod OneEntry
