@@ -1,12 +1,15 @@
--- Which texts are accepted, in the words of the grammar, of typing and of the limits. Nothing here speaks of failures or of their
--- order. Read it from the end: `IsAcceptedAs`, `IsAcceptable`, then `IsAcceptableLens` and `IsAcceptableType`.
+-- Which texts are accepted, in the words of the grammar, of typing and of the limits. Nothing here speaks of failures
+-- or of their order. Read it from the end: `IsAcceptedAs`, `IsAcceptable`, then `IsAcceptableLens` and
+-- `IsAcceptableType`.
 use Rattle.std.specs.Prelude.{◌≡◌, ◌≤◌, IsTrue, ℕ, List, [], length}
 use Rattle.std.specs.List.{All}
 use Rattle.doc_values.specs.Types.{TyTree, height, highest, is_well_formed}
 use Rattle.program_terms.specs.Terms.{ProgramTree}
 use Rattle.lens_syntax.specs.Programs.{IsProgramOf}
 use Rattle.lens_syntax.specs.declared.reading.TheConstants.{MOST_PROGRAM_BYTES}
-use Rattle.lens_forms.specs.Forms.{FormTree, form_id, form_bij, form_disc, form_then, form_rec, form_alt, form_each, form_keyed, form_ordered, form_part, form_inv, RowTrees, no_rows, both, only_left, only_right, ArmTrees, no_arms, more_arms, left_type, right_type}
+use Rattle.lens_forms.specs.Forms.{FormTree, form_id, form_bij, form_disc, form_then, form_rec, form_alt, form_each}
+use Rattle.lens_forms.specs.Forms.{form_keyed, form_ordered, form_part, form_inv, RowTrees, no_rows, both, only_left}
+use Rattle.lens_forms.specs.Forms.{only_right, ArmTrees, no_arms, more_arms, left_type, right_type}
 use Rattle.lens_forms.specs.Measures.{type_parts, form_parts, form_height}
 use Rattle.lens_forms.specs.Typing.{IsTyped}
 use Rattle.lens_forms.specs.declared.limits.TheConstants.{GREATEST_HEIGHT, MOST_PARTS}
@@ -55,8 +58,8 @@ pub record IsAcceptableType (t : TyTree) : Type 0 where
   pub low : IsLow t
   pub well_formed : IsTrue (is_well_formed t)
 
--- A lens is acceptable. Its form has at most 4,096 parts, and the heights of the form and of all types in it are at most 32. The
--- form is typed, from its left type to its right type.
+-- A lens is acceptable. Its form has at most 4,096 parts, and the heights of the form and of all types in it are at
+-- most 32. The form is typed, from its left type to its right type.
 pub record IsAcceptableLens (f : FormTree) : Type 0 where
   pub small : form_parts f ≤ MOST_PARTS
   pub low : form_height f ≤ GREATEST_HEIGHT
@@ -70,14 +73,14 @@ IsAcceptableMeaning (known_lens f) = IsAcceptableLens f
 
 -- ---- programs and texts
 
--- A program is acceptable: what each of its definitions stands for is acceptable, used or not, and so is its main lens. All names
--- are expanded.
+-- A program is acceptable: what each of its definitions stands for is acceptable, used or not, and so is its main lens.
+-- All names are expanded.
 pub record IsAcceptable (program : ProgramTree) : Type 0 where
   pub definitions : All (λ definition. IsAcceptableMeaning definition.1) (all_known [] program.definitions)
   pub main : IsAcceptableLens (main_form program)
 
--- The text is accepted as this form. It has at most `MOST_PROGRAM_BYTES` bytes, the grammar has it as a program, and its names have no fault. The
--- program is acceptable, and the form is that of its main lens, all names expanded.
+-- The text is accepted as this form. It has at most `MOST_PROGRAM_BYTES` bytes, the grammar has it as a program, and
+-- its names have no fault. The program is acceptable, and the form is that of its main lens, all names expanded.
 pub record IsAcceptedAs (text : List ℕ) (form : FormTree) : Type 0 where
   pub program : ProgramTree
   pub short : length text ≤ MOST_PROGRAM_BYTES

@@ -1,8 +1,8 @@
 //! Acceptance is typing, both ways.
 //!
-//! The checker stops at the first failure, in a fixed order. [`acceptance_is_typing`] says which texts it accepts, and speaks of
-//! no failure and no order. The definition is `IsAcceptedAs` in specs/Acceptable.antt; docs/LANGUAGE.md has the rules in words.
-//! Each function here does nothing: its clauses are the law.
+//! The checker stops at the first failure, in a fixed order. [`acceptance_is_typing`] says which texts it accepts, and
+//! speaks of no failure and no order. The definition is `IsAcceptedAs` in specs/Acceptable.antt; docs/LANGUAGE.md has
+//! the rules in words. Each function here does nothing: its clauses are the law.
 #![tactic(auto)]
 
 ghost use Rattle.std.specs.Prelude.{◌≡◌, ℕ, List, Ok, Err, None};
@@ -12,8 +12,8 @@ ghost use Rattle.lens_types.specs.Checking.{first_failure};
 ghost use Rattle.accepted_programs.specs.Program.{Refusal, lens_of};
 ghost use Rattle.acceptance_laws.specs.Acceptable.{IsAcceptable, IsAcceptedAs};
 
-/// A program has no failure if and only if each of its definitions, used or not, and its main lens are within the limits and
-/// typed.
+/// A program has no failure if and only if each of its definitions, used or not, and its main lens are within the
+/// limits and typed.
 ///
 /// This is so of every program, also of one that no text has.
 pub fn no_failure_is_typing()
@@ -23,8 +23,9 @@ pub fn no_failure_is_typing()
 
 /// A text is accepted if and only if it is a program that keeps the limits and is typed, definition by definition.
 ///
-/// It has at most 65,536 bytes, the grammar has it as a program, and its names have no fault. Each definition in it, used or
-/// not, and its main lens are within the limits and typed. Its form is that of the main lens, all names expanded.
+/// It has at most 65,536 bytes, the grammar has it as a program, and its names have no fault. Each definition in it,
+/// used or not, and its main lens are within the limits and typed. Its form is that of the main lens, all names
+/// expanded.
 ///
 /// - `only_typed`: a text that is accepted is so.
 /// - `all_typed`: a text that is so is accepted, with this form.

@@ -7,5 +7,6 @@ ghost use Rattle.accepted_programs.specs.Program.{lens_of};
 /// The form of an accepted program is typed: it is a lens from its left type to its right type.
 #[tactic(auto, using(crate::proofs::AcceptedForms::accepted_lens))]
 pub fn accepted_is_typed()
-    ensures { (text : List ℕ) (form : FormTree) → lens_of text ≡ Ok form → IsTyped form (left_type form) (right_type form) }
+    ensures { (text : List ℕ) (form : FormTree) → lens_of text ≡ Ok form
+        → IsTyped form (left_type form) (right_type form) }
 {}

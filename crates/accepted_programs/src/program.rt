@@ -22,8 +22,8 @@ pub enum Refused {
 
 /// The lens of a program text, its main lens with all names expanded, or why there is none.
 ///
-/// - `Syntax`: if and only if the text is longer than 65,536 bytes, is not in the grammar, or a name in it is unknown or
-///   repeated. The cause is that of `bounded` in lens_syntax.
+/// - `Syntax`: if and only if the text is longer than 65,536 bytes, is not in the grammar, or a name in it is unknown
+///   or repeated. The cause is that of `bounded` in lens_syntax.
 /// - `Typing`: if and only if the text is a program and the checker has a first failure, which is the cause.
 /// - `NoMemory`: only if memory ran out.
 ///

@@ -1,8 +1,8 @@
 //! Runs commands from files of cases, and compares what they write with what the files say.
 //!
-//! Words: the files, which lie in the folder where the program runs. Each gives one line, as `commands: 90 cases, 0 differ`.
-//! Above it is what was wanted and what came for the first steps that differ. reference/CASES.md has the form of a file.
-//! The program fails where a case differs, and where a file is not readable or has no case.
+//! Words: the files, which lie in the folder where the program runs. Each gives one line, as `commands: 90 cases, 0
+//! differ`. Above it is what was wanted and what came for the first steps that differ. reference/CASES.md has the form
+//! of a file. The program fails where a case differs, and where a file is not readable or has no case.
 #![tactic(auto)]
 
 mod compare;

@@ -8,7 +8,8 @@ use std::alloc::{AllocError, Global};
 // How many differing steps of a file are shown.
 const MOST_SHOWN: u64 = 10;
 
-// The lengths of the pieces that an input is cut into, each in a run of its own, where the step says nothing of its source.
+// The lengths of the pieces that an input is cut into, each in a run of its own, where the step says nothing of its
+// source.
 const CUTS: [u64; 5] = [1, 2, 3, 7, 65_536];
 
 /// How the cases of a file have come out.

@@ -12,9 +12,9 @@ use std::alloc::Global;
 use texts::Side;
 use value_json::{DocFault, read_doc};
 
-/// Returns what is decided of the triple of a case: `consistent`, `not-consistent`, or the first of `not-a-left-document`,
-/// `not-a-complement` and `not-a-right-document` that holds. It is refused if the case has no lens program, if a part of
-/// the triple is missing, and if the two sides decide differently.
+/// Returns what is decided of the triple of a case: `consistent`, `not-consistent`, or the first of
+/// `not-a-left-document`, `not-a-complement` and `not-a-right-document` that holds. It is refused if the case has no
+/// lens program, if a part of the triple is missing, and if the two sides decide differently.
 pub fn decided(alloc: Global, case: &Case<'_>) -> Result<&'static str> {
     let lens = lens_of(alloc, case.program()?)?;
     decided_by(alloc, &lens, case)
@@ -69,8 +69,8 @@ fn consistency(
     })
 }
 
-// Whether the left document is in the image of the right one. It is refused if the complement does not fit the lens, or the
-// right document has not its type: what was read has both.
+// Whether the left document is in the image of the right one. It is refused if the complement does not fit the lens, or
+// the right document has not its type: what was read has both.
 fn is_reached_from_right(
     alloc: Global,
     lens: &Typed,

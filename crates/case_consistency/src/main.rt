@@ -1,9 +1,9 @@
 //! Decides the cases of files of JSON lines, and compares what was decided with what is wanted.
 //!
-//! Words: the files, which are in the folder where the program runs. A line of a file is one case: an object with a lens
-//! program, a left document, a complement, a right document, and the answer that is wanted. reference/CASES.md has the form. Each
-//! file gives one line, as `consistency: 30 cases, 0 differ`. Above it is a line for each case that differs. The program
-//! fails if a case differs, if a line is not a case, and if a file cannot be read or has no line.
+//! Words: the files, which are in the folder where the program runs. A line of a file is one case: an object with a
+//! lens program, a left document, a complement, a right document, and the answer that is wanted. reference/CASES.md has
+//! the form. Each file gives one line, as `consistency: 30 cases, 0 differ`. Above it is a line for each case that
+//! differs. The program fails if a case differs, if a line is not a case, and if a file cannot be read or has no line.
 #![tactic(auto)]
 
 mod case;

@@ -11,7 +11,8 @@ use std::alloc::{AllocError, Global};
 // The call of this number, from 0, of each device fails in every run. No step makes so many.
 const MOST_CALLS: u64 = 2_000;
 
-// The lengths of the pieces that the source gives and of those that the sink takes. They are small, so that each is called often.
+// The lengths of the pieces that the source gives and of those that the sink takes. They are small, so that each is
+// called often.
 const SOURCE_PIECE: u64 = 7;
 
 const SINK_PIECE: u64 = 5;
@@ -91,7 +92,8 @@ impl Run {
             && self.disk.bytes() == step.store_after.as_slice()
     }
 
-    /// How many calls the command has made: the call of number `MOST_CALLS` fails, and the calls up to it are made here.
+    /// How many calls the command has made: the call of number `MOST_CALLS` fails, and the calls up to it are made
+    /// here.
     pub fn count_calls(&mut self) -> Calls {
         Calls {
             source: source_calls(&mut self.source),

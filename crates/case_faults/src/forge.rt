@@ -42,8 +42,8 @@ enum Told {
     Unknown,
 }
 
-/// Changes each byte in turn of the store of a step of `verify`, and cuts it at each length. What `verify` and `show` say of it is compared
-/// with what docs/FORMATS.md says. A store that is not a log is left out.
+/// Changes each byte in turn of the store of a step of `verify`, and cuts it at each length. What `verify` and `show`
+/// say of it is compared with what docs/FORMATS.md says. A store that is not a log is left out.
 pub fn forge_all(alloc: Global, step: &Step) -> Result<Forged> {
     let mut forged = Forged {
         stores: 0,
@@ -124,7 +124,8 @@ fn little_endian(bytes: &[u8]) -> u64 {
     number
 }
 
-// What is to be said of a store whose log had these gates before this byte was changed. No changed byte leaves a payload of JSON.
+// What is to be said of a store whose log had these gates before this byte was changed. No changed byte leaves a
+// payload of JSON.
 fn told_of_change(gates: &[usize], place: usize, bytes: &[u8]) -> Told {
     if let Some(told) = log_fault(bytes) {
         return told;
@@ -175,7 +176,8 @@ fn line_of(alloc: Global, step: &Step, held: &[Bytes], told: Told) -> Result<Vec
     line.as_bytes().to_vec(alloc)
 }
 
-// Whether `verify` writes this line, or what it writes of the store itself where that is at fault before, and `show` says the same.
+// Whether `verify` writes this line, or what it writes of the store itself where that is at fault before, and `show`
+// says the same.
 fn is_told(alloc: Global, step: &Step, told: Told, line: &[u8], bytes: &[u8]) -> Result<bool> {
     let run = run_over(alloc, "verify", bytes)?;
     let may_be_before = matches!(told, Told::BadPayload(_) | Told::Ends(_))

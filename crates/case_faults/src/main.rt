@@ -1,9 +1,10 @@
 //! Lets everything that can fail do so once, and compares what stands afterwards with what docs/FORMATS.md says.
 //!
-//! Words: the files, which lie in the folder where the program runs and have the form of reference/CASES.md. Each step is run as it is, and then
-//! once for each call of each device, in which this call fails, or gives or takes less. After each the images that a crash may leave are
-//! opened. For each step of `verify`, every byte of its store is changed, and its store is cut at every length. Each file gives one line,
-//! and above it the first differences. The program fails where something differs.
+//! Words: the files, which lie in the folder where the program runs and have the form of reference/CASES.md. Each step
+//! is run as it is, and then once for each call of each device, in which this call fails, or gives or takes less. After
+//! each the images that a crash may leave are opened. For each step of `verify`, every byte of its store is changed,
+//! and its store is cut at every length. Each file gives one line, and above it the first differences. The program
+//! fails where something differs.
 #![tactic(auto)]
 
 mod devices;

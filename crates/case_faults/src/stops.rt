@@ -13,10 +13,11 @@ const DONE: u64 = 0;
 
 const SOME_REFUSED: u64 = 1;
 
-/// Whether the output is what docs/FORMATS.md says of a command that this fault has stopped, at the call of this number.
+/// Whether the output is what docs/FORMATS.md says of a command that this fault has stopped, at the call of this
+/// number.
 ///
-/// After a fault of the source: the answers to all lines that had ended. After one of the sink: not all of the output. After one of
-/// the disk: nothing, or the answers before one that stores a change.
+/// After a fault of the source: the answers to all lines that had ended. After one of the sink: not all of the output.
+/// After one of the disk: nothing, or the answers before one that stores a change.
 pub fn is_clean_output(step: &Step, fault: Fault, call: u64, output: &[u8]) -> bool {
     let wanted = step.output.as_slice();
     match fault {
@@ -58,8 +59,8 @@ pub enum Allowed {
     Any,
 }
 
-/// What the store may hold after the command of a step, which has written this output. Before it the store has `before` payloads, and
-/// `after` in the end. With no fault nothing has stopped the command.
+/// What the store may hold after the command of a step, which has written this output. Before it the store has `before`
+/// payloads, and `after` in the end. With no fault nothing has stopped the command.
 pub fn allowed_after(
     step: &Step,
     before: usize,
@@ -76,8 +77,8 @@ pub fn allowed_after(
     }
 }
 
-// The changes whose lines were written are stored. So is the one whose line was being written, and that at which the disk failed may be.
-// Before the first line, the disk may also have failed at the version record.
+// The changes whose lines were written are stored. So is the one whose line was being written, and that at which the
+// disk failed may be. Before the first line, the disk may also have failed at the version record.
 fn allowed_of_apply(
     step: &Step,
     before: usize,
@@ -116,8 +117,8 @@ fn allowed_of_making(after: usize, fault: Option<Fault>) -> Allowed {
     }
 }
 
-/// Whether a store of these bytes is allowed. `all` are the payloads of the store that is wanted in the end. A store that holds some of
-/// them is opened by `verify`, which is to count their changes.
+/// Whether a store of these bytes is allowed. `all` are the payloads of the store that is wanted in the end. A store
+/// that holds some of them is opened by `verify`, which is to count their changes.
 pub fn is_allowed(
     alloc: Global,
     step: &Step,

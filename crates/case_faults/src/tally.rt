@@ -21,7 +21,8 @@ const FAULTS: [Fault; 6] = [
     Fault::Disk,
 ];
 
-// The images of a crash: none, one or two of the writes that were not synced are complete, and the others are one of these bytes.
+// The images of a crash: none, one or two of the writes that were not synced are complete, and the others are one of
+// these bytes.
 const FILLS: [u8; 3] = [0, 1, 255];
 
 const IMAGES: u64 = 9;

@@ -11,8 +11,8 @@ pub struct Step {
     pub input: Vec<u8>,
     /// What the command is to write.
     pub output: Vec<u8>,
-    /// What the store has before the command, and what it is to have after it. A step that says nothing of its store has none, and
-    /// the command is to make none.
+    /// What the store has before the command, and what it is to have after it. A step that says nothing of its store
+    /// has none, and the command is to make none.
     pub store_before: Vec<u8>,
     pub store_after: Vec<u8>,
 }
@@ -56,8 +56,8 @@ fn next_part(bytes: &[u8], length: u64) -> Option<(&[u8], &[u8])> {
     Some(bytes.split_at(length as usize))
 }
 
-// The stores before and after, and what follows them and the line feed at the end of a step. A store that is not said to change
-// stays as it was.
+// The stores before and after, and what follows them and the line feed at the end of a step. A store that is not said
+// to change stays as it was.
 fn next_stores(bytes: &[u8], lengths: Lengths) -> Option<(&[u8], &[u8], &[u8])> {
     let (before, behind) = next_part(bytes, lengths.store_before.unwrap_or(0))?;
     let (after, behind) = match lengths.store_after {

@@ -21,8 +21,8 @@ pub fn bytes(alloc: Global, case: &Case<'_>) -> Result<Vec<u8>> {
     repeated(alloc, case.items("repeat")?)
 }
 
-/// Returns the JSON tree that the row gives: `tree` itself, or what its bytes are read as. It is refused if they are not
-/// JSON.
+/// Returns the JSON tree that the row gives: `tree` itself, or what its bytes are read as. It is refused if they are
+/// not JSON.
 pub fn tree(alloc: Global, case: &Case<'_>) -> Result<Value> {
     if case.has("tree") {
         return Ok(case.argument("tree")?.clone()?);

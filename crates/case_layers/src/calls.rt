@@ -1,5 +1,5 @@
-//! The calls by their names. Each is one function, which reads the arguments of the call from the case, makes the call and
-//! returns what came.
+//! The calls by their names. Each is one function, which reads the arguments of the call from the case, makes the call
+//! and returns what came.
 
 use crate::case::Case;
 use crate::{checks, documents, lines, programs, shapes, tokens, words};
@@ -7,8 +7,8 @@ use anyhow::{Result, bail};
 use serde_json::Value;
 use std::alloc::Global;
 
-/// Returns what comes of the call of a case. It is refused if the call does not exist, or if an argument is missing or has
-/// another form.
+/// Returns what comes of the call of a case. It is refused if the call does not exist, or if an argument is missing or
+/// has another form.
 pub fn outcome(alloc: Global, case: &Case<'_>) -> Result<Value> {
     let call = case.text("call")?;
     match call {

@@ -1,12 +1,13 @@
-//! Runs the cases of files of JSON lines through the calls of the libraries, and compares what came with what is wanted.
+//! Runs the cases of files of JSON lines through the calls of the libraries, and compares what came with what is
+//! wanted.
 //!
-//! Words: the files, which lie in the folder where the program runs. A line of a file is one case: an object with the call,
-//! its arguments and its answer. reference/CASES.md has the form of each call. Each file gives one line, as
-//! `plans: 153 cases, 0 differ`. Above it is what was wanted and what came for each case that differs. The program fails
-//! if a case differs, if a line is not a case, and if a file is not readable or has no line.
+//! Words: the files, which lie in the folder where the program runs. A line of a file is one case: an object with the
+//! call, its arguments and its answer. reference/CASES.md has the form of each call. Each file gives one line, as
+//! `plans: 153 cases, 0 differ`. Above it is what was wanted and what came for each case that differs. The program
+//! fails if a case differs, if a line is not a case, and if a file is not readable or has no line.
 //!
-//! Values of many variants, such as types and programs, are put in a `Box` or let go by `drop`. Each is then dropped by one
-//! call. At the end of a block they would be dropped variant by variant, which takes long to prove.
+//! Values of many variants, such as types and programs, are put in a `Box` or let go by `drop`. Each is then dropped by
+//! one call. At the end of a block they would be dropped variant by variant, which takes long to prove.
 #![tactic(auto)]
 
 mod answers;

@@ -71,8 +71,8 @@ fn nodes_tree(alloc: Global, nodes: &TreeShape) -> Result<Value> {
     object(alloc, "tree", Value::Array(items))
 }
 
-/// Returns the origins that the member `from` has: numbers, and null for fresh ones. It is refused if it is not an array,
-/// or if an item is neither.
+/// Returns the origins that the member `from` has: numbers, and null for fresh ones. It is refused if it is not an
+/// array, or if an item is neither.
 pub fn origins_of(alloc: Global, case: &Case<'_>) -> Result<Origins> {
     let items = case.items("from")?;
     let mut origins = Vec::new(alloc);
@@ -105,8 +105,8 @@ fn origin_tree(origin: &Origin) -> Value {
     }
 }
 
-/// Returns the place that a tree is: of a list a number, of a keyed map a text, of an ordered tree an array of numbers. It
-/// is refused if it is none of these.
+/// Returns the place that a tree is: of a list a number, of a keyed map a text, of an ordered tree an array of numbers.
+/// It is refused if it is none of these.
 pub fn place_of(alloc: Global, tree: &Value) -> Result<Place> {
     if let Some(index) = read_count(tree) {
         return Ok(Place::Index(index));

@@ -15,8 +15,8 @@ use value_json::{only_member, read_doc, write_doc};
 // How many built types may nest: the same number as values of JSON.
 const MOST_LEVELS: u32 = 128;
 
-/// Returns the type that a member is, in a box: its text as in a lens program, or an object that says how it is built. It
-/// is refused if there is no such member, if it is neither, or if the text is not of a well-formed type.
+/// Returns the type that a member is, in a box: its text as in a lens program, or an object that says how it is built.
+/// It is refused if there is no such member, if it is neither, or if the text is not of a well-formed type.
 pub fn ty_of(alloc: Global, case: &Case<'_>, member: &str) -> Result<Box<Ty>> {
     let ty = ty_within(alloc, MOST_LEVELS, case.argument(member)?)?;
     Ok(Box::new(alloc, ty)?)
@@ -98,8 +98,8 @@ fn field_within(alloc: Global, levels: u32, pair: &[Value]) -> Result<(Name, Ty)
     }
 }
 
-/// Returns the document of the type that a member is, in a box. It is refused if there is no such member, or if the type has
-/// no such document.
+/// Returns the document of the type that a member is, in a box. It is refused if there is no such member, or if the
+/// type has no such document.
 pub fn doc_of(alloc: Global, ty: &Ty, case: &Case<'_>, member: &str) -> Result<Box<Doc>> {
     let doc = read_as(alloc, ty, case.argument(member)?)?;
     Ok(Box::new(alloc, doc)?)

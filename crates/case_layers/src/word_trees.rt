@@ -11,8 +11,8 @@ use serde_json::Value;
 use std::alloc::Global;
 use value_json::{only_member, read_count};
 
-/// Returns the word that an array is. Its own primitives, not those of inner words, may also insert or delete any number of
-/// items below 2^32. It is refused if it is not a word.
+/// Returns the word that an array is. Its own primitives, not those of inner words, may also insert or delete any
+/// number of items below 2^32. It is refused if it is not a word.
 pub fn word_of(alloc: Global, tree: &Value) -> Result<Word> {
     let mut primitives = Vec::new(alloc);
     for item in as_items(tree)? {
@@ -21,8 +21,8 @@ pub fn word_of(alloc: Global, tree: &Value) -> Result<Word> {
     Ok(Word::from_vec(primitives))
 }
 
-/// Returns the primitive that a tree is. It may also insert or delete any number of items below 2^32. It is refused if it
-/// is not a primitive.
+/// Returns the primitive that a tree is. It may also insert or delete any number of items below 2^32. It is refused if
+/// it is not a primitive.
 pub fn primitive_of(alloc: Global, tree: &Value) -> Result<Primitive> {
     if let Some(edit) = any_count(tree) {
         return Ok(Primitive::Shape(edit));

@@ -12,8 +12,8 @@ const MOST: u64 = (1 << 63) - 1;
 // The mark and the open gate of the one record.
 const START: &[u8] = b"EDLENS1\n\x01";
 
-// A disk whose log has one record, with a payload of zeros of this size, and then its closed gate. It writes nothing, and
-// its content is not known to contracts. Once it is lost each of its bytes is 0.
+// A disk whose log has one record, with a payload of zeros of this size, and then its closed gate. It writes nothing,
+// and its content is not known to contracts. Once it is lost each of its bytes is 0.
 #[derive(Drop)]
 struct FarDisk {
     size: u64,
@@ -114,7 +114,8 @@ pub fn far_call(alloc: Global, call: u64, count: u64, left: u64) -> anyhow::Resu
 // A version record, and a snapshot.
 const RECORD: &[u8; 8] = b"8 bytes.";
 
-/// What `pack_store` returns over the same disk, for a version record and a snapshot of 8 bytes each, and how many bytes it has written.
+/// What `pack_store` returns over the same disk, for a version record and a snapshot of 8 bytes each, and how many
+/// bytes it has written.
 pub fn far_pack(alloc: Global, left: u64) -> anyhow::Result<String> {
     let version = Some(Bytes::from_vec(RECORD.to_vec(alloc)?));
     let mut sink = MemSink::new(alloc, Vec::new(alloc), Vec::new(alloc));

@@ -16,8 +16,8 @@ use store_records::{ReopenFault, StoredLens, snapshot_payload, stored_lens};
 use store_session::{Opened, reopen};
 use texts::Twin;
 
-/// Returns what payloads stand for: `stands COUNT VERSION SNAPSHOT`, with the snapshot that would be stored, or the fault as
-/// `bad-record NUMBER` or `not-consistent NUMBER`. It is refused if memory runs out.
+/// Returns what payloads stand for: `stands COUNT VERSION SNAPSHOT`, with the snapshot that would be stored, or the
+/// fault as `bad-record NUMBER` or `not-consistent NUMBER`. It is refused if memory runs out.
 pub fn answer(alloc: Global, payloads: &Payloads) -> Result<String> {
     match stored_lens(alloc, payloads) {
         Ok(stored) => answer_by(alloc, &stored, payloads),

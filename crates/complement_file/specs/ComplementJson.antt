@@ -5,9 +5,12 @@ use Rattle.serde_json.specs.Data.{Data, null, string, array, object, Items, no_i
 use Rattle.hold_shapes.specs.declared.shape.Shape.TheVariants.{List as ListOf, Keyed as KeyedOf, Tree as TreeOf}
 use Rattle.doc_values.specs.Types.{FieldTrees}
 use Rattle.value_json.specs.Numbers.{count_items}
-use Rattle.lens_forms.specs.Forms.{FormTree, form_id, form_bij, form_disc, form_then, form_rec, form_alt, form_each, form_keyed, form_ordered, form_part, form_inv, RowTrees, no_rows, both, only_left, only_right, ArmTrees, no_arms, more_arms}
+use Rattle.lens_forms.specs.Forms.{FormTree, form_id, form_bij, form_disc, form_then, form_rec, form_alt, form_each}
+use Rattle.lens_forms.specs.Forms.{form_keyed, form_ordered, form_part, form_inv, RowTrees, no_rows, both, only_left}
+use Rattle.lens_forms.specs.Forms.{only_right, ArmTrees, no_arms, more_arms}
 use Rattle.lens_core.specs.Tags.{tag_name}
-use Rattle.lens_core.specs.Complements.{CompTree, then_comp, rec_comp, alt_comp, hold_comp, tags_comp, CompTrees, no_comps, more_comps}
+use Rattle.lens_core.specs.Complements.{CompTree, then_comp, rec_comp, alt_comp, hold_comp, tags_comp, CompTrees}
+use Rattle.lens_core.specs.Complements.{no_comps, more_comps}
 
 -- an object with one member, and an array of two items
 abbrev pub one : List ℕ → Data → Data
@@ -36,27 +39,32 @@ abbrev pub place_members : (CompTree → Data) → List (List ℕ) → CompTrees
 place_members tree (k ∷ ks) (more_comps c cs) = member k (tree c) (place_members tree ks cs)
 place_members tree _ _ = no_members
 
--- The tree of a complement. Of an identity, a bijection and a disconnection it is `null`. Of a composition it is the two
--- complements; of a record those of its paired rows; of alternatives the left tag of the arm and the arm's complement; of a
--- container its shape with the complement of each place; of a partition the names of the tags; of an inverse that of its lens.
--- A complement that does not fit the form has the tree `null`.
+-- The tree of a complement. Of an identity, a bijection and a disconnection it is `null`. Of a composition it is the
+-- two complements; of a record those of its paired rows; of alternatives the left tag of the arm and the arm's
+-- complement; of a container its shape with the complement of each place; of a partition the names of the tags; of an
+-- inverse that of its lens. A complement that does not fit the form has the tree `null`.
 abbrev mutual
   pub tree_of_complement : FormTree → CompTree → Data
   tree_of_complement (form_id t) c = null
   tree_of_complement (form_bij ps n) c = null
   tree_of_complement (form_disc t u) c = null
-  tree_of_complement (form_then l k) (then_comp c d) = one (codes "then") (two (tree_of_complement l c) (tree_of_complement k d))
+  tree_of_complement (form_then l k) (then_comp c d) =
+      one (codes "then") (two (tree_of_complement l c) (tree_of_complement k d))
   tree_of_complement (form_then l k) _ = null
   tree_of_complement (form_rec rows) (rec_comp cs) = one (codes "rec") (array (row_items rows cs))
   tree_of_complement (form_rec rows) _ = null
   tree_of_complement (form_alt arms) (alt_comp t c) = one (codes "alt") (two (string t) (tree_in_arm arms t c))
   tree_of_complement (form_alt arms) _ = null
-  tree_of_complement (form_each l) (hold_comp (ListOf s) cs) = one (codes "list") (array (place_items (tree_of_complement l) cs))
+  tree_of_complement (form_each l) (hold_comp (ListOf s) cs) =
+      one (codes "list") (array (place_items (tree_of_complement l) cs))
   tree_of_complement (form_each l) _ = null
-  tree_of_complement (form_keyed l) (hold_comp (KeyedOf ks) cs) = one (codes "keyed") (object (place_members (tree_of_complement l) ks cs))
+  tree_of_complement (form_keyed l) (hold_comp (KeyedOf ks) cs) =
+      one (codes "keyed") (object (place_members (tree_of_complement l) ks cs))
   tree_of_complement (form_keyed l) _ = null
   tree_of_complement (form_ordered l) (hold_comp (TreeOf ds) cs) =
-      one (codes "tree") (object (member (codes "depths") (array (count_items ds)) (member (codes "items") (array (place_items (tree_of_complement l) cs)) no_members)))
+      one (codes "tree")
+      (object (member (codes "depths") (array (count_items ds))
+      (member (codes "items") (array (place_items (tree_of_complement l) cs)) no_members)))
   tree_of_complement (form_ordered l) _ = null
   tree_of_complement (form_part fs) (tags_comp ks) = one (codes "tags") (array (tag_items fs ks))
   tree_of_complement (form_part fs) _ = null

@@ -1,4 +1,5 @@
--- What a reader of complements returns: what is found has the tree that is read, and a refusal says that nothing has it.
+-- What a reader of complements returns: what is found has the tree that is read, and a refusal says that nothing has
+-- it.
 use Rattle.std.specs.Prelude.{◌≡◌, ℕ, IsTrue, List, Option, Some, None, Result, Ok, Err, codes, nat_lt}
 use Rattle.serde_json.specs.Data.{Data, null, string, array, object, Items, no_items, item, Members, no_members, member}
 use Rattle.doc_values.specs.Types.{FieldTrees}
@@ -31,10 +32,12 @@ IsNothing tree c = IsNil c × (null ≡ tree)
 
 -- the tree of an ordered tree's complement, with these depths and these items
 abbrev pub nodes_tree : Items → Items → Data
-nodes_tree depths items = one (codes "tree") (object (member (codes "depths") (array depths) (member (codes "items") (array items) no_members)))
+nodes_tree depths items =
+    one (codes "tree")
+    (object (member (codes "depths") (array depths) (member (codes "items") (array items) no_members)))
 
--- the tree is an object with one member, of this name; its content is such a tree, an array of such items, an object of such
--- members, or an array of two
+-- the tree is an object with one member, of this name; its content is such a tree, an array of such items, an object of
+-- such members, or an array of two
 abbrev pub HasContent : List ℕ → Data → Data → Type 0
 HasContent name tree d = one name d ≡ tree
 

@@ -3,7 +3,8 @@
 ghost use Rattle.std.specs.Prelude.{◌≡◌, ◌+◌, ◌≤◌, IfOk, IsErrOf, IsTrue};
 ghost use Rattle.serde_json.specs.View.{view, items_view, members_view};
 ghost use Rattle.value_json.specs.DocumentJson.{member_names};
-ghost use Rattle.lens_forms.specs.Forms.{form_tree, rows_tree, arms_tree, form_then, form_rec, form_alt, form_each, form_keyed, form_ordered};
+ghost use Rattle.lens_forms.specs.Forms.{form_tree, rows_tree, arms_tree, form_then, form_rec, form_alt, form_each};
+ghost use Rattle.lens_forms.specs.Forms.{form_keyed, form_ordered};
 ghost use Rattle.lens_forms.specs.Measures.{form_parts, rows_parts, arms_parts};
 ghost use Rattle.lens_forms.specs.Typing.{is_typed, are_typed_rows};
 ghost use Rattle.lens_forms.specs.declared.limits.TheConstants.{MOST_PARTS};
@@ -28,8 +29,8 @@ use value_json::read_counts;
 
 /// The complement of a lens that has this tree.
 ///
-/// `NotAComplement` if and only if no complement that fits the lens has this tree; the page docs/FORMATS.md says which tree a
-/// complement has. The tree may be any tree. Nothing of it is copied but its texts.
+/// `NotAComplement` if and only if no complement that fits the lens has this tree; the page docs/FORMATS.md says which
+/// tree a complement has. The tree may be any tree. Nothing of it is copied but its texts.
 pub fn read_comp(alloc: Global, typed: &Typed, tree: &Value) -> Result<Comp, CompFault>
     // What is read fits the lens and has this tree.
     ensures fits { IfOk result (λ comp. Fits (form_tree typed.now) (comp_tree comp)) }
@@ -83,7 +84,8 @@ fn read_pair(alloc: Global, first: &Form, second: &Form, tree: &Value) -> Result
     requires typed { IsTrue (is_typed (form_tree first.now)) }
     requires also { IsTrue (is_typed (form_tree second.now)) }
     requires small { form_parts (form_tree first.now) + form_parts (form_tree second.now) ≤ MOST_PARTS }
-    ensures { Finds (IsComplement (form_then (form_tree first.now) (form_tree second.now)) (view tree.now)) comp_tree result }
+    ensures { Finds (IsComplement (form_then (form_tree first.now) (form_tree second.now)) (view tree.now)) comp_tree
+        result }
 {
     let Some((one, other)) = pair_in(tree, "then") else {
         return Err(CompFault::NotAComplement);
@@ -226,7 +228,8 @@ fn read_contents(
 ) -> Result<Comps, CompFault>
     requires typed { IsTrue (is_typed (form_tree inner.now)) }
     requires small { form_parts (form_tree inner.now) ≤ MOST_PARTS }
-    ensures { Finds (ArePlaces (form_tree inner.now) (member_contents (members_view members.now.entries))) comps_tree result }
+    ensures { Finds (ArePlaces (form_tree inner.now) (member_contents (members_view members.now.entries))) comps_tree
+        result }
 {
     let mut comps = Vec::new(alloc);
     for (_, content) in members.iter() {

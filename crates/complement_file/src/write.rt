@@ -8,7 +8,8 @@ ghost use Rattle.doc_values.specs.Typing.{is_keyed_of};
 ghost use Rattle.value_json.specs.Numbers.{count_items};
 ghost use Rattle.lens_forms.specs.Forms.{form_tree, rows_tree, arms_tree, form_rec, form_alt, form_keyed};
 ghost use Rattle.lens_forms.specs.Typing.{is_typed};
-ghost use Rattle.lens_core.specs.Complements.{comp_tree, comps_tree, rec_comp, alt_comp, hold_comp, comp_count, Fits, AllFit};
+ghost use Rattle.lens_core.specs.Complements.{comp_tree, comps_tree, rec_comp, alt_comp, hold_comp, comp_count, Fits};
+ghost use Rattle.lens_core.specs.Complements.{AllFit};
 ghost use Rattle.complement_file.specs.ComplementJson.{tree_of_complement, one, two, place_items, place_members};
 
 use crate::lookup::find_arm;
@@ -91,7 +92,8 @@ fn write_pair(alloc: Global, name: &str, first: Value, second: Value) -> Result<
 fn write_record(alloc: Global, rows: &FormRows, comps: &Comps) -> Result<Value, AllocError>
     requires typed { IsTrue (is_typed (form_rec (rows_tree rows.now))) }
     requires fits { Fits (form_rec (rows_tree rows.now)) (rec_comp (comps_tree comps.now)) }
-    ensures { IfOk result (λ tree. view tree ≡ tree_of_complement (form_rec (rows_tree rows.now)) (rec_comp (comps_tree comps.now))) }
+    ensures { IfOk result
+        (λ tree. view tree ≡ tree_of_complement (form_rec (rows_tree rows.now)) (rec_comp (comps_tree comps.now))) }
 {
     let mut items = Vec::new(alloc);
     for row in rows.as_slice() {
@@ -133,7 +135,8 @@ fn write_tagged(
 fn write_places(alloc: Global, inner: &Form, comps: &Comps) -> Result<Value, AllocError>
     requires typed { IsTrue (is_typed (form_tree inner.now)) }
     requires fits { AllFit (Fits (form_tree inner.now)) (comps_tree comps.now) }
-    ensures { IfOk result (λ tree. view tree ≡ array (place_items (tree_of_complement (form_tree inner.now)) (comps_tree comps.now))) }
+    ensures { IfOk result
+        (λ tree. view tree ≡ array (place_items (tree_of_complement (form_tree inner.now)) (comps_tree comps.now))) }
 {
     let count = comps.len();
     let mut items = Vec::with_capacity(alloc, count)?;

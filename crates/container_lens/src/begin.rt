@@ -24,14 +24,14 @@ use texts::Twin;
 /// Begins the translation of one primitive through a lens that is mapped over a container, with the complement of each
 /// place. `start` is the missing complement of the lens inside.
 ///
-/// Mod of a place needs the lens inside: the result has a copy of the complement of the place and the word to translate.
-/// The number of the lens is 0, since a container has one. It takes the time of the path to the place. A shape edit with a
-/// plan is finished: the result is the same edit, with the complements gathered by the plan, and `start` at each fresh
-/// place.
+/// Mod of a place needs the lens inside: the result has a copy of the complement of the place and the word to
+/// translate. The number of the lens is 0, since a container has one. It takes the time of the path to the place. A
+/// shape edit with a plan is finished: the result is the same edit, with the complements gathered by the plan, and
+/// `start` at each fresh place.
 ///
-/// - `Unfit`: if and only if there is no such beginning: for other primitives, for a place or an edit of another kind of
-///   shape, for a place that the shape does not have, for an edit that has no plan, and where the number of complements is
-///   not that of the places.
+/// - `Unfit`: if and only if there is no such beginning: for other primitives, for a place or an edit of another kind
+///   of shape, for a place that the shape does not have, for an edit that has no plan, and where the number of
+///   complements is not that of the places.
 /// - `NoMemory`: only if memory ran out.
 ///
 /// The arguments stay as they are.
@@ -43,8 +43,10 @@ pub fn hold_begin<H: Held>(
     start: &Comp,
 ) -> Result<Begun, CarryFault>
     ensures { MatchResult result
-        (λ b. begin_held (comp_tree start.now) (H.shape_of shape.now) (comps_tree comps.now) (primitive_tree prim.now) ≡ Some (begun_tree b))
-        (IsBeginFault (begin_held (comp_tree start.now) (H.shape_of shape.now) (comps_tree comps.now) (primitive_tree prim.now))) }
+        (λ b. begin_held (comp_tree start.now) (H.shape_of shape.now) (comps_tree comps.now) (primitive_tree prim.now)
+        ≡ Some (begun_tree b))
+        (IsBeginFault (begin_held (comp_tree start.now) (H.shape_of shape.now) (comps_tree comps.now)
+        (primitive_tree prim.now))) }
 {
     if comps.len() as u64 != shape.size() {
         return Err(CarryFault::Unfit);

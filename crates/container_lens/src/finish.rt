@@ -18,9 +18,9 @@ use texts::Twin;
 /// Finishes the translation of one primitive through a lens that is mapped over a container, from what the lens inside
 /// translated: the word at the place, left out where it is empty, and the new complement there.
 ///
-/// `hold_begin` of these arguments, with some complement as `start`, answered `Inner`, and `inner` is the translation that
-/// it asked for. It takes the time of the path to the place. Fails only if memory runs out; `inner` is then dropped. The
-/// other arguments stay as they are.
+/// `hold_begin` of these arguments, with some complement as `start`, answered `Inner`, and `inner` is the translation
+/// that it asked for. It takes the time of the path to the place. Fails only if memory runs out; `inner` is then
+/// dropped. The other arguments stay as they are.
 #[tactic(auto, using(crate::proofs::HeldSteps::begun_rules))]
 pub fn hold_finish<H: Held>(
     alloc: Global,

@@ -27,11 +27,14 @@ pub fn container_laws()
 pub fn container_goes_round()
     ensures list { (l : FormTree) (side : Side) (s : ListShape) (cs : CompTrees) (p : PrimitiveTree)
         → translate_one (form_each l) side (hold_comp (ListOf s) cs) p
-        ≡ option_and_then (carried_on (λ i c w. translate l side c w) (finish_held (ListOf s) cs p)) (begin_held (missing l) (ListOf s) cs p) }
+        ≡ option_and_then (carried_on (λ i c w. translate l side c w) (finish_held (ListOf s) cs p))
+        (begin_held (missing l) (ListOf s) cs p) }
     ensures keyed { (l : FormTree) (side : Side) (names : List (List ℕ)) (cs : CompTrees) (p : PrimitiveTree)
         → translate_one (form_keyed l) side (hold_comp (KeyedOf names) cs) p
-        ≡ option_and_then (carried_on (λ i c w. translate l side c w) (finish_held (KeyedOf names) cs p)) (begin_held (missing l) (KeyedOf names) cs p) }
+        ≡ option_and_then (carried_on (λ i c w. translate l side c w) (finish_held (KeyedOf names) cs p))
+        (begin_held (missing l) (KeyedOf names) cs p) }
     ensures ordered { (l : FormTree) (side : Side) (depths : List ℕ) (cs : CompTrees) (p : PrimitiveTree)
         → translate_one (form_ordered l) side (hold_comp (TreeOf depths) cs) p
-        ≡ option_and_then (carried_on (λ i c w. translate l side c w) (finish_held (TreeOf depths) cs p)) (begin_held (missing l) (TreeOf depths) cs p) }
+        ≡ option_and_then (carried_on (λ i c w. translate l side c w) (finish_held (TreeOf depths) cs p))
+        (begin_held (missing l) (TreeOf depths) cs p) }
 {}

@@ -1,6 +1,7 @@
 //! Documents.
 
-ghost use Rattle.std.specs.Prelude.{◌≡◌, ◌↔◌, IsTrue, IfOk, OnOk, OnErr, ◌<◌, All, map, length, slice_set, slice_index_or};
+ghost use Rattle.std.specs.Prelude.{◌≡◌, ◌↔◌, IsTrue, IfOk, OnOk, OnErr, ◌<◌, All, map, length, slice_set};
+ghost use Rattle.std.specs.Prelude.{slice_index_or};
 ghost use Rattle.hold_shapes.specs.Gather.{content_at, IsBelow};
 ghost use Rattle.doc_values.specs.Documents.{doc_tree, docs_tree, docs_of, doc_list, unit, alt, hold, no_docs};
 ghost use Rattle.doc_values.specs.Types.{ty_tree};

@@ -13,11 +13,13 @@ use Rattle.edit_inverse.specs.Texts.{TypeTexts, HasTexts, WordTexts, MeetsTexts}
 
 -- the word that makes a document makes it from the initial value of its type
 abbrev pub ConstructMakes : Type 0
-ConstructMakes = (t : TyTree) (v : DocTree) → is_well_formed t ≡ true → has t v ≡ true → act t (construct t v) (initial t) ≡ Ok v
+ConstructMakes = (t : TyTree) (v : DocTree) → is_well_formed t ≡ true → has t v ≡ true
+    → act t (construct t v) (initial t) ≡ Ok v
 
 -- the inverse of a word that acts takes the result back to the document that there was
 abbrev pub InverseTakesBack : Type 0
-InverseTakesBack = (t : TyTree) (w : WordTree) (v u : DocTree) → is_well_formed t ≡ true → has t v ≡ true → MeetsTexts t w v
+InverseTakesBack = (t : TyTree) (w : WordTree) (v u : DocTree) → is_well_formed t ≡ true → has t v ≡ true
+    → MeetsTexts t w v
     → act t w v ≡ Ok u → act t (inverse t w v) u ≡ Ok v
 
 -- where all texts of a type, a document and a word are UTF-8, the word meets no others
@@ -26,7 +28,8 @@ TextsAreMet = (t : TyTree) (w : WordTree) (v : DocTree) → TypeTexts t → HasT
 
 -- the value of such a word has texts that are UTF-8
 abbrev pub ActionKeepsTexts : Type 0
-ActionKeepsTexts = (t : TyTree) (w : WordTree) (v u : DocTree) → TypeTexts t → HasTexts v → WordTexts w → act t w v ≡ Ok u → HasTexts u
+ActionKeepsTexts = (t : TyTree) (w : WordTree) (v u : DocTree) → TypeTexts t → HasTexts v → WordTexts w
+    → act t w v ≡ Ok u → HasTexts u
 
 -- another word had this answer on a document, which is a value; the word takes that value back to the document
 abbrev pub TakesBack : TyTree → WordTree → Result DocTree Why → DocTree → Type 0

@@ -12,7 +12,9 @@ ghost use Rattle.edit_module.specs.declared.atom.Atom.TheVariants.{Letters};
 ghost use Rattle.edit_module.specs.Words.{WordTree, word_of, joined, no_primitives, at, stay, switch, modify};
 ghost use Rattle.edit_module.specs.Action.{act};
 ghost use Rattle.edit_module.specs.Views.{primitive_tree, word_tree};
-ghost use Rattle.edit_inverse.specs.Construct.{construct, construct_fields, construct_each, only, set_unless, unless_empty, reshape, at_each, to_tag, modify_each, put_each, graft_each, grow, insertions};
+ghost use Rattle.edit_inverse.specs.Construct.{construct, construct_fields, construct_each, only, set_unless};
+ghost use Rattle.edit_inverse.specs.Construct.{unless_empty, reshape, at_each, to_tag, modify_each, put_each};
+ghost use Rattle.edit_inverse.specs.Construct.{graft_each, grow, insertions};
 ghost use Rattle.edit_inverse.specs.Paths.{parent_path, next_path, paths};
 
 use crate::words::{inserted, next_path, push_at, push_key, push_modify, push_node, switch_word};
@@ -24,9 +26,9 @@ use std::alloc::{AllocError, Global};
 
 /// A word that makes the document from the initial value of its type. Fails only if memory runs out.
 ///
-/// The document has the type. An inner word that is empty is left out, with its primitive. The definition has a line for
-/// each type; docs/EDITS.md has it in words. Where the type is well formed, the action of the word on the type's initial
-/// value gives the document.
+/// The document has the type. An inner word that is empty is left out, with its primitive. The definition has a line
+/// for each type; docs/EDITS.md has it in words. Where the type is well formed, the action of the word on the type's
+/// initial value gives the document.
 pub fn construct(alloc: Global, ty: &Ty, doc: &Doc) -> Result<Word, AllocError>
     requires { has (ty_tree ty.now) (doc_tree doc.now) ≡ true }
     ensures exact { IfOk result (λ w. word_tree w ≡ construct (ty_tree ty.now) (doc_tree doc.now)) }
@@ -144,7 +146,8 @@ fn of_record(alloc: Global, fields: &Fields, docs: &Docs) -> Result<Word, AllocE
 fn of_list(alloc: Global, inner: &Ty, docs: &Docs) -> Result<Word, AllocError>
     requires { has_each (ty_tree inner.now) (docs_tree docs.now) ≡ true }
     ensures { IfOk result (λ w. word_tree w
-        ≡ insertions (length (doc_list (docs_tree docs.now))) (modify_each 0 (construct_each (ty_tree inner.now) (docs_tree docs.now)))) }
+        ≡ insertions (length (doc_list (docs_tree docs.now)))
+        (modify_each 0 (construct_each (ty_tree inner.now) (docs_tree docs.now)))) }
 {
     let out = inserted(alloc, docs.len() as u64)?;
     with_items(alloc, inner, docs, 0, out)
@@ -162,7 +165,8 @@ pub(crate) fn with_items(
     requires typed { has_each (ty_tree inner.now) (docs_tree docs.now) ≡ true }
     requires within { from ≤ length (doc_list (docs_tree docs.now)) }
     ensures { IfOk result (λ w. word_tree w
-        ≡ joined (word_of (map primitive_tree before.items)) (modify_each from (drop from (construct_each (ty_tree inner.now) (docs_tree docs.now))))) }
+        ≡ joined (word_of (map primitive_tree before.items))
+        (modify_each from (drop from (construct_each (ty_tree inner.now) (docs_tree docs.now))))) }
 {
     let mut out = before;
     for i in from..docs.len() {
@@ -176,7 +180,8 @@ pub(crate) fn with_items(
 #[cycle(build)]
 fn of_tag(alloc: Global, tags: &Fields, tag: &Name, content: &Doc) -> Result<Word, AllocError>
     requires { has (ty_alt (fields_tree tags.now)) (alt tag.now (doc_tree content.now)) ≡ true }
-    ensures { IfOk result (λ w. word_tree w ≡ construct (ty_alt (fields_tree tags.now)) (alt tag.now (doc_tree content.now))) }
+    ensures { IfOk result
+        (λ w. word_tree w ≡ construct (ty_alt (fields_tree tags.now)) (alt tag.now (doc_tree content.now))) }
 {
     let name = tag.as_str();
     let Some((_, ty)) = tags.find(name) else {
@@ -196,7 +201,8 @@ fn of_keyed(
 ) -> Result<Word, AllocError>
     requires many { length keys.now ≡ length (doc_list (docs_tree docs.now)) }
     requires typed { has_each (ty_tree inner.now) (docs_tree docs.now) ≡ true }
-    ensures { IfOk result (λ w. word_tree w ≡ put_each keys.now (construct_each (ty_tree inner.now) (docs_tree docs.now))) }
+    ensures { IfOk result
+        (λ w. word_tree w ≡ put_each keys.now (construct_each (ty_tree inner.now) (docs_tree docs.now))) }
 {
     let mut out = Vec::new(alloc);
     for i in 0..docs.len() {
@@ -217,7 +223,8 @@ fn of_tree(
     requires valid { is_valid depths.now ≡ true }
     requires many { length depths.now ≡ length (doc_list (docs_tree docs.now)) }
     requires typed { has_each (ty_tree inner.now) (docs_tree docs.now) ≡ true }
-    ensures { IfOk result (λ w. word_tree w ≡ grow (paths depths.now) (construct_each (ty_tree inner.now) (docs_tree docs.now))) }
+    ensures { IfOk result
+        (λ w. word_tree w ≡ grow (paths depths.now) (construct_each (ty_tree inner.now) (docs_tree docs.now))) }
 {
     let mut out = Vec::new(alloc);
     let root = build(alloc, inner, docs.get(0))?;

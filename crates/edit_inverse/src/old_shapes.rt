@@ -1,9 +1,11 @@
 //! Words that take back an edit of a shape, and bring back the contents that it took away.
 
-ghost use Rattle.std.specs.Prelude.{◌≡◌, ℕ, ◌+◌, ◌-◌, ◌<◌, ◌≤◌, List, [], true, IfOk, IsOk, option_map, drop, length, slice_index, slice_range};
+ghost use Rattle.std.specs.Prelude.{◌≡◌, ℕ, ◌+◌, ◌-◌, ◌<◌, ◌≤◌, List, [], true, IfOk, IsOk, option_map, drop, length};
+ghost use Rattle.std.specs.Prelude.{slice_index, slice_range};
 ghost use Rattle.hold_shapes.specs.Plans.{plan, is_each_new, remove_part};
 ghost use Rattle.hold_shapes.specs.Trees.{is_valid, end_of};
-ghost use Rattle.hold_shapes.specs.declared.edit.ShapeEdit.TheVariants.{Del, DropKey, RenameKey, Prune, Hang, Shift, Reorder};
+ghost use Rattle.hold_shapes.specs.declared.edit.ShapeEdit.TheVariants.{Del, DropKey, RenameKey, Prune, Hang, Shift};
+ghost use Rattle.hold_shapes.specs.declared.edit.ShapeEdit.TheVariants.{Reorder};
 ghost use Rattle.doc_values.specs.Documents.{doc_tree, docs_tree, doc_list};
 ghost use Rattle.doc_values.specs.Types.{ty_tree};
 ghost use Rattle.doc_values.specs.Typing.{has, has_each};
@@ -212,8 +214,8 @@ fn path_before(alloc: Global, depths: &SharedList<u64>, to: usize) -> Result<Vec
     Ok(path)
 }
 
-// Grafts of the nodes from one place to another in preorder, each with what makes its content. The path is that of the node
-// before them.
+// Grafts of the nodes from one place to another in preorder, each with what makes its content. The path is that of the
+// node before them.
 fn grown(
     alloc: Global,
     inner: &Ty,
@@ -244,7 +246,8 @@ fn grown(
 // A subtree that was hung elsewhere: below its old parent again, and then at its old number.
 fn hung_back(alloc: Global, part: &Path, below: &Path, shape: &Shape) -> Result<Word, AllocError>
     requires planned { IsOk (plan shape.now (Hang part.now below.now)) }
-    ensures { (ws : List WordTree) → IfOk result (λ w. word_tree w ≡ inverse_shape (Hang part.now below.now) shape.now ws) }
+    ensures { (ws : List WordTree)
+        → IfOk result (λ w. word_tree w ≡ inverse_shape (Hang part.now below.now) shape.now ws) }
 {
     let Shape::Tree(tree) = shape else {
         unreachable!()

@@ -4,7 +4,8 @@
 //! value that the next one meets. The inverses of the primitives are kept, and joined from the last to the first. So an
 //! inverse takes what the action takes, and what it takes to write down what the word took away.
 
-ghost use Rattle.std.specs.Prelude.{◌≡◌, ◌+◌, ◌<◌, List, [], ◌∷◌, ◌++◌, Ok, IfOk, OnOk, MatchResult, option_map, map, length, true};
+ghost use Rattle.std.specs.Prelude.{◌≡◌, ◌+◌, ◌<◌, List, [], ◌∷◌, ◌++◌, Ok, IfOk, OnOk, MatchResult, option_map, map};
+ghost use Rattle.std.specs.Prelude.{length, true};
 ghost use Rattle.hold_shapes.specs.Shapes.{place_of};
 ghost use Rattle.doc_values.specs.Documents.{doc_tree, docs_tree, doc_list, rec, alt, hold};
 ghost use Rattle.doc_values.specs.Types.{ty_tree, fields_tree, is_well_formed, ty_rec, ty_alt};
@@ -160,7 +161,8 @@ fn step(alloc: Global, ty: &Ty, primitive: &Primitive, doc: &Doc) -> Result<Made
     requires typed { has (ty_tree ty.now) (doc_tree doc.now) ≡ true }
     ensures value { MatchResult result
         (λ m. act_primitive (ty_tree ty.now) (primitive_tree primitive.now) (doc_tree doc.now) ≡ Ok (doc_tree m.value))
-        (λ fault. IsPrimitiveRefusal (act_primitive (ty_tree ty.now) (primitive_tree primitive.now) (doc_tree doc.now)) fault) }
+        (λ fault. IsPrimitiveRefusal (act_primitive (ty_tree ty.now) (primitive_tree primitive.now) (doc_tree doc.now))
+        fault) }
     ensures back { IfOk result (λ m. word_tree m.back
         ≡ inverse_primitive (ty_tree ty.now) (primitive_tree primitive.now) (doc_tree doc.now)) }
     ensures meets { IfOk result (λ m.
@@ -186,7 +188,8 @@ fn reset(alloc: Global, ty: &Ty, primitive: &Primitive, doc: &Doc) -> Result<Mad
     requires typed { has (ty_tree ty.now) (doc_tree doc.now) ≡ true }
     ensures value { MatchResult result
         (λ m. act_primitive (ty_tree ty.now) (primitive_tree primitive.now) (doc_tree doc.now) ≡ Ok (doc_tree m.value))
-        (λ fault. IsPrimitiveRefusal (act_primitive (ty_tree ty.now) (primitive_tree primitive.now) (doc_tree doc.now)) fault) }
+        (λ fault. IsPrimitiveRefusal (act_primitive (ty_tree ty.now) (primitive_tree primitive.now) (doc_tree doc.now))
+        fault) }
     ensures back { IfOk result (λ m. word_tree m.back ≡ only (set (atom_of (doc_tree doc.now)))) }
 {
     let value = acted(alloc, ty, primitive, doc)?;
@@ -209,7 +212,8 @@ fn spliced(
     requires is { primitive_tree primitive.now ≡ splice from count with.now }
     ensures value { MatchResult result
         (λ m. act_primitive (ty_tree ty.now) (splice from count with.now) (doc_tree doc.now) ≡ Ok (doc_tree m.value))
-        (λ fault. IsPrimitiveRefusal (act_primitive (ty_tree ty.now) (splice from count with.now) (doc_tree doc.now)) fault) }
+        (λ fault. IsPrimitiveRefusal (act_primitive (ty_tree ty.now) (splice from count with.now) (doc_tree doc.now))
+        fault) }
     ensures back { IfOk result (λ m. word_tree m.back
         ≡ inverse_primitive (ty_tree ty.now) (splice from count with.now) (doc_tree doc.now)) }
     ensures meets { IfOk result (λ m.
@@ -234,8 +238,10 @@ fn switched(
     requires typed { has (ty_tree ty.now) (doc_tree doc.now) ≡ true }
     requires is { primitive_tree primitive.now ≡ switch from.now to.now (word_tree word.now) }
     ensures value { MatchResult result
-        (λ m. act_primitive (ty_tree ty.now) (switch from.now to.now (word_tree word.now)) (doc_tree doc.now) ≡ Ok (doc_tree m.value))
-        (λ fault. IsPrimitiveRefusal (act_primitive (ty_tree ty.now) (switch from.now to.now (word_tree word.now)) (doc_tree doc.now)) fault) }
+        (λ m. act_primitive (ty_tree ty.now) (switch from.now to.now (word_tree word.now)) (doc_tree doc.now)
+        ≡ Ok (doc_tree m.value))
+        (λ fault. IsPrimitiveRefusal (act_primitive (ty_tree ty.now) (switch from.now to.now (word_tree word.now))
+        (doc_tree doc.now)) fault) }
     ensures back { IfOk result (λ m. word_tree m.back
         ≡ inverse_primitive (ty_tree ty.now) (switch from.now to.now (word_tree word.now)) (doc_tree doc.now)) }
 {
@@ -250,7 +256,8 @@ fn acted(alloc: Global, ty: &Ty, primitive: &Primitive, doc: &Doc) -> Result<Doc
     requires typed { has (ty_tree ty.now) (doc_tree doc.now) ≡ true }
     ensures { MatchResult result
         (λ d. act_primitive (ty_tree ty.now) (primitive_tree primitive.now) (doc_tree doc.now) ≡ Ok (doc_tree d))
-        (λ fault. IsPrimitiveRefusal (act_primitive (ty_tree ty.now) (primitive_tree primitive.now) (doc_tree doc.now)) fault) }
+        (λ fault. IsPrimitiveRefusal (act_primitive (ty_tree ty.now) (primitive_tree primitive.now) (doc_tree doc.now))
+        fault) }
 {
     let copy = doc.twin(alloc)?;
     action::step(alloc, primitive, ty, copy)
@@ -292,8 +299,10 @@ fn at_field(
     requires well_formed { is_well_formed (ty_tree ty.now) ≡ true }
     requires typed { has (ty_tree ty.now) (doc_tree doc.now) ≡ true }
     ensures value { MatchResult result
-        (λ m. act_primitive (ty_tree ty.now) (at name.now (word_tree word.now)) (doc_tree doc.now) ≡ Ok (doc_tree m.value))
-        (λ fault. IsPrimitiveRefusal (act_primitive (ty_tree ty.now) (at name.now (word_tree word.now)) (doc_tree doc.now)) fault) }
+        (λ m. act_primitive (ty_tree ty.now) (at name.now (word_tree word.now)) (doc_tree doc.now)
+        ≡ Ok (doc_tree m.value))
+        (λ fault. IsPrimitiveRefusal
+        (act_primitive (ty_tree ty.now) (at name.now (word_tree word.now)) (doc_tree doc.now)) fault) }
     ensures back { IfOk result (λ m. word_tree m.back
         ≡ inverse_primitive (ty_tree ty.now) (at name.now (word_tree word.now)) (doc_tree doc.now)) }
     ensures meets { IfOk result (λ m.
@@ -362,8 +371,10 @@ fn at_tag(
     requires well_formed { is_well_formed (ty_tree ty.now) ≡ true }
     requires typed { has (ty_tree ty.now) (doc_tree doc.now) ≡ true }
     ensures value { MatchResult result
-        (λ m. act_primitive (ty_tree ty.now) (stay tag.now (word_tree word.now)) (doc_tree doc.now) ≡ Ok (doc_tree m.value))
-        (λ fault. IsPrimitiveRefusal (act_primitive (ty_tree ty.now) (stay tag.now (word_tree word.now)) (doc_tree doc.now)) fault) }
+        (λ m. act_primitive (ty_tree ty.now) (stay tag.now (word_tree word.now)) (doc_tree doc.now)
+        ≡ Ok (doc_tree m.value))
+        (λ fault. IsPrimitiveRefusal
+        (act_primitive (ty_tree ty.now) (stay tag.now (word_tree word.now)) (doc_tree doc.now)) fault) }
     ensures back { IfOk result (λ m. word_tree m.back
         ≡ inverse_primitive (ty_tree ty.now) (stay tag.now (word_tree word.now)) (doc_tree doc.now)) }
     ensures meets { IfOk result (λ m.
@@ -417,8 +428,10 @@ fn at_item(
     requires well_formed { is_well_formed (ty_tree ty.now) ≡ true }
     requires typed { has (ty_tree ty.now) (doc_tree doc.now) ≡ true }
     ensures value { MatchResult result
-        (λ m. act_primitive (ty_tree ty.now) (modify place.now (word_tree word.now)) (doc_tree doc.now) ≡ Ok (doc_tree m.value))
-        (λ fault. IsPrimitiveRefusal (act_primitive (ty_tree ty.now) (modify place.now (word_tree word.now)) (doc_tree doc.now)) fault) }
+        (λ m. act_primitive (ty_tree ty.now) (modify place.now (word_tree word.now)) (doc_tree doc.now)
+        ≡ Ok (doc_tree m.value))
+        (λ fault. IsPrimitiveRefusal
+        (act_primitive (ty_tree ty.now) (modify place.now (word_tree word.now)) (doc_tree doc.now)) fault) }
     ensures back { IfOk result (λ m. word_tree m.back
         ≡ inverse_primitive (ty_tree ty.now) (modify place.now (word_tree word.now)) (doc_tree doc.now)) }
     ensures meets { IfOk result (λ m.
@@ -458,8 +471,10 @@ fn in_container(
     requires well_formed { is_well_formed (ty_tree inner.now) ≡ true }
     requires held { IsHeld (ty_tree inner.now) shape.now (docs_tree docs.now) }
     ensures value { MatchResult result
-        (λ m. act_at_place (λ v. act (ty_tree inner.now) (word_tree word.now) v) shape.now (docs_tree docs.now) place.now ≡ Ok (doc_tree m.value))
-        (λ fault. IsPrimitiveRefusal (act_at_place (λ v. act (ty_tree inner.now) (word_tree word.now) v) shape.now (docs_tree docs.now) place.now) fault) }
+        (λ m. act_at_place (λ v. act (ty_tree inner.now) (word_tree word.now) v) shape.now
+        (docs_tree docs.now) place.now ≡ Ok (doc_tree m.value))
+        (λ fault. IsPrimitiveRefusal (act_at_place (λ v. act (ty_tree inner.now) (word_tree word.now) v) shape.now
+        (docs_tree docs.now) place.now) fault) }
     ensures back { IfOk result (λ m. word_tree m.back ≡ for_found (place_of shape.now place.now) (λ i.
         only (modify place.now (inverse (ty_tree inner.now) (word_tree word.now) (doc_at (docs_tree docs.now) i))))) }
     ensures meets { IfOk result (λ m. IfFound (place_of shape.now place.now) (λ i.

@@ -59,7 +59,8 @@ pub(crate) fn push_shape(out: &mut Vec<Primitive>, edit: ShapeEdit) -> Result<()
 
 // Insertions of a number of items, in pieces.
 pub(crate) fn inserted(alloc: Global, count: u64) -> Result<Vec<Primitive>, AllocError>
-    ensures { IfOk result (λ ps. (rest : WordTree) → joined (word_of (map primitive_tree ps.items)) rest ≡ insertions count rest) }
+    ensures { IfOk result (λ ps. (rest : WordTree) → joined (word_of (map primitive_tree ps.items)) rest
+        ≡ insertions count rest) }
 {
     let mut out = Vec::new(alloc);
     let full = count / MOST_ITEMS as u64;
@@ -81,7 +82,8 @@ pub(crate) fn push_key(
     word: Word,
 ) -> Result<(), AllocError>
     ensures { OnOk result ((rest : WordTree) → joined (word_of (map primitive_tree out.new.items)) rest
-        ≡ joined (word_of (map primitive_tree out.old.items)) (reshape (PutKey key.now) (unless_empty (modify (Key key.now)) (word_tree word) rest))) }
+        ≡ joined (word_of (map primitive_tree out.old.items))
+        (reshape (PutKey key.now) (unless_empty (modify (Key key.now)) (word_tree word) rest))) }
 {
     let name = key.twin(alloc)?;
     push_shape(out, ShapeEdit::PutKey(name))?;
@@ -99,7 +101,8 @@ pub(crate) fn push_node(
 ) -> Result<(), AllocError>
     requires { 0 < length path.now }
     ensures { OnOk result ((rest : WordTree) → joined (word_of (map primitive_tree out.new.items)) rest
-        ≡ joined (word_of (map primitive_tree out.old.items)) (reshape (Graft (parent_path path.now)) (unless_empty (modify (Node path.now)) (word_tree word) rest))) }
+        ≡ joined (word_of (map primitive_tree out.old.items))
+        (reshape (Graft (parent_path path.now)) (unless_empty (modify (Node path.now)) (word_tree word) rest))) }
 {
     let parent = Vec::from_slice(alloc, &path[..path.len() - 1])?;
     push_shape(out, ShapeEdit::Graft(Path::from_vec(parent)))?;

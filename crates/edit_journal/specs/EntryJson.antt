@@ -1,6 +1,7 @@
 -- Changes as JSON: the tree of an entry and of a group, and the change that a tree, a text and a line are.
 -- From the end: `change_of_line`, `change_of_text`, `change_of_tree`, and the other way `tree_of_change`.
-use Rattle.std.specs.Prelude.{ℕ, ◌&&◌, Bool, true, List, [], ◌∷◌, Option, Some, None, option_map, Result, Ok, Err, if◌then◌else◌, is_some, codes, bytes_eq}
+use Rattle.std.specs.Prelude.{ℕ, ◌&&◌, Bool, true, List, [], ◌∷◌, Option, Some, None, option_map, Result, Ok, Err}
+use Rattle.std.specs.Prelude.{if◌then◌else◌, is_some, codes, bytes_eq}
 use Rattle.std.specs.List.{list_all}
 use Rattle.std.specs.Str.{is_utf8}
 use Rattle.serde_json.specs.Data.{Data, string, array, object, Items, no_items, item, no_members, member}
@@ -22,7 +23,8 @@ side_text Right = codes "right"
 
 -- an object with exactly the members `edit`, a word, and `side`, the name of a side
 abbrev pub tree_of_entry : Side × WordTree → Data
-tree_of_entry e = object (member (codes "edit") (tree_of_word e.1) (member (codes "side") (string (side_text e.0)) no_members))
+tree_of_entry e =
+    object (member (codes "edit") (tree_of_word e.1) (member (codes "side") (string (side_text e.0)) no_members))
 
 -- an array of the trees of entries
 abbrev pub items_of_entries : List (Side × WordTree) → Items
@@ -53,8 +55,8 @@ change_numbers_fit change = entries_numbers_fit (entries_of change)
 
 -- ---- the change that a tree is
 
--- why a line is not a change, in the order in which it is tested: it is too long, its text is not JSON, its tree has not the form of a
--- change, an edit in it is not a word
+-- why a line is not a change, in the order in which it is tested: it is too long, its text is not JSON, its tree has
+-- not the form of a change, an edit in it is not a word
 pub data LineFault : Type 0 where
   line_too_long : LineFault
   not_json : LineFault
@@ -65,11 +67,12 @@ pub data LineFault : Type 0 where
 abbrev pub side_of : List ℕ → Option Side
 side_of s = if bytes_eq s (codes "left") then Some Left else if bytes_eq s (codes "right") then Some Right else None
 
--- The side and the tree of the edit, where the tree is an object with exactly the members `edit` and `side`, which are in byte order,
--- and `side` is the name of a side.
+-- The side and the tree of the edit, where the tree is an object with exactly the members `edit` and `side`, which are
+-- in byte order, and `side` is the name of a side.
 abbrev pub parts_of : Data → Option (Side × Data)
 parts_of (object (member k edit (member l (string s) no_members))) =
-    if bytes_eq k (codes "edit") && bytes_eq l (codes "side") then option_map (λ side. (side, edit)) (side_of s) else None
+    if bytes_eq k (codes "edit") && bytes_eq l (codes "side") then option_map (λ side. (side, edit)) (side_of s)
+    else None
 parts_of _ = None
 
 -- with the side, the word that the edit is
@@ -100,7 +103,8 @@ are_entries no_items = true
 are_entries (item d ds) = is_some (parts_of d) && are_entries ds
 
 -- an entry in front of others; the first one that is refused refuses them all
-abbrev pub in_front : Result (Side × WordTree) LineFault → Result (List (Side × WordTree)) LineFault → Result (List (Side × WordTree)) LineFault
+abbrev pub in_front : Result (Side × WordTree) LineFault → Result (List (Side × WordTree)) LineFault
+    → Result (List (Side × WordTree)) LineFault
 in_front (Ok e) (Ok es) = Ok (e ∷ es)
 in_front (Ok e) (Err fault) = Err fault
 in_front (Err fault) others = Err fault
@@ -110,8 +114,8 @@ abbrev pub entries_of_items : Items → Result (List (Side × WordTree)) LineFau
 entries_of_items no_items = Ok []
 entries_of_items (item d ds) = in_front (entry_of_tree d) (entries_of_items ds)
 
--- the group of these trees: where one of them has not the form of an entry the group has not the form of a change, whatever the edits
--- in the others are
+-- the group of these trees: where one of them has not the form of an entry the group has not the form of a change,
+-- whatever the edits in the others are
 abbrev pub group_of_items : Items → Result (List (Side × WordTree)) LineFault
 group_of_items ds = if are_entries ds then entries_of_items ds else Err not_an_entry
 

@@ -1,7 +1,8 @@
 -- What a reader returns.
 use Rattle.std.specs.Prelude.{◌≡◌, Option, Some, None, Result, Ok, Err}
 use Rattle.edit_journal.specs.declared.fault.EntryFault.{EntryFault}
-use Rattle.edit_journal.specs.declared.fault.EntryFault.TheVariants.{LineTooLong, NotJson, NotAnEntry, NotAnEdit, NoMemory}
+use Rattle.edit_journal.specs.declared.fault.EntryFault.TheVariants.{LineTooLong, NotJson, NotAnEntry, NotAnEdit}
+use Rattle.edit_journal.specs.declared.fault.EntryFault.TheVariants.{NoMemory}
 use Rattle.edit_journal.specs.EntryJson.{LineFault, line_too_long, not_json, not_an_entry, not_an_edit}
 
 -- what a fault says of the line; running out of memory says nothing of it

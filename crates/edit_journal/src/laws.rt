@@ -12,7 +12,8 @@ ghost use Rattle.edit_module.specs.Words.{WordTree};
 ghost use Rattle.edit_json.specs.WordJson.{tree_of_word, counts_fit, numbers_fit};
 ghost use Rattle.edit_json.specs.Depths.{word_depth};
 ghost use Rattle.edit_journal.specs.Pieces.{FedLines, nothing_fed, fed, last_line, lines_of};
-ghost use Rattle.edit_journal.specs.EntryJson.{tree_of_entry, tree_of_change, parts_of, entry_of_tree, change_of_tree, change_counts_fit, change_numbers_fit};
+ghost use Rattle.edit_journal.specs.EntryJson.{tree_of_entry, tree_of_change, parts_of, entry_of_tree, change_of_tree};
+ghost use Rattle.edit_journal.specs.EntryJson.{change_counts_fit, change_numbers_fit};
 
 /// Feeding two pieces one after the other leaves what feeding the joined piece leaves.
 pub fn feeding_joins()

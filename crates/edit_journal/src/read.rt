@@ -5,7 +5,10 @@ ghost use Rattle.serde_json.specs.View.{view, items_view};
 ghost use Rattle.edit_module.specs.Views.{word_tree, entry_tree, entry_trees, change_tree};
 ghost use Rattle.edit_module.specs.Changes.{ChangeTree};
 ghost use Rattle.edit_json.specs.WordJson.{word_of_tree};
-ghost use Rattle.edit_journal.specs.EntryJson.{side_of, parts_of, array_items, group_items, are_entries, entries_of_items, group_of_items, tree_of_text, tree_of_line, tree_of_change, change_counts_fit, change_numbers_fit, entry_of_tree, change_of_tree, change_of_text, change_of_line, not_json, not_an_edit};
+ghost use Rattle.edit_journal.specs.EntryJson.{side_of, parts_of, array_items, group_items, are_entries};
+ghost use Rattle.edit_journal.specs.EntryJson.{entries_of_items, group_of_items, tree_of_text, tree_of_line};
+ghost use Rattle.edit_journal.specs.EntryJson.{tree_of_change, change_counts_fit, change_numbers_fit, entry_of_tree};
+ghost use Rattle.edit_journal.specs.EntryJson.{change_of_tree, change_of_text, change_of_line, not_json, not_an_edit};
 ghost use Rattle.edit_journal.specs.Reading.{Gives};
 ghost use Rattle.edit_journal.specs.declared.fault.EntryFault;
 
@@ -66,8 +69,8 @@ fn read_text(alloc: Global, bytes: &[u8]) -> Result<Change, EntryFault>
 
 /// The tree of a text.
 ///
-/// Refused by `NotJson` if and only if the reader of JSON has no tree for these bytes; by `NoMemory`, which says nothing
-/// of them.
+/// Refused by `NotJson` if and only if the reader of JSON has no tree for these bytes; by `NoMemory`, which says
+/// nothing of them.
 pub fn read_tree(alloc: Global, bytes: &[u8]) -> Result<Value, EntryFault>
     ensures { Gives view result (ok_or (tree_of_text bytes.now) not_json) }
 {

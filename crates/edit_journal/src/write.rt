@@ -9,7 +9,9 @@ ghost use Rattle.edit_module.specs.Changes.{entries_of, group, carried_to};
 ghost use Rattle.edit_module.specs.Views.{word_tree, word_trees, entry_tree, entry_trees, change_tree};
 ghost use Rattle.edit_json.specs.WordJson.{tree_of_word, counts_fit};
 ghost use Rattle.edit_json.specs.Depths.{word_depth};
-ghost use Rattle.edit_journal.specs.EntryJson.{side_text, tree_of_entry, tree_of_entries, tree_of_change, change_counts_fit, entries_counts_fit, entries_numbers_fit, parts_of, entry_of_tree, change_of_tree};
+ghost use Rattle.edit_journal.specs.EntryJson.{side_text, tree_of_entry, tree_of_entries, tree_of_change};
+ghost use Rattle.edit_journal.specs.EntryJson.{change_counts_fit, entries_counts_fit, entries_numbers_fit, parts_of};
+ghost use Rattle.edit_journal.specs.EntryJson.{entry_of_tree, change_of_tree};
 
 use edit_json::write_word;
 use edit_module::change::Words;

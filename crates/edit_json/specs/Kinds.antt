@@ -1,7 +1,8 @@
 -- What a primitive does, by the name of the one member of its tree.
 use Rattle.std.specs.Prelude.{ℕ, List, Option, Some, None, if◌then◌else◌, codes, bytes_eq}
 use Rattle.edit_json.specs.declared.kind.Kind.{Kind}
-use Rattle.edit_json.specs.declared.kind.Kind.TheVariants.{Set, Add, Splice, At, Stay, Switch, Mod, Ins, Del, Move, Reorder, Put, Drop, Rename, Graft, Prune, Shift, Hang}
+use Rattle.edit_json.specs.declared.kind.Kind.TheVariants.{Set, Add, Splice, At, Stay, Switch, Mod, Ins, Del, Move}
+use Rattle.edit_json.specs.declared.kind.Kind.TheVariants.{Reorder, Put, Drop, Rename, Graft, Prune, Shift, Hang}
 
 -- none where no primitive has a member of this name
 abbrev pub kind_of : List ℕ → Option Kind

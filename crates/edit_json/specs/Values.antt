@@ -1,6 +1,8 @@
 -- The values that primitives hold: their trees, the values that trees are, and the ranges of their numbers.
--- From the end: the ranges `place_fits` and `atom_fits`, then what trees are, `place_of` and `atom_of`, then the trees of values.
-use Rattle.std.specs.Prelude.{ℕ, ◌^◌, ◌&&◌, Bool, true, List, [], ◌∷◌, Option, Some, None, option_map, option_and_then, if◌then◌else◌, nat_lt}
+-- From the end: the ranges `place_fits` and `atom_fits`, then what trees are, `place_of` and `atom_of`, then the trees
+-- of values.
+use Rattle.std.specs.Prelude.{ℕ, ◌^◌, ◌&&◌, Bool, true, List, [], ◌∷◌, Option, Some, None, option_map, option_and_then}
+use Rattle.std.specs.Prelude.{if◌then◌else◌, nat_lt}
 use Rattle.serde_json.specs.Data.{Data, boolean, number, string, array}
 use Rattle.serde_json.specs.Find.{as_array}
 use Rattle.hold_shapes.specs.Plans.{is_count}

@@ -6,13 +6,16 @@ use Rattle.serde_json.specs.Find.{as_str}
 use Rattle.hold_shapes.specs.Plans.{is_count}
 use Rattle.hold_shapes.specs.declared.edit.ShapeEdit.{ShapeEdit}
 use Rattle.hold_shapes.specs.declared.edit.ShapeEdit.TheVariants as edits
-use Rattle.edit_module.specs.Words.{PrimitiveTree, set, add, splice, at, stay, switch, modify, shape, WordTree, no_primitives, more_primitives}
+use Rattle.edit_module.specs.Words.{PrimitiveTree, set, add, splice, at, stay, switch, modify, shape, WordTree}
+use Rattle.edit_module.specs.Words.{no_primitives, more_primitives}
 use Rattle.doc_values.specs.Integers.{fits_i64}
 use Rattle.value_json.specs.Numbers.{int_of, count_of, int_tree, count_tree}
 use Rattle.edit_json.specs.Kinds.{kind_of}
-use Rattle.edit_json.specs.Values.{tree_of_counts, tree_of_atom, tree_of_place, atom_of, numbers_of, place_of, item_count_of, fits_u64, all_fit_u64, atom_fits, place_fits}
+use Rattle.edit_json.specs.Values.{tree_of_counts, tree_of_atom, tree_of_place, atom_of, numbers_of, place_of}
+use Rattle.edit_json.specs.Values.{item_count_of, fits_u64, all_fit_u64, atom_fits, place_fits}
 use Rattle.edit_json.specs.declared.kind.Kind.{Kind}
-use Rattle.edit_json.specs.declared.kind.Kind.TheVariants.{Set, Add, Splice, At, Stay, Switch, Mod, Ins, Del, Move, Reorder, Put, Drop, Rename, Graft, Prune, Shift, Hang}
+use Rattle.edit_json.specs.declared.kind.Kind.TheVariants.{Set, Add, Splice, At, Stay, Switch, Mod, Ins, Del, Move}
+use Rattle.edit_json.specs.declared.kind.Kind.TheVariants.{Reorder, Put, Drop, Rename, Graft, Prune, Shift, Hang}
 
 -- ---- the tree of a word
 
@@ -67,18 +70,24 @@ tree_of_word w = array (items_of_word w)
 abbrev pub leaf_of : Kind → Data → Option PrimitiveTree
 leaf_of Set d = option_map set (atom_of d)
 leaf_of Add d = option_map add (int_of d)
-leaf_of Splice (array (item i (item k (item s no_items)))) = option_and_then (λ i. option_and_then (λ k. option_map (splice i k) (as_str s)) (count_of k)) (count_of i)
+leaf_of Splice (array (item i (item k (item s no_items)))) =
+    option_and_then (λ i. option_and_then (λ k. option_map (splice i k) (as_str s)) (count_of k)) (count_of i)
 leaf_of Ins d = option_map (λ n. shape (edits.Ins n)) (item_count_of d)
 leaf_of Del d = option_map (λ n. shape (edits.Del n)) (item_count_of d)
-leaf_of Move (array (item i (item j no_items))) = option_and_then (λ i. option_map (λ j. shape (edits.MoveItem i j)) (count_of j)) (count_of i)
+leaf_of Move (array (item i (item j no_items))) =
+    option_and_then (λ i. option_map (λ j. shape (edits.MoveItem i j)) (count_of j)) (count_of i)
 leaf_of Reorder d = option_map (λ ns. shape (edits.Reorder ns)) (numbers_of d)
 leaf_of Put d = option_map (λ k. shape (edits.PutKey k)) (as_str d)
 leaf_of Drop d = option_map (λ k. shape (edits.DropKey k)) (as_str d)
-leaf_of Rename (array (item k (item m no_items))) = option_and_then (λ k. option_map (λ m. shape (edits.RenameKey k m)) (as_str m)) (as_str k)
+leaf_of Rename (array (item k (item m no_items))) =
+    option_and_then (λ k. option_map (λ m. shape (edits.RenameKey k m)) (as_str m)) (as_str k)
 leaf_of Graft d = option_map (λ q. shape (edits.Graft q)) (numbers_of d)
 leaf_of Prune d = option_map (λ q. shape (edits.Prune q)) (numbers_of d)
-leaf_of Shift (array (item q (item i (item j no_items)))) = option_and_then (λ q. option_and_then (λ i. option_map (λ j. shape (edits.Shift q i j)) (count_of j)) (count_of i)) (numbers_of q)
-leaf_of Hang (array (item p (item q no_items))) = option_and_then (λ p. option_map (λ q. shape (edits.Hang p q)) (numbers_of q)) (numbers_of p)
+leaf_of Shift (array (item q (item i (item j no_items)))) =
+    option_and_then (λ q. option_and_then (λ i. option_map (λ j. shape (edits.Shift q i j)) (count_of j)) (count_of i))
+    (numbers_of q)
+leaf_of Hang (array (item p (item q no_items))) =
+    option_and_then (λ p. option_map (λ q. shape (edits.Hang p q)) (numbers_of q)) (numbers_of p)
 leaf_of _ _ = None
 
 -- The word that has this tree; none where no word has it.
@@ -90,10 +99,14 @@ unfoldable mutual
 
   -- a primitive, by what it does and by the content of its member: those with an inner word, and then all others
   pub content_of : Kind → Data → Option PrimitiveTree
-  content_of At (array (item f (item w no_items))) = option_and_then (λ f. option_map (at f) (word_of_tree w)) (as_str f)
-  content_of Stay (array (item t (item w no_items))) = option_and_then (λ t. option_map (stay t) (word_of_tree w)) (as_str t)
-  content_of Switch (array (item a (item b (item w no_items)))) = option_and_then (λ a. option_and_then (λ b. option_map (switch a b) (word_of_tree w)) (as_str b)) (as_str a)
-  content_of Mod (array (item p (item w no_items))) = option_and_then (λ p. option_map (modify p) (word_of_tree w)) (place_of p)
+  content_of At (array (item f (item w no_items))) =
+      option_and_then (λ f. option_map (at f) (word_of_tree w)) (as_str f)
+  content_of Stay (array (item t (item w no_items))) =
+      option_and_then (λ t. option_map (stay t) (word_of_tree w)) (as_str t)
+  content_of Switch (array (item a (item b (item w no_items)))) =
+      option_and_then (λ a. option_and_then (λ b. option_map (switch a b) (word_of_tree w)) (as_str b)) (as_str a)
+  content_of Mod (array (item p (item w no_items))) =
+      option_and_then (λ p. option_map (modify p) (word_of_tree w)) (place_of p)
   content_of kind d = leaf_of kind d
 
   -- an array of primitives

@@ -195,7 +195,8 @@ fn put_move(out: &mut Writer, from: u64, to: u64) -> Result<(), AllocError>
 
 fn put_rename(out: &mut Writer, old: &Name, new: &Name) -> Result<(), AllocError>
     ensures before { out.new.before ≡ out.old.before }
-    ensures tokens { OnOk result (out.new.tokens ≡ out.old.tokens ++ tokens_of (tree_of_shape_edit (ShapeEdit.RenameKey old.now new.now))) }
+    ensures tokens { OnOk result
+        (out.new.tokens ≡ out.old.tokens ++ tokens_of (tree_of_shape_edit (ShapeEdit.RenameKey old.now new.now))) }
 {
     open_list(out, "rename")?;
     out.string(old.as_str())?;
@@ -205,7 +206,8 @@ fn put_rename(out: &mut Writer, old: &Name, new: &Name) -> Result<(), AllocError
 
 fn put_shift(out: &mut Writer, path: &Path, from: u64, to: u64) -> Result<(), AllocError>
     ensures before { out.new.before ≡ out.old.before }
-    ensures tokens { OnOk result (out.new.tokens ≡ out.old.tokens ++ tokens_of (tree_of_shape_edit (ShapeEdit.Shift path.now from to))) }
+    ensures tokens { OnOk result
+        (out.new.tokens ≡ out.old.tokens ++ tokens_of (tree_of_shape_edit (ShapeEdit.Shift path.now from to))) }
 {
     open_list(out, "shift")?;
     put_numbers(out, path.as_slice())?;
@@ -216,7 +218,8 @@ fn put_shift(out: &mut Writer, path: &Path, from: u64, to: u64) -> Result<(), Al
 
 fn put_hang(out: &mut Writer, from: &Path, to: &Path) -> Result<(), AllocError>
     ensures before { out.new.before ≡ out.old.before }
-    ensures tokens { OnOk result (out.new.tokens ≡ out.old.tokens ++ tokens_of (tree_of_shape_edit (ShapeEdit.Hang from.now to.now))) }
+    ensures tokens { OnOk result
+        (out.new.tokens ≡ out.old.tokens ++ tokens_of (tree_of_shape_edit (ShapeEdit.Hang from.now to.now))) }
 {
     open_list(out, "hang")?;
     put_numbers(out, from.as_slice())?;

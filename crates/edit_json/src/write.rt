@@ -7,8 +7,11 @@ ghost use Rattle.serde_json.specs.Written.{has_float};
 ghost use Rattle.hold_shapes.specs.declared.edit.ShapeEdit;
 ghost use Rattle.edit_module.specs.Views.{primitive_tree, word_tree};
 ghost use Rattle.edit_module.specs.Words.{splice, switch, modify};
-ghost use Rattle.edit_json.specs.Values.{tree_of_counts, tree_of_atom, tree_of_place, atom_fits, place_fits, all_fit_u64};
-ghost use Rattle.edit_json.specs.WordJson.{one, two, three, tree_of_shape_edit, tree_of_primitive, tree_of_word, word_of_tree, counts_fit, edit_numbers_fit, primitive_numbers_fit, numbers_fit};
+ghost use Rattle.edit_json.specs.Values.{tree_of_counts, tree_of_atom, tree_of_place, atom_fits, place_fits};
+ghost use Rattle.edit_json.specs.Values.{all_fit_u64};
+ghost use Rattle.edit_json.specs.WordJson.{one, two, three, tree_of_shape_edit, tree_of_primitive, tree_of_word};
+ghost use Rattle.edit_json.specs.WordJson.{word_of_tree, counts_fit, edit_numbers_fit, primitive_numbers_fit};
+ghost use Rattle.edit_json.specs.WordJson.{numbers_fit};
 ghost use Rattle.edit_json.specs.Depths.{word_depth};
 
 use edit_module::word::Primitive;

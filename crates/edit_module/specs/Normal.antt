@@ -3,7 +3,8 @@
 use Rattle.std.specs.Prelude.{ℕ, zero, suc, Bool, false, if◌then◌else◌, nat_eq, bytes_eq, Option, None, Some}
 use Rattle.hold_shapes.specs.declared.edit.Place.{Place}
 use Rattle.hold_shapes.specs.declared.edit.Place.TheVariants.{Index, Key, Node}
-use Rattle.edit_module.specs.Words.{PrimitiveTree, at, stay, switch, modify, WordTree, no_primitives, more_primitives, joined}
+use Rattle.edit_module.specs.Words.{PrimitiveTree, at, stay, switch, modify, WordTree, no_primitives, more_primitives}
+use Rattle.edit_module.specs.Words.{joined}
 use Rattle.edit_module.specs.Depths.{word_depth}
 
 -- the same place of the same kind
@@ -27,8 +28,8 @@ abbrev pub placed : Option PrimitiveTree → PrimitiveTree → PrimitiveTree →
 placed (Some both) last next go_on = go_on both
 placed None last next go_on = more_primitives last (go_on next)
 
--- the end of a result, from its last primitive on, when the primitives of a word are still to come: from the front, each is
--- merged into the last one where a case fits, and appended otherwise
+-- the end of a result, from its last primitive on, when the primitives of a word are still to come: from the front,
+-- each is merged into the last one where a case fits, and appended otherwise
 abbrev pub merged_onto : PrimitiveTree → WordTree → WordTree
 merged_onto last no_primitives = more_primitives last no_primitives
 merged_onto last (more_primitives next w) = placed (merge last next) last next (λ p. merged_onto p w)
@@ -54,7 +55,7 @@ abbrev pub normal_to : ℕ → WordTree → WordTree
 normal_to zero w = w
 normal_to (suc n) w = inside_each (normal_to n) (merged w)
 
--- the merged word, with the normal form of each inner word in its place; the law `NormalIsMerged` says so without a depth.
--- Two words are equal by the equations if their normal forms are the same.
+-- the merged word, with the normal form of each inner word in its place; the law `NormalIsMerged` says so without a
+-- depth. Two words are equal by the equations if their normal forms are the same.
 abbrev pub normal : WordTree → WordTree
 normal w = normal_to (word_depth w) w

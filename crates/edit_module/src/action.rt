@@ -27,8 +27,8 @@ use hold_shapes::{Held, Name, Place, Shape, Twin};
 use std::alloc::Global;
 use std::mem;
 
-/// What a word makes of a document: its value after the primitives of the word one after another, which has the type. The empty
-/// word returns the document itself.
+/// What a word makes of a document: its value after the primitives of the word one after another, which has the type.
+/// The empty word returns the document itself.
 ///
 /// The type is well formed and the document has it. [`ActFault::NoApply`] comes if and only if a primitive fails; it
 /// has the number, from 0, of the first one that does, and its cause. Where a word inside a primitive fails, the
@@ -83,15 +83,16 @@ fn run(alloc: Global, word: &Word, ty: &Ty, doc: Doc) -> Result<Doc, ActFault>
 
 /// What one primitive makes of a document, as [`act`] has it for a word. The document is consumed.
 ///
-/// The type is well formed and the document has it. [`PrimitiveFault::Fails`] comes if and only if the primitive fails, and
-/// has its cause.
+/// The type is well formed and the document has it. [`PrimitiveFault::Fails`] comes if and only if the primitive fails,
+/// and has its cause.
 #[cycle(run)]
 pub fn step(alloc: Global, primitive: &Primitive, ty: &Ty, doc: Doc) -> Result<Doc, PrimitiveFault>
     requires well_formed { is_well_formed (ty_tree ty.now) ≡ true }
     requires typed { has (ty_tree ty.now) (doc_tree doc) ≡ true }
     ensures { MatchResult result
         (λ d. act_primitive (ty_tree ty.now) (primitive_tree primitive.now) (doc_tree doc) ≡ Ok (doc_tree d))
-        (λ fault. IsPrimitiveRefusal (act_primitive (ty_tree ty.now) (primitive_tree primitive.now) (doc_tree doc)) fault) }
+        (λ fault. IsPrimitiveRefusal (act_primitive (ty_tree ty.now) (primitive_tree primitive.now) (doc_tree doc))
+        fault) }
 {
     match ty {
         Ty::Unit => Err(PrimitiveFault::Fails(Cause::Kind)),
@@ -118,8 +119,10 @@ fn on_record(
     requires well_formed { is_well_formed (ty_rec (fields_tree fields.now)) ≡ true }
     requires typed { has (ty_rec (fields_tree fields.now)) (doc_tree doc) ≡ true }
     ensures { MatchResult result
-        (λ d. act_primitive (ty_rec (fields_tree fields.now)) (primitive_tree primitive.now) (doc_tree doc) ≡ Ok (doc_tree d))
-        (λ fault. IsPrimitiveRefusal (act_primitive (ty_rec (fields_tree fields.now)) (primitive_tree primitive.now) (doc_tree doc)) fault) }
+        (λ d. act_primitive (ty_rec (fields_tree fields.now)) (primitive_tree primitive.now) (doc_tree doc)
+        ≡ Ok (doc_tree d))
+        (λ fault. IsPrimitiveRefusal (act_primitive (ty_rec (fields_tree fields.now)) (primitive_tree primitive.now)
+        (doc_tree doc)) fault) }
 {
     let Primitive::At(name, word) = primitive else {
         return Err(PrimitiveFault::Fails(Cause::Kind));
@@ -159,8 +162,10 @@ fn on_alternatives(
     requires well_formed { is_well_formed (ty_alt (fields_tree tags.now)) ≡ true }
     requires typed { has (ty_alt (fields_tree tags.now)) (doc_tree doc) ≡ true }
     ensures { MatchResult result
-        (λ d. act_primitive (ty_alt (fields_tree tags.now)) (primitive_tree primitive.now) (doc_tree doc) ≡ Ok (doc_tree d))
-        (λ fault. IsPrimitiveRefusal (act_primitive (ty_alt (fields_tree tags.now)) (primitive_tree primitive.now) (doc_tree doc)) fault) }
+        (λ d. act_primitive (ty_alt (fields_tree tags.now)) (primitive_tree primitive.now) (doc_tree doc)
+        ≡ Ok (doc_tree d))
+        (λ fault. IsPrimitiveRefusal (act_primitive (ty_alt (fields_tree tags.now)) (primitive_tree primitive.now)
+        (doc_tree doc)) fault) }
 {
     match primitive {
         Primitive::Stay(tag, word) => stay(alloc, tag, word, tags, doc),
@@ -182,8 +187,10 @@ fn stay(
     requires well_formed { is_well_formed (ty_alt (fields_tree tags.now)) ≡ true }
     requires typed { has (ty_alt (fields_tree tags.now)) (doc_tree doc) ≡ true }
     ensures { MatchResult result
-        (λ d. act_primitive (ty_alt (fields_tree tags.now)) (stay tag.now (word_tree word.now)) (doc_tree doc) ≡ Ok (doc_tree d))
-        (λ fault. IsPrimitiveRefusal (act_primitive (ty_alt (fields_tree tags.now)) (stay tag.now (word_tree word.now)) (doc_tree doc)) fault) }
+        (λ d. act_primitive (ty_alt (fields_tree tags.now)) (stay tag.now (word_tree word.now)) (doc_tree doc)
+        ≡ Ok (doc_tree d))
+        (λ fault. IsPrimitiveRefusal (act_primitive (ty_alt (fields_tree tags.now)) (stay tag.now (word_tree word.now))
+        (doc_tree doc)) fault) }
 {
     let Doc::Alt(held, content) = doc else {
         return Err(PrimitiveFault::Fails(Cause::Kind));
@@ -215,8 +222,11 @@ fn switch(
 ) -> Result<Doc, PrimitiveFault>
     requires well_formed { is_well_formed (ty_alt (fields_tree tags.now)) ≡ true }
     ensures { MatchResult result
-        (λ d. act_primitive (ty_alt (fields_tree tags.now)) (switch from.now to.now (word_tree word.now)) (doc_tree doc) ≡ Ok (doc_tree d))
-        (λ fault. IsPrimitiveRefusal (act_primitive (ty_alt (fields_tree tags.now)) (switch from.now to.now (word_tree word.now)) (doc_tree doc)) fault) }
+        (λ d. act_primitive (ty_alt (fields_tree tags.now)) (switch from.now to.now (word_tree word.now)) (doc_tree doc)
+        ≡ Ok (doc_tree d))
+        (λ fault. IsPrimitiveRefusal
+        (act_primitive (ty_alt (fields_tree tags.now)) (switch from.now to.now (word_tree word.now)) (doc_tree doc))
+        fault) }
 {
     let Doc::Alt(held, content) = doc else {
         return Err(PrimitiveFault::Fails(Cause::Kind));
@@ -273,8 +283,10 @@ fn on_container(
     requires well_formed { is_well_formed (ty_tree ty.now) ≡ true }
     requires typed { has (container_ty kind (ty_tree ty.now)) (doc_tree doc) ≡ true }
     ensures { MatchResult result
-        (λ d. act_primitive (container_ty kind (ty_tree ty.now)) (primitive_tree primitive.now) (doc_tree doc) ≡ Ok (doc_tree d))
-        (λ fault. IsPrimitiveRefusal (act_primitive (container_ty kind (ty_tree ty.now)) (primitive_tree primitive.now) (doc_tree doc)) fault) }
+        (λ d. act_primitive (container_ty kind (ty_tree ty.now)) (primitive_tree primitive.now) (doc_tree doc)
+        ≡ Ok (doc_tree d))
+        (λ fault. IsPrimitiveRefusal (act_primitive (container_ty kind (ty_tree ty.now)) (primitive_tree primitive.now)
+        (doc_tree doc)) fault) }
 {
     let Doc::Hold(shape, docs) = doc else {
         unreachable!()
@@ -304,8 +316,10 @@ fn modify(
     requires well_formed { is_well_formed (ty_tree ty.now) ≡ true }
     requires held { IsHeld (ty_tree ty.now) shape (docs_tree docs) }
     ensures { MatchResult result
-        (λ d. act_at_place (λ v. act (ty_tree ty.now) (word_tree word.now) v) shape (docs_tree docs) place.now ≡ Ok (doc_tree d))
-        (λ fault. IsPrimitiveRefusal (act_at_place (λ v. act (ty_tree ty.now) (word_tree word.now) v) shape (docs_tree docs) place.now) fault) }
+        (λ d. act_at_place (λ v. act (ty_tree ty.now) (word_tree word.now) v) shape (docs_tree docs) place.now
+        ≡ Ok (doc_tree d))
+        (λ fault. IsPrimitiveRefusal
+        (act_at_place (λ v. act (ty_tree ty.now) (word_tree word.now) v) shape (docs_tree docs) place.now) fault) }
 {
     match item_of(place, ty, &shape, &docs) {
         Some(at) => match at_place(alloc, word, ty, docs, at) {
@@ -343,8 +357,11 @@ fn at_place(
     requires well_formed { is_well_formed (ty_tree ty.now) ≡ true }
     requires typed { has (ty_tree ty.now) (doc_at (docs_tree docs) place) ≡ true }
     ensures { MatchResult result
-        (λ ds. put_result_at (docs_tree docs) place (act (ty_tree ty.now) (word_tree word.now) (doc_at (docs_tree docs) place)) ≡ Ok (docs_tree ds))
-        (λ fault. IsPrimitiveRefusal (put_result_at (docs_tree docs) place (act (ty_tree ty.now) (word_tree word.now) (doc_at (docs_tree docs) place))) fault) }
+        (λ ds. put_result_at (docs_tree docs) place
+        (act (ty_tree ty.now) (word_tree word.now) (doc_at (docs_tree docs) place)) ≡ Ok (docs_tree ds))
+        (λ fault. IsPrimitiveRefusal
+        (put_result_at (docs_tree docs) place
+        (act (ty_tree ty.now) (word_tree word.now) (doc_at (docs_tree docs) place))) fault) }
 {
     let mut docs = docs;
     let old = docs.get(place).twin(alloc)?;

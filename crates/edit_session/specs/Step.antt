@@ -1,6 +1,8 @@
--- One step: what an entry, a group of entries and a change make of a left document, a complement and a right document. A lens comes
--- as its two types and its translation of words. Read it from the end: `step_all`, `step_each`, `step`, then `IsInStep` near the head.
-use Rattle.std.specs.Prelude.{◌≡◌, ℕ, ◌+◌, List, [], ◌∷◌, Option, Some, None, option_map, option_and_then, Result, Ok, Err}
+-- One step: what an entry, a group of entries and a change make of a left document, a complement and a right document.
+-- A lens comes as its two types and its translation of words. Read it from the end: `step_all`, `step_each`, `step`,
+-- then `IsInStep` near the head.
+use Rattle.std.specs.Prelude.{◌≡◌, ℕ, ◌+◌, List, [], ◌∷◌, Option, Some, None, option_map, option_and_then, Result, Ok}
+use Rattle.std.specs.Prelude.{Err}
 use Rattle.texts.specs.declared.side.Side.{Side}
 use Rattle.texts.specs.declared.side.Side.TheVariants.{Left, Right}
 use Rattle.texts.specs.Sides.{other}
@@ -38,32 +40,36 @@ abbrev pub triple_from : Side → DocTree → CompTree → DocTree → TripleTre
 triple_from Left x c y = record { left = x; comp = c; right = y }
 triple_from Right y c x = record { left = x; comp = c; right = y }
 
--- a step that was made: the new triple and the carried word; or, where the word does not apply to the document of its side, the
--- number of its first primitive that fails, and the cause
+-- a step that was made: the new triple and the carried word; or, where the word does not apply to the document of its
+-- side, the number of its first primitive that fails, and the cause
 abbrev pub Stepped : Type 0
 Stepped = Result (TripleTree × WordTree) Why
 
--- The word was carried, and the carried word acts on the document of the other side. Where it has a value there, the new triple is
--- the new document of the side, the carried complement and this value. Otherwise there is no step.
+-- The word was carried, and the carried word acts on the document of the other side. Where it has a value there, the
+-- new triple is the new document of the side, the carried complement and this value. Otherwise there is no step.
 abbrev pub after_carrying : Side → DocTree → Translated → Result DocTree Why → Option Stepped
 after_carrying side x r (Ok y) = Some (Ok (triple_from side x r.1 y, r.0))
 after_carrying side x r (Err why) = None
 
--- The word acts on the document of its side. Where it has a value there, it is carried to the other side with the complement. If it is
--- carried to nothing there is no step. Where it has no value, its number and cause are the answer.
-abbrev pub after_action : TyTree → TyTree → (Side → CompTree → WordTree → Option Translated) → TripleTree → Side → WordTree → Result DocTree Why → Option Stepped
+-- The word acts on the document of its side. Where it has a value there, it is carried to the other side with the
+-- complement. If it is carried to nothing there is no step. Where it has no value, its number and cause are the answer.
+abbrev pub after_action : TyTree → TyTree → (Side → CompTree → WordTree → Option Translated) → TripleTree → Side
+    → WordTree → Result DocTree Why → Option Stepped
 after_action left right carried t side w (Ok x) =
-    option_and_then (λ r. after_carrying side x r (act (near (other side) left right) r.0 (document_on (other side) t))) (carried side t.comp w)
+    option_and_then (λ r. after_carrying side x r (act (near (other side) left right) r.0 (document_on (other side) t)))
+    (carried side t.comp w)
 after_action left right carried t side w (Err why) = Some (Err why)
 
 -- what an entry, of a side and a word, makes of a triple, for the lens of these two types and this translation
-abbrev pub step : TyTree → TyTree → (Side → CompTree → WordTree → Option Translated) → TripleTree → Side × WordTree → Option Stepped
-step left right carried t e = after_action left right carried t e.0 e.1 (act (near e.0 left right) e.1 (document_on e.0 t))
+abbrev pub step : TyTree → TyTree → (Side → CompTree → WordTree → Option Translated) → TripleTree → Side × WordTree
+    → Option Stepped
+step left right carried t e =
+    after_action left right carried t e.0 e.1 (act (near e.0 left right) e.1 (document_on e.0 t))
 
 -- ---- groups and changes
 
--- why a change is refused: the number in the change, from 0, of its first entry that does not apply; and in that entry the number
--- of the first primitive that fails, and the cause
+-- why a change is refused: the number in the change, from 0, of its first entry that does not apply; and in that entry
+-- the number of the first primitive that fails, and the cause
 abbrev pub WhyPart : Type 0
 WhyPart = ℕ × Why
 
@@ -71,7 +77,8 @@ WhyPart = ℕ × Why
 abbrev pub AllStepped : Type 0
 AllStepped = Result (TripleTree × List WordTree) WhyPart
 
--- what the other entries of a group make, with the carried word of the first one in front of theirs; they are numbered from 1 on
+-- what the other entries of a group make, with the carried word of the first one in front of theirs; they are numbered
+-- from 1 on
 abbrev pub with_first : WordTree → AllStepped → AllStepped
 with_first w (Ok s) = Ok (s.0, w ∷ s.1)
 with_first w (Err why) = Err (why.0 + 1, why.1)
@@ -81,11 +88,13 @@ abbrev pub after_first : (TripleTree → Option AllStepped) → Stepped → Opti
 after_first others (Ok s) = option_map (with_first s.1) (others s.0)
 after_first others (Err why) = Some (Err (0, why))
 
--- What the entries of a group make of a triple, each from the triple that the one before it left. The first that is refused refuses
--- them all. No entries leave the triple as it is, and their list of words is empty.
-abbrev pub step_each : TyTree → TyTree → (Side → CompTree → WordTree → Option Translated) → TripleTree → List (Side × WordTree) → Option AllStepped
+-- What the entries of a group make of a triple, each from the triple that the one before it left. The first that is
+-- refused refuses them all. No entries leave the triple as it is, and their list of words is empty.
+abbrev pub step_each : TyTree → TyTree → (Side → CompTree → WordTree → Option Translated) → TripleTree
+    → List (Side × WordTree) → Option AllStepped
 step_each left right carried t [] = Some (Ok (t, []))
-step_each left right carried t (e ∷ es) = option_and_then (after_first (λ next. step_each left right carried next es)) (step left right carried t e)
+step_each left right carried t (e ∷ es) =
+    option_and_then (after_first (λ next. step_each left right carried next es)) (step left right carried t e)
 
 -- a single entry as a change: its one carried word; where it is refused its number in the change is 0
 abbrev pub alone : Stepped → AllStepped
@@ -93,7 +102,8 @@ alone (Ok s) = Ok (s.0, s.1 ∷ [])
 alone (Err why) = Err (0, why)
 
 -- what a change makes of a triple, for the lens of these two types and this translation
-abbrev pub step_all : TyTree → TyTree → (Side → CompTree → WordTree → Option Translated) → TripleTree → ChangeTree → Option AllStepped
+abbrev pub step_all : TyTree → TyTree → (Side → CompTree → WordTree → Option Translated) → TripleTree → ChangeTree
+    → Option AllStepped
 step_all left right carried t (one e) = option_map alone (step left right carried t e)
 step_all left right carried t (group es) = step_each left right carried t es
 
@@ -105,12 +115,15 @@ from_first others (Ok s) = option_map (λ ts. s.0 ∷ ts) (others s.0)
 from_first others (Err why) = Some []
 
 -- the triples inside a group: the one after each entry, up to the first entry that is refused
-abbrev pub inner_triples : TyTree → TyTree → (Side → CompTree → WordTree → Option Translated) → TripleTree → List (Side × WordTree) → Option (List TripleTree)
+abbrev pub inner_triples : TyTree → TyTree → (Side → CompTree → WordTree → Option Translated) → TripleTree
+    → List (Side × WordTree) → Option (List TripleTree)
 inner_triples left right carried t [] = Some []
-inner_triples left right carried t (e ∷ es) = option_and_then (from_first (λ next. inner_triples left right carried next es)) (step left right carried t e)
+inner_triples left right carried t (e ∷ es) =
+    option_and_then (from_first (λ next. inner_triples left right carried next es)) (step left right carried t e)
 
 -- each entry of a group applies to the document of its side when its turn comes
-abbrev pub ApplyInTurn : TyTree → TyTree → (Side → CompTree → WordTree → Option Translated) → TripleTree → List (Side × WordTree) → Type 0
+abbrev pub ApplyInTurn : TyTree → TyTree → (Side → CompTree → WordTree → Option Translated) → TripleTree
+    → List (Side × WordTree) → Type 0
 ApplyInTurn left right carried t [] = Unit {0}
 ApplyInTurn left right carried t (e ∷ es) =
     (x : DocTree) × (act (near e.0 left right) e.1 (document_on e.0 t) ≡ Ok x)

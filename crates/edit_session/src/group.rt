@@ -14,8 +14,8 @@ use lens_core::EditLens;
 use std::alloc::Global;
 use texts::Twin;
 
-// The triple after these entries, each from the triple that the one before it left, and the carried words. They start from a
-// copy of the triple, which shares its contents.
+// The triple after these entries, each from the triple that the one before it left, and the carried words. They start
+// from a copy of the triple, which shares its contents.
 pub(crate) fn next_all<L: EditLens>(
     alloc: Global,
     lens: &L,

@@ -103,11 +103,14 @@ impl<L: EditLens> Session<L> {
     /// the carried word applies to the other document.
     pub fn step(&mut self, entry: &Entry) -> Result<Word, StepFault>
         ensures steps { MatchResult result
-            (λ word. step (L.left_type self.old.lens) (L.right_type self.old.lens) (L.carried self.old.lens) (triple_tree self.old.triple) (entry_tree entry.now)
+            (λ word. step (L.left_type self.old.lens) (L.right_type self.old.lens) (L.carried self.old.lens)
+            (triple_tree self.old.triple) (entry_tree entry.now)
             ≡ Some (Ok (triple_tree self.new.triple, word_tree word)))
-            (IsStepFault (step (L.left_type self.old.lens) (L.right_type self.old.lens) (L.carried self.old.lens) (triple_tree self.old.triple) (entry_tree entry.now))) }
+            (IsStepFault (step (L.left_type self.old.lens) (L.right_type self.old.lens) (L.carried self.old.lens)
+            (triple_tree self.old.triple) (entry_tree entry.now))) }
         ensures applies { IfErr result (λ fault. (x : DocTree)
-            → act (near entry.now.side (L.left_type self.old.lens) (L.right_type self.old.lens)) (word_tree entry.now.word) (document_on entry.now.side (triple_tree self.old.triple)) ≡ Ok x
+            → act (near entry.now.side (L.left_type self.old.lens) (L.right_type self.old.lens))
+            (word_tree entry.now.word) (document_on entry.now.side (triple_tree self.old.triple)) ≡ Ok x
             → fault ≡ NoMemory) }
         ensures consistent { IsInStep (L.holds self.new.lens) (triple_tree self.new.triple) }
         ensures lens { self.new.lens ≡ self.old.lens }
@@ -118,20 +121,20 @@ impl<L: EditLens> Session<L> {
         Ok(word)
     }
 
-    /// Applies a change: its entries one after another, all of them or none. Returns the carried words, one for each entry and in
-    /// their order.
+    /// Applies a change: its entries one after another, all of them or none. Returns the carried words, one for each
+    /// entry and in their order.
     ///
-    /// Each entry starts from the three that the entry before it left, and is applied and carried as by [`Session::step`]. A
-    /// group of no entries leaves the three as they are, and its list of words is empty.
+    /// Each entry starts from the three that the entry before it left, and is applied and carried as by
+    /// [`Session::step`]. A group of no entries leaves the three as they are, and its list of words is empty.
     ///
-    /// - `NoApply`: if and only if the word of an entry does not apply to the document of its side when its turn comes; it
-    ///   has the number of the first such entry in the group, from 0, the number of the first primitive of its word that
-    ///   fails, and the cause. For a single entry the number of the entry is 0.
+    /// - `NoApply`: if and only if the word of an entry does not apply to the document of its side when its turn comes;
+    ///   it has the number of the first such entry in the group, from 0, the number of the first primitive of its word
+    ///   that fails, and the cause. For a single entry the number of the entry is 0.
     /// - `NoMemory`: only if memory ran out.
     ///
     /// After an error the session is as it was: left document, complement and right document are those from before the
-    /// change, also where entries of the group come before the one that is refused. A group whose entries apply in turn is
-    /// refused only if memory runs out. A copy of the three, which shares their contents, is kept until the end.
+    /// change, also where entries of the group come before the one that is refused. A group whose entries apply in turn
+    /// is refused only if memory runs out. A copy of the three, which shares their contents, is kept until the end.
     pub fn step_all(&mut self, change: &Change) -> Result<Words, GroupFault>
         ensures steps { MatchResult result
             (λ words. step_all (L.left_type self.old.lens) (L.right_type self.old.lens)
@@ -153,8 +156,8 @@ impl<L: EditLens> Session<L> {
         Ok(words)
     }
 
-    /// Puts a left document, a complement and a right document, which the lens relates to each other, in the place of the
-    /// session's own.
+    /// Puts a left document, a complement and a right document, which the lens relates to each other, in the place of
+    /// the session's own.
     ///
     /// The lens stays. It does not allocate.
     pub fn replace(&mut self, triple: Triple)
@@ -224,14 +227,16 @@ fn act_on<L: EditLens>(
 ) -> Result<Doc, ActFault>
     requires consistent { IsInStep (L.holds lens.now) (triple_tree triple.now) }
     ensures { MatchResult result
-        (λ d. act (near side (L.left_type lens.now) (L.right_type lens.now)) (word_tree word.now) (document_on side (triple_tree triple.now)) ≡ Ok (doc_tree d))
-        (IsRefusal (act (near side (L.left_type lens.now) (L.right_type lens.now)) (word_tree word.now) (document_on side (triple_tree triple.now)))) }
+        (λ d. act (near side (L.left_type lens.now) (L.right_type lens.now)) (word_tree word.now)
+        (document_on side (triple_tree triple.now)) ≡ Ok (doc_tree d))
+        (IsRefusal (act (near side (L.left_type lens.now) (L.right_type lens.now)) (word_tree word.now)
+        (document_on side (triple_tree triple.now)))) }
 {
     act(alloc, lens.ty(side), word, triple.document(side))
 }
 
-// The triple after an entry, and the carried word. The triple is consistent, so nothing that comes after the action on the
-// document of the entry's side is refused.
+// The triple after an entry, and the carried word. The triple is consistent, so nothing that comes after the action on
+// the document of the entry's side is refused.
 pub(crate) fn next<L: EditLens>(
     alloc: Global,
     lens: &L,
@@ -240,9 +245,11 @@ pub(crate) fn next<L: EditLens>(
 ) -> Result<(Triple, Word), StepFault>
     requires consistent { IsInStep (L.holds lens.now) (triple_tree triple.now) }
     ensures steps { MatchResult result
-        (λ r. step (L.left_type lens.now) (L.right_type lens.now) (L.carried lens.now) (triple_tree triple.now) (entry_tree entry.now)
+        (λ r. step (L.left_type lens.now) (L.right_type lens.now) (L.carried lens.now) (triple_tree triple.now)
+        (entry_tree entry.now)
         ≡ Some (Ok (triple_tree r.0, word_tree r.1)))
-        (IsStepFault (step (L.left_type lens.now) (L.right_type lens.now) (L.carried lens.now) (triple_tree triple.now) (entry_tree entry.now))) }
+        (IsStepFault (step (L.left_type lens.now) (L.right_type lens.now) (L.carried lens.now) (triple_tree triple.now)
+        (entry_tree entry.now))) }
     ensures consistent { IfOk result (λ r. IsInStep (L.holds lens.now) (triple_tree r.0)) }
 {
     let side = entry.side;

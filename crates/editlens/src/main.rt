@@ -1,5 +1,5 @@
-//! The program: the top call over standard input and standard output. It ends with the status as its exit code, and writes
-//! nothing to standard error.
+//! The program: the top call over standard input and standard output. It ends with the status as its exit code, and
+//! writes nothing to standard error.
 #![tactic(auto)]
 
 use editlens_main::run_program;

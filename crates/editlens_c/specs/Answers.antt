@@ -1,5 +1,7 @@
--- What an answer says: a status with its numbers, and the length of the text. Read it from the end: `IsWritten`, `part_of`, `IsAnswer`.
-use Rattle.std.specs.Prelude.{◌≡◌, ◌<◌, ◌==◌, ℕ, List, ◌++◌, length, drop, Bool, true, false, Option, None, Some, if◌then◌else◌}
+-- What an answer says: a status with its numbers, and the length of the text. Read it from the end: `IsWritten`,
+-- `part_of`, `IsAnswer`.
+use Rattle.std.specs.Prelude.{◌≡◌, ◌<◌, ◌==◌, ℕ, List, ◌++◌, length, drop, Bool, true, false, Option, None, Some}
+use Rattle.std.specs.Prelude.{if◌then◌else◌}
 use Rattle.kept_sessions.specs.Kept.{text_of}
 use Rattle.kept_sessions.specs.declared.kept.Kept.{Kept}
 use Rattle.kept_sessions.specs.declared.kept.Kept.TheVariants as kept
@@ -54,7 +56,8 @@ part_of n = if n == code.STATE then Some State
     else if n == code.RIGHT_TYPE then Some RightType
     else None
 
--- a text has room: it is at the head of the buffer, and the rest is as it was; or the buffer is too small, and as it was
+-- a text has room: it is at the head of the buffer, and the rest is as it was; or the buffer is too small, and as it
+-- was
 abbrev pub IsWritten : List ℕ → List ℕ → Bool → List ℕ → Type 0
 IsWritten text old true new = new ≡ text ++ drop (length text) old
 IsWritten text old false new = (length old < length text) × (new ≡ old)

@@ -1,4 +1,5 @@
--- Why something is refused, as the numbers of codes.rt. Read it from the end: `reason_of`, `closed_reason`, then the causes.
+-- Why something is refused, as the numbers of codes.rt. Read it from the end: `reason_of`, `closed_reason`, then the
+-- causes.
 use Rattle.std.specs.Prelude.{ℕ}
 use Rattle.accepted_programs.specs.declared.program.Refused.{Refused}
 use Rattle.accepted_programs.specs.declared.program.Refused.TheVariants as refused
@@ -99,7 +100,8 @@ state_cause state.NoMemory = code.NO_CAUSE
 -- why there is no session
 abbrev pub closed_reason : Kept → Reason
 closed_reason (kept.Open r) = no_place code.NO_CAUSE
-closed_reason (kept.Refused refused line) = record { cause = program_cause refused; part = 0; at = program_offset refused }
+closed_reason (kept.Refused refused line) =
+    record { cause = program_cause refused; part = 0; at = program_offset refused }
 closed_reason (kept.StateRefused fault) = no_place (state_cause fault)
 closed_reason kept.NoMemory = no_place code.NO_CAUSE
 

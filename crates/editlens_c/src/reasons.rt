@@ -1,6 +1,7 @@
 //! Why something is refused, as numbers.
 ghost use Rattle.std.specs.Prelude.{◌≡◌};
-ghost use Rattle.editlens_c.specs.Reasons.{no_place, item_cause, line_cause, syntax_cause, typing_cause, program_cause, program_offset, state_cause, closed_reason, reason_of};
+ghost use Rattle.editlens_c.specs.Reasons.{no_place, item_cause, line_cause, syntax_cause, typing_cause, program_cause};
+ghost use Rattle.editlens_c.specs.Reasons.{program_offset, state_cause, closed_reason, reason_of};
 
 use crate::codes::*;
 use accepted_programs::Refused;

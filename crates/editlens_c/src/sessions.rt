@@ -3,7 +3,8 @@ ghost use Rattle.std.specs.Prelude.{◌≡◌};
 ghost use types.Logic.{sem};
 ghost use Rattle.kept_sessions.specs.Kept.{IsOpened, IsResumed};
 ghost use Rattle.kept_sessions.specs.declared.kept.Kept.{Kept as kept_type};
-ghost use Rattle.editlens_c.specs.Keeping.{keeps, keeps_opened, keeps_resumed, keeps_told, keeps_stepped, keeps_shown, keeps_written, room, room_size, Tells, StepsTo, ShowsTo, Writes};
+ghost use Rattle.editlens_c.specs.Keeping.{keeps, keeps_opened, keeps_resumed, keeps_told, keeps_stepped, keeps_shown};
+ghost use Rattle.editlens_c.specs.Keeping.{keeps_written, room, room_size, Tells, StepsTo, ShowsTo, Writes};
 
 use crate::answer::{Answer, answer_to, is_written, part_of, plain_answer, standing_of};
 use crate::codes::{DONE, SMALL_BUFFER, UNKNOWN_PART};
@@ -38,7 +39,8 @@ fn opened(alloc: Global, program: &[u8]) -> Kept
 
 /// Puts the session that goes on from a state, or why there is none, into memory that has room for it.
 ///
-/// The state is the JSON of a left document, of a complement and of a right document, as `editlens_session_show` shows them.
+/// The state is the JSON of a left document, of a complement and of a right document, as `editlens_session_show` shows
+/// them.
 #[unsafe(no_mangle)]
 pub unsafe extern "C" fn editlens_session_resume(
     alloc: Global,
@@ -116,8 +118,8 @@ fn shown(alloc: Global, kept: &mut Kept, part: u32) -> Answer
     }
 }
 
-/// Writes the text that answers the last call to the head of `out`: an answer line, what was shown, or the line of a program
-/// that is refused. Where `out` is too small it stays as it is; `len` says how many bytes are wanted.
+/// Writes the text that answers the last call to the head of `out`: an answer line, what was shown, or the line of a
+/// program that is refused. Where `out` is too small it stays as it is; `len` says how many bytes are wanted.
 #[unsafe(no_mangle)]
 pub unsafe extern "C" fn editlens_session_text(at: *mut u8, out: &mut [u8]) -> Answer
     ghost kept: { kept_type }

@@ -1,9 +1,10 @@
-//! Which lenses keep the equations. Each law is the contract of a function that does nothing: a caller that proves something
-//! about two runs calls it, or cites the lemma that it names.
+//! Which lenses keep the equations. Each law is the contract of a function that does nothing: a caller that proves
+//! something about two runs calls it, or cites the lemma that it names.
 
 ghost use Rattle.std.specs.Prelude.{IsTrue, List, ℕ};
 ghost use Rattle.doc_values.specs.Types.{TyTree, FieldTrees, are_distinct};
-ghost use Rattle.lens_forms.specs.Forms.{FormTree, form_id, form_bij, form_disc, form_then, form_rec, form_alt, form_each, form_keyed, form_ordered, form_part, form_inv, RowTrees, ArmTrees};
+ghost use Rattle.lens_forms.specs.Forms.{FormTree, form_id, form_bij, form_disc, form_then, form_rec, form_alt};
+ghost use Rattle.lens_forms.specs.Forms.{form_each, form_keyed, form_ordered, form_part, form_inv, RowTrees, ArmTrees};
 ghost use Rattle.lens_forms.specs.Typing.{is_typed, left_arms};
 ghost use Rattle.equation_laws.specs.Alike.{KeepsEquations, RowsKeepEquations, ArmsKeepEquations};
 
@@ -46,7 +47,8 @@ pub fn record_keeps_equations()
 /// Alternatives with distinct left tags keep the equations if the lenses of all their arms do.
 #[tactic(auto, using(crate::proofs::KeptByAlternatives::alternatives_keep))]
 pub fn alternatives_keep_equations()
-    ensures { (arms : ArmTrees) → ArmsKeepEquations arms → IsTrue (are_distinct (left_arms arms)) → KeepsEquations (form_alt arms) }
+    ensures { (arms : ArmTrees) → ArmsKeepEquations arms → IsTrue (are_distinct (left_arms arms))
+        → KeepsEquations (form_alt arms) }
 {}
 
 /// The map of a lens over a list, a keyed map or an ordered tree keeps the equations if the lens does.
@@ -63,8 +65,8 @@ pub fn partition_keeps_equations()
     ensures { (fields : FieldTrees) → KeepsEquations (form_part fields) }
 {}
 
-/// Every typed form keeps the equations: from each side and at each complement, two words with the same normal form are both
-/// translated, to words with the same normal form and with the same next complement, or neither is translated.
+/// Every typed form keeps the equations: from each side and at each complement, two words with the same normal form are
+/// both translated, to words with the same normal form and with the same next complement, or neither is translated.
 #[tactic(auto, using(crate::proofs::EveryForm::typed_keeps))]
 pub fn equal_words_translate_alike()
     ensures { (form : FormTree) → IsTrue (is_typed form) → KeepsEquations form }

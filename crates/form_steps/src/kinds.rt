@@ -28,8 +28,10 @@ pub enum Kind {
 #[tactic(auto, using(crate::proofs::KindRows::kind_rules))]
 pub fn held_as(kind: Kind, comp: &Comp) -> Option<(&Shape, &Comps)>
     ensures { MatchOption result
-        ((l : FormTree) (side : Side) (p : PrimitiveTree) → translate_one (mapped kind l) side (comp_tree comp.now) p ≡ None)
-        (λ r. (l : FormTree) (side : Side) (p : PrimitiveTree) → translate_one (mapped kind l) side (comp_tree comp.now) p
+        ((l : FormTree) (side : Side) (p : PrimitiveTree) → translate_one (mapped kind l) side (comp_tree comp.now) p
+        ≡ None)
+        (λ r. (l : FormTree) (side : Side) (p : PrimitiveTree)
+        → translate_one (mapped kind l) side (comp_tree comp.now) p
         ≡ translate_held (translate l side) (missing l) r.0.now (comps_tree r.1.now) p) }
 {
     let Comp::Hold(shape, comps) = comp else {

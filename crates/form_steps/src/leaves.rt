@@ -28,7 +28,8 @@ pub fn carry_leaf(
 ) -> Result<Carried, CarryFault>
     requires { IsTrue (is_leaf (form_tree form.now)) }
     ensures { MatchResult result
-        (λ r. translate_one (form_tree form.now) side (comp_tree comp.now) (primitive_tree prim.now) ≡ Some (carried_tree r))
+        (λ r. translate_one (form_tree form.now) side (comp_tree comp.now) (primitive_tree prim.now)
+        ≡ Some (carried_tree r))
         (IsCarryFault (translate_one (form_tree form.now) side (comp_tree comp.now) (primitive_tree prim.now))) }
 {
     match comp {

@@ -15,7 +15,8 @@ use texts::Side;
 ///
 /// Fails only if memory runs out; both are then dropped.
 pub fn onward(alloc: Global, side: Side, near: Carried, far: Carried) -> Result<Carried, AllocError>
-    ensures { IfOk result (λ r. carried_tree r ≡ (word_tree far.word, pair_on side (comp_tree near.comp) (comp_tree far.comp))) }
+    ensures { IfOk result
+        (λ r. carried_tree r ≡ (word_tree far.word, pair_on side (comp_tree near.comp) (comp_tree far.comp))) }
 {
     let comp = match side {
         Side::Left => then_join(alloc, near.comp, far.comp)?,

@@ -31,8 +31,10 @@ pub fn carry_part(
 ) -> Result<Carried, CarryFault>
     requires { IsReady (form_part (fields_tree tags.now)) }
     ensures { MatchResult result
-        (λ r. translate_one (form_part (fields_tree tags.now)) side (comp_tree comp.now) (primitive_tree prim.now) ≡ Some (carried_tree r))
-        (IsCarryFault (translate_one (form_part (fields_tree tags.now)) side (comp_tree comp.now) (primitive_tree prim.now))) }
+        (λ r. translate_one (form_part (fields_tree tags.now)) side (comp_tree comp.now) (primitive_tree prim.now)
+        ≡ Some (carried_tree r))
+        (IsCarryFault (translate_one (form_part (fields_tree tags.now)) side (comp_tree comp.now)
+        (primitive_tree prim.now))) }
 {
     let Comp::Tags(numbers) = comp else {
         return Err(CarryFault::Unfit);

@@ -1,5 +1,5 @@
-//! The program `editlens` once more, for its stored run of the command `gen`. It is the same call, so it ends as that does
-//! and writes the same.
+//! The program `editlens` once more, for its stored run of the command `gen`. It is the same call, so it ends as that
+//! does and writes the same.
 #![tactic(auto)]
 
 use editlens_main::run_program;

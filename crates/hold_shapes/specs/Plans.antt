@@ -1,13 +1,17 @@
--- The plan of a shape edit: the new shape and where each of its places comes from, or the cause for which there is none. docs/EDITS.md states the rules in words.
--- Read it from the end: `plan`, then `plan_tree`, `plan_keyed` and `plan_list`.
-use Rattle.std.specs.Prelude.{ℕ, ◌+◌, ◌-◌, Bool, true, false, not, ◌&&◌, ◌||◌, if◌then◌else◌, List, [], ◌∷◌, ◌++◌, length, map, take, drop, replicate, slice_index, slice_range, Option, Some, None, Result, Ok, Err, nat_eq, nat_lt, nat_le, bytes_eq}
+-- The plan of a shape edit: the new shape and where each of its places comes from, or the cause for which there is
+-- none. docs/EDITS.md states the rules in words. Read it from the end: `plan`, then `plan_tree`, `plan_keyed` and
+-- `plan_list`.
+use Rattle.std.specs.Prelude.{ℕ, ◌+◌, ◌-◌, Bool, true, false, not, ◌&&◌, ◌||◌, if◌then◌else◌, List, [], ◌∷◌, ◌++◌}
+use Rattle.std.specs.Prelude.{length, map, take, drop, replicate, slice_index, slice_range, Option, Some, None, Result}
+use Rattle.std.specs.Prelude.{Ok, Err, nat_eq, nat_lt, nat_le, bytes_eq}
 use Rattle.std.specs.List.{insert, remove, range_with_len}
 use Rattle.hold_shapes.specs.declared.shape.Shape.{Shape}
 use Rattle.hold_shapes.specs.declared.shape.Shape.TheVariants.{List as ListOf, Keyed as KeyedOf, Tree as TreeOf}
 use Rattle.hold_shapes.specs.declared.origins.Origin.{Origin}
 use Rattle.hold_shapes.specs.declared.origins.Origin.TheVariants.{Old, Fresh}
 use Rattle.hold_shapes.specs.declared.edit.ShapeEdit.{ShapeEdit}
-use Rattle.hold_shapes.specs.declared.edit.ShapeEdit.TheVariants.{Ins, Del, MoveItem, Reorder, PutKey, DropKey, RenameKey, Graft, Prune, Shift, Hang}
+use Rattle.hold_shapes.specs.declared.edit.ShapeEdit.TheVariants.{Ins, Del, MoveItem, Reorder, PutKey, DropKey}
+use Rattle.hold_shapes.specs.declared.edit.ShapeEdit.TheVariants.{RenameKey, Graft, Prune, Shift, Hang}
 use Rattle.hold_shapes.specs.Causes.{PlanCause, Kind, Place, Range, Present, Length, Deep}
 use Rattle.texts.specs.Keys.{key_place, rank}
 use Rattle.hold_shapes.specs.Trees.{node, children, child, end_of}
@@ -108,13 +112,17 @@ move_part a e t xs = insert_part t (slice_range xs a e) (remove_part a e xs)
 abbrev pub graft : List ℕ → ℕ → Planned
 graft ds p =
     if nat_lt (slice_index ds p) 15
-    then Ok (TreeOf (insert ds (end_of ds p) (slice_index ds p + 1)), insert (old_places (length ds)) (end_of ds p) Fresh)
+    then Ok (
+      TreeOf (insert ds (end_of ds p) (slice_index ds p + 1)),
+      insert (old_places (length ds)) (end_of ds p) Fresh,
+    )
     else Err Deep
 
 -- the tree without the subtree of the child at c
 abbrev pub prune_child : List ℕ → Option ℕ → Planned
 prune_child ds None = Err Range
-prune_child ds (Some c) = Ok (TreeOf (remove_part c (end_of ds c) ds), remove_part c (end_of ds c) (old_places (length ds)))
+prune_child ds (Some c) =
+    Ok (TreeOf (remove_part c (end_of ds c) ds), remove_part c (end_of ds c) (old_places (length ds)))
 
 -- the tree without the last child of the node at p
 abbrev pub prune : List ℕ → ℕ → Planned
@@ -156,7 +164,8 @@ all_at_most n (d ∷ ds) = nat_le d n && all_at_most n ds
 abbrev pub allowed_depths : ℕ → ℕ → List ℕ → Result (List ℕ) PlanCause
 allowed_depths a r part = if all_at_most 15 (moved_depths a r part) then Ok (moved_depths a r part) else Err Deep
 
--- rest is the tree without the subtree from a to e; the last argument is the depths that this subtree has below the node r of the rest
+-- rest is the tree without the subtree from a to e; the last argument is the depths that this subtree has below the
+-- node r of the rest
 abbrev pub hang_depths : List ℕ → ℕ → ℕ → List ℕ → ℕ → Result (List ℕ) PlanCause → Planned
 hang_depths ds a e rest r (Err cause) = Err cause
 hang_depths ds a e rest r (Ok part) =

@@ -1,4 +1,5 @@
--- Origins that are kept as runs. Read it from the end: `all_origins` are the origins of runs, `run_origins` those of one run.
+-- Origins that are kept as runs. Read it from the end: `all_origins` are the origins of runs, `run_origins` those of
+-- one run.
 use Rattle.std.specs.Prelude.{ℕ, ◌+◌, ◌≤◌, ◌^◌, List, [], ◌∷◌, ◌++◌, map, replicate}
 use Rattle.std.specs.List.{range_with_len}
 use Rattle.hold_shapes.specs.declared.origins.Origin.{Origin}

@@ -1,5 +1,6 @@
 -- Valid depth lists, and the nodes of their trees. From the end: `node`, `children`, `end_of`, `is_valid`.
-use Rattle.std.specs.Prelude.{ℕ, suc, ◌+◌, ◌-◌, Bool, true, false, ◌&&◌, if◌then◌else◌, List, [], ◌∷◌, drop, slice_index, Option, Some, None, nat_eq, nat_lt, nat_le}
+use Rattle.std.specs.Prelude.{ℕ, suc, ◌+◌, ◌-◌, Bool, true, false, ◌&&◌, if◌then◌else◌, List, [], ◌∷◌, drop}
+use Rattle.std.specs.Prelude.{slice_index, Option, Some, None, nat_eq, nat_lt, nat_le}
 
 -- each number is from 1 to the one before it plus 1, and at most 15
 abbrev pub goes_on : ℕ → List ℕ → Bool

@@ -33,7 +33,8 @@ pub(crate) fn is_rising(names: &SharedList<Name>) -> bool
 
 /// The place of a name among names in byte order, from 0, or None if it is not among them.
 ///
-/// Does not allocate. It looks at the first bytes of some log n names, where n is how many there are, and compares a few.
+/// Does not allocate. It looks at the first bytes of some log n names, where n is how many there are, and compares a
+/// few.
 #[tactic(auto, using(texts::proofs::KeyOrder::search_rules))]
 pub(crate) fn place(names: &SharedList<Name>, name: &Name) -> Option<u64>
     requires { is_rising names.now ≡ true }
@@ -76,7 +77,8 @@ impl<'a> Test<Name> for BeforeName<'a> {
 
 /// How many of these names in byte order are before a name: the place that a new one takes.
 ///
-/// Does not allocate. It looks at the first bytes of some log n names, where n is how many there are, and compares a few.
+/// Does not allocate. It looks at the first bytes of some log n names, where n is how many there are, and compares a
+/// few.
 pub(crate) fn rank(names: &SharedList<Name>, name: &Name) -> usize
     requires { is_rising names.now ≡ true }
     ensures value { result ≡ rank name.now names.now }

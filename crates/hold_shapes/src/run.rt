@@ -1,5 +1,6 @@
 //! Runs: origins of places that follow one another.
-ghost use Rattle.std.specs.Prelude.{◌≡◌, ◌<◌, ◌≤◌, ◌+◌, ◌-◌, ◌^◌, ◌++◌, ◌∷◌, [], Some, length, map, replicate, slice_get, IfSome};
+ghost use Rattle.std.specs.Prelude.{◌≡◌, ◌<◌, ◌≤◌, ◌+◌, ◌-◌, ◌^◌, ◌++◌, ◌∷◌, [], Some, length, map, replicate};
+ghost use Rattle.std.specs.Prelude.{slice_get, IfSome};
 ghost use Rattle.std.specs.List.{range_with_len};
 ghost use Rattle.hold_shapes.specs.declared.origins.Origin.TheVariants.{Old, Fresh};
 

@@ -1,10 +1,12 @@
 //! Plans of trees. A subtree is a block of the depths and of the origins, and moves as one.
-ghost use Rattle.std.specs.Prelude.{◌≡◌, ℕ, List, Ok, IfOk, MatchResult, MatchOption, ◌≤◌, ◌<◌, length, slice_index, slice_range, ◌+◌, ◌-◌, nat_le, true, false};
+ghost use Rattle.std.specs.Prelude.{◌≡◌, ℕ, List, Ok, IfOk, MatchResult, MatchOption, ◌≤◌, ◌<◌, length, slice_index};
+ghost use Rattle.std.specs.Prelude.{slice_range, ◌+◌, ◌-◌, nat_le, true, false};
 ghost use Rattle.hold_shapes.specs.declared.shape.Shape.TheVariants.{Tree as TreeOf};
 ghost use Rattle.hold_shapes.specs.declared.edit.ShapeEdit.TheVariants.{Graft, Prune, Shift, Hang};
 ghost use Rattle.hold_shapes.specs.Trees.{child, end_of, is_valid};
 ghost use Rattle.hold_shapes.specs.Causes.{IsRefusal};
-ghost use Rattle.hold_shapes.specs.Plans.{plan_tree, old_places, remove_part, move_part, move_subtree, place_for_child, allowed_depths, hang_below};
+ghost use Rattle.hold_shapes.specs.Plans.{plan_tree, old_places, remove_part, move_part, move_subtree, place_for_child};
+ghost use Rattle.hold_shapes.specs.Plans.{allowed_depths, hang_below};
 
 use crate::origins::Origins;
 use crate::parts::{insert_part, move_part, remove_part, with_item};

@@ -79,8 +79,8 @@ pub fn children(depths: &SharedList<u64>, at: usize) -> usize
     count
 }
 
-/// The place of a child of a node, which is one of the places. Children are numbered from 0. Returns None if and only if
-/// the node has no child of this number.
+/// The place of a child of a node, which is one of the places. Children are numbered from 0. Returns None if and only
+/// if the node has no child of this number.
 pub fn child(depths: &SharedList<u64>, at: usize, number: u64) -> Option<usize>
     requires { at < length depths.now }
     ensures value { result ≡ child depths.now at number }

@@ -1,18 +1,23 @@
--- The image of a pattern through a lens: the pattern of all documents of the other side that are consistent, with the given complement,
--- with some document in the given pattern. `image`, at the end, has a line for each form. The complement fits the form, and the pattern is
--- of the type of its side.
-use Rattle.std.specs.Prelude.{ℕ, Bool, false, nat_eq, bytes_eq, if◌then◌else◌, List, [], ◌∷◌, Option, None, Some, option_map, option_and_then}
+-- The image of a pattern through a lens: the pattern of all documents of the other side that are consistent, with the
+-- given complement, with some document in the given pattern. `image`, at the end, has a line for each form. The
+-- complement fits the form, and the pattern is of the type of its side.
+use Rattle.std.specs.Prelude.{ℕ, Bool, false, nat_eq, bytes_eq, if◌then◌else◌, List, [], ◌∷◌, Option, None, Some}
+use Rattle.std.specs.Prelude.{option_map, option_and_then}
 use Rattle.texts.specs.declared.side.Side.{Side}
 use Rattle.texts.specs.declared.side.Side.TheVariants.{Left, Right}
 use Rattle.texts.specs.Sides.{other}
 use Rattle.hold_shapes.specs.declared.shape.Shape.{Shape}
 use Rattle.hold_shapes.specs.declared.shape.Shape.TheVariants.{List as ListOf, Keyed as KeyedOf, Tree as TreeOf}
 use Rattle.doc_values.specs.Types.{FieldTrees, more_fields, are_same_names}
-use Rattle.lens_forms.specs.Forms.{FormTree, form_id, form_bij, form_disc, form_then, form_rec, form_alt, form_each, form_keyed, form_ordered, form_part, form_inv, RowTrees, no_rows, both, only_left, only_right, ArmTrees, no_arms, more_arms, sorted, lists_of}
+use Rattle.lens_forms.specs.Forms.{FormTree, form_id, form_bij, form_disc, form_then, form_rec, form_alt, form_each}
+use Rattle.lens_forms.specs.Forms.{form_keyed, form_ordered, form_part, form_inv, RowTrees, no_rows, both, only_left}
+use Rattle.lens_forms.specs.Forms.{only_right, ArmTrees, no_arms, more_arms, sorted, lists_of}
 use Rattle.lens_core.specs.Sides.{near, far, fields_on}
-use Rattle.lens_core.specs.Complements.{CompTree, then_comp, rec_comp, alt_comp, hold_comp, tags_comp, CompTrees, no_comps, more_comps, comp_count}
+use Rattle.lens_core.specs.Complements.{CompTree, then_comp, rec_comp, alt_comp, hold_comp, tags_comp, CompTrees}
+use Rattle.lens_core.specs.Complements.{no_comps, more_comps, comp_count}
 use Rattle.lens_core.specs.Translation.{partner}
-use Rattle.image_laws.specs.Patterns.{PatternTree, hole, pick_pattern, rec_pattern, alt_pattern, hold_pattern, PatternTrees, no_patterns, more_patterns, in_order}
+use Rattle.image_laws.specs.Patterns.{PatternTree, hole, pick_pattern, rec_pattern, alt_pattern, hold_pattern}
+use Rattle.image_laws.specs.Patterns.{PatternTrees, no_patterns, more_patterns, in_order}
 use Rattle.image_laws.specs.PartImage.{holes, parted_image, joined_image}
 
 -- ---- bijection
@@ -26,7 +31,8 @@ partner_pattern s ps _ = None
 -- ---- composition
 
 -- through both lenses, first the one on the side of the pattern
-abbrev pub through_both : Side → (PatternTree → Option PatternTree) → (PatternTree → Option PatternTree) → PatternTree → Option PatternTree
+abbrev pub through_both : Side → (PatternTree → Option PatternTree) → (PatternTree → Option PatternTree) → PatternTree
+    → Option PatternTree
 through_both Left first second p = option_and_then second (first p)
 through_both Right first second p = option_and_then first (second p)
 
@@ -77,23 +83,25 @@ patterns_in_shape s n _ = None
 -- the inner image at each place
 abbrev pub image_each : (CompTree → PatternTree → Option PatternTree) → CompTrees → PatternTrees → Option PatternTrees
 image_each inner no_comps no_patterns = Some no_patterns
-image_each inner (more_comps c cs) (more_patterns p ps) = option_and_then (λ q. option_map (more_patterns q) (image_each inner cs ps)) (inner c p)
+image_each inner (more_comps c cs) (more_patterns p ps) =
+    option_and_then (λ q. option_map (more_patterns q) (image_each inner cs ps)) (inner c p)
 image_each inner _ _ = None
 
 -- a container of the complement's shape, with the inner image at each place
 abbrev pub image_held : (CompTree → PatternTree → Option PatternTree) → CompTree → PatternTree → Option PatternTree
-image_held inner (hold_comp s cs) p = option_map (hold_pattern s) (option_and_then (image_each inner cs) (patterns_in_shape s (comp_count cs) p))
+image_held inner (hold_comp s cs) p =
+    option_map (hold_pattern s) (option_and_then (image_each inner cs) (patterns_in_shape s (comp_count cs) p))
 image_held inner _ p = None
 
 -- ---- the image
 
 -- Of the identity it is the pattern; of a bijection a hole for a hole, else the partner; of a disconnection a hole;
 -- of a composition the image through both lenses;
--- of a record the record whose far field of each paired row has the image of the near field's pattern, and whose one-sided fields have holes;
--- of alternatives the far tag of the complement's arm, with the arm's image of the content's pattern;
--- of a container the container of the complement's shape, with the inner image at each place;
--- of a partition the lists by tags, or the items in the order of the complement's tags, with the same content patterns;
--- of an inverse the image from the other side.
+-- of a record the record whose far field of each paired row has the image of the near field's pattern, and whose
+-- one-sided fields have holes; of alternatives the far tag of the complement's arm, with the arm's image of the
+-- content's pattern; of a container the container of the complement's shape, with the inner image at each place; of a
+-- partition the lists by tags, or the items in the order of the complement's tags, with the same content patterns; of
+-- an inverse the image from the other side.
 abbrev mutual
   pub image : FormTree → Side → CompTree → PatternTree → Option PatternTree
   image (form_id t) s c p = Some p
@@ -102,7 +110,8 @@ abbrev mutual
   image (form_then l k) s (then_comp c d) p = through_both s (image l s c) (image k s d) p
   image (form_then l k) s _ p = None
   image (form_rec rows) s (rec_comp cs) p =
-      option_map (λ qs. rec_pattern (in_order (fields_on (other s) rows) (named qs))) (image_rows rows s cs (patterns_by_name (fields_on s rows) p))
+      option_map (λ qs. rec_pattern (in_order (fields_on (other s) rows) (named qs)))
+      (image_rows rows s cs (patterns_by_name (fields_on s rows) p))
   image (form_rec rows) s _ p = None
   image (form_alt arms) s (alt_comp t c) p = image_arm arms s t c p
   image (form_alt arms) s _ p = None
@@ -119,7 +128,8 @@ abbrev mutual
   image_rows no_rows s cs at = Some []
   image_rows (both a b l rows) s no_comps at = None
   image_rows (both a b l rows) s (more_comps c cs) at =
-      option_and_then (λ q. option_map (with_named (far s a b) q) (image_rows rows s cs at)) (image l s c (at (near s a b)))
+      option_and_then (λ q. option_map (with_named (far s a b) q) (image_rows rows s cs at))
+      (image l s c (at (near s a b)))
   image_rows (only_left a t rows) Left cs at = image_rows rows Left cs at
   image_rows (only_left a t rows) Right cs at = option_map (with_named a hole) (image_rows rows Right cs at)
   image_rows (only_right b t rows) Left cs at = option_map (with_named b hole) (image_rows rows Left cs at)
@@ -128,4 +138,5 @@ abbrev mutual
   -- through the arm with this left tag
   pub image_arm : ArmTrees → Side → List ℕ → CompTree → PatternTree → Option PatternTree
   image_arm no_arms s t c p = None
-  image_arm (more_arms a b l arms) s t c p = if bytes_eq t a then arm_pattern (near s a b) (far s a b) (image l s c) p else image_arm arms s t c p
+  image_arm (more_arms a b l arms) s t c p = if bytes_eq t a then arm_pattern (near s a b) (far s a b) (image l s c) p
+      else image_arm arms s t c p

@@ -1,5 +1,5 @@
--- The law of images. The first part is what a caller has of it; the second is the form in which each constructor keeps it.
--- From the end: `ImageLaw`; for a caller `DecidesConsistency` and `ImagesAreExact`.
+-- The law of images. The first part is what a caller has of it; the second is the form in which each constructor keeps
+-- it. From the end: `ImageLaw`; for a caller `DecidesConsistency` and `ImagesAreExact`.
 use Rattle.std.specs.Prelude.{◌≡◌, IsTrue, Option, None, Some}
 use Rattle.texts.specs.declared.side.Side.{Side}
 use Rattle.texts.specs.declared.side.Side.TheVariants.{Left}
@@ -34,12 +34,14 @@ IsExactImage l s c p (Some q) = IsExact l s c p q
 
 -- images are exact, for each complement that fits and each pattern of the type
 abbrev pub ImagesAreExact : FormTree → Type 0
-ImagesAreExact l = (s : Side) (c : CompTree) (p : PatternTree) → Fits l c → IsTrue (is_of_type p (type_on s l)) → IsExactImage l s c p (image l s c p)
+ImagesAreExact l = (s : Side) (c : CompTree) (p : PatternTree) → Fits l c → IsTrue (is_of_type p (type_on s l))
+    → IsExactImage l s c p (image l s c p)
 
 -- the left document has its type, the complement fits, and the right document is in the image of the left one
 abbrev pub IsInImage : FormTree → DocTree → CompTree → DocTree → Type 0
 IsInImage l x c y =
-    IsTrue (has (left_type l) x) × Fits l c × (q : PatternTree) × (image l Left c (pattern_of x) ≡ Some q) × IsIn (right_type l) q y
+    IsTrue (has (left_type l) x) × Fits l c × (q : PatternTree) × (image l Left c (pattern_of x) ≡ Some q)
+    × IsIn (right_type l) q y
 
 -- a triple is consistent if and only if the right document is in the image of the left one
 pub record DecidesConsistency (l : FormTree) : Type 0 where
@@ -52,7 +54,8 @@ pub record DecidesConsistency (l : FormTree) : Type 0 where
 pub record IsImageOf (l : FormTree) (s : Side) (c : CompTree) (p q : PatternTree) : Type 0 where
   pub some_doc : HasSome (type_on (other s) l) q
   pub into : (v w : DocTree) → Matches p v → IsRelated l s v c w → Matches q w
-  pub onto : (w : DocTree) → IsTrue (has (type_on (other s) l) w) → Matches q w → (v : DocTree) × Matches p v × IsRelated l s v c w
+  pub onto : (w : DocTree) → IsTrue (has (type_on (other s) l) w) → Matches q w → (v : DocTree) × Matches p v
+      × IsRelated l s v c w
 
 abbrev pub IsImage : FormTree → Side → CompTree → PatternTree → Option PatternTree → Type 0
 IsImage l s c p None = (v w : DocTree) → Matches p v → IsRelated l s v c w → ⊥
@@ -60,4 +63,5 @@ IsImage l s c p (Some q) = IsImageOf l s c p q
 
 -- for each complement that fits and each pattern that has a document of the type
 abbrev pub ImageLaw : FormTree → Type 0
-ImageLaw l = (s : Side) (c : CompTree) (p : PatternTree) → Fits l c → HasSome (type_on s l) p → IsImage l s c p (image l s c p)
+ImageLaw l = (s : Side) (c : CompTree) (p : PatternTree) → Fits l c → HasSome (type_on s l) p
+    → IsImage l s c p (image l s c p)

@@ -1,12 +1,15 @@
--- The image of a pattern through a partition, both ways. Between the two sides stands a list of patterns: one for the content of each
--- item, in the order of the complement's tags. Read it from the end: `joined_image`, then `parted_image`.
-use Rattle.std.specs.Prelude.{ℕ, zero, suc, ◌+◌, ◌&&◌, nat_eq, bytes_eq, if◌then◌else◌, List, [], ◌∷◌, length, Option, None, Some, option_map, option_and_then}
+-- The image of a pattern through a partition, both ways. Between the two sides stands a list of patterns: one for the
+-- content of each item, in the order of the complement's tags. Read it from the end: `joined_image`, then
+-- `parted_image`.
+use Rattle.std.specs.Prelude.{ℕ, zero, suc, ◌+◌, ◌&&◌, nat_eq, bytes_eq, if◌then◌else◌, List, [], ◌∷◌, length, Option}
+use Rattle.std.specs.Prelude.{None, Some, option_map, option_and_then}
 use Rattle.hold_shapes.specs.declared.shape.Shape.TheVariants.{List as ListOf}
 use Rattle.doc_values.specs.Types.{FieldTrees, no_fields, more_fields}
 use Rattle.doc_values.specs.Typing.{is_list_of}
 use Rattle.tag_seq.specs.Tags.{count}
 use Rattle.lens_core.specs.Tags.{tag_number, tag_name}
-use Rattle.image_laws.specs.Patterns.{PatternTree, hole, rec_pattern, alt_pattern, hold_pattern, PatternTrees, no_patterns, more_patterns, pattern_count, in_order}
+use Rattle.image_laws.specs.Patterns.{PatternTree, hole, rec_pattern, alt_pattern, hold_pattern, PatternTrees}
+use Rattle.image_laws.specs.Patterns.{no_patterns, more_patterns, pattern_count, in_order}
 
 -- so many holes
 abbrev pub holes : ℕ → PatternTrees
@@ -43,7 +46,8 @@ content_patterns fs (t ∷ ts) (more_patterns p ps) =
 abbrev pub patterns_at : ℕ → List ℕ → PatternTrees → PatternTrees
 patterns_at k [] qs = no_patterns
 patterns_at k (t ∷ ts) no_patterns = no_patterns
-patterns_at k (t ∷ ts) (more_patterns q qs) = if nat_eq t k then more_patterns q (patterns_at k ts qs) else patterns_at k ts qs
+patterns_at k (t ∷ ts) (more_patterns q qs) = if nat_eq t k then more_patterns q (patterns_at k ts qs)
+    else patterns_at k ts qs
 
 -- the list at a field: of the contents with the tag of that name
 abbrev pub list_at : FieldTrees → List ℕ → PatternTrees → List ℕ → PatternTree
@@ -55,7 +59,9 @@ list_at fs ts qs n = elim (tag_number fs n) [ None ↦ hole | Some k ↦ list_pa
 abbrev pub list_patterns : FieldTrees → ℕ → List ℕ → (List ℕ → PatternTree) → Option (ℕ → PatternTrees)
 list_patterns no_fields k ts at = Some (λ j. no_patterns)
 list_patterns (more_fields n t fs) k ts at =
-    option_and_then (λ ps. option_map (λ others j. if nat_eq k j then ps else others j) (list_patterns fs (k + 1) ts at)) (patterns_in_list (count k ts) (at n))
+    option_and_then
+    (λ ps. option_map (λ others j. if nat_eq k j then ps else others j) (list_patterns fs (k + 1) ts at))
+    (patterns_in_list (count k ts) (at n))
 
 abbrev pub first_pattern : PatternTrees → PatternTree
 first_pattern no_patterns = hole
@@ -68,7 +74,8 @@ other_patterns (more_patterns p ps) = ps
 -- for each item the next pattern of its tag's list
 abbrev pub dealt : List ℕ → (ℕ → PatternTrees) → PatternTrees
 dealt [] lists = no_patterns
-dealt (t ∷ ts) lists = more_patterns (first_pattern (lists t)) (dealt ts (λ k. if nat_eq t k then other_patterns (lists t) else lists k))
+dealt (t ∷ ts) lists =
+    more_patterns (first_pattern (lists t)) (dealt ts (λ k. if nat_eq t k then other_patterns (lists t) else lists k))
 
 -- the items with these contents
 abbrev pub item_patterns : FieldTrees → List ℕ → PatternTrees → PatternTrees
@@ -81,8 +88,10 @@ item_patterns fs (t ∷ ts) (more_patterns q qs) = more_patterns (alt_pattern (t
 -- from the left: a hole or a list of items with these tags becomes a record of lists
 abbrev pub parted_image : FieldTrees → FieldTrees → List ℕ → PatternTree → Option PatternTree
 parted_image fs gs ts p =
-    option_map (λ qs. rec_pattern (in_order gs (list_at fs ts qs))) (option_and_then (content_patterns fs ts) (patterns_in_list (length ts) p))
+    option_map (λ qs. rec_pattern (in_order gs (list_at fs ts qs)))
+    (option_and_then (content_patterns fs ts) (patterns_in_list (length ts) p))
 
 -- from the right: a hole or a record of lists as long as their tags are often becomes a list of items
 abbrev pub joined_image : FieldTrees → (List ℕ → PatternTree) → List ℕ → Option PatternTree
-joined_image fs at ts = option_map (λ lists. list_pattern (length ts) (item_patterns fs ts (dealt ts lists))) (list_patterns fs 0 ts at)
+joined_image fs at ts = option_map (λ lists. list_pattern (length ts) (item_patterns fs ts (dealt ts lists)))
+    (list_patterns fs 0 ts at)

@@ -1,10 +1,13 @@
 -- Patterns of documents: documents with holes. Which documents are in a pattern, and which patterns are of a type.
--- In order: `PatternTree`, `Matches`, `is_of_type`, `pattern_of`, and `pattern_tree`, the tree that contracts see a pattern as.
+-- In order: `PatternTree`, `Matches`, `is_of_type`, `pattern_of`, and `pattern_tree`, the tree that contracts see a
+-- pattern as.
 use Rattle.std.specs.Prelude.{◌≡◌, IsTrue, ℕ, ◌+◌, ℤ, Bool, true, false, ◌&&◌, List, [], ◌∷◌, None, Some}
 use Rattle.texts.specs.Keys.{has_name}
 use Rattle.hold_shapes.specs.declared.shape.Shape.{Shape}
-use Rattle.doc_values.specs.Documents.{DocTree, unit, truth, int, text, pick, rec, alt, hold, DocTrees, no_docs, more_docs}
-use Rattle.doc_values.specs.Types.{TyTree, ty_unit, ty_bool, ty_int, ty_text, ty_enum, ty_rec, ty_alt, ty_list, ty_keyed, ty_ordered, FieldTrees, no_fields, more_fields}
+use Rattle.doc_values.specs.Documents.{DocTree, unit, truth, int, text, pick, rec, alt, hold, DocTrees, no_docs}
+use Rattle.doc_values.specs.Documents.{more_docs}
+use Rattle.doc_values.specs.Types.{TyTree, ty_unit, ty_bool, ty_int, ty_text, ty_enum, ty_rec, ty_alt, ty_list}
+use Rattle.doc_values.specs.Types.{ty_keyed, ty_ordered, FieldTrees, no_fields, more_fields}
 use Rattle.doc_values.specs.Typing.{has, lookup_type, is_list_of, is_keyed_of, is_tree_of}
 use Rattle.image_laws.specs.declared.pattern.Pattern.{Pattern, fold-Pattern}
 use Rattle.image_laws.specs.declared.pattern.Patterns.{Patterns, fold-Patterns}

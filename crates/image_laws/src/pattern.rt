@@ -1,7 +1,8 @@
 //! Patterns: documents with holes.
 
 ghost use Rattle.std.specs.Prelude.{◌≡◌, ◌↔◌, ◌<◌, IsTrue, IfOk, map, slice_index_or};
-ghost use Rattle.image_laws.specs.Patterns.{pattern_tree, patterns_tree, patterns_from, pattern_list, pattern_count, hole, no_patterns};
+ghost use Rattle.image_laws.specs.Patterns.{pattern_tree, patterns_tree, patterns_from, pattern_list, pattern_count};
+ghost use Rattle.image_laws.specs.Patterns.{hole, no_patterns};
 
 use hold_shapes::Shape;
 use shared_lists::{Hint, Iter, SharedList};

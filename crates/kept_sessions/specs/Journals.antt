@@ -24,7 +24,8 @@ is_taken outcome.NoSession = false
 is_taken end = true
 
 -- one line was given and taken, with this text, and then the others
-pub record IsGivenFirst (before : Kept) (line : List ℕ) (texts : List ℕ) (others : Kept → List ℕ → Type 0) : Type 0 where
+pub record IsGivenFirst (before : Kept) (line : List ℕ) (texts : List ℕ) (others : Kept → List ℕ
+    → Type 0) : Type 0 where
   pub next : Kept
   pub end : Outcome
   pub rest : List ℕ
@@ -38,7 +39,8 @@ abbrev pub IsGiven : Kept → List (List ℕ) → List ℕ → Kept → Type 0
 IsGiven before [] texts after = (texts ≡ []) × (after ≡ before)
 IsGiven before (line ∷ lines) texts after = IsGivenFirst before line texts (λ next rest. IsGiven next lines rest after)
 
--- the text is all that a run of the program writes for these lines: the answer lines of its items, then the last state lines
+-- the text is all that a run of the program writes for these lines: the answer lines of its items, then the last state
+-- lines
 pub record IsReported (program : List ℕ) (lines : List (List ℕ)) (text : List ℕ) : Type 0 where
   pub form : FormTree
   pub lens : lens_of program ≡ Ok form

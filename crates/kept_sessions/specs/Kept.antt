@@ -1,4 +1,5 @@
--- What a caller keeps, and what a call makes of it. Read it from the end: `text_of`, `IsShown`, `IsStepped`, `IsResumed`, `IsOpened`.
+-- What a caller keeps, and what a call makes of it. Read it from the end: `text_of`, `IsShown`, `IsStepped`,
+-- `IsResumed`, `IsOpened`.
 use Rattle.std.specs.Prelude.{◌≡◌, ℕ, List, [], Bool, true, false, Ok}
 use Rattle.accepted_programs.specs.Program.{lens_of}
 use Rattle.accepted_programs.specs.Refused.{IsRefusal}

@@ -1,5 +1,5 @@
--- The texts of a state: what a session shows of it, and what it is read from. Read it from the end: `IsPartText` and `IsStateFault`,
--- `IsStateText`, then `IsDocumentText` and `IsComplementText`.
+-- The texts of a state: what a session shows of it, and what it is read from. Read it from the end: `IsPartText` and
+-- `IsStateFault`, `IsStateText`, then `IsDocumentText` and `IsComplementText`.
 use Rattle.std.specs.Prelude.{◌≡◌, ℕ, List, true, Some}
 use Rattle.serde_json.specs.Data.{Data}
 use Rattle.serde_json.specs.Written.{compact_text}

@@ -47,10 +47,13 @@ outcome_of (no_entry fault) = outcome.NotAChange (fault_of fault)
 
 -- ---- an item
 
--- The item of this line takes the one session to the other. It is answered with this number by this text, and the step ends so.
-pub record Answers (before : SessionOf ReadyForm) (number : ℕ) (line : Line) (text : List ℕ) (end : Outcome) (after : SessionOf ReadyForm) : Type 0 where
+-- The item of this line takes the one session to the other. It is answered with this number by this text, and the step
+-- ends so.
+pub record Answers (before : SessionOf ReadyForm) (number : ℕ) (line : Line) (text : List ℕ) (end : Outcome)
+    (after : SessionOf ReadyForm) : Type 0 where
   pub answer : JournalAnswer
-  pub step : take_item (left_type (session_form before)) (right_type (session_form before)) (translate (session_form before)) (triple_tree before.triple) (change_of_line line)
+  pub step : take_item (left_type (session_form before)) (right_type (session_form before))
+      (translate (session_form before)) (triple_tree before.triple) (change_of_line line)
       ≡ Some (triple_tree after.triple, answer)
   pub is_text : text ≡ answer_line number answer
   pub ended : end ≡ outcome_of answer

@@ -39,8 +39,8 @@ impl Kept {
     /// document, as [`Kept::show`] shows them. Or why there is none. Items are numbered from 1 on.
     ///
     /// - `Refused`: if and only if the program is not accepted, for the cause that `lens_of` has.
-    /// - `StateRefused`: if and only if the program is accepted, and a text is not one of its lens, or the three are not
-    ///   consistent. A cause of [`StateFault`] that holds is kept. That it is the first one is tested.
+    /// - `StateRefused`: if and only if the program is accepted, and a text is not one of its lens, or the three are
+    ///   not consistent. A cause of [`StateFault`] that holds is kept. That it is the first one is tested.
     /// - `NoMemory`: only if memory ran out.
     pub fn resume(alloc: Global, program: &[u8], left: &[u8], comp: &[u8], right: &[u8]) -> Kept
         ensures resumed { IsResumed program.now left.now comp.now right.now result }
@@ -50,8 +50,8 @@ impl Kept {
 
     /// Takes a line of a journal, which is without its LF.
     ///
-    /// After `Done`, `NoApply` and `NotAChange` the text is the answer line, and after `Blank` it is empty. After each other
-    /// outcome the text is the one from before.
+    /// After `Done`, `NoApply` and `NotAChange` the text is the answer line, and after `Blank` it is empty. After each
+    /// other outcome the text is the one from before.
     ///
     /// - `LineFeed`: if and only if there is a session and an LF is in the line.
     /// - `Full`: only if `u64::MAX` items were given.

@@ -12,8 +12,8 @@ ghost use Rattle.kept_sessions.specs.declared.kept.Kept.{Kept as KeptValue};
 ghost use Rattle.kept_sessions.specs.declared.outcome.Outcome.TheVariants.{Done};
 ghost use Rattle.kept_sessions.specs.declared.outcome.Part.TheVariants.{State, Left, Complement, Right};
 
-/// A session that is opened, given the lines of a journal and then shown answers as a run: its texts, one after another, are
-/// all that the run of the program writes for these lines.
+/// A session that is opened, given the lines of a journal and then shown answers as a run: its texts, one after
+/// another, are all that the run of the program writes for these lines.
 #[tactic(auto, using(crate::proofs::GivenLines::is_reported))]
 pub fn sessions_answer_as_a_run()
     ensures { (program : List ℕ) (lines : List (List ℕ)) (texts : List ℕ) (first last shown : KeptValue)
@@ -21,7 +21,8 @@ pub fn sessions_answer_as_a_run()
         → IsReported program lines (texts ++ text_of shown) }
 {}
 
-/// What is resumed from the texts that a session showed is at the same lens, documents and complement, unless memory ran out.
+/// What is resumed from the texts that a session showed is at the same lens, documents and complement, unless memory
+/// ran out.
 #[tactic(auto, using(crate::proofs::SameStates::is_same_state))]
 pub fn shown_states_are_resumed()
     ensures { (program left comp right : List ℕ) (form : FormTree) (triple : TripleTree) (resumed : KeptValue)

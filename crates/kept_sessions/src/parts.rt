@@ -35,7 +35,8 @@ pub(crate) fn part_text(
     session: &Session<Flat>,
     part: Part,
 ) -> Result<Vec<u8>, AllocError>
-    ensures { IfOk result (λ text. IsPartText (session_form session.now) (triple_tree session.now.triple) part text.items) }
+    ensures { IfOk result
+        (λ text. IsPartText (session_form session.now) (triple_tree session.now.triple) part text.items) }
 {
     let typed = session.lens().typed();
     match part {

@@ -9,7 +9,8 @@ ghost use Rattle.pair_answers.specs.ItemRuns.{IsInStepFor};
 ghost use Rattle.lens_core.specs.Complements.{CompTree, comp_tree};
 ghost use Rattle.lens_forms.specs.Forms.{form_tree};
 ghost use Rattle.kept_sessions.specs.Kept.{IsResumed};
-ghost use Rattle.kept_sessions.specs.States.{IsDocumentTree, IsDocumentText, IsComplementTree, IsComplementText, IsStateText, IsStateFault};
+ghost use Rattle.kept_sessions.specs.States.{IsDocumentTree, IsDocumentText, IsComplementTree, IsComplementText};
+ghost use Rattle.kept_sessions.specs.States.{IsStateText, IsStateFault};
 
 use crate::kept::Kept;
 use crate::opening::closed;

@@ -1,6 +1,7 @@
--- How alternatives translate one primitive: Stay begins and finishes in the arm of the complement, Switch in another arm.
--- In order: `begin_alternatives`, `finish_alternatives`; what is behind them is for the proofs.
-use Rattle.std.specs.Prelude.{ℕ, ◌+◌, bytes_eq, if◌then◌else◌, List, Option, None, Some, option_map, option_and_then, slice_get}
+-- How alternatives translate one primitive: Stay begins and finishes in the arm of the complement, Switch in another
+-- arm. In order: `begin_alternatives`, `finish_alternatives`; what is behind them is for the proofs.
+use Rattle.std.specs.Prelude.{ℕ, ◌+◌, bytes_eq, if◌then◌else◌, List, Option, None, Some, option_map, option_and_then}
+use Rattle.std.specs.Prelude.{slice_get}
 use Rattle.texts.specs.declared.side.Side.{Side}
 use Rattle.texts.specs.declared.side.Side.TheVariants.{Left}
 use Rattle.edit_module.specs.Words.{PrimitiveTree, stay, switch, WordTree}
@@ -36,7 +37,8 @@ far_tag_of side q = far side q.left_tag q.right_tag
 abbrev pub arm_of : ArmTrees → Side → List ℕ → Option ArmAt
 arm_of no_arms side n = None
 arm_of (more_arms a b l arms) side n =
-    if bytes_eq (near side a b) n then Some (record { number = 0; left_tag = a; right_tag = b; lens = l }) else option_map next_arm (arm_of arms side n)
+    if bytes_eq (near side a b) n then Some (record { number = 0; left_tag = a; right_tag = b; lens = l })
+    else option_map next_arm (arm_of arms side n)
 
 -- the arm, where this is its near tag
 abbrev pub if_near : Side → List ℕ → ArmAt → Option ArmAt
@@ -75,7 +77,8 @@ finish_stay side r (Some q) = (stay_word (far_tag_of side q) r.0, alt_comp q.lef
 
 -- Switch from the far tag of the first arm to that of the second
 abbrev pub finish_switch : Side → Translated → Option ArmAt → Option ArmAt → Translated
-finish_switch side r (Some from) (Some to) = (switch_word (far_tag_of side from) (far_tag_of side to) r.0, alt_comp to.left_tag r.1)
+finish_switch side r (Some from) (Some to) =
+    (switch_word (far_tag_of side from) (far_tag_of side to) r.0, alt_comp to.left_tag r.1)
 finish_switch side r _ _ = r
 
 -- the finish in alternatives, from what the lens inside translated; only after a beginning that needs it

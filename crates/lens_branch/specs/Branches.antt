@@ -1,9 +1,10 @@
--- What is asked of a record and of alternatives, so that they keep the laws: their lenses keep them, the names of each side are
--- distinct, and both types are well formed. A typed form has the last two.
--- Read it from the end: `AreLawfulAlternatives`, then `IsLawfulRecord`.
+-- What is asked of a record and of alternatives, so that they keep the laws: their lenses keep them, the names of each
+-- side are distinct, and both types are well formed. A typed form has the last two. Read it from the end:
+-- `AreLawfulAlternatives`, then `IsLawfulRecord`.
 use Rattle.std.specs.Prelude.{IsTrue}
 use Rattle.doc_values.specs.Types.{ty_rec, ty_alt, is_well_formed, are_distinct}
-use Rattle.lens_forms.specs.Forms.{RowTrees, no_rows, both, only_left, only_right, ArmTrees, no_arms, more_arms, left_fields, right_fields, left_tags, right_tags}
+use Rattle.lens_forms.specs.Forms.{RowTrees, no_rows, both, only_left, only_right, ArmTrees, no_arms, more_arms}
+use Rattle.lens_forms.specs.Forms.{left_fields, right_fields, left_tags, right_tags}
 use Rattle.lens_forms.specs.Typing.{left_names, right_names, left_arms, right_arms}
 use Rattle.lens_core.specs.Laws.{Laws}
 

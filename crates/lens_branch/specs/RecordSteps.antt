@@ -1,10 +1,12 @@
 -- How a record translates one primitive: At of a field begins in the row of that field and finishes there.
 -- In order: `begin_record`, `finish_record`; what is behind them is for the proofs.
-use Rattle.std.specs.Prelude.{ℕ, zero, suc, ◌+◌, nat_eq, Bool, false, bytes_eq, if◌then◌else◌, List, [], ◌∷◌, Option, None, Some, option_map, option_and_then}
+use Rattle.std.specs.Prelude.{ℕ, zero, suc, ◌+◌, nat_eq, Bool, false, bytes_eq, if◌then◌else◌, List, [], ◌∷◌, Option}
+use Rattle.std.specs.Prelude.{None, Some, option_map, option_and_then}
 use Rattle.texts.specs.declared.side.Side.{Side}
 use Rattle.texts.specs.declared.side.Side.TheVariants.{Left, Right}
 use Rattle.edit_module.specs.Words.{PrimitiveTree, at, WordTree, no_primitives}
-use Rattle.lens_forms.specs.Forms.{FormTree, RowTrees, RowTree, row_both, row_left, row_right, row_list, row_tree, paired_rows}
+use Rattle.lens_forms.specs.Forms.{FormTree, RowTrees, RowTree, row_both, row_left, row_right, row_list, row_tree}
+use Rattle.lens_forms.specs.Forms.{paired_rows}
 use Rattle.lens_core.specs.Complements.{CompTree, rec_comp, CompTrees, comp_count}
 use Rattle.lens_core.specs.Emitted.{at_word}
 use Rattle.lens_core.specs.Sides.{near, far}
@@ -41,7 +43,8 @@ row_behind k r = record { pairs = r.pairs + k; row = r.row }
 abbrev pub row_of : List RowTree → Side → List ℕ → Option RowAt
 row_of [] side f = None
 row_of (r ∷ rows) side f =
-    if has_near side f r then Some (record { pairs = 0; row = r }) else option_map (row_behind (pairs_of r)) (row_of rows side f)
+    if has_near side f r then Some (record { pairs = 0; row = r })
+    else option_map (row_behind (pairs_of r)) (row_of rows side f)
 
 -- ---- beginning and finish
 
@@ -59,10 +62,12 @@ begin_in cs u r = begin_row cs u r.pairs r.row
 -- the beginning in a record with these complements, one for each paired row
 abbrev pub begin_record : RowTrees → Side → CompTrees → PrimitiveTree → Option Beginning
 begin_record rows side cs (at f u) =
-    if nat_eq (comp_count cs) (paired_rows rows) then option_map (begin_in cs u) (row_of (row_list rows) side f) else None
+    if nat_eq (comp_count cs) (paired_rows rows) then option_map (begin_in cs u) (row_of (row_list rows) side f)
+    else None
 begin_record rows side cs _ = None
 
--- the finish in a paired row: At of its far field, and its new complement in its place; a row of one side alone needs none
+-- the finish in a paired row: At of its far field, and its new complement in its place; a row of one side alone needs
+-- none
 abbrev pub finish_row : Side → CompTrees → Translated → ℕ → RowTree → Translated
 finish_row side cs r k (row_both a b l) = (at_word (far side a b) r.0, rec_comp (put_comp cs k r.1))
 finish_row side cs r k (row_left a t) = r

@@ -10,7 +10,8 @@ ghost use Rattle.lens_core.specs.Sides.{near};
 ghost use Rattle.lens_core.specs.Translation.{carried_tree};
 ghost use Rattle.lens_core.specs.declared.carry.CarryFault.TheVariants.{NoMemory};
 ghost use Rattle.lens_core.specs.Beginnings.{begun_tree, inside, IsBeginFault};
-ghost use Rattle.lens_branch.specs.AlternativeSteps.{NeedsStarts, HasBegun, far_tag_of, arm_seen, arm_of, arm_lens, arm_starts, current_arm, begin_alternatives, finish_alternatives};
+ghost use Rattle.lens_branch.specs.AlternativeSteps.{NeedsStarts, HasBegun, far_tag_of, arm_seen, arm_of, arm_lens};
+ghost use Rattle.lens_branch.specs.AlternativeSteps.{arm_starts, current_arm, begin_alternatives, finish_alternatives};
 
 use edit_module::Word;
 use edit_module::word::Primitive;
@@ -50,8 +51,10 @@ pub fn alt_begin(
 ) -> Result<Begun, CarryFault>
     requires { NeedsStarts (primitive_tree prim.now) → comps_tree starts.now ≡ arm_starts (arms_tree arms.now) }
     ensures { MatchResult result
-        (λ b. begin_alternatives (arms_tree arms.now) side tag.now (comp_tree comp.now) (primitive_tree prim.now) ≡ Some (begun_tree b))
-        (IsBeginFault (begin_alternatives (arms_tree arms.now) side tag.now (comp_tree comp.now) (primitive_tree prim.now))) }
+        (λ b. begin_alternatives (arms_tree arms.now) side tag.now (comp_tree comp.now) (primitive_tree prim.now)
+        ≡ Some (begun_tree b))
+        (IsBeginFault (begin_alternatives (arms_tree arms.now) side tag.now (comp_tree comp.now)
+        (primitive_tree prim.now))) }
 {
     match prim {
         Primitive::Stay(near, word) => {
@@ -144,7 +147,8 @@ fn inner(alloc: Global, number: usize, comp: &Comp, word: &Word) -> Result<Begun
 
 // A word, and the left tag of an arm with a complement.
 fn in_arm(alloc: Global, found: &FoundArm, word: Word, comp: Comp) -> Result<Carried, AllocError>
-    ensures { IfOk result (λ r. carried_tree r ≡ (word_tree word, alt_comp (arm_seen found.now).left_tag (comp_tree comp))) }
+    ensures { IfOk result
+        (λ r. carried_tree r ≡ (word_tree word, alt_comp (arm_seen found.now).left_tag (comp_tree comp))) }
 {
     let tag = found.arm.0.twin(alloc)?;
     let comp = Comp::Alt(tag, Box::new(alloc, comp)?);

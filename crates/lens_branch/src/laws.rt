@@ -13,7 +13,8 @@ ghost use Rattle.lens_core.specs.Translation.{translate_one};
 ghost use Rattle.lens_branch.specs.Branches.{IsLawfulRecord, AreLawfulAlternatives};
 ghost use Rattle.lens_core.specs.Beginnings.{inside, carried_on};
 ghost use Rattle.lens_branch.specs.RecordSteps.{begin_record, finish_record, row_lens, row_translation};
-ghost use Rattle.lens_branch.specs.AlternativeSteps.{begin_alternatives, finish_alternatives, arm_lens, arm_translation};
+ghost use Rattle.lens_branch.specs.AlternativeSteps.{begin_alternatives, finish_alternatives, arm_lens};
+ghost use Rattle.lens_branch.specs.AlternativeSteps.{arm_translation};
 
 /// A record keeps the laws if the lenses of its paired rows do, the names of each side are distinct, and both types are
 /// well formed.
@@ -22,8 +23,8 @@ pub fn record_laws()
     ensures { (rows : RowTrees) → IsLawfulRecord rows → Laws (form_rec rows) }
 {}
 
-/// Alternatives keep the laws if the lenses of their arms do, the tags of each side are distinct, and both types are well
-/// formed.
+/// Alternatives keep the laws if the lenses of their arms do, the tags of each side are distinct, and both types are
+/// well formed.
 #[tactic(auto, using(crate::proofs::LawsOfAlternatives::alternatives_laws))]
 pub fn alternatives_laws()
     ensures { (arms : ArmTrees) → AreLawfulAlternatives arms → Laws (form_alt arms) }
@@ -34,10 +35,12 @@ pub fn alternatives_laws()
 pub fn record_goes_round()
     ensures { (rows : RowTrees) (side : Side) (cs : CompTrees) (p : PrimitiveTree)
         → translate_one (form_rec rows) side (rec_comp cs) p
-        ≡ option_and_then (carried_on (row_translation rows side) (finish_record rows side cs p)) (begin_record rows side cs p) }
+        ≡ option_and_then (carried_on (row_translation rows side) (finish_record rows side cs p))
+        (begin_record rows side cs p) }
 {}
 
-/// Where the beginning in a record needs a lens inside, it is the lens of the paired row of this number, which is there.
+/// Where the beginning in a record needs a lens inside, it is the lens of the paired row of this number, which is
+/// there.
 #[tactic(auto, using(crate::proofs::RecordRounds::record_begins_in_row))]
 pub fn record_begins_in_row()
     ensures { (rows : RowTrees) (side : Side) (cs : CompTrees) (p : PrimitiveTree) (i : ℕ) (c : CompTree) (w : WordTree)
@@ -48,15 +51,18 @@ pub fn record_begins_in_row()
 /// tags of each side are distinct.
 #[tactic(auto, using(crate::proofs::AlternativeRounds::alternatives_go_round))]
 pub fn alternatives_go_round()
-    ensures { (arms : ArmTrees) (side : Side) → IsTrue (are_distinct (left_arms arms)) → IsTrue (are_distinct (right_arms arms))
+    ensures { (arms : ArmTrees) (side : Side) → IsTrue (are_distinct (left_arms arms))
+        → IsTrue (are_distinct (right_arms arms))
         → (t : List ℕ) (c : CompTree) (p : PrimitiveTree)
         → translate_one (form_alt arms) side (alt_comp t c) p
-        ≡ option_and_then (carried_on (arm_translation arms side) (finish_alternatives arms side p)) (begin_alternatives arms side t c p) }
+        ≡ option_and_then (carried_on (arm_translation arms side) (finish_alternatives arms side p))
+        (begin_alternatives arms side t c p) }
 {}
 
 /// Where the beginning in alternatives needs a lens inside, it is the lens of the arm of this number.
 #[tactic(auto, using(crate::proofs::AlternativeRounds::alternatives_begin_in_arm))]
 pub fn alternatives_begin_in_arm()
-    ensures { (arms : ArmTrees) (side : Side) (t : List ℕ) (d : CompTree) (p : PrimitiveTree) (i : ℕ) (c : CompTree) (w : WordTree)
+    ensures { (arms : ArmTrees) (side : Side) (t : List ℕ) (d : CompTree) (p : PrimitiveTree) (i : ℕ) (c : CompTree)
+        (w : WordTree)
         → begin_alternatives arms side t d p ≡ Some (inside i c w) → (l : FormTree) × (arm_lens arms i ≡ Some l) }
 {}

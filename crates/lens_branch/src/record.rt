@@ -10,7 +10,8 @@ ghost use Rattle.lens_core.specs.Emitted.{at_word};
 ghost use Rattle.lens_core.specs.Sides.{far};
 ghost use Rattle.lens_core.specs.Translation.{carried_tree, put_comp};
 ghost use Rattle.lens_core.specs.Beginnings.{begun_tree, IsBeginFault, IsInside};
-ghost use Rattle.lens_branch.specs.RecordSteps.{has_near, pairs_of, row_seen, row_of, row_lens, begin_record, finish_record};
+ghost use Rattle.lens_branch.specs.RecordSteps.{has_near, pairs_of, row_seen, row_of, row_lens, begin_record};
+ghost use Rattle.lens_branch.specs.RecordSteps.{finish_record};
 
 use edit_module::Word;
 use edit_module::word::Primitive;
@@ -45,7 +46,8 @@ pub fn rec_begin(
     prim: &Primitive,
 ) -> Result<Begun, CarryFault>
     ensures { MatchResult result
-        (λ b. begin_record (rows_tree rows.now) side (comps_tree comps.now) (primitive_tree prim.now) ≡ Some (begun_tree b))
+        (λ b. begin_record (rows_tree rows.now) side (comps_tree comps.now) (primitive_tree prim.now)
+        ≡ Some (begun_tree b))
         (IsBeginFault (begin_record (rows_tree rows.now) side (comps_tree comps.now) (primitive_tree prim.now))) }
 {
     let Primitive::At(field, word) = prim else {
@@ -103,7 +105,8 @@ pub fn rec_finish(
     }
 }
 
-// The complements of a record with another one at a place. One that keeps nothing, as the one before it, changes nothing.
+// The complements of a record with another one at a place. One that keeps nothing, as the one before it, changes
+// nothing.
 #[tactic(auto, using(crate::proofs::NilPlaces::put_nil))]
 fn with_comp(alloc: Global, comps: &Comps, place: usize, comp: Comp) -> Result<Comp, AllocError>
     requires { place < comp_count (comps_tree comps.now) }
@@ -166,7 +169,8 @@ fn nothing(alloc: Global, comps: &Comps) -> Result<Carried, AllocError>
 #[tactic(auto, using(crate::proofs::RowSearch::row_rules))]
 fn find_row<'a>(rows: &'a FormRows, side: Side, field: &Name) -> Option<FoundRow<'a>>
     ensures found { option_map row_seen result ≡ row_of (row_list (rows_tree rows.now)) side field.now }
-    ensures within { MatchOption result (Unit {0}) (λ r. r.pairs + pairs_of (row_tree r.row.now) ≤ paired_rows (rows_tree rows.now)) }
+    ensures within { MatchOption result (Unit {0}) (λ r. r.pairs + pairs_of (row_tree r.row.now)
+        ≤ paired_rows (rows_tree rows.now)) }
 {
     let mut pairs = 0;
     for row in rows.as_slice() {

@@ -1,11 +1,13 @@
 -- The parts of an image, as the code finds them one by one.
-use Rattle.std.specs.Prelude.{ℕ, suc, ◌<◌, Bool, true, false, ◌&&◌, nat_eq, bytes_eq, if◌then◌else◌, List, [], ◌∷◌, map, slice_index_or, Option, None, Some}
+use Rattle.std.specs.Prelude.{ℕ, suc, ◌<◌, Bool, true, false, ◌&&◌, nat_eq, bytes_eq, if◌then◌else◌, List, [], ◌∷◌}
+use Rattle.std.specs.Prelude.{map, slice_index_or, Option, None, Some}
 use Rattle.texts.specs.Keys.{is_before}
 use Rattle.hold_shapes.specs.declared.shape.Shape.{Shape}
 use Rattle.texts.specs.declared.side.Side.{Side}
 use Rattle.texts.specs.declared.side.Side.TheVariants.{Left, Right}
 use Rattle.lens_forms.specs.Forms.{FormTree, RowTree, row_both, row_left, row_right, ArmTrees, no_arms, more_arms}
-use Rattle.image_laws.specs.Patterns.{PatternTree, hole, rec_pattern, hold_pattern, pattern_list, pattern_count, pattern_tree}
+use Rattle.image_laws.specs.Patterns.{PatternTree, hole, rec_pattern, hold_pattern, pattern_list, pattern_count}
+use Rattle.image_laws.specs.Patterns.{pattern_tree}
 use Rattle.image_laws.specs.Image.{is_same_shape}
 use Rattle.lens_check.specs.declared.image_record.SortedFields.{SortedFields}
 

@@ -1,12 +1,15 @@
 -- Lists of patterns by the tags of a partition, as the code keeps them: one list for each tag, by the tag's number.
-use Rattle.std.specs.Prelude.{ℕ, zero, suc, ◌+◌, bytes_eq, if◌then◌else◌, List, [], ◌∷◌, ◌++◌, length, map, slice_index, slice_index_or, vec_items, Vec, Option, None, Some, option_map, option_and_then}
+use Rattle.std.specs.Prelude.{ℕ, zero, suc, ◌+◌, bytes_eq, if◌then◌else◌, List, [], ◌∷◌, ◌++◌, length, map}
+use Rattle.std.specs.Prelude.{slice_index, slice_index_or, vec_items, Vec, Option, None, Some, option_map}
+use Rattle.std.specs.Prelude.{option_and_then}
 use Rattle.std.specs.List.{range_with_len}
 use Rattle.doc_values.specs.Types.{FieldTrees, no_fields, more_fields}
 use Rattle.tag_seq.specs.Tags.{count, rank}
 use Rattle.lens_core.specs.Tags.{tag_number, tag_name}
 use Rattle.image_laws.specs.declared.pattern.Pattern.{Pattern}
 use Rattle.image_laws.specs.declared.pattern.Patterns.{Patterns}
-use Rattle.image_laws.specs.Patterns.{PatternTree, hole, rec_pattern, alt_pattern, PatternTrees, no_patterns, more_patterns, patterns_from, pattern_list, pattern_tree, patterns_tree}
+use Rattle.image_laws.specs.Patterns.{PatternTree, hole, rec_pattern, alt_pattern, PatternTrees, no_patterns}
+use Rattle.image_laws.specs.Patterns.{more_patterns, patterns_from, pattern_list, pattern_tree, patterns_tree}
 use Rattle.image_laws.specs.PartImage.{list_pattern, patterns_in_list, patterns_at}
 
 -- the trees of the patterns in a `Vec`, and of those in a `Patterns`
@@ -59,11 +62,13 @@ list_at_tag fs ls n = elim (tag_number fs n) [ None ↦ hole | Some k ↦ list_o
 abbrev pub tag_lists : FieldTrees → ℕ → List ℕ → (List ℕ → PatternTree) → Option (List PatternTrees)
 tag_lists no_fields k ts at = Some []
 tag_lists (more_fields n t fs) k ts at =
-    option_and_then (λ ps. option_map (λ rest. ps ∷ rest) (tag_lists fs (k + 1) ts at)) (patterns_in_list (count k ts) (at n))
+    option_and_then (λ ps. option_map (λ rest. ps ∷ rest) (tag_lists fs (k + 1) ts at))
+    (patterns_in_list (count k ts) (at n))
 
 -- the content of the item at a place: of the list of its tag, the pattern at the item's rank
 abbrev pub content_at : List ℕ → List PatternTrees → ℕ → PatternTree
-content_at ts lists i = slice_index_or (pattern_list (slice_index_or lists (slice_index ts i) no_patterns)) (rank (slice_index ts i) i ts) hole
+content_at ts lists i = slice_index_or (pattern_list (slice_index_or lists (slice_index ts i) no_patterns))
+    (rank (slice_index ts i) i ts) hole
 
 -- the item at a place
 abbrev pub item_at : FieldTrees → List ℕ → List PatternTrees → ℕ → PatternTree

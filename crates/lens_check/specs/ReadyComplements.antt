@@ -2,10 +2,13 @@
 use Rattle.std.specs.Prelude.{IsTrue, ℕ, Bool, true, false, bytes_eq, List}
 use Rattle.tag_seq.specs.Tags.{are_below}
 use Rattle.doc_values.specs.Types.{are_distinct}
-use Rattle.lens_forms.specs.Forms.{FormTree, form_id, form_bij, form_disc, form_then, form_rec, form_alt, form_each, form_keyed, form_ordered, form_part, form_inv, RowTrees, no_rows, both, only_left, only_right, ArmTrees, no_arms, more_arms}
+use Rattle.lens_forms.specs.Forms.{FormTree, form_id, form_bij, form_disc, form_then, form_rec, form_alt, form_each}
+use Rattle.lens_forms.specs.Forms.{form_keyed, form_ordered, form_part, form_inv, RowTrees, no_rows, both, only_left}
+use Rattle.lens_forms.specs.Forms.{only_right, ArmTrees, no_arms, more_arms}
 use Rattle.lens_forms.specs.Typing.{left_names, right_names}
 use Rattle.lens_core.specs.Tags.{tag_count}
-use Rattle.lens_core.specs.Complements.{CompTree, then_comp, rec_comp, alt_comp, hold_comp, tags_comp, CompTrees, no_comps, more_comps, AllFit}
+use Rattle.lens_core.specs.Complements.{CompTree, then_comp, rec_comp, alt_comp, hold_comp, tags_comp, CompTrees}
+use Rattle.lens_core.specs.Complements.{no_comps, more_comps, AllFit}
 
 -- a complement of a container whose complements are each ready
 abbrev pub AreReadyPlaces : (CompTree → Type 0) → CompTree → Type 0
@@ -17,8 +20,8 @@ abbrev pub Chosen : Bool → Type 0 → Type 0 → Type 0
 Chosen true P Q = P
 Chosen false P Q = Q
 
--- Wherever the image of a pattern looks, the field names of each side of a record are distinct, and each number of a partition is that
--- of a tag.
+-- Wherever the image of a pattern looks, the field names of each side of a record are distinct, and each number of a
+-- partition is that of a tag.
 abbrev mutual
   pub IsReady : FormTree → CompTree → Type 0
   IsReady (form_id t) c = Unit {0}

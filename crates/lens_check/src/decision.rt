@@ -26,9 +26,9 @@ use texts::Side;
 /// Whether the left document, the complement and the right document are consistent. It is asked of any three: documents
 /// of other types, and complements that do not fit, are not consistent.
 ///
-/// Fails only if memory runs out. For one lens, the time grows with the left document and the complement; in a partition,
-/// with the number of items times its logarithm. Between lenses, it grows with the square of the number of a record's rows
-/// and of a partition's tags.
+/// Fails only if memory runs out. For one lens, the time grows with the left document and the complement; in a
+/// partition, with the number of items times its logarithm. Between lenses, it grows with the square of the number of a
+/// record's rows and of a partition's tags.
 #[tactic(auto, using(crate::proofs::Decisions::decision_rules))]
 pub fn consistent(
     alloc: Global,
@@ -52,7 +52,8 @@ pub fn consistent(
 // Whether both documents have their types and the complement fits.
 #[tactic(auto, using(crate::proofs::Decisions::typed_test))]
 fn are_typed(typed: &Typed, left: &Doc, comp: &Comp, right: &Doc) -> bool
-    ensures { IsTrue result ↔ AreTyped (form_tree typed.now) (doc_tree left.now) (comp_tree comp.now) (doc_tree right.now) }
+    ensures { IsTrue result ↔ AreTyped (form_tree typed.now) (doc_tree left.now) (comp_tree comp.now)
+        (doc_tree right.now) }
 {
     left.has_type(typed.left()) && conforms(typed, comp) && right.has_type(typed.right())
 }
@@ -107,7 +108,8 @@ pub fn image(
 
     // It has exactly the documents that are reached.
     ensures exact { IfOk result (λ q.
-        IsExactImage (form_tree typed.now) side (comp_tree comp.now) (pattern_tree pattern.now) (option_map pattern_tree q)) }
+        IsExactImage (form_tree typed.now) side (comp_tree comp.now) (pattern_tree pattern.now)
+        (option_map pattern_tree q)) }
 {
     image_of_form(alloc, typed.form(), side, comp, pattern)
 }

@@ -27,7 +27,8 @@ pub(crate) fn find_arm<'a>(arms: &'a FormArms, tag: &Name) -> Option<&'a (Name, 
     None
 }
 
-// The pattern of the content of a tag: that of a hole is the hole. None where no document with the tag is in the pattern.
+// The pattern of the content of a tag: that of a hole is the hole. None where no document with the tag is in the
+// pattern.
 pub(crate) fn content_pattern<'a>(pattern: &'a Pattern, tag: &Name) -> Option<&'a Pattern>
     ensures { option_map (λ p. pattern_tree p.now) result ≡ content_pattern tag.now (pattern_tree pattern.now) }
 {

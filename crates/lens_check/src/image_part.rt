@@ -32,7 +32,8 @@ pub(crate) fn parted_image(
 ) -> Result<Option<Pattern>, AllocError>
     requires { IsTrue (are_below (tag_count (fields_tree tags.now)) seq.now) }
     ensures { IfOk result (λ q. option_map pattern_tree q
-        ≡ parted_image (fields_tree tags.now) (sorted (lists_of (fields_tree tags.now))) seq.now (pattern_tree pattern.now)) }
+        ≡ parted_image (fields_tree tags.now) (sorted (lists_of (fields_tree tags.now))) seq.now
+        (pattern_tree pattern.now)) }
 {
     let Some(items) = patterns_in_list(alloc, seq.len(), pattern)? else {
         return Ok(None);
@@ -56,7 +57,8 @@ pub(crate) fn joined_image(
 ) -> Result<Option<Pattern>, AllocError>
     requires { IsTrue (are_below (tag_count (fields_tree tags.now)) seq.now) }
     ensures { IfOk result (λ q. option_map pattern_tree q
-        ≡ joined_image (fields_tree tags.now) (patterns_by_name (sorted (lists_of (fields_tree tags.now))) (pattern_tree pattern.now)) seq.now) }
+        ≡ joined_image (fields_tree tags.now)
+        (patterns_by_name (sorted (lists_of (fields_tree tags.now))) (pattern_tree pattern.now)) seq.now) }
 {
     let Some(lists) = tag_lists(alloc, tags, seq, pattern)? else {
         return Ok(None);

@@ -1,6 +1,7 @@
 //! From the left of a partition: the contents of the items, in a list for each tag.
 
-ghost use Rattle.std.specs.Prelude.{◌≡◌, ◌<◌, ◌++◌, ◌∷◌, [], IsTrue, IfOk, OnOk, IfSome, MatchOption, None, Some, length, map, option_map, replicate};
+ghost use Rattle.std.specs.Prelude.{◌≡◌, ◌<◌, ◌++◌, ◌∷◌, [], IsTrue, IfOk, OnOk, IfSome, MatchOption, None, Some};
+ghost use Rattle.std.specs.Prelude.{length, map, option_map, replicate};
 ghost use Rattle.doc_values.specs.Types.{fields_tree, names_of};
 ghost use Rattle.tag_seq.specs.Tags.{are_below};
 ghost use Rattle.lens_core.specs.Tags.{tag_count, tag_number};
@@ -31,7 +32,8 @@ pub(crate) fn contents_by_tag(
     requires long { pattern_count (patterns_tree items.now) ≡ length seq.now }
     ensures { IfOk result (λ r. MatchOption r
         (content_patterns (fields_tree tags.now) seq.now (patterns_tree items.now) ≡ None)
-        (λ v. option_map (lists_by_tag (tag_count (fields_tree tags.now)) seq.now) (content_patterns (fields_tree tags.now) seq.now (patterns_tree items.now)) ≡ Some (map trees_in v.items))) }
+        (λ v. option_map (lists_by_tag (tag_count (fields_tree tags.now)) seq.now)
+        (content_patterns (fields_tree tags.now) seq.now (patterns_tree items.now)) ≡ Some (map trees_in v.items))) }
 {
     let fields = tags.as_slice();
     let mut lists = empty_lists(alloc, fields.len())?;
@@ -81,7 +83,8 @@ fn push_content(
     content: Pattern,
 ) -> Result<(), AllocError>
     requires { tag < length lists.old.items }
-    ensures { OnOk result (map trees_in lists.new.items ≡ with_content tag (pattern_tree content) (map trees_in lists.old.items)) }
+    ensures { OnOk result (map trees_in lists.new.items
+        ≡ with_content tag (pattern_tree content) (map trees_in lists.old.items)) }
 {
     push(&mut lists[tag], content)?;
     Ok(())
@@ -95,7 +98,10 @@ pub(crate) fn record_of_lists(
 ) -> Result<Pattern, AllocError>
     requires { length lists.items ≡ tag_count (fields_tree tags.now) }
     ensures { IfOk result (λ p. pattern_tree p
-        ≡ rec_pattern (patterns_from (map (list_at_tag (fields_tree tags.now) (map trees_in lists.items)) (names_of (sorted (lists_of (fields_tree tags.now))))))) }
+        ≡ rec_pattern
+        (patterns_from
+        (map (list_at_tag (fields_tree tags.now) (map trees_in lists.items))
+        (names_of (sorted (lists_of (fields_tree tags.now))))))) }
 {
     let shared = shared_lists(alloc, lists)?;
     let names = field_names(alloc, tags)?;

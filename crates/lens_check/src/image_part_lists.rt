@@ -58,7 +58,8 @@ fn is_list_of(shape: &Shape, count: u64) -> bool
 
 /// A list of these patterns.
 pub(crate) fn list_of(alloc: Global, items: Vec<Pattern>) -> Result<Pattern, AllocError>
-    ensures { IfOk result (λ p. pattern_tree p ≡ list_pattern (length items.items) (patterns_from (map pattern_tree items.items))) }
+    ensures { IfOk result
+        (λ p. pattern_tree p ≡ list_pattern (length items.items) (patterns_from (map pattern_tree items.items))) }
 {
     let count = items.len() as u64;
     let patterns = Patterns::from_vec(alloc, items)?;

@@ -1,6 +1,7 @@
 //! From the right of a partition: the lists of the tags, and the items in the order of their tags.
 
-ghost use Rattle.std.specs.Prelude.{◌≡◌, ◌<◌, IsTrue, IfOk, MatchOption, None, Some, length, map, option_map, slice_index_or};
+ghost use Rattle.std.specs.Prelude.{◌≡◌, ◌<◌, IsTrue, IfOk, MatchOption, None, Some, length, map, option_map};
+ghost use Rattle.std.specs.Prelude.{slice_index_or};
 ghost use Rattle.std.specs.List.{range_with_len};
 ghost use Rattle.doc_values.specs.Types.{fields_tree, type_fields_of, field_tree, names_of};
 ghost use Rattle.tag_seq.specs.Tags.{are_below};
@@ -32,8 +33,11 @@ pub(crate) fn tag_lists(
 ) -> Result<Option<Vec<Patterns>>, AllocError>
     requires { IsTrue (are_below (tag_count (fields_tree tags.now)) seq.now) }
     ensures { IfOk result (λ r. MatchOption r
-        (tag_lists (fields_tree tags.now) 0 seq.now (field_pattern (names_of (sorted (lists_of (fields_tree tags.now)))) (pattern_tree pattern.now)) ≡ None)
-        (λ v. tag_lists (fields_tree tags.now) 0 seq.now (field_pattern (names_of (sorted (lists_of (fields_tree tags.now)))) (pattern_tree pattern.now)) ≡ Some (map patterns_tree v.items))) }
+        (tag_lists (fields_tree tags.now) 0 seq.now
+        (field_pattern (names_of (sorted (lists_of (fields_tree tags.now)))) (pattern_tree pattern.now)) ≡ None)
+        (λ v. tag_lists (fields_tree tags.now) 0 seq.now
+        (field_pattern (names_of (sorted (lists_of (fields_tree tags.now)))) (pattern_tree pattern.now))
+        ≡ Some (map patterns_tree v.items))) }
 {
     let fields = tags.as_slice();
     let names = field_names(alloc, tags)?;
@@ -49,7 +53,8 @@ pub(crate) fn tag_lists(
     Ok(Some(lists))
 }
 
-// The patterns of the list with this number of items at the field of this name. The names are those of the record's fields.
+// The patterns of the list with this number of items at the field of this name. The names are those of the record's
+// fields.
 fn list_of_tag(
     alloc: Global,
     names: &[Name],
@@ -57,7 +62,8 @@ fn list_of_tag(
     name: &Name,
     count: u64,
 ) -> Result<Option<Patterns>, AllocError>
-    ensures { IfOk result (λ r. option_map patterns_tree r ≡ patterns_in_list count (field_pattern names.now (pattern_tree pattern.now) name.now)) }
+    ensures { IfOk result (λ r. option_map patterns_tree r
+        ≡ patterns_in_list count (field_pattern names.now (pattern_tree pattern.now) name.now)) }
 {
     let Pattern::Rec(contents) = pattern else {
         return Ok(Some(holes(alloc, count)?));
@@ -80,7 +86,8 @@ pub(crate) fn items(
     requires fit { IsTrue (are_below (tag_count (fields_tree tags.now)) seq.now) }
     requires long { length lists.now ≡ tag_count (fields_tree tags.now) }
     ensures { IfOk result (λ p. pattern_tree p
-        ≡ list_of (map (item_at (fields_tree tags.now) seq.now (map patterns_tree lists.now)) (range_with_len 0 (length seq.now)))) }
+        ≡ list_of (map (item_at (fields_tree tags.now) seq.now (map patterns_tree lists.now))
+        (range_with_len 0 (length seq.now)))) }
 {
     let fields = tags.as_slice();
     let mut items = Vec::new(alloc);

@@ -8,7 +8,8 @@ ghost use Rattle.lens_forms.specs.Forms.{row_tree, rows_tree};
 ghost use Rattle.lens_core.specs.Sides.{fields_on};
 ghost use Rattle.image_laws.specs.Image.{patterns_by_name};
 ghost use Rattle.image_laws.specs.Patterns.{pattern_tree, hole};
-ghost use Rattle.lens_check.specs.ImageParts.{field_pattern, has_field_before, if_far, place_among, names_in, patterns_in};
+ghost use Rattle.lens_check.specs.ImageParts.{field_pattern, has_field_before, if_far, place_among, names_in};
+ghost use Rattle.lens_check.specs.ImageParts.{patterns_in};
 
 use crate::owned::put_at;
 use image_laws::Pattern;
@@ -44,8 +45,10 @@ impl SortedFields {
         pattern: Pattern,
     ) -> Result<(), AllocError>
         requires { length (names_in self.old) ≡ length (patterns_in self.old) }
-        ensures names { OnOk result (names_in self.new ≡ insert (names_in self.old) (place_among name.now (names_in self.old)) name.now) }
-        ensures patterns { OnOk result (patterns_in self.new ≡ insert (patterns_in self.old) (place_among name.now (names_in self.old)) (pattern_tree pattern)) }
+        ensures names { OnOk result
+            (names_in self.new ≡ insert (names_in self.old) (place_among name.now (names_in self.old)) name.now) }
+        ensures patterns { OnOk result (patterns_in self.new
+            ≡ insert (patterns_in self.old) (place_among name.now (names_in self.old)) (pattern_tree pattern)) }
     {
         let place = place_among(&self.names, name);
         put_at(&mut self.patterns, place, pattern)?;
@@ -63,9 +66,11 @@ impl SortedFields {
     ) -> Result<(), AllocError>
         requires { length (names_in self.old) ≡ length (patterns_in self.old) }
         ensures names { OnOk result (names_in self.new
-            ≡ if_far of side (insert (names_in self.old) (place_among name.now (names_in self.old)) name.now) (names_in self.old)) }
+            ≡ if_far of side (insert (names_in self.old) (place_among name.now (names_in self.old)) name.now)
+            (names_in self.old)) }
         ensures patterns { OnOk result (patterns_in self.new
-            ≡ if_far of side (insert (patterns_in self.old) (place_among name.now (names_in self.old)) hole) (patterns_in self.old)) }
+            ≡ if_far of side (insert (patterns_in self.old) (place_among name.now (names_in self.old)) hole)
+            (patterns_in self.old)) }
     {
         match (of, side) {
             (Side::Left, Side::Right) => self.put(alloc, name, Pattern::Hole),
@@ -89,7 +94,8 @@ fn place_among(names: &[Name], name: &Name) -> usize
     names.len()
 }
 
-// The pattern at a field of a side, in the pattern of a record: a hole where the pattern has none, which is `otherwise`.
+// The pattern at a field of a side, in the pattern of a record: a hole where the pattern has none, which is
+// `otherwise`.
 //
 // It passes over the rows, to count the fields that are before this one.
 #[tactic(auto, using(crate::proofs::FieldPlaces::near_place))]
@@ -103,7 +109,8 @@ pub(crate) fn near_pattern<'a>(
     requires is_hole { pattern_tree otherwise.now ≡ hole }
     requires among { IsTrue (has_name name.now (names_of (fields_on side (rows_tree rows.now)))) }
     requires apart { IsTrue (is_rising (names_of (fields_on side (rows_tree rows.now)))) }
-    ensures { pattern_tree result.now ≡ patterns_by_name (fields_on side (rows_tree rows.now)) (pattern_tree pattern.now) name.now }
+    ensures { pattern_tree result.now ≡ patterns_by_name (fields_on side (rows_tree rows.now))
+        (pattern_tree pattern.now) name.now }
 {
     field_pattern(pattern, field_place(rows, side, name), otherwise)
 }

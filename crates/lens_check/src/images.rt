@@ -22,12 +22,12 @@ use lens_forms::{Form, FormArms, FormRow, FormRows};
 use std::alloc::{AllocError, Global};
 use texts::{Name, Side, Twin};
 
-// The image of a pattern of a side through a typed form, with a complement that fits: the pattern of all documents of the
-// other side that are consistent, with this complement, with a document in the pattern. None where there are none, if the
-// pattern is of the type of its side. Fails only if memory runs out.
+// The image of a pattern of a side through a typed form, with a complement that fits: the pattern of all documents of
+// the other side that are consistent, with this complement, with a document in the pattern. None where there are none,
+// if the pattern is of the type of its side. Fails only if memory runs out.
 //
-// It takes time in proportion to the pattern and the complement. In each record, every paired row passes over all rows, to
-// find its near field by its place.
+// It takes time in proportion to the pattern and the complement. In each record, every paired row passes over all rows,
+// to find its near field by its place.
 #[tactic(auto, using(crate::proofs::ReadyForms::fits_ready))]
 pub(crate) fn image(
     alloc: Global,
@@ -85,7 +85,8 @@ fn image_then(
 ) -> Result<Option<Pattern>, AllocError>
     requires { IsReady (form_then (form_tree first.now) (form_tree second.now)) (comp_tree comp.now) }
     ensures { IfOk result (λ q. option_map pattern_tree q
-        ≡ image (form_then (form_tree first.now) (form_tree second.now)) side (comp_tree comp.now) (pattern_tree pattern.now)) }
+        ≡ image (form_then (form_tree first.now) (form_tree second.now)) side (comp_tree comp.now)
+        (pattern_tree pattern.now)) }
 {
     let Comp::Then(first_comp, second_comp) = comp else {
         return Ok(None);
@@ -164,7 +165,8 @@ fn image_of_field(
     requires among { IsTrue (has_name name.now (names_of (fields_on side (rows_tree rows.now)))) }
     requires apart { IsTrue (is_rising (names_of (fields_on side (rows_tree rows.now)))) }
     ensures { IfOk result (λ q. option_map pattern_tree q
-        ≡ image (form_tree form.now) side (comp_tree comp.now) (patterns_by_name (fields_on side (rows_tree rows.now)) (pattern_tree pattern.now) name.now)) }
+        ≡ image (form_tree form.now) side (comp_tree comp.now)
+        (patterns_by_name (fields_on side (rows_tree rows.now)) (pattern_tree pattern.now) name.now)) }
 {
     let hole = Pattern::Hole;
     let field = near_pattern(rows, side, name, pattern, &hole);
@@ -206,7 +208,8 @@ fn image_arm(
 ) -> Result<Option<Pattern>, AllocError>
     requires { IsReady (form_tree arm.now.2) (comp_tree comp.now) }
     ensures { IfOk result (λ q. option_map pattern_tree q
-        ≡ arm_pattern (near side arm.now.0 arm.now.1) (far side arm.now.0 arm.now.1) (image (form_tree arm.now.2) side (comp_tree comp.now)) (pattern_tree pattern.now)) }
+        ≡ arm_pattern (near side arm.now.0 arm.now.1) (far side arm.now.0 arm.now.1)
+        (image (form_tree arm.now.2) side (comp_tree comp.now)) (pattern_tree pattern.now)) }
 {
     let Some(content) = content_pattern(pattern, near(side, &arm.0, &arm.1)) else {
         return Ok(None);

@@ -2,8 +2,8 @@
 //!
 //! [`consistent`] says whether two documents and a complement are consistent. It goes by images: the image of a pattern
 //! through a lens is the pattern of all documents of the other side that are consistent with some document in the given
-//! one, and [`image`] makes it. [`conforms`] says whether a complement fits a form, [`matches`] whether a document is in a
-//! pattern, and [`pattern_of`] makes the pattern of a document. Patterns are those of `image_laws`.
+//! one, and [`image`] makes it. [`conforms`] says whether a complement fits a form, [`matches`] whether a document is
+//! in a pattern, and [`pattern_of`] makes the pattern of a document. Patterns are those of `image_laws`.
 #![tactic(auto)]
 
 mod decision;

@@ -10,8 +10,8 @@ use doc_values::{Doc, Docs};
 use hold_shapes::Shape;
 use image_laws::{Pattern, Patterns};
 
-/// Whether the document is in the pattern: it differs from the pattern only where the pattern has holes. Nothing is said
-/// of its type.
+/// Whether the document is in the pattern: it differs from the pattern only where the pattern has holes. Nothing is
+/// said of its type.
 ///
 /// Does not allocate. It takes time in proportion to the pattern.
 #[tactic(auto, using(crate::proofs::MatchTests::match_test))]

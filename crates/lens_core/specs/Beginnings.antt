@@ -10,13 +10,15 @@ use Rattle.lens_core.specs.declared.carry.Begun.TheVariants.{Done, Inner}
 use Rattle.lens_core.specs.declared.carry.CarryFault.{CarryFault}
 use Rattle.lens_core.specs.declared.carry.CarryFault.TheVariants.{Unfit, NoMemory}
 
--- the result, where no lens inside is needed; else the number of the lens inside, its complement, and the word to translate
+-- the result, where no lens inside is needed; else the number of the lens inside, its complement, and the word to
+-- translate
 pub data Beginning : Type 0 where
   finished : Translated → Beginning
   inside : ℕ → CompTree → WordTree → Beginning
 
 -- the whole translation: the lens inside of a number translates, and its result is put in its place
-abbrev pub carried_on : (ℕ → CompTree → WordTree → Option Translated) → (Translated → Translated) → Beginning → Option Translated
+abbrev pub carried_on : (ℕ → CompTree → WordTree → Option Translated) → (Translated → Translated) → Beginning
+    → Option Translated
 carried_on inner finish (finished r) = Some r
 carried_on inner finish (inside i c w) = option_map finish (inner i c w)
 

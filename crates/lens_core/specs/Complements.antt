@@ -1,11 +1,13 @@
--- Complements as plain trees: what neither document holds and a lens needs. Which complements fit a form, and its first one.
--- In order: `CompTree`, `Fits`, `missing`, and `comp_tree`, the tree that contracts see a complement as.
+-- Complements as plain trees: what neither document holds and a lens needs. Which complements fit a form, and its first
+-- one. In order: `CompTree`, `Fits`, `missing`, and `comp_tree`, the tree that contracts see a complement as.
 use Rattle.std.specs.Prelude.{◌≡◌, ◌⊎◌, ℕ, ◌+◌, IsTrue, List, [], ◌∷◌}
 use Rattle.hold_shapes.specs.declared.shape.Shape.{Shape}
 use Rattle.hold_shapes.specs.declared.shape.Shape.TheVariants.{List as ListOf, Keyed as KeyedOf, Tree as TreeOf}
 use Rattle.tag_seq.specs.Tags.{are_below}
 use Rattle.doc_values.specs.Typing.{is_list_of, is_keyed_of, is_tree_of}
-use Rattle.lens_forms.specs.Forms.{FormTree, form_id, form_bij, form_disc, form_then, form_rec, form_alt, form_each, form_keyed, form_ordered, form_part, form_inv, RowTrees, no_rows, both, only_left, only_right, ArmTrees, no_arms, more_arms}
+use Rattle.lens_forms.specs.Forms.{FormTree, form_id, form_bij, form_disc, form_then, form_rec, form_alt, form_each}
+use Rattle.lens_forms.specs.Forms.{form_keyed, form_ordered, form_part, form_inv, RowTrees, no_rows, both, only_left}
+use Rattle.lens_forms.specs.Forms.{only_right, ArmTrees, no_arms, more_arms}
 use Rattle.lens_core.specs.Tags.{tag_count}
 use Rattle.lens_core.specs.declared.comp.Comp.{Comp, fold-Comp}
 use Rattle.lens_core.specs.declared.comp.Comps.{Comps, fold-Comps}
@@ -86,7 +88,8 @@ abbrev mutual
   FitsArm no_arms t c = ⊥
   FitsArm (more_arms a b l arms) t c = ((t ≡ a) × Fits l c) ⊎ FitsArm arms t c
 
--- The first complement of a form, which belongs to the initial documents. A typed form has an arm in each of its alternatives.
+-- The first complement of a form, which belongs to the initial documents. A typed form has an arm in each of its
+-- alternatives.
 abbrev mutual
   pub missing : FormTree → CompTree
   missing (form_id t) = nil

@@ -1,13 +1,18 @@
--- The consistency relation: which left document, complement and right document belong together. `IsConsistent`, at the end, has a
--- line for each form. No edit occurs in it.
-use Rattle.std.specs.Prelude.{◌≡◌, ℕ, IsTrue, bytes_eq, if◌then◌else◌, List, [], ◌∷◌, map, length, Option, None, Some, ◌⊎◌}
+-- The consistency relation: which left document, complement and right document belong together. `IsConsistent`, at the
+-- end, has a line for each form. No edit occurs in it.
+use Rattle.std.specs.Prelude.{◌≡◌, ℕ, IsTrue, bytes_eq, if◌then◌else◌, List, [], ◌∷◌, map, length, Option, None, Some}
+use Rattle.std.specs.Prelude.{◌⊎◌}
 use Rattle.hold_shapes.specs.declared.shape.Shape.TheVariants.{List as ListOf}
 use Rattle.doc_values.specs.Documents.{DocTree, pick, rec, alt, hold, DocTrees, no_docs, more_docs, docs_of, doc_list}
 use Rattle.doc_values.specs.Types.{FieldTrees, no_fields, more_fields}
 use Rattle.doc_values.specs.Typing.{has}
-use Rattle.lens_forms.specs.Forms.{FormTree, form_id, form_bij, form_disc, form_then, form_rec, form_alt, form_each, form_keyed, form_ordered, form_part, form_inv, RowTrees, no_rows, both, only_left, only_right, ArmTrees, no_arms, more_arms, left_type, left_fields, right_type, right_fields, sorted, lists_of}
+use Rattle.lens_forms.specs.Forms.{FormTree, form_id, form_bij, form_disc, form_then, form_rec, form_alt, form_each}
+use Rattle.lens_forms.specs.Forms.{form_keyed, form_ordered, form_part, form_inv, RowTrees, no_rows, both, only_left}
+use Rattle.lens_forms.specs.Forms.{only_right, ArmTrees, no_arms, more_arms, left_type, left_fields, right_type}
+use Rattle.lens_forms.specs.Forms.{right_fields, sorted, lists_of}
 use Rattle.lens_core.specs.Tags.{tag_number}
-use Rattle.lens_core.specs.Complements.{CompTree, then_comp, rec_comp, alt_comp, hold_comp, tags_comp, CompTrees, no_comps, more_comps, Fits}
+use Rattle.lens_core.specs.Complements.{CompTree, then_comp, rec_comp, alt_comp, hold_comp, tags_comp, CompTrees}
+use Rattle.lens_core.specs.Complements.{no_comps, more_comps, Fits}
 
 -- the left document has the left type, the complement fits, and the right document has the right type
 pub record AreTyped (form : FormTree) (left : DocTree) (comp : CompTree) (right : DocTree) : Type 0 where
@@ -30,7 +35,8 @@ ArePartners ps _ _ = ⊥
 -- ---- composition
 
 -- a document in the middle is consistent with both outer ones
-abbrev pub HasMiddle : (DocTree → CompTree → DocTree → Type 0) → (DocTree → CompTree → DocTree → Type 0) → DocTree → CompTree → DocTree → Type 0
+abbrev pub HasMiddle : (DocTree → CompTree → DocTree → Type 0) → (DocTree → CompTree → DocTree → Type 0) → DocTree
+    → CompTree → DocTree → Type 0
 HasMiddle first second x (then_comp c d) z = (y : DocTree) × first x c y × second y d z
 HasMiddle first second x _ z = ⊥
 
@@ -49,7 +55,8 @@ AreRecords rows _ _ _ = ⊥
 -- ---- alternatives
 
 -- three tags, each with its content
-abbrev pub AreAlternatives : (List ℕ → DocTree → List ℕ → CompTree → List ℕ → DocTree → Type 0) → DocTree → CompTree → DocTree → Type 0
+abbrev pub AreAlternatives : (List ℕ → DocTree → List ℕ → CompTree → List ℕ → DocTree → Type 0) → DocTree → CompTree
+    → DocTree → Type 0
 AreAlternatives arm (alt m x) (alt_comp t c) (alt n y) = arm m x t c n y
 AreAlternatives arm _ _ _ = ⊥
 
@@ -86,11 +93,13 @@ list_doc vs = hold (ListOf (record { count = length vs })) (docs_of vs)
 -- the record ys, of the fields gs, has at each tag the list of the contents of the items with that tag
 abbrev pub HasTheirContents : FieldTrees → FieldTrees → DocTrees → List DocTree → Type 0
 HasTheirContents no_fields gs ys xs = Unit {0}
-HasTheirContents (more_fields n t fs) gs ys xs = (content gs ys n ≡ Some (list_doc (contents_with n xs))) × HasTheirContents fs gs ys xs
+HasTheirContents (more_fields n t fs) gs ys xs = (content gs ys n ≡ Some (list_doc (contents_with n xs)))
+    × HasTheirContents fs gs ys xs
 
 -- the complement has the tags of the left items, and the right document their contents by tags
 abbrev pub AreParted : FieldTrees → FieldTrees → DocTree → CompTree → DocTree → Type 0
-AreParted fs gs (hold s xs) (tags_comp ts) (rec ys) = (map (item_tag fs) (doc_list xs) ≡ map Some ts) × HasTheirContents fs gs ys (doc_list xs)
+AreParted fs gs (hold s xs) (tags_comp ts) (rec ys) = (map (item_tag fs) (doc_list xs) ≡ map Some ts)
+    × HasTheirContents fs gs ys (doc_list xs)
 AreParted fs gs _ _ _ = ⊥
 
 -- ---- the relation
@@ -98,18 +107,20 @@ AreParted fs gs _ _ _ = ⊥
 -- It holds only where the documents have the two types and the complement fits. Beyond that, by the form:
 -- of the identity the two documents are equal; of a bijection they are partners; a disconnection asks nothing more;
 -- of a composition some middle document is consistent with both;
--- of a record the left field, its complement and the right field of each paired row are in the relation of the row's lens;
--- of alternatives the three tags are those of one arm, and the contents are in the relation of its lens;
--- of a container the three shapes are the same, and the contents at each place are in the relation of the inner lens;
--- of a partition the complement has the tags of the left items, and each list on the right their contents in order;
--- an inverse turns the sides.
+-- of a record the left field, its complement and the right field of each paired row are in the relation of the row's
+-- lens; of alternatives the three tags are those of one arm, and the contents are in the relation of its lens; of a
+-- container the three shapes are the same, and the contents at each place are in the relation of the inner lens; of a
+-- partition the complement has the tags of the left items, and each list on the right their contents in order; an
+-- inverse turns the sides.
 abbrev mutual
   pub IsConsistent : FormTree → DocTree → CompTree → DocTree → Type 0
   IsConsistent (form_id t) x c y = AreTyped (form_id t) x c y × (x ≡ y)
   IsConsistent (form_bij ps n) x c y = AreTyped (form_bij ps n) x c y × ArePartners ps x y
   IsConsistent (form_disc t u) x c y = AreTyped (form_disc t u) x c y
-  IsConsistent (form_then l k) x c y = AreTyped (form_then l k) x c y × HasMiddle (IsConsistent l) (IsConsistent k) x c y
-  IsConsistent (form_rec rows) x c y = AreTyped (form_rec rows) x c y × AreRecords (λ xs cs ys. AreConsistentRows rows (left_fields rows) xs cs (right_fields rows) ys) x c y
+  IsConsistent (form_then l k) x c y = AreTyped (form_then l k) x c y
+      × HasMiddle (IsConsistent l) (IsConsistent k) x c y
+  IsConsistent (form_rec rows) x c y = AreTyped (form_rec rows) x c y
+      × AreRecords (λ xs cs ys. AreConsistentRows rows (left_fields rows) xs cs (right_fields rows) ys) x c y
   IsConsistent (form_alt arms) x c y = AreTyped (form_alt arms) x c y × AreAlternatives (IsInArm arms) x c y
   IsConsistent (form_each l) x c y = AreTyped (form_each l) x c y × AreHeld (IsConsistent l) x c y
   IsConsistent (form_keyed l) x c y = AreTyped (form_keyed l) x c y × AreHeld (IsConsistent l) x c y

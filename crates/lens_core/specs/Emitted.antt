@@ -2,7 +2,8 @@
 use Rattle.hold_shapes.specs.declared.edit.Place.{Place}
 use Rattle.hold_shapes.specs.declared.edit.ShapeEdit.{ShapeEdit}
 use Rattle.std.specs.Prelude.{ℕ, List, Option, Some, option_map, option_and_then}
-use Rattle.edit_module.specs.Words.{PrimitiveTree, at, stay, switch, modify, shape, WordTree, no_primitives, more_primitives, joined}
+use Rattle.edit_module.specs.Words.{PrimitiveTree, at, stay, switch, modify, shape, WordTree, no_primitives}
+use Rattle.edit_module.specs.Words.{more_primitives, joined}
 
 -- a word of one primitive
 abbrev pub one : PrimitiveTree → WordTree
@@ -32,7 +33,10 @@ shape_word e = one (shape e)
 abbrev pub behind : {C : Type 0} → WordTree → WordTree × C → WordTree × C
 behind u r = (joined u r.0, r.1)
 
--- the primitives of a word one after another, each with what the one before kept, and the words joined; none where one of them is none
-abbrev pub one_by_one : {C : Type 0} → (C → PrimitiveTree → Option (WordTree × C)) → C → WordTree → Option (WordTree × C)
+-- the primitives of a word one after another, each with what the one before kept, and the words joined; none where one
+-- of them is none
+abbrev pub one_by_one : {C : Type 0} → (C → PrimitiveTree → Option (WordTree × C)) → C → WordTree
+    → Option (WordTree × C)
 one_by_one rule c no_primitives = Some (no_primitives, c)
-one_by_one rule c (more_primitives p w) = option_and_then (λ r. option_map (behind r.0) (one_by_one rule r.1 w)) (rule c p)
+one_by_one rule c (more_primitives p w) =
+    option_and_then (λ r. option_map (behind r.0) (one_by_one rule r.1 w)) (rule c p)

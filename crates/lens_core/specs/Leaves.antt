@@ -1,6 +1,7 @@
 -- The forms of lenses that keep nothing.
 use Rattle.std.specs.Prelude.{Bool, true, false}
-use Rattle.lens_forms.specs.Forms.{FormTree, form_id, form_bij, form_disc, form_then, form_rec, form_alt, form_each, form_keyed, form_ordered, form_part, form_inv}
+use Rattle.lens_forms.specs.Forms.{FormTree, form_id, form_bij, form_disc, form_then, form_rec, form_alt, form_each}
+use Rattle.lens_forms.specs.Forms.{form_keyed, form_ordered, form_part, form_inv}
 
 -- an identity, a bijection or a disconnection
 abbrev pub is_leaf : FormTree → Bool

@@ -1,7 +1,9 @@
--- Translation through a partition: `part_left` and `part_right`, at the end of the two parts below. A list of alternatives stands on
--- the left, a record of a list for each tag on the right, and the complement is the list of the tags' numbers. All numbers of a line
--- are those of the tags before it, unless it says otherwise.
-use Rattle.std.specs.Prelude.{ℕ, zero, suc, ◌+◌, ◌-◌, Bool, true, false, ◌&&◌, nat_eq, nat_lt, nat_le, if◌then◌else◌, List, [], ◌∷◌, ◌++◌, length, map, replicate, take, drop, slice_index, slice_set, Option, Some, None, option_and_then}
+-- Translation through a partition: `part_left` and `part_right`, at the end of the two parts below. A list of
+-- alternatives stands on the left, a record of a list for each tag on the right, and the complement is the list of the
+-- tags' numbers. All numbers of a line are those of the tags before it, unless it says otherwise.
+use Rattle.std.specs.Prelude.{ℕ, zero, suc, ◌+◌, ◌-◌, Bool, true, false, ◌&&◌, nat_eq, nat_lt, nat_le, if◌then◌else◌}
+use Rattle.std.specs.Prelude.{List, [], ◌∷◌, ◌++◌, length, map, replicate, take, drop, slice_index, slice_set, Option}
+use Rattle.std.specs.Prelude.{Some, None, option_and_then}
 use Rattle.std.specs.List.{range_with_len, remove}
 use Rattle.hold_shapes.specs.declared.edit.Place.TheVariants.{Index}
 use Rattle.hold_shapes.specs.declared.edit.ShapeEdit.TheVariants.{Ins, Del, MoveItem, Reorder}
@@ -53,7 +55,8 @@ abbrev pub stay_item : FieldTrees → ℕ → List ℕ → List ℕ → WordTree
 stay_item fs p ts n u t =
     where_holds (nat_eq t (slice_index ts p)) (at_word n (mod_word (Index (rank t p ts)) u), ts)
 
--- Switch a b u at the item at p, a its tag and b a tag: the content is deleted from the list of a, and one is inserted into that of b.
+-- Switch a b u at the item at p, a its tag and b a tag: the content is deleted from the list of a, and one is inserted
+-- into that of b.
 abbrev pub switch_item : ℕ → List ℕ → List ℕ → List ℕ → WordTree → ℕ → ℕ → Option Parted
 switch_item p ts a_name b_name u a b =
     let r = rank a p ts in
@@ -121,12 +124,15 @@ mod_occurrence n t ts q u = (mod_word (Index (place_in ts t q)) (stay_word n u),
 -- a switch from the first tag to the tag n, at c places from x on
 abbrev pub switch_places : List ℕ → List ℕ → ℕ → ℕ → WordTree
 switch_places first n x zero = no_primitives
-switch_places first n x (suc c) = joined (mod_word (Index x) (switch_word first n no_primitives)) (switch_places first n (x + 1) c)
+switch_places first n x (suc c) =
+    joined (mod_word (Index x) (switch_word first n no_primitives)) (switch_places first n (x + 1) c)
 
 -- Insertions are at the end of the list; those of another tag than the first are switched to it.
 abbrev pub insert_occurrences : List ℕ → List ℕ → ℕ → List ℕ → ℕ → Parted
-insert_occurrences first n t ts c =
-    (joined (shape_word (Ins c)) (if nat_eq t 0 then no_primitives else switch_places first n (length ts) c), ts ++ replicate c t)
+insert_occurrences first n t ts c = (
+  joined (shape_word (Ins c)) (if nat_eq t 0 then no_primitives else switch_places first n (length ts) c),
+  ts ++ replicate c t,
+)
 
 -- the last item with the tag t is moved to the end and deleted
 abbrev pub delete_last : ℕ → List ℕ → Parted
@@ -161,7 +167,8 @@ reorder_occurrences t ts f = (reorder (map (place_from t ts f) (range_with_len 0
 abbrev pub part_occurrence : List ℕ → List ℕ → ℕ → List ℕ → PrimitiveTree → Option Parted
 part_occurrence first n t ts (modify (Index q) u) = where_holds (nat_lt q (count t ts)) (mod_occurrence n t ts q u)
 part_occurrence first n t ts (shape (Ins c)) = where_holds (is_count c) (insert_occurrences first n t ts c)
-part_occurrence first n t ts (shape (Del c)) = where_holds (is_count c && nat_le c (count t ts)) (delete_occurrences t ts c)
+part_occurrence first n t ts (shape (Del c)) =
+    where_holds (is_count c && nat_le c (count t ts)) (delete_occurrences t ts c)
 part_occurrence first n t ts (shape (MoveItem i j)) =
     where_holds (nat_lt i (count t ts) && nat_lt j (count t ts)) (move_occurrence t ts i j)
 part_occurrence first n t ts (shape (Reorder f)) =
@@ -170,5 +177,6 @@ part_occurrence first n t ts _ = None
 
 -- one primitive of the record
 abbrev pub part_right : FieldTrees → List ℕ → PrimitiveTree → Option Parted
-part_right fs ts (at n w) = option_and_then (λ t. one_by_one (part_occurrence (tag_name fs 0) n t) ts w) (tag_number fs n)
+part_right fs ts (at n w) =
+    option_and_then (λ t. one_by_one (part_occurrence (tag_name fs 0) n t) ts w) (tag_number fs n)
 part_right fs ts _ = None

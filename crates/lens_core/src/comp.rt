@@ -2,7 +2,8 @@
 
 ghost use Rattle.std.specs.Prelude.{◌≡◌, ◌↔◌, ◌<◌, All, map, slice_set, slice_index_or, IsTrue, IfOk, OnOk, OnErr};
 ghost use Rattle.hold_shapes.specs.Gather.{content_at, IsBelow};
-ghost use Rattle.lens_core.specs.Complements.{comp_tree, comps_tree, comps_of, comp_list, comp_count, nil, then_comp, no_comps};
+ghost use Rattle.lens_core.specs.Complements.{comp_tree, comps_tree, comps_of, comp_list, comp_count, nil, then_comp};
+ghost use Rattle.lens_core.specs.Complements.{no_comps};
 
 use hold_shapes::{Origins, Shape, gather};
 use shared_lists::{Hint, Iter, SharedList};

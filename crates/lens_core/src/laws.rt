@@ -4,7 +4,8 @@
 ghost use Rattle.std.specs.Prelude.{◌≡◌, IsTrue, List, ℕ};
 ghost use Rattle.texts.specs.declared.side.Side.{Side};
 ghost use Rattle.doc_values.specs.Types.{TyTree, is_well_formed};
-ghost use Rattle.lens_forms.specs.Forms.{FormTree, form_id, form_bij, form_disc, form_then, form_inv, left_type, right_type};
+ghost use Rattle.lens_forms.specs.Forms.{FormTree, form_id, form_bij, form_disc, form_then, form_inv, left_type};
+ghost use Rattle.lens_forms.specs.Forms.{right_type};
 ghost use Rattle.lens_forms.specs.Typing.{is_typed};
 ghost use Rattle.lens_core.specs.Laws.{Laws, StartsConsistent, ConsistentIsTyped, EditsCarry, EmptyStays, WordsCompose};
 
@@ -16,7 +17,8 @@ pub fn identity_laws()
 /// A bijection that is typed keeps the laws.
 #[tactic(auto, using(crate::proofs::LawsOfLeaves::typed_bij_laws))]
 pub fn bijection_laws()
-    ensures { (pairs : List (List ℕ × List ℕ)) (value : List ℕ) → IsTrue (is_typed (form_bij pairs value)) → Laws (form_bij pairs value) }
+    ensures { (pairs : List (List ℕ × List ℕ)) (value : List ℕ) → IsTrue (is_typed (form_bij pairs value))
+        → Laws (form_bij pairs value) }
 {}
 
 /// The disconnection of two well-formed types keeps the laws.

@@ -21,8 +21,8 @@ use texts::{Name, Side, Str, Twin};
 
 /// Translates one primitive of a side by an identity, a bijection or a disconnection, at the complement Nil.
 ///
-/// An identity passes on the primitive, a bijection sets the partner of a member, a disconnection translates to the empty
-/// word.
+/// An identity passes on the primitive, a bijection sets the partner of a member, a disconnection translates to the
+/// empty word.
 ///
 /// - `Unfit`: if and only if the translation has no value.
 /// - `NoMemory`: only if memory ran out.

@@ -10,7 +10,8 @@ ghost use Rattle.edit_module.specs.Words.{WordTree};
 ghost use Rattle.lens_core.specs.Complements.{CompTree, comp_tree};
 ghost use Rattle.lens_core.specs.Sides.{near};
 ghost use Rattle.lens_core.specs.Translation.{Translated, carried_tree, IsCarryFault};
-ghost use Rattle.lens_core.specs.Laws.{TypesAreWellFormed, StartTogether, TogetherAreTyped, WordsCarry, EmptyIsKept, JoinedInTurn};
+ghost use Rattle.lens_core.specs.Laws.{TypesAreWellFormed, StartTogether, TogetherAreTyped, WordsCarry, EmptyIsKept};
+ghost use Rattle.lens_core.specs.Laws.{JoinedInTurn};
 
 use crate::carry::{Carried, CarryFault};
 use crate::comp::Comp;

@@ -1,9 +1,9 @@
 //! Lenses: complements, the consistency relation and translation.
 //!
-//! A `Form` of lens_forms says which documents belong together. A [`Comp`], the complement, is what is remembered beside
-//! them. The relation between left document, complement and right document is `IsConsistent` of specs/. A word of one side
-//! is translated to a word of the other by `translate`. [`laws`] has what every triple of a lens keeps. [`EditLens`] is
-//! what a lens is to its callers, whatever it is made of.
+//! A `Form` of lens_forms says which documents belong together. A [`Comp`], the complement, is what is remembered
+//! beside them. The relation between left document, complement and right document is `IsConsistent` of specs/. A word
+//! of one side is translated to a word of the other by `translate`. [`laws`] has what every triple of a lens keeps.
+//! [`EditLens`] is what a lens is to its callers, whatever it is made of.
 #![tactic(auto)]
 
 pub mod carry;

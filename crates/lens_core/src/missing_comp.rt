@@ -2,7 +2,8 @@
 
 ghost use Rattle.std.specs.Prelude.{◌≡◌, [], ◌∷◌, IfOk};
 ghost use Rattle.hold_shapes.specs.declared.shape.Shape.TheVariants.{Tree as TreeOf};
-ghost use Rattle.lens_core.specs.Complements.{comp_tree, comps_tree, hold_comp, more_comps, no_comps, missing, missing_rows, missing_arm};
+ghost use Rattle.lens_core.specs.Complements.{comp_tree, comps_tree, hold_comp, more_comps, no_comps, missing};
+ghost use Rattle.lens_core.specs.Complements.{missing_rows, missing_arm};
 ghost use Rattle.lens_forms.specs.Forms.{form_tree, rows_tree, arms_tree};
 
 use crate::comp::{Comp, Comps, then_join};

@@ -1,8 +1,10 @@
 -- Tables of nodes: the form of each node, and what holds of a table.
 -- In order: `form_at`, `AreSound`, `IsCompiled`; then what the calls that compile and that translate say.
-use Rattle.std.specs.Prelude.{◌≡◌, ℕ, ◌<◌, ◌≤◌, IsTrue, List, [], ◌∷◌, ◌++◌, length, slice_get, slice_index_or, Option, Some, option_map}
+use Rattle.std.specs.Prelude.{◌≡◌, ℕ, ◌<◌, ◌≤◌, IsTrue, List, [], ◌∷◌, ◌++◌, length, slice_get, slice_index_or, Option}
+use Rattle.std.specs.Prelude.{Some, option_map}
 use Rattle.doc_values.specs.Types.{no_fields, fields_tree}
-use Rattle.lens_forms.specs.Forms.{FormTree, form_then, form_rec, form_alt, form_part, form_inv, row_list, form_tree, rows_tree, arms_tree}
+use Rattle.lens_forms.specs.Forms.{FormTree, form_then, form_rec, form_alt, form_part, form_inv, row_list, form_tree}
+use Rattle.lens_forms.specs.Forms.{rows_tree, arms_tree}
 use Rattle.lens_core.specs.Complements.{comp_tree, comps_tree, missing}
 use Rattle.lens_core.specs.Leaves.{is_leaf}
 use Rattle.lens_branch.specs.AlternativeSteps.{arm_lens, arm_starts}

@@ -40,7 +40,8 @@ pub(crate) fn carry_word(
 ) -> Result<Carried, CarryFault>
     requires { IsReadyAt table.now number }
     ensures { MatchResult result
-        (λ r. translate (form_at table.now number) side (comp_tree comp.now) (word_tree word.now) ≡ Some (carried_tree r))
+        (λ r. translate (form_at table.now number) side (comp_tree comp.now) (word_tree word.now)
+        ≡ Some (carried_tree r))
         (IsCarryFault (translate (form_at table.now number) side (comp_tree comp.now) (word_tree word.now))) }
 {
     let primitives = word.as_slice();
@@ -110,9 +111,11 @@ fn carry_then(
 ) -> Result<Carried, CarryFault>
     requires { (first < number) × (second < number) × IsReadyAt table.now first × IsReadyAt table.now second }
     ensures { MatchResult result
-        (λ r. translate_one (form_then (form_at table.now first) (form_at table.now second)) side (comp_tree comp.now) (primitive_tree prim.now)
+        (λ r. translate_one (form_then (form_at table.now first) (form_at table.now second)) side (comp_tree comp.now)
+        (primitive_tree prim.now)
         ≡ Some (carried_tree r))
-        (IsCarryFault (translate_one (form_then (form_at table.now first) (form_at table.now second)) side (comp_tree comp.now) (primitive_tree prim.now))) }
+        (IsCarryFault (translate_one (form_then (form_at table.now first) (form_at table.now second)) side
+        (comp_tree comp.now) (primitive_tree prim.now))) }
 {
     let Comp::Then(first_comp, second_comp) = comp else {
         return Err(CarryFault::Unfit);
@@ -148,7 +151,8 @@ fn carry_record(
     ensures { MatchResult result
         (λ r. translate_one (form_rec (rows_tree rows.now)) side (comp_tree comp.now) (primitive_tree prim.now)
         ≡ Some (carried_tree r))
-        (IsCarryFault (translate_one (form_rec (rows_tree rows.now)) side (comp_tree comp.now) (primitive_tree prim.now))) }
+        (IsCarryFault (translate_one (form_rec (rows_tree rows.now)) side (comp_tree comp.now)
+        (primitive_tree prim.now))) }
 {
     let Comp::Rec(comps) = comp else {
         return Err(CarryFault::Unfit);
@@ -205,7 +209,8 @@ fn carry_alternatives(
     ensures { MatchResult result
         (λ r. translate_one (form_alt (arms_tree arms.now)) side (comp_tree comp.now) (primitive_tree prim.now)
         ≡ Some (carried_tree r))
-        (IsCarryFault (translate_one (form_alt (arms_tree arms.now)) side (comp_tree comp.now) (primitive_tree prim.now))) }
+        (IsCarryFault (translate_one (form_alt (arms_tree arms.now)) side (comp_tree comp.now)
+        (primitive_tree prim.now))) }
 {
     let Comp::Alt(tag, part_comp) = comp else {
         return Err(CarryFault::Unfit);
@@ -263,7 +268,8 @@ fn carry_held(
     ensures { MatchResult result
         (λ r. translate_one (mapped kind (form_at table.now inside)) side (comp_tree comp.now) (primitive_tree prim.now)
         ≡ Some (carried_tree r))
-        (IsCarryFault (translate_one (mapped kind (form_at table.now inside)) side (comp_tree comp.now) (primitive_tree prim.now))) }
+        (IsCarryFault (translate_one (mapped kind (form_at table.now inside)) side (comp_tree comp.now)
+        (primitive_tree prim.now))) }
 {
     let Some((shape, comps)) = held_as(kind, comp) else {
         return Err(CarryFault::Unfit);

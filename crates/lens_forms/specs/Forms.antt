@@ -2,7 +2,8 @@
 -- In order: `FormTree`, `left_type` and `right_type`, and `form_tree`, the tree that contracts see a form as.
 use Rattle.std.specs.Prelude.{ℕ, ◌+◌, bytes_eq, if◌then◌else◌, List, [], ◌∷◌}
 use Rattle.texts.specs.Keys.{is_before}
-use Rattle.doc_values.specs.Types.{TyTree, ty_enum, ty_rec, ty_alt, ty_list, ty_keyed, ty_ordered, FieldTrees, no_fields, more_fields, ty_tree, fields_tree}
+use Rattle.doc_values.specs.Types.{TyTree, ty_enum, ty_rec, ty_alt, ty_list, ty_keyed, ty_ordered, FieldTrees}
+use Rattle.doc_values.specs.Types.{no_fields, more_fields, ty_tree, fields_tree}
 use Rattle.lens_forms.specs.declared.form.Form.{Form, fold-Form}
 use Rattle.lens_forms.specs.declared.form.FormRow.{FormRow, fold-FormRow}
 use Rattle.lens_forms.specs.declared.form.FormRows.{FormRows, fold-FormRows}
@@ -52,7 +53,8 @@ abbrev pub rights : List (List ℕ × List ℕ) → List (List ℕ)
 rights [] = []
 rights (p ∷ ps) = p.1 ∷ rights ps
 
--- the partner of a left member: the right member of the first pair that has it; of what is no left member, the empty name
+-- the partner of a left member: the right member of the first pair that has it; of what is no left member, the empty
+-- name
 abbrev pub partner_of : List (List ℕ × List ℕ) → List ℕ → List ℕ
 partner_of [] n = []
 partner_of (p ∷ ps) n = if bytes_eq p.0 n then p.1 else partner_of ps n
@@ -60,7 +62,8 @@ partner_of (p ∷ ps) n = if bytes_eq p.0 n then p.1 else partner_of ps n
 -- a field put at its place among fields that are sorted by bytes
 abbrev pub insert_field : List ℕ → TyTree → FieldTrees → FieldTrees
 insert_field n t no_fields = more_fields n t no_fields
-insert_field n t (more_fields m u fs) = if is_before m n then more_fields m u (insert_field n t fs) else more_fields n t (more_fields m u fs)
+insert_field n t (more_fields m u fs) = if is_before m n then more_fields m u (insert_field n t fs)
+    else more_fields n t (more_fields m u fs)
 
 -- fields in written order, sorted by bytes
 abbrev pub sorted : FieldTrees → FieldTrees

@@ -1,10 +1,15 @@
 -- How large and how high types and forms are, all names put in.
--- In order: how many parts a type and a form have, how high a form is, and its longest list; the two bounds stand at the end.
+-- In order: how many parts a type and a form have, how high a form is, and its longest list; the two bounds stand at
+-- the end.
 use Rattle.std.specs.Prelude.{ℕ, ◌+◌, length, max}
-use Rattle.doc_values.specs.Types.{TyTree, ty_unit, ty_bool, ty_int, ty_text, ty_enum, ty_rec, ty_alt, ty_list, ty_keyed, ty_ordered, FieldTrees, no_fields, more_fields, names_of}
-use Rattle.lens_forms.specs.Forms.{FormTree, form_id, form_bij, form_disc, form_then, form_rec, form_alt, form_each, form_keyed, form_ordered, form_part, form_inv, RowTrees, no_rows, both, only_left, only_right, row_list, ArmTrees, no_arms, more_arms, arm_list}
+use Rattle.doc_values.specs.Types.{TyTree, ty_unit, ty_bool, ty_int, ty_text, ty_enum, ty_rec, ty_alt, ty_list}
+use Rattle.doc_values.specs.Types.{ty_keyed, ty_ordered, FieldTrees, no_fields, more_fields, names_of}
+use Rattle.lens_forms.specs.Forms.{FormTree, form_id, form_bij, form_disc, form_then, form_rec, form_alt, form_each}
+use Rattle.lens_forms.specs.Forms.{form_keyed, form_ordered, form_part, form_inv, RowTrees, no_rows, both, only_left}
+use Rattle.lens_forms.specs.Forms.{only_right, row_list, ArmTrees, no_arms, more_arms, arm_list}
 
--- the counted parts of a type: one for each constructor, and one for each field, tag and member; initial values add nothing
+-- the counted parts of a type: one for each constructor, and one for each field, tag and member; initial values add
+-- nothing
 abbrev mutual
   pub type_parts : TyTree → ℕ
   type_parts ty_unit = 1
@@ -22,8 +27,8 @@ abbrev mutual
   fields_parts no_fields = 0
   fields_parts (more_fields n t fs) = type_parts t + 1 + fields_parts fs
 
--- the counted parts of a form: one for each constructor of a form or a type, and one for each pair, row, arm, field, tag
--- and member; the two names of a pair, a row or an arm add nothing, nor do initial values
+-- the counted parts of a form: one for each constructor of a form or a type, and one for each pair, row, arm, field,
+-- tag and member; the two names of a pair, a row or an arm add nothing, nor do initial values
 abbrev mutual
   pub form_parts : FormTree → ℕ
   form_parts (form_id t) = type_parts t + 1

@@ -2,8 +2,13 @@
 -- Read it from the end: `is_typed` computes `IsTyped`, which has a line for each form.
 use Rattle.std.specs.Prelude.{◌≡◌, IsTrue, ℕ, Bool, true, ◌&&◌, List, [], ◌∷◌}
 use Rattle.texts.specs.Keys.{has_name}
-use Rattle.doc_values.specs.Types.{TyTree, ty_enum, ty_rec, ty_alt, ty_list, ty_keyed, ty_ordered, FieldTrees, no_fields, more_fields, names_of, are_distinct, are_choices, is_well_formed, are_well_formed, is_same_ty}
-use Rattle.lens_forms.specs.Forms.{FormTree, form_id, form_bij, form_disc, form_then, form_rec, form_alt, form_each, form_keyed, form_ordered, form_part, form_inv, RowTrees, no_rows, both, only_left, only_right, ArmTrees, no_arms, more_arms, lefts, rights, partner_of, insert_field, sorted, lists_of, left_type, right_type}
+use Rattle.doc_values.specs.Types.{TyTree, ty_enum, ty_rec, ty_alt, ty_list, ty_keyed, ty_ordered, FieldTrees}
+use Rattle.doc_values.specs.Types.{no_fields, more_fields, names_of, are_distinct, are_choices, is_well_formed}
+use Rattle.doc_values.specs.Types.{are_well_formed, is_same_ty}
+use Rattle.lens_forms.specs.Forms.{FormTree, form_id, form_bij, form_disc, form_then, form_rec, form_alt, form_each}
+use Rattle.lens_forms.specs.Forms.{form_keyed, form_ordered, form_part, form_inv, RowTrees, no_rows, both, only_left}
+use Rattle.lens_forms.specs.Forms.{only_right, ArmTrees, no_arms, more_arms, lefts, rights, partner_of, insert_field}
+use Rattle.lens_forms.specs.Forms.{sorted, lists_of, left_type, right_type}
 
 -- the names of the left and of the right fields of a record, in written order
 abbrev pub left_names : RowTrees → List (List ℕ)
@@ -29,12 +34,13 @@ right_arms (more_arms a b l arms) = b ∷ right_arms arms
 
 -- The form is a lens from the left type to the right type. A line each:
 -- the identity of a type goes from it to itself; a bijection from the enum of its left members to that of its right
--- members, distinct on each side and at least one, with an initial value that is a left member, and its partner; disc between any two types; a composition from the left type of its
--- first form to the right type of its second, whose middle types are the same; a record from the record of its left
--- fields to that of its right fields, distinct on each side; alternatives from the alternatives of their left tags to
--- those of their right tags, distinct on each side and at least one; a container from the container of the left type
--- to that of the right type; a partition from the list of its alternatives, of distinct tags and at least one, to the
--- record of a list for each tag; an inverse from the right type to the left type. The types in a form are well formed.
+-- members, distinct on each side and at least one, with an initial value that is a left member, and its partner; disc
+-- between any two types; a composition from the left type of its first form to the right type of its second, whose
+-- middle types are the same; a record from the record of its left fields to that of its right fields, distinct on each
+-- side; alternatives from the alternatives of their left tags to those of their right tags, distinct on each side and
+-- at least one; a container from the container of the left type to that of the right type; a partition from the list of
+-- its alternatives, of distinct tags and at least one, to the record of a list for each tag; an inverse from the right
+-- type to the left type. The types in a form are well formed.
 abbrev mutual
   pub IsTyped : FormTree → TyTree → TyTree → Type 0
   IsTyped (form_id t) left right = IsTrue (is_well_formed t) × (left ≡ t) × (right ≡ t)
@@ -45,15 +51,21 @@ abbrev mutual
   IsTyped (form_then l k) left right = (middle : TyTree) × IsTyped l left middle × IsTyped k middle right
   IsTyped (form_rec rows) left right =
       (ls : FieldTrees) × (rs : FieldTrees) × AreTypedRows rows ls rs
-      × IsTrue (are_distinct (left_names rows)) × IsTrue (are_distinct (right_names rows)) × (left ≡ ty_rec ls) × (right ≡ ty_rec rs)
+      × IsTrue (are_distinct (left_names rows)) × IsTrue (are_distinct (right_names rows)) × (left ≡ ty_rec ls)
+      × (right ≡ ty_rec rs)
   IsTyped (form_alt arms) left right =
       (ls : FieldTrees) × (rs : FieldTrees) × AreTypedArms arms ls rs
-      × IsTrue (are_choices (left_arms arms)) × IsTrue (are_choices (right_arms arms)) × (left ≡ ty_alt ls) × (right ≡ ty_alt rs)
-  IsTyped (form_each l) left right = (t : TyTree) × (u : TyTree) × IsTyped l t u × (left ≡ ty_list t) × (right ≡ ty_list u)
-  IsTyped (form_keyed l) left right = (t : TyTree) × (u : TyTree) × IsTyped l t u × (left ≡ ty_keyed t) × (right ≡ ty_keyed u)
-  IsTyped (form_ordered l) left right = (t : TyTree) × (u : TyTree) × IsTyped l t u × (left ≡ ty_ordered t) × (right ≡ ty_ordered u)
+      × IsTrue (are_choices (left_arms arms)) × IsTrue (are_choices (right_arms arms)) × (left ≡ ty_alt ls)
+      × (right ≡ ty_alt rs)
+  IsTyped (form_each l) left right = (t : TyTree) × (u : TyTree) × IsTyped l t u × (left ≡ ty_list t)
+      × (right ≡ ty_list u)
+  IsTyped (form_keyed l) left right = (t : TyTree) × (u : TyTree) × IsTyped l t u × (left ≡ ty_keyed t)
+      × (right ≡ ty_keyed u)
+  IsTyped (form_ordered l) left right = (t : TyTree) × (u : TyTree) × IsTyped l t u × (left ≡ ty_ordered t)
+      × (right ≡ ty_ordered u)
   IsTyped (form_part fs) left right =
-      IsTrue (are_choices (names_of fs)) × IsTrue (are_well_formed fs) × (left ≡ ty_list (ty_alt fs)) × (right ≡ ty_rec (sorted (lists_of fs)))
+      IsTrue (are_choices (names_of fs)) × IsTrue (are_well_formed fs) × (left ≡ ty_list (ty_alt fs))
+      × (right ≡ ty_rec (sorted (lists_of fs)))
   IsTyped (form_inv l) left right = IsTyped l right left
 
   -- rows from left fields to right fields, both sorted by bytes

@@ -1,7 +1,8 @@
 //! Forms of lenses.
 
 ghost use Rattle.std.specs.Prelude.{◌≡◌, IfOk, map};
-ghost use Rattle.lens_forms.specs.Forms.{form_tree, row_tree, rows_tree, form_rows_of, arm_tree, arms_tree, form_arms_of};
+ghost use Rattle.lens_forms.specs.Forms.{form_tree, row_tree, rows_tree, form_rows_of, arm_tree, arms_tree};
+ghost use Rattle.lens_forms.specs.Forms.{form_arms_of};
 
 use doc_values::{Fields, Ty};
 use program_terms::Pairs;

@@ -16,7 +16,8 @@ pub fn typing_is_functional()
 /// A form is typed if and only if it passes the test.
 #[tactic(auto, using(crate::proofs::TypingLaws::test_laws))]
 pub fn test_is_typing()
-    ensures passes { (form : FormTree) (left : TyTree) (right : TyTree) → IsTyped form left right → IsTrue (is_typed form) }
+    ensures passes { (form : FormTree) (left : TyTree) (right : TyTree) → IsTyped form left right
+        → IsTrue (is_typed form) }
     ensures is { (form : FormTree) → IsTrue (is_typed form) → IsTyped form (left_type form) (right_type form) }
 {}
 

@@ -50,7 +50,8 @@ impl EditLens for Checked {
     ghost use Rattle.lens_core.specs.Complements.{missing};
     ghost use Rattle.lens_core.specs.Consistency.{IsConsistent};
     ghost use Rattle.lens_core.specs.Translation.{translate};
-    ghost use Rattle.form_steps.specs.LawsOfForms.{formed_types, form_starts, form_documents, form_edits, form_empty, form_joined};
+    ghost use Rattle.form_steps.specs.LawsOfForms.{formed_types, form_starts, form_documents, form_edits, form_empty};
+    ghost use Rattle.form_steps.specs.LawsOfForms.{form_joined};
 
     ghost left_type = { λ l. left_type (form_tree l.typed) };
 
@@ -87,8 +88,9 @@ impl EditLens for Checked {
         missing(alloc, self.typed.form())
     }
 
-    /// Translates a word of a side, with a complement. Beside what every lens says of it, words that differ only by where
-    /// their primitives are joined are carried alike: to words that differ only so, with the same complement, or not at all.
+    /// Translates a word of a side, with a complement. Beside what every lens says of it, words that differ only by
+    /// where their primitives are joined are carried alike: to words that differ only so, with the same complement, or
+    /// not at all.
     #[tactic(auto, using(equation_laws::proofs::EveryForm::typed_keeps))]
     fn carry(
         &self,
@@ -98,7 +100,8 @@ impl EditLens for Checked {
         word: &Word,
     ) -> Result<Carried, CarryFault>
         ensures translated { MatchResult result
-            (λ r. translate (form_tree self.now.typed) side (comp_tree comp.now) (word_tree word.now) ≡ Some (carried_tree r))
+            (λ r. translate (form_tree self.now.typed) side (comp_tree comp.now) (word_tree word.now)
+            ≡ Some (carried_tree r))
             (IsCarryFault (translate (form_tree self.now.typed) side (comp_tree comp.now) (word_tree word.now))) }
         ensures equal_words { (other : WordTree) → normal (word_tree word.now) ≡ normal other
             → AreAlike (translate (form_tree self.now.typed) side (comp_tree comp.now) (word_tree word.now))

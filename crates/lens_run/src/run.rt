@@ -69,7 +69,8 @@ fn carry_one(
 ) -> Result<Carried, CarryFault>
     requires { IsReady (form_tree form.now) }
     ensures { MatchResult result
-        (λ r. translate_one (form_tree form.now) side (comp_tree comp.now) (primitive_tree prim.now) ≡ Some (carried_tree r))
+        (λ r. translate_one (form_tree form.now) side (comp_tree comp.now) (primitive_tree prim.now)
+        ≡ Some (carried_tree r))
         (IsCarryFault (translate_one (form_tree form.now) side (comp_tree comp.now) (primitive_tree prim.now))) }
 {
     match form {
@@ -100,8 +101,10 @@ fn carry_then(
 ) -> Result<Carried, CarryFault>
     requires { IsReady (form_then (form_tree first.now) (form_tree second.now)) }
     ensures { MatchResult result
-        (λ r. translate_one (form_then (form_tree first.now) (form_tree second.now)) side (comp_tree comp.now) (primitive_tree prim.now) ≡ Some (carried_tree r))
-        (IsCarryFault (translate_one (form_then (form_tree first.now) (form_tree second.now)) side (comp_tree comp.now) (primitive_tree prim.now))) }
+        (λ r. translate_one (form_then (form_tree first.now) (form_tree second.now)) side (comp_tree comp.now)
+        (primitive_tree prim.now) ≡ Some (carried_tree r))
+        (IsCarryFault (translate_one (form_then (form_tree first.now) (form_tree second.now)) side (comp_tree comp.now)
+        (primitive_tree prim.now))) }
 {
     let Comp::Then(first_comp, second_comp) = comp else {
         return Err(CarryFault::Unfit);
@@ -132,8 +135,10 @@ fn carry_record(
 ) -> Result<Carried, CarryFault>
     requires { IsReady (form_rec (rows_tree rows.now)) }
     ensures { MatchResult result
-        (λ r. translate_one (form_rec (rows_tree rows.now)) side (comp_tree comp.now) (primitive_tree prim.now) ≡ Some (carried_tree r))
-        (IsCarryFault (translate_one (form_rec (rows_tree rows.now)) side (comp_tree comp.now) (primitive_tree prim.now))) }
+        (λ r. translate_one (form_rec (rows_tree rows.now)) side (comp_tree comp.now) (primitive_tree prim.now)
+        ≡ Some (carried_tree r))
+        (IsCarryFault (translate_one (form_rec (rows_tree rows.now)) side (comp_tree comp.now)
+        (primitive_tree prim.now))) }
 {
     let Comp::Rec(comps) = comp else {
         return Err(CarryFault::Unfit);
@@ -160,7 +165,8 @@ fn carry_row(
 ) -> Result<Carried, CarryFault>
     requires { IsReady (form_rec (rows_tree rows.now)) }
     ensures { MatchResult result
-        (λ r. row_translation (rows_tree rows.now) side part (comp_tree comp.now) (word_tree word.now) ≡ Some (carried_tree r))
+        (λ r. row_translation (rows_tree rows.now) side part (comp_tree comp.now) (word_tree word.now)
+        ≡ Some (carried_tree r))
         (IsCarryFault (row_translation (rows_tree rows.now) side part (comp_tree comp.now) (word_tree word.now))) }
 {
     match row_form(rows, part) {
@@ -181,8 +187,10 @@ fn carry_alternatives(
 ) -> Result<Carried, CarryFault>
     requires { IsReady (form_alt (arms_tree arms.now)) }
     ensures { MatchResult result
-        (λ r. translate_one (form_alt (arms_tree arms.now)) side (comp_tree comp.now) (primitive_tree prim.now) ≡ Some (carried_tree r))
-        (IsCarryFault (translate_one (form_alt (arms_tree arms.now)) side (comp_tree comp.now) (primitive_tree prim.now))) }
+        (λ r. translate_one (form_alt (arms_tree arms.now)) side (comp_tree comp.now) (primitive_tree prim.now)
+        ≡ Some (carried_tree r))
+        (IsCarryFault (translate_one (form_alt (arms_tree arms.now)) side (comp_tree comp.now)
+        (primitive_tree prim.now))) }
 {
     let Comp::Alt(tag, part_comp) = comp else {
         return Err(CarryFault::Unfit);
@@ -210,7 +218,8 @@ fn carry_arm(
 ) -> Result<Carried, CarryFault>
     requires { IsReady (form_alt (arms_tree arms.now)) }
     ensures { MatchResult result
-        (λ r. arm_translation (arms_tree arms.now) side part (comp_tree comp.now) (word_tree word.now) ≡ Some (carried_tree r))
+        (λ r. arm_translation (arms_tree arms.now) side part (comp_tree comp.now) (word_tree word.now)
+        ≡ Some (carried_tree r))
         (IsCarryFault (arm_translation (arms_tree arms.now) side part (comp_tree comp.now) (word_tree word.now))) }
 {
     match arm_form(arms, part) {
@@ -231,8 +240,10 @@ fn carry_held(
 ) -> Result<Carried, CarryFault>
     requires { IsReady (mapped kind (form_tree inner.now)) }
     ensures { MatchResult result
-        (λ r. translate_one (mapped kind (form_tree inner.now)) side (comp_tree comp.now) (primitive_tree prim.now) ≡ Some (carried_tree r))
-        (IsCarryFault (translate_one (mapped kind (form_tree inner.now)) side (comp_tree comp.now) (primitive_tree prim.now))) }
+        (λ r. translate_one (mapped kind (form_tree inner.now)) side (comp_tree comp.now) (primitive_tree prim.now)
+        ≡ Some (carried_tree r))
+        (IsCarryFault (translate_one (mapped kind (form_tree inner.now)) side (comp_tree comp.now)
+        (primitive_tree prim.now))) }
 {
     let Some((shape, comps)) = held_as(kind, comp) else {
         return Err(CarryFault::Unfit);

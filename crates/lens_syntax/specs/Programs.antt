@@ -13,10 +13,12 @@ use Rattle.program_grammar.specs.declared.mention.NameFault.TheVariants.{Unknown
 use Rattle.program_reader.specs.Causes.{ReadCause, program_of}
 use Rattle.program_reader.specs.Causes as tokens
 use Rattle.lens_syntax.specs.declared.fault.ProgramFault.{ProgramFault}
-use Rattle.lens_syntax.specs.declared.fault.ProgramFault.TheVariants.{ProgramTooLong, NotAProgram, UnknownName, RepeatedName, NoMemory}
+use Rattle.lens_syntax.specs.declared.fault.ProgramFault.TheVariants.{ProgramTooLong, NotAProgram, UnknownName}
+use Rattle.lens_syntax.specs.declared.fault.ProgramFault.TheVariants.{RepeatedName, NoMemory}
 use Rattle.lens_syntax.specs.declared.reading.TheConstants.{MOST_PROGRAM_BYTES}
 
--- Why a text is no program: it is too long, or this is the offset of the unexpected token, of the unknown or of the repeated name.
+-- Why a text is no program: it is too long, or this is the offset of the unexpected token, of the unknown or of the
+-- repeated name.
 pub data ProgramCause : Type 0 where
   too_long : ProgramCause
   not_a_program : ℕ → ProgramCause
@@ -53,7 +55,8 @@ Tells text (Err (repeated_name at)) = HasNameFault text (Repeated at)
 
 -- ---- the same as one result, which computes
 
--- The cause of a text, from that of its tokens. Tokens never run out before a text ends, so the first row is never used.
+-- The cause of a text, from that of its tokens. Tokens never run out before a text ends, so the first row is never
+-- used.
 abbrev pub text_cause : List ℕ → ReadCause → ProgramCause
 text_cause text tokens.ended = not_a_program (length text)
 text_cause text (tokens.not_a_program at) = not_a_program at

@@ -18,8 +18,8 @@ pub const MOST_PROGRAM_BYTES: usize = 65_536;
 ///
 /// The refusals, in this order; docs/LANGUAGE.md has the rules:
 /// - `ProgramTooLong` if and only if the text has more bytes.
-/// - `NotAProgram` if and only if the grammar does not have the text, with the offset of the unexpected token: the tokens
-///   before it begin some program and its end, and with it they do not.
+/// - `NotAProgram` if and only if the grammar does not have the text, with the offset of the unexpected token: the
+///   tokens before it begin some program and its end, and with it they do not.
 /// - `UnknownName` and `RepeatedName`, the first of either in written order, with the offset of the name.
 /// - `NoMemory` when memory runs out, in place of any result but `ProgramTooLong`.
 pub fn read_program(alloc: Global, text: &[u8]) -> Result<Program, ProgramFault>

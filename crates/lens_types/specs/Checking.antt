@@ -43,8 +43,10 @@ abbrev mutual
   type_failure (Term.int z) = None
   type_failure (Term.text s) = None
   type_failure (Term.enum_of ms v) = enum_failure ms v
-  type_failure (Term.record_of fs) = option_or (fields_failure fs) (option_map repeated_field (first_repeat (field_names fs)))
-  type_failure (Term.one_of fs) = option_or (fields_failure fs) (option_map repeated_tag (first_repeat (field_names fs)))
+  type_failure (Term.record_of fs) =
+      option_or (fields_failure fs) (option_map repeated_field (first_repeat (field_names fs)))
+  type_failure (Term.one_of fs) =
+      option_or (fields_failure fs) (option_map repeated_tag (first_repeat (field_names fs)))
   type_failure (Term.list t) = type_failure t
   type_failure (Term.keyed t) = type_failure t
   type_failure (Term.tree t) = type_failure t
@@ -65,30 +67,38 @@ middle_failure l k =
 -- the types of both sides are at most so high
 abbrev pub sides_failure : FormTree → Option Failure
 sides_failure f =
-    if nat_le (height (left_type f)) GREATEST_HEIGHT && nat_le (height (right_type f)) GREATEST_HEIGHT then None else Some too_deep
+    if nat_le (height (left_type f)) GREATEST_HEIGHT && nat_le (height (right_type f)) GREATEST_HEIGHT then None
+    else Some too_deep
 
 -- first the failures in the parts, then the node's own condition, then the heights of its two sides
 abbrev mutual
   pub lens_failure : Definitions → Term.LensTree → Option Failure
   lens_failure ds (Term.id_of t) = option_or (type_failure t) (sides_failure (expanded_form ds (Term.id_of t)))
-  lens_failure ds (Term.bij_of ps v) = option_or (pairs_failure ps v) (sides_failure (expanded_form ds (Term.bij_of ps v)))
+  lens_failure ds (Term.bij_of ps v) =
+      option_or (pairs_failure ps v) (sides_failure (expanded_form ds (Term.bij_of ps v)))
   lens_failure ds (Term.disc_of t u) =
       option_or (type_failure t) (option_or (type_failure u) (sides_failure (expanded_form ds (Term.disc_of t u))))
   lens_failure ds (Term.then_of l k) =
       option_or (lens_failure ds l) (option_or (lens_failure ds k)
-      (option_or (middle_failure (expanded_form ds l) (expanded_form ds k)) (sides_failure (expanded_form ds (Term.then_of l k)))))
+      (option_or (middle_failure (expanded_form ds l) (expanded_form ds k))
+      (sides_failure (expanded_form ds (Term.then_of l k)))))
   lens_failure ds (Term.rec_lens rows) =
       option_or (rows_failure ds rows)
-      (option_or (option_map repeated_field (first_repeat (row_names rows))) (sides_failure (expanded_form ds (Term.rec_lens rows))))
+      (option_or (option_map repeated_field (first_repeat (row_names rows)))
+      (sides_failure (expanded_form ds (Term.rec_lens rows))))
   lens_failure ds (Term.alt_lens arms) =
       option_or (arms_failure ds arms)
-      (option_or (option_map repeated_tag (first_repeat (arm_names arms))) (sides_failure (expanded_form ds (Term.alt_lens arms))))
+      (option_or (option_map repeated_tag (first_repeat (arm_names arms)))
+      (sides_failure (expanded_form ds (Term.alt_lens arms))))
   lens_failure ds (Term.each_of l) = option_or (lens_failure ds l) (sides_failure (expanded_form ds (Term.each_of l)))
-  lens_failure ds (Term.keyed_each l) = option_or (lens_failure ds l) (sides_failure (expanded_form ds (Term.keyed_each l)))
-  lens_failure ds (Term.tree_each l) = option_or (lens_failure ds l) (sides_failure (expanded_form ds (Term.tree_each l)))
+  lens_failure ds (Term.keyed_each l) =
+      option_or (lens_failure ds l) (sides_failure (expanded_form ds (Term.keyed_each l)))
+  lens_failure ds (Term.tree_each l) =
+      option_or (lens_failure ds l) (sides_failure (expanded_form ds (Term.tree_each l)))
   lens_failure ds (Term.part_of fs) =
       option_or (fields_failure fs)
-      (option_or (option_map repeated_tag (first_repeat (field_names fs))) (sides_failure (expanded_form ds (Term.part_of fs))))
+      (option_or (option_map repeated_tag (first_repeat (field_names fs)))
+      (sides_failure (expanded_form ds (Term.part_of fs))))
   lens_failure ds (Term.inv_of l) = option_or (lens_failure ds l) (sides_failure (expanded_form ds (Term.inv_of l)))
   -- a name counts as passed
   lens_failure ds (Term.named_lens n) = None
@@ -141,10 +151,12 @@ height_failure levels = if nat_le levels GREATEST_HEIGHT then None else Some too
 -- a definition: its parts are counted, then its heights are tested, then its nodes
 abbrev pub def_failure : Definitions → Term.DefTree → Option Failure
 def_failure ds (Term.type_def t) =
-    option_or (size_failure (type_parts (expanded_type ds t))) (option_or (height_failure (height (expanded_type ds t))) (type_failure t))
+    option_or (size_failure (type_parts (expanded_type ds t)))
+    (option_or (height_failure (height (expanded_type ds t))) (type_failure t))
 def_failure ds (Term.lens_def l) =
     option_or (size_failure (form_parts (expanded_form ds l)))
-    (option_or (height_failure (form_height (expanded_form ds l))) (option_or (height_failure (written_height ds l)) (lens_failure ds l)))
+    (option_or (height_failure (form_height (expanded_form ds l)))
+    (option_or (height_failure (written_height ds l)) (lens_failure ds l)))
 
 -- definitions in written order, each with what the earlier ones stand for, and the main lens last
 abbrev pub failure_after : Definitions → List (List ℕ × Term.DefTree) → Term.LensTree → Option Failure

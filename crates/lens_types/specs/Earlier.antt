@@ -1,9 +1,12 @@
 -- Names expanded: what a type and a lens stand for, where earlier definitions say what their names stand for.
 -- Read it from the end: `main_form`, then `expanded_form` and `expanded_type`.
 use Rattle.std.specs.Prelude.{ℕ, bytes_eq, if◌then◌else◌, List, [], ◌∷◌, ◌++◌, Option, Some, None}
-use Rattle.doc_values.specs.Types.{TyTree, ty_unit, ty_bool, ty_int, ty_text, ty_enum, ty_rec, ty_alt, ty_list, ty_keyed, ty_ordered, FieldTrees, no_fields, more_fields}
+use Rattle.doc_values.specs.Types.{TyTree, ty_unit, ty_bool, ty_int, ty_text, ty_enum, ty_rec, ty_alt, ty_list}
+use Rattle.doc_values.specs.Types.{ty_keyed, ty_ordered, FieldTrees, no_fields, more_fields}
 use Rattle.program_terms.specs.Terms as Term
-use Rattle.lens_forms.specs.Forms.{FormTree, form_id, form_bij, form_disc, form_then, form_rec, form_alt, form_each, form_keyed, form_ordered, form_part, form_inv, RowTrees, no_rows, both, only_left, only_right, ArmTrees, no_arms, more_arms, sorted}
+use Rattle.lens_forms.specs.Forms.{FormTree, form_id, form_bij, form_disc, form_then, form_rec, form_alt, form_each}
+use Rattle.lens_forms.specs.Forms.{form_keyed, form_ordered, form_part, form_inv, RowTrees, no_rows, both, only_left}
+use Rattle.lens_forms.specs.Forms.{only_right, ArmTrees, no_arms, more_arms, sorted}
 
 -- what a definition stands for: a type, or a form
 pub data KnownTree : Type 0 where

@@ -1,10 +1,12 @@
 -- For the helpers of the checker: its entries, the definitions that they stand for, and what a look-up gives.
-use Rattle.std.specs.Prelude.{◌≡◌, ◌≤◌, ℕ, ◌+◌, Bool, true, ◌&&◌, nat_eq, nat_le, List, [], ◌∷◌, ◌++◌, length, take, Some}
+use Rattle.std.specs.Prelude.{◌≡◌, ◌≤◌, ℕ, ◌+◌, Bool, true, ◌&&◌, nat_eq, nat_le, List, [], ◌∷◌, ◌++◌, length, take}
+use Rattle.std.specs.Prelude.{Some}
 use Rattle.doc_values.specs.Types.{height}
 use Rattle.program_terms.specs.Terms as Term
 use Rattle.program_terms.specs.Views.{type_tree, lens_tree}
 use Rattle.lens_forms.specs.Measures.{type_parts, form_parts, form_height}
-use Rattle.lens_types.specs.Earlier.{KnownTree, Definitions, known, known_of, type_named, form_named, expanded_type, expanded_form}
+use Rattle.lens_types.specs.Earlier.{KnownTree, Definitions, known, known_of, type_named, form_named, expanded_type}
+use Rattle.lens_types.specs.Earlier.{expanded_form}
 use Rattle.lens_types.specs.Heights.{capped, has_heights}
 use Rattle.lens_types.specs.Sizes.{type_size, lens_size}
 use Rattle.lens_types.specs.declared.known.Known.{Known}
@@ -74,12 +76,14 @@ pub record IsFound (es : List (List ℕ × Known)) (scope : ℕ) (name : List �
   pub smaller : weight_before (scope_of k) es + term_size (term_of k) + 1 ≤ weight_before scope es
 
 pub record IsTypeFound (es : List (List ℕ × Known)) (scope : ℕ) (name : List ℕ) (k : KnownType) : Type 0 where
-  pub stands : expanded_type (take k.scope (earlier_tree es)) (type_tree k.ty.now) ≡ type_named (take scope (earlier_tree es)) name
+  pub stands : expanded_type (take k.scope (earlier_tree es)) (type_tree k.ty.now)
+      ≡ type_named (take scope (earlier_tree es)) name
   pub measured : is_measured_type (earlier_tree es) k ≡ true
   pub smaller : weight_before k.scope es + type_size (type_tree k.ty.now) + 1 ≤ weight_before scope es
 
 pub record IsLensFound (es : List (List ℕ × Known)) (scope : ℕ) (name : List ℕ) (k : KnownLens) : Type 0 where
-  pub stands : expanded_form (take k.scope (earlier_tree es)) (lens_tree k.lens.now) ≡ form_named (take scope (earlier_tree es)) name
+  pub stands : expanded_form (take k.scope (earlier_tree es)) (lens_tree k.lens.now)
+      ≡ form_named (take scope (earlier_tree es)) name
   pub measured : is_measured_lens (earlier_tree es) k ≡ true
   pub smaller : weight_before k.scope es + lens_size (lens_tree k.lens.now) + 1 ≤ weight_before scope es
 

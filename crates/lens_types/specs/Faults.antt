@@ -1,9 +1,12 @@
 -- What a refusal says: the first failure, or nothing where memory ran out.
 use Rattle.std.specs.Prelude.{◌≡◌, Option, Some, None}
 use Rattle.doc_values.specs.Types.{ty_tree}
-use Rattle.lens_types.specs.Checking.{Failure, middle_differs, repeated_field, repeated_tag, repeated_member, not_a_member, too_large, too_deep}
+use Rattle.lens_types.specs.Checking.{Failure, middle_differs, repeated_field, repeated_tag, repeated_member}
+use Rattle.lens_types.specs.Checking.{not_a_member, too_large, too_deep}
 use Rattle.lens_types.specs.declared.fault.TypeFault.{TypeFault}
-use Rattle.lens_types.specs.declared.fault.TypeFault.TheVariants.{MiddleDiffers, RepeatedField, RepeatedTag, RepeatedMember, NotAMember, TooLarge, TooDeep, NoMemory}
+use Rattle.lens_types.specs.declared.fault.TypeFault.TheVariants.{MiddleDiffers, RepeatedField, RepeatedTag}
+use Rattle.lens_types.specs.declared.fault.TypeFault.TheVariants.{RepeatedMember, NotAMember, TooLarge, TooDeep}
+use Rattle.lens_types.specs.declared.fault.TypeFault.TheVariants.{NoMemory}
 
 -- the fault says which failure was found first, with its types or its name
 abbrev pub IsFaultOf : Option Failure → TypeFault → Type 0

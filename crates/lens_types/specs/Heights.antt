@@ -2,7 +2,8 @@
 use Rattle.std.specs.Prelude.{◌≡◌, ℕ, ◌+◌, Bool, ◌&&◌, nat_eq, min}
 use Rattle.doc_values.specs.Types.{height, highest}
 use Rattle.program_terms.specs.Terms as Term
-use Rattle.lens_forms.specs.Forms.{FormTree, left_type, right_type, RowTrees, left_fields, right_fields, ArmTrees, left_tags, right_tags}
+use Rattle.lens_forms.specs.Forms.{FormTree, left_type, right_type, RowTrees, left_fields, right_fields, ArmTrees}
+use Rattle.lens_forms.specs.Forms.{left_tags, right_tags}
 use Rattle.lens_forms.specs.Measures.{form_height}
 use Rattle.lens_forms.specs.declared.limits.TheConstants.{GREATEST_HEIGHT}
 use Rattle.lens_types.specs.Earlier.{Definitions, expanded_type, expanded_form}

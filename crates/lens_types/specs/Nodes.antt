@@ -13,7 +13,8 @@ use Rattle.lens_types.specs.declared.known.SideHeights.{SideHeights}
 
 -- the heights of the sides of a form, or that one is too high
 abbrev pub IsLowForm : FormTree → Result SideHeights TypeFault → Type 0
-IsLowForm f r = MatchResult r (λ h. (sides_failure f ≡ None) × HasHeights f h) (λ fault. IsFaultOf (sides_failure f) fault)
+IsLowForm f r =
+    MatchResult r (λ h. (sides_failure f ≡ None) × HasHeights f h) (λ fault. IsFaultOf (sides_failure f) fault)
 
 abbrev pub bijection_failure : List (List ℕ × List ℕ) → List ℕ → Option Failure
 bijection_failure ps v = option_or (pairs_failure ps v) (sides_failure (form_bij ps v))
@@ -30,7 +31,9 @@ HasFieldHeights ds (Term.row_left a t) h = (h.left ≡ capped (height (expanded_
 HasFieldHeights ds (Term.row_right b t) h = (h.left ≡ 0) × (h.right ≡ capped (height (expanded_type ds t)))
 
 abbrev pub IsRowChecked : Definitions → Term.RowTree → Result SideHeights TypeFault → Type 0
-IsRowChecked ds row r = MatchResult r (λ h. (row_failure ds row ≡ None) × HasFieldHeights ds row h) (λ fault. IsFaultOf (row_failure ds row) fault)
+IsRowChecked ds row r =
+    MatchResult r (λ h. (row_failure ds row ≡ None) × HasFieldHeights ds row h)
+    (λ fault. IsFaultOf (row_failure ds row) fault)
 
 -- one row with its names expanded
 abbrev pub expanded_row : Definitions → Term.RowTree → RowTree

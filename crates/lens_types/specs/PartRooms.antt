@@ -32,14 +32,16 @@ abbrev mutual
   pub fields_room : Definitions → Term.FieldTrees → ℕ → Option ℕ
   fields_room ds Term.no_fields room = Some room
   fields_room ds (Term.more_fields n t fs) room =
-      option_and_then (λ left. fields_room ds fs left) (option_and_then (λ left. type_room ds t left) (room_after 1 room))
+      option_and_then (λ left. fields_room ds fs left)
+      (option_and_then (λ left. type_room ds t left) (room_after 1 room))
 
 -- the room that is left after the parts of a lens, of rows and of arms
 abbrev mutual
   pub lens_room : Definitions → Term.LensTree → ℕ → Option ℕ
   lens_room ds (Term.id_of t) room = option_and_then (type_room ds t) (room_after 1 room)
   lens_room ds (Term.bij_of ps v) room = option_and_then (room_after (length ps)) (room_after 1 room)
-  lens_room ds (Term.disc_of t u) room = option_and_then (type_room ds u) (option_and_then (type_room ds t) (room_after 1 room))
+  lens_room ds (Term.disc_of t u) room =
+      option_and_then (type_room ds u) (option_and_then (type_room ds t) (room_after 1 room))
   lens_room ds (Term.then_of l k) room =
       option_and_then (λ left. lens_room ds k left) (option_and_then (λ left. lens_room ds l left) (room_after 1 room))
   lens_room ds (Term.rec_lens rows) room = option_and_then (λ left. rows_room ds rows left) (room_after 1 room)
@@ -54,7 +56,8 @@ abbrev mutual
   pub rows_room : Definitions → Term.RowTrees → ℕ → Option ℕ
   rows_room ds Term.no_rows room = Some room
   rows_room ds (Term.both a b l rows) room =
-      option_and_then (λ left. rows_room ds rows left) (option_and_then (λ left. lens_room ds l left) (room_after 1 room))
+      option_and_then (λ left. rows_room ds rows left)
+      (option_and_then (λ left. lens_room ds l left) (room_after 1 room))
   rows_room ds (Term.only_left a t rows) room =
       option_and_then (λ left. rows_room ds rows left) (option_and_then (type_room ds t) (room_after 1 room))
   rows_room ds (Term.only_right b t rows) room =
@@ -63,7 +66,8 @@ abbrev mutual
   pub arms_room : Definitions → Term.ArmTrees → ℕ → Option ℕ
   arms_room ds Term.no_arms room = Some room
   arms_room ds (Term.more_arms a b l arms) room =
-      option_and_then (λ left. arms_room ds arms left) (option_and_then (λ left. lens_room ds l left) (room_after 1 room))
+      option_and_then (λ left. arms_room ds arms left)
+      (option_and_then (λ left. lens_room ds l left) (room_after 1 room))
 
 -- one row
 abbrev pub row_room : Definitions → Term.RowTree → ℕ → Option ℕ

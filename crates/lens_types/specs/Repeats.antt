@@ -1,6 +1,7 @@
 -- The first name, in written order, that equals an earlier one of its side.
 -- Read it from the end: the names of each kind, then `first_repeat`.
-use Rattle.std.specs.Prelude.{ℕ, Bool, true, false, ◌&&◌, ◌||◌, bytes_eq, if◌then◌else◌, List, [], ◌∷◌, ◌++◌, Option, Some, None}
+use Rattle.std.specs.Prelude.{ℕ, Bool, true, false, ◌&&◌, ◌||◌, bytes_eq, if◌then◌else◌, List, [], ◌∷◌, ◌++◌, Option}
+use Rattle.std.specs.Prelude.{Some, None}
 use Rattle.std.specs.Borrow.{Bor}
 use Rattle.program_terms.specs.Terms as Term
 use Rattle.texts.specs.declared.side.Side.{Side}

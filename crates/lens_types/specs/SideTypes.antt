@@ -1,7 +1,11 @@
 -- For the helpers of the checker: the type of a side of a form, for both sides at once, its fields sorted at the end.
 use Rattle.std.specs.Prelude.{ℕ, List, Option, Some, None}
-use Rattle.doc_values.specs.Types.{TyTree, ty_enum, ty_rec, ty_alt, ty_list, ty_keyed, ty_ordered, FieldTrees, no_fields, more_fields}
-use Rattle.lens_forms.specs.Forms.{FormTree, form_id, form_bij, form_disc, form_then, form_rec, form_alt, form_each, form_keyed, form_ordered, form_part, form_inv, RowTrees, no_rows, both, only_left, only_right, ArmTrees, no_arms, more_arms, lefts, rights, partner_of, sorted, lists_of}
+use Rattle.doc_values.specs.Types.{TyTree, ty_enum, ty_rec, ty_alt, ty_list, ty_keyed, ty_ordered, FieldTrees}
+use Rattle.doc_values.specs.Types.{no_fields, more_fields}
+use Rattle.lens_forms.specs.Forms.{FormTree, form_id, form_bij, form_disc, form_then, form_rec, form_alt, form_each}
+use Rattle.lens_forms.specs.Forms.{form_keyed, form_ordered, form_part, form_inv, RowTrees, no_rows, both, only_left}
+use Rattle.lens_forms.specs.Forms.{only_right, ArmTrees, no_arms, more_arms, lefts, rights, partner_of, sorted}
+use Rattle.lens_forms.specs.Forms.{lists_of}
 use Rattle.program_terms.specs.Terms as Term
 use Rattle.lens_types.specs.Earlier.{Definitions, expanded_type, expanded_form}
 use Rattle.texts.specs.Sides.{other}

@@ -1,6 +1,10 @@
 -- For the proofs that the checker ends: how many steps a walk over a type or a lens takes at most.
 use Rattle.std.specs.Prelude.{ℕ, ◌+◌}
-use Rattle.program_terms.specs.Terms.{TypeTree, unit, bool, int, text, enum_of, record_of, one_of, list, keyed, tree, named, FieldTrees, no_fields, more_fields, LensTree, id_of, bij_of, disc_of, then_of, rec_lens, alt_lens, each_of, keyed_each, tree_each, part_of, inv_of, named_lens, RowTree, row_both, row_left, row_right, RowTrees, no_rows, both, only_left, only_right, ArmTrees, no_arms, more_arms}
+use Rattle.program_terms.specs.Terms.{TypeTree, unit, bool, int, text, enum_of, record_of, one_of, list, keyed, tree}
+use Rattle.program_terms.specs.Terms.{named, FieldTrees, no_fields, more_fields, LensTree, id_of, bij_of, disc_of}
+use Rattle.program_terms.specs.Terms.{then_of, rec_lens, alt_lens, each_of, keyed_each, tree_each, part_of, inv_of}
+use Rattle.program_terms.specs.Terms.{named_lens, RowTree, row_both, row_left, row_right, RowTrees, no_rows, both}
+use Rattle.program_terms.specs.Terms.{only_left, only_right, ArmTrees, no_arms, more_arms}
 
 abbrev mutual
   pub type_size : TypeTree → ℕ

@@ -6,7 +6,8 @@ ghost use Rattle.program_terms.specs.Terms.{type_def, lens_def};
 ghost use Rattle.lens_forms.specs.Forms.{form_tree};
 ghost use Rattle.lens_types.specs.Checking.{def_failure, first_failure};
 ghost use Rattle.lens_types.specs.Earlier.{expanded_form, main_form};
-ghost use Rattle.lens_types.specs.Entries.{earlier_tree, is_measured_type, is_measured_lens, IsKnownType, IsKnownLens, IsKnown};
+ghost use Rattle.lens_types.specs.Entries.{earlier_tree, is_measured_type, is_measured_lens, IsKnownType, IsKnownLens};
+ghost use Rattle.lens_types.specs.Entries.{IsKnown};
 ghost use Rattle.lens_types.specs.Faults.{IsFaultOf};
 ghost use Rattle.lens_types.specs.Sound.{is_sound};
 

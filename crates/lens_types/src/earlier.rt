@@ -56,7 +56,8 @@ impl<'a> Earlier<'a> {
     pub(crate) fn add(&mut self, name: Name, meaning: Known<'a>) -> Result<(), AllocError>
         requires is_new { known (earlier_tree self.old) name ≡ None }
         requires measured { IsTrue (is_measured (earlier_tree self.old) meaning) }
-        ensures { OnOk result (earlier_tree self.new ≡ earlier_tree self.old ++ (name, stands_for (earlier_tree self.old) meaning.entry) ∷ []) }
+        ensures { OnOk result (earlier_tree self.new
+            ≡ earlier_tree self.old ++ (name, stands_for (earlier_tree self.old) meaning.entry) ∷ []) }
     {
         self.entries.insert(name, meaning)?;
         Ok(())
@@ -64,7 +65,8 @@ impl<'a> Earlier<'a> {
 
     // What a name stands for among the first `scope` definitions.
     fn find(&self, name: &Name, scope: usize) -> Option<Known<'a>>
-        ensures { MatchOption result (known (take scope (earlier_tree self.now)) name.now ≡ None) (λ k. IsFound self.now scope name.now k) }
+        ensures { MatchOption result (known (take scope (earlier_tree self.now)) name.now ≡ None)
+            (λ k. IsFound self.now scope name.now k) }
     {
         let (place, _, known) = self.entries.get_full(name)?;
         if place < scope { Some(*known) } else { None }
@@ -72,7 +74,8 @@ impl<'a> Earlier<'a> {
 
     // The type that a name stands for.
     pub(crate) fn type_named(&self, name: &Name, scope: usize) -> Option<KnownType<'a>>
-        ensures { MatchOption result (type_named (take scope (earlier_tree self.now)) name.now ≡ ty_unit) (λ k. IsTypeFound self.now scope name.now k) }
+        ensures { MatchOption result (type_named (take scope (earlier_tree self.now)) name.now ≡ ty_unit)
+            (λ k. IsTypeFound self.now scope name.now k) }
     {
         match self.find(name, scope)? {
             Known::OfType(known) => Some(known),
@@ -82,7 +85,8 @@ impl<'a> Earlier<'a> {
 
     // The lens that a name stands for.
     pub(crate) fn lens_named(&self, name: &Name, scope: usize) -> Option<KnownLens<'a>>
-        ensures { MatchOption result (form_named (take scope (earlier_tree self.now)) name.now ≡ form_id ty_unit) (λ k. IsLensFound self.now scope name.now k) }
+        ensures { MatchOption result (form_named (take scope (earlier_tree self.now)) name.now ≡ form_id ty_unit)
+            (λ k. IsLensFound self.now scope name.now k) }
     {
         match self.find(name, scope)? {
             Known::OfType(_) => None,

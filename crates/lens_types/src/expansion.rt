@@ -5,10 +5,13 @@
 
 ghost use Rattle.std.specs.Prelude.{◌≡◌, ℕ, List, IfOk, map, take};
 ghost use Rattle.std.specs.declared.result.Result.TheVariants.{Ok};
-ghost use Rattle.doc_values.specs.Types.{ty_tree, ty_enum, ty_rec, type_fields_of as ty_fields_of, field_tree as ty_field};
-ghost use Rattle.program_terms.specs.Views.{type_tree, fields_tree, lens_tree, row_tree as lens_row, rows_tree as lens_rows, arms_tree as lens_arms};
+ghost use Rattle.doc_values.specs.Types.{ty_tree, ty_enum, ty_rec, type_fields_of as ty_fields_of};
+ghost use Rattle.doc_values.specs.Types.{field_tree as ty_field};
+ghost use Rattle.program_terms.specs.Views.{type_tree, fields_tree, lens_tree, row_tree as lens_row};
+ghost use Rattle.program_terms.specs.Views.{rows_tree as lens_rows, arms_tree as lens_arms};
 ghost use Rattle.lens_forms.specs.Forms.{form_tree, form_rec, no_rows, row_tree, rows_tree, arms_tree, sorted};
-ghost use Rattle.lens_types.specs.Earlier.{expanded_type, expanded_fields, expanded_form, expanded_rows, expanded_arms, alternatives_type, alternatives, partition};
+ghost use Rattle.lens_types.specs.Earlier.{expanded_type, expanded_fields, expanded_form, expanded_rows, expanded_arms};
+ghost use Rattle.lens_types.specs.Earlier.{alternatives_type, alternatives, partition};
 ghost use Rattle.lens_types.specs.Entries.{earlier_tree};
 ghost use Rattle.lens_types.specs.Nodes.{expanded_row};
 
@@ -84,7 +87,8 @@ pub(crate) fn enum_type(
     members: Result<Names, AllocError>,
     value: Result<Name, AllocError>,
 ) -> Result<Ty, AllocError>
-    ensures { IfOk result (λ t. (ms : List (List ℕ)) × (v : List ℕ) × (members ≡ Ok ms) × (value ≡ Ok v) × (ty_tree t ≡ ty_enum ms v)) }
+    ensures { IfOk result (λ t. (ms : List (List ℕ)) × (v : List ℕ) × (members ≡ Ok ms) × (value ≡ Ok v)
+        × (ty_tree t ≡ ty_enum ms v)) }
 {
     let (members, value) = both(members, value)?;
     Ok(Ty::Enum(members, value))
@@ -111,7 +115,8 @@ pub(crate) fn alternatives_type(tags: Vec<(Name, Ty)>) -> Ty
 
 // The fields sorted by bytes.
 fn sorted(fields: Vec<(Name, Ty)>) -> Result<Vec<(Name, Ty)>, AllocError>
-    ensures { IfOk result (λ fs. ty_fields_of (map ty_field fs.items) ≡ sorted (ty_fields_of (map ty_field fields.items))) }
+    ensures { IfOk result (λ fs. ty_fields_of (map ty_field fs.items)
+        ≡ sorted (ty_fields_of (map ty_field fields.items))) }
 {
     let mut sorted = fields;
     sorted.sort_by(|a, b| a.0.as_str().cmp(b.0.as_str()))?;
@@ -128,7 +133,8 @@ pub(crate) fn expanded_lens(
     scope: usize,
     lens: &Lens,
 ) -> Result<Form, AllocError>
-    ensures { IfOk result (λ f. form_tree f ≡ expanded_form (take scope (earlier_tree earlier.now)) (lens_tree lens.now)) }
+    ensures { IfOk result (λ f. form_tree f ≡ expanded_form (take scope (earlier_tree earlier.now))
+        (lens_tree lens.now)) }
 {
     match lens {
         Lens::Id(ty) => expanded_type(alloc, earlier, scope, ty).map(Form::Id),
@@ -178,7 +184,8 @@ fn expanded_rows(
     scope: usize,
     rows: &Rows,
 ) -> Result<FormRows, AllocError>
-    ensures { IfOk result (λ rs. rows_tree rs ≡ expanded_rows (take scope (earlier_tree earlier.now)) (lens_rows rows.now)) }
+    ensures { IfOk result (λ rs. rows_tree rs ≡ expanded_rows (take scope (earlier_tree earlier.now))
+        (lens_rows rows.now)) }
 {
     let mut items = Vec::new(alloc);
     for row in rows.as_slice() {
@@ -223,7 +230,8 @@ fn expanded_arms(
     scope: usize,
     arms: &Arms,
 ) -> Result<FormArms, AllocError>
-    ensures { IfOk result (λ others. arms_tree others ≡ expanded_arms (take scope (earlier_tree earlier.now)) (lens_arms arms.now)) }
+    ensures { IfOk result (λ others. arms_tree others ≡ expanded_arms (take scope (earlier_tree earlier.now))
+        (lens_arms arms.now)) }
 {
     let mut items = Vec::new(alloc);
     for arm in arms.as_slice() {

@@ -3,10 +3,12 @@
 ghost use Rattle.std.specs.Prelude.{◌≡◌, ◌+◌, MatchResult, None, option_map};
 ghost use Rattle.std.specs.Option.{option_or};
 ghost use Rattle.doc_values.specs.Types.{ty_tree};
-ghost use Rattle.lens_forms.specs.Forms.{FormTree, form_bij, form_then, form_each, form_inv, form_rec, RowTrees, ArmTrees, left_type, right_type};
+ghost use Rattle.lens_forms.specs.Forms.{FormTree, form_bij, form_then, form_each, form_inv, form_rec, RowTrees};
+ghost use Rattle.lens_forms.specs.Forms.{ArmTrees, left_type, right_type};
 ghost use Rattle.program_terms.specs.Terms.{id_of, disc_of, then_of, part_of};
 ghost use Rattle.program_terms.specs.Views.{lens_tree, rows_tree, row_tree, arms_tree, fields_tree, type_tree};
-ghost use Rattle.lens_types.specs.Checking.{lens_failure, rows_failure, arms_failure, middle_failure, sides_failure, repeated_field, repeated_tag};
+ghost use Rattle.lens_types.specs.Checking.{lens_failure, rows_failure, arms_failure, middle_failure, sides_failure};
+ghost use Rattle.lens_types.specs.Checking.{repeated_field, repeated_tag};
 ghost use Rattle.lens_types.specs.Earlier.{expanded_form, expanded_rows, expanded_arms, alternatives};
 ghost use Rattle.lens_types.specs.Faults.{IsFaultOf};
 ghost use Rattle.lens_types.specs.Entries.{earlier_tree};
@@ -73,8 +75,10 @@ fn checked_composition(
 ) -> Result<SideHeights, TypeFault>
     ensures { MatchResult result
         (λ h. (lens_failure (earlier_tree earlier.now) (then_of (lens_tree first.now) (lens_tree second.now)) ≡ None)
-        × HasHeights (expanded_form (earlier_tree earlier.now) (then_of (lens_tree first.now) (lens_tree second.now))) h)
-        (λ fault. IsFaultOf (lens_failure (earlier_tree earlier.now) (then_of (lens_tree first.now) (lens_tree second.now))) fault) }
+        × HasHeights (expanded_form (earlier_tree earlier.now) (then_of (lens_tree first.now) (lens_tree second.now)))
+        h)
+        (λ fault. IsFaultOf
+        (lens_failure (earlier_tree earlier.now) (then_of (lens_tree first.now) (lens_tree second.now))) fault) }
 {
     let before = checked_lens(alloc, earlier, first)?;
     let after = checked_lens(alloc, earlier, second)?;
@@ -165,7 +169,8 @@ fn checked_disc(
     ensures { MatchResult result
         (λ h. (lens_failure (earlier_tree earlier.now) (disc_of (type_tree left.now) (type_tree right.now)) ≡ None)
         × HasHeights (expanded_form (earlier_tree earlier.now) (disc_of (type_tree left.now) (type_tree right.now))) h)
-        (λ fault. IsFaultOf (lens_failure (earlier_tree earlier.now) (disc_of (type_tree left.now) (type_tree right.now))) fault) }
+        (λ fault. IsFaultOf
+        (lens_failure (earlier_tree earlier.now) (disc_of (type_tree left.now) (type_tree right.now))) fault) }
 {
     check_type(alloc, left)?;
     check_type(alloc, right)?;
@@ -215,8 +220,10 @@ fn same_middle(
     second: &Lens,
 ) -> Result<(), TypeFault>
     ensures { MatchResult result
-        (λ _. middle_failure (expanded_form (earlier_tree earlier.now) (lens_tree first.now)) (expanded_form (earlier_tree earlier.now) (lens_tree second.now)) ≡ None)
-        (λ fault. IsFaultOf (middle_failure (expanded_form (earlier_tree earlier.now) (lens_tree first.now)) (expanded_form (earlier_tree earlier.now) (lens_tree second.now))) fault) }
+        (λ _. middle_failure (expanded_form (earlier_tree earlier.now) (lens_tree first.now))
+        (expanded_form (earlier_tree earlier.now) (lens_tree second.now)) ≡ None)
+        (λ fault. IsFaultOf (middle_failure (expanded_form (earlier_tree earlier.now) (lens_tree first.now))
+        (expanded_form (earlier_tree earlier.now) (lens_tree second.now))) fault) }
 {
     let left = side_type(alloc, earlier, earlier.len(), Side::Right, first);
     let right = side_type(alloc, earlier, earlier.len(), Side::Left, second);
@@ -237,7 +244,8 @@ fn same_types(left: Ty, right: Ty) -> Result<(), TypeFault>
 
 // The heights of a composition of two forms of these heights, where no side is too high.
 fn low_composition(before: SideHeights, after: SideHeights) -> Result<SideHeights, TypeFault>
-    ensures { (l : FormTree) (k : FormTree) → HasHeights l before → HasHeights k after → IsLowForm (form_then l k) result }
+    ensures { (l : FormTree) (k : FormTree) → HasHeights l before → HasHeights k after
+        → IsLowForm (form_then l k) result }
 {
     low_sides(SideHeights {
         left: before.left,
@@ -269,24 +277,29 @@ fn checked_record(
     highest: SideHeights,
 ) -> Result<SideHeights, TypeFault>
     ensures { (forms : RowTrees) → HasRowHeights forms highest → MatchResult result
-        (λ h. (option_or (option_map repeated_field (first_repeat (row_names (rows_tree rows.now)))) (sides_failure (form_rec forms)) ≡ None)
+        (λ h. (option_or (option_map repeated_field (first_repeat (row_names (rows_tree rows.now))))
+        (sides_failure (form_rec forms)) ≡ None)
         × HasHeights (form_rec forms) h)
-        (λ fault. IsFaultOf (option_or (option_map repeated_field (first_repeat (row_names (rows_tree rows.now)))) (sides_failure (form_rec forms))) fault) }
+        (λ fault. IsFaultOf (option_or (option_map repeated_field (first_repeat (row_names (rows_tree rows.now))))
+        (sides_failure (form_rec forms))) fault) }
 {
     distinct_fields(alloc, &row_names(alloc, rows.as_slice())?)?;
     low_record(highest)
 }
 
-// The heights of alternatives whose highest contents are so high, where their tags are distinct and no side is too high.
+// The heights of alternatives whose highest contents are so high, where their tags are distinct and no side is too
+// high.
 fn checked_alternatives(
     alloc: Global,
     arms: &Arms,
     highest: SideHeights,
 ) -> Result<SideHeights, TypeFault>
     ensures { (forms : ArmTrees) → HasArmHeights forms highest → MatchResult result
-        (λ h. (option_or (option_map repeated_tag (first_repeat (arm_names (arms_tree arms.now)))) (sides_failure (alternatives forms)) ≡ None)
+        (λ h. (option_or (option_map repeated_tag (first_repeat (arm_names (arms_tree arms.now))))
+        (sides_failure (alternatives forms)) ≡ None)
         × HasHeights (alternatives forms) h)
-        (λ fault. IsFaultOf (option_or (option_map repeated_tag (first_repeat (arm_names (arms_tree arms.now)))) (sides_failure (alternatives forms))) fault) }
+        (λ fault. IsFaultOf (option_or (option_map repeated_tag (first_repeat (arm_names (arms_tree arms.now))))
+        (sides_failure (alternatives forms))) fault) }
 {
     distinct_tags(alloc, &arm_names(alloc, arms.as_slice())?)?;
     low_alternatives(highest)

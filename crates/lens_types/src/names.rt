@@ -3,7 +3,8 @@
 ghost use Rattle.std.specs.Prelude.{◌≡◌, IfOk, MatchResult, None, option_map, map};
 ghost use Rattle.program_terms.specs.Terms.{term_fields_of, term_rows_of, term_arms_of};
 ghost use Rattle.program_terms.specs.Views.{field_tree, row_tree, arm_tree};
-ghost use Rattle.lens_types.specs.Repeats.{is_same_side, sided, first_repeat, member_names, field_names, pair_names, row_names, arm_names};
+ghost use Rattle.lens_types.specs.Repeats.{is_same_side, sided, first_repeat, member_names, field_names, pair_names};
+ghost use Rattle.lens_types.specs.Repeats.{row_names, arm_names};
 ghost use Rattle.lens_types.specs.Checking.{repeated_field, repeated_tag, repeated_member};
 ghost use Rattle.lens_types.specs.Faults.{IsFaultOf};
 ghost use Rattle.texts.specs.declared.side.Side;

@@ -1,7 +1,8 @@
 //! The type of a side of a lens, all names expanded.
 
 ghost use Rattle.std.specs.Prelude.{◌≡◌, IfOk, map, take, option_map};
-ghost use Rattle.doc_values.specs.Types.{ty_tree, ty_list, ty_alt, ty_rec, type_fields_of as ty_fields_of, field_tree as ty_field};
+ghost use Rattle.doc_values.specs.Types.{ty_tree, ty_list, ty_alt, ty_rec, type_fields_of as ty_fields_of};
+ghost use Rattle.doc_values.specs.Types.{field_tree as ty_field};
 ghost use Rattle.program_terms.specs.Views.{lens_tree, row_tree, rows_tree, arms_tree};
 ghost use Rattle.lens_forms.specs.Forms.{form_bij, partner_of, sorted, lists_of};
 ghost use Rattle.lens_types.specs.Earlier.{expanded_form, expanded_rows, expanded_arms, alternatives_type, partition};
@@ -25,7 +26,8 @@ pub(crate) fn side_type(
     side: Side,
     lens: &Lens,
 ) -> Result<Ty, AllocError>
-    ensures { IfOk result (λ t. ty_tree t ≡ type_on side (expanded_form (take scope (earlier_tree earlier.now)) (lens_tree lens.now))) }
+    ensures { IfOk result
+        (λ t. ty_tree t ≡ type_on side (expanded_form (take scope (earlier_tree earlier.now)) (lens_tree lens.now))) }
 {
     match lens {
         Lens::Id(ty) => expanded_type(alloc, earlier, scope, ty),
@@ -87,7 +89,8 @@ fn side_field(
     side: Side,
     row: &Row,
 ) -> Result<Option<(Name, Ty)>, AllocError>
-    ensures { IfOk result (λ f. option_map ty_field f ≡ field_on side (take scope (earlier_tree earlier.now)) (row_tree row.now)) }
+    ensures { IfOk result (λ f. option_map ty_field f ≡ field_on side (take scope (earlier_tree earlier.now))
+        (row_tree row.now)) }
 {
     match (row, side) {
         (Row::Both(left, right, lens), _) => {
@@ -211,7 +214,8 @@ fn record_of_lists(alloc: Global, tags: Vec<(Name, Ty)>) -> Result<Ty, AllocErro
 
 // The same names, each with a list of its type.
 fn lists_of(alloc: Global, fields: &[(Name, Ty)]) -> Result<Vec<(Name, Ty)>, AllocError>
-    ensures { IfOk result (λ fs. ty_fields_of (map ty_field fs.items) ≡ lists_of (ty_fields_of (map ty_field fields.now))) }
+    ensures { IfOk result (λ fs. ty_fields_of (map ty_field fs.items)
+        ≡ lists_of (ty_fields_of (map ty_field fields.now))) }
 {
     let mut lists = Vec::new(alloc);
     for field in fields {

@@ -9,7 +9,8 @@ ghost use Rattle.program_terms.specs.Views.{type_tree, fields_tree, lens_tree, r
 ghost use Rattle.lens_types.specs.Earlier.{expanded_type, expanded_form};
 ghost use Rattle.lens_forms.specs.Measures.{type_parts, form_parts};
 ghost use Rattle.lens_types.specs.Entries.{earlier_tree};
-ghost use Rattle.lens_types.specs.PartRooms.{IsCountOf, room_after, type_room, fields_room, lens_room, row_room, rows_room, arms_room};
+ghost use Rattle.lens_types.specs.PartRooms.{IsCountOf, room_after, type_room, fields_room, lens_room, row_room};
+ghost use Rattle.lens_types.specs.PartRooms.{rows_room, arms_room};
 
 use crate::earlier::Earlier;
 use lens_forms::MOST_PARTS;

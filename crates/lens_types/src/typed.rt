@@ -56,12 +56,13 @@ impl Typed {
     /// The form.
     ///
     /// It is typed, with [`left`](Typed::left) and [`right`](Typed::right): in all its parts names are distinct on each
-    /// side, and a bijection, alternatives and a partition have at least one; the initial value of an enum is one of its
-    /// members, and that of a bijection is a left member. It has at most 4,096 parts, no list in it or in its types has
-    /// more than 4,096 names, and its height is at most 32.
+    /// side, and a bijection, alternatives and a partition have at least one; the initial value of an enum is one of
+    /// its members, and that of a bijection is a left member. It has at most 4,096 parts, no list in it or in its types
+    /// has more than 4,096 names, and its height is at most 32.
     pub fn form(&self) -> &Form
         ensures is { result.now ≡ self.now }
-        ensures typed { IsTyped (form_tree result.now) (left_type (form_tree result.now)) (right_type (form_tree result.now)) }
+        ensures typed { IsTyped (form_tree result.now) (left_type (form_tree result.now))
+            (right_type (form_tree result.now)) }
         ensures tested { IsTrue (is_typed (form_tree result.now)) }
         ensures small { form_parts (form_tree result.now) ≤ MOST_PARTS }
         ensures short { longest_list (form_tree result.now) ≤ MOST_PARTS }

@@ -7,7 +7,8 @@ use lens_check::consistent;
 use lens_types::Typed;
 use std::alloc::{AllocError, Global};
 
-/// Decides `times` times whether the two sides of contacts belong together, and once more with another name on the right.
+/// Decides `times` times whether the two sides of contacts belong together, and once more with another name on the
+/// right.
 ///
 /// It fails if the first decision is no, or the second one is yes.
 pub fn decide(alloc: Global, people: u64, times: u64) -> anyhow::Result<()> {
@@ -21,7 +22,8 @@ pub fn decide(alloc: Global, people: u64, times: u64) -> anyhow::Result<()> {
     Ok(())
 }
 
-// Whether the two sides of contacts are consistent with their complement. The last name on the right begins with the word.
+// Whether the two sides of contacts are consistent with their complement. The last name on the right begins with the
+// word.
 fn decided(
     alloc: Global,
     lens: &Typed,

@@ -5,7 +5,8 @@ use lens_syntax::{Program, ProgramFault, read_program};
 use lens_types::{Typed, check};
 use std::alloc::Global;
 
-// The left side is a list of people and firms. The right side has a list of each; its people have no birthday, and a note.
+// The left side is a list of people and firms. The right side has a list of each; its people have no birthday, and a
+// note.
 const PROGRAM: &str = "
 type person = {name: text, phone: text};
 type firm = {name: text, vat: text};

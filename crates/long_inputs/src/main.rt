@@ -1,8 +1,9 @@
 //! Runs commands over inputs that are too long: of more than 2^30 bytes, and with a line that is one byte too long.
 //!
-//! Most of the long inputs never end. No memory holds such an input, so a source makes its bytes. Each command that reads one is
-//! stopped behind 2^30 bytes, with the answers to the lines before. Only a program part that is refused ends it sooner. Each command
-//! gives a line with its name, its status and the length of the store that it leaves, and then what it wrote.
+//! Most of the long inputs never end. No memory holds such an input, so a source makes its bytes. Each command that
+//! reads one is stopped behind 2^30 bytes, with the answers to the lines before. Only a program part that is refused
+//! ends it sooner. Each command gives a line with its name, its status and the length of the store that it leaves, and
+//! then what it wrote.
 #![tactic(auto)]
 
 mod endless;
@@ -99,7 +100,8 @@ fn report_of(
     Ok(report)
 }
 
-// A store is made, an endless journal is applied to it, and then one with a line that is too long. The store is counted at the end.
+// A store is made, an endless journal is applied to it, and then one with a line that is too long. The store is counted
+// at the end.
 fn over_a_store(alloc: Global) -> Result<Vec<u8>, AllocError> {
     let mut disk = empty_disk(alloc)?;
     let mut program = SureSource::new(bytes_of(alloc, "main id int")?);

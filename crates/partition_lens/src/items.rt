@@ -115,7 +115,8 @@ fn switch_item(
     requires few { tag_count (fields_tree tags.now) ≤ MOST_PARTS }
     requires within { place < length seq.now }
     ensures row { MatchResult result
-        (λ r. part_item (fields_tree tags.now) place seq.now (switch from.now to.now (word_tree word.now)) ≡ Some (row_of r))
+        (λ r. part_item (fields_tree tags.now) place seq.now (switch from.now to.now (word_tree word.now))
+        ≡ Some (row_of r))
         (IsRowFault (part_item (fields_tree tags.now) place seq.now (switch from.now to.now (word_tree word.now)))) }
     ensures long { IfOk result (λ r. length r.tags ≡ length seq.now) }
 {

@@ -152,7 +152,8 @@ fn deletions(alloc: Global, tags: &Fields, seq: &TagSeq, kept: u64) -> Result<Wo
     requires few { tag_count (fields_tree tags.now) ≤ MOST_PARTS }
     requires within { kept ≤ length seq.now }
     requires last { length seq.now - kept < 2 ^ 32 }
-    ensures { IfOk result (λ w. word_tree w ≡ at_each_tag (fields_tree tags.now) 0 (λ t. del (count t (drop kept seq.now)))) }
+    ensures { IfOk result
+        (λ w. word_tree w ≡ at_each_tag (fields_tree tags.now) 0 (λ t. del (count t (drop kept seq.now)))) }
 {
     let fields = tags.as_slice();
     let mut word = nothing(alloc);

@@ -1,13 +1,15 @@
 //! From the right: one primitive of the list of a tag. Its items are the occurrences of the tag in the mixed list.
 
-ghost use Rattle.std.specs.Prelude.{◌≡◌, ◌<◌, ◌≤◌, ◌+◌, ◌^◌, Some, IfOk, MatchResult, length, map, nat_eq, if◌then◌else◌};
+ghost use Rattle.std.specs.Prelude.{◌≡◌, ◌<◌, ◌≤◌, ◌+◌, ◌^◌, Some, IfOk, MatchResult, length, map, nat_eq};
+ghost use Rattle.std.specs.Prelude.{if◌then◌else◌};
 ghost use Rattle.std.specs.List.{range_with_len};
 ghost use Rattle.hold_shapes.specs.declared.edit.Place.TheVariants.{Index};
 ghost use Rattle.hold_shapes.specs.declared.edit.ShapeEdit.TheVariants.{Ins, Del, MoveItem, Reorder};
 ghost use Rattle.edit_module.specs.Words.{modify, shape, no_primitives};
 ghost use Rattle.edit_module.specs.Views.{word_tree, primitive_tree};
 ghost use Rattle.lens_core.specs.Emitted.{mod_word, switch_word};
-ghost use Rattle.lens_core.specs.Partition.{part_occurrence, insert_occurrences, switch_places, delete_occurrences, delete_last, move_occurrence, reorder_occurrences, place_from};
+ghost use Rattle.lens_core.specs.Partition.{part_occurrence, insert_occurrences, switch_places, delete_occurrences};
+ghost use Rattle.lens_core.specs.Partition.{delete_last, move_occurrence, reorder_occurrences, place_from};
 ghost use Rattle.tag_seq.specs.Tags.{count};
 ghost use Rattle.partition_lens.specs.Rows.{row_of, IsRowFault};
 
@@ -209,7 +211,8 @@ fn switches(
     items: u32,
 ) -> Result<Word, AllocError>
     requires { from + items < 2 ^ 64 }
-    ensures { IfOk result (λ w. word_tree w ≡ (if nat_eq tag 0 then no_primitives else switch_places first.now name.now from items)) }
+    ensures { IfOk result
+        (λ w. word_tree w ≡ (if nat_eq tag 0 then no_primitives else switch_places first.now name.now from items)) }
 {
     if tag == 0 {
         return Ok(nothing(alloc));

@@ -1,6 +1,7 @@
 //! Orders of lists, and what an order of the mixed list is in the list of each tag.
 
-ghost use Rattle.std.specs.Prelude.{◌≡◌, ◌≤◌, ◌&&◌, ◌++◌, ◌∷◌, IfOk, OnOk, IsTrue, true, [], length, map, nat_eq, replicate, slice_index, slice_index_or, vec_items};
+ghost use Rattle.std.specs.Prelude.{◌≡◌, ◌≤◌, ◌&&◌, ◌++◌, ◌∷◌, IfOk, OnOk, IsTrue, true, [], length, map, nat_eq};
+ghost use Rattle.std.specs.Prelude.{replicate, slice_index, slice_index_or, vec_items};
 ghost use Rattle.hold_shapes.specs.Plans.{is_each_new};
 ghost use Rattle.hold_shapes.specs.declared.edit.ShapeEdit.TheVariants.{Reorder};
 ghost use Rattle.doc_values.specs.Types.{fields_tree};

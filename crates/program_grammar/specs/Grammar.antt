@@ -1,16 +1,20 @@
--- The grammar of programs: symbols, productions, and the viable prefixes of what they derive. docs/LANGUAGE.md has it in prose.
--- In order: `alternatives` has the productions, `contents` their optional and repeated parts, and `IsViablePrefix`, at the end, is the main definition.
+-- The grammar of programs: symbols, productions, and the viable prefixes of what they derive. docs/LANGUAGE.md has it
+-- in prose. In order: `alternatives` has the productions, `contents` their optional and repeated parts, and
+-- `IsViablePrefix`, at the end, is the main definition.
 use Rattle.std.specs.Prelude.{◌≡◌, ℕ, zero, suc, List, [], ◌∷◌, ◌++◌, ◌⊎◌}
 use lib.IntN.{ℤ}
 use Rattle.program_tokens.specs.declared.keyword.Keyword.{Keyword}
 use Rattle.program_tokens.specs.declared.keyword.Keyword.TheVariants as words
 use Rattle.program_tokens.specs.declared.mark.Mark.{Mark}
-use Rattle.program_tokens.specs.declared.mark.Mark.TheVariants.{Equals, Semicolon, OpenBrace, CloseBrace, Less, Greater, OpenBracket, CloseBracket, OpenParen, CloseParen, Colon, Comma, Tilde}
+use Rattle.program_tokens.specs.declared.mark.Mark.TheVariants.{Equals, Semicolon, OpenBrace, CloseBrace, Less}
+use Rattle.program_tokens.specs.declared.mark.Mark.TheVariants.{Greater, OpenBracket, CloseBracket, OpenParen}
+use Rattle.program_tokens.specs.declared.mark.Mark.TheVariants.{CloseParen, Colon, Comma, Tilde}
 use Rattle.program_tokens.specs.declared.token.Token.{Token}
 use Rattle.program_tokens.specs.declared.token.Token.TheVariants as tokens
 
--- The rules. A type, a lens and a row are numbered by how many types and lenses may still be nested, itself among them: a type with
--- the number 0 is inside 100 others, and has no alternative. The plain productions, without numbers, are in PlainGrammar.
+-- The rules. A type, a lens and a row are numbered by how many types and lenses may still be nested, itself among them:
+-- a type with the number 0 is inside 100 others, and has no alternative. The plain productions, without numbers, are in
+-- PlainGrammar.
 pub data Rule : Type 0 where
   program : Rule
   field : Rule
@@ -80,7 +84,8 @@ alternatives (type (suc n)) =
     ∷ (word words.Bool ∷ [])
     ∷ (word words.Int ∷ perhaps declared_number ∷ [])
     ∷ (word words.Text ∷ perhaps declared_string ∷ [])
-    ∷ (word words.Enum ∷ mark OpenBracket ∷ a_string ∷ repeated other_members ∷ mark CloseBracket ∷ perhaps declared_string ∷ [])
+    ∷ (word words.Enum ∷ mark OpenBracket ∷ a_string ∷ repeated other_members ∷ mark CloseBracket
+    ∷ perhaps declared_string ∷ [])
     ∷ (mark OpenBrace ∷ perhaps (fields n) ∷ mark CloseBrace ∷ [])
     ∷ (mark Less ∷ a_field n ++ repeated (other_fields n) ∷ mark Greater ∷ [])
     ∷ (word words.List ∷ rule (type n) ∷ [])
@@ -92,7 +97,8 @@ alternatives (lens zero) = []
 alternatives (lens (suc n)) =
     (word words.Id ∷ rule (type n) ∷ [])
     ∷ (word words.Disc ∷ rule (type n) ∷ rule (type n) ∷ [])
-    ∷ (word words.Bij ∷ mark OpenBracket ∷ a_pair ++ repeated other_pairs ∷ mark CloseBracket ∷ perhaps declared_string ∷ [])
+    ∷ (word words.Bij ∷ mark OpenBracket ∷ a_pair ++ repeated other_pairs ∷ mark CloseBracket ∷ perhaps declared_string
+    ∷ [])
     ∷ (word words.Then ∷ mark OpenParen ∷ rule (lens n) ∷ mark Comma ∷ rule (lens n) ∷ mark CloseParen ∷ [])
     ∷ (mark OpenBrace ∷ perhaps (rows n) ∷ mark CloseBrace ∷ [])
     ∷ (mark Less ∷ an_arm n ++ repeated (other_arms n) ∷ mark Greater ∷ [])
@@ -121,14 +127,24 @@ IsAmong a (b ∷ bs) = (a ≡ b) ⊎ IsAmong a bs
 -- The tokens are a viable prefix of the symbols: they begin something that the symbols derive.
 pub data IsViablePrefix : List Symbol → List Token → Type 0 where
   no_tokens : (s : List Symbol) → IsViablePrefix s []
-  mark_first : (m : Mark) (s : List Symbol) (ts : List Token) → IsViablePrefix s ts → IsViablePrefix (mark m ∷ s) (tokens.Mark m ∷ ts)
-  word_first : (k : Keyword) (s : List Symbol) (ts : List Token) → IsViablePrefix s ts → IsViablePrefix (word k ∷ s) (tokens.Keyword k ∷ ts)
-  name_first : (n : List ℕ) (s : List Symbol) (ts : List Token) → IsViablePrefix s ts → IsViablePrefix (a_name ∷ s) (tokens.Name n ∷ ts)
-  string_first : (n : List ℕ) (s : List Symbol) (ts : List Token) → IsViablePrefix s ts → IsViablePrefix (a_string ∷ s) (tokens.Text n ∷ ts)
-  number_first : (z : ℤ) (s : List Symbol) (ts : List Token) → IsViablePrefix s ts → IsViablePrefix (a_number ∷ s) (tokens.Number z ∷ ts)
+  mark_first : (m : Mark) (s : List Symbol) (ts : List Token) → IsViablePrefix s ts
+      → IsViablePrefix (mark m ∷ s) (tokens.Mark m ∷ ts)
+  word_first : (k : Keyword) (s : List Symbol) (ts : List Token) → IsViablePrefix s ts
+      → IsViablePrefix (word k ∷ s) (tokens.Keyword k ∷ ts)
+  name_first : (n : List ℕ) (s : List Symbol) (ts : List Token) → IsViablePrefix s ts
+      → IsViablePrefix (a_name ∷ s) (tokens.Name n ∷ ts)
+  string_first : (n : List ℕ) (s : List Symbol) (ts : List Token) → IsViablePrefix s ts
+      → IsViablePrefix (a_string ∷ s) (tokens.Text n ∷ ts)
+  number_first : (z : ℤ) (s : List Symbol) (ts : List Token) → IsViablePrefix s ts
+      → IsViablePrefix (a_number ∷ s) (tokens.Number z ∷ ts)
   end_first : (s : List Symbol) (ts : List Token) → IsViablePrefix s ts → IsViablePrefix (the_end ∷ s) (tokens.End ∷ ts)
-  rule_replaced : (r : Rule) (a : List Symbol) (s : List Symbol) (ts : List Token) → IsAmong a (alternatives r) → IsViablePrefix (a ++ s) ts → IsViablePrefix (rule r ∷ s) ts
-  option_present : (p : Part) (a : List Symbol) (s : List Symbol) (ts : List Token) → IsAmong a (contents p) → IsViablePrefix (a ++ s) ts → IsViablePrefix (perhaps p ∷ s) ts
-  option_absent : (p : Part) (s : List Symbol) (ts : List Token) → IsViablePrefix s ts → IsViablePrefix (perhaps p ∷ s) ts
-  repeated_once_more : (p : Part) (a : List Symbol) (s : List Symbol) (ts : List Token) → IsAmong a (contents p) → IsViablePrefix (a ++ (repeated p ∷ s)) ts → IsViablePrefix (repeated p ∷ s) ts
-  repeated_no_more : (p : Part) (s : List Symbol) (ts : List Token) → IsViablePrefix s ts → IsViablePrefix (repeated p ∷ s) ts
+  rule_replaced : (r : Rule) (a : List Symbol) (s : List Symbol) (ts : List Token) → IsAmong a (alternatives r)
+      → IsViablePrefix (a ++ s) ts → IsViablePrefix (rule r ∷ s) ts
+  option_present : (p : Part) (a : List Symbol) (s : List Symbol) (ts : List Token) → IsAmong a (contents p)
+      → IsViablePrefix (a ++ s) ts → IsViablePrefix (perhaps p ∷ s) ts
+  option_absent : (p : Part) (s : List Symbol) (ts : List Token) → IsViablePrefix s ts
+      → IsViablePrefix (perhaps p ∷ s) ts
+  repeated_once_more : (p : Part) (a : List Symbol) (s : List Symbol) (ts : List Token) → IsAmong a (contents p)
+      → IsViablePrefix (a ++ (repeated p ∷ s)) ts → IsViablePrefix (repeated p ∷ s) ts
+  repeated_no_more : (p : Part) (s : List Symbol) (ts : List Token) → IsViablePrefix s ts
+      → IsViablePrefix (repeated p ∷ s) ts

@@ -13,7 +13,8 @@ mention sort name at = record { sort = sort; name = name; at = at }
 abbrev pub Point : Type 0
 Point = List Mention × List PlacedToken
 
--- a definition: its name, the offset of the name, what it is defined as, and the names that it mentions, in written order
+-- a definition: its name, the offset of the name, what it is defined as, and the names that it mentions, in written
+-- order
 pub record NotedDefinition : Type 0 where
   pub name : List ℕ
   pub at : ℕ

@@ -1,6 +1,7 @@
 -- Unknown and repeated names. The definitions before one are a list of names, each with what it is defined as.
 -- Read it from the end: `first_fault`, then `first_after` and `first_unknown`.
-use Rattle.std.specs.Prelude.{ℕ, Bool, true, false, ◌&&◌, List, [], ◌∷◌, ◌++◌, Option, Some, None, bytes_eq, if◌then◌else◌}
+use Rattle.std.specs.Prelude.{ℕ, Bool, true, false, ◌&&◌, List, [], ◌∷◌, ◌++◌, Option, Some, None, bytes_eq}
+use Rattle.std.specs.Prelude.{if◌then◌else◌}
 use Rattle.std.specs.Option.{option_or}
 use Rattle.std.specs.List.{list_any}
 use Rattle.program_terms.specs.Terms.{DefTree, type_def, lens_def, is_defined}
@@ -27,9 +28,9 @@ abbrev pub first_unknown : List (List ℕ × DefTree) → List Mention → Optio
 first_unknown earlier [] = None
 first_unknown earlier (m ∷ ms) = if is_known m earlier then first_unknown earlier ms else Some (Unknown m.at)
 
--- The first fault of the definitions behind the earlier ones, and of the names that the main lens mentions, in written order: a
--- defined name that an earlier definition of either sort has, or a name mentioned that is unknown there. A definition is not in
--- scope in its own body.
+-- The first fault of the definitions behind the earlier ones, and of the names that the main lens mentions, in written
+-- order: a defined name that an earlier definition of either sort has, or a name mentioned that is unknown there. A
+-- definition is not in scope in its own body.
 abbrev pub first_after : List (List ℕ × DefTree) → List NotedDefinition → List Mention → Option NameFault
 first_after earlier [] main = first_unknown earlier main
 first_after earlier (d ∷ ds) main =

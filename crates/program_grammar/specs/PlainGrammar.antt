@@ -1,11 +1,14 @@
 -- The plain grammar of programs, without a bound on nesting, and how deep the types and lenses of a text are nested.
--- In order: `alternatives` has the productions, `IsPlainPrefix` says which tokens begin a program, and `IsNestedBelow` how deep they are nested.
+-- In order: `alternatives` has the productions, `IsPlainPrefix` says which tokens begin a program, and `IsNestedBelow`
+-- how deep they are nested.
 use Rattle.std.specs.Prelude.{ℕ, suc, ◌<◌, List, [], ◌∷◌, ◌++◌}
 use lib.IntN.{ℤ}
 use Rattle.program_tokens.specs.declared.keyword.Keyword.{Keyword}
 use Rattle.program_tokens.specs.declared.keyword.Keyword.TheVariants as words
 use Rattle.program_tokens.specs.declared.mark.Mark.{Mark}
-use Rattle.program_tokens.specs.declared.mark.Mark.TheVariants.{Equals, Semicolon, OpenBrace, CloseBrace, Less, Greater, OpenBracket, CloseBracket, OpenParen, CloseParen, Colon, Comma, Tilde}
+use Rattle.program_tokens.specs.declared.mark.Mark.TheVariants.{Equals, Semicolon, OpenBrace, CloseBrace, Less}
+use Rattle.program_tokens.specs.declared.mark.Mark.TheVariants.{Greater, OpenBracket, CloseBracket, OpenParen}
+use Rattle.program_tokens.specs.declared.mark.Mark.TheVariants.{CloseParen, Colon, Comma, Tilde}
 use Rattle.program_tokens.specs.declared.token.Token.{Token}
 use Rattle.program_tokens.specs.declared.token.Token.TheVariants as tokens
 use Rattle.program_grammar.specs.Grammar.{IsAmong}
@@ -81,7 +84,8 @@ alternatives type =
     ∷ (word words.Bool ∷ [])
     ∷ (word words.Int ∷ perhaps declared_number ∷ [])
     ∷ (word words.Text ∷ perhaps declared_string ∷ [])
-    ∷ (word words.Enum ∷ mark OpenBracket ∷ a_string ∷ repeated other_members ∷ mark CloseBracket ∷ perhaps declared_string ∷ [])
+    ∷ (word words.Enum ∷ mark OpenBracket ∷ a_string ∷ repeated other_members ∷ mark CloseBracket
+    ∷ perhaps declared_string ∷ [])
     ∷ (mark OpenBrace ∷ perhaps fields ∷ mark CloseBrace ∷ [])
     ∷ (mark Less ∷ a_field ++ repeated other_fields ∷ mark Greater ∷ [])
     ∷ (word words.List ∷ rule type ∷ [])
@@ -92,7 +96,8 @@ alternatives type =
 alternatives lens =
     (word words.Id ∷ rule type ∷ [])
     ∷ (word words.Disc ∷ rule type ∷ rule type ∷ [])
-    ∷ (word words.Bij ∷ mark OpenBracket ∷ a_pair ++ repeated other_pairs ∷ mark CloseBracket ∷ perhaps declared_string ∷ [])
+    ∷ (word words.Bij ∷ mark OpenBracket ∷ a_pair ++ repeated other_pairs ∷ mark CloseBracket ∷ perhaps declared_string
+    ∷ [])
     ∷ (word words.Then ∷ mark OpenParen ∷ rule lens ∷ mark Comma ∷ rule lens ∷ mark CloseParen ∷ [])
     ∷ (mark OpenBrace ∷ perhaps rows ∷ mark CloseBrace ∷ [])
     ∷ (mark Less ∷ an_arm ++ repeated other_arms ∷ mark Greater ∷ [])
@@ -118,17 +123,29 @@ plain_program_and_end = rule program ∷ the_end ∷ []
 -- The tokens are a prefix of something that the symbols derive. Only what a token needs is replaced.
 pub data IsPlainPrefix : List PlainSymbol → List Token → Type 0 where
   no_tokens : (s : List PlainSymbol) → IsPlainPrefix s []
-  mark_first : (m : Mark) (s : List PlainSymbol) (ts : List Token) → IsPlainPrefix s ts → IsPlainPrefix (mark m ∷ s) (tokens.Mark m ∷ ts)
-  word_first : (k : Keyword) (s : List PlainSymbol) (ts : List Token) → IsPlainPrefix s ts → IsPlainPrefix (word k ∷ s) (tokens.Keyword k ∷ ts)
-  name_first : (n : List ℕ) (s : List PlainSymbol) (ts : List Token) → IsPlainPrefix s ts → IsPlainPrefix (a_name ∷ s) (tokens.Name n ∷ ts)
-  string_first : (n : List ℕ) (s : List PlainSymbol) (ts : List Token) → IsPlainPrefix s ts → IsPlainPrefix (a_string ∷ s) (tokens.Text n ∷ ts)
-  number_first : (z : ℤ) (s : List PlainSymbol) (ts : List Token) → IsPlainPrefix s ts → IsPlainPrefix (a_number ∷ s) (tokens.Number z ∷ ts)
-  end_first : (s : List PlainSymbol) (ts : List Token) → IsPlainPrefix s ts → IsPlainPrefix (the_end ∷ s) (tokens.End ∷ ts)
-  rule_replaced : (r : PlainRule) (a : List PlainSymbol) (s : List PlainSymbol) (t : Token) (ts : List Token) → IsAmong a (alternatives r) → IsPlainPrefix (a ++ s) (t ∷ ts) → IsPlainPrefix (rule r ∷ s) (t ∷ ts)
-  option_present : (p : PlainPart) (a : List PlainSymbol) (s : List PlainSymbol) (t : Token) (ts : List Token) → IsAmong a (contents p) → IsPlainPrefix (a ++ s) (t ∷ ts) → IsPlainPrefix (perhaps p ∷ s) (t ∷ ts)
-  option_absent : (p : PlainPart) (s : List PlainSymbol) (t : Token) (ts : List Token) → IsPlainPrefix s (t ∷ ts) → IsPlainPrefix (perhaps p ∷ s) (t ∷ ts)
-  repeated_once_more : (p : PlainPart) (a : List PlainSymbol) (s : List PlainSymbol) (t : Token) (ts : List Token) → IsAmong a (contents p) → IsPlainPrefix (a ++ (repeated p ∷ s)) (t ∷ ts) → IsPlainPrefix (repeated p ∷ s) (t ∷ ts)
-  repeated_no_more : (p : PlainPart) (s : List PlainSymbol) (t : Token) (ts : List Token) → IsPlainPrefix s (t ∷ ts) → IsPlainPrefix (repeated p ∷ s) (t ∷ ts)
+  mark_first : (m : Mark) (s : List PlainSymbol) (ts : List Token) → IsPlainPrefix s ts
+      → IsPlainPrefix (mark m ∷ s) (tokens.Mark m ∷ ts)
+  word_first : (k : Keyword) (s : List PlainSymbol) (ts : List Token) → IsPlainPrefix s ts
+      → IsPlainPrefix (word k ∷ s) (tokens.Keyword k ∷ ts)
+  name_first : (n : List ℕ) (s : List PlainSymbol) (ts : List Token) → IsPlainPrefix s ts
+      → IsPlainPrefix (a_name ∷ s) (tokens.Name n ∷ ts)
+  string_first : (n : List ℕ) (s : List PlainSymbol) (ts : List Token) → IsPlainPrefix s ts
+      → IsPlainPrefix (a_string ∷ s) (tokens.Text n ∷ ts)
+  number_first : (z : ℤ) (s : List PlainSymbol) (ts : List Token) → IsPlainPrefix s ts
+      → IsPlainPrefix (a_number ∷ s) (tokens.Number z ∷ ts)
+  end_first : (s : List PlainSymbol) (ts : List Token) → IsPlainPrefix s ts
+      → IsPlainPrefix (the_end ∷ s) (tokens.End ∷ ts)
+  rule_replaced : (r : PlainRule) (a : List PlainSymbol) (s : List PlainSymbol) (t : Token) (ts : List Token)
+      → IsAmong a (alternatives r) → IsPlainPrefix (a ++ s) (t ∷ ts) → IsPlainPrefix (rule r ∷ s) (t ∷ ts)
+  option_present : (p : PlainPart) (a : List PlainSymbol) (s : List PlainSymbol) (t : Token) (ts : List Token)
+      → IsAmong a (contents p) → IsPlainPrefix (a ++ s) (t ∷ ts) → IsPlainPrefix (perhaps p ∷ s) (t ∷ ts)
+  option_absent : (p : PlainPart) (s : List PlainSymbol) (t : Token) (ts : List Token) → IsPlainPrefix s (t ∷ ts)
+      → IsPlainPrefix (perhaps p ∷ s) (t ∷ ts)
+  repeated_once_more : (p : PlainPart) (a : List PlainSymbol) (s : List PlainSymbol) (t : Token) (ts : List Token)
+      → IsAmong a (contents p) → IsPlainPrefix (a ++ (repeated p ∷ s)) (t ∷ ts)
+      → IsPlainPrefix (repeated p ∷ s) (t ∷ ts)
+  repeated_no_more : (p : PlainPart) (s : List PlainSymbol) (t : Token) (ts : List Token) → IsPlainPrefix s (t ∷ ts)
+      → IsPlainPrefix (repeated p ∷ s) (t ∷ ts)
 
 -- ---- nesting
 
@@ -153,7 +170,8 @@ inside_part rows n = n
 inside_part other_rows n = n
 inside_part other_arms n = n
 
--- A list of depths says of each symbol how many types and lenses it is inside: 0 for those that the list does not reach.
+-- A list of depths says of each symbol how many types and lenses it is inside: 0 for those that the list does not
+-- reach.
 abbrev pub first_depth : List ℕ → ℕ
 first_depth [] = 0
 first_depth (n ∷ ns) = n
@@ -184,8 +202,11 @@ IsNestedBelow most ns (name_first n s ts h) = IsNestedBelow most (other_depths n
 IsNestedBelow most ns (string_first n s ts h) = IsNestedBelow most (other_depths ns) h
 IsNestedBelow most ns (number_first z s ts h) = IsNestedBelow most (other_depths ns) h
 IsNestedBelow most ns (end_first s ts h) = IsNestedBelow most (other_depths ns) h
-IsNestedBelow most ns (rule_replaced r a s t ts k h) = IsAllowed most r (first_depth ns) × IsNestedBelow most (depths_before (inside_rule r (first_depth ns)) a (other_depths ns)) h
-IsNestedBelow most ns (option_present p a s t ts k h) = IsNestedBelow most (depths_before (inside_part p (first_depth ns)) a (other_depths ns)) h
+IsNestedBelow most ns (rule_replaced r a s t ts k h) = IsAllowed most r (first_depth ns)
+    × IsNestedBelow most (depths_before (inside_rule r (first_depth ns)) a (other_depths ns)) h
+IsNestedBelow most ns (option_present p a s t ts k h) =
+    IsNestedBelow most (depths_before (inside_part p (first_depth ns)) a (other_depths ns)) h
 IsNestedBelow most ns (option_absent p s t ts h) = IsNestedBelow most (other_depths ns) h
-IsNestedBelow most ns (repeated_once_more p a s t ts k h) = IsNestedBelow most (depths_before (inside_part p (first_depth ns)) a (first_depth ns ∷ other_depths ns)) h
+IsNestedBelow most ns (repeated_once_more p a s t ts k h) =
+    IsNestedBelow most (depths_before (inside_part p (first_depth ns)) a (first_depth ns ∷ other_depths ns)) h
 IsNestedBelow most ns (repeated_no_more p s t ts h) = IsNestedBelow most (other_depths ns) h

@@ -1,17 +1,25 @@
--- Reading from left to right, without going back: the value and the point behind it, or the offset of the unexpected token (none if the
--- tokens ran out). A form for proofs: the laws show that it reads what is spelled, and that it stops at the unexpected token.
--- Read it from the end: `program_at`, then `lens_at` and `type_at`; `lens_from` and `type_from` have a line for each first token.
-use Rattle.std.specs.Prelude.{ℕ, zero, suc, ◌-◌, Bool, true, false, List, [], ◌∷◌, ◌++◌, length, Option, Some, None, Result, Ok, Err, ◌==◌, if◌then◌else◌}
+-- Reading from left to right, without going back: the value and the point behind it, or the offset of the unexpected
+-- token (none if the tokens ran out). A form for proofs: the laws show that it reads what is spelled, and that it stops
+-- at the unexpected token. Read it from the end: `program_at`, then `lens_at` and `type_at`; `lens_from` and
+-- `type_from` have a line for each first token.
+use Rattle.std.specs.Prelude.{ℕ, zero, suc, ◌-◌, Bool, true, false, List, [], ◌∷◌, ◌++◌, length, Option, Some, None}
+use Rattle.std.specs.Prelude.{Result, Ok, Err, ◌==◌, if◌then◌else◌}
 use lib.IntN.{ℤ}
 use Rattle.program_tokens.specs.Words.{mark_byte}
 use Rattle.program_tokens.specs.declared.keyword.Keyword.{Keyword}
 use Rattle.program_tokens.specs.declared.keyword.Keyword.TheVariants as words
 use Rattle.program_tokens.specs.declared.mark.Mark.{Mark}
-use Rattle.program_tokens.specs.declared.mark.Mark.TheVariants.{Equals, Semicolon, OpenBrace, CloseBrace, Less, Greater, OpenBracket, CloseBracket, OpenParen, CloseParen, Colon, Comma, Tilde}
+use Rattle.program_tokens.specs.declared.mark.Mark.TheVariants.{Equals, Semicolon, OpenBrace, CloseBrace, Less}
+use Rattle.program_tokens.specs.declared.mark.Mark.TheVariants.{Greater, OpenBracket, CloseBracket, OpenParen}
+use Rattle.program_tokens.specs.declared.mark.Mark.TheVariants.{CloseParen, Colon, Comma, Tilde}
 use Rattle.program_tokens.specs.declared.token.Token.{Token}
 use Rattle.program_tokens.specs.declared.token.Token.TheVariants as tokens
 use Rattle.program_tokens.specs.declared.token.PlacedToken.{PlacedToken}
-use Rattle.program_terms.specs.Terms.{TypeTree, unit, bool, int, text, enum_of, record_of, one_of, list, keyed, tree, named, term_fields_of, LensTree, id_of, bij_of, disc_of, then_of, rec_lens, alt_lens, each_of, keyed_each, tree_each, part_of, inv_of, named_lens, RowTree, row_both, row_left, row_right, term_rows_of, term_arms_of, DefTree, type_def, lens_def, initial_number, initial_text, initial_member, initial_left}
+use Rattle.program_terms.specs.Terms.{TypeTree, unit, bool, int, text, enum_of, record_of, one_of, list, keyed, tree}
+use Rattle.program_terms.specs.Terms.{named, term_fields_of, LensTree, id_of, bij_of, disc_of, then_of, rec_lens}
+use Rattle.program_terms.specs.Terms.{alt_lens, each_of, keyed_each, tree_each, part_of, inv_of, named_lens, RowTree}
+use Rattle.program_terms.specs.Terms.{row_both, row_left, row_right, term_rows_of, term_arms_of, DefTree, type_def}
+use Rattle.program_terms.specs.Terms.{lens_def, initial_number, initial_text, initial_member, initial_left}
 use Rattle.program_grammar.specs.declared.mention.Mention.{Mention}
 use Rattle.program_grammar.specs.declared.mention.Sort.TheVariants as sorts
 use Rattle.program_grammar.specs.Mentions.{Point, mention, NotedDefinition, NotedProgram}
@@ -236,7 +244,8 @@ unfoldable pub both_row_at : (Point → Read LensTree) → Point → Read RowTre
 both_row_at inner p = arm_at inner p >>= λ a. Ok (row_both a.0.0 a.0.1 a.0.2, a.1)
 
 -- a row, by the word that is next
-abbrev pub row_by : (Point → Read TypeTree) → (Point → Read LensTree) → Option Keyword → List Mention → List PlacedToken → Read RowTree
+abbrev pub row_by : (Point → Read TypeTree) → (Point → Read LensTree) → Option Keyword → List Mention → List PlacedToken
+    → Read RowTree
 row_by type inner (Some words.Left) ms (t ∷ ts) = left_row_at type (ms, ts)
 row_by type inner (Some words.Right) ms (t ∷ ts) = right_row_at type (ms, ts)
 row_by type inner _ ms ts = both_row_at inner (ms, ts)
@@ -298,7 +307,8 @@ begun_lens type inner (tokens.Number z) at p = Err (Some at)
 begun_lens type inner tokens.Bad at p = Err (Some at)
 begun_lens type inner tokens.End at p = Err (Some at)
 
-abbrev pub lens_from : (Point → Read TypeTree) → (Point → Read LensTree) → List Mention → List PlacedToken → Read LensTree
+abbrev pub lens_from : (Point → Read TypeTree) → (Point → Read LensTree) → List Mention → List PlacedToken
+    → Read LensTree
 lens_from type inner ms [] = Err None
 lens_from type inner ms (t ∷ ts) = begun_lens type inner t.token t.at (ms, ts)
 
@@ -332,7 +342,8 @@ unfoldable pub lens_term_at : Point → Read DefTree
 lens_term_at p = lens_at 100 p >>= λ l. Ok (lens_def l.0, l.1)
 
 -- the rest of a definition behind its first word; the mentions are those since it began
-unfoldable pub definition_at : (Point → Read DefTree) → List PlacedToken → Result (NotedDefinition × List PlacedToken) (Option ℕ)
+unfoldable pub definition_at : (Point → Read DefTree) → List PlacedToken
+    → Result (NotedDefinition × List PlacedToken) (Option ℕ)
 definition_at term ts = do
   n ← name_at ([], ts)
   rest ← mark_at Equals n.1
@@ -351,7 +362,8 @@ unfoldable pub definitions_at : ℕ → List PlacedToken → Result (List NotedD
 definitions_at skip [] = Ok ([], [])
 definitions_at (suc skip) (t ∷ ts) = definitions_at skip ts
 definitions_at zero (t ∷ ts) = elim (definition_of (word_in t.token)) [
-  | Some term ↦ definition_at term ts >>= λ d. definitions_at (length ts - length d.1) ts >>= λ ds. Ok (d.0 ∷ ds.0, ds.1)
+  | Some term ↦ definition_at term ts >>= λ d. definitions_at (length ts - length d.1) ts >>= λ ds. Ok
+      (d.0 ∷ ds.0, ds.1)
   | None ↦ Ok ([], t ∷ ts)
 ]
 

@@ -11,9 +11,11 @@ use Rattle.program_grammar.specs.Reading.{program_at}
 use Rattle.program_reader.specs.declared.fault.ReadFault.{ReadFault}
 use Rattle.program_reader.specs.declared.fault.ReadFault.TheVariants as faults
 use Rattle.program_reader.specs.declared.fault.ProgramReadFault.{ProgramReadFault}
-use Rattle.program_reader.specs.declared.fault.ProgramReadFault.TheVariants.{NoMemory, Ended, NotAProgram, UnknownName, RepeatedName}
+use Rattle.program_reader.specs.declared.fault.ProgramReadFault.TheVariants.{NoMemory, Ended, NotAProgram, UnknownName}
+use Rattle.program_reader.specs.declared.fault.ProgramReadFault.TheVariants.{RepeatedName}
 
--- Why tokens do not spell a program: they run out, or this is the offset of the unexpected token, of the unknown or of the repeated name.
+-- Why tokens do not spell a program: they run out, or this is the offset of the unexpected token, of the unknown or of
+-- the repeated name.
 pub data ReadCause : Type 0 where
   ended : ReadCause
   not_a_program : ℕ → ReadCause

@@ -1,4 +1,5 @@
--- What the code reads, compared with what reading from left to right gives: `Gives` for a value and the point behind it, and three forms of it for parts.
+-- What the code reads, compared with what reading from left to right gives: `Gives` for a value and the point behind
+-- it, and three forms of it for parts.
 use Rattle.std.specs.Prelude.{◌≡◌, ℕ, Option, Some, None, Result, Ok, Err}
 use Rattle.program_grammar.specs.Mentions.{Point}
 use Rattle.program_grammar.specs.Reading.{Read}

@@ -1,4 +1,5 @@
--- Unknown and repeated names, computed from the definitions alone, as the code finds them. Read it from the end: `first_fault_among`, then `definition_fault`.
+-- Unknown and repeated names, computed from the definitions alone, as the code finds them. Read it from the end:
+-- `first_fault_among`, then `definition_fault`.
 use Rattle.std.specs.Prelude.{ℕ, Bool, false, List, [], ◌∷◌, ◌++◌, Option, Some, None, Result, Ok, Err, if◌then◌else◌}
 use Rattle.std.specs.Option.{option_or}
 use Rattle.program_terms.specs.Terms.{DefTree, def_named, is_defined}
@@ -21,16 +22,19 @@ is_known_among earlier m = is_wanted m.sort (def_named m.name earlier)
 -- the first name mentioned that is not known
 abbrev pub first_unknown_among : List (List ℕ × DefTree) → List Mention → Option NameFault
 first_unknown_among earlier [] = None
-first_unknown_among earlier (m ∷ ms) = if is_known_among earlier m then first_unknown_among earlier ms else Some (Unknown m.at)
+first_unknown_among earlier (m ∷ ms) = if is_known_among earlier m then first_unknown_among earlier ms
+    else Some (Unknown m.at)
 
 -- the first fault of a definition: its own name comes before those that it mentions
 abbrev pub definition_fault : List (List ℕ × DefTree) → NotedDefinition → Option NameFault
-definition_fault earlier d = if is_defined d.name earlier then Some (Repeated d.at) else first_unknown_among earlier d.mentions
+definition_fault earlier d = if is_defined d.name earlier then Some (Repeated d.at)
+    else first_unknown_among earlier d.mentions
 
 -- the first fault of definitions behind the earlier ones, and of the names that the main lens mentions
 abbrev pub first_fault_among : List (List ℕ × DefTree) → List NotedDefinition → List Mention → Option NameFault
 first_fault_among earlier [] main = first_unknown_among earlier main
-first_fault_among earlier (d ∷ ds) main = option_or (definition_fault earlier d) (first_fault_among (earlier ++ definition_without_notes d ∷ []) ds main)
+first_fault_among earlier (d ∷ ds) main =
+    option_or (definition_fault earlier d) (first_fault_among (earlier ++ definition_without_notes d ∷ []) ds main)
 
 -- a fault as an error
 abbrev pub or_fault : Option NameFault → Result (Unit {0}) NameFault

@@ -16,7 +16,11 @@ definition_with_notes d = record { name = d.name; at = d.at; def = def_tree d.de
 
 -- a program with its notes
 abbrev pub program_with_notes : ReadProgram → NotedProgram
-program_with_notes p = record { definitions = map definition_with_notes p.definitions.items; main = lens_tree p.main; mentions = p.mentions.items }
+program_with_notes p = record {
+  definitions = map definition_with_notes p.definitions.items;
+  main = lens_tree p.main;
+  mentions = p.mentions.items;
+}
 
 -- what a name of this sort is defined as
 abbrev pub term_at : Sort → Point → Read DefTree

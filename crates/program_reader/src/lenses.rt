@@ -2,7 +2,9 @@
 ghost use Rattle.std.specs.Prelude.{◌≡◌, ◌∷◌, ◌++◌, [], Ok, map};
 ghost use Rattle.program_grammar.specs.Mentions.{mention};
 ghost use Rattle.program_grammar.specs.declared.mention.Sort;
-ghost use Rattle.program_grammar.specs.Reading.{list_at, closed_at, perhaps_at, type_at, pair_at, bij_at, arm_at, row_at, left_row_at, right_row_at, both_row_at, then_at, disc_at, part_at, word_lens, mark_lens, lens_step, lens_at};
+ghost use Rattle.program_grammar.specs.Reading.{list_at, closed_at, perhaps_at, type_at, pair_at, bij_at, arm_at};
+ghost use Rattle.program_grammar.specs.Reading.{row_at, left_row_at, right_row_at, both_row_at, then_at, disc_at};
+ghost use Rattle.program_grammar.specs.Reading.{part_at, word_lens, mark_lens, lens_step, lens_at};
 ghost use Rattle.program_reader.specs.Gives.{Gives};
 ghost use Rattle.program_terms.specs.Terms.{named_lens};
 ghost use Rattle.program_terms.specs.Views.{lens_tree, row_tree, arm_tree};

@@ -2,7 +2,8 @@
 ghost use Rattle.std.specs.Prelude.{◌≡◌, ◌∷◌, ◌++◌, [], map, OnOk};
 ghost use Rattle.program_grammar.specs.Mentions.{without_notes, definition_without_notes};
 ghost use Rattle.program_reader.specs.Causes.{IsResult, if_no_fault};
-ghost use Rattle.program_reader.specs.Known.{is_known_among, first_unknown_among, definition_fault, first_fault_among, or_fault};
+ghost use Rattle.program_reader.specs.Known.{is_known_among, first_unknown_among, definition_fault, first_fault_among};
+ghost use Rattle.program_reader.specs.Known.{or_fault};
 ghost use Rattle.program_reader.specs.Programs.{definition_with_notes, program_with_notes};
 ghost use Rattle.program_terms.specs.Views.{definitions_tree, program_tree};
 
@@ -39,7 +40,8 @@ fn known_definitions(
     mentions: &[Mention],
 ) -> Result<Definitions, ProgramReadFault>
     ensures { let ds = map definition_with_notes definitions.items in
-        IsResult definitions_tree result (if_no_fault (first_fault_among [] ds mentions.now) (map definition_without_notes ds)) }
+        IsResult definitions_tree result
+        (if_no_fault (first_fault_among [] ds mentions.now) (map definition_without_notes ds)) }
 {
     let mut left = definitions;
     let mut known = Definitions::new(alloc);
@@ -58,7 +60,8 @@ fn add_definition(
     ensures answer { IsResult (λ u. u) result
         (if_no_fault (definition_fault (definitions_tree known.old) (definition_with_notes definition)) tt) }
     ensures added { OnOk result
-        (definitions_tree known.new ≡ definitions_tree known.old ++ definition_without_notes (definition_with_notes definition) ∷ []) }
+        (definitions_tree known.new ≡ definitions_tree known.old ++ definition_without_notes
+        (definition_with_notes definition) ∷ []) }
 {
     let ReadDefinition {
         name,

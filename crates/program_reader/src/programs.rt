@@ -1,6 +1,7 @@
 //! Reading definitions and complete programs.
 ghost use Rattle.std.specs.Prelude.{◌≡◌, [], Ok, map, option_map};
-ghost use Rattle.program_grammar.specs.Reading.{next_word, type_at, lens_at, definition_at, definition_of, definitions_at, program_at};
+ghost use Rattle.program_grammar.specs.Reading.{next_word, type_at, lens_at, definition_at, definition_of};
+ghost use Rattle.program_grammar.specs.Reading.{definitions_at, program_at};
 ghost use Rattle.program_reader.specs.Gives.{Gives, GivesAll};
 ghost use Rattle.program_reader.specs.Programs.{definition_with_notes, program_with_notes, term_at, with_no_mentions};
 ghost use Rattle.program_terms.specs.Views.{def_tree};
@@ -99,7 +100,8 @@ fn read_definition(
     sort: Sort,
 ) -> Result<ReadDefinition, ReadFault>
     requires { reader.old.0 ≡ [] }
-    ensures { Gives definition_with_notes result reader.new (with_no_mentions (definition_at (term_at sort) reader.old.1)) }
+    ensures { Gives definition_with_notes result reader.new
+        (with_no_mentions (definition_at (term_at sort) reader.old.1)) }
 {
     let (name, at) = reader.take_name()?;
     reader.take_mark(Mark::Equals)?;

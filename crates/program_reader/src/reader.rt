@@ -1,7 +1,8 @@
 //! The tokens that are left of a text, the first one first.
 ghost use Rattle.std.specs.Prelude.{◌≡◌, ◌∷◌, ◌++◌, [], Err, Ok, false, drop, IfOk, IfErr, OnOk, MatchBool};
 ghost use Rattle.program_grammar.specs.Mentions.{mention};
-ghost use Rattle.program_grammar.specs.Reading.{next_offset, is_mark, next_is, word_in, next_word, mark_at, string_at, number_at, field_at, name_at, main_at, is_end, end_at};
+ghost use Rattle.program_grammar.specs.Reading.{next_offset, is_mark, next_is, word_in, next_word, mark_at, string_at};
+ghost use Rattle.program_grammar.specs.Reading.{number_at, field_at, name_at, main_at, is_end, end_at};
 ghost use Rattle.program_reader.specs.Gives.{Fails, Gives, GivesRest};
 ghost use Rattle.program_reader.specs.declared.fault.ReadFault.TheVariants.{Ended};
 ghost use Rattle.program_tokens.specs.declared.mark.Mark.TheVariants.{Comma};

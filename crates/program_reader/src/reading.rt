@@ -12,8 +12,8 @@ use std::alloc::Global;
 /// The program that these are the tokens of.
 ///
 /// Names are checked after all tokens fit. The refusals, in this order:
-/// - `NotAProgram` if and only if a token is unexpected, at the first such token: the tokens before it begin some program,
-///   and with it they begin none, or a type or a lens begins at it inside 100 others.
+/// - `NotAProgram` if and only if a token is unexpected, at the first such token: the tokens before it begin some
+///   program, and with it they begin none, or a type or a lens begins at it inside 100 others.
 /// - `Ended` if and only if all tokens fit but more would have to follow. The tokens of a text never end so.
 /// - `UnknownName` and `RepeatedName`, the first of either in written order: a mentioned name that
 ///   no earlier definition of its sort has; a defined name that an earlier definition of either sort has.

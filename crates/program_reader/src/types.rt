@@ -2,7 +2,8 @@
 ghost use Rattle.std.specs.Prelude.{◌≡◌, ◌∷◌, ◌++◌, [], Ok, map};
 ghost use Rattle.program_grammar.specs.Mentions.{mention};
 ghost use Rattle.program_grammar.specs.declared.mention.Sort;
-ghost use Rattle.program_grammar.specs.Reading.{string_at, list_at, closed_at, perhaps_at, typed_at, enum_at, word_type, mark_type, type_step, type_at};
+ghost use Rattle.program_grammar.specs.Reading.{string_at, list_at, closed_at, perhaps_at, typed_at, enum_at};
+ghost use Rattle.program_grammar.specs.Reading.{word_type, mark_type, type_step, type_at};
 ghost use Rattle.program_reader.specs.Gives.{Gives};
 ghost use Rattle.program_terms.specs.Terms.{named};
 ghost use Rattle.program_terms.specs.Views.{type_tree, field_tree};

@@ -1,11 +1,12 @@
 -- Types, lenses, definitions and programs as plain trees.
 -- In order: `TypeTree`, `LensTree`, what an initial value is where it is left out, and `ProgramTree`.
-use Rattle.std.specs.Prelude.{ℕ, Bool, true, ◌&&◌, not, bytes_eq, is_some, Option, Some, None, if◌then◌else◌, List, [], ◌∷◌}
+use Rattle.std.specs.Prelude.{ℕ, Bool, true, ◌&&◌, not, bytes_eq, is_some, Option, Some, None, if◌then◌else◌, List, []}
+use Rattle.std.specs.Prelude.{◌∷◌}
 use lib.IntN.{ℤ, pos}
 
--- an int and a text have their initial value; an enum has its members in written order, and its initial value; a record and
--- alternatives have names with types; a list, a keyed map and an ordered tree have the type of their contents; a name refers to
--- the type that it is defined as
+-- an int and a text have their initial value; an enum has its members in written order, and its initial value; a record
+-- and alternatives have names with types; a list, a keyed map and an ordered tree have the type of their contents; a
+-- name refers to the type that it is defined as
 mutual
   pub data TypeTree : Type 0 where
     unit : TypeTree
@@ -33,8 +34,9 @@ abbrev pub field_list : FieldTrees → List (List ℕ × TypeTree)
 field_list no_fields = []
 field_list (more_fields n t fs) = (n, t) ∷ field_list fs
 
--- the lenses in the order of the grammar; a bijection has its pairs, and the initial value on the left; a row of a record is paired, or is on one side alone; an arm of
--- alternatives has its left tag, its right tag and its lens; a name refers to the lens that it is defined as
+-- the lenses in the order of the grammar; a bijection has its pairs, and the initial value on the left; a row of a
+-- record is paired, or is on one side alone; an arm of alternatives has its left tag, its right tag and its lens; a
+-- name refers to the lens that it is defined as
 mutual
   pub data LensTree : Type 0 where
     id_of : TypeTree → LensTree
@@ -92,8 +94,8 @@ abbrev pub arm_list : ArmTrees → List (List ℕ × List ℕ × LensTree)
 arm_list no_arms = []
 arm_list (more_arms a b l others) = (a, b, l) ∷ arm_list others
 
--- the initial values that are meant when they are left out: 0, the empty text, the first member of an enum, and the first left
--- member of a bijection
+-- the initial values that are meant when they are left out: 0, the empty text, the first member of an enum, and the
+-- first left member of a bijection
 abbrev pub initial_number : ℤ
 initial_number = pos 0
 

@@ -1,7 +1,12 @@
 -- How contracts see the values of programs: as their trees.
--- The main definitions are `type_tree`, `lens_tree` and, at the end, `program_tree`; a definition whose name ends in `_step` is one level of them.
+-- The main definitions are `type_tree`, `lens_tree` and, at the end, `program_tree`; a definition whose name ends in
+-- `_step` is one level of them.
 use Rattle.std.specs.Prelude.{ℕ, List, map}
-use Rattle.program_terms.specs.Terms.{TypeTree, FieldTrees, unit, bool, int, text, enum_of, record_of, one_of, list, keyed, tree, named, term_fields_of, LensTree, RowTree, RowTrees, ArmTrees, id_of, bij_of, disc_of, then_of, rec_lens, alt_lens, each_of, keyed_each, tree_each, part_of, inv_of, named_lens, row_both, row_left, row_right, term_rows_of, term_arms_of, DefTree, type_def, lens_def, ProgramTree}
+use Rattle.program_terms.specs.Terms.{TypeTree, FieldTrees, unit, bool, int, text, enum_of, record_of, one_of, list}
+use Rattle.program_terms.specs.Terms.{keyed, tree, named, term_fields_of, LensTree, RowTree, RowTrees, ArmTrees, id_of}
+use Rattle.program_terms.specs.Terms.{bij_of, disc_of, then_of, rec_lens, alt_lens, each_of, keyed_each, tree_each}
+use Rattle.program_terms.specs.Terms.{part_of, inv_of, named_lens, row_both, row_left, row_right, term_rows_of}
+use Rattle.program_terms.specs.Terms.{term_arms_of, DefTree, type_def, lens_def, ProgramTree}
 use Rattle.program_terms.specs.declared.types.TyExpr.{TyExpr, fold-TyExpr}
 use Rattle.program_terms.specs.declared.types.TyFields.{TyFields, fold-TyFields}
 use Rattle.program_terms.specs.declared.types.TyExpr.TheOpen.{TyExpr-F, TyFields-F}

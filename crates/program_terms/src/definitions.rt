@@ -1,6 +1,7 @@
 //! Definitions by name.
 
-ghost use Rattle.std.specs.Prelude.{◌≡◌, ◌<◌, ◌∷◌, ◌++◌, [], Some, true, false, IsErrOf, OnErr, OnOk, IfOk, IsTrue, option_map, slice_get, length};
+ghost use Rattle.std.specs.Prelude.{◌≡◌, ◌<◌, ◌∷◌, ◌++◌, [], Some, true, false, IsErrOf, OnErr, OnOk, IfOk, IsTrue};
+ghost use Rattle.std.specs.Prelude.{option_map, slice_get, length};
 ghost use Rattle.program_terms.specs.Terms.{def_named, is_defined, are_distinct};
 ghost use Rattle.program_terms.specs.Views.{def_tree, definitions_tree};
 ghost use Rattle.program_terms.specs.declared.definitions.AddFault;
@@ -107,7 +108,8 @@ impl Definitions {
         ensures added { OnOk result (definitions_tree self.new ≡ definitions_tree self.old ++ (name, def_tree def) ∷ []) }
         ensures was_new { OnOk result (is_defined name (definitions_tree self.old) ≡ false) }
         ensures repeated { IsErrOf result AddFault.Repeated → is_defined name (definitions_tree self.old) ≡ true }
-        ensures without_memory { IsErrOf result AddFault.NoMemory → is_defined name (definitions_tree self.old) ≡ false }
+        ensures without_memory { IsErrOf result AddFault.NoMemory → is_defined name (definitions_tree self.old)
+            ≡ false }
         ensures unchanged { OnErr result (definitions_tree self.new ≡ definitions_tree self.old) }
     {
         if self.has(&name) {

@@ -45,7 +45,8 @@ impl Program {
     /// What the name at a place is defined as, counted from 0 in written order. The place must be below the count.
     pub fn def(&self, at: u64) -> &Def
         requires { at < length (program_tree self.now).definitions }
-        ensures { option_map (λ d. d.1) (slice_get (program_tree self.now).definitions at) ≡ Some (def_tree result.now) }
+        ensures { option_map (λ d. d.1) (slice_get (program_tree self.now).definitions at)
+            ≡ Some (def_tree result.now) }
     {
         self.definitions.entry_at(at as usize).1
     }

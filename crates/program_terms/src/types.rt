@@ -21,8 +21,9 @@ pub enum TyExpr {
     Int(i64),
     /// A text, with the initial value: `text = "x"`, and `text` for the empty text.
     Text(Str),
-    /// One of the members, in written order, and the initial value: `enum["on", "off"] = "off"`. The initial value that is
-    /// left out is the first member. It need not be a member here; whether it may be in a program is a question of typing.
+    /// One of the members, in written order, and the initial value: `enum["on", "off"] = "off"`. The initial value that
+    /// is left out is the first member. It need not be a member here; whether it may be in a program is a question of
+    /// typing.
     Enum(Names, Name),
     /// A record, with a content for each field: `{a: int, b: text}`.
     Rec(TyFields),

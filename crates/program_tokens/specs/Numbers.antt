@@ -1,6 +1,7 @@
 -- Numbers as they are written: 1 to 19 digits, with or without a `-` before them, of a value in i64.
 -- Read it from the end: `number_of`.
-use Rattle.std.specs.Prelude.{ℕ, ◌+◌, ◌-◌, ◌*◌, ◌^◌, Bool, true, false, ◌&&◌, List, [], ◌∷◌, length, Option, Some, None, nat_le, nat_lt, if◌then◌else◌}
+use Rattle.std.specs.Prelude.{ℕ, ◌+◌, ◌-◌, ◌*◌, ◌^◌, Bool, true, false, ◌&&◌, List, [], ◌∷◌, length, Option, Some}
+use Rattle.std.specs.Prelude.{None, nat_le, nat_lt, if◌then◌else◌}
 use lib.IntN.{ℤ, pos, neg_ℤ}
 
 -- an ASCII digit
@@ -19,4 +20,5 @@ signed false n = if nat_lt n (2 ^ 63) then Some (pos n) else None
 
 -- the number that these digits write, behind a `-` or without
 unfoldable pub number_of : Bool → List ℕ → Option ℤ
-number_of negative ds = if nat_le 1 (length ds) && nat_le (length ds) 19 then signed negative (digits_after 0 ds) else None
+number_of negative ds = if nat_le 1 (length ds) && nat_le (length ds) 19 then signed negative (digits_after 0 ds)
+    else None

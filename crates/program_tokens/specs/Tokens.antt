@@ -1,6 +1,7 @@
 -- The tokens of a program's text, each with the offset of its first byte. docs/LANGUAGE.md has the rules in words.
 -- Read it from the end: `tokens_of`, then `tokens_from` and `piece_of`, which has a line for each kind of token.
-use Rattle.std.specs.Prelude.{ℕ, zero, suc, ◌+◌, ◌≤◌, List, [], ◌∷◌, length, take, true, false, Option, Some, None, ◌==◌, nat_le, not, if◌then◌else◌, position}
+use Rattle.std.specs.Prelude.{ℕ, zero, suc, ◌+◌, ◌≤◌, List, [], ◌∷◌, length, take, true, false, Option, Some, None}
+use Rattle.std.specs.Prelude.{◌==◌, nat_le, not, if◌then◌else◌, position}
 use Rattle.std.specs.List.{prefix_len}
 use lib.IntN.{ℤ}
 use Rattle.program_tokens.specs.Numbers.{is_digit, number_of}
@@ -18,11 +19,13 @@ abbrev pub keyword_or_name : Option Keyword → List ℕ → Token
 keyword_or_name (Some k) w = tokens.Keyword k
 keyword_or_name None w = tokens.Name w
 
--- A piece is a gap between tokens, a token, or bytes that are neither. Its number counts the bytes behind its first one.
+-- A piece is a gap between tokens, a token, or bytes that are neither. Its number counts the bytes behind its first
+-- one.
 
 -- a word of up to 64 bytes
 abbrev pub word_piece : List ℕ → ℕ → Piece
-word_piece w others = if nat_le (length w) 64 then pieces.Token (keyword_or_name (keyword_of w) w) others else pieces.Bad
+word_piece w others = if nat_le (length w) 64 then pieces.Token (keyword_or_name (keyword_of w) w) others
+    else pieces.Bad
 
 -- the string before the closing quote, if there is one
 abbrev pub text_piece : List ℕ → Option ℕ → Piece
@@ -64,7 +67,8 @@ piece_of b bs =
 abbrev pub placed : Token → ℕ → PlacedToken
 placed token at = record { token = token; at = at }
 
--- The tokens from an offset on, after passing over the bytes that a piece before them still has. A bad token fits nowhere, so none follows it.
+-- The tokens from an offset on, after passing over the bytes that a piece before them still has. A bad token fits
+-- nowhere, so none follows it.
 unfoldable pub tokens_from : ℕ → ℕ → List ℕ → List PlacedToken
 tokens_from skip at [] = placed tokens.End at ∷ []
 tokens_from (suc skip) at (b ∷ bs) = tokens_from skip (at + 1) bs

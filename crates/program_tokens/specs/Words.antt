@@ -1,13 +1,16 @@
 -- The bytes of words, of marks and of strings.
 -- The main definitions are `keyword_of`, `mark_of` and, at the end, `is_name` and `is_text`.
-use Rattle.std.specs.Prelude.{ℕ, Bool, false, ◌&&◌, ◌||◌, List, [], ◌∷◌, length, Option, is_none, ◌==◌, nat_le, not, bytes_eq, codes, find}
+use Rattle.std.specs.Prelude.{ℕ, Bool, false, ◌&&◌, ◌||◌, List, [], ◌∷◌, length, Option, is_none, ◌==◌, nat_le, not}
+use Rattle.std.specs.Prelude.{bytes_eq, codes, find}
 use Rattle.std.specs.List.{list_all}
 use Rattle.std.specs.Str.{is_utf8, chars}
 use Rattle.program_tokens.specs.Numbers.{is_digit}
 use Rattle.program_tokens.specs.declared.keyword.Keyword.{Keyword}
 use Rattle.program_tokens.specs.declared.keyword.Keyword.TheVariants as words
 use Rattle.program_tokens.specs.declared.mark.Mark.{Mark}
-use Rattle.program_tokens.specs.declared.mark.Mark.TheVariants.{Equals, Semicolon, OpenBrace, CloseBrace, Less, Greater, OpenBracket, CloseBracket, OpenParen, CloseParen, Colon, Comma, Tilde}
+use Rattle.program_tokens.specs.declared.mark.Mark.TheVariants.{Equals, Semicolon, OpenBrace, CloseBrace, Less}
+use Rattle.program_tokens.specs.declared.mark.Mark.TheVariants.{Greater, OpenBracket, CloseBracket, OpenParen}
+use Rattle.program_tokens.specs.declared.mark.Mark.TheVariants.{CloseParen, Colon, Comma, Tilde}
 
 -- a space, a tab, CR or LF
 unfoldable pub is_space : ℕ → Bool
@@ -45,7 +48,9 @@ keyword_text words.Part = codes "part"
 keyword_text words.Inv = codes "inv"
 
 abbrev pub all_keywords : List Keyword
-all_keywords = words.Type ∷ words.Lens ∷ words.Main ∷ words.Unit ∷ words.Bool ∷ words.Int ∷ words.Text ∷ words.Enum ∷ words.List ∷ words.Keyed ∷ words.Tree ∷ words.Id ∷ words.Bij ∷ words.Disc ∷ words.Then ∷ words.Left ∷ words.Right ∷ words.Each ∷ words.Part ∷ words.Inv ∷ []
+all_keywords = words.Type ∷ words.Lens ∷ words.Main ∷ words.Unit ∷ words.Bool ∷ words.Int ∷ words.Text ∷ words.Enum
+    ∷ words.List ∷ words.Keyed ∷ words.Tree ∷ words.Id ∷ words.Bij ∷ words.Disc ∷ words.Then ∷ words.Left ∷ words.Right
+    ∷ words.Each ∷ words.Part ∷ words.Inv ∷ []
 
 -- the keyword that is written so
 unfoldable pub keyword_of : List ℕ → Option Keyword
@@ -68,7 +73,8 @@ mark_byte Comma = 44
 mark_byte Tilde = 126
 
 abbrev pub all_marks : List Mark
-all_marks = Equals ∷ Semicolon ∷ OpenBrace ∷ CloseBrace ∷ Less ∷ Greater ∷ OpenBracket ∷ CloseBracket ∷ OpenParen ∷ CloseParen ∷ Colon ∷ Comma ∷ Tilde ∷ []
+all_marks = Equals ∷ Semicolon ∷ OpenBrace ∷ CloseBrace ∷ Less ∷ Greater ∷ OpenBracket ∷ CloseBracket ∷ OpenParen
+    ∷ CloseParen ∷ Colon ∷ Comma ∷ Tilde ∷ []
 
 -- the mark of this byte
 unfoldable pub mark_of : ℕ → Option Mark

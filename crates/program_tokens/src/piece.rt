@@ -3,7 +3,8 @@ ghost use Rattle.std.specs.Prelude.{◌≡◌, ◌∷◌, ◌<◌, ◌≤◌, tr
 ghost use Rattle.std.specs.List.{list_all};
 ghost use Rattle.program_tokens.specs.Numbers.{is_digit, number_of};
 ghost use Rattle.program_tokens.specs.Words.{begins_word, in_word, is_text, keyword_of, mark_of};
-ghost use Rattle.program_tokens.specs.Tokens.{piece_of, word_piece, keyword_or_name, line_run, word_run, digit_run, text_piece, number_piece, mark_piece, IsWithin};
+ghost use Rattle.program_tokens.specs.Tokens.{piece_of, word_piece, keyword_or_name, line_run, word_run, digit_run};
+ghost use Rattle.program_tokens.specs.Tokens.{text_piece, number_piece, mark_piece, IsWithin};
 
 use crate::keyword::Keyword;
 use crate::mark::Mark;

@@ -5,8 +5,14 @@ use Rattle.std.specs.Fmt.{signed_decimal}
 use Rattle.std.specs.Ordering.{int_eq}
 use lib.IntN.{ℤ}
 use Rattle.program_tokens.specs.Words.{is_name}
-use Rattle.program_terms.specs.Terms.{TypeTree, FieldTrees, unit, bool, int, text, enum_of, record_of, one_of, list, keyed, tree, named, no_fields, more_fields, LensTree, id_of, bij_of, disc_of, then_of, rec_lens, alt_lens, each_of, keyed_each, tree_each, part_of, inv_of, named_lens, RowTrees, no_rows, both, only_left, only_right, ArmTrees, no_arms, more_arms, DefTree, type_def, lens_def, ProgramTree, initial_number, initial_text, initial_member, initial_left}
-use Rattle.doc_values.specs.Types.{TyTree, ty_unit, ty_bool, ty_int, ty_text, ty_enum, ty_rec, ty_alt, ty_list, ty_keyed, ty_ordered}
+use Rattle.program_terms.specs.Terms.{TypeTree, FieldTrees, unit, bool, int, text, enum_of, record_of, one_of, list}
+use Rattle.program_terms.specs.Terms.{keyed, tree, named, no_fields, more_fields, LensTree, id_of, bij_of, disc_of}
+use Rattle.program_terms.specs.Terms.{then_of, rec_lens, alt_lens, each_of, keyed_each, tree_each, part_of, inv_of}
+use Rattle.program_terms.specs.Terms.{named_lens, RowTrees, no_rows, both, only_left, only_right, ArmTrees, no_arms}
+use Rattle.program_terms.specs.Terms.{more_arms, DefTree, type_def, lens_def, ProgramTree, initial_number}
+use Rattle.program_terms.specs.Terms.{initial_text, initial_member, initial_left}
+use Rattle.doc_values.specs.Types.{TyTree, ty_unit, ty_bool, ty_int, ty_text, ty_enum, ty_rec, ty_alt, ty_list}
+use Rattle.doc_values.specs.Types.{ty_keyed, ty_ordered}
 use Rattle.doc_values.specs.Types as of_documents
 
 -- a string between its quotes
@@ -17,8 +23,8 @@ put_string s rest = codes "\"" ++ (s ++ (codes "\"" ++ rest))
 abbrev pub put_name : List ℕ → List ℕ → List ℕ
 put_name name rest = if is_name name then name ++ rest else put_string name rest
 
--- The elements of a list are separated by `, `. The first argument is what stands before the first of them: nothing, or `, ` where
--- others stand before it.
+-- The elements of a list are separated by `, `. The first argument is what stands before the first of them: nothing, or
+-- `, ` where others stand before it.
 
 abbrev pub put_strings : List ℕ → List (List ℕ) → List ℕ → List ℕ
 put_strings before [] rest = rest
@@ -42,7 +48,8 @@ abbrev mutual
   put_type bool rest = codes "bool" ++ rest
   put_type (int z) rest = codes "int" ++ put_initial_number z rest
   put_type (text s) rest = codes "text" ++ put_initial_string initial_text s rest
-  put_type (enum_of ms m) rest = codes "enum[" ++ put_strings [] ms (codes "]" ++ put_initial_string (initial_member ms) m rest)
+  put_type (enum_of ms m) rest =
+      codes "enum[" ++ put_strings [] ms (codes "]" ++ put_initial_string (initial_member ms) m rest)
   put_type (record_of fs) rest = codes "{" ++ put_fields [] fs (codes "}" ++ rest)
   put_type (one_of fs) rest = codes "<" ++ put_fields [] fs (codes ">" ++ rest)
   put_type (list t) rest = codes "list " ++ put_type t rest
@@ -53,13 +60,15 @@ abbrev mutual
   -- a record's fields, or tags, each with its type
   pub put_fields : List ℕ → FieldTrees → List ℕ → List ℕ
   put_fields before no_fields rest = rest
-  put_fields before (more_fields f t fs) rest = before ++ put_name f (codes ": " ++ put_type t (put_fields (codes ", ") fs rest))
+  put_fields before (more_fields f t fs) rest =
+      before ++ put_name f (codes ": " ++ put_type t (put_fields (codes ", ") fs rest))
 
 abbrev mutual
   pub put_lens : LensTree → List ℕ → List ℕ
   put_lens (id_of t) rest = codes "id " ++ put_type t rest
   put_lens (disc_of t u) rest = codes "disc " ++ put_type t (codes " " ++ put_type u rest)
-  put_lens (bij_of ps m) rest = codes "bij[" ++ put_pairs [] ps (codes "]" ++ put_initial_string (initial_left ps) m rest)
+  put_lens (bij_of ps m) rest =
+      codes "bij[" ++ put_pairs [] ps (codes "]" ++ put_initial_string (initial_left ps) m rest)
   put_lens (then_of l k) rest = codes "then(" ++ put_lens l (codes ", " ++ put_lens k (codes ")" ++ rest))
   put_lens (rec_lens rows) rest = codes "{" ++ put_rows [] rows (codes "}" ++ rest)
   put_lens (alt_lens arms) rest = codes "<" ++ put_arms [] arms (codes ">" ++ rest)
@@ -72,13 +81,17 @@ abbrev mutual
 
   pub put_rows : List ℕ → RowTrees → List ℕ → List ℕ
   put_rows before no_rows rest = rest
-  put_rows before (both f g l rows) rest = before ++ put_name f (codes " ~ " ++ put_name g (codes ": " ++ put_lens l (put_rows (codes ", ") rows rest)))
-  put_rows before (only_left f t rows) rest = before ++ (codes "left " ++ put_name f (codes ": " ++ put_type t (put_rows (codes ", ") rows rest)))
-  put_rows before (only_right f t rows) rest = before ++ (codes "right " ++ put_name f (codes ": " ++ put_type t (put_rows (codes ", ") rows rest)))
+  put_rows before (both f g l rows) rest =
+      before ++ put_name f (codes " ~ " ++ put_name g (codes ": " ++ put_lens l (put_rows (codes ", ") rows rest)))
+  put_rows before (only_left f t rows) rest =
+      before ++ (codes "left " ++ put_name f (codes ": " ++ put_type t (put_rows (codes ", ") rows rest)))
+  put_rows before (only_right f t rows) rest =
+      before ++ (codes "right " ++ put_name f (codes ": " ++ put_type t (put_rows (codes ", ") rows rest)))
 
   pub put_arms : List ℕ → ArmTrees → List ℕ → List ℕ
   put_arms before no_arms rest = rest
-  put_arms before (more_arms f g l arms) rest = before ++ put_name f (codes " ~ " ++ put_name g (codes ": " ++ put_lens l (put_arms (codes ", ") arms rest)))
+  put_arms before (more_arms f g l arms) rest =
+      before ++ put_name f (codes " ~ " ++ put_name g (codes ": " ++ put_lens l (put_arms (codes ", ") arms rest)))
 
 -- a definition on a line of its own
 abbrev pub put_definition : List ℕ → DefTree → List ℕ → List ℕ

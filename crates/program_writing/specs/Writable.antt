@@ -4,8 +4,13 @@ use Rattle.std.specs.Prelude.{◌≡◌, ◌⊎◌, ◌<◌, ◌^◌, ℕ, zero,
 use lib.IntN.{ℤ}
 use lib.Signed.{mag}
 use Rattle.program_tokens.specs.Words.{is_name, is_text}
-use Rattle.program_terms.specs.Terms.{TypeTree, FieldTrees, unit, bool, int, text, enum_of, record_of, one_of, list, keyed, tree, named, no_fields, more_fields, LensTree, id_of, bij_of, disc_of, then_of, rec_lens, alt_lens, each_of, keyed_each, tree_each, part_of, inv_of, named_lens, RowTrees, no_rows, both, only_left, only_right, ArmTrees, no_arms, more_arms, DefTree, type_def, lens_def, ProgramTree}
-use Rattle.doc_values.specs.Types.{TyTree, ty_unit, ty_bool, ty_int, ty_text, ty_enum, ty_rec, ty_alt, ty_list, ty_keyed, ty_ordered}
+use Rattle.program_terms.specs.Terms.{TypeTree, FieldTrees, unit, bool, int, text, enum_of, record_of, one_of, list}
+use Rattle.program_terms.specs.Terms.{keyed, tree, named, no_fields, more_fields, LensTree, id_of, bij_of, disc_of}
+use Rattle.program_terms.specs.Terms.{then_of, rec_lens, alt_lens, each_of, keyed_each, tree_each, part_of, inv_of}
+use Rattle.program_terms.specs.Terms.{named_lens, RowTrees, no_rows, both, only_left, only_right, ArmTrees, no_arms}
+use Rattle.program_terms.specs.Terms.{more_arms, DefTree, type_def, lens_def, ProgramTree}
+use Rattle.doc_values.specs.Types.{TyTree, ty_unit, ty_bool, ty_int, ty_text, ty_enum, ty_rec, ty_alt, ty_list}
+use Rattle.doc_values.specs.Types.{ty_keyed, ty_ordered}
 use Rattle.doc_values.specs.Types as of_documents
 
 -- it is a name; a string may hold it
@@ -44,8 +49,8 @@ abbrev pub HasArms : ArmTrees → Type 0
 HasArms no_arms = ⊥
 HasArms (more_arms f g l arms) = Unit {0}
 
--- A type with at most n types and lenses nested, itself among them. Members, fields and tags may stand in strings, and so may the
--- initial value of an enum. A name is one. An enum and alternatives are not empty.
+-- A type with at most n types and lenses nested, itself among them. Members, fields and tags may stand in strings, and
+-- so may the initial value of an enum. A name is one. An enum and alternatives are not empty.
 abbrev mutual
   pub IsWritableType : ℕ → TypeTree → Type 0
   IsWritableType zero t = ⊥

@@ -26,7 +26,8 @@ pub(crate) fn put_initial_string(
     left_out: &str,
     value: &str,
 ) -> Result<(), AllocError>
-    ensures { OnOk result (Puts (string_bytes out.old) (string_bytes out.new) (put_initial_string left_out.now value.now)) }
+    ensures { OnOk result
+        (Puts (string_bytes out.old) (string_bytes out.new) (put_initial_string left_out.now value.now)) }
 {
     if value == left_out {
         return Ok(());

@@ -13,18 +13,21 @@ ghost use Rattle.program_writing.specs.Writable.{IsSpeakable, IsWritable};
 
 /// The tokens of the canonical text of a writable program spell this program, and no other token follows.
 pub fn canonical_text_is_spelled()
-    ensures spelled { (p : ProgramTree) → IsWritable p → (n : NotedProgram) × (without_notes n ≡ p) × IsProgram n (tokens_of (canonical p)) }
+    ensures spelled { (p : ProgramTree) → IsWritable p → (n : NotedProgram) × (without_notes n ≡ p)
+        × IsProgram n (tokens_of (canonical p)) }
 {}
 
 /// A program that some text spells is writable.
 pub fn spelled_is_writable()
-    ensures writable { (n : NotedProgram) (text : List ℕ) → IsProgram n (tokens_of text) → IsWritable (without_notes n) }
+    ensures writable { (n : NotedProgram) (text : List ℕ) → IsProgram n (tokens_of text)
+        → IsWritable (without_notes n) }
 {}
 
 /// Where the names of a program have no fault as one text has it, they have none as any other text has the same
 /// program: it is the offsets of names alone that differ.
 pub fn names_stay_good()
-    ensures known { (m n : NotedProgram) (ts us : List PlacedToken) → IsProgram m ts → IsProgram n us → without_notes m ≡ without_notes n
+    ensures known { (m n : NotedProgram) (ts us : List PlacedToken) → IsProgram m ts → IsProgram n us → without_notes m
+        ≡ without_notes n
         → first_fault m ≡ None → first_fault n ≡ None }
 {}
 
@@ -42,5 +45,6 @@ pub fn type_text_is_spelled()
 /// canonical text, and its names have no fault there either.
 pub fn canonical_text_reads_back()
     ensures again { (n : NotedProgram) (text : List ℕ) → IsProgram n (tokens_of text) → first_fault n ≡ None
-        → (m : NotedProgram) × (without_notes m ≡ without_notes n) × IsProgram m (tokens_of (canonical (without_notes n))) × (first_fault m ≡ None) }
+        → (m : NotedProgram) × (without_notes m ≡ without_notes n)
+        × IsProgram m (tokens_of (canonical (without_notes n))) × (first_fault m ≡ None) }
 {}

@@ -25,7 +25,8 @@ pub fn write_type(alloc: Global, ty: &Ty) -> Result<Str, AllocError>
 
 #[cycle(put_ty)]
 fn put_ty(out: &mut String, ty: &Ty) -> Result<(), AllocError>
-    ensures { OnOk result (Puts (string_bytes out.old) (string_bytes out.new) (put_type (term_of_type (ty_tree ty.now)))) }
+    ensures { OnOk result
+        (Puts (string_bytes out.old) (string_bytes out.new) (put_type (term_of_type (ty_tree ty.now)))) }
 {
     match ty {
         Ty::Unit => put_text(out, "unit"),

@@ -30,7 +30,8 @@ origin_at ds from q = origin_of from (node ds q)
 -- the node at q had n children; it now has one more, and the new one is its last child, with the origin o
 abbrev pub GainsLastChild : List ℕ → List ℕ → Origin → Shape → List Origin → Type 0
 GainsLastChild ds q o (TreeOf new) from =
-    (n : ℕ) × (children_at ds q ≡ Some n) × (children_at new q ≡ Some (n + 1)) × (origin_at new from (child_path q n) ≡ Some o)
+    (n : ℕ) × (children_at ds q ≡ Some n) × (children_at new q ≡ Some (n + 1))
+    × (origin_at new from (child_path q n) ≡ Some o)
 GainsLastChild ds q o shape from = ⊥
 
 -- the subtree of the node at p is removed, and its root becomes the last child of the node at q of the rest
@@ -45,16 +46,19 @@ other_child i k = if nat_lt k i then k else suc k
 -- the children of the node at q besides child i before, and besides child j now, are the same in the same order
 abbrev pub KeepsOtherChildren : List ℕ → List ℕ → List ℕ → ℕ → ℕ → List Origin → Type 0
 KeepsOtherChildren ds new q i j from =
-    (k : ℕ) → origin_at new from (child_path q (other_child j k)) ≡ option_map Old (node ds (child_path q (other_child i k)))
+    (k : ℕ) → origin_at new from (child_path q (other_child j k))
+    ≡ option_map Old (node ds (child_path q (other_child i k)))
 
 -- child j of the node at q is now what its child i was; it has no child more or less, and the others keep their order
 abbrev pub MovesChild : List ℕ → List ℕ → ℕ → ℕ → Shape → List Origin → Type 0
 MovesChild ds q i j (TreeOf new) from =
-    (c : ℕ) × (node ds (child_path q i) ≡ Some c) × (origin_at new from (child_path q j) ≡ Some (Old c)) × (children_at new q ≡ children_at ds q)
+    (c : ℕ) × (node ds (child_path q i) ≡ Some c) × (origin_at new from (child_path q j) ≡ Some (Old c))
+    × (children_at new q ≡ children_at ds q)
     × KeepsOtherChildren ds new q i j from
 MovesChild ds q i j shape from = ⊥
 
--- the node at q had a last child; it now has one child less, and the places of that child's subtree, from c to its end, and no others, are gone
+-- the node at q had a last child; it now has one child less, and the places of that child's subtree, from c to its end,
+-- and no others, are gone
 abbrev pub LosesLastChild : List ℕ → List ℕ → Shape → List Origin → Type 0
 LosesLastChild ds q (TreeOf new) from =
     (n c : ℕ) × (children_at ds q ≡ Some (n + 1)) × (node ds (child_path q n) ≡ Some c) × (children_at new q ≡ Some n)

@@ -1,5 +1,7 @@
--- What every plan keeps, by the kind of its edit. From the end: `KeepsFamily`, `KeepsContent`, `KeepsPlaces`, `IsArranged`.
-use Rattle.std.specs.Prelude.{◌≡◌, ℕ, ◌+◌, ◌<◌, ◌≤◌, Bool, true, false, List, [], ◌∷◌, ◌++◌, length, map, take, drop, replicate, slice_index, slice_range, slice_set, Option, Some, None, nat_eq}
+-- What every plan keeps, by the kind of its edit. From the end: `KeepsFamily`, `KeepsContent`, `KeepsPlaces`,
+-- `IsArranged`.
+use Rattle.std.specs.Prelude.{◌≡◌, ℕ, ◌+◌, ◌<◌, ◌≤◌, Bool, true, false, List, [], ◌∷◌, ◌++◌, length, map, take, drop}
+use Rattle.std.specs.Prelude.{replicate, slice_index, slice_range, slice_set, Option, Some, None, nat_eq}
 use Rattle.std.specs.List.{All, count_by}
 use Rattle.std.specs.List.Sorted.{IsPermutation}
 use Rattle.hold_shapes.specs.declared.shape.Shape.{Shape}
@@ -7,7 +9,8 @@ use Rattle.hold_shapes.specs.declared.shape.Shape.TheVariants.{List as ListOf, K
 use Rattle.hold_shapes.specs.declared.origins.Origin.{Origin}
 use Rattle.hold_shapes.specs.declared.origins.Origin.TheVariants.{Old, Fresh}
 use Rattle.hold_shapes.specs.declared.edit.ShapeEdit.{ShapeEdit}
-use Rattle.hold_shapes.specs.declared.edit.ShapeEdit.TheVariants.{Ins, Del, MoveItem, Reorder, PutKey, DropKey, RenameKey, Graft, Prune, Shift, Hang}
+use Rattle.hold_shapes.specs.declared.edit.ShapeEdit.TheVariants.{Ins, Del, MoveItem, Reorder, PutKey, DropKey}
+use Rattle.hold_shapes.specs.declared.edit.ShapeEdit.TheVariants.{RenameKey, Graft, Prune, Shift, Hang}
 use Rattle.hold_shapes.specs.Plans.{old_places, remove_part, moved_depths}
 use Rattle.texts.specs.Keys.{key_place}
 use Rattle.hold_shapes.specs.Trees.{node, child_at, end_of}
@@ -99,7 +102,8 @@ abbrev pub fresh_name : ShapeEdit → List ℕ
 fresh_name (PutKey k) = k
 fresh_name e = []
 
--- the depths that the old nodes of a tree have afterwards: under a hang, those of the subtree from a to e are counted from below a node of the rest
+-- the depths that the old nodes of a tree have afterwards: under a hang, those of the subtree from a to e are counted
+-- from below a node of the rest
 abbrev pub hung_below : List ℕ → ℕ → ℕ → List ℕ → Option ℕ → List ℕ
 hung_below ds a e rest None = ds
 hung_below ds a e rest (Some r) =
@@ -134,7 +138,8 @@ MovesDepths cs d (TreeOf new) from = new ≡ map (content_at cs d) from
 MovesDepths cs d shape from = ⊥
 
 -- Names and depths move with their places, just as contents are gathered.
--- Only a rename gives a name anew, and only a hang gives depths anew: to the nodes that it moves, all by the same difference.
+-- Only a rename gives a name anew, and only a hang gives depths anew: to the nodes that it moves, all by the same
+-- difference.
 abbrev pub KeepsContent : ShapeEdit → Shape → Shape → List Origin → Type 0
 KeepsContent e (ListOf l) = λ shape from. Unit {0}
 KeepsContent e (KeyedOf ks) = MovesNames (names_after e ks) (fresh_name e)
@@ -156,7 +161,8 @@ OnlyMoves (Some a) old new =
     × IsPermutation old ((Old a, was) ∷ others) × IsPermutation new ((Old a, is) ∷ others)
 
 -- The nodes of a tree before and after an edit, each with its parent, all called by their old places.
--- A graft adds one node and takes no parent away, a prune takes nodes away and no parent from those that stay, and a shift or a hang moves one node, with all that is below it.
+-- A graft adds one node and takes no parent away, a prune takes nodes away and no parent from those that stay, and a
+-- shift or a hang moves one node, with all that is below it.
 abbrev pub KeepsParents : ShapeEdit → List ℕ → List (Origin × Option Origin) → List (Origin × Option Origin) → Type 0
 KeepsParents (Graft q) ds old new = (parent : Option Origin) × IsPermutation new ((Fresh, parent) ∷ old)
 KeepsParents (Prune q) ds old new = (lost : List (Origin × Option Origin)) × IsPermutation old (new ++ lost)

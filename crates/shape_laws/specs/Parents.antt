@@ -15,11 +15,13 @@ abbrev pub nearest : List Called → Option Origin
 nearest [] = None
 nearest (n ∷ above) = Some n.1
 
--- the nodes of these depths, called by the origins, each with its parent: the nearest node before it that is less deep; above are the nodes on the way to the first
+-- the nodes of these depths, called by the origins, each with its parent: the nearest node before it that is less deep;
+-- above are the nodes on the way to the first
 abbrev pub parents_below : List Called → List ℕ → List Origin → List (Origin × Option Origin)
 parents_below above [] os = []
 parents_below above (d ∷ ds) [] = []
-parents_below above (d ∷ ds) (o ∷ os) = (o, nearest (less_deep d above)) ∷ parents_below ((d, o) ∷ less_deep d above) ds os
+parents_below above (d ∷ ds) (o ∷ os) =
+    (o, nearest (less_deep d above)) ∷ parents_below ((d, o) ∷ less_deep d above) ds os
 
 abbrev pub parents : List ℕ → List Origin → List (Origin × Option Origin)
 parents ds os = parents_below [] ds os

@@ -11,4 +11,5 @@ node_items (Join left right middle len height hint) = left.value ++ right.value
 -- a chunk has an item, the numbers of items are right, and neither side is empty
 abbrev pub IsSound : {T : Type 0} → Node T → Type 0
 IsSound (Chunk items) = 0 < length items.items
-IsSound (Join left right middle len height hint) = (middle ≡ length left.value) × ((len ≡ length (left.value ++ right.value)) × ((0 < length left.value) × (0 < length right.value)))
+IsSound (Join left right middle len height hint) = (middle ≡ length left.value)
+    × ((len ≡ length (left.value ++ right.value)) × ((0 < length left.value) × (0 < length right.value)))

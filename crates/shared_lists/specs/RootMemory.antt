@@ -1,4 +1,5 @@
--- What the root of a tree owns: what a box that holds an owner of the tree owns. The main definitions are `root_owns` and `root_shares`.
+-- What the root of a tree owns: what a box that holds an owner of the tree owns. The main definitions are `root_owns`
+-- and `root_shares`.
 use Rattle.std.specs.Prelude.{List}
 use base.Fml.{Fml, Lft}
 use base.Stored.{Coded, coded×, coded_list, coded_via}
@@ -31,4 +32,6 @@ root_shares R = lent_at (owner_row R)
 
 -- an owner is stored as its pointer and its items
 abbrev pub owner_coded : {X : Type 0} → Coded X → Coded (Owner X)
-owner_coded c = coded_via (coded× coded_ptr (coded_list c)) (λ r. (r.ptr, r.value)) (λ x y e i. record { ptr = (e i).0; value = (e i).1 })
+owner_coded c =
+    coded_via (coded× coded_ptr (coded_list c)) (λ r. (r.ptr, r.value))
+    (λ x y e i. record { ptr = (e i).0; value = (e i).1 })

@@ -23,11 +23,11 @@ pub trait Test<T> {
 }
 
 impl<T: Hint> SharedList<T> {
-    /// A place before which the item passes a test, and at which the item fails it. Before the first place and behind the last one
-    /// there is no item.
+    /// A place before which the item passes a test, and at which the item fails it. Before the first place and behind
+    /// the last one there is no item.
     ///
-    /// It is the number of the items that pass, where they all come before the others. Does not allocate. Looks at some log n hints,
-    /// where n is how many items there are, and at a few items if their hints are in order and differ.
+    /// It is the number of the items that pass, where they all come before the others. Does not allocate. Looks at some
+    /// log n hints, where n is how many items there are, and at a few items if their hints are in order and differ.
     pub fn edge<C: Test<T>>(&self, test: &C) -> usize
         ensures within { result ≤ length self.now }
         ensures passes { PassesBefore (C.test test.now) self.now result }

@@ -4,8 +4,8 @@ use texts::{Name, Str};
 
 /// An item of a list in which items may be searched for.
 ///
-/// Where items are in order, their hints should be too: the hint of an item is at most that of one behind it. Only the time of a
-/// search rests on hints. One that they lead astray begins again without them.
+/// Where items are in order, their hints should be too: the hint of an item is at most that of one behind it. Only the
+/// time of a search rests on hints. One that they lead astray begins again without them.
 pub trait Hint {
     /// A number that says roughly where the item is among others. Items that are never searched for have 0.
     fn hint(&self) -> u64 {

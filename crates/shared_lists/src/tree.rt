@@ -17,8 +17,8 @@ pub(crate) const CHUNK: usize = 16;
 pub(crate) enum Node<T> {
     /// Some items, at least one.
     Chunk(Vec<Rc<T>>),
-    /// Two trees one after the other, the number of items of the first, that of both, the height of this tree, and the hint
-    /// of its first item.
+    /// Two trees one after the other, the number of items of the first, that of both, the height of this tree, and the
+    /// hint of its first item.
     Join(Rc<Tree<T>>, Rc<Tree<T>>, usize, usize, u8, u64),
 }
 

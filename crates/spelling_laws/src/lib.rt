@@ -1,8 +1,9 @@
 //! What is read from tokens is what they spell.
 //!
 //! The grammar says how a program is spelled, and how one is read from left to right. The laws here say that the two
-//! agree: what is read is spelled so, and what is spelled so is read. So tokens spell one program at most. Each function
-//! does nothing: its clauses are the laws, which other crates rely on. docs/LANGUAGE.md has the rules in prose.
+//! agree: what is read is spelled so, and what is spelled so is read. So tokens spell one program at most. Each
+//! function does nothing: its clauses are the laws, which other crates rely on. docs/LANGUAGE.md has the rules in
+//! prose.
 #![tactic(auto)]
 
 ghost use Rattle.std.specs.Prelude.{◌≡◌, ℕ, false, List, Option, Ok, Err};

@@ -75,7 +75,8 @@ fn open_rest(
     requires form { form_tree opened.old.session.lens.typed ≡ form_tree typed.now }
     requires within { kept ≤ length payloads.now }
     requires stood { stands (take kept payloads.now)
-        ≡ Ok (standing (form_tree typed.now) (triple_tree opened.old.session.triple) opened.old.count opened.old.version) }
+        ≡ Ok (standing (form_tree typed.now) (triple_tree opened.old.session.triple) opened.old.count
+        opened.old.version) }
     requires count { opened.old.count ≤ kept }
     ensures stands { Reaches result (stands payloads.now)
         (standing (form_tree typed.now) (triple_tree opened.new.session.triple) opened.new.count opened.new.version) }

@@ -1,5 +1,5 @@
--- The laws that the calls of lists of tags keep. `PlaceAfterRank`, `RankAfterPlace` and `PlaceRises` are those of rank and place;
--- `MeasureLaws`, before them, is what a sum that is kept in the nodes of a tree needs.
+-- The laws that the calls of lists of tags keep. `PlaceAfterRank`, `RankAfterPlace` and `PlaceRises` are those of rank
+-- and place; `MeasureLaws`, before them, is what a sum that is kept in the nodes of a tree needs.
 use Rattle.std.specs.Prelude.{◌≡◌, ℕ, ◌<◌, List, Some, slice_get}
 use Rattle.tag_seq.specs.Tags.{count, rank, place}
 

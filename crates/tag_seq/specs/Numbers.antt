@@ -1,5 +1,6 @@
--- A finite map from tags to numbers, as the list of its pairs with the tags strictly rising. A tag that is not there has the number 0.
--- In order: `number` and `IsMap` say what a map is; `merged` adds two maps, `reduced` takes one from the other.
+-- A finite map from tags to numbers, as the list of its pairs with the tags strictly rising. A tag that is not there
+-- has the number 0. In order: `number` and `IsMap` say what a map is; `merged` adds two maps, `reduced` takes one from
+-- the other.
 use Rattle.std.specs.Prelude.{ℕ, suc, ◌+◌, ◌-◌, ◌<◌, List, [], ◌∷◌, nat_eq, nat_lt, if◌then◌else◌}
 
 -- the number of a tag

@@ -1,5 +1,7 @@
--- Lists of tags. The main definitions are `count`, how often a tag occurs, `rank`, how often it occurs before a place, and `place`, where one of its occurrences is.
-use Rattle.std.specs.Prelude.{ℕ, ◌+◌, ◌-◌, Bool, true, List, [], ◌∷◌, take, Option, Some, None, nat_eq, nat_lt, ◌&&◌, if◌then◌else◌, slice_index}
+-- Lists of tags. The main definitions are `count`, how often a tag occurs, `rank`, how often it occurs before a place,
+-- and `place`, where one of its occurrences is.
+use Rattle.std.specs.Prelude.{ℕ, ◌+◌, ◌-◌, Bool, true, List, [], ◌∷◌, take, Option, Some, None, nat_eq, nat_lt, ◌&&◌}
+use Rattle.std.specs.Prelude.{if◌then◌else◌, slice_index}
 use Rattle.std.specs.List.{insert, remove}
 
 -- 1 where two tags are the same, and 0 otherwise

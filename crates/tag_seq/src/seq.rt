@@ -1,6 +1,7 @@
 //! The list of tags.
 
-ghost use Rattle.std.specs.Prelude.{◌≡◌, ◌<◌, ◌≤◌, ◌+◌, ◌-◌, ◌*◌, ◌^◌, ◌++◌, ◌↔◌, ℕ, [], length, take, replicate, slice_index, slice_set, IfOk, OnOk, OnErr, IsErr, IsSome};
+ghost use Rattle.std.specs.Prelude.{◌≡◌, ◌<◌, ◌≤◌, ◌+◌, ◌-◌, ◌*◌, ◌^◌, ◌++◌, ◌↔◌, ℕ, [], length, take, replicate};
+ghost use Rattle.std.specs.Prelude.{slice_index, slice_set, IfOk, OnOk, OnErr, IsErr, IsSome};
 ghost use Rattle.tag_seq.specs.Tags.{count, rank, place, moved, are_below};
 
 use crate::node::TagTree;
@@ -97,8 +98,8 @@ impl TagSeq {
         walks::rank(&self.root, tag, upto, steps)
     }
 
-    /// The place of the occurrence number k, from 0, of a tag. None exactly when there are at most k. Does not allocate.
-    /// With n tags, n below 2^d, it takes at most 2d steps.
+    /// The place of the occurrence number k, from 0, of a tag. None exactly when there are at most k. Does not
+    /// allocate. With n tags, n below 2^d, it takes at most 2d steps.
     pub fn select<L: Ledger>(&self, tag: u32, k: u64, steps: &mut Steps<L>) -> Option<u64>
         ensures place { result ≡ place tag k self.now }
         ensures found { IsSome result ↔ (k < count tag self.now) }

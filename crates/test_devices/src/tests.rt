@@ -1,4 +1,5 @@
-//! Each call that allocates once with its result compared, devices that fail on demand, and a reader and a writer that fail.
+//! Each call that allocates once with its result compared, devices that fail on demand, and a reader and a writer that
+//! fail.
 ghost use Rattle.std.specs.Prelude.{◌≡◌, ◌<◌, All};
 
 use lens_io::{
@@ -193,7 +194,8 @@ fn a_file_is_a_disk(rt: HostRuntime) -> Result<(), Fail> {
     Ok(())
 }
 
-// A disk that writes keeps others that write out of its folder as long as it lives. One that reads is let in, and writes nothing.
+// A disk that writes keeps others that write out of its folder as long as it lives. One that reads is let in, and
+// writes nothing.
 #[test]
 fn one_disk_writes(rt: HostRuntime) -> Result<(), Fail> {
     const FOLDER: &str = "devices_tests_lock";

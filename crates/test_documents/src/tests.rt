@@ -10,8 +10,8 @@ use std::test::Fail;
 use texts::{Name, Names, Str, Twin};
 use value_json::{read_counts, read_doc, write_compact, write_counts, write_doc_text};
 
-// Values of many variants are let go by `drop`, in one call. At the end of a block they would be dropped variant by variant,
-// which takes long to prove.
+// Values of many variants are let go by `drop`, in one call. At the end of a block they would be dropped variant by
+// variant, which takes long to prove.
 
 // The type of records of a list of ints `a`.
 fn record_ty(alloc: Global) -> Result<Ty, Fail> {
@@ -166,7 +166,8 @@ fn shared_contents(rt: HostRuntime) -> Result<(), Fail> {
     Ok(())
 }
 
-// The text of the document after the word of this text. It fails if the type is ill formed or the document does not have it.
+// The text of the document after the word of this text. It fails if the type is ill formed or the document does not
+// have it.
 fn text_after(alloc: Global, ty: &Ty, doc: &Doc, edit: &str) -> Result<String, Fail> {
     if !ty.is_well_formed() || !doc.has_type(ty) {
         return Err("the document has another type")?;

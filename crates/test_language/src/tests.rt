@@ -17,8 +17,8 @@ const EACH_CONSTRUCT: &str =
 const INITIAL_VALUES: &str =
     "main {a ~ b: bij[\"on\"=\"yes\", \"off\"=\"no\"] = \"off\", left c: int = -9223372036854775808, left d: text = \"x\", right e: enum[\"up\", \"down\"] = \"down\"}";
 
-// Values of many variants are let go by `drop`, in one call. At the end of a block they would be dropped variant by variant,
-// which takes long to prove.
+// Values of many variants are let go by `drop`, in one call. At the end of a block they would be dropped variant by
+// variant, which takes long to prove.
 
 fn name(alloc: Global, text: &str) -> Result<Name, AllocError> {
     Ok(Name::from_string(String::from_str(alloc, text)?))

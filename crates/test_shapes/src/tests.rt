@@ -16,8 +16,8 @@ use shared_lists::{Hint, SharedList};
 use std::alloc::{AllocError, Global};
 use texts::{Name, Names, Str, Twin, twin_all};
 
-// Values of many variants are let go by `drop`, in one call. At the end of a block they would be dropped variant by variant,
-// which takes long to prove.
+// Values of many variants are let go by `drop`, in one call. At the end of a block they would be dropped variant by
+// variant, which takes long to prove.
 
 fn name(alloc: Global, text: &str) -> Result<Name, AllocError> {
     Ok(Name::from_string(String::from_str(alloc, text)?))

@@ -107,8 +107,8 @@ fn left_site(alloc: Global, text: &str) -> Option<LeftSite<Flat>> {
     LeftSite::start(alloc, lens).ok()
 }
 
-// Batches for the left site, which has sent batch 1: one that is two ahead, and two of the next number, whose word has no translation or
-// does not apply.
+// Batches for the left site, which has sent batch 1: one that is two ahead, and two of the next number, whose word has
+// no translation or does not apply.
 const BAD_BATCHES: [(u64, &str, ReceiveFault); 3] = [
     (3, "[]", ReceiveFault::Ahead { have: 1, got: 3 }),
     (2, "[{\"at\":[\"a\",[]]}]", ReceiveFault::BadBatch),

@@ -1,4 +1,5 @@
-//! Each call that allocates once, over ample memory, with its result compared. Whole commands are cases of case_commands.
+//! Each call that allocates once, over ample memory, with its result compared. Whole commands are cases of
+//! case_commands.
 use answer_text::{
     fault_line, no_apply_line, ok_line, syntax_line, tree_line, type_line, typing_line,
 };
@@ -99,7 +100,8 @@ const REPORT: &str =
 const USAGE: &str =
     "usage: editlens run|check|init|apply|show|verify|pack|gen N SEED|hub|link|undo K|import\n";
 
-// Commands over an empty disk without room: the word, the input, the room of the sink, the status and what the sink holds then.
+// Commands over an empty disk without room: the word, the input, the room of the sink, the status and what the sink
+// holds then.
 const SURE: [(&str, &str, u64, Status, &str); 6] = [
     ("run", SCRIPT, 79, Status::SomeRefused, REPORT),
     ("run", SCRIPT, 9, Status::SinkFault, "refused 1"),

@@ -5,8 +5,8 @@ use program_terms::{Definitions, Lens, Pairs, Program, Row, Rows, TyExpr};
 use std::alloc::{AllocError, Global};
 use texts::{Name, Names, Str, Twin};
 
-// Values of many variants are let go by `drop`, in one call. At the end of a block they would be dropped variant by variant,
-// which takes long to prove.
+// Values of many variants are let go by `drop`, in one call. At the end of a block they would be dropped variant by
+// variant, which takes long to prove.
 
 fn name(alloc: Global, text: &str) -> Result<Name, AllocError> {
     Ok(Name::from_string(String::from_str(alloc, text)?))

@@ -1,6 +1,7 @@
--- A link: the entries that were made, the two sites' numbers and drafts, and the packets. What an event makes of it is `happens`, at
--- the end. A lens comes as its two types, its first complement and its translation of words.
-use Rattle.std.specs.Prelude.{ℕ, ◌+◌, ◌-◌, ◌^◌, nat_eq, nat_le, if◌then◌else◌, List, [], ◌∷◌, ◌++◌, map, take, length, slice_get, Option, Some, None, option_map, option_and_then, Result, Ok, Err}
+-- A link: the entries that were made, the two sites' numbers and drafts, and the packets. What an event makes of it is
+-- `happens`, at the end. A lens comes as its two types, its first complement and its translation of words.
+use Rattle.std.specs.Prelude.{ℕ, ◌+◌, ◌-◌, ◌^◌, nat_eq, nat_le, if◌then◌else◌, List, [], ◌∷◌, ◌++◌, map, take, length}
+use Rattle.std.specs.Prelude.{slice_get, Option, Some, None, option_map, option_and_then, Result, Ok, Err}
 use Rattle.texts.specs.declared.side.Side.{Side}
 use Rattle.texts.specs.declared.side.Side.TheVariants.{Left, Right}
 use Rattle.texts.specs.Sides.{other}
@@ -13,7 +14,8 @@ use Rattle.lens_core.specs.Translation.{Translated}
 use Rattle.edit_session.specs.Step.{TripleTree, first, document_on, Stepped, step}
 use Rattle.edit_module.specs.Changes.{one}
 use Rattle.edit_session.specs.Run.{Item, last, run}
-use Rattle.turn_link.specs.Turns.{BatchTree, is_even, is_turn, last_made, Refusal, not_turn, last_number, no_batch, no_packet}
+use Rattle.turn_link.specs.Turns.{BatchTree, is_even, is_turn, last_made, Refusal, not_turn, last_number, no_batch}
+use Rattle.turn_link.specs.Turns.{no_packet}
 use Rattle.turn_link.specs.Sites.{LeftTree, RightTree, edited}
 
 -- what may happen
@@ -48,7 +50,15 @@ pub record LinkTree : Type 0 where
 
 -- no entry, no draft and no packet
 abbrev pub link_start : LinkTree
-link_start = record { made = []; left_number = 0; right_number = 0; left_draft = no_primitives; right_draft = no_primitives; packets = [] }
+link_start = record {
+  made = [];
+  left_number = 0;
+  right_number = 0;
+  left_draft = no_primitives;
+  right_draft =
+      no_primitives;
+  packets = [];
+}
 
 -- the number and the draft of a side, and the link with others
 abbrev pub number_on : Side → LinkTree → ℕ
@@ -67,7 +77,9 @@ with_draft Right w s = record s { right_draft = w }
 
 -- the draft of a side is sealed: it is a new entry, the side's number rises, and its draft is empty
 abbrev pub with_entry : Side → LinkTree → LinkTree
-with_entry side s = with_number side (number_on side s + 1) (with_draft side no_primitives (record s { made = s.made ++ (side, draft_on side s) ∷ [] }))
+with_entry side s =
+    with_number side (number_on side s + 1)
+    (with_draft side no_primitives (record s { made = s.made ++ (side, draft_on side s) ∷ [] }))
 
 -- a batch is addressed to the other side
 abbrev pub with_packet : Side → BatchTree → LinkTree → LinkTree
@@ -101,16 +113,19 @@ abbrev pub link_after : LinkTree → Result (LinkTree × ToldTree) Refusal → L
 link_after s (Ok r) = r.0
 link_after s (Err why) = s
 
-module _ (left : TyTree) (right : TyTree) (start : CompTree) (carried : Side → CompTree → WordTree → Option Translated) where
+module _ (left : TyTree) (right : TyTree) (start : CompTree) (carried : Side → CompTree → WordTree
+    → Option Translated) where
   -- the triple after the first k entries, from the first triple of the lens
   abbrev pub triple_at : List (Side × WordTree) → ℕ → Option TripleTree
   triple_at made k =
-      option_map (last (first left right start)) (run {F = ⊥} left right carried (first left right start) (map single (take k made)))
+      option_map (last (first left right start))
+      (run {F = ⊥} left right carried (first left right start) (map single (take k made)))
 
   -- the carried word of entry k, counted from 1
   abbrev pub carried_word : List (Side × WordTree) → ℕ → Option WordTree
   carried_word made k =
-      option_and_then (λ t. option_and_then (λ e. word_of_step (step left right carried t e)) (slice_get made (k - 1))) (triple_at made (k - 1))
+      option_and_then (λ t. option_and_then (λ e. word_of_step (step left right carried t e)) (slice_get made (k - 1)))
+      (triple_at made (k - 1))
 
   -- the word of batch k: the word of entry k where k is even, and its carried word where k is odd
   abbrev pub batch_word : List (Side × WordTree) → ℕ → Option WordTree
@@ -129,10 +144,23 @@ module _ (left : TyTree) (right : TyTree) (start : CompTree) (carried : Side →
 
   -- the two sites of a link, which show the documents and the complement of these triples
   abbrev pub left_of : LinkTree → TripleTree → LeftTree
-  left_of s t = record { number = s.left_number; doc = t.left; comp = t.comp; draft = s.left_draft; last = last_batch Left s.made s.left_number }
+  left_of s t = record {
+    number = s.left_number;
+    doc = t.left;
+    comp = t.comp;
+    draft = s.left_draft;
+    last =
+        last_batch Left s.made s.left_number;
+  }
 
   abbrev pub right_of : LinkTree → TripleTree → RightTree
-  right_of s t = record { number = s.right_number; doc = t.right; draft = s.right_draft; last = last_batch Right s.made s.right_number }
+  right_of s t = record {
+    number = s.right_number;
+    doc = t.right;
+    draft = s.right_draft;
+    last =
+        last_batch Right s.made s.right_number;
+  }
 
   abbrev pub left_site : LinkTree → Option LeftTree
   left_site s = option_map (left_of s) (triple_at s.made s.left_number)
@@ -142,11 +170,14 @@ module _ (left : TyTree) (right : TyTree) (start : CompTree) (carried : Side →
 
   -- the batch of a new entry is named
   abbrev pub naming : Side → LinkTree → Option (Result (LinkTree × ToldTree) Refusal)
-  naming side s = option_map (λ b. Ok (with_entry side s, sealed b)) (batch_at (with_entry side s).made (number_on side s + 1))
+  naming side s =
+      option_map (λ b. Ok (with_entry side s, sealed b)) (batch_at (with_entry side s).made (number_on side s + 1))
 
   -- what an event makes of a link, and what is told of it; or why it is refused
   abbrev pub happens : LinkTree → EventTree → Option (Result (LinkTree × ToldTree) Refusal)
-  happens s (edit side w) = option_map (λ x. drafting side s (edited side (near side left right) (number_on side s) x (draft_on side s) w)) (shown side s)
+  happens s (edit side w) =
+      option_map (λ x. drafting side s (edited side (near side left right) (number_on side s) x (draft_on side s) w))
+      (shown side s)
   happens s (seal side) =
       if is_turn side (number_on side s)
       then (if nat_eq (number_on side s) (2 ^ 64 - 1) then Some (Err last_number) else naming side s)
@@ -154,7 +185,8 @@ module _ (left : TyTree) (right : TyTree) (start : CompTree) (carried : Side →
   happens s (send side) =
       if nat_eq (last_made side (number_on side s)) 0
       then Some (Err no_batch)
-      else option_map (λ b. Ok (with_packet side b s, packet (length s.packets))) (last_batch side s.made (number_on side s))
+      else option_map (λ b. Ok (with_packet side b s, packet (length s.packets)))
+      (last_batch side s.made (number_on side s))
   happens s (deliver p) = Some (delivered s (slice_get s.packets p))
   happens s (restart side) = Some (Ok (with_draft side no_primitives s, restarted))
 

@@ -130,8 +130,8 @@ impl<L: EditLens> LeftSite<L> {
 
     /// Takes a batch of the other site, where it is the next one.
     ///
-    /// - `Ahead`: if and only if the batch's number is more than one above the site's, or one above it on the site's own
-    ///   turn.
+    /// - `Ahead`: if and only if the batch's number is more than one above the site's, or one above it on the site's
+    ///   own turn.
     /// - `BadBatch`: if and only if the batch is the next one and its word has no translation, or the translated word
     ///   does not apply to the document.
     /// - `NoMemory`: only if memory ran out.

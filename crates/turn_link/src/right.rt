@@ -10,7 +10,8 @@ ghost use Rattle.edit_module.specs.Action.{act};
 ghost use Rattle.edit_module.specs.Views.{word_tree};
 ghost use Rattle.turn_link.specs.declared.fault.Received.TheVariants.{Taken};
 ghost use Rattle.turn_link.specs.RightViews.{right_tree, right_after, IsRight};
-ghost use Rattle.turn_link.specs.Sites.{right_start, right_edit, right_seal, right_receive, right_taking, right_restart};
+ghost use Rattle.turn_link.specs.Sites.{right_start, right_edit, right_seal, right_receive, right_taking};
+ghost use Rattle.turn_link.specs.Sites.{right_restart};
 ghost use Rattle.turn_link.specs.Turns.{is_turn, IsRefusal};
 ghost use Rattle.turn_link.specs.Views.{batch_tree, site_refusal, receive_refusal};
 
@@ -132,8 +133,8 @@ impl RightSite {
 
     /// Takes a batch of the other site, where it is the next one.
     ///
-    /// - `Ahead`: if and only if the batch's number is more than one above the site's, or one above it on the site's own
-    ///   turn.
+    /// - `Ahead`: if and only if the batch's number is more than one above the site's, or one above it on the site's
+    ///   own turn.
     /// - `BadBatch`: if and only if the batch is the next one and its word does not apply to the document.
     /// - `NoMemory`: only if memory ran out.
     ///

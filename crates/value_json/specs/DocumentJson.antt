@@ -1,12 +1,16 @@
 -- Documents as JSON trees: the tree of a document of a type, and the document of a type that a tree is.
 -- From the end: `holds_i64s`, `document_of`, `tree_of_document`.
-use Rattle.std.specs.Prelude.{ℕ, ◌&&◌, Bool, true, List, [], ◌∷◌, length, Option, Some, None, option_map, option_and_then, if◌then◌else◌, codes, bytes_eq, nat_eq}
-use Rattle.serde_json.specs.Data.{Data, null, boolean, number, string, array, object, Items, no_items, item, Members, no_members, member}
+use Rattle.std.specs.Prelude.{ℕ, ◌&&◌, Bool, true, List, [], ◌∷◌, length, Option, Some, None, option_map}
+use Rattle.std.specs.Prelude.{option_and_then, if◌then◌else◌, codes, bytes_eq, nat_eq}
+use Rattle.serde_json.specs.Data.{Data, null, boolean, number, string, array, object, Items, no_items, item, Members}
+use Rattle.serde_json.specs.Data.{no_members, member}
 use Rattle.texts.specs.Keys.{is_rising, has_name}
 use Rattle.hold_shapes.specs.Trees.{is_valid}
 use Rattle.hold_shapes.specs.declared.shape.Shape.TheVariants.{List as ListOf, Keyed as KeyedOf, Tree as TreeOf}
-use Rattle.doc_values.specs.Types.{TyTree, ty_unit, ty_bool, ty_int, ty_text, ty_enum, ty_rec, ty_alt, ty_list, ty_keyed, ty_ordered, FieldTrees, no_fields, more_fields}
-use Rattle.doc_values.specs.Documents.{DocTree, unit, truth, int, text, pick, rec, alt, hold, DocTrees, no_docs, more_docs, doc_list}
+use Rattle.doc_values.specs.Types.{TyTree, ty_unit, ty_bool, ty_int, ty_text, ty_enum, ty_rec, ty_alt, ty_list}
+use Rattle.doc_values.specs.Types.{ty_keyed, ty_ordered, FieldTrees, no_fields, more_fields}
+use Rattle.doc_values.specs.Documents.{DocTree, unit, truth, int, text, pick, rec, alt, hold, DocTrees, no_docs}
+use Rattle.doc_values.specs.Documents.{more_docs, doc_list}
 use Rattle.doc_values.specs.Typing.{lookup_type}
 use Rattle.doc_values.specs.Integers.{fits_i64}
 use Rattle.value_json.specs.Numbers.{int_in, counts_of, int_tree, count_items}
@@ -21,10 +25,13 @@ abbrev mutual
   tree_of_document (ty_text i) (text s) = string s
   tree_of_document (ty_enum ms i) (pick n) = string n
   tree_of_document (ty_rec fs) (rec ds) = object (field_members fs ds)
-  tree_of_document (ty_alt fs) (alt n d) = object (member n (elim (lookup_type fs n) [ None ↦ null | Some t ↦ tree_of_document t d ]) no_members)
+  tree_of_document (ty_alt fs) (alt n d) =
+      object (member n (elim (lookup_type fs n) [ None ↦ null | Some t ↦ tree_of_document t d ]) no_members)
   tree_of_document (ty_list t) (hold (ListOf s) ds) = array (content_items t ds)
   tree_of_document (ty_keyed t) (hold (KeyedOf ks) ds) = object (key_members t ks ds)
-  tree_of_document (ty_ordered t) (hold (TreeOf depths) ds) = object (member (codes "depths") (array (count_items depths)) (member (codes "items") (array (content_items t ds)) no_members))
+  tree_of_document (ty_ordered t) (hold (TreeOf depths) ds) =
+      object (member (codes "depths") (array (count_items depths))
+      (member (codes "items") (array (content_items t ds)) no_members))
   tree_of_document _ _ = null
 
   -- a member for each field: its name, and the tree of its content
@@ -57,7 +64,8 @@ keyed_document ks ds = if is_rising ks then Some (hold (KeyedOf ks) ds) else Non
 
 -- an ordered tree with these depths, which are valid and as many as the contents
 abbrev pub ordered_document : List ℕ → DocTrees → Option DocTree
-ordered_document depths ds = if is_valid depths && nat_eq (length depths) (length (doc_list ds)) then Some (hold (TreeOf depths) ds) else None
+ordered_document depths ds = if is_valid depths && nat_eq (length depths) (length (doc_list ds))
+    then Some (hold (TreeOf depths) ds) else None
 
 -- The document of the type that has this tree, a line for each type; none where no document of the type has it.
 abbrev mutual
@@ -68,7 +76,8 @@ abbrev mutual
   document_of (ty_text i) (string s) = Some (text s)
   document_of (ty_enum ms i) (string s) = if has_name s ms then Some (pick s) else None
   document_of (ty_rec fs) (object ms) = option_map rec (field_documents fs ms)
-  document_of (ty_alt fs) (object (member k d no_members)) = elim (lookup_type fs k) [ None ↦ None | Some t ↦ option_map (alt k) (document_of t d) ]
+  document_of (ty_alt fs) (object (member k d no_members)) =
+      elim (lookup_type fs k) [ None ↦ None | Some t ↦ option_map (alt k) (document_of t d) ]
   document_of (ty_list t) (array ds) = option_map list_document (item_documents t ds)
   document_of (ty_keyed t) (object ms) = option_and_then (keyed_document (member_names ms)) (member_documents t ms)
   document_of (ty_ordered t) (object (member k (array ns) (member l (array ds) no_members))) =
@@ -89,7 +98,8 @@ abbrev mutual
   -- the contents of an object's members, all of the type
   pub member_documents : TyTree → Members → Option DocTrees
   member_documents t no_members = Some no_docs
-  member_documents t (member k d ms) = option_and_then (λ c. option_map (more_docs c) (member_documents t ms)) (document_of t d)
+  member_documents t (member k d ms) =
+      option_and_then (λ c. option_map (more_docs c) (member_documents t ms)) (document_of t d)
 
   -- the contents that an array's items are, all of the type
   pub item_documents : TyTree → Items → Option DocTrees

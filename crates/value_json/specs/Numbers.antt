@@ -1,7 +1,8 @@
 -- The whole numbers of a tree. The specification type of trees has more numbers than a tree that was
 -- read can hold: here a whole number of 64 bits is in it in one way alone, at or above zero as
 -- `unsigned`, below zero as `negative`.
-use Rattle.std.specs.Prelude.{ℕ, ℤ, pos, negsuc, ◌^◌, List, [], ◌∷◌, Option, Some, None, option_map, option_and_then, if◌then◌else◌, nat_lt}
+use Rattle.std.specs.Prelude.{ℕ, ℤ, pos, negsuc, ◌^◌, List, [], ◌∷◌, Option, Some, None, option_map, option_and_then}
+use Rattle.std.specs.Prelude.{if◌then◌else◌, nat_lt}
 use Rattle.serde_json.specs.Data.{Num, unsigned, negative, float, Data, number, Items, no_items, item}
 use Rattle.serde_json.specs.Find.{as_number, of_integer}
 

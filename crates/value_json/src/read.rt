@@ -1,13 +1,17 @@
 //! Reading a document of a type from a JSON tree.
 
-ghost use Rattle.std.specs.Prelude.{ℕ, ℤ, List, ◌≡◌, ◌<◌, true, bytes_eq, Some, IfOk, IsErrOf, option_map, option_and_then};
+ghost use Rattle.std.specs.Prelude.{ℕ, ℤ, List, ◌≡◌, ◌<◌, true, bytes_eq, Some, IfOk, IsErrOf, option_map};
+ghost use Rattle.std.specs.Prelude.{option_and_then};
 ghost use Rattle.texts.specs.Keys.{has_name};
 ghost use Rattle.serde_json.specs.View.{view, items_view, members_view};
 ghost use Rattle.doc_values.specs.Documents.{DocTree, alt, doc_tree, docs_tree};
-ghost use Rattle.doc_values.specs.Types.{ty_tree, fields_tree, ty_unit, ty_bool, ty_int, ty_text, ty_enum, ty_rec, ty_alt, ty_list, ty_keyed, ty_ordered};
+ghost use Rattle.doc_values.specs.Types.{ty_tree, fields_tree, ty_unit, ty_bool, ty_int, ty_text, ty_enum, ty_rec};
+ghost use Rattle.doc_values.specs.Types.{ty_alt, ty_list, ty_keyed, ty_ordered};
 ghost use Rattle.doc_values.specs.Typing.{has};
 ghost use Rattle.value_json.specs.Numbers.{counts_of};
-ghost use Rattle.value_json.specs.DocumentJson.{tree_of_document, document_of, field_documents, member_documents, item_documents, member_names, holds_i64s, list_document, keyed_document, ordered_document};
+ghost use Rattle.value_json.specs.DocumentJson.{tree_of_document, document_of, field_documents, member_documents};
+ghost use Rattle.value_json.specs.DocumentJson.{item_documents, member_names, holds_i64s, list_document};
+ghost use Rattle.value_json.specs.DocumentJson.{keyed_document, ordered_document};
 ghost use Rattle.value_json.specs.Parts.{depths_and_items};
 ghost use Rattle.value_json.specs.Reading.{Gives};
 ghost use Rattle.value_json.specs.declared.fault.DocFault;

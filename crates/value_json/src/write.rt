@@ -8,7 +8,8 @@ ghost use Rattle.doc_values.specs.Documents.{alt, doc_tree, docs_tree, doc_list}
 ghost use Rattle.doc_values.specs.Types.{ty_tree, fields_tree, ty_alt, names_of, is_well_formed, are_well_formed};
 ghost use Rattle.doc_values.specs.Typing.{has, has_fields, has_each};
 ghost use Rattle.value_json.specs.Numbers.{count_items};
-ghost use Rattle.value_json.specs.DocumentJson.{tree_of_document, document_of, field_members, key_members, content_items, holds_i64s, all_hold_i64s};
+ghost use Rattle.value_json.specs.DocumentJson.{tree_of_document, document_of, field_members, key_members};
+ghost use Rattle.value_json.specs.DocumentJson.{content_items, holds_i64s, all_hold_i64s};
 
 use doc_values::{Doc, Docs, Fields, Ty};
 use hold_shapes::{Name, Shape};

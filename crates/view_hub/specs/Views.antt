@@ -16,7 +16,8 @@ use Rattle.view_hub.specs.declared.side.HubSide.{HubSide}
 use Rattle.view_hub.specs.declared.side.HubSide.TheVariants.{Hub, View}
 use Rattle.view_hub.specs.declared.view.HubParts.{HubParts}
 use Rattle.view_hub.specs.declared.view.View as a_view
-use Rattle.view_hub.specs.Hubs.{ViewTree, HubTree, Place, at_hub, at_view, CarriedTree, Refusal, no_view, no_apply, step}
+use Rattle.view_hub.specs.Hubs.{ViewTree, HubTree, Place, at_hub, at_view, CarriedTree, Refusal, no_view, no_apply}
+use Rattle.view_hub.specs.Hubs.{step}
 
 -- the lenses and the parts of a hub
 pub record HubOf (L : Type 0) : Type 0 where
@@ -25,7 +26,8 @@ pub record HubOf (L : Type 0) : Type 0 where
 
 abbrev pub hub_code : {L : Type 0} → Coded L → Coded HubParts → Coded (HubOf L)
 hub_code {L} lens parts =
-    code_by (List L × HubParts) (coded× (coded_list lens) parts) (λ h. (h.lenses, h.parts)) (λ p. record { lenses = p.0; parts = p.1 }) (λ _. refl)
+    code_by (List L × HubParts) (coded× (coded_list lens) parts) (λ h. (h.lenses, h.parts))
+    (λ p. record { lenses = p.0; parts = p.1 }) (λ _. refl)
 
 abbrev pub view_tree : a_view.View → ViewTree
 view_tree v = record { comp = comp_tree v.comp; doc = doc_tree v.doc.value }
@@ -61,7 +63,8 @@ IsActionFault answer (NoApply at cause) = answer ≡ Err (at, cause)
 IsActionFault answer NoMemory = Unit {0}
 
 module _ {L : Type 0} (lens : OfLens.Ghosts L) where
-  -- the parts and the words after a step of a hub of these lenses are those of the definition, or the step is refused as there
+  -- the parts and the words after a step of a hub of these lenses are those of the definition, or the step is refused
+  -- as there
   abbrev pub IsNextOutcome : List L → HubTree → Place × WordTree → Result (HubParts × HubCarried) HubFault → Type 0
   IsNextOutcome ls h e result =
       MatchResult result (λ r. step lens ls h e ≡ Some (Ok (hub_tree r.0, carried_tree r.1)))
@@ -70,5 +73,6 @@ module _ {L : Type 0} (lens : OfLens.Ghosts L) where
   -- a step returns the words of the definition and leaves the hub that it makes, or it is refused as there
   abbrev pub IsOutcome : HubOf L → Place × WordTree → HubOf L → Result HubCarried HubFault → Type 0
   IsOutcome old e new result =
-      MatchResult result (λ c. step lens old.lenses (hub_tree old.parts) e ≡ Some (Ok (hub_tree new.parts, carried_tree c)))
+      MatchResult result (λ c. step lens old.lenses (hub_tree old.parts) e
+      ≡ Some (Ok (hub_tree new.parts, carried_tree c)))
       (IsHubRefusal (step lens old.lenses (hub_tree old.parts) e))

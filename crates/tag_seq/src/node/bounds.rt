@@ -7,7 +7,8 @@ ghost use Rattle.tag_seq.specs.Trees.{tags};
 use crate::node::{TagNode, TagTree};
 
 impl TagTree {
-    /// Whether every tag is below a bound. Goes down the right edge: the counts of a left part end with its largest tag.
+    /// Whether every tag is below a bound. Goes down the right edge: the counts of a left part end with its largest
+    /// tag.
     pub(crate) fn is_below(&self, bound: u32) -> bool
         ensures { result ≡ are_below bound (tags self.now) }
     {

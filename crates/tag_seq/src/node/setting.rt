@@ -62,7 +62,8 @@ fn total_after(
     requires fits { (t : ℕ) → number t counts.now ≤ size }
     requires small { size + 1 < 2 ^ 64 }
     ensures size { IfOk result (λ r. r.size ≡ size) }
-    ensures each { IfOk result (λ r. (t : ℕ) → number t r.counts + one_if_same old t ≡ number t counts.now + one_if_same tag t) }
+    ensures each { IfOk result (λ r. (t : ℕ) → number t r.counts + one_if_same old t
+        ≡ number t counts.now + one_if_same tag t) }
 {
     let removed = Counts::of_one(alloc, old, 1)?;
     let added = Counts::of_one(alloc, tag, 1)?;
