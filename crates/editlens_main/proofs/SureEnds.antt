@@ -113,7 +113,7 @@ module _ (status : Status) (is_full : Type 0) (source : status ≡ SourceFault �
       no_device : (status ≡ SinkFault → ⊥) → (status ≡ DiskFault → ⊥) → MadeInRoom status is_full command bytes no_room
       no_device no_sink no_disk =
           inl (inl (by_end devices gifts disk command accepts refuses ⊥ (status ≡ SinkFault) (status ≡ DiskFault) old.0 new.0 old.1 new.1 old.2 new.2 status bytes (devices.left new.0) ends known refl
-              source (λ e. e) (λ e. e) empty few (λ e. e) no_sink no_disk))
+          source (λ e. e) (λ e. e) empty few (λ e. e) no_sink no_disk))
 
       by_status : (s : Status) → status ≡ s → MadeInRoom status is_full command bytes no_room
       by_status SinkFault is = inl (inr (is, sink is))

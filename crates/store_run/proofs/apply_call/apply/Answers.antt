@@ -165,8 +165,8 @@ returns-in-Err-clause-safe g c =
     λ store.
     elim (c.in-Err.ensures.held store) [
       | inl failed ↦
-        let at_disk = unopened_at_disk sink k k' status fault (same_fault fault DiskFault failed) ends in
-        inl (at_disk.0, record { unasked = refl; given = at_disk.1; only = c.in-Err.ensures.opening.unwritten.only; moments = c.in-Err.ensures.opening.moments })
+          let at_disk = unopened_at_disk sink k k' status fault (same_fault fault DiskFault failed) ends in
+          inl (at_disk.0, record { unasked = refl; given = at_disk.1; only = c.in-Err.ensures.opening.unwritten.only; moments = c.in-Err.ensures.opening.moments })
       | inr now ↦ inr (safe_synced source sink disk session hold reads laws.version_stands laws.change_stands laws.refused_stays laws.version_counts laws.change_counts (disk.images d) i i k k' d d1 store.payloads store.version store.state refl
           (unopened_other sink k k' status fault (c.in-Err.ensures.opened store) ends) now c.in-Err.ensures.opening.moments store.stands)
     ]

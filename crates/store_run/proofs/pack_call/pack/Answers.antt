@@ -142,8 +142,8 @@ returns-in-Err-clause-safe g c =
     λ store.
     elim (c.in-Err.ensures.held store) [
       | inl failed ↦
-        let at_disk = unopened_at_disk sink k k' status fault (same_fault fault DiskFault failed) ends in
-        inl (at_disk.0, record { given = at_disk.1; only = c.in-Err.ensures.opening.unwritten.only; moments = c.in-Err.ensures.opening.moments })
+          let at_disk = unopened_at_disk sink k k' status fault (same_fault fault DiskFault failed) ends in
+          inl (at_disk.0, record { given = at_disk.1; only = c.in-Err.ensures.opening.unwritten.only; moments = c.in-Err.ensures.opening.moments })
       | inr now ↦ inr (safe_kept sink disk hold session reads laws.version_stands laws.snapshot_stands laws.version_counts laws.snapshot_counts d d1 store.payloads store.state store.version store.stands (disk.images d) now c.in-Err.ensures.opening.moments)
     ]
 
