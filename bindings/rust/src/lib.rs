@@ -243,8 +243,8 @@ impl Session {
         self.shown(raw::RIGHT_TYPE)
     }
 
-    /// The record that a log gets before any other: that of the program. It is empty after [`Session::reopen`], but for the log of an old
-    /// store, which is owed the record of its version.
+    /// The record that a log gets before any other: that of the program. After [`Session::reopen`] it is empty. But if the log
+    /// is that of an old store, it is the record of the version, which the log still needs.
     pub fn opening(&self) -> &str {
         &self.opening
     }

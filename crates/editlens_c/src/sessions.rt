@@ -25,8 +25,13 @@ pub extern "C" fn editlens_session_size() -> usize
 
 /// Puts the session over a program, or why there is none, into memory that has room for it.
 ///
-/// `editlens_session_status` says which, and each session is closed, also one that is refused. The text is the payload
-/// of the first record of a log.
+/// `editlens_session_status` says which. The text is the payload of the first record of a log.
+///
+/// # Safety
+///
+/// The caller has `editlens_session_size()` bytes at `at`, aligned to 16, where no session is. They stay there until
+/// `editlens_session_close`, which each session wants once, also one that is refused. `program` may be read during the
+/// call.
 #[unsafe(no_mangle)]
 pub unsafe extern "C" fn editlens_session_open(alloc: Global, at: *mut u8, program: &[u8])
     requires* { sem 𝓛 (room at) }
@@ -47,6 +52,10 @@ fn opened(alloc: Global, program: &[u8]) -> Kept
 ///
 /// The document is JSON, and the right one is made. The text is the payload of the first record of a log; a snapshot is
 /// the next.
+///
+/// # Safety
+///
+/// As for `editlens_session_open`; `document` may be read, too.
 #[unsafe(no_mangle)]
 pub unsafe extern "C" fn editlens_session_import_left(
     alloc: Global,
@@ -68,6 +77,10 @@ fn imported_left(alloc: Global, program: &[u8], document: &[u8]) -> Kept
 }
 
 /// The same, where the right document is given and the left one is made.
+///
+/// # Safety
+///
+/// As for `editlens_session_open`; `document` may be read, too.
 #[unsafe(no_mangle)]
 pub unsafe extern "C" fn editlens_session_import_right(
     alloc: Global,
@@ -92,6 +105,10 @@ fn imported_right(alloc: Global, program: &[u8], document: &[u8]) -> Kept
 ///
 /// The state is the JSON of a left document, of a complement and of a right document, as `editlens_session_show` shows
 /// them. The text is the payload of the first record of a log; a snapshot is the next.
+///
+/// # Safety
+///
+/// As for `editlens_session_open`; the three texts may be read, too.
 #[unsafe(no_mangle)]
 pub unsafe extern "C" fn editlens_session_resume(
     alloc: Global,
@@ -116,7 +133,11 @@ fn resumed(alloc: Global, program: &[u8], left: &[u8], complement: &[u8], right:
 
 /// Puts the session for which the records of a log stand, or why there is none, into memory that has room for it.
 ///
-/// An LF ends each record. The text is empty; or it is the version record, which the log of an old store is owed.
+/// An LF ends each record. The text is empty; or it is the version record, which a log of version 1 still needs.
+///
+/// # Safety
+///
+/// As for `editlens_session_open`; it is `records` that may be read.
 #[unsafe(no_mangle)]
 pub unsafe extern "C" fn editlens_session_reopen(alloc: Global, at: *mut u8, records: &[u8])
     requires* { sem 𝓛 (room at) }
@@ -133,6 +154,11 @@ fn reopened(alloc: Global, records: &[u8]) -> Kept
 }
 
 /// Whether there is a session, or why there is none. Nothing changes.
+///
+/// # Safety
+///
+/// A session was put at `at` and is not closed; or why there is none was put there. It is the thread that put it there
+/// that calls, and no other call uses `at` meanwhile.
 #[unsafe(no_mangle)]
 pub unsafe extern "C" fn editlens_session_status(at: *mut u8) -> Answer
     ghost kept: { kept_type }
@@ -149,6 +175,10 @@ fn told(kept: &mut Kept) -> Answer
 }
 
 /// Gives a session a line of a journal, without its LF. The text is then the answer line.
+///
+/// # Safety
+///
+/// As for `editlens_session_status`; `line` may be read during the call.
 #[unsafe(no_mangle)]
 pub unsafe extern "C" fn editlens_session_step(alloc: Global, at: *mut u8, line: &[u8]) -> Answer
     ghost kept: { kept_type }
@@ -166,6 +196,10 @@ fn stepped(alloc: Global, kept: &mut Kept, line: &[u8]) -> Answer
 }
 
 /// Makes a part of a session's state or of its last change the text: the one that has this number.
+///
+/// # Safety
+///
+/// As for `editlens_session_status`.
 #[unsafe(no_mangle)]
 pub unsafe extern "C" fn editlens_session_show(alloc: Global, at: *mut u8, part: u32) -> Answer
     ghost kept: { kept_type }
@@ -189,6 +223,10 @@ fn shown(alloc: Global, kept: &mut Kept, part: u32) -> Answer
 
 /// Writes the text that answers the last call to the head of `out`: an answer line, what was shown, or the line of a
 /// program that is refused. Where `out` is too small it stays as it is; `len` says how many bytes are wanted.
+///
+/// # Safety
+///
+/// As for `editlens_session_status`; `out` may be written during the call.
 #[unsafe(no_mangle)]
 pub unsafe extern "C" fn editlens_session_text(at: *mut u8, out: &mut [u8]) -> Answer
     ghost kept: { kept_type }
@@ -209,6 +247,10 @@ fn texted(kept: &mut Kept, out: &mut [u8]) -> Answer
 }
 
 /// Ends a session, and frees all that it holds but the caller's memory.
+///
+/// # Safety
+///
+/// As for `editlens_session_status`. Nothing is at `at` afterwards, so a session is closed once.
 #[unsafe(no_mangle)]
 pub unsafe extern "C" fn editlens_session_close(at: *mut u8)
     ghost kept: { kept_type }

@@ -16,7 +16,7 @@ use Rattle.kept_sessions.specs.Changes.{HasChangeText}
 use Rattle.kept_sessions.specs.Cutting.{onto}
 use Rattle.kept_sessions.specs.Kept.{IsOpened, IsReopened, IfOpen, shows_part, IsShown, text_of}
 use Rattle.kept_sessions.specs.Logs.{log_text, IsRecorded, records_line, IsLogged, IsSameSession}
-use Rattle.kept_sessions.specs.Records.{IsFirstRecord, owed_record}
+use Rattle.kept_sessions.specs.Records.{IsFirstRecord, version_text}
 use Rattle.kept_sessions.specs.States.{IsShow, IsSnapshotText}
 use Rattle.kept_sessions.specs.declared.kept.Kept.{Kept}
 use Rattle.kept_sessions.specs.declared.kept.Kept.TheVariants as kept
@@ -62,8 +62,8 @@ change_plain form None text h = absurd h
 pub snapshot_plain : (form : FormTree) (t : TripleTree) (text : List ℕ) → IsSnapshotText form t text → has_no_end text ≡ true
 snapshot_plain form t text h = compact_plain (tree_of_snapshot form t.left t.comp t.right) text h.is_text.compact
 
-pub owed_plain : (version : ℕ) → has_no_end (owed_record version) ≡ true
-owed_plain version = by_test (nat_eq version 1) where
+pub version_plain : (version : ℕ) → has_no_end (version_text version) ≡ true
+version_plain version = by_test (nat_eq version 1) where
   by_test : (b : Bool) → has_no_end (cond b (compact_text tree_of_version) []) ≡ true
   by_test true = text_plain tree_of_version
   by_test false = refl

@@ -22,7 +22,7 @@ use Rattle.store_session.specs.Stands.{stands}
 use Rattle.store_session.specs.Standings.{standing}
 use Rattle.texts.specs.declared.side.Side.{Side}
 use Rattle.texts.specs.declared.side.Side.TheVariants as side
-use Rattle.kept_sessions.specs.Records.{IsFirstRecord, owed_record}
+use Rattle.kept_sessions.specs.Records.{IsFirstRecord, version_text}
 use Rattle.kept_sessions.specs.States.{IsDocumentText, IsNotOfType, IsStateText, IsStateFault, HasNoChange, IsShow}
 use Rattle.kept_sessions.specs.Steps.{form_of, has_line_feed, IsLineStep, IsAsBefore}
 use Rattle.kept_sessions.specs.declared.kept.Kept.{Kept}
@@ -133,8 +133,8 @@ IsResumed program left comp right k = IsRefusedProgram program k
 
 -- ---- reopening
 
--- the records stand for the session, which is consistent; no item was given, and the text is the record that the log is
--- owed
+-- the records stand for the session, which is consistent; no item was given, and the text is the record that the log
+-- still needs
 pub record IsStanding (records : List (List ℕ)) (r : Running) : Type 0 where
   pub count : ℕ
   pub version : ℕ
@@ -142,7 +142,7 @@ pub record IsStanding (records : List (List ℕ)) (r : Running) : Type 0 where
   pub in_step : IsInStepFor (form_of r) (triple_tree r.session.triple)
   pub number : r.number ≡ 0
   pub accepted : r.accepted ≡ None
-  pub text : r.text.items ≡ owed_record version
+  pub text : r.text.items ≡ version_text version
 
 -- the first record that is at fault has this fault, which is not that memory ran out
 pub record IsRefusedLog (records : List (List ℕ)) (why : ReopenFault) : Type 0 where

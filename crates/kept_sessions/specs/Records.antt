@@ -1,4 +1,4 @@
--- The records that a caller stores before the first line. Read it from the end: `owed_record`, then `IsFirstRecord`.
+-- The records that a caller stores before the first line. Read it from the end: `version_text`, then `IsFirstRecord`.
 use Rattle.std.specs.Prelude.{◌≡◌, ℕ, List, [], Ok, if◌then◌else◌, nat_eq}
 use Rattle.serde_json.specs.Written.{compact_text}
 use Rattle.lens_syntax.specs.Programs.{bounded}
@@ -13,6 +13,6 @@ pub record IsFirstRecord (program text : List ℕ) : Type 0 where
   pub is : bounded program ≡ Ok tree
   pub is_text : IsTextOf (tree_of_program (canonical tree)) text
 
--- the record that a log of version 1 has still to get; a log of version 2 is owed none
-abbrev pub owed_record : ℕ → List ℕ
-owed_record version = if nat_eq version 1 then compact_text tree_of_version else []
+-- the record that a log of version 1 still needs; a log of version 2 needs none
+abbrev pub version_text : ℕ → List ℕ
+version_text version = if nat_eq version 1 then compact_text tree_of_version else []

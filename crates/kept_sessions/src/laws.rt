@@ -12,7 +12,7 @@ ghost use Rattle.kept_sessions.specs.Changes.{IsMade, IsWordBack};
 ghost use Rattle.kept_sessions.specs.Journals.{IsGiven, IsReported, IsSameState};
 ghost use Rattle.kept_sessions.specs.Kept.{IsOpened, IsFresh, IsResumed, IsReopened, IsShown, text_of};
 ghost use Rattle.kept_sessions.specs.Logs.{IsLog, IsLogged, IsSameSession, log_text};
-ghost use Rattle.kept_sessions.specs.Records.{IsFirstRecord, owed_record};
+ghost use Rattle.kept_sessions.specs.Records.{IsFirstRecord, version_text};
 ghost use Rattle.kept_sessions.specs.States.{IsPartText};
 ghost use Rattle.kept_sessions.specs.Steps.{form_of, IsLineStep};
 ghost use Rattle.kept_sessions.specs.declared.kept.Kept.{Kept as KeptValue};
@@ -58,7 +58,7 @@ pub fn logs_are_reopened()
 ///
 /// - `first`: the record from opening a session over a program.
 /// - `change`, `snapshot`: the records that are shown.
-/// - `owed`: the record from reopening the log of an old store.
+/// - `version`: the record from reopening the log of an old store.
 /// - `cut`: the text of records without an LF in them is cut into these records.
 pub fn records_are_cut()
     ensures first { (program text : List ℕ) → IsFirstRecord program text → has_no_end text ≡ true }
@@ -66,7 +66,7 @@ pub fn records_are_cut()
         → IsPartText form triple last Change text → has_no_end text ≡ true }
     ensures snapshot { (form : FormTree) (triple : TripleTree) (last : Option AcceptedValue) (text : List ℕ)
         → IsPartText form triple last Snapshot text → has_no_end text ≡ true }
-    ensures owed { (version : ℕ) → has_no_end (owed_record version) ≡ true }
+    ensures version { (version : ℕ) → has_no_end (version_text version) ≡ true }
     ensures cut { (records : List (List ℕ)) → list_all has_no_end records ≡ true
         → texts_of (log_text records) ≡ records }
 {}

@@ -9,7 +9,7 @@ ghost use Rattle.store_session.specs.ReopenOutcomes.{IsReopenFault};
 ghost use Rattle.store_session.specs.Stands.{stands};
 ghost use Rattle.store_session.specs.Standings.{standing};
 ghost use Rattle.kept_sessions.specs.Kept.{IsReopened};
-ghost use Rattle.kept_sessions.specs.Records.{owed_record};
+ghost use Rattle.kept_sessions.specs.Records.{version_text};
 
 use crate::kept::Kept;
 use crate::records::cut;
@@ -51,15 +51,15 @@ fn with_version(alloc: Global, opened: Opened<Flat>) -> Kept
         → IsInStepFor (form_tree opened.session.lens.typed) (triple_tree opened.session.triple)
         → IsReopened records result }
 {
-    match owed_record(alloc, opened.version) {
+    match version_text(alloc, opened.version) {
         Ok(text) => Kept::Open(Running::new(opened.session, text)),
         Err(_) => Kept::NoMemory,
     }
 }
 
 // The version record of a log of version 1; a log of version 2 has it.
-fn owed_record(alloc: Global, version: u64) -> Result<Vec<u8>, AllocError>
-    ensures { IfOk result (λ text. text.items ≡ owed_record version) }
+fn version_text(alloc: Global, version: u64) -> Result<Vec<u8>, AllocError>
+    ensures { IfOk result (λ text. text.items ≡ version_text version) }
 {
     if version == FIRST_VERSION {
         return Ok(version_payload(alloc)?.into_vec());

@@ -1,4 +1,4 @@
-use Rattle.kept_sessions.proofs.LogTexts.{first_plain, change_plain, snapshot_plain, owed_plain, log_cut}
+use Rattle.kept_sessions.proofs.LogTexts.{first_plain, change_plain, snapshot_plain, version_plain, log_cut}
 use Rattle.kept_sessions.proofs.laws.records_are_cut.Goals as goal
 
 pub returns-clause-first : goal.returns-clause-first
@@ -10,8 +10,8 @@ returns-clause-change c form triple last text h = change_plain form last text h
 pub returns-clause-snapshot : goal.returns-clause-snapshot
 returns-clause-snapshot c form triple last text h = snapshot_plain form triple text h
 
-pub returns-clause-owed : goal.returns-clause-owed
-returns-clause-owed c = owed_plain
+pub returns-clause-version : goal.returns-clause-version
+returns-clause-version c = version_plain
 
 pub returns-clause-cut : goal.returns-clause-cut
 returns-clause-cut c = log_cut
