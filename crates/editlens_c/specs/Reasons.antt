@@ -11,8 +11,8 @@ use Rattle.lens_syntax.specs.declared.fault.ProgramFault.{ProgramFault}
 use Rattle.lens_syntax.specs.declared.fault.ProgramFault.TheVariants as syntax
 use Rattle.lens_types.specs.declared.fault.TypeFault.{TypeFault}
 use Rattle.lens_types.specs.declared.fault.TypeFault.TheVariants as typing
-use Rattle.store_records.specs.declared.record_fault.ReopenFault.{ReopenFault}
-use Rattle.store_records.specs.declared.record_fault.ReopenFault.TheVariants as record_fault
+use Rattle.store_records.specs.declared.record_fault.RecordFault.{RecordFault}
+use Rattle.store_records.specs.declared.record_fault.RecordFault.TheVariants as record_fault
 use Rattle.kept_sessions.specs.declared.kept.Kept.{Kept}
 use Rattle.kept_sessions.specs.declared.kept.Kept.TheVariants as kept
 use Rattle.kept_sessions.specs.declared.outcome.Outcome.{Outcome}
@@ -100,7 +100,7 @@ state_cause state.NoMemory = code.NO_CAUSE
 -- ---- logs
 
 -- why the records of a log are refused, with the number of the record
-abbrev pub record_reason : ReopenFault → Reason
+abbrev pub record_reason : RecordFault → Reason
 record_reason (record_fault.BadRecord number) = record { cause = code.BAD_RECORD; part = 0; at = number }
 record_reason (record_fault.NotConsistent number) = record { cause = code.RECORD_NOT_CONSISTENT; part = 0; at = number }
 record_reason record_fault.NoMemory = no_place code.NO_CAUSE

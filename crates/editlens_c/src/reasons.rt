@@ -10,7 +10,7 @@ use edit_module::Cause;
 use kept_sessions::{Kept, Outcome, StateFault};
 use lens_syntax::ProgramFault;
 use lens_types::TypeFault;
-use store_records::ReopenFault;
+use store_records::RecordFault;
 
 /// The number of a cause, and two places.
 #[derive(Clone, Copy, Drop)]
@@ -158,20 +158,20 @@ fn state_cause(fault: StateFault) -> u32
 }
 
 // Why the records of a log are refused, with the number of the record.
-fn record_reason(fault: ReopenFault) -> Reason
+fn record_reason(fault: RecordFault) -> Reason
     ensures { result ≡ record_reason fault }
 {
     match fault {
-        ReopenFault::BadRecord { number } => Reason {
+        RecordFault::BadRecord { number } => Reason {
             cause: BAD_RECORD,
             part: 0,
             at: number,
         },
-        ReopenFault::NotConsistent { number } => Reason {
+        RecordFault::NotConsistent { number } => Reason {
             cause: RECORD_NOT_CONSISTENT,
             part: 0,
             at: number,
         },
-        ReopenFault::NoMemory => alone(NO_CAUSE),
+        RecordFault::NoMemory => alone(NO_CAUSE),
     }
 }

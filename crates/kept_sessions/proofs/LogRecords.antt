@@ -17,8 +17,8 @@ use Rattle.lens_forms.specs.Forms.{FormTree, form_tree, left_type, right_type}
 use Rattle.lens_forms.specs.Typing.{is_typed}
 use Rattle.lens_syntax.specs.Programs.{ProgramCause, too_long, bounded, unbounded}
 use Rattle.program_terms.specs.Terms.{ProgramTree}
-use Rattle.store_records.specs.declared.record_fault.ReopenFault.{ReopenFault}
-use Rattle.store_records.specs.declared.record_fault.ReopenFault.TheVariants as record_fault
+use Rattle.store_records.specs.declared.record_fault.RecordFault.{RecordFault}
+use Rattle.store_records.specs.declared.record_fault.RecordFault.TheVariants as record_fault
 use Rattle.store_session.specs.ReopenOutcomes.{IsReopenFault}
 use Rattle.store_session.specs.Stands.{Standing, stands, step_of}
 use Rattle.store_session.specs.Standings.{standing}
@@ -39,7 +39,7 @@ use Rattle.kept_sessions.specs.declared.running.Running.{Running}
 use Rattle.kept_sessions.proofs.ItemSteps.{made, accepted_is, done_accepted, Fit, fit_of_line}
 
 -- what stands, of a form at a triple
-abbrev result_at : FormTree → TripleTree → ℕ → Result Standing ReopenFault
+abbrev result_at : FormTree → TripleTree → ℕ → Result Standing RecordFault
 result_at form t count = Ok (standing form t count 2)
 
 -- ---- the first record
@@ -181,13 +181,13 @@ accepted_made line before after a s h =
 
 -- ---- reopening
 
-not_both : (x : Standing) (fault : ReopenFault) (r : Result Standing ReopenFault) → r ≡ Ok x → r ≡ Err fault → ⊥
+not_both : (x : Standing) (fault : RecordFault) (r : Result Standing RecordFault) → r ≡ Ok x → r ≡ Err fault → ⊥
 not_both x fault r h k = cc
 
-same_standing : (x y : Standing) (r : Result Standing ReopenFault) → r ≡ Ok x → r ≡ Ok y → y ≡ x
+same_standing : (x y : Standing) (r : Result Standing RecordFault) → r ≡ Ok x → r ≡ Ok y → y ≡ x
 same_standing x y r h k = cc
 
-no_fault : (records : List (List ℕ)) (x : Standing) (why : ReopenFault) → stands records ≡ Ok x → IsReopenFault (stands records) why → why ≡ record_fault.NoMemory
+no_fault : (records : List (List ℕ)) (x : Standing) (why : RecordFault) → stands records ≡ Ok x → IsReopenFault (stands records) why → why ≡ record_fault.NoMemory
 no_fault records x (record_fault.BadRecord n) h k = absurd (not_both x (record_fault.BadRecord n) (stands records) h k)
 no_fault records x (record_fault.NotConsistent n) h k = absurd (not_both x (record_fault.NotConsistent n) (stands records) h k)
 no_fault records x record_fault.NoMemory h k = refl

@@ -15,8 +15,8 @@ use Rattle.pair_answers.specs.ItemRuns.{IsInStepFor, first_of}
 use Rattle.lens_core.specs.Sides.{near}
 use Rattle.lens_core.specs.Translation.{translate}
 use Rattle.lens_forms.specs.Forms.{FormTree, left_type, right_type}
-use Rattle.store_records.specs.declared.record_fault.ReopenFault.{ReopenFault}
-use Rattle.store_records.specs.declared.record_fault.ReopenFault.TheVariants as record_fault
+use Rattle.store_records.specs.declared.record_fault.RecordFault.{RecordFault}
+use Rattle.store_records.specs.declared.record_fault.RecordFault.TheVariants as record_fault
 use Rattle.store_session.specs.ReopenOutcomes.{IsReopenFault}
 use Rattle.store_session.specs.Stands.{stands}
 use Rattle.store_session.specs.Standings.{standing}
@@ -145,7 +145,7 @@ pub record IsStanding (records : List (List ℕ)) (r : Running) : Type 0 where
   pub text : r.text.items ≡ version_text version
 
 -- the first record that is at fault has this fault, which is not that memory ran out
-pub record IsRefusedLog (records : List (List ℕ)) (why : ReopenFault) : Type 0 where
+pub record IsRefusedLog (records : List (List ℕ)) (why : RecordFault) : Type 0 where
   pub is_fault : IsReopenFault (stands records) why
   pub known : why ≡ record_fault.NoMemory → ⊥
 

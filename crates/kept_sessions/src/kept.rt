@@ -13,7 +13,7 @@ use crate::resuming::resume;
 use crate::running::Running;
 use accepted_programs::Refused;
 use std::alloc::Global;
-use store_records::ReopenFault;
+use store_records::RecordFault;
 use texts::Side;
 
 /// A session, or why there is none.
@@ -26,7 +26,7 @@ pub enum Kept {
     /// The texts of the state are refused, for this cause, which is not that memory ran out.
     StateRefused(StateFault),
     /// The records of the log are refused, for this cause, which is not that memory ran out.
-    RecordsRefused(ReopenFault),
+    RecordsRefused(RecordFault),
     /// Memory ran out.
     NoMemory,
 }

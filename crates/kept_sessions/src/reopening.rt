@@ -17,8 +17,8 @@ use crate::running::Running;
 use lens_flat::Flat;
 use lens_io::Payloads;
 use std::alloc::{AllocError, Global};
-use store_records::{ReopenFault, StoredLens, stored_lens, version_payload};
-use store_session::Opened;
+use store_records::{RecordFault, StoredLens, stored_lens, version_payload};
+use store_session::OpenedRecords;
 
 // The version of a log whose version record is still to be stored.
 const FIRST_VERSION: u64 = 1;
@@ -38,13 +38,13 @@ fn reopen_payloads(alloc: Global, payloads: &Payloads) -> Kept
 {
     match open_records(alloc, payloads) {
         Ok(opened) => with_version(alloc, opened),
-        Err(ReopenFault::NoMemory) => Kept::NoMemory,
+        Err(RecordFault::NoMemory) => Kept::NoMemory,
         Err(fault) => Kept::RecordsRefused(fault),
     }
 }
 
 // What was opened, with the version record of a log of version 1.
-fn with_version(alloc: Global, opened: Opened<Flat>) -> Kept
+fn with_version(alloc: Global, opened: OpenedRecords<Flat>) -> Kept
     ensures { (records : List (List ℕ))
         → stands records ≡ Ok (standing (form_tree opened.session.lens.typed) (triple_tree opened.session.triple)
         opened.count opened.version)
@@ -68,7 +68,7 @@ fn version_text(alloc: Global, version: u64) -> Result<Vec<u8>, AllocError>
 }
 
 // The session for which payloads stand, over the lens of the first one.
-fn open_records(alloc: Global, payloads: &Payloads) -> Result<Opened<Flat>, ReopenFault>
+fn open_records(alloc: Global, payloads: &Payloads) -> Result<OpenedRecords<Flat>, RecordFault>
     ensures stands { MatchResult result
         (λ o. stands payloads.now
         ≡ Ok (standing (form_tree o.session.lens.typed) (triple_tree o.session.triple) o.count o.version))
@@ -87,7 +87,7 @@ fn open_with(
     alloc: Global,
     stored: &StoredLens,
     payloads: &Payloads,
-) -> Result<Opened<Flat>, ReopenFault>
+) -> Result<OpenedRecords<Flat>, RecordFault>
     requires stored { stored_lens payloads.now ≡ Some (form_tree stored.now.typed, stored.now.version) }
     ensures stands { MatchResult result
         (λ o. stands payloads.now
