@@ -69,8 +69,8 @@ module _ {S K D : Type 0} (source : OfSource.Ghosts S) (sink : OfSink.Ghosts K) 
 
   -- A first call made this run, over these items from the store `before` to the store `between`. A second call over
   -- `between` goes on from there: the two are one run.
-  pub record ContinuesRun (old new : S × K × D) (status : Status) {before between : StoreParts}
-      {items : List JournalItem} (first : HoldsRun before items between) : Type 0 where
+  pub record ContinuesRun {before between : StoreParts} {items : List JournalItem} (old new : S × K × D)
+      (status : Status) (first : HoldsRun before items between) : Type 0 where
     -- An image that the second call may leave is a store, which one run over the accepted changes of both makes of the
     -- store `before`. Or it was possible before the second call, which could not open the store.
     pub leaves : (image : List ℕ) → disk.images new.2 image → StaysUnopened old new status image
