@@ -34,7 +34,31 @@ pub length-spliced : {X : Type 0} (xs more : List X) (from to : ℕ) → from �
     → length (take from xs ++ more ++ drop to xs) ≡ length xs - (to - from) + length more
 length-spliced xs more from to order within = simp (length-append, length-take, length-drop) (omega arith)
 
-pub ruleset splice_rules = (spliced_left, spliced_right, spliced_across, length-spliced)
+pub spliced_nothing : {X : Type 0} (xs more : List X) (from to : ℕ) → from ≡ to → length more ≡ 0 → xs ≡ take from xs ++ more ++ drop to xs
+spliced_nothing xs [] from to e n = rw (append-nil (take from xs)) (subst (λ k. xs ≡ take from xs ++ drop k xs) e (sym (take-append-drop from xs)))
+spliced_nothing xs (x ∷ more) from to e n = absurd (omega arith)
+
+pub ruleset splice_rules = (spliced_left, spliced_right, spliced_across, spliced_nothing, length-spliced)
+
+-- some of the items of two lists, one after the other, are those of one of them or of both
+module _ {X : Type 0} (xs ys : List X) (from to : ℕ) (order : from ≤ to) where
+  pub ranged_left : to ≤ length xs → take (to - from) (drop from xs) ≡ take (to - from) (drop from (xs ++ ys))
+  ranged_left p =
+      let inside : to - from ≤ length (drop from xs) = omega (arith, length-drop from xs) in
+      rw (drop-append-le from xs ys (omega arith), take-append-le (to - from) (drop from xs) ys inside) refl
+
+  pub ranged_right : (middle : ℕ) → middle ≡ length xs → middle ≤ from
+      → take (to - middle - (from - middle)) (drop (from - middle) ys) ≡ take (to - from) (drop from (xs ++ ys))
+  ranged_right middle e p =
+      let same : to - length xs - (from - length xs) ≡ to - from = omega arith in
+      rw (e, drop-append_beyond xs ys from (omega arith), same) refl
+
+  pub ranged_across : (n middle : ℕ) → middle ≡ length xs → n ≡ length ys → from ≤ middle → middle ≤ to
+      → (take 0 xs ++ [] ++ drop from xs) ++ (take (to - middle) ys ++ [] ++ drop n ys) ≡ take (to - from) (drop from (xs ++ ys))
+  ranged_across n middle e f p q =
+      let inside : length (drop from xs) ≤ to - from = omega (arith, length-drop from xs) in
+      let same : to - from - length (drop from xs) ≡ to - length xs = omega (arith, length-drop from xs) in
+      rw (e, f, drop-length ys, drop-append-le from xs ys (omega arith), take-append_beyond (drop from xs) ys (to - from) inside, same) (simp append-nil)
 
 pub one_more : (i : ℕ) → suc i ≡ i + 1
 one_more i = omega arith
@@ -55,6 +79,11 @@ module _ {T : Type 0} (owners : List (Rc T Global)) (n : ℕ) where
 
 pub ruleset items_rules = (items_of-take, items_of-drop, items_of-parts)
 
-pub ruleset edit_rules = (drop_of_length-le, append-nil)
+pub range_size : (place count : ℕ) → place + count - place ≡ count
+range_size place count = omega arith
+
+pub ruleset range_rules = (ranged_left, ranged_right, ranged_across, items_of-take, items_of-drop, length-append, length-take, length-drop)
+
+pub ruleset edit_rules = (drop_of_length-le, range_size)
 
 pub ruleset iter_rules = (drop_of_length-le)
