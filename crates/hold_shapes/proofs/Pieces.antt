@@ -89,35 +89,47 @@ back-kept rs r n k size e z = rw (z, ← e) (all_origins-push rs r)
 
 pub ruleset edge_rules = (front-kept, none-behind, back-kept)
 
--- the items of a list with those between two places replaced by the items of other origins
-module _ {X M : Type 0} (f : X → M) (fresh : M) (xs inner : List X) (at to : ℕ) (m os : List Origin) where
-  abbrev Around : Type 0
-  Around = os ≡ run_origins (Old 0) at ++ (m ++ run_origins (Old to) (length xs - to))
+-- the old places before one place stay at the front and those from another on at the back, with origins m between them
+abbrev pub Around : ℕ → ℕ → ℕ → List Origin → List Origin → Type 0
+Around n at to m os = os ≡ run_origins (Old 0) at ++ (m ++ run_origins (Old to) (n - to))
 
-  pub gathered-around : Around → All (IsBelow (length xs)) os → map f inner ≡ map (content_at (map f xs) fresh) m
-      → map f (take at xs ++ inner ++ drop to xs) ≡ map (content_at (map f xs) fresh) os
-  gathered-around e b q =
-      let g = content_at (map f xs) fresh in
-      let front = run_origins (Old 0) at in
-      let back = run_origins (Old to) (length xs - to) in
-      let all = subst (All (IsBelow (length xs))) e b in
-      let last = back_of (IsBelow (length xs)) m back (back_of (IsBelow (length xs)) front (m ++ back) all) in
-      let k : map f (take at xs) ≡ map g front = kept-piece f fresh xs 0 at (front_of (IsBelow (length xs)) front (m ++ back) all) in
-      let l : map f (drop to xs) ≡ map g back = ap (map f) (sym (take_rest xs to)) ∙ kept-piece f fresh xs to (length xs - to) last in
-      let parts : map f (take at xs ++ inner ++ drop to xs) ≡ map f (take at xs) ++ map f inner ++ map f (drop to xs) =
-      map-append f (take at xs ++ inner) (drop to xs) ∙ ap (λ ts. ts ++ map f (drop to xs)) (map-append f (take at xs) inner) in
-      let whole : map g os ≡ map g front ++ (map g m ++ map g back) =
-      ap (map g) e ∙ map-append g front (m ++ back) ∙ ap (λ ts. map g front ++ ts) (map-append g m back) in
-      let same : map f (take at xs) ++ map f inner ++ map f (drop to xs) ≡ map g front ++ map g m ++ map g back = cc in
-      parts ∙ same ∙ append_assoc (map g front) (map g m) (map g back) ∙ sym whole
+pub around-of : (n size at to : ℕ) (m behind all os : List Origin) → all ≡ os → all ≡ run_origins (Old 0) at ++ behind
+    → behind ≡ m ++ run_origins (Old to) (size - to) → size ≡ n → Around n at to m os
+around-of n size at to m behind all os v e h z =
+    sym v ∙ (e ∙ ap (λ (ts : List Origin). run_origins (Old 0) at ++ ts) (subst (λ k. behind ≡ m ++ run_origins (Old to) (k - to)) z h))
 
-  pub length-around : Around → length os ≡ at + (length m + (length xs - to))
-  length-around e =
-      omega (
-        arith,
-        ap length e,
-        length-append (run_origins (Old 0) at) (m ++ run_origins (Old to) (length xs - to)),
-        length-append m (run_origins (Old to) (length xs - to)),
-        length-kept 0 at,
-        length-kept to (length xs - to),
-      )
+pub below-around : (n at to : ℕ) (m os : List Origin) → Around n at to m os → All (IsBelow n) os → All (IsBelow n) m
+below-around n at to m os e b =
+    let front = run_origins (Old 0) at in
+    let back = run_origins (Old to) (n - to) in
+    let all : All (IsBelow n) (front ++ (m ++ back)) = subst (All (IsBelow n)) e b in
+    front_of (IsBelow n) m back (back_of (IsBelow n) front (m ++ back) all)
+
+pub length-around : (n at to : ℕ) (m os : List Origin) → Around n at to m os → length os ≡ at + (length m + (n - to))
+length-around n at to m os e =
+    omega (
+      arith,
+      ap length e,
+      length-append (run_origins (Old 0) at) (m ++ run_origins (Old to) (n - to)),
+      length-append m (run_origins (Old to) (n - to)),
+      length-kept 0 at,
+      length-kept to (n - to),
+    )
+
+pub gathered-around : {X M : Type 0} (f : X → M) (fresh : M) (xs inner : List X) (at to : ℕ) (m os : List Origin)
+    → Around (length xs) at to m os → All (IsBelow (length xs)) os → map f inner ≡ map (content_at (map f xs) fresh) m
+    → map f (take at xs ++ inner ++ drop to xs) ≡ map (content_at (map f xs) fresh) os
+gathered-around f fresh xs inner at to m os e b q =
+    let g = content_at (map f xs) fresh in
+    let front = run_origins (Old 0) at in
+    let back = run_origins (Old to) (length xs - to) in
+    let all : All (IsBelow (length xs)) (front ++ (m ++ back)) = subst (All (IsBelow (length xs))) e b in
+    let last : All (IsBelow (length xs)) back = back_of (IsBelow (length xs)) m back (back_of (IsBelow (length xs)) front (m ++ back) all) in
+    let k : map f (take at xs) ≡ map g front = kept-piece f fresh xs 0 at (front_of (IsBelow (length xs)) front (m ++ back) all) in
+    let l : map f (drop to xs) ≡ map g back = ap (map f) (sym (take_rest xs to)) ∙ kept-piece f fresh xs to (length xs - to) last in
+    let parts : map f (take at xs ++ inner ++ drop to xs) ≡ map f (take at xs) ++ map f inner ++ map f (drop to xs) =
+    map-append f (take at xs ++ inner) (drop to xs) ∙ ap (λ ts. ts ++ map f (drop to xs)) (map-append f (take at xs) inner) in
+    let whole : map g os ≡ map g front ++ (map g m ++ map g back) =
+    ap (map g) e ∙ map-append g front (m ++ back) ∙ ap (λ ts. map g front ++ ts) (map-append g m back) in
+    let same : map f (take at xs) ++ map f inner ++ map f (drop to xs) ≡ map g front ++ map g m ++ map g back = cc in
+    parts ∙ same ∙ append_assoc (map g front) (map g m) (map g back) ∙ sym whole

@@ -5,6 +5,7 @@ ghost use Rattle.hold_shapes.specs.Gather.{content_at, IsBelow};
 ghost use Rattle.hold_shapes.specs.Runs.{run_origins, all_origins};
 
 use crate::origins::{Origin, Origins};
+use crate::parts::replace_part;
 use crate::run::Run;
 use shared_lists::{Hint, SharedList};
 use std::alloc::{AllocError, Global};
@@ -34,9 +35,7 @@ where
         return pieces(alloc, runs, items, fresh);
     }
     let inner = pieces(alloc, changed, items, fresh)?;
-    let mut list = items.copy(alloc)?;
-    list.replace(alloc, at as usize, (to - at) as usize, &inner)?;
-    Ok(list)
+    replace_part(alloc, items, at as usize, to as usize, &inner)
 }
 
 // How many old places stay at the front, and the runs behind them.

@@ -1,5 +1,5 @@
 //! Changes of shared lists: the new list shares what stays with the old one.
-ghost use Rattle.std.specs.Prelude.{◌≡◌, ◌≤◌, ◌<◌, ◌+◌, ◌^◌, ◌++◌, ◌∷◌, [], length, take, drop, IfOk};
+ghost use Rattle.std.specs.Prelude.{◌≡◌, ◌≤◌, ◌<◌, ◌+◌, ◌-◌, ◌^◌, ◌++◌, ◌∷◌, [], length, take, drop, IfOk};
 ghost use Rattle.std.specs.List.{insert, remove};
 
 use shared_lists::{Hint, SharedList};
@@ -60,4 +60,23 @@ pub(crate) fn without_item<T: Drop + Hint>(
     let mut left = items.copy(alloc)?;
     left.delete(alloc, at, 1)?;
     Ok(left)
+}
+
+/// A list with the items between two places replaced by those of another list, which both lists share then.
+#[tactic(auto, using(crate::proofs::SharedItems::part_rules))]
+pub(crate) fn replace_part<T: Drop + Hint>(
+    alloc: Global,
+    items: &SharedList<T>,
+    from: usize,
+    to: usize,
+    more: &SharedList<T>,
+) -> Result<SharedList<T>, AllocError>
+    requires order { from ≤ to }
+    requires within { to ≤ length items.now }
+    requires fits { from + (length more.now + (length items.now - to)) < 2 ^ 64 }
+    ensures { IfOk result (λ list. list ≡ take from items.now ++ more.now ++ drop to items.now) }
+{
+    let mut list = items.copy(alloc)?;
+    list.replace(alloc, from, to - from, more)?;
+    Ok(list)
 }

@@ -81,6 +81,7 @@ pub fn child(depths: &DepthSeq, at: usize, number: u64) -> Option<usize>
     ensures above { IfSome result (λ p. at < p) }
     ensures within { IfSome result (λ p. p < length depths.now) }
 {
+    let _size = depths.len();
     match depths.find(at + 1, depth_at(depths, at), number) {
         Found::Child(place) => Some(place),
         Found::End(_, _) => None,
