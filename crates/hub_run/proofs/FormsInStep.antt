@@ -19,9 +19,10 @@ use Rattle.view_hub.proofs.HubSteps.{starts}
 use Rattle.hub_run.specs.Answers.{HubAnswerTree}
 use Rattle.hub_run.specs.EditJson.{edit_of_line}
 use Rattle.hub_run.specs.FormLenses.{form_lens, lens_by}
+use Rattle.hub_run.specs.FoundLenses.{AllTyped}
 use Rattle.hub_run.specs.HubScript.{hub_script}
 use Rattle.hub_run.specs.Runs.{HubItem, take_item, HubState, answered, answer, hub_of, first_state, IsInStep}
-use Rattle.hub_run.proofs.FoundForms.{AllTyped, accepted_forms}
+use Rattle.hub_run.proofs.FoundForms.{accepted_forms}
 use Rattle.hub_run.proofs.MappedLenses.{items_are, first_views}
 use Rattle.hub_run.proofs.RunsInStep.{item_stays}
 

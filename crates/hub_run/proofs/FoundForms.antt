@@ -9,7 +9,7 @@ use Rattle.accepted_programs.specs.Program.{Refusal, lens_of}
 use Rattle.accepted_programs.proofs.AcceptedForms.{accepted_typed}
 use Rattle.view_hub.specs.Laws.{SameLeft, HaveOneLeftType}
 use Rattle.hub_run.specs.FormLenses.{form_lens}
-use Rattle.hub_run.specs.FoundLenses.{HasLeft}
+use Rattle.hub_run.specs.FoundLenses.{AllTyped, HasLeft}
 use Rattle.hub_run.specs.Lenses.{HubRefusal, too_many_views, views_differ, with_left, view_with, form_of_view, first_left, then_forms, forms_from, forms_of, lenses_of}
 use Rattle.hub_run.specs.Pieces.{is_cut, pieces, pieces_from}
 use Rattle.script_input.specs.Lines.{cut, up_to_line_end}
@@ -19,11 +19,6 @@ Same = SameLeft form_lens
 
 abbrev HaveOne : List FormTree → Type 0
 HaveOne = HaveOneLeftType form_lens
-
--- all forms are typed
-abbrev pub AllTyped : List FormTree → Type 0
-AllTyped [] = Unit {0}
-AllTyped (form ∷ forms) = IsTrue (is_typed form) × AllTyped forms
 
 -- all forms have the left type of the first, if there is one
 abbrev pub OneLeft : List FormTree → Type 0

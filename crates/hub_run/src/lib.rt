@@ -20,10 +20,10 @@ mod script;
 mod state;
 mod views;
 
-pub use crate::answers::{HubAnswer, answer_line, no_view_line, ok_line};
+pub use crate::answers::{HubAnswer, add_words, answer_line, no_view_line, ok_line};
 pub use crate::head::{HubHead, read_hub_head};
 pub use crate::journal::take_item;
-pub use crate::line::read_hub_edit;
+pub use crate::line::{read_edit_tree, read_hub_edit, side_and_edit};
 pub use crate::pieces::{MOST_VIEWS, Pieces};
 pub use crate::run::HubRun;
 pub use crate::script::run_hub;
