@@ -17,22 +17,23 @@ use Rattle.script_input.specs.Coming.{has_separator, HadNoPart, HasLastPiece, Ha
 use Rattle.script_input.specs.Lines.{program_part}
 use Rattle.script_input.specs.Parts.{HoldsPart, ReadsPart, ReadsAll, StopsHead}
 use Rattle.script_input.specs.declared.script.ProgramText.{ProgramText}
+use Rattle.store_new.specs.Command.{PartMeaning}
 use Rattle.store_new.specs.NewEnds.{StopsAfter}
 use Rattle.store_new.specs.ScriptReading.{ReadsScript, ReadsRefused, ReadsFront}
 use Rattle.store_new.specs.Reading.{status_at}
-use Rattle.store_new.specs.Scripts.{IsAccepted, IsAcceptedPart, GoesOn}
+use Rattle.store_new.specs.Scripts.{IsAccepted, IsAcceptedPart, GoesOn, one_program}
 
 -- ---- a stop
 
 -- before the separator nothing is refused
-none_yet : (bytes : List ℕ) → has_separator bytes ≡ false → GoesOn bytes
-none_yet bytes none has = let never : true ≡ false = sym has ∙ none in cc
+none_yet : (part : PartMeaning) (bytes : List ℕ) → has_separator bytes ≡ false → GoesOn part bytes
+none_yet part bytes none has = let never : true ≡ false = sym has ∙ none in cc
 
 -- the reading stopped behind a program part that is accepted
-stops_behind : (bytes : List ℕ) (fault : TakeFault) → IsAcceptedPart bytes → StopsAt (length bytes) fault → StopsAfter bytes (status_at fault)
-stops_behind bytes taking.SourceFault accepted stops = (stops, λ has. accepted)
-stops_behind bytes taking.TooLong accepted stops = (stops, λ has. accepted)
-stops_behind bytes taking.NoMemory accepted stops = tt
+pub stops_behind : (part : PartMeaning) (bytes : List ℕ) (fault : TakeFault) → IsAcceptedPart part bytes → StopsAt (length bytes) fault → StopsAfter part bytes (status_at fault)
+stops_behind part bytes taking.SourceFault accepted stops = (stops, λ has. accepted)
+stops_behind part bytes taking.TooLong accepted stops = (stops, λ has. accepted)
+stops_behind part bytes taking.NoMemory accepted stops = tt
 
 nothing_has : has_separator [] ≡ true → ⊥
 nothing_has h = cc
@@ -41,11 +42,11 @@ nothing_has h = cc
 
 module _ {S : Type 0} (source : OfSource.Ghosts S) (s s' : S) where
   -- the reading stopped before the separator
-  pub head_stops : (fault : TakeFault) → StopsHead source s s' fault → ReadsFront source s s' fault
-  head_stops fault h = record { bytes = h.bytes; took = h.consumes; at_most = h.at_most; stops = by_fault fault h } where
-    by_fault : (fault : TakeFault) → (h : StopsHead source s s' fault) → StopsAfter h.bytes (status_at fault)
-    by_fault taking.SourceFault h = (h.stops, none_yet h.bytes h.not_yet)
-    by_fault taking.TooLong h = (h.stops, none_yet h.bytes h.not_yet)
+  pub head_stops : (part : PartMeaning) (fault : TakeFault) → StopsHead source s s' fault → ReadsFront part source s s' fault
+  head_stops part fault h = record { bytes = h.bytes; took = h.consumes; at_most = h.at_most; stops = by_fault fault h } where
+    by_fault : (fault : TakeFault) → (h : StopsHead source s s' fault) → StopsAfter part h.bytes (status_at fault)
+    by_fault taking.SourceFault h = (h.stops, none_yet part h.bytes h.not_yet)
+    by_fault taking.TooLong h = (h.stops, none_yet part h.bytes h.not_yet)
     by_fault taking.NoMemory h = tt
 
   module _ (program : ProgramText) (r : ReadsAll source s s' HoldsPart program) where
@@ -94,15 +95,15 @@ module _ {S : Type 0} (source : OfSource.Ghosts S) (s mid : S) (program : Progra
       accepted = rest_accepted p l skips.more accepted;
     }
 
-    pub rest_stops : (fault : TakeFault) (more : List ℕ) → Took source mid s' more → input.taken + length more ≤ MOST_BYTES + 1 → StopsAt (input.taken + length more) fault → ReadsFront source s s' fault
+    pub rest_stops : (fault : TakeFault) (more : List ℕ) → Took source mid s' more → input.taken + length more ≤ MOST_BYTES + 1 → StopsAt (input.taken + length more) fault → ReadsFront one_program source s s' fault
     rest_stops fault more took few stops = record {
       bytes = (r.front ++ r.rest) ++ more;
       took = Consumes-trans (source.left s) (source.left mid) (source.left s') (r.front ++ r.rest) more r.taken.consumes took;
       at_most = omega (arith, count more, few);
-      stops = stops_behind ((r.front ++ r.rest) ++ more) fault (l, (rest_accepted p l more accepted).has_lens) (subst (λ n. StopsAt n fault) (sym (count more)) stops);
+      stops = stops_behind one_program ((r.front ++ r.rest) ++ more) fault (l, (rest_accepted p l more accepted).has_lens) (subst (λ n. StopsAt n fault) (sym (count more)) stops);
     }
 
-    pub skip_stops : (fault : TakeFault) → SkipsRest input.taken (source.left mid) (source.left s') (Err fault) → ReadsFront source s s' fault
+    pub skip_stops : (fault : TakeFault) → SkipsRest input.taken (source.left mid) (source.left s') (Err fault) → ReadsFront one_program source s s' fault
     skip_stops fault skips = rest_stops fault skips.more skips.consumes skips.at_most (as_stop fault skips.stops) where
       as_stop : (fault : TakeFault) → StopsSkipping (input.taken + length skips.more) fault → StopsAt (input.taken + length skips.more) fault
       as_stop taking.SourceFault h = h
