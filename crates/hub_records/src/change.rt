@@ -1,8 +1,8 @@
 //! Changes of a hub: one edit, or a group of edits, as a line and as a JSON tree.
 
-ghost use Rattle.std.specs.Prelude.{◌≡◌, true, IfOk, option_map};
+ghost use Rattle.std.specs.Prelude.{◌≡◌, true, IfOk, option_and_then, option_map};
 ghost use Rattle.serde_json.specs.View.{view, items_view};
-ghost use Rattle.edit_journal.specs.EntryJson.{array_items, group_items};
+ghost use Rattle.edit_journal.specs.EntryJson.{array_items, group_items, tree_of_text};
 ghost use Rattle.edit_journal.specs.Reading.{Gives};
 ghost use Rattle.view_hub.specs.Views.{edit_trees};
 ghost use Rattle.hub_records.specs.HubChanges.{all_counts_fit, are_edits, change_of_line, change_of_text};
@@ -16,6 +16,7 @@ use hub_run::{read_edit_tree, side_and_edit};
 use serde_json::Value;
 use std::alloc::{AllocError, Global};
 use std::slice;
+use store_records::read_tree as read_payload;
 use value_json::only_member;
 use view_hub::HubSide;
 
@@ -75,6 +76,20 @@ fn read_text(alloc: Global, bytes: &[u8]) -> Result<HubChange, EntryFault>
 {
     let tree = read_tree(alloc, bytes)?;
     read_change(alloc, &tree)
+}
+
+/// The change of a payload.
+///
+/// None if and only if it is not the payload of an edit or of a group of edits. Whether the change applies does not
+/// count. Fails only if memory runs out.
+pub fn change_of_payload(alloc: Global, payload: &[u8]) -> Result<Option<HubChange>, AllocError>
+    ensures { IfOk result (λ change. option_map hub_change_tree change
+        ≡ option_and_then change_in (tree_of_text payload.now)) }
+{
+    match read_payload(alloc, payload)? {
+        Some(tree) => change_in(alloc, &tree),
+        None => Ok(None),
+    }
 }
 
 /// The change of the tree of a record.

@@ -1,6 +1,7 @@
 //! The lenses of a stored hub.
 
-ghost use Rattle.std.specs.Prelude.{◌≡◌, ◌++◌, ◌∷◌, [], Ok, IfOk, IfSome, option_map, option_and_then};
+ghost use Rattle.std.specs.Prelude.{◌≡◌, ◌++◌, ◌∷◌, [], Ok, Some, IfOk, IfSome, OnOk, OnErr, option_map};
+ghost use Rattle.std.specs.Prelude.{option_and_then};
 ghost use Rattle.serde_json.specs.View.{view, items_view};
 ghost use Rattle.lens_forms.specs.Forms.{form_tree};
 ghost use Rattle.accepted_programs.specs.Program.{form_of_program};
@@ -8,12 +9,15 @@ ghost use Rattle.program_terms.specs.Views.{program_tree};
 ghost use Rattle.store_records.specs.StoredLens.{accepted, form_of_text};
 ghost use Rattle.edit_journal.specs.EntryJson.{tree_of_text};
 ghost use Rattle.view_hub.specs.Laws.{HaveOneLeftType};
+ghost use Rattle.view_hub.specs.Views.{hub_tree};
 ghost use Rattle.hub_run.specs.RunStates.{forms_of_lenses, ready_lens};
 ghost use Rattle.hub_records.specs.HubLenses.{form_of_item, forms_of_items, forms_of_payload, joining, joins};
 ghost use Rattle.hub_records.specs.HubRecords.{programs_of};
+ghost use Rattle.hub_records.specs.HubStands.{view_more};
 ghost use Rattle.hub_records.specs.OneLeftType.{HasOneLeft};
 
 use crate::parts::programs_in;
+use edit_inverse::construct;
 use hub_run::MOST_VIEWS;
 use lens_flat::Flat;
 use lens_syntax::{Program, ProgramFault, read_unbounded};
@@ -21,6 +25,7 @@ use lens_types::{TypeFault, Typed, check};
 use serde_json::Value;
 use std::alloc::{AllocError, Global};
 use store_records::read_tree;
+use view_hub::Hub;
 
 // The lenses of the first payload of a store.
 //
@@ -104,14 +109,29 @@ pub fn joining_lens(alloc: Global, before: &[Flat], text: &str) -> Result<Option
     Ok(Some(lens))
 }
 
-// Whether a lens may stand behind these.
-fn joins(before: &[Flat], typed: &Typed) -> bool
+/// Whether a lens may stand behind these: there are none, or fewer than 64, of which the first has its left type.
+pub fn joins(before: &[Flat], typed: &Typed) -> bool
     ensures { result ≡ joins (forms_of_lenses before.now) (form_tree typed.now) }
 {
     if before.is_empty() {
         return true;
     }
     before.len() < MOST_VIEWS && before[0].typed().left().is_same(typed.left())
+}
+
+/// Adds the view of a lens, which may stand behind the others: what the lens makes, from its start, of the word that
+/// makes the hub's document.
+///
+/// Fails only if memory runs out, and the hub is then as it was.
+pub fn add_lens(alloc: Global, hub: &mut Hub<Flat>, lens: Flat) -> Result<(), AllocError>
+    requires one_left { HaveOneLeftType ready_lens (hub.old.lenses ++ lens ∷ []) }
+    ensures added { OnOk result (view_more (form_tree lens.typed) (hub_tree hub.old.parts)
+        ≡ Some (hub_tree hub.new.parts)) }
+    ensures lenses { OnOk result (hub.new.lenses ≡ hub.old.lenses ++ lens ∷ []) }
+    ensures unchanged { OnErr result (hub.new ≡ hub.old) }
+{
+    let word = construct(alloc, lens.typed().left(), hub.hub())?;
+    hub.add(lens, &word)
 }
 
 // The lens of a text, where the grammar and the checker accept it.

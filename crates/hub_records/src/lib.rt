@@ -16,8 +16,8 @@ mod reopening;
 mod saving;
 mod snapshots;
 
-pub use crate::change::{HubChange, change_in, read_hub_change};
-pub use crate::lenses::joining_lens;
+pub use crate::change::{HubChange, change_in, change_of_payload, read_hub_change};
+pub use crate::lenses::{add_lens, joining_lens, joins};
 pub use crate::low::lenses_are_low;
 pub use crate::parts::{add_in, programs_in, snapshot_in};
 pub use crate::payloads::{added_payload, change_payload, programs_payload};

@@ -17,10 +17,10 @@ use crate::parts::{add_in, snapshot_in};
 use crate::snapshots::{are_consistent, read_parts};
 use edit_inverse::construct;
 use lens_flat::Flat;
-use lens_io::Payloads;
 use serde_json::Value;
 use std::alloc::Global;
 use store_records::{ReopenFault, read_tree};
+use texts::Bytes;
 use view_hub::{Hub, HubGroupFault};
 
 /// The number of the first record.
@@ -47,16 +47,15 @@ pub struct OpenedHub {
 ///
 /// It takes time in proportion to the payloads, beside what changes and snapshots take.
 #[tactic(auto, using(crate::proofs::Openings::first_rules))]
-pub fn reopen_hub(alloc: Global, payloads: &Payloads) -> Result<OpenedHub, ReopenFault>
+pub fn reopen_hub(alloc: Global, records: &[Bytes]) -> Result<OpenedHub, ReopenFault>
     ensures stands { MatchResult result
-        (λ opened. stands_for payloads.now ≡ Ok (hub_standing opened.hub opened.count))
-        (IsStandFault (stands_for payloads.now)) }
+        (λ opened. stands_for records.now ≡ Ok (hub_standing opened.hub opened.count))
+        (IsStandFault (stands_for records.now)) }
 
     // The hub is in step, whatever the payloads are.
     ensures in_step { IfOk result (λ opened.
         IsHubOf opened.hub.lenses (hub_tree opened.hub.parts)) }
 {
-    let records = payloads.as_slice();
     if records.is_empty() {
         return Err(ReopenFault::BadRecord { number: FIRST });
     }

@@ -28,4 +28,4 @@ pub use crate::pieces::{MOST_VIEWS, Pieces};
 pub use crate::run::HubRun;
 pub use crate::script::run_hub;
 pub use crate::state::{hub_line, lines_of_view, state_lines};
-pub use crate::views::{HubRefused, refusal_line, view_lens};
+pub use crate::views::{HubRefused, refusal_line, refused_view, view_lens};

@@ -20,7 +20,7 @@ pub(crate) fn open(alloc: Global, payloads: &Payloads) -> Result<Opened<HubSessi
         (IsReopenFault (stands_for payloads.now)) }
     ensures count { IfOk result (λ o. o.count ≡ count_of payloads.now) }
 {
-    match reopen_hub(alloc, payloads) {
+    match reopen_hub(alloc, payloads.as_slice()) {
         Ok(opened) => Ok(Opened {
             session: HubSession { hub: opened.hub },
             version: None,

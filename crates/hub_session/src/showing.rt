@@ -13,8 +13,9 @@ use std::alloc::{AllocError, Global};
 use texts::{Bytes, Twin};
 use view_hub::Hub;
 
-// The state lines of a hub.
-pub(crate) fn shown(alloc: Global, hub: &Hub<Flat>) -> Result<Bytes, AllocError>
+/// The state lines of a hub: `hub JSON`, and for each view `view V JSON` and `complement V JSON`. The only error is
+/// running out of memory.
+pub fn hub_state_lines(alloc: Global, hub: &Hub<Flat>) -> Result<Bytes, AllocError>
     ensures text { IfOk result (λ text. text ≡ state_text (state_of hub.now)) }
     ensures lines { IfOk result AreOtherLines }
 {

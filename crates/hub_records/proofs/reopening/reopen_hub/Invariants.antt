@@ -7,5 +7,5 @@ use Rattle.hub_records.proofs.reopening.reopen_hub.Given as goal
 abbrev pub invariant-loop-at : goal.invariant-loop-at
 invariant-loop-at l = record {
   count : l.opened.count ≤ l.at;
-  left : after_payloads (l.at + 1) (hub_standing l.opened.hub l.opened.count) (drop l.at l.records) ≡ stands_for l.payloads;
+  left : after_payloads (l.at + 1) (hub_standing l.opened.hub l.opened.count) (drop l.at l.records) ≡ stands_for l.records;
 }

@@ -1,0 +1,68 @@
+-- For the helpers of `undo_changes`: the words of edits that were stepped, one after another.
+-- Read it from the end: `Stepping`, `StepsOver`, `UndoesEdit`, `HaveActed`, then `joined_all`.
+use Rattle.std.specs.Prelude.{◌≡◌, ℕ, Bool, true, false, List, [], ◌∷◌, ◌++◌, length, Option, Some, None, option_map}
+use Rattle.std.specs.Prelude.{Ok, Err}
+use Rattle.doc_values.specs.Documents.{DocTree}
+use Rattle.doc_values.specs.Typing.{has}
+use Rattle.edit_module.specs.Action.{act}
+use Rattle.edit_module.specs.Words.{WordTree}
+use Rattle.lens_core.specs.declared.lens.EditLens as OfLens
+use Rattle.view_hub.specs.Hubs.{ViewTree, HubTree, Place, CarriedTree, Refusal, step}
+use Rattle.hub_undo.specs.HubUndone.{BringsBack, joined_carried, no_words, undone, undone_behind, undone_step}
+
+-- at each document the last of the words, then the one before it, down to the first
+abbrev pub joined_all : ℕ → List CarriedTree → CarriedTree
+joined_all n [] = no_words n
+joined_all n (c ∷ cs) = joined_carried (joined_all n cs) c
+
+-- each of these has a word for each of so many views
+abbrev pub HasViews : ℕ → List CarriedTree → Type 0
+HasViews n [] = Unit {0}
+HasViews n (c ∷ cs) = (length c.views ≡ n) × HasViews n cs
+
+module _ {L : Type 0} (lens : OfLens.Ghosts L) where
+  -- there are so many words as views and lenses, each view has its type, and each word acts on its view's document
+  abbrev pub ViewsHaveActed : List L → List ViewTree → List WordTree → Type 0
+  ViewsHaveActed [] [] [] = Unit {0}
+  ViewsHaveActed (l ∷ ls) (v ∷ vs) (w ∷ ws) =
+      (has (lens.right_type l) v.doc ≡ true) × ((y : DocTree) × (act (lens.right_type l) w v.doc ≡ Ok y))
+      × ViewsHaveActed ls vs ws
+  ViewsHaveActed _ _ _ = ⊥
+
+  -- the same of the hub's document, which has the left type of the first lens; there is a lens
+  abbrev pub HubHasActed : List L → DocTree → WordTree → Type 0
+  HubHasActed [] x w = ⊥
+  HubHasActed (l ∷ ls) x w =
+      (has (lens.left_type l) x ≡ true) × ((y : DocTree) × (act (lens.left_type l) w x ≡ Ok y))
+
+  -- each of these words acts on its document of the hub
+  pub record HaveActed (ls : List L) (h : HubTree) (c : CarriedTree) : Type 0 where
+    pub hub : HubHasActed ls h.hub c.hub
+    pub views : ViewsHaveActed ls h.views c.views
+
+  -- the edit goes from the one hub to the other, and these are the inverses of its words; there are none if it is
+  -- refused
+  abbrev pub UndoesEdit : List L → HubTree → Place × WordTree → HubTree → Option CarriedTree → Type 0
+  UndoesEdit ls h e g (Some words) =
+      (c : CarriedTree) × (step lens ls h e ≡ Some (Ok (g, c)))
+      × (words ≡ undone_step lens ls h c) × BringsBack lens ls words g h
+  UndoesEdit ls h e g None = (why : Refusal) × (step lens ls h e ≡ Some (Err why))
+
+  -- These edits go from the one hub to the other, whatever edits follow, and these are the words of their steps.
+  pub record StepsOver (ls : List L) (h : HubTree) (es : List (Place × WordTree)) (words : List CarriedTree)
+      (g : HubTree) : Type 0 where
+    pub goes : (more : List (Place × WordTree)) → undone lens ls h (es ++ more)
+        ≡ option_map (undone_behind lens (joined_all (length ls) words)) (undone lens ls g more)
+    pub back : BringsBack lens ls (joined_all (length ls) words) g h
+    pub views : HasViews (length ls) words
+
+  -- an edit among these is refused, whatever edits follow
+  abbrev pub Fails : List L → HubTree → List (Place × WordTree) → Type 0
+  Fails ls h es = (more : List (Place × WordTree)) → undone lens ls h (es ++ more) ≡ None
+
+  -- The edits were stepped, and their words were added to those from before. Or an edit is refused.
+  abbrev pub Stepping : List L → Bool → HubTree → List (Place × WordTree) → List CarriedTree → List CarriedTree
+      → HubTree → Type 0
+  Stepping ls true h es before after g =
+      (words : List CarriedTree) × (after ≡ before ++ words) × StepsOver ls h es words g
+  Stepping ls false h es before after g = Fails ls h es
