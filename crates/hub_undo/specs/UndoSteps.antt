@@ -1,13 +1,10 @@
 -- For the helpers of `undo_changes`: the words of edits that were stepped, one after another.
--- Read it from the end: `Stepping`, `StepsOver`, `UndoesEdit`, `HaveActed`, then `joined_all`.
+-- Read it from the end: `Stepping`, `StepsOver`, `UndoesEdit`, then `joined_all`.
 use Rattle.std.specs.Prelude.{◌≡◌, ℕ, Bool, true, false, List, [], ◌∷◌, ◌++◌, length, Option, Some, None, option_map}
 use Rattle.std.specs.Prelude.{Ok, Err}
-use Rattle.doc_values.specs.Documents.{DocTree}
-use Rattle.doc_values.specs.Typing.{has}
-use Rattle.edit_module.specs.Action.{act}
 use Rattle.edit_module.specs.Words.{WordTree}
 use Rattle.lens_core.specs.declared.lens.EditLens as OfLens
-use Rattle.view_hub.specs.Hubs.{ViewTree, HubTree, Place, CarriedTree, Refusal, step}
+use Rattle.view_hub.specs.Hubs.{HubTree, Place, CarriedTree, Refusal, step}
 use Rattle.hub_undo.specs.HubUndone.{BringsBack, joined_carried, no_words, undone, undone_behind, undone_step}
 
 -- at each document the last of the words, then the one before it, down to the first
@@ -21,25 +18,6 @@ HasViews n [] = Unit {0}
 HasViews n (c ∷ cs) = (length c.views ≡ n) × HasViews n cs
 
 module _ {L : Type 0} (lens : OfLens.Ghosts L) where
-  -- there are so many words as views and lenses, each view has its type, and each word acts on its view's document
-  abbrev pub ViewsHaveActed : List L → List ViewTree → List WordTree → Type 0
-  ViewsHaveActed [] [] [] = Unit {0}
-  ViewsHaveActed (l ∷ ls) (v ∷ vs) (w ∷ ws) =
-      (has (lens.right_type l) v.doc ≡ true) × ((y : DocTree) × (act (lens.right_type l) w v.doc ≡ Ok y))
-      × ViewsHaveActed ls vs ws
-  ViewsHaveActed _ _ _ = ⊥
-
-  -- the same of the hub's document, which has the left type of the first lens; there is a lens
-  abbrev pub HubHasActed : List L → DocTree → WordTree → Type 0
-  HubHasActed [] x w = ⊥
-  HubHasActed (l ∷ ls) x w =
-      (has (lens.left_type l) x ≡ true) × ((y : DocTree) × (act (lens.left_type l) w x ≡ Ok y))
-
-  -- each of these words acts on its document of the hub
-  pub record HaveActed (ls : List L) (h : HubTree) (c : CarriedTree) : Type 0 where
-    pub hub : HubHasActed ls h.hub c.hub
-    pub views : ViewsHaveActed ls h.views c.views
-
   -- the edit goes from the one hub to the other, and these are the inverses of its words; there are none if it is
   -- refused
   abbrev pub UndoesEdit : List L → HubTree → Place × WordTree → HubTree → Option CarriedTree → Type 0

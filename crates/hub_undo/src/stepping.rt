@@ -8,12 +8,13 @@ ghost use Rattle.edit_inverse.specs.Inverse.{inverse};
 ghost use Rattle.edit_inverse.specs.Laws.{TakesBack};
 ghost use Rattle.edit_module.specs.Action.{act};
 ghost use Rattle.edit_module.specs.Views.{word_tree, word_trees};
-ghost use Rattle.view_hub.specs.Laws.{IsHub};
+ghost use Rattle.view_hub.specs.Acting.{ActsTo, ViewsActTo};
+ghost use Rattle.view_hub.specs.Hubs.{HubTree, ViewTree};
 ghost use Rattle.view_hub.specs.Views.{carried_tree, edit_tree, edit_trees, hub_tree, view_trees};
 ghost use Rattle.hub_undo.specs.HubUndoing.{edits_of_all};
 ghost use Rattle.hub_undo.specs.UndoMaking.{change_trees};
-ghost use Rattle.hub_undo.specs.HubUndone.{BringsBack, undone, undone_step, undone_views};
-ghost use Rattle.hub_undo.specs.UndoSteps.{HaveActed, Stepping, UndoesEdit, ViewsHaveActed};
+ghost use Rattle.hub_undo.specs.HubUndone.{BringsBack, BringViewsBack, undone, undone_step, undone_views};
+ghost use Rattle.hub_undo.specs.UndoSteps.{Stepping, UndoesEdit};
 ghost use Rattle.hub_undo.specs.UndoViews.{carried_trees};
 
 use crate::joining::join_all;
@@ -123,10 +124,13 @@ fn words_back<L: EditLens>(
     parts: &HubParts,
     carried: &HubCarried,
 ) -> Result<HubCarried, AllocError>
-    requires in_step { IsHub L.EditLens lenses.now (hub_tree parts.now) }
-    requires acted { HaveActed L.EditLens lenses.now (hub_tree parts.now) (carried_tree carried.now) }
-    ensures { IfOk result (λ words. carried_tree words
+    requires acted { (after : HubTree)
+        × ActsTo L.EditLens lenses.now (hub_tree parts.now) (carried_tree carried.now) after }
+    ensures is { IfOk result (λ words. carried_tree words
         ≡ undone_step L.EditLens lenses.now (hub_tree parts.now) (carried_tree carried.now)) }
+    ensures back { IfOk result (λ words. (after : HubTree)
+        → ActsTo L.EditLens lenses.now (hub_tree parts.now) (carried_tree carried.now) after
+        → BringsBack L.EditLens lenses.now (carried_tree words) after (hub_tree parts.now)) }
 {
     let hub = word_back(alloc, lenses[0].ty(Side::Left), &carried.hub, &parts.hub)?;
     let views = views_back(alloc, lenses, &parts.views, carried.views.as_slice())?;
@@ -140,9 +144,13 @@ fn views_back<L: EditLens>(
     views: &[View],
     carried: &[Word],
 ) -> Result<Words, AllocError>
-    requires acted { ViewsHaveActed L.EditLens lenses.now (view_trees views.now) (word_trees carried.now) }
-    ensures { IfOk result (λ words. word_trees words
+    requires acted { (after : List ViewTree)
+        × ViewsActTo L.EditLens lenses.now (view_trees views.now) (word_trees carried.now) after }
+    ensures is { IfOk result (λ words. word_trees words
         ≡ undone_views L.EditLens lenses.now (view_trees views.now) (word_trees carried.now)) }
+    ensures back { IfOk result (λ words. (after : List ViewTree)
+        → ViewsActTo L.EditLens lenses.now (view_trees views.now) (word_trees carried.now) after
+        → BringViewsBack L.EditLens lenses.now (word_trees words) after (view_trees views.now)) }
 {
     let mut words = Vec::with_capacity(alloc, carried.len())?;
     for at in 0..carried.len() {
