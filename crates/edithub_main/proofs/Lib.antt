@@ -1,0 +1,2 @@
+pub mod HubClauses
+pub mod HubsInStep

@@ -100,8 +100,9 @@ fn with_programs(
     ensures lenses { IfOk result (λ a. a.lenses ≡ lenses) }
     ensures memory { IfErr result (λ refused. refused ≡ HubRefused.NoMemory) }
 {
-    let Some(programs) = pieces.programs(alloc)? else {
-        unreachable!()
-    };
-    Ok(AcceptedHub { programs, lenses })
+    let programs = pieces.programs(alloc)?;
+    match programs {
+        Some(programs) => Ok(AcceptedHub { programs, lenses }),
+        None => unreachable!(),
+    }
 }

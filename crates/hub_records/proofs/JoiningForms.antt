@@ -24,7 +24,7 @@ form_of l = form_tree l.typed
 pub forms_snoc : (ls : List ReadyForm) (l : ReadyForm) → forms_of_lenses (ls ++ l ∷ []) ≡ forms_of_lenses ls ++ form_of l ∷ []
 forms_snoc ls l = map-append form_of ls (l ∷ [])
 
-joined : (before : List FormTree) (found : Option FormTree) (l : FormTree) → joining before found ≡ Some l → (found ≡ Some l) × (joins before l ≡ true)
+pub joined : (before : List FormTree) (found : Option FormTree) (l : FormTree) → joining before found ≡ Some l → (found ≡ Some l) × (joins before l ≡ true)
 joined before (Some m) l h = by_test (joins before m) refl h where
   by_test : (b : Bool) → joins before m ≡ b → cond b (Some m) None ≡ Some l → (Some m ≡ Some l) × (joins before l ≡ true)
   by_test true is e = let same : m ≡ l = cc in (ap Some same, subst (λ l. joins before l ≡ true) same is)

@@ -1,5 +1,6 @@
 pub mod Appending
 mod Examples
+pub mod FirstHubs
 pub mod HubGroups
 pub mod HubSteps
 pub mod HubTrees
@@ -11,4 +12,5 @@ pub mod RecordSteps
 pub mod RecordsAreRead
 pub mod SavedViews
 pub mod SnapshotViews
+pub mod StoodInStep
 pub mod WrittenStands

@@ -62,6 +62,15 @@ pub fn written_records_stand()
         → stands_for (payloads ++ payload ∷ []) ≡ Ok before }
 {}
 
+/// What stands is in step: all lenses are typed, and each view's complement and document are in its lens's relation
+/// with the hub's document.
+pub fn stood_is_in_step()
+    ensures typed { (payloads : List (List ℕ)) (standing : HubStanding) → stands_for payloads ≡ Ok standing
+        → AllTyped standing.forms }
+    ensures in_step { (payloads : List (List ℕ)) (standing : HubStanding) → stands_for payloads ≡ Ok standing
+        → IsHub form_lens standing.forms standing.hub }
+{}
+
 /// The tree of a change that is accepted does not nest too deep for the reader of JSON, so its payload is read back.
 pub fn accepted_changes_are_shallow()
     ensures { (forms : List FormTree) (before after : HubTree) (change : HubChangeTree)

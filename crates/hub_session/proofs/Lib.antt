@@ -1,3 +1,4 @@
 pub mod AnswerLines
 pub mod AnswersMade
 pub mod CarriedLists
+pub mod RunsStay
