@@ -5,10 +5,10 @@ use Rattle.lens_io.specs.Calls.{SinkFailed, DiskFailed}
 use Rattle.lens_io.specs.declared.disk.Disk as OfDisk
 use Rattle.lens_io.specs.declared.sink.Sink as OfSink
 use Rattle.store_run.specs.Rooms.{most_bytes}
-use Rattle.store_more.specs.MoreCall.{StoresOne, IsUntouched, IsSafeMore, Exits}
+use Rattle.store_more.specs.MoreCall.{IsUntouched, Exits}
 use Rattle.store_more.specs.MoreCauses.{OneHasNoRoom, IsMoreCause}
-use Rattle.hub_undo.specs.HubUndoing.{TakesBack, snapshot_text, undo_text}
-use Rattle.hub_undo.specs.UndoCall.{HubToUndo, RefusedToUndo}
+use Rattle.hub_undo.specs.HubUndoing.{snapshot_text, undo_text}
+use Rattle.hub_undo.specs.UndoCall.{HubToUndo, IsSafeUndo, RefusedToUndo, UndoesCall}
 use Rattle.edithub_main.specs.HubStores.{RefusesHub}
 use Rattle.command_ends.specs.declared.status.Status.{Status}
 use Rattle.command_ends.specs.declared.status.Status.TheVariants.{Done, DiskFault, NoMemory}
@@ -21,17 +21,14 @@ module _ (count : ℕ) {K D : Type 0} (sink : OfSink.Ghosts K) (disk : OfDisk.Gh
 
   -- over a store whose last records, so many as the count says, are of changes, which can be undone
   pub record TakesHubBack (store : HubToUndo disk count old.1) : Type 0 where
-    -- at its end the store holds one more snapshot, of the hub before the last changes, and the lines were written
-    pub continues : status ≡ Done
-        → StoresOne sink disk old new store.payloads (snapshot_text store.undone) (undo_text store.undone)
-    -- that hub is in step, the store represents it with the snapshot, and the words that were written take each
-    -- document back
-    pub in_step : TakesBack store.payloads store.undone
+    -- At its end the store holds one more snapshot, of the hub before the last changes, and the lines were written. That
+    -- hub is in step, the store represents it, and the words that were written take each document back.
+    pub continues : status ≡ Done → UndoesCall sink disk old new store.payloads store.undone
     -- what was written and stored at every status
     pub stops : Exits sink disk old new store.payloads (snapshot_text store.undone) (undo_text store.undone) status
     -- an image of a crash, at each moment of the call and at its end, was possible before the call, or represents the
     -- hub before the last changes or the one from before the call
-    pub survives : Unopened ⊎ IsSafeMore disk old.1 new.1 store.payloads (snapshot_text store.undone)
+    pub survives : Unopened ⊎ IsSafeUndo disk old.1 new.1 store.payloads store.undone
     -- after StoreRefused the log had no room for the snapshot, and after DiskFault the disk had none if its room is
     -- known
     pub caused : IsMoreCause disk old.1 store.payloads (snapshot_text store.undone) status

@@ -121,7 +121,7 @@ edit_stays forms all h e s k is =
     subst (λ (p : HubTree × HubAnswerTree). FormHub forms p.0) pair t.2
 
 -- the first edit of a group that is accepted, and the hub behind the others
-abbrev Firsts : (HubTree → Option GroupStepped) → Option (Result (HubTree × CarriedTree) StepRefusal) → HubTree → Type 0
+abbrev pub Firsts : (HubTree → Option GroupStepped) → Option (Result (HubTree × CarriedTree) StepRefusal) → HubTree → Type 0
 Firsts others o k =
     (s : HubTree × CarriedTree) × (o ≡ Some (Ok s)) × (n : HubTree × List CarriedTree) × (others s.0 ≡ Some (Ok n)) × (n.0 ≡ k)
 
@@ -131,7 +131,7 @@ others_made (Some (Ok n)) c m h = let same : (n.0, c ∷ n.1) ≡ m = cc in (n, 
 others_made (Some (Err why)) c m h = absurd cc
 others_made None c m h = absurd cc
 
-firsts : (others : HubTree → Option GroupStepped) (o : Option (Result (HubTree × CarriedTree) StepRefusal)) (m : HubTree × List CarriedTree)
+pub firsts : (others : HubTree → Option GroupStepped) (o : Option (Result (HubTree × CarriedTree) StepRefusal)) (m : HubTree × List CarriedTree)
     → option_and_then (then_others others) o ≡ Some (Ok m) → Firsts others o m.0
 firsts others (Some (Ok s)) m h = let n = others_made (others s.0) s.1 m h in (s, refl, n.0, n.1, n.2)
 firsts others (Some (Err why)) m h = absurd cc

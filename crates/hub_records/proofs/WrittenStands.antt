@@ -94,11 +94,10 @@ module _ (ps : List (List ℕ)) (p : List ℕ) (s : HubStanding) (before : stand
   hub_has ty l ls x [] all = absurd all
   hub_has ty l ls x (v ∷ vs) all = (v, all.1)
 
-  snapshot_goes : (forms : List FormTree) (n : ℕ) (t : HubStanding) → t.forms ≡ forms → AllTyped forms → IsHub form_lens forms t.hub → hub_holds_i64s t.hub ≡ true
-      → after_record n t (record_of (tree_of_hub_snapshot forms t.hub)) ≡ Ok t
-  snapshot_goes [] n t is typed all whole = absurd all
-  snapshot_goes (l ∷ ls) n t is typed all whole =
-      let h = t.hub in
+  snapshot_goes : (forms : List FormTree) (n : ℕ) (t : HubStanding) (h : HubTree) → t.forms ≡ forms → AllTyped forms → IsHub form_lens forms h → hub_holds_i64s h ≡ true
+      → after_record n t (record_of (tree_of_hub_snapshot forms h)) ≡ Ok (record t { hub = h })
+  snapshot_goes [] n t h is typed all whole = absurd all
+  snapshot_goes (l ∷ ls) n t h is typed all whole =
       let ints = first (holds_i64s h.hub) (views_hold_i64s h.views) whole in
       let there = hub_has (left_type l) l ls h.hub h.views all in
       let typed_hub = consistent_is_typed l h.hub there.0.comp there.0.doc there.1 in
@@ -109,9 +108,14 @@ module _ (ps : List (List ℕ)) (p : List ℕ) (s : HubStanding) (before : stand
       ap (after_record n t) (snapshot_read l ls h)
       ∙ ap (λ fs. after_hub n t (hub_from fs (tree_of_document (left_type l) h.hub, items_of_views (l ∷ ls) h.views))) is
       ∙ ap (after_hub n t) from
-      ∙ if_true (are_consistent t.forms h.hub h.views) (Ok t) (Err (NotConsistent n)) (ap (λ fs. are_consistent fs h.hub h.views) is ∙ test)
+      ∙ if_true (are_consistent t.forms h.hub h.views) (Ok (record t { hub = h })) (Err (NotConsistent n)) (ap (λ fs. are_consistent fs h.hub h.views) is ∙ test)
+
+  -- the snapshot of any hub that is in step with the lenses
+  pub hub_stands : (h : HubTree) → tree_of_text p ≡ Some (tree_of_hub_snapshot s.forms h) → AllTyped s.forms → IsHub form_lens s.forms h → hub_holds_i64s h ≡ true
+      → stands_for (ps ++ p ∷ []) ≡ Ok (record s { hub = h })
+  hub_stands h reads typed all whole =
+      goes_on (tree_of_hub_snapshot s.forms h) reads ∙ snapshot_goes s.forms number s h refl typed all whole
 
   pub snapshot_stands : tree_of_text p ≡ Some (tree_of_hub_snapshot s.forms s.hub) → AllTyped s.forms → IsHub form_lens s.forms s.hub → hub_holds_i64s s.hub ≡ true
       → stands_for (ps ++ p ∷ []) ≡ Ok s
-  snapshot_stands reads typed all whole =
-      goes_on (tree_of_hub_snapshot s.forms s.hub) reads ∙ snapshot_goes s.forms number s refl typed all whole
+  snapshot_stands reads typed all whole = hub_stands s.hub reads typed all whole

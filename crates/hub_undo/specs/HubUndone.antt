@@ -1,6 +1,6 @@
 -- The words that take all documents of a hub back over some edits. Read it from the end: `BringsBack`, `undone`, then
 -- `undone_step`.
-use Rattle.std.specs.Prelude.{◌≡◌, ℕ, zero, suc, List, [], ◌∷◌, Option, Some, None, option_map, option_and_then}
+use Rattle.std.specs.Prelude.{◌≡◌, ℕ, zero, suc, List, [], ◌∷◌, Option, Some, None, option_and_then}
 use Rattle.std.specs.Prelude.{length, Result, Ok, Err}
 use Rattle.doc_values.specs.Documents.{DocTree}
 use Rattle.edit_inverse.specs.Inverse.{inverse}
@@ -46,23 +46,25 @@ module _ {L : Type 0} (lens : OfLens.Ghosts L) where
 
   -- ---- edits, one after another
 
-  -- the words of the edits behind an edit come before those of the edit itself
-  abbrev pub undone_behind : CarriedTree → HubTree × CarriedTree → HubTree × CarriedTree
-  undone_behind first r = (r.0, joined_carried r.1 first)
-
-  -- the edit was accepted, and the others go on from its hub
-  abbrev pub undone_first : (CarriedTree → CarriedTree) → (HubTree → Option (HubTree × CarriedTree))
+  -- the edit was accepted, and the others go on from its hub, with the words that take it back in front of the others
+  abbrev pub undone_first : (CarriedTree → CarriedTree) → (CarriedTree → HubTree → Option (HubTree × CarriedTree))
       → Result (HubTree × CarriedTree) Refusal → Option (HubTree × CarriedTree)
-  undone_first first others (Ok s) = option_map (undone_behind (first s.1)) (others s.0)
-  undone_first first others (Err why) = None
+  undone_first back others (Ok s) = others (back s.1) s.0
+  undone_first back others (Err why) = None
+
+  -- the same for edits behind others, which these words take back
+  abbrev pub undone_behind : List L → CarriedTree → HubTree → List (Place × WordTree) → Option (HubTree × CarriedTree)
+  undone_behind ls words h [] = Some (h, words)
+  undone_behind ls words h (e ∷ es) =
+      option_and_then
+      (undone_first (λ c. joined_carried (undone_step ls h c) words) (λ more next. undone_behind ls more next es))
+      (step lens ls h e)
 
   -- The hub after some edits, each from the hub that the one before it left, and the words that take its documents back
   -- to those of the first hub. Each word joins, from the last edit to the first, the inverses of the words that acted on
   -- its document. There are none if an edit is refused.
   abbrev pub undone : List L → HubTree → List (Place × WordTree) → Option (HubTree × CarriedTree)
-  undone ls h [] = Some (h, no_words (length ls))
-  undone ls h (e ∷ es) =
-      option_and_then (undone_first (undone_step ls h) (λ next. undone ls next es)) (step lens ls h e)
+  undone ls h es = undone_behind ls (no_words (length ls)) h es
 
   -- ---- what the words do
 

@@ -1,15 +1,16 @@
 -- For the helpers of `undo_hub`: what is made before anything is stored. Read it from the end: `fault_of`,
 -- `IsMakingFault`, `IsMade`, `AreTexts`, then `UndoneBy`.
-use Rattle.std.specs.Prelude.{◌≡◌, ℕ, List, ◌++◌, map, Option, Some}
+use Rattle.std.specs.Prelude.{◌≡◌, ℕ, List, ◌++◌, map, Option, Some, true}
 use Rattle.serde_json.specs.Written.{compact_text}
+use Rattle.edit_journal.specs.EntryJson.{tree_of_text}
 use Rattle.lens_forms.specs.Forms.{FormTree}
 use Rattle.view_hub.specs.Hubs.{HubTree, CarriedTree}
-use Rattle.view_hub.specs.Laws.{IsHub}
 use Rattle.hub_run.specs.FormLenses.{form_lens}
 use Rattle.hub_run.specs.Runs.{state_lines}
 use Rattle.hub_records.specs.HubChanges.{HubChangeTree}
 use Rattle.hub_records.specs.HubRecords.{tree_of_hub_snapshot}
 use Rattle.hub_records.specs.Views.{hub_change_tree}
+use Rattle.hub_records.specs.WholeInts.{hub_holds_i64s}
 use Rattle.hub_records.specs.declared.change.HubChange.{HubChange}
 use Rattle.store_records.specs.declared.record_fault.ReopenFault.{ReopenFault}
 use Rattle.store_records.specs.declared.record_fault.ReopenFault.TheVariants as reopening
@@ -29,14 +30,15 @@ change_trees cs = map hub_change_tree cs
 abbrev pub UndoneBy : List FormTree → HubTree → List HubChangeTree → HubTree × CarriedTree → Type 0
 UndoneBy forms h changes r = undone form_lens forms h (edits_of_all changes) ≡ Some r
 
--- The texts are the snapshot of a hub, and the lines of the words that were found with its state lines. The words take
--- it back, and it is in step.
+-- The texts are the snapshot of a hub, which reads as its tree, and the lines of the words that were found with its
+-- state lines. The words take it back, and its ints are i64.
 pub record AreTexts (forms : List FormTree) (h : HubTree) (r : HubTree × CarriedTree)
     (payload lines : List ℕ) : Type 0 where
   pub snapshot : payload ≡ compact_text (tree_of_hub_snapshot forms h)
+  pub reads : tree_of_text payload ≡ Some (tree_of_hub_snapshot forms h)
   pub written : lines ≡ words_text r.1 ++ state_lines forms h
   pub back : BringsBack form_lens forms r.1 r.0 h
-  pub in_step : IsHub form_lens forms h
+  pub whole : hub_holds_i64s h ≡ true
 
 -- what is made is what undoing the last changes of these payloads stores and writes
 pub record IsMade (count : ℕ) (held : List (List ℕ)) (made : MoreText) : Type 0 where

@@ -1,10 +1,10 @@
 // Words of all documents of a hub, joined.
 
-ghost use Rattle.std.specs.Prelude.{◌≡◌, IfOk, OnOk, List, length, map};
-ghost use Rattle.edit_module.specs.Views.{primitive_tree, word_tree, word_trees};
-ghost use Rattle.edit_module.specs.Words.{WordTree, joined, word_of};
+ghost use Rattle.std.specs.Prelude.{◌≡◌, IfOk, List, length, map};
+ghost use Rattle.edit_module.specs.Views.{word_tree, word_trees};
+ghost use Rattle.edit_module.specs.Words.{joined};
 ghost use Rattle.view_hub.specs.Views.{carried_tree};
-ghost use Rattle.hub_undo.specs.HubUndone.{joined_carried, joined_views, no_words};
+ghost use Rattle.hub_undo.specs.HubUndone.{joined_carried, joined_views, no_view_words, no_words};
 ghost use Rattle.hub_undo.specs.UndoSteps.{HasViews, joined_all};
 ghost use Rattle.hub_undo.specs.UndoViews.{carried_trees};
 
@@ -25,7 +25,8 @@ pub(crate) fn join_all(
     let mut parts = parts;
     let mut all = none_of(alloc, views)?;
     'parts: while let Some(part) = parts.pop() {
-        all = join(alloc, all, part)?;
+        let longer = join(alloc, all, part)?;
+        all = longer;
     }
     Ok(all)
 }
@@ -35,23 +36,29 @@ fn none_of(alloc: Global, views: usize) -> Result<HubCarried, AllocError>
     ensures { IfOk result (λ words. carried_tree words ≡ no_words views) }
 {
     let hub = Word::from_vec(Vec::new(alloc));
-    let mut words = Vec::with_capacity(alloc, views)?;
-    for _ in 0..views {
-        words.push(Word::from_vec(Vec::new(alloc)))?;
-    }
-    Ok(HubCarried {
-        hub,
-        views: Words::from_vec(words),
-    })
+    let views = no_view_words(alloc, views)?;
+    Ok(HubCarried { hub, views })
 }
 
-// At each document the first word and then the second.
+fn no_view_words(alloc: Global, views: usize) -> Result<Words, AllocError>
+    ensures { IfOk result (λ words. word_trees words ≡ no_view_words views) }
+{
+    let mut words = Vec::with_capacity(alloc, views)?;
+    for at in 0..views {
+        let none = Word::from_vec(Vec::new(alloc));
+        words.push(none)?;
+    }
+    Ok(Words::from_vec(words))
+}
+
+// At each document the first word and then the second. The two have as many views.
 fn join(alloc: Global, first: HubCarried, second: HubCarried) -> Result<HubCarried, AllocError>
+    requires views { length first.views ≡ length second.views }
     ensures { IfOk result (λ words. carried_tree words
         ≡ joined_carried (carried_tree first) (carried_tree second)) }
 {
     let hub = join_words(first.hub, second.hub)?;
-    let views = join_views(alloc, first.views, second.views)?;
+    let views = join_views(alloc, first.views.into_vec(), second.views.into_vec())?;
     Ok(HubCarried { hub, views })
 }
 
@@ -64,17 +71,22 @@ fn join_words(first: Word, second: Word) -> Result<Word, AllocError>
     Ok(Word::from_vec(primitives))
 }
 
-// The words of the views, joined one by one. The list is as long as the shorter of the two.
-fn join_views(alloc: Global, first: Words, second: Words) -> Result<Words, AllocError>
-    ensures { IfOk result (λ words. word_trees words ≡ joined_views (word_trees first) (word_trees second)) }
+// The words of the views, joined one by one, from the last to the first.
+fn join_views(alloc: Global, first: Vec<Word>, second: Vec<Word>) -> Result<Words, AllocError>
+    requires views { length first.items ≡ length second.items }
+    ensures { IfOk result (λ words. word_trees words
+        ≡ joined_views (word_trees first.items) (word_trees second.items)) }
 {
-    let mut joined = Vec::new(alloc);
-    let mut others = second.into_vec().into_iter();
-    'views: for word in first.into_vec() {
-        let Some(other) = others.next() else {
-            break 'views;
+    let mut first = first;
+    let mut second = second;
+    let mut joined = Vec::with_capacity(alloc, first.len())?;
+    'views: while let Some(word) = first.pop() {
+        let Some(other) = second.pop() else {
+            unreachable!()
         };
-        joined.push(join_words(word, other)?)?;
+        let both = join_words(word, other)?;
+        joined.push(both)?;
     }
+    joined.reverse();
     Ok(Words::from_vec(joined))
 }

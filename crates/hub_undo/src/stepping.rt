@@ -1,6 +1,6 @@
 //! The words that take a hub back over edits.
 
-ghost use Rattle.std.specs.Prelude.{◌≡◌, true, List, ℕ, IfOk, IfSome, Ok, option_map};
+ghost use Rattle.std.specs.Prelude.{◌≡◌, ◌<◌, true, length, List, ℕ, IfOk, IfSome, Ok, option_map};
 ghost use Rattle.doc_values.specs.Documents.{DocTree, doc_tree};
 ghost use Rattle.doc_values.specs.Types.{ty_tree, is_well_formed};
 ghost use Rattle.doc_values.specs.Typing.{has};
@@ -30,8 +30,8 @@ use view_hub::{Hub, HubCarried, HubFault, HubParts, HubSide, View};
 
 /// Steps a hub through changes, and returns words that take its document and that of each view back to what they were.
 ///
-/// Each word joins, from the last change to the first and in a group from the last edit to the first, the inverses of the words that acted on its document. It acts on
-/// the document that there is then, and gives the one from before.
+/// Each word joins, from the last change to the first and in a group from the last edit to the first, the inverses of the
+/// words that acted on its document. It acts on the document that there is then, and gives the one from before.
 ///
 /// None if and only if an edit is refused. The hub has then taken the steps before that edit. The only error is running
 /// out of memory; the hub is then in step, as at any time, and has taken some of the steps.
@@ -47,6 +47,8 @@ pub fn undo_changes<L: EditLens>(
         BringsBack L.EditLens hub.old.lenses (carried_tree w) (hub_tree hub.new.parts) (hub_tree hub.old.parts))) }
     ensures lenses { hub.new.lenses ≡ hub.old.lenses }
 {
+    // The proof needs that the hub is in step, which this call says.
+    let _hub = hub.hub();
     let mut parts = Vec::new(alloc);
     if !undo_each(alloc, hub, changes, &mut parts)? {
         return Ok(None);
@@ -112,8 +114,9 @@ fn undo_edit<L: EditLens>(
             let words = words_back(alloc, hub.lenses(), &before, &carried)?;
             Ok(Some(words))
         }
+        Err(HubFault::NoView { .. }) => Ok(None),
+        Err(HubFault::NoApply { .. }) => Ok(None),
         Err(HubFault::NoMemory) => Err(AllocError),
-        Err(_) => Ok(None),
     }
 }
 
@@ -124,6 +127,7 @@ fn words_back<L: EditLens>(
     parts: &HubParts,
     carried: &HubCarried,
 ) -> Result<HubCarried, AllocError>
+    requires some { 0 < length lenses.now }
     requires acted { (after : HubTree)
         × ActsTo L.EditLens lenses.now (hub_tree parts.now) (carried_tree carried.now) after }
     ensures is { IfOk result (λ words. carried_tree words
@@ -144,6 +148,8 @@ fn views_back<L: EditLens>(
     views: &[View],
     carried: &[Word],
 ) -> Result<Words, AllocError>
+    requires lenses { length lenses.now ≡ length carried.now }
+    requires views { length views.now ≡ length carried.now }
     requires acted { (after : List ViewTree)
         × ViewsActTo L.EditLens lenses.now (view_trees views.now) (word_trees carried.now) after }
     ensures is { IfOk result (λ words. word_trees words
@@ -154,12 +160,8 @@ fn views_back<L: EditLens>(
 {
     let mut words = Vec::with_capacity(alloc, carried.len())?;
     for at in 0..carried.len() {
-        let back = word_back(
-            alloc,
-            lenses[at].ty(Side::Right),
-            &carried[at],
-            &views[at].doc,
-        )?;
+        let ty = lenses[at].ty(Side::Right);
+        let back = word_back(alloc, ty, &carried[at], &views[at].doc)?;
         words.push(back)?;
     }
     Ok(Words::from_vec(words))

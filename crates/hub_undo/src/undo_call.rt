@@ -6,10 +6,10 @@ ghost use Rattle.store_run.specs.Effects.{StandsOn};
 ghost use Rattle.store_run.specs.Refusals.{IsUnwritten, EndsRefused};
 ghost use Rattle.store_run.specs.Rooms.{most_bytes};
 ghost use Rattle.store_run.specs.declared.refusals.StoreRefusal.{StoreRefusal};
-ghost use Rattle.store_more.specs.MoreCall.{Exits, IsSafeMore, IsUntouched, MoreEnds, StoresOne};
+ghost use Rattle.store_more.specs.MoreCall.{Exits, IsUntouched};
 ghost use Rattle.store_more.specs.MoreCauses.{IsMoreCause, OneHasNoRoom};
-ghost use Rattle.hub_undo.specs.HubUndoing.{HubUndoing, TakesBack, snapshot_text, undo_refusal, undo_text, undoing};
-ghost use Rattle.hub_undo.specs.UndoCall.{HubToUndo, RefusedToUndo};
+ghost use Rattle.hub_undo.specs.HubUndoing.{HubUndoing, snapshot_text, undo_refusal, undo_text, undoing};
+ghost use Rattle.hub_undo.specs.UndoCall.{HubToUndo, IsSafeUndo, RefusedToUndo, UndoEnds, UndoesCall};
 
 use crate::making::{MakingFault, make};
 use command_ends::Status;
@@ -26,10 +26,10 @@ use store_run::{read_store, refuse, refuse_store};
 /// `undo view V WORD`, and the state lines. Each word takes its document back. The payload and the lines are made before
 /// anything is stored.
 ///
-/// - `undoes`: after `Done` the snapshot is stored behind the payloads from before, and the lines were written.
-/// - `takes_back`: with the snapshot the payloads represent the hub before the last changes, which is in step, and each
-///   word acts on its document from before the call and gives that of the snapshot.
-/// - `safe`: whatever the status, an image that a crash leaves holds the payloads from before, or these and the
+/// - `undoes`: after `Done` the snapshot is stored behind the payloads from before, and the lines were written. With the
+///   snapshot the payloads represent the hub before the last changes, which is in step, and each word acts on its
+///   document from before the call and gives that of the snapshot.
+/// - `safe`: whatever the status, an image that a crash leaves holds the payloads from before, or these and such a
 ///   snapshot, or was possible before the call. If the sync of the opening failed, nothing has changed.
 /// - `exits`: what was written and what is stored after each status, if the last `count` payloads are of changes.
 /// - `causes`: over such payloads `StoreRefused` comes only if the log had no room for the snapshot, and `DiskFault`, if
@@ -42,12 +42,10 @@ use store_run::{read_store, refuse, refuse_store};
 ///   if that device failed.
 pub fn undo_hub<K: Sink, D: Disk>(alloc: Global, count: u64, sink: &mut K, disk: &mut D) -> Status
     ensures undoes { (store : HubToUndo D.Disk count disk.old) → result ≡ Status.Done
-        → StoresOne K.Sink D.Disk (sink.old, disk.old) (sink.new, disk.new) store.payloads
-        (snapshot_text store.undone) (undo_text store.undone) }
-    ensures takes_back { (store : HubToUndo D.Disk count disk.old) → TakesBack store.payloads store.undone }
+        → UndoesCall K.Sink D.Disk (sink.old, disk.old) (sink.new, disk.new) store.payloads store.undone }
     ensures safe { (store : HubToUndo D.Disk count disk.old)
         → (result ≡ Status.DiskFault) × IsUntouched K.Sink D.Disk (sink.old, disk.old) (sink.new, disk.new)
-        ⊎ IsSafeMore D.Disk disk.old disk.new store.payloads (snapshot_text store.undone) }
+        ⊎ IsSafeUndo D.Disk disk.old disk.new store.payloads store.undone }
     ensures exits { (store : HubToUndo D.Disk count disk.old)
         → Exits K.Sink D.Disk (sink.old, disk.old) (sink.new, disk.new) store.payloads
         (snapshot_text store.undone) (undo_text store.undone) result }
@@ -86,8 +84,7 @@ fn undo_payloads<K: Sink, D: Disk>(
     requires stands { (base : List (List ℕ)) × StandsOn D.Disk disk.old log.old base }
     ensures ends { (u : HubUndoing) → StandsOn D.Disk disk.old log.old payloads.now
         → undoing count payloads.now ≡ Some u
-        → MoreEnds K.Sink D.Disk (sink.old, disk.old) (sink.new, disk.new) payloads.now
-        (snapshot_text u) (undo_text u) result }
+        → UndoEnds K.Sink D.Disk (sink.old, disk.old) (sink.new, disk.new) payloads.now u result }
     ensures refused { (refusal : StoreRefusal) → undo_refusal count payloads.now ≡ Some refusal
         → IsUnwritten D.Disk disk.old disk.new
         × EndsRefused K.Sink D.Disk (sink.old, disk.old) (sink.new, disk.new) refusal result }

@@ -6,7 +6,6 @@ returns-clause-undoes g c =
     record {
       of_store = λ s. record {
         continues = e.undoes s;
-        in_step = e.takes_back s;
         stops = e.exits s;
         survives = e.safe s;
         caused = e.causes s;
