@@ -22,7 +22,7 @@ use Rattle.store_session.proofs.JournalRuns.{runs_alike}
 use Rattle.store_session.proofs.StatesInStep.{stored_sound}
 use Rattle.store_run.specs.ApplyCall.{ContinuesCall, IsSafeCall}
 use Rattle.store_run.specs.StoreRuns.{run, last, kept_of, text_of}
-use Rattle.store_run.specs.declared.session.Answer.{Answer}
+use Rattle.store_run.specs.declared.session.StoredAnswer.{StoredAnswer}
 use Rattle.editlens_main.specs.Applies.{Applies}
 use Rattle.editlens_main.specs.Stores.{Store}
 use Rattle.command_ends.specs.declared.status.Status.{Status}
@@ -33,7 +33,7 @@ use Rattle.apply_laws.proofs.RunsOverStores.{journal_in_step, one_run}
 
 -- ---- a run of the session is a run over the store
 
-module _ (before : StoreParts) (lines : List Line) (steps : List (StoredState × Answer)) (is_run : run sessions before.state 0 lines ≡ Some steps) where
+module _ (before : StoreParts) (lines : List Line) (steps : List (StoredState × StoredAnswer)) (is_run : run sessions before.state 0 lines ≡ Some steps) where
   pub sound : (is_typed before.state.form ≡ true) × IsStateInStep before.state
   sound = stored_sound before.payloads before.state before.version before.stands
 
@@ -119,7 +119,7 @@ module _ {S K D : Type 0} (source : OfSource.Ghosts S) (sink : OfSink.Ghosts K) 
           version = refl;
           gave = subst (λ text. Gave sink old.1 new.1 text) (text_is s.steps j) s.given;
         } where
-          text_is : (steps : List (StoredState × Answer)) (j : IsJournalRun before.state 0 (lines_of s.bytes) steps)
+          text_is : (steps : List (StoredState × StoredAnswer)) (j : IsJournalRun before.state 0 (lines_of s.bytes) steps)
               → text_of steps ++ state_text (last before.state steps) ≡ text_from before.state.form before.state.triple j.journal
           text_is steps j = ap (λ l. l ++ state_text (last before.state steps)) j.text ∙ ap (λ u. answer_lines 1 j.journal ++ state_text u) j.at_last
 

@@ -3,23 +3,23 @@ use Rattle.std.proofs.Common.{◌≡◌, ℕ, ◌+◌, List, [], ◌∷◌, ◌+
 use Rattle.edit_journal.specs.Lines.{is_blank}
 use Rattle.edit_journal.specs.declared.line.Line.{Line}
 use Rattle.store_run.specs.StoreRuns.{run}
-use Rattle.store_run.specs.declared.session.Answer.{Answer}
+use Rattle.store_run.specs.declared.session.StoredAnswer.{StoredAnswer}
 use Rattle.store_run.specs.declared.session.StoredSession as OfSession
 use Rattle.apply_laws.proofs.Sequences.{put_first, first_made, first_is}
 
 module _ {A : Type 0} (session : OfSession.Ghosts A) where
   -- these steps are the run of the first ones of these lines
-  pub record FirstLines (t : session.State) (n : ℕ) (lines : List Line) (steps : List (session.State × Answer)) : Type 0 where
+  pub record FirstLines (t : session.State) (n : ℕ) (lines : List Line) (steps : List (session.State × StoredAnswer)) : Type 0 where
     pub first : List Line
     pub rest : List Line
     pub parts : lines ≡ first ++ rest
     pub is_run : run session t n first ≡ Some steps
 
   -- the run over the lines behind a first one
-  abbrev others : ℕ → List Line → session.State × Answer → Option (List (session.State × Answer))
+  abbrev others : ℕ → List Line → session.State × StoredAnswer → Option (List (session.State × StoredAnswer))
   others n lines s = run session s.0 (n + 1) lines
 
-  by_blank : (t : session.State) (n : ℕ) (line : Line) (lines : List Line) (x : session.State × Answer) (xs ys : List (session.State × Answer)) (b : Bool) → is_blank line ≡ b
+  by_blank : (t : session.State) (n : ℕ) (line : Line) (lines : List Line) (x : session.State × StoredAnswer) (xs ys : List (session.State × StoredAnswer)) (b : Bool) → is_blank line ≡ b
       → cond b (run session t n lines) (put_first (others n lines) (session.answer t (n + 1) line)) ≡ Some (x ∷ (xs ++ ys))
       → (run session t n lines ≡ Some (x ∷ (xs ++ ys)) → FirstLines t n lines (x ∷ xs))
       → (run session x.0 (n + 1) lines ≡ Some (xs ++ ys) → FirstLines x.0 (n + 1) lines xs)
@@ -44,7 +44,7 @@ module _ {A : Type 0} (session : OfSession.Ghosts A) where
             ∙ first_made (others n k.first) (session.answer t (n + 1) line) x xs is.0 k.is_run;
       }
 
-  pub first_lines : (t : session.State) (n : ℕ) (lines : List Line) (xs ys : List (session.State × Answer)) → run session t n lines ≡ Some (xs ++ ys) → FirstLines t n lines xs
+  pub first_lines : (t : session.State) (n : ℕ) (lines : List Line) (xs ys : List (session.State × StoredAnswer)) → run session t n lines ≡ Some (xs ++ ys) → FirstLines t n lines xs
   first_lines t n lines [] ys h = record { first = []; rest = lines; parts = refl; is_run = refl }
   first_lines t n [] (x ∷ xs) ys h = cc
   first_lines t n (line ∷ lines) (x ∷ xs) ys h =

@@ -7,7 +7,7 @@ use Rattle.store_run.proofs.OkLineCounts.{few_kept}
 use Rattle.store_run.specs.Crash.{IsAcknowledged}
 use Rattle.store_run.specs.OkLines.{ok_lines}
 use Rattle.store_run.specs.StoreRuns.{run, last, kept_of}
-use Rattle.store_run.specs.declared.session.Answer.{Answer}
+use Rattle.store_run.specs.declared.session.StoredAnswer.{StoredAnswer}
 use Rattle.store_run.specs.declared.session.StoredSession as OfSession
 use Rattle.apply_laws.proofs.FirstLines.{FirstLines, first_lines}
 
@@ -20,7 +20,7 @@ module _ {A : Type 0} (session : OfSession.Ghosts A) (before : Payloads) (t : se
   pub record LeavesPayloads (lines : List Line) (given image : List ℕ) : Type 0 where
     pub payloads : Payloads
     pub holds : HoldsPayloads payloads image
-    pub steps : List (session.State × Answer)
+    pub steps : List (session.State × StoredAnswer)
     pub run_of : FirstLines session t 0 lines steps
     pub still : Option (List ℕ)
     pub stands : session.stands_for payloads ≡ Ok (last t steps, still)
@@ -30,22 +30,22 @@ module _ {A : Type 0} (session : OfSession.Ghosts A) (before : Payloads) (t : se
     pub most : length (kept_of steps) ≤ ok_lines given + 1
 
   -- some steps, and what stands behind the first payloads that they kept
-  abbrev StandsBehind : List (session.State × Answer) → Payloads → Type 0
-  StandsBehind steps front = (xs : List (session.State × Answer)) × (ys : List (session.State × Answer)) × (v : Option (List ℕ))
+  abbrev StandsBehind : List (session.State × StoredAnswer) → Payloads → Type 0
+  StandsBehind steps front = (xs : List (session.State × StoredAnswer)) × (ys : List (session.State × StoredAnswer)) × (v : Option (List ℕ))
       × (steps ≡ xs ++ ys) × (session.stands_for (before ++ front) ≡ Ok (last t xs, v))
       × (front ++ option_to_list v ≡ option_to_list version ++ kept_of xs) × ((front ≡ []) ⊎ (v ≡ None))
 
   same_front : (front : Payloads) → front ≡ [] → before ++ front ≡ before
   same_front front h = ap (λ l. before ++ l) h ∙ append-nil before
 
-  module _ (lines : List Line) (given image : List ℕ) (steps : List (session.State × Answer)) (is_run : run session t 0 lines ≡ Some steps) where
+  module _ (lines : List Line) (given image : List ℕ) (steps : List (session.State × StoredAnswer)) (is_run : run session t 0 lines ≡ Some steps) where
     leaves_front : (front : Payloads) (s : StandsBehind steps front) → HoldsPayloads (before ++ front) image
         → ok_lines given ≤ length (kept_of s.0) → length (kept_of s.0) ≤ ok_lines given + 1 → LeavesPayloads lines given image
     leaves_front front s holds least most = record {
       payloads = before ++ front;
       holds = holds;
       steps = s.0;
-      run_of = first_lines session t 0 lines s.0 s.1 (is_run ∙ ap (λ (l : List (session.State × Answer)). Some l) s.3);
+      run_of = first_lines session t 0 lines s.0 s.1 (is_run ∙ ap (λ (l : List (session.State × StoredAnswer)). Some l) s.3);
       still = s.2;
       stands = s.4;
       stored =

@@ -12,8 +12,8 @@ use lens_run::Checked;
 use lens_types::Typed;
 use std::alloc::Global;
 use std::str;
-use store_records::{ReopenFault, StoredLens, snapshot_payload, stored_lens};
-use store_session::{Opened, reopen};
+use store_records::{RecordFault, StoredLens, snapshot_payload, stored_lens};
+use store_session::{OpenedRecords, reopen};
 use texts::Twin;
 
 /// Returns what payloads stand for: `stands COUNT VERSION SNAPSHOT`, with the snapshot that would be stored, or the
@@ -35,7 +35,7 @@ fn answer_by(alloc: Global, stored: &StoredLens, payloads: &Payloads) -> Result<
     }
 }
 
-fn opened_text(alloc: Global, typed: &Typed, opened: &Opened<Checked>) -> Result<String> {
+fn opened_text(alloc: Global, typed: &Typed, opened: &OpenedRecords<Checked>) -> Result<String> {
     let (left, right) = (opened.session.left(), opened.session.right());
     let comp = opened.session.comp();
     if !left.has_type(typed.left()) || !right.has_type(typed.right()) || !conforms(typed, comp) {
@@ -49,10 +49,10 @@ fn opened_text(alloc: Global, typed: &Typed, opened: &Opened<Checked>) -> Result
     Ok(format!(in alloc; "stands {count} {version} {snapshot}")?)
 }
 
-fn fault_text(alloc: Global, fault: ReopenFault) -> Result<String> {
+fn fault_text(alloc: Global, fault: RecordFault) -> Result<String> {
     match fault {
-        ReopenFault::BadRecord { number } => Ok(format!(in alloc; "bad-record {number}")?),
-        ReopenFault::NotConsistent { number } => Ok(format!(in alloc; "not-consistent {number}")?),
-        ReopenFault::NoMemory => bail!("memory ran out"),
+        RecordFault::BadRecord { number } => Ok(format!(in alloc; "bad-record {number}")?),
+        RecordFault::NotConsistent { number } => Ok(format!(in alloc; "not-consistent {number}")?),
+        RecordFault::NoMemory => bail!("memory ran out"),
     }
 }

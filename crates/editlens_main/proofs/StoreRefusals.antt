@@ -1,8 +1,8 @@
 -- Any bytes are refused as a store, or hold a state that is in step.
 use Rattle.std.proofs.Common.{◌≡◌, inl, inr, List, ℕ, Some, Result, Ok, Err, refl, sym, ap, ◌∙◌}
 use Rattle.gate_log.specs.LogBytes.{LogContent, payloads, not_a_log, bad_record, log_of}
-use Rattle.store_records.specs.declared.record_fault.ReopenFault.{ReopenFault as RecordFault}
-use Rattle.store_records.specs.declared.record_fault.ReopenFault.TheVariants as of_records
+use Rattle.store_records.specs.declared.record_fault.RecordFault.{RecordFault}
+use Rattle.store_records.specs.declared.record_fault.RecordFault.TheVariants as of_records
 use Rattle.store_run.specs.Refusals.{refusal_of_payloads, refusal_of_log, refusal_in}
 use Rattle.store_run.specs.declared.refusals.StoreRefusal.{StoreRefusal}
 use Rattle.store_run.specs.declared.refusals.StoreRefusal.TheVariants.{NotALog, BadRecord, NotConsistent}

@@ -10,7 +10,7 @@ use Rattle.store_session.specs.contracts.instance.StoreSessionStoredSession.TheI
 use Rattle.store_run.specs.Refusals.{IsUnwritten, EndsRefused}
 use Rattle.store_run.specs.StoreRuns.{run}
 use Rattle.store_run.specs.Stores as stores
-use Rattle.store_run.specs.declared.session.Answer.{Answer}
+use Rattle.store_run.specs.declared.session.StoredAnswer.{StoredAnswer}
 use Rattle.store_run.specs.declared.refusals.StoreRefusal.{StoreRefusal}
 use Rattle.command_ends.specs.declared.status.Status.{Status}
 
@@ -26,7 +26,7 @@ RefusedStore disk d = stores.RefusedStore disk sessions d
 -- and all its states are in that relation.
 pub record StaysInStep (state : StoredState) : Type 0 where
   pub first : IsStateInStep state
-  pub runs : (lines : List Line) (steps : List (StoredState × Answer)) → run sessions state 0 lines ≡ Some steps
+  pub runs : (lines : List Line) (steps : List (StoredState × StoredAnswer)) → run sessions state 0 lines ≡ Some steps
       → IsJournalRun state 0 lines steps
 
 module _ {K D : Type 0} (sink : OfSink.Ghosts K) (disk : OfDisk.Ghosts D) (old new : K × D) (status : Status) where

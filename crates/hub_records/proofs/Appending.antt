@@ -1,20 +1,20 @@
 -- One more payload goes on from what stands before it.
 use Rattle.std.proofs.Common.{◌≡◌, ℕ, suc, ◌+◌, List, [], ◌∷◌, ◌++◌, length, Option, Some, None, Result, Ok, Err, refl, sym, ap, ◌∙◌, arith}
 use Rattle.lens_forms.specs.Forms.{FormTree}
-use Rattle.store_records.specs.declared.record_fault.ReopenFault.{ReopenFault}
+use Rattle.store_records.specs.declared.record_fault.RecordFault.{RecordFault}
 use Rattle.hub_records.specs.HubRecords.{record_in}
 use Rattle.hub_records.specs.HubLenses.{forms_of_payload}
 use Rattle.hub_records.specs.HubStands.{HubStanding, going_on, after_record, after_payloads, at_start, from_opening, stands_for}
 
-going_on_nowhere : (r : Result HubStanding ReopenFault) → going_on (λ t. Ok t) r ≡ r
+going_on_nowhere : (r : Result HubStanding RecordFault) → going_on (λ t. Ok t) r ≡ r
 going_on_nowhere (Ok t) = refl
 going_on_nowhere (Err fault) = refl
 
 -- the record of a payload with this number
-abbrev next_record : List ℕ → ℕ → HubStanding → Result HubStanding ReopenFault
+abbrev next_record : List ℕ → ℕ → HubStanding → Result HubStanding RecordFault
 next_record p number t = after_record number t (record_in p)
 
-append_step : (p : List ℕ) (n m : ℕ) (ps : List (List ℕ)) (r : Result HubStanding ReopenFault)
+append_step : (p : List ℕ) (n m : ℕ) (ps : List (List ℕ)) (r : Result HubStanding RecordFault)
     → ((t : HubStanding) → after_payloads (n + 1) t (ps ++ p ∷ []) ≡ going_on (next_record p m) (after_payloads (n + 1) t ps))
     → going_on (λ t. after_payloads (n + 1) t (ps ++ p ∷ [])) r ≡ going_on (next_record p m) (going_on (λ t. after_payloads (n + 1) t ps) r)
 append_step p n m ps (Ok t) h = h t

@@ -11,7 +11,7 @@ use Rattle.lens_forms.specs.Forms.{FormTree, form_id}
 use Rattle.lens_core.specs.Complements.{nil}
 use Rattle.view_hub.specs.Hubs.{ViewTree, HubTree, at_hub, at_view}
 use Rattle.store_records.specs.RecordJson.{one_member}
-use Rattle.store_records.specs.declared.record_fault.ReopenFault.TheVariants.{BadRecord, NotConsistent}
+use Rattle.store_records.specs.declared.record_fault.RecordFault.TheVariants.{BadRecord, NotConsistent}
 use Rattle.hub_records.specs.HubChanges.{one, group, tree_of_hub_change, change_of_tree}
 use Rattle.hub_records.specs.HubRecords.{change_record, add_record, snapshot_record, tree_of_programs, tree_of_added, tree_of_hub_snapshot, programs_of, record_of}
 use Rattle.hub_records.specs.HubStands.{HubStanding, after_record, after_add, at_start}

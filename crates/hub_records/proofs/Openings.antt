@@ -1,8 +1,8 @@
 -- What the first record makes of the payloads behind it.
 use Rattle.std.proofs.Common.{◌≡◌, ℕ, ◌<◌, List, [], ◌∷◌, drop, length, get_or, Option, Some, None, option_map, Result, Ok, Err, refl, sym, ap, ◌∙◌, arith}
 use Rattle.lens_forms.specs.Forms.{FormTree}
-use Rattle.store_records.specs.declared.record_fault.ReopenFault.{ReopenFault}
-use Rattle.store_records.specs.declared.record_fault.ReopenFault.TheVariants.{BadRecord, NotConsistent, NoMemory}
+use Rattle.store_records.specs.declared.record_fault.RecordFault.{RecordFault}
+use Rattle.store_records.specs.declared.record_fault.RecordFault.TheVariants.{BadRecord, NotConsistent, NoMemory}
 use Rattle.hub_records.specs.HubLenses.{forms_of_payload}
 use Rattle.hub_records.specs.HubStands.{HubStanding, after_payloads, at_start, from_opening, stands_for}
 use Rattle.hub_records.specs.Outcomes.{IsFirstFault, IsStandFault}
@@ -21,7 +21,7 @@ none_starts : (ps : List (List ℕ)) (o : Option (List FormTree)) (n : ℕ) → 
 none_starts ps o n one none = ap (from_opening ps) none ∙ ap (λ (k : ℕ). Err (BadRecord k)) (sym one)
 
 -- a first record that is at fault is the fault of all
-pub first_fails : (ps : List (List ℕ)) (p : List ℕ) (fault : ReopenFault) → 0 < length ps → p ≡ get_or ps 0 p → IsFirstFault (forms_of_payload p) fault → IsStandFault (stands_for ps) fault
+pub first_fails : (ps : List (List ℕ)) (p : List ℕ) (fault : RecordFault) → 0 < length ps → p ≡ get_or ps 0 p → IsFirstFault (forms_of_payload p) fault → IsStandFault (stands_for ps) fault
 first_fails [] p fault some is h = absurd (omega arith)
 first_fails (q ∷ ps) p (BadRecord n) some is h = none_starts ps (forms_of_payload q) n h.0 (ap forms_of_payload (sym is) ∙ h.1)
 first_fails (q ∷ ps) p (NotConsistent n) some is h = absurd h

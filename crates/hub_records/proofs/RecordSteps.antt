@@ -6,8 +6,8 @@ use Rattle.edit_module.specs.Words.{WordTree}
 use Rattle.lens_flat.specs.declared.flat.ReadyForm.{ReadyForm}
 use Rattle.lens_forms.specs.Forms.{FormTree, form_tree, left_type}
 use Rattle.store_records.specs.StoredLens.{form_of_text}
-use Rattle.store_records.specs.declared.record_fault.ReopenFault.{ReopenFault}
-use Rattle.store_records.specs.declared.record_fault.ReopenFault.TheVariants.{BadRecord, NotConsistent}
+use Rattle.store_records.specs.declared.record_fault.RecordFault.{RecordFault}
+use Rattle.store_records.specs.declared.record_fault.RecordFault.TheVariants.{BadRecord, NotConsistent}
 use Rattle.view_hub.specs.Groups.{RefusedPart, step_group, add_view}
 use Rattle.view_hub.specs.Hubs.{HubTree, Place, CarriedTree}
 use Rattle.hub_run.specs.RunStates.{forms_of_lenses, ready_lens}

@@ -25,8 +25,8 @@ use Rattle.lens_syntax.specs.Programs.{unbounded}
 use Rattle.accepted_programs.specs.Program.{Refusal, form_of_program}
 use Rattle.accepted_programs.proofs.AcceptedForms.{result_typed}
 use Rattle.store_records.specs.StoredLens.{accepted, form_of_text}
-use Rattle.store_records.specs.declared.record_fault.ReopenFault.{ReopenFault}
-use Rattle.store_records.specs.declared.record_fault.ReopenFault.TheVariants.{BadRecord, NotConsistent}
+use Rattle.store_records.specs.declared.record_fault.RecordFault.{RecordFault}
+use Rattle.store_records.specs.declared.record_fault.RecordFault.TheVariants.{BadRecord, NotConsistent}
 use Rattle.store_session.specs.ConsistencyTest.{is_consistent}
 use Rattle.store_session.specs.ConsistencyDecided.{consistent_if}
 use Rattle.view_hub.specs.Groups.{GroupStepped, with_words, then_others, step_group, add_view}
@@ -256,7 +256,7 @@ module _ (n : ℕ) (s u : HubStanding) (k : IsSound s) where
 
 -- ---- all records
 
-goes_on : (others : HubStanding → Result HubStanding ReopenFault) (r : Result HubStanding ReopenFault) (u : HubStanding)
+goes_on : (others : HubStanding → Result HubStanding RecordFault) (r : Result HubStanding RecordFault) (u : HubStanding)
     → ((t : HubStanding) → r ≡ Ok t → others t ≡ Ok u → IsSound u) → going_on others r ≡ Ok u → IsSound u
 goes_on others (Ok t) u all h = all t refl h
 goes_on others (Err fault) u all h = absurd cc

@@ -16,7 +16,7 @@ use Rattle.lens_syntax.specs.Programs.{unbounded}
 use Rattle.lens_syntax.proofs.GrammarAnswers.{read_again}
 use Rattle.accepted_programs.specs.Program.{form_of_program}
 use Rattle.store_records.specs.StoredLens.{accepted, form_of_text}
-use Rattle.store_records.specs.declared.record_fault.ReopenFault.TheVariants.{BadRecord, NotConsistent}
+use Rattle.store_records.specs.declared.record_fault.RecordFault.TheVariants.{BadRecord, NotConsistent}
 use Rattle.store_records.proofs.ComplementsAreRead.{read_back}
 use Rattle.store_session.specs.ConsistencyTest.{is_consistent}
 use Rattle.store_session.specs.ConsistencyDecided.{consistent_then}

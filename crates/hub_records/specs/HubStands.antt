@@ -10,8 +10,8 @@ use Rattle.lens_forms.specs.Forms.{FormTree, left_type, right_type}
 use Rattle.store_session.specs.ConsistencyTest.{is_consistent}
 use Rattle.store_records.specs.StoredComplements.{complement_of}
 use Rattle.store_records.specs.StoredLens.{form_of_text}
-use Rattle.store_records.specs.declared.record_fault.ReopenFault.{ReopenFault}
-use Rattle.store_records.specs.declared.record_fault.ReopenFault.TheVariants.{BadRecord, NotConsistent}
+use Rattle.store_records.specs.declared.record_fault.RecordFault.{RecordFault}
+use Rattle.store_records.specs.declared.record_fault.RecordFault.TheVariants.{BadRecord, NotConsistent}
 use Rattle.view_hub.specs.Groups.{GroupStepped, step_group, add_view}
 use Rattle.view_hub.specs.Hubs.{ViewTree, HubTree}
 use Rattle.hub_run.specs.FormLenses.{form_lens}
@@ -34,7 +34,7 @@ abbrev pub step_of : List FormTree → HubTree → HubChangeTree → Option Grou
 step_of forms h change = step_group form_lens forms h (edits_of change)
 
 -- the hub after a change that was accepted, counted once; a change that is refused is a bad record
-abbrev pub after_step : ℕ → HubStanding → Option GroupStepped → Result HubStanding ReopenFault
+abbrev pub after_step : ℕ → HubStanding → Option GroupStepped → Result HubStanding RecordFault
 after_step number s (Some (Ok made)) = Ok (record s { hub = made.0; count = s.count + 1 })
 after_step number s (Some (Err why)) = Err (BadRecord number)
 after_step number s None = Err (BadRecord number)
@@ -50,11 +50,11 @@ abbrev pub with_form : HubStanding → FormTree → Option HubStanding
 with_form s l = option_map (λ h. record s { forms = s.forms ++ l ∷ []; hub = h }) (view_more l s.hub)
 
 -- a lens that may not stand behind the others, or is none, is a bad record
-abbrev pub after_view : ℕ → Option HubStanding → Result HubStanding ReopenFault
+abbrev pub after_view : ℕ → Option HubStanding → Result HubStanding RecordFault
 after_view number (Some s) = Ok s
 after_view number None = Err (BadRecord number)
 
-abbrev pub after_add : ℕ → HubStanding → Option FormTree → Result HubStanding ReopenFault
+abbrev pub after_add : ℕ → HubStanding → Option FormTree → Result HubStanding RecordFault
 after_add number s found = after_view number (option_and_then (with_form s) (joining s.forms found))
 
 -- ---- a snapshot
@@ -84,7 +84,7 @@ are_consistent (l ∷ ls) x (v ∷ vs) = is_consistent l x v.comp v.doc && are_c
 are_consistent _ x _ = false
 
 -- a snapshot puts its hub in the place of the one before, if all its views are consistent
-abbrev pub after_hub : ℕ → HubStanding → Option HubTree → Result HubStanding ReopenFault
+abbrev pub after_hub : ℕ → HubStanding → Option HubTree → Result HubStanding RecordFault
 after_hub number s (Some h) = if are_consistent s.forms h.hub h.views then Ok (record s { hub = h })
     else Err (NotConsistent number)
 after_hub number s None = Err (BadRecord number)
@@ -93,19 +93,19 @@ after_hub number s None = Err (BadRecord number)
 
 -- A change is stepped, all of it or nothing. A view is added if its lens is accepted and may stand behind the others. A
 -- snapshot is taken if it is consistent. What is no record is a bad one.
-abbrev pub after_record : ℕ → HubStanding → Option HubRecordTree → Result HubStanding ReopenFault
+abbrev pub after_record : ℕ → HubStanding → Option HubRecordTree → Result HubStanding RecordFault
 after_record number s None = Err (BadRecord number)
 after_record number s (Some (change_record change)) = after_step number s (step_of s.forms s.hub change)
 after_record number s (Some (add_record text)) = after_add number s (form_of_text text)
 after_record number s (Some (snapshot_record p)) = after_hub number s (hub_from s.forms p)
 
 -- the records from this number on, each from what stands after the one before it
-abbrev pub going_on : (HubStanding → Result HubStanding ReopenFault) → Result HubStanding ReopenFault
-    → Result HubStanding ReopenFault
+abbrev pub going_on : (HubStanding → Result HubStanding RecordFault) → Result HubStanding RecordFault
+    → Result HubStanding RecordFault
 going_on others (Ok s) = others s
 going_on others (Err fault) = Err fault
 
-abbrev pub after_payloads : ℕ → HubStanding → List (List ℕ) → Result HubStanding ReopenFault
+abbrev pub after_payloads : ℕ → HubStanding → List (List ℕ) → Result HubStanding RecordFault
 after_payloads number s [] = Ok s
 after_payloads number s (p ∷ ps) =
     going_on (λ t. after_payloads (number + 1) t ps) (after_record number s (record_in p))
@@ -116,11 +116,11 @@ after_payloads number s (p ∷ ps) =
 abbrev pub at_start : List FormTree → HubStanding
 at_start forms = record { forms = forms; hub = hub_of forms; count = 0 }
 
-abbrev pub from_opening : List (List ℕ) → Option (List FormTree) → Result HubStanding ReopenFault
+abbrev pub from_opening : List (List ℕ) → Option (List FormTree) → Result HubStanding RecordFault
 from_opening ps (Some forms) = after_payloads 2 (at_start forms) ps
 from_opening ps None = Err (BadRecord 1)
 
 -- what payloads stand for; the records are numbered from 1 on
-abbrev pub stands_for : List (List ℕ) → Result HubStanding ReopenFault
+abbrev pub stands_for : List (List ℕ) → Result HubStanding RecordFault
 stands_for [] = Err (BadRecord 1)
 stands_for (p ∷ ps) = from_opening ps (forms_of_payload p)

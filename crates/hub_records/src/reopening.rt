@@ -19,7 +19,7 @@ use edit_inverse::construct;
 use lens_flat::Flat;
 use serde_json::Value;
 use std::alloc::Global;
-use store_records::{ReopenFault, read_tree};
+use store_records::{RecordFault, read_tree};
 use texts::Bytes;
 use view_hub::{Hub, HubGroupFault};
 
@@ -47,7 +47,7 @@ pub struct OpenedHub {
 ///
 /// It takes time in proportion to the payloads, beside what changes and snapshots take.
 #[tactic(auto, using(crate::proofs::Openings::first_rules))]
-pub fn reopen_hub(alloc: Global, records: &[Bytes]) -> Result<OpenedHub, ReopenFault>
+pub fn reopen_hub(alloc: Global, records: &[Bytes]) -> Result<OpenedHub, RecordFault>
     ensures stands { MatchResult result
         (λ opened. stands_for records.now ≡ Ok (hub_standing opened.hub opened.count))
         (IsStandFault (stands_for records.now)) }
@@ -57,7 +57,7 @@ pub fn reopen_hub(alloc: Global, records: &[Bytes]) -> Result<OpenedHub, ReopenF
         IsHubOf opened.hub.lenses (hub_tree opened.hub.parts)) }
 {
     if records.is_empty() {
-        return Err(ReopenFault::BadRecord { number: FIRST });
+        return Err(RecordFault::BadRecord { number: FIRST });
     }
     let mut opened = begin(alloc, records[0].as_slice())?;
     for at in 1..records.len() {
@@ -69,14 +69,14 @@ pub fn reopen_hub(alloc: Global, records: &[Bytes]) -> Result<OpenedHub, ReopenF
 }
 
 // The hub before any change, for this first payload.
-fn begin(alloc: Global, payload: &[u8]) -> Result<OpenedHub, ReopenFault>
+fn begin(alloc: Global, payload: &[u8]) -> Result<OpenedHub, RecordFault>
     ensures stands { MatchResult result
         (λ o. option_map at_start (forms_of_payload payload.now) ≡ Some (hub_standing o.hub o.count))
         (IsFirstFault (forms_of_payload payload.now)) }
     ensures count { IfOk result (λ o. o.count ≡ 0) }
 {
     let Some(lenses) = lenses_of_payload(alloc, payload)? else {
-        return Err(ReopenFault::BadRecord { number: FIRST });
+        return Err(RecordFault::BadRecord { number: FIRST });
     };
     let hub = Hub::start(alloc, lenses)?;
     Ok(OpenedHub { hub, count: 0 })
@@ -88,7 +88,7 @@ fn take_record(
     number: u64,
     payload: &[u8],
     opened: &mut OpenedHub,
-) -> Result<(), ReopenFault>
+) -> Result<(), RecordFault>
     requires count { opened.old.count < number }
     ensures stands { Reaches result
         (after_record number (hub_standing opened.old.hub opened.old.count) (record_in payload.now))
@@ -96,7 +96,7 @@ fn take_record(
     ensures count { opened.new.count ≤ opened.old.count + 1 }
 {
     let Some(tree) = read_tree(alloc, payload)? else {
-        return Err(ReopenFault::BadRecord { number });
+        return Err(RecordFault::BadRecord { number });
     };
     take_tree(alloc, number, &tree, opened)
 }
@@ -107,7 +107,7 @@ fn take_tree(
     number: u64,
     tree: &Value,
     opened: &mut OpenedHub,
-) -> Result<(), ReopenFault>
+) -> Result<(), RecordFault>
     requires count { opened.old.count < number }
     ensures stands { Reaches result
         (after_record number (hub_standing opened.old.hub opened.old.count)
@@ -123,13 +123,13 @@ fn take_tree(
     }
     match snapshot_in(tree) {
         Some((hub, views)) => take_snapshot(alloc, number, hub, views, &mut opened.hub),
-        None => Err(ReopenFault::BadRecord { number }),
+        None => Err(RecordFault::BadRecord { number }),
     }
 }
 
 // Steps by a change, which counts one.
 #[tactic(auto, using(crate::proofs::RecordSteps::record_rules))]
-fn take_change(number: u64, change: &HubChange, opened: &mut OpenedHub) -> Result<(), ReopenFault>
+fn take_change(number: u64, change: &HubChange, opened: &mut OpenedHub) -> Result<(), RecordFault>
     requires count { opened.old.count < number }
     ensures stands { Reaches result
         (after_record number (hub_standing opened.old.hub opened.old.count)
@@ -142,8 +142,8 @@ fn take_change(number: u64, change: &HubChange, opened: &mut OpenedHub) -> Resul
             opened.count += 1;
             Ok(())
         }
-        Err(HubGroupFault::NoMemory) => Err(ReopenFault::NoMemory),
-        Err(_) => Err(ReopenFault::BadRecord { number }),
+        Err(HubGroupFault::NoMemory) => Err(RecordFault::NoMemory),
+        Err(_) => Err(RecordFault::BadRecord { number }),
     }
 }
 
@@ -154,13 +154,13 @@ fn take_added(
     number: u64,
     text: &str,
     hub: &mut Hub<Flat>,
-) -> Result<(), ReopenFault>
+) -> Result<(), RecordFault>
     ensures stands { (count : ℕ) → Reaches result
         (after_record number (hub_standing hub.old count) (Some (add_record text.now)))
         (hub_standing hub.new count) }
 {
     let Some(lens) = joining_lens(alloc, hub.lenses(), text)? else {
-        return Err(ReopenFault::BadRecord { number });
+        return Err(RecordFault::BadRecord { number });
     };
     let word = construct(alloc, lens.typed().left(), hub.hub())?;
     hub.add(lens, &word)?;
@@ -175,17 +175,17 @@ fn take_snapshot(
     document: &Value,
     views: &[Value],
     hub: &mut Hub<Flat>,
-) -> Result<(), ReopenFault>
+) -> Result<(), RecordFault>
     ensures stands { (count : ℕ) → Reaches result
         (after_record number (hub_standing hub.old count)
         (Some (snapshot_record (view document.now, items_view views.now))))
         (hub_standing hub.new count) }
 {
     let Some(parts) = read_parts(alloc, hub.lenses(), document, views)? else {
-        return Err(ReopenFault::BadRecord { number });
+        return Err(RecordFault::BadRecord { number });
     };
     if !are_consistent(alloc, hub.lenses(), &parts)? {
-        return Err(ReopenFault::NotConsistent { number });
+        return Err(RecordFault::NotConsistent { number });
     }
     hub.replace(parts);
     Ok(())

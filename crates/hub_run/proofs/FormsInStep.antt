@@ -21,7 +21,7 @@ use Rattle.hub_run.specs.EditJson.{edit_of_line}
 use Rattle.hub_run.specs.FormLenses.{form_lens, lens_by}
 use Rattle.hub_run.specs.FoundLenses.{AllTyped}
 use Rattle.hub_run.specs.HubScript.{hub_script}
-use Rattle.hub_run.specs.Runs.{HubItem, take_item, HubState, answered, answer, hub_of, first_state, IsInStep}
+use Rattle.hub_run.specs.Runs.{HubItem, take_hub_item, HubState, answered, answer, hub_of, first_state, IsInStep}
 use Rattle.hub_run.proofs.FoundForms.{accepted_forms}
 use Rattle.hub_run.proofs.MappedLenses.{items_are, first_views}
 use Rattle.hub_run.proofs.RunsInStep.{item_stays}
@@ -79,7 +79,7 @@ hub_back (l ∷ ls) h all = all_back (left_type l.0) (l ∷ ls) h.hub h.views al
 -- ---- one item
 
 abbrev pub ItemStays : List FormTree → Type 0
-ItemStays forms = (h : HubTree) (item : HubItem) → FormHub forms h → (s : HubTree × HubAnswerTree) × (take_item form_lens forms h item ≡ Some s) × FormHub forms s.0
+ItemStays forms = (h : HubTree) (item : HubItem) → FormHub forms h → (s : HubTree × HubAnswerTree) × (take_hub_item form_lens forms h item ≡ Some s) × FormHub forms s.0
 
 typed_stays : (ls : List TypedForm) → ItemStays (map form_of ls)
 typed_stays ls h item all =
@@ -92,7 +92,7 @@ forms_stay forms all = subst ItemStays (forms_back forms all) (typed_stays (with
 state_stays : (forms : List FormTree) → AllTyped forms → (t : HubState) (n : ℕ) (line : Line) → is_blank line ≡ false → IsInStep forms t
     → (s : HubState × Answer) × (answer t n line ≡ Some s) × IsInStep forms s.0
 state_stays forms all t n line not_blank kept =
-    let s = subst (λ fs. (s : HubTree × HubAnswerTree) × (take_item form_lens fs t.hub (edit_of_line line) ≡ Some s) × FormHub forms s.0) (sym kept.0)
+    let s = subst (λ fs. (s : HubTree × HubAnswerTree) × (take_hub_item form_lens fs t.hub (edit_of_line line) ≡ Some s) × FormHub forms s.0) (sym kept.0)
     (forms_stay forms all t.hub (edit_of_line line) kept.1) in
     (answered t.forms n s.0, ap (option_map (answered t.forms n)) s.1, (kept.0, s.2))
 

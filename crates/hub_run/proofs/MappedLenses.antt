@@ -10,7 +10,7 @@ use Rattle.lens_core.specs.declared.lens.EditLens as OfLens
 use Rattle.lens_core.specs.Translation.{Translated}
 use Rattle.view_hub.specs.Hubs.{ViewTree, HubTree, Place, at_hub, at_view, stepped, lower, lower_all, lower_others, after_hub, act_on_hub, after_lift, after_view, step_view, step, first_view, start_hub}
 use Rattle.hub_run.specs.FormLenses.{lens_by}
-use Rattle.hub_run.specs.Runs.{HubItem, answer_of, take_item}
+use Rattle.hub_run.specs.Runs.{HubItem, answer_of, take_hub_item}
 
 -- the lenses of type L are seen as those of type F
 module _ {L F : Type 0} (f : L → F) (lens : OfLens.Ghosts F) where
@@ -90,7 +90,7 @@ module _ {L F : Type 0} (f : L → F) (lens : OfLens.Ghosts F) where
       ∙ ap (option_and_then (after_hub lens (map f ls) h.views w)) (hub_acted ls w h.hub)
   steps_are ls h (at_view k, w) = at_view_stepped ls h k w (slice_get h.views k)
 
-  pub items_are : (ls : List L) (h : HubTree) (item : HubItem) → take_item by_f ls h item ≡ take_item lens (map f ls) h item
+  pub items_are : (ls : List L) (h : HubTree) (item : HubItem) → take_hub_item by_f ls h item ≡ take_hub_item lens (map f ls) h item
   items_are ls h (Ok e) = ap (option_map (answer_of h)) (steps_are ls h e)
   items_are ls h (Err fault) = refl
 

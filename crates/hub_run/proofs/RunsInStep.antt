@@ -8,7 +8,7 @@ use Rattle.view_hub.specs.Hubs.{HubTree, CarriedTree, hub_after}
 use Rattle.view_hub.specs.Laws.{IsHub}
 use Rattle.view_hub.proofs.HubSteps.{keeps}
 use Rattle.hub_run.specs.Answers.{HubAnswerTree, no_edit}
-use Rattle.hub_run.specs.Runs.{HubItem, answer_of, take_item}
+use Rattle.hub_run.specs.Runs.{HubItem, answer_of, take_hub_item}
 
 after_is : (h : HubTree) (r : Result (HubTree × CarriedTree) hubs.Refusal) → (answer_of h r).0 ≡ hub_after h r
 after_is h (Ok r) = refl
@@ -21,7 +21,7 @@ module _ {L : Type 0} (lens : OfLens.Ghosts L)
   abbrev Hub : List L → HubTree → Type 0
   Hub = IsHub lens
 
-  pub item_stays : (ls : List L) (h : HubTree) (item : HubItem) → Hub ls h → (s : HubTree × HubAnswerTree) × (take_item lens ls h item ≡ Some s) × Hub ls s.0
+  pub item_stays : (ls : List L) (h : HubTree) (item : HubItem) → Hub ls h → (s : HubTree × HubAnswerTree) × (take_hub_item lens ls h item ≡ Some s) × Hub ls s.0
   item_stays [] h item all = absurd all
   item_stays (l ∷ ls) h (Ok e) all =
       let k = keeps lens from_left from_right (lens.left_type l) l ls h e all in

@@ -19,7 +19,7 @@ use Rattle.view_hub.specs.Views.{view_tree}
 use Rattle.view_hub.specs.declared.view.View as a_view
 use Rattle.hub_run.specs.FormLenses.{form_lens, lens_by}
 use Rattle.hub_run.specs.RunStates.{forms_of_lenses, IsHubOf}
-use Rattle.hub_run.specs.Runs.{lines_of_view, view_lines, state_lines, hub_line, HasLinesOfView}
+use Rattle.hub_run.specs.Runs.{lines_of_view, view_lines, hub_state_lines, hub_line, HasLinesOfView}
 use Rattle.shared_lists.proofs.SplicedLists.{drop-at}
 
 -- ---- the views of a hub that is in step
@@ -137,7 +137,7 @@ first_has typed ls h t same all is = hub_has (λ (l : ReadyForm). form_tree l.ty
 
 -- all lines, from that of the hub
 pub state_text_is : (typed : List Typed) (h : HubTree) (t : Typed) (line text : List ℕ) → 0 < length typed → t ≡ get_or typed 0 t → line ≡ hub_line (form_tree t) h.hub → text ≡ line ++ view_lines 0 (map form_tree typed) h.views
-    → text ≡ state_lines (map form_tree typed) h
+    → text ≡ hub_state_lines (map form_tree typed) h
 state_text_is [] h t line text within is line_is text_is = absurd (omega (arith, within))
 state_text_is (u ∷ typed) h t line text within is line_is text_is =
     text_is ∙ ap (λ (l : List ℕ). l ++ view_lines 0 (form_tree u ∷ map form_tree typed) h.views) (line_is ∙ ap (λ (v : Typed). hub_line (form_tree v) h.hub) is)

@@ -1,4 +1,4 @@
--- The answer to each item of a hub's journal, and its line. Read it from the end: `answer_line`, then the lines.
+-- The answer to each item of a hub's journal, and its line. Read it from the end: `hub_answer_line`, then the lines.
 use Rattle.std.specs.Prelude.{ℕ, List, [], ◌∷◌, ◌++◌, Bool, true, false, codes, decimal}
 use Rattle.serde_json.specs.Data.{Data, array, Items, no_items, item}
 use Rattle.serde_json.specs.Written.{compact_text}
@@ -29,8 +29,8 @@ abbrev pub tree_of_words : List WordTree → Data
 tree_of_words ws = array (items_of_words ws)
 
 -- `ok N HUBWORD LIST`: the edit was accepted; LIST is the array of the views' words
-abbrev pub ok_line : ℕ → CarriedTree → List ℕ
-ok_line number words =
+abbrev pub hub_ok_line : ℕ → CarriedTree → List ℕ
+hub_ok_line number words =
     codes "ok " ++ decimal number ++ codes " " ++ compact_text (tree_of_word words.hub) ++ codes " "
     ++ compact_text (tree_of_words words.views) ++ codes "\n"
 
@@ -40,8 +40,8 @@ no_view_line number = codes "refused " ++ decimal number ++ codes " no-view\n"
 
 -- The answer to the item with this number: `ok N HUBWORD LIST`, `refused N no-view`, `refused N no-apply AT CAUSE`, or
 -- `refused N FAULT` to a line that is not an edit.
-abbrev pub answer_line : ℕ → HubAnswerTree → List ℕ
-answer_line n (carried words) = ok_line n words
-answer_line n no_view = no_view_line n
-answer_line n (no_apply at cause) = no_apply_line n at cause
-answer_line n (no_edit fault) = fault_line n fault
+abbrev pub hub_answer_line : ℕ → HubAnswerTree → List ℕ
+hub_answer_line n (carried words) = hub_ok_line n words
+hub_answer_line n no_view = no_view_line n
+hub_answer_line n (no_apply at cause) = no_apply_line n at cause
+hub_answer_line n (no_edit fault) = fault_line n fault

@@ -17,7 +17,7 @@ use Rattle.script_run.specs.declared.line_answers.Answer.{Answer}
 use Rattle.view_hub.specs.Hubs as hubs
 use Rattle.view_hub.specs.Hubs.{ViewTree, HubTree, Place, CarriedTree, step, first_hub}
 use Rattle.view_hub.specs.Laws.{IsHub}
-use Rattle.hub_run.specs.Answers.{HubAnswerTree, carried, no_view, no_apply, no_edit, is_refused, answer_line}
+use Rattle.hub_run.specs.Answers.{HubAnswerTree, carried, no_view, no_apply, no_edit, is_refused, hub_answer_line}
 use Rattle.hub_run.specs.EditJson.{edit_of_line}
 use Rattle.hub_run.specs.FormLenses.{form_lens}
 
@@ -45,9 +45,9 @@ abbrev pub hub_line : FormTree → DocTree → List ℕ
 hub_line form hub = tree_line (codes "hub") (tree_of_document (left_type form) hub)
 
 -- `hub JSON`, and the lines of each view; the hub has the left type of view 0
-abbrev pub state_lines : List FormTree → HubTree → List ℕ
-state_lines [] h = []
-state_lines (form ∷ forms) h = hub_line form h.hub ++ view_lines 0 (form ∷ forms) h.views
+abbrev pub hub_state_lines : List FormTree → HubTree → List ℕ
+hub_state_lines [] h = []
+hub_state_lines (form ∷ forms) h = hub_line form h.hub ++ view_lines 0 (form ∷ forms) h.views
 
 -- ---- an item
 
@@ -63,9 +63,9 @@ answer_of h (Err (hubs.no_apply at cause)) = (h, no_apply at cause)
 
 module _ {L : Type 0} (lens : OfLens.Ghosts L) where
   -- the hub after an item, and the answer to it
-  abbrev pub take_item : List L → HubTree → HubItem → Option (HubTree × HubAnswerTree)
-  take_item ls h (Ok e) = option_map (answer_of h) (step lens ls h e)
-  take_item ls h (Err fault) = Some (h, no_edit fault)
+  abbrev pub take_hub_item : List L → HubTree → HubItem → Option (HubTree × HubAnswerTree)
+  take_hub_item ls h (Ok e) = option_map (answer_of h) (step lens ls h e)
+  take_hub_item ls h (Err fault) = Some (h, no_edit fault)
 
 -- ---- a state
 
@@ -76,16 +76,16 @@ pub record HubState : Type 0 where
 
 -- the state lines of a state
 abbrev pub state_text : HubState → List ℕ
-state_text t = state_lines t.forms t.hub
+state_text t = hub_state_lines t.forms t.hub
 
 -- the state after the item with this number, and its answer line
 abbrev pub answered : List FormTree → ℕ → HubTree × HubAnswerTree → HubState × Answer
 answered forms n s =
-    (record { forms = forms; hub = s.0 }, record { line = answer_line n s.1; refused = is_refused s.1 })
+    (record { forms = forms; hub = s.0 }, record { line = hub_answer_line n s.1; refused = is_refused s.1 })
 
 -- what the item with this number makes of a state: an edit steps the hub, and any other line leaves it
 abbrev pub answer : HubState → ℕ → Line → Option (HubState × Answer)
-answer t n line = option_map (answered t.forms n) (take_item form_lens t.forms t.hub (edit_of_line line))
+answer t n line = option_map (answered t.forms n) (take_hub_item form_lens t.forms t.hub (edit_of_line line))
 
 -- The hub at its start: the initial documents and the missing complements. A program part has a view at least.
 abbrev pub hub_of : List FormTree → HubTree

@@ -5,7 +5,7 @@ ghost use Rattle.serde_json.specs.Written.{comma_if, compact_text};
 ghost use Rattle.edit_module.specs.Views.{word_tree, word_trees};
 ghost use Rattle.edit_json.specs.WordJson.{tree_of_word};
 ghost use Rattle.view_hub.specs.Views.{carried_tree};
-ghost use Rattle.hub_run.specs.Answers.{HubAnswerTree, tree_of_words, ok_line, no_view_line, answer_line, is_refused};
+ghost use Rattle.hub_run.specs.Answers.{HubAnswerTree, tree_of_words, hub_ok_line, no_view_line, hub_answer_line, is_refused};
 ghost use Rattle.hub_run.specs.AnswerLines.{HasAnswerLine};
 ghost use Rattle.hub_run.specs.Views.{answer_tree};
 
@@ -48,13 +48,13 @@ impl HubAnswer {
 
 /// The answer line of the item with this number. The fault of a line is not that memory ran out. The
 /// only error is running out of memory.
-pub fn answer_line(alloc: Global, number: u64, answer: &HubAnswer) -> Result<Bytes, AllocError>
+pub fn hub_answer_line(alloc: Global, number: u64, answer: &HubAnswer) -> Result<Bytes, AllocError>
     requires has_line { HasAnswerLine answer.now }
     ensures line { IfOk result (λ line. IfSome (answer_tree answer.now)
-        (λ answer. line ≡ answer_line number answer)) }
+        (λ answer. line ≡ hub_answer_line number answer)) }
 {
     match answer {
-        HubAnswer::Carried(carried) => ok_line(alloc, number, carried),
+        HubAnswer::Carried(carried) => hub_ok_line(alloc, number, carried),
         HubAnswer::NoView => no_view_line(alloc, number),
         HubAnswer::NoApply { at, cause } => no_apply_line(alloc, number, *at, *cause),
         HubAnswer::NoEdit(fault) => fault_line(alloc, number, fault),
@@ -64,8 +64,8 @@ pub fn answer_line(alloc: Global, number: u64, answer: &HubAnswer) -> Result<Byt
 /// `ok N HUBWORD LIST` and a line feed: the edit with this number was accepted. HUBWORD is the word of
 /// the hub, and LIST the array of the views' words, both as compact JSON. The only error is running
 /// out of memory.
-pub fn ok_line(alloc: Global, number: u64, carried: &HubCarried) -> Result<Bytes, AllocError>
-    ensures line { IfOk result (λ line. line ≡ ok_line number (carried_tree carried.now)) }
+pub fn hub_ok_line(alloc: Global, number: u64, carried: &HubCarried) -> Result<Bytes, AllocError>
+    ensures line { IfOk result (λ line. line ≡ hub_ok_line number (carried_tree carried.now)) }
 {
     let mut digits = Buffer::new();
     let mut line = Vec::with_capacity(alloc, USUAL)?;

@@ -5,7 +5,7 @@ ghost use Rattle.edit_module.specs.Views.{word_tree};
 ghost use Rattle.view_hub.specs.Views.{hub_tree, place_of};
 ghost use Rattle.hub_run.specs.AnswerLines.{HasAnswerLine};
 ghost use Rattle.hub_run.specs.EditJson.{edit_of_line};
-ghost use Rattle.hub_run.specs.Runs.{take_item};
+ghost use Rattle.hub_run.specs.Runs.{take_hub_item};
 ghost use Rattle.hub_run.specs.Views.{step_with};
 
 use crate::answers::HubAnswer;
@@ -20,12 +20,12 @@ use view_hub::{Hub, HubFault, HubSide};
 ///
 /// An edit that is refused, and a line that is not an edit, leave the hub as it was. The only error is running out of
 /// memory.
-pub fn take_item<L: EditLens>(
+pub fn take_hub_item<L: EditLens>(
     alloc: Global,
     hub: &mut Hub<L>,
     line: &Line,
 ) -> Result<HubAnswer, AllocError>
-    ensures answer { IfOk result (λ answer. take_item L.EditLens hub.old.lenses
+    ensures answer { IfOk result (λ answer. take_hub_item L.EditLens hub.old.lenses
         (hub_tree hub.old.parts) (edit_of_line line.now)
         ≡ step_with (hub_tree hub.new.parts) answer) }
     ensures has_line { IfOk result (λ answer. HasAnswerLine answer) }
@@ -44,7 +44,7 @@ fn take_edit<L: EditLens>(
     side: HubSide,
     word: &Word,
 ) -> Result<HubAnswer, AllocError>
-    ensures answer { IfOk result (λ answer. take_item L.EditLens hub.old.lenses
+    ensures answer { IfOk result (λ answer. take_hub_item L.EditLens hub.old.lenses
         (hub_tree hub.old.parts) (Ok (place_of side, word_tree word.now))
         ≡ step_with (hub_tree hub.new.parts) answer) }
     ensures has_line { IfOk result (λ answer. HasAnswerLine answer) }

@@ -13,10 +13,10 @@ ghost use Rattle.hub_run.specs.Lenses.{lenses_of};
 ghost use Rattle.hub_run.specs.RunStates.{state_of, forms_of_lenses};
 ghost use Rattle.hub_run.specs.Runs.{answer, first_state, hub_of};
 
-use crate::answers::answer_line;
-use crate::journal::take_item;
+use crate::answers::hub_answer_line;
+use crate::journal::take_hub_item;
 use crate::pieces::Pieces;
-use crate::state::state_lines;
+use crate::state::hub_state_lines;
 use crate::views::{HubRefused, refusal_line};
 use edit_journal::Line;
 use lens_flat::Flat;
@@ -85,7 +85,7 @@ impl ScriptState for HubRun {
     }
 
     fn state_lines(&self, alloc: Global) -> Result<Bytes, AllocError> {
-        let lines = state_lines(alloc, &self.typed, &self.hub)?;
+        let lines = hub_state_lines(alloc, &self.typed, &self.hub)?;
         Ok(Bytes::from_vec(lines))
     }
 }
@@ -101,9 +101,9 @@ fn answer_item(
         answer (state_of hub.old) number line.now ≡ Some (state_of hub.new, a)) }
     ensures lenses { hub.new.lenses ≡ hub.old.lenses }
 {
-    let answer = take_item(alloc, hub, line)?;
+    let answer = take_hub_item(alloc, hub, line)?;
     let refused = answer.is_refused();
-    let line = answer_line(alloc, number, &answer)?;
+    let line = hub_answer_line(alloc, number, &answer)?;
     Ok(Answer { line, refused })
 }
 

@@ -7,7 +7,7 @@ ghost use Rattle.lens_forms.specs.Forms.{form_tree, left_type, right_type};
 ghost use Rattle.lens_core.specs.Complements.{comp_tree, Fits};
 ghost use Rattle.view_hub.specs.Views.{hub_tree};
 ghost use Rattle.hub_run.specs.RunStates.{forms_of_lenses, IsHubOf};
-ghost use Rattle.hub_run.specs.Runs.{hub_line, lines_of_view, view_lines, state_lines, HasLinesOfView};
+ghost use Rattle.hub_run.specs.Runs.{hub_line, lines_of_view, view_lines, hub_state_lines, HasLinesOfView};
 
 use answer_text::{complement_line, document_line};
 use doc_values::Doc;
@@ -56,10 +56,10 @@ pub fn lines_of_view(
 /// The state lines of a hub: `hub JSON`, and for each view `view V JSON` and `complement V JSON`.
 ///
 /// The hub's lenses are those of the forms. The only error is running out of memory.
-pub fn state_lines(alloc: Global, typed: &[Typed], hub: &Hub<Flat>) -> Result<Vec<u8>, AllocError>
+pub fn hub_state_lines(alloc: Global, typed: &[Typed], hub: &Hub<Flat>) -> Result<Vec<u8>, AllocError>
     requires of_forms { map form_tree typed.now ≡ forms_of_lenses hub.now.lenses }
     ensures lines { IfOk result (λ text. text.items
-        ≡ state_lines (map form_tree typed.now) (hub_tree hub.now.parts)) }
+        ≡ hub_state_lines (map form_tree typed.now) (hub_tree hub.now.parts)) }
 {
     let document = hub.hub();
     let line = hub_line(alloc, &typed[0], document)?;

@@ -21,7 +21,7 @@ use Rattle.hub_run.specs.Answers.{tree_of_words, ok_line}
 use Rattle.hub_run.specs.FormLenses.{form_lens}
 use Rattle.hub_run.specs.Runs.{HubState, lines_of_view, view_lines, hub_line, state_lines, state_text}
 use Rattle.store_run.specs.OkLines.{IsLine, IsAnswer, IsOtherLine, AllOther, AreOtherLines, begins_ok}
-use Rattle.store_run.specs.declared.session.Answer.{Answer}
+use Rattle.store_run.specs.declared.session.StoredAnswer.{StoredAnswer}
 use Rattle.store_session.proofs.Decimals.{decimal_plain}
 use Rattle.store_session.proofs.AnswerLines.{answer_is_line}
 use Rattle.store_session.proofs.NoLineEnd.{text_plain}
@@ -88,10 +88,10 @@ part_begins n part (hubs.no_apply at cause) = refl
 -- ---- answers
 
 module _ (s : HubState) (n : ℕ) where
-  abbrev Made : HubState × Answer → Type 0
+  abbrev Made : HubState × StoredAnswer → Type 0
   Made p = IsAnswer p.1
 
-  of_edit : (e : Place × WordTree) (o : Option (Result (HubTree × CarriedTree) Refusal)) (t : HubState) (a : Answer) → option_map (edit_answered s n e) o ≡ Some (t, a) → IsAnswer a
+  of_edit : (e : Place × WordTree) (o : Option (Result (HubTree × CarriedTree) Refusal)) (t : HubState) (a : StoredAnswer) → option_map (edit_answered s n e) o ≡ Some (t, a) → IsAnswer a
   of_edit e (Some (Ok r)) t a h =
       let pair : edit_answered s n e (Ok r) ≡ (t, a) = cc in
       subst Made pair (record { is_line = ok_is_line n r.1; ok = refl })
@@ -100,7 +100,7 @@ module _ (s : HubState) (n : ℕ) where
       subst Made pair (record { is_line = edit_refused_line n why; ok = edit_begins n why })
   of_edit e None t a h = cc
 
-  of_group : (es : List (Place × WordTree)) (o : Option GroupStepped) (t : HubState) (a : Answer) → option_map (group_answered s n es) o ≡ Some (t, a) → IsAnswer a
+  of_group : (es : List (Place × WordTree)) (o : Option GroupStepped) (t : HubState) (a : StoredAnswer) → option_map (group_answered s n es) o ≡ Some (t, a) → IsAnswer a
   of_group es (Some (Ok r)) t a h =
       let pair : group_answered s n es (Ok r) ≡ (t, a) = cc in
       subst Made pair (record { is_line = group_is_line n r.1; ok = refl })
@@ -109,7 +109,7 @@ module _ (s : HubState) (n : ℕ) where
       subst Made pair (record { is_line = part_refused_line n why.0 why.1; ok = part_begins n why.0 why.1 })
   of_group es None t a h = cc
 
-  pub item_is_answer : (item : HubItem) (t : HubState) (a : Answer) → answer_item s n item ≡ Some (t, a) → IsAnswer a
+  pub item_is_answer : (item : HubItem) (t : HubState) (a : StoredAnswer) → answer_item s n item ≡ Some (t, a) → IsAnswer a
   item_is_answer (Ok (one e)) t a h = of_edit e (step form_lens s.forms s.hub e) t a h
   item_is_answer (Ok (group es)) t a h = of_group es (step_group form_lens s.forms s.hub es) t a h
   item_is_answer (Err fault) t a h =

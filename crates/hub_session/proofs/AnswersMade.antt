@@ -17,7 +17,7 @@ use Rattle.hub_run.specs.FormLenses.{form_lens}
 use Rattle.hub_run.specs.RunStates.{forms_of_lenses, ready_lens}
 use Rattle.hub_run.specs.Runs.{HubState}
 use Rattle.hub_run.proofs.MappedLenses.{steps_are}
-use Rattle.store_run.specs.declared.session.Answer.{Answer}
+use Rattle.store_run.specs.declared.session.StoredAnswer.{StoredAnswer}
 use Rattle.store_session.proofs.AnswersMade.{answer_is}
 use Rattle.hub_records.specs.HubChanges.{one, group, tree_of_hub_change}
 use Rattle.hub_records.specs.LowForms.{AllLow}
@@ -30,28 +30,28 @@ abbrev pub state : List ReadyForm → HubTree → HubState
 state ls h = record { forms = forms_of_lenses ls; hub = h }
 
 module _ (ls : List ReadyForm) (h : HubTree) (n : ℕ) where
-  abbrev made : HubTree → Answer → Option (HubState × Answer)
+  abbrev made : HubTree → StoredAnswer → Option (HubState × StoredAnswer)
   made k a = Some (state ls k, a)
 
   edit_step : (e : Place × WordTree) (r : Result (HubTree × CarriedTree) Refusal) → step ready_lens ls h e ≡ Some r → step form_lens (forms_of_lenses ls) h e ≡ Some r
   edit_step e r is = sym (steps_are (λ (l : ReadyForm). form_tree l.typed) form_lens ls h e) ∙ is
 
-  pub edit_accepted : (e : Place × WordTree) (k : HubTree) (c : CarriedTree) (a : Answer) → step ready_lens ls h e ≡ Some (Ok (k, c))
+  pub edit_accepted : (e : Place × WordTree) (k : HubTree) (c : CarriedTree) (a : StoredAnswer) → step ready_lens ls h e ≡ Some (Ok (k, c))
       → a.line ≡ ok_line n c → a.payload ≡ Some (change_text (one e)) → answer_item (state ls h) n (Ok (one e)) ≡ made k a
   edit_accepted e k c a is line payload =
       ap (option_map (edit_answered (state ls h) n e)) (edit_step e (Ok (k, c)) is) ∙ ap (made k) (sym (answer_is a (ok_line n c) (Some (change_text (one e))) line payload))
 
-  pub edit_refused : (e : Place × WordTree) (why : Refusal) (a : Answer) → step ready_lens ls h e ≡ Some (Err why)
+  pub edit_refused : (e : Place × WordTree) (why : Refusal) (a : StoredAnswer) → step ready_lens ls h e ≡ Some (Err why)
       → a.line ≡ refused_edit_line n why → a.payload ≡ None → answer_item (state ls h) n (Ok (one e)) ≡ made h a
   edit_refused e why a is line payload =
       ap (option_map (edit_answered (state ls h) n e)) (edit_step e (Err why) is) ∙ ap (made h) (sym (answer_is a (refused_edit_line n why) None line payload))
 
-  pub group_accepted : (es : List (Place × WordTree)) (k : HubTree) (cs : List CarriedTree) (a : Answer) → step_group ready_lens ls h es ≡ Some (Ok (k, cs))
+  pub group_accepted : (es : List (Place × WordTree)) (k : HubTree) (cs : List CarriedTree) (a : StoredAnswer) → step_group ready_lens ls h es ≡ Some (Ok (k, cs))
       → a.line ≡ group_ok_line n cs → a.payload ≡ Some (change_text (group es)) → answer_item (state ls h) n (Ok (group es)) ≡ made k a
   group_accepted es k cs a is line payload =
       ap (option_map (group_answered (state ls h) n es)) (sym (groups_are ls h es) ∙ is) ∙ ap (made k) (sym (answer_is a (group_ok_line n cs) (Some (change_text (group es))) line payload))
 
-  pub group_refused : (es : List (Place × WordTree)) (part : ℕ) (why : Refusal) (a : Answer) → step_group ready_lens ls h es ≡ Some (Err (part, why))
+  pub group_refused : (es : List (Place × WordTree)) (part : ℕ) (why : Refusal) (a : StoredAnswer) → step_group ready_lens ls h es ≡ Some (Err (part, why))
       → a.line ≡ refused_part_line n part why → a.payload ≡ None → answer_item (state ls h) n (Ok (group es)) ≡ made h a
   group_refused es part why a is line payload =
       ap (option_map (group_answered (state ls h) n es)) (sym (groups_are ls h es) ∙ is) ∙ ap (made h) (sym (answer_is a (refused_part_line n part why) None line payload))
@@ -68,11 +68,11 @@ module _ (ls : List ReadyForm) (h : HubTree) (n : ℕ) where
   group_low es k cs low is = accepted_low (forms_of_lenses ls) low h (group es) (k, cs) (sym (groups_are ls h es) ∙ is)
 
 -- a line that is not a change leaves the state
-of_cause : (s : HubState) (n : ℕ) (item : HubItem) (cause : LineFault) (a : Answer) → item ≡ Err cause → a.line ≡ fault_line n cause → a.payload ≡ None → answer_item s n item ≡ Some (s, a)
+of_cause : (s : HubState) (n : ℕ) (item : HubItem) (cause : LineFault) (a : StoredAnswer) → item ≡ Err cause → a.line ≡ fault_line n cause → a.payload ≡ None → answer_item s n item ≡ Some (s, a)
 of_cause s n item cause a is line payload =
-    ap (answer_item s n) is ∙ ap (λ (x : Answer). Some (s, x)) (sym (answer_is a (fault_line n cause) None line payload))
+    ap (answer_item s n) is ∙ ap (λ (x : StoredAnswer). Some (s, x)) (sym (answer_is a (fault_line n cause) None line payload))
 
-pub fault_refused : (s : HubState) (n : ℕ) (item : HubItem) (fault : EntryFault) (a : Answer) → (fault ≡ NoMemory → ⊥) → IsRefused (cause_of fault) item
+pub fault_refused : (s : HubState) (n : ℕ) (item : HubItem) (fault : EntryFault) (a : StoredAnswer) → (fault ≡ NoMemory → ⊥) → IsRefused (cause_of fault) item
     → ((cause : LineFault) → cause_of fault ≡ Some cause → a.line ≡ fault_line n cause) → a.payload ≡ None → answer_item s n item ≡ Some (s, a)
 fault_refused s n item LineTooLong a known is line payload = of_cause s n item _ a is (line _ refl) payload
 fault_refused s n item NotJson a known is line payload = of_cause s n item _ a is (line _ refl) payload

@@ -12,7 +12,7 @@ use Rattle.view_hub.specs.Hubs.{HubTree, CarriedTree, Place, Refusal, no_view, n
 use Rattle.hub_run.specs.Answers.{tree_of_words, ok_line, no_view_line}
 use Rattle.hub_run.specs.FormLenses.{form_lens}
 use Rattle.hub_run.specs.Runs.{HubState}
-use Rattle.store_run.specs.declared.session.Answer.{Answer}
+use Rattle.store_run.specs.declared.session.StoredAnswer.{StoredAnswer}
 use Rattle.hub_records.specs.HubChanges.{HubChangeTree, one, group, tree_of_hub_change, change_of_line}
 
 -- ---- the lines of a group
@@ -52,20 +52,20 @@ abbrev pub change_text : HubChangeTree → List ℕ
 change_text change = compact_text (tree_of_hub_change change)
 
 -- an item was refused with this line: the state stays, and there is no payload
-abbrev pub refused_with : HubState → List ℕ → HubState × Answer
+abbrev pub refused_with : HubState → List ℕ → HubState × StoredAnswer
 refused_with s line = (s, record { line = line; payload = None })
 
 -- a change was accepted with this line: its payload is stored
-abbrev pub accepted_with : HubState → HubTree → HubChangeTree → List ℕ → HubState × Answer
+abbrev pub accepted_with : HubState → HubTree → HubChangeTree → List ℕ → HubState × StoredAnswer
 accepted_with s h change line =
     (record { forms = s.forms; hub = h }, record { line = line; payload = Some (change_text change) })
 
 -- the answer to an edit, and to a group
-abbrev pub edit_answered : HubState → ℕ → Place × WordTree → Result (HubTree × CarriedTree) Refusal → HubState × Answer
+abbrev pub edit_answered : HubState → ℕ → Place × WordTree → Result (HubTree × CarriedTree) Refusal → HubState × StoredAnswer
 edit_answered s n e (Ok r) = accepted_with s r.0 (one e) (ok_line n r.1)
 edit_answered s n e (Err why) = refused_with s (refused_edit_line n why)
 
-abbrev pub group_answered : HubState → ℕ → List (Place × WordTree) → GroupStepped → HubState × Answer
+abbrev pub group_answered : HubState → ℕ → List (Place × WordTree) → GroupStepped → HubState × StoredAnswer
 group_answered s n es (Ok r) = accepted_with s r.0 (group es) (group_ok_line n r.1)
 group_answered s n es (Err why) = refused_with s (refused_part_line n why.0 why.1)
 
@@ -74,11 +74,11 @@ abbrev pub HubItem : Type 0
 HubItem = Result HubChangeTree LineFault
 
 -- what the item with this number makes of a state: the next state, and the answer
-abbrev pub answer_item : HubState → ℕ → HubItem → Option (HubState × Answer)
+abbrev pub answer_item : HubState → ℕ → HubItem → Option (HubState × StoredAnswer)
 answer_item s n (Ok (one e)) = option_map (edit_answered s n e) (step form_lens s.forms s.hub e)
 answer_item s n (Ok (group es)) = option_map (group_answered s n es) (step_group form_lens s.forms s.hub es)
 answer_item s n (Err fault) = Some (refused_with s (fault_line n fault))
 
 -- the same of the line with this number
-abbrev pub answer : HubState → ℕ → Line → Option (HubState × Answer)
+abbrev pub answer : HubState → ℕ → Line → Option (HubState × StoredAnswer)
 answer s n line = answer_item s n (change_of_line line)

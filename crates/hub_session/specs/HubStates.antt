@@ -6,9 +6,9 @@ use Rattle.view_hub.specs.Laws.{IsHub}
 use Rattle.hub_run.specs.FormLenses.{form_lens}
 use Rattle.hub_run.specs.FoundLenses.{AllTyped}
 use Rattle.hub_run.specs.Runs.{HubState, state_text}
-use Rattle.store_records.specs.declared.record_fault.ReopenFault.{ReopenFault as RecordFault}
+use Rattle.store_records.specs.declared.record_fault.RecordFault.{RecordFault}
 use Rattle.store_session.specs.StoredStates.{fault_of}
-use Rattle.store_run.specs.declared.session.Answer.{Answer}
+use Rattle.store_run.specs.declared.session.StoredAnswer.{StoredAnswer}
 use Rattle.store_run.specs.declared.session.ReopenFault.{ReopenFault}
 use Rattle.store_run.specs.declared.session.StoredSession as OfSession
 use Rattle.hub_records.specs.HubChanges.{edits_of, all_numbers_fit, tree_of_hub_change, change_of_line}
@@ -49,7 +49,7 @@ ReadsAsChange (Ok change) payload = (tree_of_text payload ≡ Some (tree_of_hub_
 ReadsAsChange (Err fault) payload = ⊥
 
 -- what is known of the step by this line: if it has a payload, that is read back as the record of its change
-abbrev pub IsStep : HubState → ℕ → Line → HubState × Answer → Type 0
+abbrev pub IsStep : HubState → ℕ → Line → HubState × StoredAnswer → Type 0
 IsStep s n line made = IfSome made.1.payload (ReadsAsChange (change_of_line line))
 
 -- The payload is a snapshot of the state: it is read back as the record of the state's hub. All views are in step with

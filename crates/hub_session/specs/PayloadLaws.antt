@@ -7,8 +7,8 @@ use Rattle.edit_journal.specs.declared.line.Line.{Line}
 use Rattle.lens_forms.specs.Forms.{FormTree}
 use Rattle.view_hub.specs.Hubs.{HubTree}
 use Rattle.hub_run.specs.Runs.{HubState}
-use Rattle.store_records.specs.declared.record_fault.ReopenFault.{ReopenFault as RecordFault}
-use Rattle.store_run.specs.declared.session.Answer.{Answer}
+use Rattle.store_records.specs.declared.record_fault.RecordFault.{RecordFault}
+use Rattle.store_run.specs.declared.session.StoredAnswer.{StoredAnswer}
 use Rattle.hub_records.specs.HubChanges.{change_of_line}
 use Rattle.hub_records.specs.HubStands as hubs
 use Rattle.hub_records.specs.HubStands.{HubStanding, step_of}
@@ -52,7 +52,7 @@ version_counts ps t v h = absurd (no_version (hubs.stands_for ps) t v h)
 abbrev with_count : List FormTree → HubTree → ℕ → HubStanding
 with_count forms h count = record { forms = forms; hub = h; count = count }
 
-module _ (ps : List (List ℕ)) (t t' : HubState) (n : ℕ) (line : Line) (a : Answer) (p : List ℕ)
+module _ (ps : List (List ℕ)) (t t' : HubState) (n : ℕ) (line : Line) (a : StoredAnswer) (p : List ℕ)
     (h : stands_for ps ≡ Ok (t, None))
     (e : answer t n line ≡ Some (t', a)) (step : IsStep t n line (t', a)) (some : a.payload ≡ Some p) where
   -- the record of the change is written behind what stands

@@ -23,7 +23,7 @@ use hub_records::{HubChange, change_payload, lenses_are_low, read_hub_change};
 use hub_run::{no_view_line, ok_line};
 use lens_flat::Flat;
 use std::alloc::{AllocError, Global};
-use store_run::Answer;
+use store_run::StoredAnswer;
 use texts::Bytes;
 use view_hub::{Hub, HubFault, HubGroupFault, HubSide};
 
@@ -33,7 +33,7 @@ pub(crate) fn answer_line(
     hub: &mut Hub<Flat>,
     number: u64,
     line: &Line,
-) -> Result<Answer, AllocError>
+) -> Result<StoredAnswer, AllocError>
     ensures answer { IfOk result (λ a.
         answer (state_of hub.old) number line.now ≡ Some (state_of hub.new, a)) }
     ensures step { IfOk result (λ a.
@@ -48,7 +48,7 @@ pub(crate) fn answer_line(
 }
 
 // Answers a line that is not a change, for this fault.
-fn answer_fault(alloc: Global, number: u64, fault: EntryFault) -> Result<Answer, AllocError>
+fn answer_fault(alloc: Global, number: u64, fault: EntryFault) -> Result<StoredAnswer, AllocError>
     requires of_the_line { fault ≢ EntryFault.NoMemory }
     ensures answer { IfOk result (λ a. (state : HubState) (item : HubItem) → IsRefused (cause_of fault) item
         → answer_item state number item ≡ Some (state, a)) }
@@ -64,7 +64,7 @@ fn answer_change(
     hub: &mut Hub<Flat>,
     number: u64,
     change: &HubChange,
-) -> Result<Answer, AllocError>
+) -> Result<StoredAnswer, AllocError>
     requires counts_fit { all_counts_fit (edits_of (hub_change_tree change.now)) ≡ true }
     ensures answer { IfOk result (λ a. answer_item (state_of hub.old) number
         (Ok (hub_change_tree change.now)) ≡ Some (state_of hub.new, a)) }
@@ -85,7 +85,7 @@ fn answer_edit(
     change: &HubChange,
     side: HubSide,
     word: &Word,
-) -> Result<Answer, AllocError>
+) -> Result<StoredAnswer, AllocError>
     requires is_edit { hub_change_tree change.now ≡ one (place_of side, word_tree word.now) }
     requires counts_fit { all_counts_fit (edits_of (hub_change_tree change.now)) ≡ true }
     ensures answer { IfOk result (λ a. answer_item (state_of hub.old) number
@@ -114,7 +114,7 @@ fn answer_group(
     number: u64,
     change: &HubChange,
     edits: &[(HubSide, Word)],
-) -> Result<Answer, AllocError>
+) -> Result<StoredAnswer, AllocError>
     requires is_group { hub_change_tree change.now ≡ group (edit_trees edits.now) }
     requires counts_fit { all_counts_fit (edits_of (hub_change_tree change.now)) ≡ true }
     ensures answer { IfOk result (λ a. answer_item (state_of hub.old) number
@@ -139,7 +139,7 @@ fn answer_group(
 }
 
 // The answer of this line to a change that was accepted.
-fn accepted(alloc: Global, line: Bytes, change: &HubChange) -> Result<Answer, AllocError>
+fn accepted(alloc: Global, line: Bytes, change: &HubChange) -> Result<StoredAnswer, AllocError>
     requires counts_fit { all_counts_fit (edits_of (hub_change_tree change.now)) ≡ true }
     ensures line { IfOk result (λ a. a.line ≡ line) }
     ensures payload { IfOk result (λ a.
@@ -149,18 +149,18 @@ fn accepted(alloc: Global, line: Bytes, change: &HubChange) -> Result<Answer, Al
         → IfSome a.payload (ReadsAsChange (Ok (hub_change_tree change.now)))) }
 {
     let payload = change_payload(alloc, change)?;
-    Ok(Answer {
+    Ok(StoredAnswer {
         line,
         payload: Some(payload),
     })
 }
 
 // The answer of this line to an item that was refused.
-fn refused(line: Bytes) -> Answer
+fn refused(line: Bytes) -> StoredAnswer
     ensures line { result.line ≡ line }
     ensures payload { result.payload ≡ None }
 {
-    Answer {
+    StoredAnswer {
         line,
         payload: None,
     }

@@ -10,7 +10,7 @@ use crate::session::HubSession;
 use hub_records::reopen_hub;
 use lens_io::Payloads;
 use std::alloc::Global;
-use store_records::ReopenFault as RecordFault;
+use store_records::RecordFault;
 use store_run::{Opened, ReopenFault};
 
 // The hub for which payloads stand, and the number of changes. The store of a hub has no version record to store.

@@ -6,7 +6,7 @@ use Rattle.std.proofs.lemmas.Bool.{ltb-true}
 use Rattle.serde_json.specs.Data.{Data}
 use Rattle.edit_journal.specs.EntryJson.{tree_of_text}
 use Rattle.lens_forms.specs.Forms.{FormTree}
-use Rattle.store_records.specs.declared.record_fault.ReopenFault.{ReopenFault}
+use Rattle.store_records.specs.declared.record_fault.RecordFault.{RecordFault}
 use Rattle.view_hub.specs.Groups.{GroupStepped, step_group}
 use Rattle.view_hub.specs.Hubs.{HubTree, Place, CarriedTree, step}
 use Rattle.edit_module.specs.Words.{WordTree}
@@ -29,7 +29,7 @@ pub record Goes (n : ℕ) (s u : HubStanding) (ps qs : List (List ℕ)) : Type 0
   pub number : ℕ
   pub others : after_payloads number mid qs ≡ Ok u
 
-first_goes : (n : ℕ) (s u : HubStanding) (p : List ℕ) (ps qs : List (List ℕ)) (r : Result HubStanding ReopenFault) → after_record n s (record_in p) ≡ r
+first_goes : (n : ℕ) (s u : HubStanding) (p : List ℕ) (ps qs : List (List ℕ)) (r : Result HubStanding RecordFault) → after_record n s (record_in p) ≡ r
     → ((t : HubStanding) → after_payloads (n + 1) t (ps ++ qs) ≡ Ok u → Goes (n + 1) t u ps qs)
     → going_on (λ t. after_payloads (n + 1) t (ps ++ qs)) r ≡ Ok u → Goes n s u (p ∷ ps) qs
 first_goes n s u p ps qs (Ok t) is rest h =
@@ -99,7 +99,7 @@ step_made n s t (Some (Ok m)) h =
 step_made n s t (Some (Err why)) h = absurd cc
 step_made n s t None h = absurd cc
 
-next_goes : (r : Result HubStanding ReopenFault) (others : HubStanding → Result HubStanding ReopenFault) (u : HubStanding) → going_on others r ≡ Ok u
+next_goes : (r : Result HubStanding RecordFault) (others : HubStanding → Result HubStanding RecordFault) (u : HubStanding) → going_on others r ≡ Ok u
     → (t : HubStanding) × (r ≡ Ok t) × (others t ≡ Ok u)
 next_goes (Ok t) others u h = (t, refl, h)
 next_goes (Err fault) others u h = absurd cc

@@ -2,8 +2,8 @@
 use Rattle.std.proofs.Common.{◌≡◌, ℕ, ◌-◌, List, [], ◌∷◌, ◌++◌, length, take, Option, Some, None, Result, Ok, Err, map, refl, sym, ap, subst, ◌∙◌}
 use Rattle.std.specs.Prelude.{option_map, option_and_then}
 use Rattle.lens_forms.specs.Forms.{FormTree}
-use Rattle.store_records.specs.declared.record_fault.ReopenFault.{ReopenFault}
-use Rattle.store_records.specs.declared.record_fault.ReopenFault.TheVariants.{BadRecord, NotConsistent, NoMemory}
+use Rattle.store_records.specs.declared.record_fault.RecordFault.{RecordFault}
+use Rattle.store_records.specs.declared.record_fault.RecordFault.TheVariants.{BadRecord, NotConsistent, NoMemory}
 use Rattle.store_more.specs.declared.storing.MoreText.{MoreText}
 use Rattle.store_run.specs.declared.refusals.StoreRefusal.{StoreRefusal}
 use Rattle.view_hub.specs.Hubs.{HubTree, CarriedTree}
@@ -71,7 +71,7 @@ pub nothing_to_undo : (count : ℕ) (held : List (List ℕ)) (now : HubStanding)
 nothing_to_undo count held now stood none =
     ap (λ r. refusal_of r (last_changes count held)) stood ∙ ap (refusal_of (Ok now)) none
 
-pub refused_fault : (count : ℕ) (held : List (List ℕ)) (fault : ReopenFault) → IsStandFault (stands_for held) fault → IsMakingFault (undo_refusal count held) (fault_of fault)
+pub refused_fault : (count : ℕ) (held : List (List ℕ)) (fault : RecordFault) → IsStandFault (stands_for held) fault → IsMakingFault (undo_refusal count held) (fault_of fault)
 refused_fault count held (BadRecord number) is = ap (λ r. refusal_of r (last_changes count held)) is
 refused_fault count held (NotConsistent number) is = ap (λ r. refusal_of r (last_changes count held)) is
 refused_fault count held NoMemory is = tt

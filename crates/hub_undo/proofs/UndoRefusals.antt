@@ -4,7 +4,7 @@ use Rattle.std.proofs.lemmas.Option.{same_Some}
 use Rattle.std.specs.Prelude.{option_and_then}
 use Rattle.lens_io.specs.declared.disk.Disk as OfDisk
 use Rattle.lens_io.specs.declared.sink.Sink as OfSink
-use Rattle.store_records.specs.declared.record_fault.ReopenFault.{ReopenFault}
+use Rattle.store_records.specs.declared.record_fault.RecordFault.{RecordFault}
 use Rattle.store_run.specs.Refusals.{Refuses, EndsRefused}
 use Rattle.store_run.specs.declared.refusals.StoreRefusal.{StoreRefusal}
 use Rattle.command_ends.specs.declared.status.Status.{Status}
@@ -21,11 +21,11 @@ module _ {K D : Type 0} (sink : OfSink.Ghosts K) (disk : OfDisk.Ghosts D) (k k' 
 
 -- ---- what undoing comes to is no refusal
 
-some_changes : (now : HubStanding) (r : Result HubStanding ReopenFault) (o : Option (List HubChangeTree)) (u : HubUndoing) → option_and_then (λ (cs : List HubChangeTree). undoing_from now cs r) o ≡ Some u → refusal_of (Ok now) o ≡ None
+some_changes : (now : HubStanding) (r : Result HubStanding RecordFault) (o : Option (List HubChangeTree)) (u : HubUndoing) → option_and_then (λ (cs : List HubChangeTree). undoing_from now cs r) o ≡ Some u → refusal_of (Ok now) o ≡ None
 some_changes now r (Some cs) u h = refl
 some_changes now r None u h = cc
 
-some_standing : (count : ℕ) (held : List (List ℕ)) (r : Result HubStanding ReopenFault) (u : HubUndoing) → undoing_of count held r ≡ Some u → refusal_of r (last_changes count held) ≡ None
+some_standing : (count : ℕ) (held : List (List ℕ)) (r : Result HubStanding RecordFault) (u : HubUndoing) → undoing_of count held r ≡ Some u → refusal_of r (last_changes count held) ≡ None
 some_standing count held (Ok now) u h = some_changes now (stands_for (payloads_before count held)) (last_changes count held) u h
 some_standing count held (Err fault) u h = cc
 

@@ -15,8 +15,8 @@ use Rattle.hub_run.specs.Runs.{state_lines}
 use Rattle.hub_records.specs.HubChanges.{HubChangeTree, edits_of}
 use Rattle.hub_records.specs.HubRecords.{change_in, tree_of_hub_snapshot}
 use Rattle.hub_records.specs.HubStands.{HubStanding, stands_for}
-use Rattle.store_records.specs.declared.record_fault.ReopenFault.{ReopenFault}
-use Rattle.store_records.specs.declared.record_fault.ReopenFault.TheVariants as reopening
+use Rattle.store_records.specs.declared.record_fault.RecordFault.{RecordFault}
+use Rattle.store_records.specs.declared.record_fault.RecordFault.TheVariants as reopening
 use Rattle.store_run.specs.declared.refusals.StoreRefusal.{StoreRefusal}
 use Rattle.store_run.specs.declared.refusals.StoreRefusal.TheVariants.{NotALog, BadRecord, NotConsistent, NothingToUndo}
 use Rattle.hub_undo.specs.HubUndone.{BringsBack, undone}
@@ -55,13 +55,13 @@ pub record HubUndoing : Type 0 where
   pub words : CarriedTree
 
 -- from what the payloads before these changes represent
-abbrev pub undoing_from : HubStanding → List HubChangeTree → Result HubStanding ReopenFault → Option HubUndoing
+abbrev pub undoing_from : HubStanding → List HubChangeTree → Result HubStanding RecordFault → Option HubUndoing
 undoing_from now changes (Ok was) =
     option_map (λ r. record { now = now; before = was.hub; words = r.1 })
     (undone form_lens was.forms was.hub (edits_of_all changes))
 undoing_from now changes (Err fault) = None
 
-abbrev pub undoing_of : ℕ → List (List ℕ) → Result HubStanding ReopenFault → Option HubUndoing
+abbrev pub undoing_of : ℕ → List (List ℕ) → Result HubStanding RecordFault → Option HubUndoing
 undoing_of count held (Ok now) =
     option_and_then (λ changes. undoing_from now changes (stands_for (payloads_before count held)))
     (last_changes count held)
@@ -101,7 +101,7 @@ pub record TakesBack (held : List (List ℕ)) (u : HubUndoing) : Type 0 where
 -- ---- refusals
 
 -- payloads are refused that represent no hub, and those that represent one if their last records are not so many changes
-abbrev pub refusal_of : Result HubStanding ReopenFault → Option (List HubChangeTree) → Option StoreRefusal
+abbrev pub refusal_of : Result HubStanding RecordFault → Option (List HubChangeTree) → Option StoreRefusal
 refusal_of (Ok now) (Some changes) = None
 refusal_of (Ok now) None = Some NothingToUndo
 refusal_of (Err (reopening.BadRecord number)) changes = Some (BadRecord number)

@@ -12,8 +12,8 @@ use Rattle.hub_records.specs.HubRecords.{tree_of_hub_snapshot}
 use Rattle.hub_records.specs.Views.{hub_change_tree}
 use Rattle.hub_records.specs.WholeInts.{hub_holds_i64s}
 use Rattle.hub_records.specs.declared.change.HubChange.{HubChange}
-use Rattle.store_records.specs.declared.record_fault.ReopenFault.{ReopenFault}
-use Rattle.store_records.specs.declared.record_fault.ReopenFault.TheVariants as reopening
+use Rattle.store_records.specs.declared.record_fault.RecordFault.{RecordFault}
+use Rattle.store_records.specs.declared.record_fault.RecordFault.TheVariants as reopening
 use Rattle.store_run.specs.declared.refusals.StoreRefusal.{StoreRefusal}
 use Rattle.store_run.specs.declared.refusals.StoreRefusal.TheVariants.{BadRecord, NotConsistent}
 use Rattle.store_more.specs.declared.storing.MoreText.{MoreText}
@@ -54,7 +54,7 @@ IsMakingFault wanted (Refused refusal) = wanted ≡ Some refusal
 IsMakingFault wanted NoMemory = Unit {0}
 
 -- the fault of a reopening in these words
-abbrev pub fault_of : ReopenFault → MakingFault
+abbrev pub fault_of : RecordFault → MakingFault
 fault_of (reopening.BadRecord number) = Refused (BadRecord number)
 fault_of (reopening.NotConsistent number) = Refused (NotConsistent number)
 fault_of reopening.NoMemory = NoMemory

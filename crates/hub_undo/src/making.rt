@@ -15,7 +15,7 @@ use hub_records::{HubChange, OpenedHub, change_of_payload, reopen_hub, snapshot_
 use lens_flat::Flat;
 use std::alloc::{AllocError, Global};
 use store_more::MoreText;
-use store_records::ReopenFault;
+use store_records::RecordFault;
 use store_run::StoreRefusal;
 use texts::Bytes;
 use view_hub::{Hub, HubCarried};
@@ -113,7 +113,7 @@ fn make_undone(
 {
     let mut opened = match reopen_hub(alloc, records) {
         Ok(opened) => opened,
-        Err(ReopenFault::NoMemory) => return Err(AllocError),
+        Err(RecordFault::NoMemory) => return Err(AllocError),
         Err(_) => unreachable!(),
     };
     texts_of(alloc, &mut opened.hub, changes)
@@ -160,16 +160,16 @@ fn words_of(
 }
 
 // The fault in the words of a store.
-fn refused(fault: ReopenFault) -> MakingFault
+fn refused(fault: RecordFault) -> MakingFault
     ensures { result ≡ fault_of fault }
 {
     match fault {
-        ReopenFault::BadRecord { number } => {
+        RecordFault::BadRecord { number } => {
             MakingFault::Refused(StoreRefusal::BadRecord { number })
         }
-        ReopenFault::NotConsistent { number } => {
+        RecordFault::NotConsistent { number } => {
             MakingFault::Refused(StoreRefusal::NotConsistent { number })
         }
-        ReopenFault::NoMemory => MakingFault::NoMemory,
+        RecordFault::NoMemory => MakingFault::NoMemory,
     }
 }

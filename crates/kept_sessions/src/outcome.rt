@@ -6,7 +6,7 @@ ghost use Rattle.kept_sessions.specs.Steps.{outcome_of};
 
 use edit_journal::EntryFault;
 use edit_module::Cause;
-use pair_answers::Answer;
+use pair_answers::PairAnswer;
 use std::alloc::{AllocError, AllocFailed};
 
 /// How a call ended.
@@ -38,23 +38,23 @@ pub enum Outcome {
 }
 
 // How a step ends that has this answer.
-pub(crate) fn outcome_of(answer: &Answer) -> Outcome
+pub(crate) fn outcome_of(answer: &PairAnswer) -> Outcome
     requires has_line { HasAnswerLine answer.now }
     ensures { IfSome (answer_tree answer.now) (λ answer. result ≡ outcome_of answer) }
 {
     match answer {
-        Answer::Carried(_, _) | Answer::GroupCarried(_, _) => Outcome::Done,
-        Answer::NoApply { at, cause } => Outcome::NoApply {
+        PairAnswer::Carried(_, _) | PairAnswer::GroupCarried(_, _) => Outcome::Done,
+        PairAnswer::NoApply { at, cause } => Outcome::NoApply {
             part: 0,
             at: *at,
             cause: *cause,
         },
-        Answer::GroupNoApply { part, at, cause } => Outcome::NoApply {
+        PairAnswer::GroupNoApply { part, at, cause } => Outcome::NoApply {
             part: *part,
             at: *at,
             cause: *cause,
         },
-        Answer::NoEntry(fault) => Outcome::NotAChange(*fault),
+        PairAnswer::NoEntry(fault) => Outcome::NotAChange(*fault),
     }
 }
 

@@ -6,19 +6,19 @@ use Rattle.script_run.specs.declared.line_answers.Answer as stream
 use Rattle.turn_link.specs.Links.{LinkTree}
 use Rattle.turn_link.specs.Views.{link_refusal}
 use Rattle.link_run.specs.Items.{AnswerTree, is_refused}
-use Rattle.link_run.specs.Answers.{answer_line}
+use Rattle.link_run.specs.Answers.{link_answer_line}
 use Rattle.link_run.specs.Reading.{cause_of}
 use Rattle.link_run.specs.Runs.{numbered}
 use Rattle.link_run.specs.Views.{answer_tree, step_with, HasAnswerLine, IsSome}
-use Rattle.link_run.specs.declared.answers.Answer.{Answer}
-use Rattle.link_run.specs.declared.answers.Answer.TheVariants.{Told, Refused, NoEvent}
+use Rattle.link_run.specs.declared.answers.LinkAnswer.{LinkAnswer}
+use Rattle.link_run.specs.declared.answers.LinkAnswer.TheVariants.{Told, Refused, NoEvent}
 
 still_some : {A B : Type 0} (f : A → B) (o : Option A) → IsSome o → IsSome (option_map f o)
 still_some f None some = some
 still_some f (Some a) some = tt
 
 -- an answer that has a line has a tree
-has_tree : (a : Answer) → HasAnswerLine a → IsSome (answer_tree a)
+has_tree : (a : LinkAnswer) → HasAnswerLine a → IsSome (answer_tree a)
 has_tree (Told of) has = tt
 has_tree (Refused fault) has = still_some _ (link_refusal fault) has
 has_tree (NoEvent fault) has = still_some _ (cause_of fault) has
@@ -29,15 +29,15 @@ answer_of line refused = record { line = line; refused = refused }
 
 module _ (form form' : FormTree) (s' : LinkTree) (n : ℕ) (line : List ℕ) (refused : Bool) (taken : Option (LinkTree × AnswerTree)) (same : form' ≡ form) where
   by_tree : (o : Option AnswerTree) → IsSome o → taken ≡ option_map (λ tree. (s', tree)) o
-      → IfSome o (λ t. line ≡ answer_line n t) → IfSome o (λ t. refused ≡ is_refused t)
+      → IfSome o (λ t. line ≡ link_answer_line n t) → IfSome o (λ t. refused ≡ is_refused t)
       → option_map (numbered form n) taken ≡ Some ((form', s'), answer_of line refused)
   by_tree None some is line_is refused_is = absurd some
   by_tree (Some t) some is line_is refused_is =
       ap (option_map (numbered form n)) is
-      ∙ ap (λ f. let r : Option ((FormTree × LinkTree) × stream.Answer) = Some ((f, s'), answer_of (answer_line n t) (is_refused t)) in r) (sym same)
+      ∙ ap (λ f. let r : Option ((FormTree × LinkTree) × stream.Answer) = Some ((f, s'), answer_of (link_answer_line n t) (is_refused t)) in r) (sym same)
       ∙ ap₂ (λ x b. let r : Option ((FormTree × LinkTree) × stream.Answer) = Some ((form', s'), answer_of x b) in r) (sym line_is) (sym refused_is)
 
-  pub answered_line : (a : Answer) → HasAnswerLine a → taken ≡ step_with s' a
-      → IfSome (answer_tree a) (λ t. line ≡ answer_line n t) → IfSome (answer_tree a) (λ t. refused ≡ is_refused t)
+  pub answered_line : (a : LinkAnswer) → HasAnswerLine a → taken ≡ step_with s' a
+      → IfSome (answer_tree a) (λ t. line ≡ link_answer_line n t) → IfSome (answer_tree a) (λ t. refused ≡ is_refused t)
       → option_map (numbered form n) taken ≡ Some ((form', s'), answer_of line refused)
   answered_line a has = by_tree (answer_tree a) (has_tree a has)

@@ -16,7 +16,7 @@ use Rattle.turn_link.specs.Sites.{LeftTree, RightTree}
 use Rattle.turn_link.specs.Links.{LinkTree, triple_at, left_of, right_of}
 use Rattle.turn_link.specs.Laws.{IsLinked, AreSites}
 use Rattle.turn_link.proofs.Numbers.{at_most}
-use Rattle.link_run.specs.Answers.{shown_lines, state_lines}
+use Rattle.link_run.specs.Answers.{shown_lines, link_state_lines}
 use Rattle.std.proofs.lemmas.Bool.{leb-true}
 
 module _ (holds : DocTree → CompTree → DocTree → Type 0) (left : TyTree) (right : TyTree) (start : CompTree) (carried : Side → CompTree → WordTree → Option Translated) where
@@ -75,7 +75,7 @@ module _ (holds : DocTree → CompTree → DocTree → Type 0) (left : TyTree) (
         ∙ ap (λ f. triple_at (left_type form) (right_type form) (missing form) f made k) of_form.translates)
 
     pub shown_text : (s : LinkTree) (l : LeftTree) (r : RightTree) → AreSites holds left right start carried s l r
-        → state_lines form s ≡ Some (shown_lines form l.doc r.doc l.comp s.left_number s.right_number)
+        → link_state_lines form s ≡ Some (shown_lines form l.doc r.doc l.comp s.left_number s.right_number)
     shown_text s l r a =
         let h = shows s l r a in
         ap₂ (λ o p. option_and_then (λ (t : TripleTree). option_map (λ (u : TripleTree). shown_lines form t.left u.right t.comp s.left_number s.right_number) p) o)

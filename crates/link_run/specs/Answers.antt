@@ -1,5 +1,5 @@
 -- What is written for a run of a link: an answer line for each item, and the state lines at its end.
--- Read it from the end: `state_lines`, `answer_line`, then the lines of each answer.
+-- Read it from the end: `link_state_lines`, `link_answer_line`, then the lines of each answer.
 use Rattle.std.specs.Prelude.{ℕ, List, ◌++◌, Option, option_map, option_and_then, codes, decimal}
 use Rattle.serde_json.specs.Written.{compact_text}
 use Rattle.doc_values.specs.Documents.{DocTree}
@@ -57,10 +57,10 @@ fault_text not_an_event = codes "not-an-event"
 fault_text not_an_edit = codes "not-an-edit"
 
 -- the answer to the item with this number
-abbrev pub answer_line : ℕ → AnswerTree → List ℕ
-answer_line n (told of) = told_line n of
-answer_line n (refused why) = refusal_line n why
-answer_line n (no_event cause) = refused_line n (fault_text cause)
+abbrev pub link_answer_line : ℕ → AnswerTree → List ℕ
+link_answer_line n (told of) = told_line n of
+link_answer_line n (refused why) = refusal_line n why
+link_answer_line n (no_event cause) = refused_line n (fault_text cause)
 
 -- ---- the state
 
@@ -82,7 +82,7 @@ triple_of form s k = triple_at (left_type form) (right_type form) (missing form)
 
 -- the state lines of a link: the left document and the complement that its left site shows, and the right document that
 -- its right site shows
-abbrev pub state_lines : FormTree → LinkTree → Option (List ℕ)
-state_lines form s =
+abbrev pub link_state_lines : FormTree → LinkTree → Option (List ℕ)
+link_state_lines form s =
     option_and_then (λ t. option_map (λ u. shown_lines form t.left u.right t.comp s.left_number s.right_number)
     (triple_of form s s.right_number)) (triple_of form s s.left_number)

@@ -1,5 +1,5 @@
 -- What an item of a script makes of a link. A lens comes as its two types, its first complement and its translation of
--- words. Read it from the end: `take_item`, `AnswerTree`, then `ScriptItem`.
+-- words. Read it from the end: `take_link_item`, `AnswerTree`, then `ScriptItem`.
 use Rattle.std.specs.Prelude.{Bool, true, false, Option, Some, option_map, Result, Ok, Err}
 use Rattle.texts.specs.declared.side.Side.{Side}
 use Rattle.doc_values.specs.Types.{TyTree}
@@ -34,6 +34,6 @@ answered s (Err why) = (s, refused why)
 module _ (left : TyTree) (right : TyTree) (start : CompTree)
     (carried : Side → CompTree → WordTree → Option Translated) where
   -- an event happens to the link; a line that is not an event leaves the link as it was, and its fault is the answer
-  abbrev pub take_item : LinkTree → ScriptItem → Option (LinkTree × AnswerTree)
-  take_item s (Ok event) = option_map (answered s) (happens left right start carried s event)
-  take_item s (Err cause) = Some (s, no_event cause)
+  abbrev pub take_link_item : LinkTree → ScriptItem → Option (LinkTree × AnswerTree)
+  take_link_item s (Ok event) = option_map (answered s) (happens left right start carried s event)
+  take_link_item s (Err cause) = Some (s, no_event cause)

@@ -13,8 +13,8 @@ use Rattle.turn_link.specs.Links.{LinkTree, link_start}
 use Rattle.turn_link.specs.Laws.{IsLinked}
 use Rattle.turn_link.specs.LinkViews.{LinkOf, link_tree}
 use Rattle.link_run.specs.EventJson.{event_of_line}
-use Rattle.link_run.specs.Items.{AnswerTree, take_item, is_refused}
-use Rattle.link_run.specs.Answers.{answer_line, state_lines}
+use Rattle.link_run.specs.Items.{AnswerTree, take_link_item, is_refused}
+use Rattle.link_run.specs.Answers.{link_answer_line, link_state_lines}
 
 -- the link of the lens of a form before any event
 abbrev pub first_link : FormTree → FormTree × LinkTree
@@ -22,12 +22,12 @@ first_link form = (form, link_start)
 
 -- the link after the item with this number, and its answer line; the lens stays
 abbrev pub numbered : FormTree → ℕ → LinkTree × AnswerTree → (FormTree × LinkTree) × Answer
-numbered form n step = ((form, step.0), record { line = answer_line n step.1; refused = is_refused step.1 })
+numbered form n step = ((form, step.0), record { line = link_answer_line n step.1; refused = is_refused step.1 })
 
 -- what the item with this number makes of a link: the event of the line happens to it, or the line is refused
 abbrev pub line_answer : FormTree × LinkTree → ℕ → Line → Option ((FormTree × LinkTree) × Answer)
 line_answer s n line =
-    option_map (numbered s.0 n) (take_item (left_type s.0) (right_type s.0) (missing s.0) (translate s.0) s.1
+    option_map (numbered s.0 n) (take_link_item (left_type s.0) (right_type s.0) (missing s.0) (translate s.0) s.1
     (event_of_line line))
 
 abbrev pub text_or_none : Option (List ℕ) → List ℕ
@@ -36,7 +36,7 @@ text_or_none None = []
 
 -- the state lines of a link; every link of a run has them
 abbrev pub state_text : FormTree × LinkTree → List ℕ
-state_text s = text_or_none (state_lines s.0 s.1)
+state_text s = text_or_none (link_state_lines s.0 s.1)
 
 -- a link of the lens of a form that is in turns, by `turns`, with all its parts together
 abbrev pub IsLinkOf : FormTree → LinkTree → Type 0
@@ -47,7 +47,7 @@ pub record IsInTurnsWith (form : FormTree) (s : FormTree × LinkTree) : Type 0 w
   pub lens : s.0 ≡ form
   pub linked : IsLinkOf form s.1
   pub text : List ℕ
-  pub shown : state_lines form s.1 ≡ Some text
+  pub shown : link_state_lines form s.1 ≡ Some text
 
 -- the state of a link of a compiled lens
 abbrev pub state_of : LinkOf ReadyForm → FormTree × LinkTree

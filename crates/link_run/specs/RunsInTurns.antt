@@ -20,7 +20,7 @@ use Rattle.turn_link.specs.Turns.{Refusal}
 use Rattle.turn_link.specs.Links.{ToldTree, LinkTree, link_start, link_after}
 use Rattle.turn_link.proofs.LinkRuns.{goes_on, start_linked}
 use Rattle.link_run.specs.EventJson.{event_of_line}
-use Rattle.link_run.specs.Items.{ScriptItem, no_event, answered, take_item}
+use Rattle.link_run.specs.Items.{ScriptItem, no_event, answered, take_link_item}
 use Rattle.link_run.specs.Answers.{shown_lines}
 use Rattle.link_run.specs.LinkScript.{link_script}
 use Rattle.link_run.specs.Runs.{IsLinkOf, first_link, numbered, line_answer, IsInTurnsWith}
@@ -51,7 +51,7 @@ module _ (form : FormTree) where
     abbrev StepsOn : LinkTree → ℕ → ScriptItem → FormTree → Type 0
     StepsOn s n item f =
         (r : (FormTree × LinkTree) × Answer)
-        × (option_map (numbered f n) (take_item (left_type f) (right_type f) (missing f) (translate f) s item) ≡ Some r)
+        × (option_map (numbered f n) (take_link_item (left_type f) (right_type f) (missing f) (translate f) s item) ≡ Some r)
         × IsInTurnsWith form r.0
 
     steps_on : (s : LinkTree) (n : ℕ) (item : ScriptItem) → IsLinkOf form s → StepsOn s n item form

@@ -8,17 +8,17 @@ use Rattle.turn_link.specs.Links.{LinkTree}
 use Rattle.turn_link.specs.Views.{told_tree, link_refusal}
 use Rattle.link_run.specs.Reading.{cause_of}
 use Rattle.link_run.specs.Items.{AnswerTree, told, refused, no_event}
-use Rattle.link_run.specs.declared.answers.Answer.{Answer}
-use Rattle.link_run.specs.declared.answers.Answer.TheVariants as answer
+use Rattle.link_run.specs.declared.answers.LinkAnswer.{LinkAnswer}
+use Rattle.link_run.specs.declared.answers.LinkAnswer.TheVariants as answer
 
 -- the tree of an answer; an error that memory ran out has none
-abbrev pub answer_tree : Answer → Option AnswerTree
+abbrev pub answer_tree : LinkAnswer → Option AnswerTree
 answer_tree (answer.Told of) = Some (told (told_tree of))
 answer_tree (answer.Refused fault) = option_map refused (link_refusal fault)
 answer_tree (answer.NoEvent fault) = option_map no_event (cause_of fault)
 
 -- the step of a run that comes to this link with this answer
-abbrev pub step_with : LinkTree → Answer → Option (LinkTree × AnswerTree)
+abbrev pub step_with : LinkTree → LinkAnswer → Option (LinkTree × AnswerTree)
 step_with s a = option_map (λ tree. (s, tree)) (answer_tree a)
 
 -- a batch has a line if the counts in its word fit
@@ -31,7 +31,7 @@ abbrev pub IsSome : {A : Type 0} → Option A → Type 0
 IsSome None = ⊥
 IsSome (Some a) = Unit {0}
 
-abbrev pub HasAnswerLine : Answer → Type 0
+abbrev pub HasAnswerLine : LinkAnswer → Type 0
 HasAnswerLine (answer.Told of) = HasToldLine of
 HasAnswerLine (answer.Refused fault) = IsSome (link_refusal fault)
 HasAnswerLine (answer.NoEvent fault) = IsSome (cause_of fault)

@@ -8,7 +8,7 @@ ghost use Rattle.turn_link.specs.Views.{told_tree, link_refusal, batch_tree};
 ghost use Rattle.link_run.specs.EventJson.{EventCause};
 ghost use Rattle.link_run.specs.Reading.{cause_of};
 ghost use Rattle.link_run.specs.Items.{is_refused};
-ghost use Rattle.link_run.specs.Answers.{accepted_line, refused_line, told_line, refusal_line, fault_text, answer_line};
+ghost use Rattle.link_run.specs.Answers.{accepted_line, refused_line, told_line, refusal_line, fault_text, link_answer_line};
 ghost use Rattle.link_run.specs.Views.{answer_tree, HasToldLine, HasAnswerLine, IsSome};
 
 use crate::fault::EventFault;
@@ -20,7 +20,7 @@ use turn_link::{Batch, LinkFault, Told};
 
 /// The answer to a line of a script that is not blank.
 #[derive(Drop)]
-pub enum Answer {
+pub enum LinkAnswer {
     /// What is told of the event.
     Told(Told),
     /// Why the link refuses the event, which is not that memory ran out.
@@ -29,14 +29,14 @@ pub enum Answer {
     NoEvent(EventFault),
 }
 
-impl Answer {
+impl LinkAnswer {
     /// Whether the line was refused.
     pub fn is_refused(&self) -> bool
         ensures refused { IfSome (answer_tree self.now) (λ answer. result ≡ is_refused answer) }
     {
         match self {
-            Answer::Told(_) => false,
-            Answer::Refused(_) | Answer::NoEvent(_) => true,
+            LinkAnswer::Told(_) => false,
+            LinkAnswer::Refused(_) | LinkAnswer::NoEvent(_) => true,
         }
     }
 }
@@ -44,16 +44,16 @@ impl Answer {
 /// The answer line of the item with this number. The only error is running out of memory.
 ///
 /// In the word of a batch each insertion and each deletion is of 1 to 65,536 items, and no fault is
-/// that memory ran out. So it is with every answer of [`take_item`](crate::take_item).
-pub fn answer_line(alloc: Global, number: u64, answer: &Answer) -> Result<Bytes, AllocError>
+/// that memory ran out. So it is with every answer of [`take_link_item`](crate::take_link_item).
+pub fn link_answer_line(alloc: Global, number: u64, answer: &LinkAnswer) -> Result<Bytes, AllocError>
     requires has_line { HasAnswerLine answer.now }
     ensures line { IfOk result (λ line. IfSome (answer_tree answer.now)
-        (λ answer. line ≡ answer_line number answer)) }
+        (λ answer. line ≡ link_answer_line number answer)) }
 {
     match answer {
-        Answer::Told(told) => told_line(alloc, number, told),
-        Answer::Refused(fault) => refusal_line(alloc, number, *fault),
-        Answer::NoEvent(fault) => refused_line(alloc, number, fault_text(*fault)),
+        LinkAnswer::Told(told) => told_line(alloc, number, told),
+        LinkAnswer::Refused(fault) => refusal_line(alloc, number, *fault),
+        LinkAnswer::NoEvent(fault) => refused_line(alloc, number, fault_text(*fault)),
     }
 }
 

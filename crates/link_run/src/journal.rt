@@ -7,7 +7,7 @@ ghost use Rattle.link_run.specs.Linked.{IsLinkedOf, take_item_of};
 ghost use Rattle.link_run.specs.Runs.{line_answer, state_of};
 ghost use Rattle.link_run.specs.Views.{step_with, HasAnswerLine};
 
-use crate::answers::{Answer, answer_line};
+use crate::answers::{LinkAnswer, link_answer_line};
 use crate::fault::EventFault;
 use crate::read::read_event;
 use edit_journal::Line;
@@ -27,8 +27,8 @@ pub(crate) fn answer_item(
     ensures { IfOk result (λ a. line_answer (state_of link.old) number line.now
         ≡ Some (state_of link.new, a)) }
 {
-    let answer = take_item(alloc, link, line)?;
-    let line = answer_line(alloc, number, &answer)?;
+    let answer = take_link_item(alloc, link, line)?;
+    let line = link_answer_line(alloc, number, &answer)?;
     let refused = answer.is_refused();
     Ok(script_run::Answer { line, refused })
 }
@@ -37,11 +37,11 @@ pub(crate) fn answer_item(
 ///
 /// An event that the link refuses, and a line that is not an event, leave the link as it was. The
 /// only error is running out of memory.
-pub fn take_item<L: EditLens>(
+pub fn take_link_item<L: EditLens>(
     alloc: Global,
     link: &mut Link<L>,
     line: &Line,
-) -> Result<Answer, AllocError>
+) -> Result<LinkAnswer, AllocError>
     ensures answer { IfOk result (λ answer. take_item_of L.EditLens
         link.old (event_of_line line.now) ≡ step_with (link_tree link.new) answer) }
     ensures has_line { IfOk result (λ answer. HasAnswerLine answer) }
@@ -50,12 +50,12 @@ pub fn take_item<L: EditLens>(
     match read_event(alloc, line) {
         Ok(event) => take_event(link, &event),
         Err(EventFault::NoMemory) => Err(AllocError),
-        Err(fault) => Ok(Answer::NoEvent(fault)),
+        Err(fault) => Ok(LinkAnswer::NoEvent(fault)),
     }
 }
 
 // The answer to an event.
-fn take_event<L: EditLens>(link: &mut Link<L>, event: &Event) -> Result<Answer, AllocError>
+fn take_event<L: EditLens>(link: &mut Link<L>, event: &Event) -> Result<LinkAnswer, AllocError>
     ensures answer { IfOk result (λ answer. take_item_of L.EditLens
         link.old (Ok (event_tree event.now)) ≡ step_with (link_tree link.new) answer) }
     ensures has_line { IfOk result (λ answer. HasAnswerLine answer) }
@@ -64,10 +64,10 @@ fn take_event<L: EditLens>(link: &mut Link<L>, event: &Event) -> Result<Answer, 
     match link.step(event) {
         Ok(told) => {
             is_linked(link);
-            Ok(Answer::Told(told))
+            Ok(LinkAnswer::Told(told))
         }
         Err(LinkFault::NoMemory) => Err(AllocError),
-        Err(fault) => Ok(Answer::Refused(fault)),
+        Err(fault) => Ok(LinkAnswer::Refused(fault)),
     }
 }
 

@@ -8,7 +8,7 @@ ghost use Rattle.link_run.specs.LinkScript.{link_script};
 ghost use Rattle.link_run.specs.Runs.{first_link, state_of, state_text};
 
 use crate::journal::answer_item;
-use crate::state::state_lines;
+use crate::state::link_state_lines;
 use accepted_programs::Refused;
 use answer_text::refused_part_line;
 use edit_journal::Line;
@@ -67,7 +67,7 @@ impl ScriptState for LinkRun {
 fn text_of_state(alloc: Global, link: &Link<Flat>) -> Result<Bytes, AllocError>
     ensures { IfOk result (λ text. text ≡ state_text (state_of link.now)) }
 {
-    let text = state_lines(alloc, link.left().lens().typed(), link)?;
+    let text = link_state_lines(alloc, link.left().lens().typed(), link)?;
     Ok(Bytes::from_vec(text))
 }
 

@@ -3,7 +3,7 @@ ghost use Rattle.std.specs.Prelude.{◌≡◌, Some, IfOk};
 ghost use Rattle.lens_forms.specs.Forms.{form_tree};
 ghost use Rattle.lens_core.specs.LensOf.{IsLensOf};
 ghost use Rattle.turn_link.specs.LinkViews.{link_tree};
-ghost use Rattle.link_run.specs.Answers.{numbers_line, state_lines};
+ghost use Rattle.link_run.specs.Answers.{numbers_line, link_state_lines};
 
 use answer_text::{bytes_of, complement_line, document_line};
 use lens_core::EditLens;
@@ -16,7 +16,7 @@ use turn_link::Link;
 /// that the right site shows, and the numbers of both.
 ///
 /// The link's lens is that of the form. The only error is running out of memory.
-pub fn state_lines<L: EditLens>(
+pub fn link_state_lines<L: EditLens>(
     alloc: Global,
     typed: &Typed,
     link: &Link<L>,
@@ -25,7 +25,7 @@ pub fn state_lines<L: EditLens>(
         (L.start link.now.left.lens) (L.holds link.now.left.lens) (L.carried link.now.left.lens)
         (form_tree typed.now) }
     ensures lines { IfOk result (λ text.
-        state_lines (form_tree typed.now) (link_tree link.now) ≡ Some text.items) }
+        link_state_lines (form_tree typed.now) (link_tree link.now) ≡ Some text.items) }
 {
     let near = link.left();
     let far = link.right();

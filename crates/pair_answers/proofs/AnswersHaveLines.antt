@@ -18,10 +18,10 @@ use Rattle.pair_answers.specs.AnswerLines.{HasAnswerLine}
 use Rattle.pair_answers.specs.Answers.{answer_line}
 use Rattle.pair_answers.specs.ItemRuns.{JournalAnswer}
 use Rattle.pair_answers.specs.ItemViews.{answer_tree}
-use Rattle.pair_answers.specs.declared.answers.Answer.{Answer}
-use Rattle.pair_answers.specs.declared.answers.Answer.TheVariants.{Carried, NoApply, GroupCarried, GroupNoApply, NoEntry}
+use Rattle.pair_answers.specs.declared.answers.PairAnswer.{PairAnswer}
+use Rattle.pair_answers.specs.declared.answers.PairAnswer.TheVariants.{Carried, NoApply, GroupCarried, GroupNoApply, NoEntry}
 
-pub has_tree : (answer : Answer) → HasAnswerLine answer → (a : JournalAnswer) × (answer_tree answer ≡ Some a)
+pub has_tree : (answer : PairAnswer) → HasAnswerLine answer → (a : JournalAnswer) × (answer_tree answer ≡ Some a)
 has_tree (Carried side w) h = (_, refl)
 has_tree (NoApply at cause) h = (_, refl)
 has_tree (GroupCarried group words) h = (_, refl)
@@ -42,7 +42,7 @@ pub fault_has_line : (o : Option LineFault) (number : ℕ) (line : List ℕ) →
 fault_has_line None number line h = tt
 fault_has_line (Some cause) number line h = h cause refl
 
-pub fault_line_is : {E : Type 0} (r : Result (List ℕ) E) (answer : Answer) (fault : EntryFault) (number : ℕ) → answer ≡ NoEntry fault
+pub fault_line_is : {E : Type 0} (r : Result (List ℕ) E) (answer : PairAnswer) (fault : EntryFault) (number : ℕ) → answer ≡ NoEntry fault
     → IfOk r (λ line. (cause : LineFault) → cause_of fault ≡ Some cause → line ≡ fault_line number cause)
     → IfOk r (λ line. IfSome (answer_tree answer) (λ a. line ≡ answer_line number a))
 fault_line_is (Ok line) answer fault number is h = subst (λ x. IfSome (answer_tree x) (λ a. line ≡ answer_line number a)) (sym is) (fault_has_line (cause_of fault) number line h)

@@ -5,13 +5,13 @@ use Rattle.edit_module.specs.Views.{word_tree, word_trees}
 use Rattle.edit_json.specs.WordJson.{counts_fit}
 use Rattle.edit_journal.specs.declared.fault.EntryFault.TheVariants.{LineTooLong, NotJson, NotAnEntry, NotAnEdit}
 use Rattle.edit_journal.specs.declared.fault.EntryFault.TheVariants.{NoMemory}
-use Rattle.pair_answers.specs.declared.answers.Answer.{Answer}
-use Rattle.pair_answers.specs.declared.answers.Answer.TheVariants.{Carried, NoApply, GroupCarried, GroupNoApply}
-use Rattle.pair_answers.specs.declared.answers.Answer.TheVariants.{NoEntry}
+use Rattle.pair_answers.specs.declared.answers.PairAnswer.{PairAnswer}
+use Rattle.pair_answers.specs.declared.answers.PairAnswer.TheVariants.{Carried, NoApply, GroupCarried, GroupNoApply}
+use Rattle.pair_answers.specs.declared.answers.PairAnswer.TheVariants.{NoEntry}
 
 -- A word has a line if its counts fit, and words of a group if each has and there is one for each entry. Running out of
 -- memory is not a fault of a line.
-abbrev pub HasAnswerLine : Answer → Type 0
+abbrev pub HasAnswerLine : PairAnswer → Type 0
 HasAnswerLine (Carried side w) = counts_fit (word_tree w) ≡ true
 HasAnswerLine (NoApply at cause) = Unit {0}
 HasAnswerLine (GroupCarried group words) =

@@ -6,12 +6,12 @@ use Rattle.edit_journal.specs.Reading.{cause_of}
 use Rattle.edit_session.specs.Step.{TripleTree}
 use Rattle.edit_session.specs.Run.{carried, no_apply, group_carried, group_no_apply, no_entry}
 use Rattle.pair_answers.specs.ItemRuns.{JournalAnswer}
-use Rattle.pair_answers.specs.declared.answers.Answer.{Answer}
-use Rattle.pair_answers.specs.declared.answers.Answer.TheVariants.{Carried, NoApply, GroupCarried, GroupNoApply}
-use Rattle.pair_answers.specs.declared.answers.Answer.TheVariants.{NoEntry}
+use Rattle.pair_answers.specs.declared.answers.PairAnswer.{PairAnswer}
+use Rattle.pair_answers.specs.declared.answers.PairAnswer.TheVariants.{Carried, NoApply, GroupCarried, GroupNoApply}
+use Rattle.pair_answers.specs.declared.answers.PairAnswer.TheVariants.{NoEntry}
 
 -- the tree of an answer; there is none for a line of which nothing is known since memory ran out
-abbrev pub answer_tree : Answer → Option JournalAnswer
+abbrev pub answer_tree : PairAnswer → Option JournalAnswer
 answer_tree (Carried side w) = Some (carried side (word_tree w))
 answer_tree (NoApply at cause) = Some (no_apply at cause)
 answer_tree (GroupCarried group words) = Some (group_carried (carried_to (entry_trees group) (word_trees words)))
@@ -19,5 +19,5 @@ answer_tree (GroupNoApply part at cause) = Some (group_no_apply part at cause)
 answer_tree (NoEntry fault) = option_map no_entry (cause_of fault)
 
 -- the step of a run that comes to this triple with this answer
-abbrev pub step_with : TripleTree → Answer → Option (TripleTree × JournalAnswer)
+abbrev pub step_with : TripleTree → PairAnswer → Option (TripleTree × JournalAnswer)
 step_with t answer = option_map (λ a. (t, a)) (answer_tree answer)

@@ -14,7 +14,7 @@ use texts::{Bytes, Side};
 
 /// The answer to an item of a journal.
 #[derive(Drop)]
-pub enum Answer {
+pub enum PairAnswer {
     /// The entry was translated to this word of this side.
     Carried(Side, Word),
     /// The entry does not apply: the number of the first primitive that fails, and its cause.
@@ -28,14 +28,14 @@ pub enum Answer {
     NoEntry(EntryFault),
 }
 
-impl Answer {
+impl PairAnswer {
     /// Whether the item was refused.
     pub fn is_refused(&self) -> bool
         ensures refused { IfSome (answer_tree self.now) (λ answer. result ≡ is_refused answer) }
     {
         match self {
-            Answer::Carried(_, _) | Answer::GroupCarried(_, _) => false,
-            Answer::NoApply { .. } | Answer::GroupNoApply { .. } | Answer::NoEntry(_) => true,
+            PairAnswer::Carried(_, _) | PairAnswer::GroupCarried(_, _) => false,
+            PairAnswer::NoApply { .. } | PairAnswer::GroupNoApply { .. } | PairAnswer::NoEntry(_) => true,
         }
     }
 }
@@ -44,18 +44,18 @@ impl Answer {
 ///
 /// In the words that were translated each insertion and each deletion is of 1 to 65,536 items, and a group has as many
 /// words as entries. So it is with every answer of [`take_item`](crate::take_item).
-pub fn answer_line(alloc: Global, number: u64, answer: &Answer) -> Result<Bytes, AllocError>
+pub fn answer_line(alloc: Global, number: u64, answer: &PairAnswer) -> Result<Bytes, AllocError>
     requires has_line { HasAnswerLine answer.now }
     ensures line { IfOk result (λ line. IfSome (answer_tree answer.now)
         (λ answer. line ≡ answer_line number answer)) }
 {
     match answer {
-        Answer::Carried(side, word) => ok_line(alloc, number, *side, word),
-        Answer::NoApply { at, cause } => no_apply_line(alloc, number, *at, *cause),
-        Answer::GroupCarried(group, words) => group_line(alloc, number, group, words),
-        Answer::GroupNoApply { part, at, cause } => {
+        PairAnswer::Carried(side, word) => ok_line(alloc, number, *side, word),
+        PairAnswer::NoApply { at, cause } => no_apply_line(alloc, number, *at, *cause),
+        PairAnswer::GroupCarried(group, words) => group_line(alloc, number, group, words),
+        PairAnswer::GroupNoApply { part, at, cause } => {
             group_refused_line(alloc, number, *part, *at, *cause)
         }
-        Answer::NoEntry(fault) => fault_line(alloc, number, fault),
+        PairAnswer::NoEntry(fault) => fault_line(alloc, number, fault),
     }
 }

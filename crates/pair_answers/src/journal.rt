@@ -10,7 +10,7 @@ ghost use Rattle.edit_session.specs.Views.{triple_tree};
 ghost use Rattle.pair_answers.specs.AnswerLines.{HasAnswerLine};
 ghost use Rattle.pair_answers.specs.ItemViews.{step_with};
 
-use crate::answers::Answer;
+use crate::answers::PairAnswer;
 use edit_journal::{EntryFault, Line, read_entry};
 use edit_module::{Change, Entries, Entry};
 use edit_session::{GroupFault, Session, StepFault};
@@ -25,7 +25,7 @@ pub fn take_item<L: EditLens>(
     alloc: Global,
     session: &mut Session<L>,
     line: &Line,
-) -> Result<Answer, AllocError>
+) -> Result<PairAnswer, AllocError>
     ensures answer { IfOk result (λ answer. take_item (L.left_type session.old.lens)
         (L.right_type session.old.lens) (L.carried session.old.lens)
         (triple_tree session.old.triple) (change_of_line line.now)
@@ -38,12 +38,12 @@ pub fn take_item<L: EditLens>(
         Ok(Change::One(entry)) => take_entry(session, &entry),
         Ok(Change::Group(entries)) => take_group(session, entries),
         Err(EntryFault::NoMemory) => Err(AllocError),
-        Err(fault) => Ok(Answer::NoEntry(fault)),
+        Err(fault) => Ok(PairAnswer::NoEntry(fault)),
     }
 }
 
 // The answer to an entry, which steps the session.
-fn take_entry<L: EditLens>(session: &mut Session<L>, entry: &Entry) -> Result<Answer, AllocError>
+fn take_entry<L: EditLens>(session: &mut Session<L>, entry: &Entry) -> Result<PairAnswer, AllocError>
     ensures answer { IfOk result (λ answer. take_change (L.left_type session.old.lens)
         (L.right_type session.old.lens) (L.carried session.old.lens)
         (triple_tree session.old.triple) (one (entry_tree entry.now))
@@ -53,14 +53,14 @@ fn take_entry<L: EditLens>(session: &mut Session<L>, entry: &Entry) -> Result<An
     ensures unchanged { OnErr result (session.new ≡ session.old) }
 {
     match session.step(entry) {
-        Ok(word) => Ok(Answer::Carried(entry.side.other(), word)),
-        Err(StepFault::NoApply { at, cause }) => Ok(Answer::NoApply { at, cause }),
+        Ok(word) => Ok(PairAnswer::Carried(entry.side.other(), word)),
+        Err(StepFault::NoApply { at, cause }) => Ok(PairAnswer::NoApply { at, cause }),
         Err(StepFault::NoMemory) => Err(AllocError),
     }
 }
 
 // The answer to a group of entries, which steps the session by all of them or by none.
-fn take_group<L: EditLens>(session: &mut Session<L>, entries: Entries) -> Result<Answer, AllocError>
+fn take_group<L: EditLens>(session: &mut Session<L>, entries: Entries) -> Result<PairAnswer, AllocError>
     ensures answer { IfOk result (λ answer. take_change (L.left_type session.old.lens)
         (L.right_type session.old.lens) (L.carried session.old.lens)
         (triple_tree session.old.triple) (group (entry_trees entries))
@@ -71,9 +71,9 @@ fn take_group<L: EditLens>(session: &mut Session<L>, entries: Entries) -> Result
 {
     let group = Change::Group(entries);
     match session.step_all(&group) {
-        Ok(words) => Ok(Answer::GroupCarried(group_entries(group), words)),
+        Ok(words) => Ok(PairAnswer::GroupCarried(group_entries(group), words)),
         Err(GroupFault::NoApply { part, at, cause }) => {
-            Ok(Answer::GroupNoApply { part, at, cause })
+            Ok(PairAnswer::GroupNoApply { part, at, cause })
         }
         Err(GroupFault::NoMemory) => Err(AllocError),
     }

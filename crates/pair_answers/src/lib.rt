@@ -12,6 +12,6 @@ mod answers;
 mod journal;
 mod state;
 
-pub use answers::{Answer, answer_line};
+pub use answers::{PairAnswer, answer_line};
 pub use journal::take_item;
 pub use state::state_lines;

@@ -8,7 +8,7 @@ use Rattle.pair_answers.specs.AnswerLines.{HasAnswerLine}
 use Rattle.pair_answers.specs.Answers.{answer_line}
 use Rattle.pair_answers.specs.ItemRuns.{JournalAnswer}
 use Rattle.pair_answers.specs.ItemViews.{answer_tree, step_with}
-use Rattle.pair_answers.specs.declared.answers.Answer.{Answer}
+use Rattle.pair_answers.specs.declared.answers.PairAnswer.{PairAnswer}
 use Rattle.lens_forms.specs.Forms.{FormTree}
 use Rattle.script_run.specs.declared.line_answers.Answer as stream
 use Rattle.pair_run.specs.Runs.{numbered}
@@ -21,7 +21,7 @@ abbrev Made : Type 0
 Made = Option ((FormTree × TripleTree) × stream.Answer)
 
 module _ (form form' : FormTree) (t : TripleTree) (n : ℕ) (line : List ℕ) (refused : Bool) (taken : Option (TripleTree × JournalAnswer)) (same : form' ≡ form) where
-  pub answered_line : (a : Answer) → HasAnswerLine a → taken ≡ step_with t a
+  pub answered_line : (a : PairAnswer) → HasAnswerLine a → taken ≡ step_with t a
       → IfSome (answer_tree a) (λ x. line ≡ answer_line n x) → IfSome (answer_tree a) (λ x. refused ≡ is_refused x)
       → option_map (numbered form n) taken ≡ Some ((form', t), answer_of line refused)
   answered_line a has is line_is refused_is =

@@ -22,5 +22,5 @@ pub use crate::change::{change_in, read_change};
 pub use crate::opening::{StoredLens, stored_lens};
 pub use crate::parts::{VERSION, is_version_record, snapshot_in};
 pub use crate::payloads::{change_payload, program_payload, snapshot_payload, version_payload};
-pub use crate::record_fault::ReopenFault;
+pub use crate::record_fault::RecordFault;
 pub use crate::text::read_tree;

@@ -10,7 +10,7 @@ ghost use Rattle.store_records.specs.RecordJson.{opening_of};
 ghost use Rattle.store_records.specs.StoredLens.{accepted, form_of_text, with_form, lens_and_version, stored_lens};
 
 use crate::parts::opening_in;
-use crate::record_fault::ReopenFault;
+use crate::record_fault::RecordFault;
 use crate::text::read_tree;
 use lens_io::Payloads;
 use lens_syntax::{Program, ProgramFault, read_unbounded};
@@ -35,30 +35,30 @@ pub struct StoredLens {
 /// - `BadRecord { number: 1 }`: if and only if there is no first record, it is not the payload of a program, or the
 ///   grammar or the checker refuses its text. The text may have any length, and need not be canonical.
 /// - `NoMemory`: only if memory ran out.
-pub fn stored_lens(alloc: Global, payloads: &Payloads) -> Result<StoredLens, ReopenFault>
+pub fn stored_lens(alloc: Global, payloads: &Payloads) -> Result<StoredLens, RecordFault>
     ensures lens { MatchResult result
         (λ lens. stored_lens payloads.now ≡ Some (form_tree lens.typed, lens.version))
         (IsBadFirst (stored_lens payloads.now)) }
 {
     let records = payloads.as_slice();
     if records.is_empty() {
-        return Err(ReopenFault::BadRecord { number: FIRST });
+        return Err(RecordFault::BadRecord { number: FIRST });
     }
     lens_of_payload(alloc, records[0].as_slice())
 }
 
-fn lens_of_payload(alloc: Global, payload: &[u8]) -> Result<StoredLens, ReopenFault>
+fn lens_of_payload(alloc: Global, payload: &[u8]) -> Result<StoredLens, RecordFault>
     ensures { MatchResult result
         (λ lens. lens_and_version payload.now ≡ Some (form_tree lens.typed, lens.version))
         (IsBadFirst (lens_and_version payload.now)) }
 {
     match read_tree(alloc, payload)? {
         Some(tree) => lens_of_tree(alloc, &tree),
-        None => Err(ReopenFault::BadRecord { number: FIRST }),
+        None => Err(RecordFault::BadRecord { number: FIRST }),
     }
 }
 
-fn lens_of_tree(alloc: Global, tree: &Value) -> Result<StoredLens, ReopenFault>
+fn lens_of_tree(alloc: Global, tree: &Value) -> Result<StoredLens, RecordFault>
     ensures { MatchResult result
         (λ lens. option_and_then with_form (opening_of (view tree.now)) ≡ Some (form_tree lens.typed, lens.version))
         (IsBadFirst (option_and_then with_form (opening_of (view tree.now)))) }
@@ -68,31 +68,31 @@ fn lens_of_tree(alloc: Global, tree: &Value) -> Result<StoredLens, ReopenFault>
             let typed = lens_of_text(alloc, text.as_bytes())?;
             Ok(StoredLens { typed, version })
         }
-        None => Err(ReopenFault::BadRecord { number: FIRST }),
+        None => Err(RecordFault::BadRecord { number: FIRST }),
     }
 }
 
 #[tactic(auto, using(crate::proofs::Openings::opening_rules))]
-fn lens_of_text(alloc: Global, text: &[u8]) -> Result<Typed, ReopenFault>
+fn lens_of_text(alloc: Global, text: &[u8]) -> Result<Typed, RecordFault>
     ensures { MatchResult result
         (λ lens. form_of_text text.now ≡ Some (form_tree lens)) (IsBadFirst (form_of_text text.now)) }
 {
     match read_unbounded(alloc, text) {
         Ok(program) => lens_of_program(alloc, &program),
-        Err(ProgramFault::NoMemory) => Err(ReopenFault::NoMemory),
-        Err(_) => Err(ReopenFault::BadRecord { number: FIRST }),
+        Err(ProgramFault::NoMemory) => Err(RecordFault::NoMemory),
+        Err(_) => Err(RecordFault::BadRecord { number: FIRST }),
     }
 }
 
 #[tactic(auto, using(crate::proofs::Openings::opening_rules))]
-fn lens_of_program(alloc: Global, program: &Program) -> Result<Typed, ReopenFault>
+fn lens_of_program(alloc: Global, program: &Program) -> Result<Typed, RecordFault>
     ensures { MatchResult result
         (λ lens. accepted (form_of_program (Ok (program_tree program.now))) ≡ Some (form_tree lens))
         (IsBadFirst (accepted (form_of_program (Ok (program_tree program.now))))) }
 {
     match check(alloc, program) {
         Ok(lens) => Ok(lens),
-        Err(TypeFault::NoMemory) => Err(ReopenFault::NoMemory),
-        Err(_) => Err(ReopenFault::BadRecord { number: FIRST }),
+        Err(TypeFault::NoMemory) => Err(RecordFault::NoMemory),
+        Err(_) => Err(RecordFault::BadRecord { number: FIRST }),
     }
 }

@@ -6,7 +6,7 @@ use texts::Twin;
 /// Why payloads stand for no session. Records are numbered from 1 on, and the fault is that of the first record that
 /// has one.
 #[derive(Clone, Copy, Debug, PartialEq, Eq, Drop)]
-pub enum ReopenFault {
+pub enum RecordFault {
     /// The record is not one that may stand there.
     BadRecord {
         /// The number of the record.
@@ -21,32 +21,32 @@ pub enum ReopenFault {
     NoMemory,
 }
 
-impl From<AllocError> for ReopenFault {
+impl From<AllocError> for RecordFault {
     ghost use Rattle.std.specs.Prelude.{◌≡◌};
-    ghost use Rattle.store_records.specs.declared.record_fault.ReopenFault.TheVariants.{NoMemory};
+    ghost use Rattle.store_records.specs.declared.record_fault.RecordFault.TheVariants.{NoMemory};
 
     ghost from_gives = { λ _ fault. fault ≡ NoMemory };
 
-    fn from(_: AllocError) -> ReopenFault {
-        ReopenFault::NoMemory
+    fn from(_: AllocError) -> RecordFault {
+        RecordFault::NoMemory
     }
 }
 
-impl<T: Drop> From<AllocFailed<T>> for ReopenFault {
+impl<T: Drop> From<AllocFailed<T>> for RecordFault {
     ghost use Rattle.std.specs.Prelude.{◌≡◌};
-    ghost use Rattle.store_records.specs.declared.record_fault.ReopenFault.TheVariants.{NoMemory};
+    ghost use Rattle.store_records.specs.declared.record_fault.RecordFault.TheVariants.{NoMemory};
 
     ghost from_gives = { λ _ fault. fault ≡ NoMemory };
 
-    fn from(_: AllocFailed<T>) -> ReopenFault {
-        ReopenFault::NoMemory
+    fn from(_: AllocFailed<T>) -> RecordFault {
+        RecordFault::NoMemory
     }
 }
 
-impl Twin for ReopenFault {
-    ghost use Rattle.store_records.specs.declared.record_fault.ReopenFault.{ReopenFault};
+impl Twin for RecordFault {
+    ghost use Rattle.store_records.specs.declared.record_fault.RecordFault.{RecordFault};
 
-    ghost Meaning = { ReopenFault };
+    ghost Meaning = { RecordFault };
 
     ghost meaning = { λ f. f };
 

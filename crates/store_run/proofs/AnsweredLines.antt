@@ -26,9 +26,9 @@ use Rattle.store_run.specs.Effects.{HoldsFirst, StandsOn, Adds, Stops}
 use Rattle.store_run.specs.OkLines.{IsAnswer}
 use Rattle.store_run.specs.StoreRuns.{GoesOver, AreSteps, AreAnsweredIn, last, text_of, kept_of}
 use Rattle.store_run.specs.Stopping.{stop_of_input, IsOwnStop}
-use Rattle.store_run.specs.declared.session.Answer.{Answer}
+use Rattle.store_run.specs.declared.session.StoredAnswer.{StoredAnswer}
 use Rattle.store_run.specs.declared.session.StoredSession as OfSession
-use Rattle.store_run.specs.declared.journal.Progress.{Progress}
+use Rattle.store_run.specs.declared.journal.StoreProgress.{StoreProgress}
 use Rattle.store_run.specs.declared.stop.Stop.{Stop}
 use Rattle.store_run.specs.declared.stop.Stop.TheVariants.{LogFull, SourceFault, SinkFault, DiskFault, TooLong, NoMemory}
 use Rattle.store_run.proofs.Effects.{adds_none, adds_then, keeps_at, stops_then}
@@ -36,7 +36,7 @@ use Rattle.store_run.proofs.RunParts.{text_append, kept_append, refused_then, la
 use Rattle.store_run.proofs.InTime.{answered_first, answered_longer, answered_by, answered_take}
 use Rattle.texts.proofs.Tests.{or_false}
 
-abbrev pub progress_at : ℕ → Bool → Progress
+abbrev pub progress_at : ℕ → Bool → StoreProgress
 progress_at number refused = record { number = number; refused = refused }
 
 module _ {K D A : Type 0} (sink : OfSink.Ghosts K) (disk : OfDisk.Ghosts D) (session : OfSession.Ghosts A)
@@ -63,7 +63,7 @@ module _ {K D A : Type 0} (sink : OfSink.Ghosts K) (disk : OfDisk.Ghosts D) (ses
 
   -- ---- lines
 
-  pub answers_none : (k : K) (d : D) (l : LogState) (t : session.State) (p : Progress) → Answers sink disk session (k, d, l) (k, d, l) t p [] t p
+  pub answers_none : (k : K) (d : D) (l : LogState) (t : session.State) (p : StoreProgress) → Answers sink disk session (k, d, l) (k, d, l) t p [] t p
   answers_none k d l t p = record {
     steps = [];
     goes = goes_none session t p.number;
@@ -74,7 +74,7 @@ module _ {K D A : Type 0} (sink : OfSink.Ghosts K) (disk : OfDisk.Ghosts D) (ses
     adds = adds_none sink disk only_now images_hold k d l;
   }
 
-  pub answers_blank : (k : K) (d : D) (l : LogState) (t : session.State) (p : Progress) (line : Line) → is_blank line ≡ true → Answers sink disk session (k, d, l) (k, d, l) t p (line ∷ []) t p
+  pub answers_blank : (k : K) (d : D) (l : LogState) (t : session.State) (p : StoreProgress) (line : Line) → is_blank line ≡ true → Answers sink disk session (k, d, l) (k, d, l) t p (line ∷ []) t p
   answers_blank k d l t p line blank = record {
     steps = [];
     goes = goes_blank session t p.number line blank;
@@ -85,7 +85,7 @@ module _ {K D A : Type 0} (sink : OfSink.Ghosts K) (disk : OfDisk.Ghosts D) (ses
     adds = adds_none sink disk only_now images_hold k d l;
   }
 
-  pub answers_one : (k k' : K) (d d' : D) (l l' : LogState) (t t' : session.State) (p p' : Progress) (line : Line) (a : Answer) → is_blank line ≡ false → session.answer t (p.number + 1) line ≡ Some (t', a) → session.is_step t (p.number + 1) line (t', a) → IsAnswer a
+  pub answers_one : (k k' : K) (d d' : D) (l l' : LogState) (t t' : session.State) (p p' : StoreProgress) (line : Line) (a : StoredAnswer) → is_blank line ≡ false → session.answer t (p.number + 1) line ≡ Some (t', a) → session.is_step t (p.number + 1) line (t', a) → IsAnswer a
       → p'.number ≡ p.number + 1 → p'.refused ≡ (p.refused || not (is_some a.payload))
       → Adds sink disk (k, d, l) (k', d', l') a.line (option_to_list a.payload)
       → Answers sink disk session (k, d, l) (k', d', l') t p (line ∷ []) t' p'
@@ -99,7 +99,7 @@ module _ {K D A : Type 0} (sink : OfSink.Ghosts K) (disk : OfDisk.Ghosts D) (ses
     adds = adds_as k k' d d' l l' a.line (a.line ++ []) (option_to_list a.payload) (option_to_list a.payload ++ []) (sym (append-nil a.line)) (sym (append-nil (option_to_list a.payload))) h;
   }
 
-  pub answers_then : (k k' k'' : K) (d d' d'' : D) (l l' l'' : LogState) (t t' t'' : session.State) (p p' p'' : Progress) (lines more : List Line)
+  pub answers_then : (k k' k'' : K) (d d' d'' : D) (l l' l'' : LogState) (t t' t'' : session.State) (p p' p'' : StoreProgress) (lines more : List Line)
       → Answers sink disk session (k, d, l) (k', d', l') t p lines t' p' → Answers sink disk session (k', d', l') (k'', d'', l'') t' p' more t'' p''
       → Answers sink disk session (k, d, l) (k'', d'', l'') t p (lines ++ more) t'' p''
   answers_then k k' k'' d d' d'' l l' l'' t t' t'' p p' p'' lines more a b = record {
@@ -135,7 +135,7 @@ module _ {K D A : Type 0} (sink : OfSink.Ghosts K) (disk : OfDisk.Ghosts D) (ses
   }
 
   -- at a line whose answer was made
-  pub stops_at : (k k' : K) (d d' : D) (l l' : LogState) (t t' : session.State) (n : ℕ) (line : Line) (a : Answer) (stop : Stop) → is_blank line ≡ false → session.answer t (n + 1) line ≡ Some (t', a) → session.is_step t (n + 1) line (t', a) → IsAnswer a
+  pub stops_at : (k k' : K) (d d' : D) (l l' : LogState) (t t' : session.State) (n : ℕ) (line : Line) (a : StoredAnswer) (stop : Stop) → is_blank line ≡ false → session.answer t (n + 1) line ≡ Some (t', a) → session.is_step t (n + 1) line (t', a) → IsAnswer a
       → Stops sink disk (k, d, l) (k', d', l') stop [] a.line [] (option_to_list a.payload)
       → StopsAmong sink disk session (k, d, l) (k', d', l') t n (line ∷ []) stop
   stops_at k k' d d' l l' t t' n line a stop full e made is h = record {
@@ -193,7 +193,7 @@ module _ {K D A : Type 0} (sink : OfSink.Ghosts K) (disk : OfDisk.Ghosts D) (ses
   }
 
   -- behind lines that were answered
-  abbrev pub stops_behind : (k k' k'' : K) (d d' d'' : D) (l l' l'' : LogState) (t t' : session.State) (p p' : Progress) (lines among : List Line) (stop : Stop)
+  abbrev pub stops_behind : (k k' k'' : K) (d d' d'' : D) (l l' l'' : LogState) (t t' : session.State) (p p' : StoreProgress) (lines among : List Line) (stop : Stop)
       → Answers sink disk session (k, d, l) (k', d', l') t p lines t' p' → StopsAmong sink disk session (k', d', l') (k'', d'', l'') t' p'.number among stop
       → StopsAmong sink disk session (k, d, l) (k'', d'', l'') t p.number (lines ++ among) stop
   stops_behind k k' k'' d d' d'' l l' l'' t t' p p' lines among stop a s = record {
@@ -204,9 +204,9 @@ module _ {K D A : Type 0} (sink : OfSink.Ghosts K) (disk : OfDisk.Ghosts D) (ses
     begun = s.begun;
     t' = s.t';
     n' = s.n';
-    goes = subst (λ (x : List (session.State × Answer)). GoesOver session t p.number (lines ++ s.lines) x s.t' s.n') (sym (append_assoc a.steps s.done s.begun))
+    goes = subst (λ (x : List (session.State × StoredAnswer)). GoesOver session t p.number (lines ++ s.lines) x s.t' s.n') (sym (append_assoc a.steps s.done s.begun))
         (goes_then session t t' s.t' p.number p'.number s.n' lines s.lines a.steps (s.done ++ s.begun) a.goes s.goes);
-    chain = subst (λ (x : List (session.State × Answer)). AreSteps session t x) (sym (append_assoc a.steps s.done s.begun)) (chain_append session t t' a.steps (s.done ++ s.begun) a.at_last a.chain s.chain);
+    chain = subst (λ (x : List (session.State × StoredAnswer)). AreSteps session t x) (sym (append_assoc a.steps s.done s.begun)) (chain_append session t t' a.steps (s.done ++ s.begun) a.at_last a.chain s.chain);
     few = s.few;
     are_done = are_append a.steps s.done a.are s.are_done;
     are_begun = s.are_begun;
@@ -216,7 +216,7 @@ module _ {K D A : Type 0} (sink : OfSink.Ghosts K) (disk : OfDisk.Ghosts D) (ses
   }
 
   -- all lines are answered, and nothing is begun
-  pub stops_all : (k k' : K) (d d' : D) (l l' : LogState) (t t' : session.State) (p p' : Progress) (lines rest : List Line) (stop : Stop)
+  pub stops_all : (k k' : K) (d d' : D) (l l' : LogState) (t t' : session.State) (p p' : StoreProgress) (lines rest : List Line) (stop : Stop)
       → ((text : List ℕ) (kept : List (List ℕ)) → Adds sink disk (k, d, l) (k', d', l') text kept → Stops sink disk (k, d, l) (k', d', l') stop text [] kept [])
       → Answers sink disk session (k, d, l) (k', d', l') t p lines t' p' → StopsAmong sink disk session (k, d, l) (k', d', l') t p.number (lines ++ rest) stop
   stops_all k k' d d' l l' t t' p p' lines rest stop f a = record {
@@ -227,8 +227,8 @@ module _ {K D A : Type 0} (sink : OfSink.Ghosts K) (disk : OfDisk.Ghosts D) (ses
     begun = [];
     t' = t';
     n' = p'.number;
-    goes = subst (λ (x : List (session.State × Answer)). GoesOver session t p.number lines x t' p'.number) (sym (append-nil a.steps)) a.goes;
-    chain = subst (λ (x : List (session.State × Answer)). AreSteps session t x) (sym (append-nil a.steps)) a.chain;
+    goes = subst (λ (x : List (session.State × StoredAnswer)). GoesOver session t p.number lines x t' p'.number) (sym (append-nil a.steps)) a.goes;
+    chain = subst (λ (x : List (session.State × StoredAnswer)). AreSteps session t x) (sym (append-nil a.steps)) a.chain;
     few = omega arith;
     are_done = a.are;
     are_begun = tt;
@@ -250,7 +250,7 @@ module _ {K D A : Type 0} (sink : OfSink.Ghosts K) (disk : OfDisk.Ghosts D) (ses
   stops_of taking.NoMemory k k' d d' l l' text kept h = record { given = h.given; stored = h.stored; moments = adds_nil k k' d d' l l' text kept h; full = tt; behind = behind_all k k' d d' l l' text kept h }
 
   -- out of memory behind lines that were answered
-  pub stops_out : (k k' : K) (d d' : D) (l l' : LogState) (t t' : session.State) (p p' : Progress) (lines rest : List Line)
+  pub stops_out : (k k' : K) (d d' : D) (l l' : LogState) (t t' : session.State) (p p' : StoreProgress) (lines rest : List Line)
       → Answers sink disk session (k, d, l) (k', d', l') t p lines t' p' → StopsAmong sink disk session (k, d, l) (k', d', l') t p.number (lines ++ rest) NoMemory
   stops_out k k' d d' l l' t t' p p' lines rest a = stops_all k k' d d' l l' t t' p p' lines rest NoMemory (stops_of taking.NoMemory k k' d d' l l') a
 
@@ -265,7 +265,7 @@ module _ {K D A : Type 0} (sink : OfSink.Ghosts K) (disk : OfDisk.Ghosts D) (ses
   all_own SinkFault taken rest P own = tt
 
   module _ {S : Type 0} (source : OfSource.Ghosts S) where
-    pub comes_first : (i : S) (input : TakenInput) (k : K) (d : D) (l : LogState) (t : session.State) (p : Progress) → input.lines ≡ nothing_fed → input.taken ≡ 0
+    pub comes_first : (i : S) (input : TakenInput) (k : K) (d : D) (l : LogState) (t : session.State) (p : StoreProgress) → input.lines ≡ nothing_fed → input.taken ≡ 0
         → ComesOn source sink disk session (i, k, d, l) (i, k, d, l) input t p t p
     comes_first i input k d l t p lines taken = record {
       bytes = [];
@@ -278,10 +278,10 @@ module _ {K D A : Type 0} (sink : OfSink.Ghosts K) (disk : OfDisk.Ghosts D) (ses
       first = inl refl;
     }
 
-    module _ (i i' : S) (input : TakenInput) (k k' : K) (d d' : D) (l l' : LogState) (t t' : session.State) (p p' : Progress)
+    module _ (i i' : S) (input : TakenInput) (k k' : K) (d d' : D) (l l' : LogState) (t t' : session.State) (p p' : StoreProgress)
         (c : ComesOn source sink disk session (i, k, d, l) (i', k', d', l') input t p t' p') where
       -- all lines that have ended are answered
-      pub comes_over : (k'' : K) (d'' : D) (l'' : LogState) (t'' : session.State) (p'' : Progress) (next : TakenInput) → Answers sink disk session (k', d', l') (k'', d'', l'') t' p' input.lines.ended t'' p''
+      pub comes_over : (k'' : K) (d'' : D) (l'' : LogState) (t'' : session.State) (p'' : StoreProgress) (next : TakenInput) → Answers sink disk session (k', d', l') (k'', d'', l'') t' p' input.lines.ended t'' p''
           → next.lines ≡ lines_at [] input.lines.begun → next.taken ≡ input.taken → ComesOn source sink disk session (i, k, d, l) (i', k'', d'', l'') next t p t'' p''
       comes_over k'' d'' l'' t'' p'' next a lines taken = record {
         bytes = c.bytes;
@@ -374,8 +374,8 @@ module _ {K D A : Type 0} (sink : OfSink.Ghosts K) (disk : OfDisk.Ghosts D) (ses
               begun = [];
               t' = t';
               n' = p'.number;
-              goes = subst (λ (x : List (session.State × Answer)). GoesOver session t p.number c.lines x t' p'.number) (sym (append-nil c.answers.steps)) c.answers.goes;
-              chain = subst (λ (x : List (session.State × Answer)). AreSteps session t x) (sym (append-nil c.answers.steps)) c.answers.chain;
+              goes = subst (λ (x : List (session.State × StoredAnswer)). GoesOver session t p.number c.lines x t' p'.number) (sym (append-nil c.answers.steps)) c.answers.goes;
+              chain = subst (λ (x : List (session.State × StoredAnswer)). AreSteps session t x) (sym (append-nil c.answers.steps)) c.answers.chain;
               few = omega arith;
               are_done = c.answers.are;
               are_begun = tt;
@@ -423,7 +423,7 @@ module _ {K D A : Type 0} (sink : OfSink.Ghosts K) (disk : OfDisk.Ghosts D) (ses
 
     -- ---- one turn
 
-    module _ (i i' i'' : S) (input next : TakenInput) (k k' k'' : K) (d d' d'' : D) (l l' l'' : LogState) (t t' t'' : session.State) (p p' p'' : Progress)
+    module _ (i i' i'' : S) (input next : TakenInput) (k k' k'' : K) (d d' d'' : D) (l l' l'' : LogState) (t t' t'' : session.State) (p p' p'' : StoreProgress)
         (c : ComesOn source sink disk session (i, k, d, l) (i', k', d', l') input t p t' p') where
       pub none_left : (result : Result Bool TakeFault) (a : AnswersThenTakes source sink disk session (i', k', d', l') (i'', k'', d'', l'') input next t' p' t'' p'' result) → a.mid.lines.ended ≡ []
       none_left result a = ap (λ (f : FedLines). f.ended) a.lines

@@ -20,7 +20,7 @@ use Rattle.store_run.specs.Effects.{HoldsFirst, StandsOn}
 use Rattle.store_run.specs.ApplyEnds.{status_of, Exits, Continues, IsSafeFrom}
 use Rattle.store_run.specs.StoreRuns.{text_of, kept_of}
 use Rattle.store_run.specs.ApplyCall.{ContinuesCall, IsSafeCall, EndsOpened}
-use Rattle.store_run.specs.declared.session.Answer.{Answer}
+use Rattle.store_run.specs.declared.session.StoredAnswer.{StoredAnswer}
 use Rattle.store_run.specs.declared.session.StoredSession as OfSession
 use Rattle.command_ends.specs.declared.status.Status.{Status}
 use Rattle.store_run.specs.declared.stop.Stop.{Stop}
@@ -42,11 +42,11 @@ module _ {S K D A : Type 0} (source : OfSource.Ghosts S) (sink : OfSink.Ghosts K
     (images_hold : (l : LogState) (d : D) (base : Payloads) (c : List ℕ) → StandsOn disk d l base → disk.images d c → HoldsPayloads base c)
     (read_holds : (l : LogState) (d : D) (base : Payloads) → StandsOn disk d l base → IfSome (disk.content d) (HoldsPayloads base))
     (version_stands : (ps : Payloads) (t : session.State) (v : List ℕ) → session.stands_for ps ≡ Ok (t, Some v) → session.stands_for (ps ++ v ∷ []) ≡ Ok (t, None))
-    (change_stands : (ps : Payloads) (t t' : session.State) (n : ℕ) (line : Line) (a : Answer) (p : List ℕ) → session.stands_for ps ≡ Ok (t, None) → session.answer t n line ≡ Some (t', a) → session.is_step t n line (t', a) → a.payload ≡ Some p
+    (change_stands : (ps : Payloads) (t t' : session.State) (n : ℕ) (line : Line) (a : StoredAnswer) (p : List ℕ) → session.stands_for ps ≡ Ok (t, None) → session.answer t n line ≡ Some (t', a) → session.is_step t n line (t', a) → a.payload ≡ Some p
     → session.stands_for (ps ++ p ∷ []) ≡ Ok (t', None))
-    (refused_stays : (t t' : session.State) (n : ℕ) (line : Line) (a : Answer) → session.answer t n line ≡ Some (t', a) → a.payload ≡ None → t' ≡ t)
+    (refused_stays : (t t' : session.State) (n : ℕ) (line : Line) (a : StoredAnswer) → session.answer t n line ≡ Some (t', a) → a.payload ≡ None → t' ≡ t)
     (version_counts : (ps : Payloads) (t : session.State) (v : List ℕ) → session.stands_for ps ≡ Ok (t, Some v) → session.count_of (ps ++ v ∷ []) ≡ session.count_of ps)
-    (change_counts : (ps : Payloads) (t t' : session.State) (n : ℕ) (line : Line) (a : Answer) (p : List ℕ) → session.stands_for ps ≡ Ok (t, None) → session.answer t n line ≡ Some (t', a) → session.is_step t n line (t', a) → a.payload ≡ Some p
+    (change_counts : (ps : Payloads) (t t' : session.State) (n : ℕ) (line : Line) (a : StoredAnswer) (p : List ℕ) → session.stands_for ps ≡ Ok (t, None) → session.answer t n line ≡ Some (t', a) → session.is_step t n line (t', a) → a.payload ≡ Some p
     → session.count_of (ps ++ p ∷ []) ≡ session.count_of ps + 1) where
   -- ---- a store that went on
 

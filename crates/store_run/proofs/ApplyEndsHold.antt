@@ -22,9 +22,9 @@ use Rattle.store_run.specs.JournalEnds.{EndsJournal, StopsJournal}
 use Rattle.store_run.specs.OkLines.{ok_lines, AreOtherLines}
 use Rattle.store_run.specs.StoreRuns.{GoesOver, AreSteps, AreAnsweredIn, text_of, kept_of}
 use Rattle.store_run.specs.Stopping.{IsOwnStop}
-use Rattle.store_run.specs.declared.session.Answer.{Answer}
+use Rattle.store_run.specs.declared.session.StoredAnswer.{StoredAnswer}
 use Rattle.store_run.specs.declared.session.StoredSession as OfSession
-use Rattle.store_run.specs.declared.journal.Progress.{Progress}
+use Rattle.store_run.specs.declared.journal.StoreProgress.{StoreProgress}
 use Rattle.command_ends.specs.declared.status.Status.{Status}
 use Rattle.command_ends.specs.declared.status.Status.TheVariants as ending
 use Rattle.store_run.specs.declared.stop.Stop.{Stop}
@@ -63,12 +63,12 @@ module _ {S K D A : Type 0} (source : OfSource.Ghosts S) (sink : OfSink.Ghosts K
     first = inl refl;
   })
 
-  module _ (i i' : S) (input : TakenInput) (k k' : K) (d d' : D) (l l' : LogState) (t t' : session.State) (p p' : Progress)
+  module _ (i i' : S) (input : TakenInput) (k k' : K) (d d' : D) (l l' : LogState) (t t' : session.State) (p p' : StoreProgress)
       (e : EndsPieces source sink disk session (i, k, d, l) (i', k', d', l') input t p t' p') where
     all_lines : ended_lines e.bytes ++ option_to_list (last_line input.lines.begun) ≡ lines_of e.bytes
     all_lines = ap (λ (b : Line). ended_lines e.bytes ++ option_to_list (last_line b)) (sym e.begun) ∙ all_lines_given e.bytes
 
-    pub ends_journal : (k'' : K) (d'' : D) (l'' : LogState) (t'' : session.State) (p'' : Progress) → Answers sink disk session (k', d', l') (k'', d'', l'') t' p' (option_to_list (last_line input.lines.begun)) t'' p''
+    pub ends_journal : (k'' : K) (d'' : D) (l'' : LogState) (t'' : session.State) (p'' : StoreProgress) → Answers sink disk session (k', d', l') (k'', d'', l'') t' p' (option_to_list (last_line input.lines.begun)) t'' p''
         → EndsJournal source sink disk session (i, k, d, l) (i', k'', d'', l'') t p t'' p''
     ends_journal k'' d'' l'' t'' p'' a = record {
       bytes = e.bytes;
@@ -97,7 +97,7 @@ module _ {S K D A : Type 0} (source : OfSource.Ghosts S) (sink : OfSink.Ghosts K
   -- ---- exits
 
   module _ (i i' : S) (k k1 k' : K) (d d' : D) (l l' : LogState) (version : Payloads) (t t' : session.State) where
-    pub continues : (p : Progress) (status : Status) → EndsStored source sink disk session (i, k, d, l) (i', k1, d', l') version t t' p
+    pub continues : (p : StoreProgress) (status : Status) → EndsStored source sink disk session (i, k, d, l) (i', k1, d', l') version t t' p
         → status ≡ end_of p.refused → Gave sink k1 k' (session.state_text t') → Continues source sink disk session (i, k, d, l) (i', k', d', l') version t t' status
     continues p status e is h =
         let a = e.goes_on.answers in
@@ -117,7 +117,7 @@ module _ {S K D A : Type 0} (source : OfSource.Ghosts S) (sink : OfSink.Ghosts K
         }
 
     -- the state lines were given, or a prefix of them, or memory ran out before them
-    pub exits_end : (p : Progress) (status : Status) → EndsStored source sink disk session (i, k, d, l) (i', k1, d', l') version t t' p
+    pub exits_end : (p : StoreProgress) (status : Status) → EndsStored source sink disk session (i, k, d, l) (i', k1, d', l') version t t' p
         → (status ≡ end_of p.refused) × AreOtherLines (session.state_text t') × Gave sink k1 k' (session.state_text t')
         ⊎ (status ≡ ending.SinkFault) × AreOtherLines (session.state_text t') × GaveFront sink k1 k' (session.state_text t')
         ⊎ (status ≡ ending.NoMemory) × Gave sink k1 k' []
@@ -129,7 +129,7 @@ module _ {S K D A : Type 0} (source : OfSource.Ghosts S) (sink : OfSink.Ghosts K
   -- ---- what a crash leaves
 
   -- the journal's share behind the version record's
-  module _ (i i' : S) (k k' : K) (d d1 d' : D) (l l1 l' : LogState) (version : Payloads) (t t' : session.State) (n' : ℕ) (bytes : List ℕ) (lines rest : List Line) (steps : List (session.State × Answer)) where
+  module _ (i i' : S) (k k' : K) (d d1 d' : D) (l l1 l' : LogState) (version : Payloads) (t t' : session.State) (n' : ℕ) (bytes : List ℕ) (lines rest : List Line) (steps : List (session.State × StoredAnswer)) where
     safe_behind : Took source i i' bytes → lines_of bytes ≡ lines ++ rest → GoesOver session t 0 lines steps t' n' → AreSteps session t steps → Adds sink disk (k, d, l) (k, d1, l1) [] version
         → IsCrashSafe sink disk (k, d1, l1) (k', d', l') (kept_of steps) → IsSafeFrom source sink disk session (i, k, d, l) (i', k', d') version t
     safe_behind consumes parts goes chain a s = record {
@@ -150,7 +150,7 @@ module _ {S K D A : Type 0} (source : OfSource.Ghosts S) (sink : OfSink.Ghosts K
     }
 
   -- the journal came to its end, and then lines were given that do not begin with `ok `, or a prefix of them
-  pub safe_end : (i i' : S) (k k1 k' : K) (d d' : D) (l l' : LogState) (version : Payloads) (t t' : session.State) (p : Progress) (more : List ℕ)
+  pub safe_end : (i i' : S) (k k1 k' : K) (d d' : D) (l l' : LogState) (version : Payloads) (t t' : session.State) (p : StoreProgress) (more : List ℕ)
       → EndsStored source sink disk session (i, k, d, l) (i', k1, d', l') version t t' p → ok_lines more ≡ 0 → Gave sink k1 k' more
       → IsSafeFrom source sink disk session (i, k, d, l) (i', k', d') version t
   safe_end i i' k k1 k' d d' l l' version t t' p more e none given =
@@ -310,7 +310,7 @@ module _ {S K D A : Type 0} (source : OfSource.Ghosts S) (sink : OfSink.Ghosts K
     safe_at_stop stop status s (inr h) =
         safe_stored_front (subst (λ (x : Stop). StopsStored source sink disk session (i, k, d, l) (i', k1, d', l') version t x) h.0 s) h.2
 
-    pub safe_at_end : (t' : session.State) (p : Progress) (status : Status) → EndsStored source sink disk session (i, k, d, l) (i', k1, d', l') version t t' p
+    pub safe_at_end : (t' : session.State) (p : StoreProgress) (status : Status) → EndsStored source sink disk session (i, k, d, l) (i', k1, d', l') version t t' p
         → (status ≡ end_of p.refused) × AreOtherLines (session.state_text t') × Gave sink k1 k' (session.state_text t')
         ⊎ (status ≡ ending.SinkFault) × AreOtherLines (session.state_text t') × GaveFront sink k1 k' (session.state_text t')
         ⊎ (status ≡ ending.NoMemory) × Gave sink k1 k' []

@@ -11,7 +11,7 @@ use Rattle.store_run.specs.Crash.{IsAcknowledged, IsCrashSafe}
 use Rattle.store_run.specs.Effects.{HoldsFirst, StandsOn, Adds, Stops}
 use Rattle.store_run.specs.OkLines.{ok_lines}
 use Rattle.store_run.specs.StoreRuns.{AreAnswers, text_of, kept_of}
-use Rattle.store_run.specs.declared.session.Answer.{Answer}
+use Rattle.store_run.specs.declared.session.StoredAnswer.{StoredAnswer}
 use Rattle.store_run.specs.declared.stop.Stop.{Stop}
 use Rattle.store_run.specs.declared.stop.Stop.TheVariants.{LogFull, SourceFault, SinkFault, DiskFault, TooLong, NoMemory}
 use Rattle.store_run.proofs.OkLineCounts.{count_answers, count_all, count_plain, begun_front, begun_kept}
@@ -40,7 +40,7 @@ module _ {K D State : Type 0} (sink : OfSink.Ghosts K) (disk : OfDisk.Ghosts D)
     (only_now : (d : D) (c : List ℕ) → disk.images_since d (disk.moment d) c → disk.images d c)
     (images_hold : (l : LogState) (d : D) (base : List (List ℕ)) (c : List ℕ) → StandsOn disk d l base → disk.images d c → HoldsPayloads base c) where
   -- all answers were given, and then bytes in which there is no `ok` line
-  pub safe_answers : (k k' k'' : K) (d d' : D) (l l' : LogState) (steps : List (State × Answer)) (more : List ℕ) → AreAnswers steps → ok_lines more ≡ 0
+  pub safe_answers : (k k' k'' : K) (d d' : D) (l l' : LogState) (steps : List (State × StoredAnswer)) (more : List ℕ) → AreAnswers steps → ok_lines more ≡ 0
       → Adds sink disk (k, d, l) (k', d', l') (text_of steps) (kept_of steps) → Gave sink k' k'' more
       → IsCrashSafe sink disk (k, d, l) (k'', d', l') (kept_of steps)
   safe_answers k k' k'' d d' l l' steps more are none a given =
@@ -60,7 +60,7 @@ module _ {K D State : Type 0} (sink : OfSink.Ghosts K) (disk : OfDisk.Ghosts D)
       }
 
   -- the log stands with what is done, and bytes were given behind in which there is no `ok` line
-  safe_done : (k k' : K) (d d' : D) (l l' : LogState) (done : List (State × Answer)) (begun : List (List ℕ)) (more : List ℕ) → AreAnswers done → ok_lines more ≡ 0
+  safe_done : (k k' : K) (d d' : D) (l l' : LogState) (done : List (State × StoredAnswer)) (begun : List (List ℕ)) (more : List ℕ) → AreAnswers done → ok_lines more ≡ 0
       → Gave sink k k' (text_of done ++ more) → ((base : List (List ℕ)) → StandsOn disk d l base → StandsOn disk d' l' (base ++ kept_of done))
       → ((base : List (List ℕ)) → StandsOn disk d l base → LeavesOnly disk d d' (HoldsFirst base (kept_of done ++ [])))
       → IsCrashSafe sink disk (k, d, l) (k', d', l') (kept_of done ++ begun)
@@ -75,7 +75,7 @@ module _ {K D State : Type 0} (sink : OfSink.Ghosts K) (disk : OfDisk.Ghosts D)
       }
 
   -- the answering stopped
-  pub safe_stop : (stop : Stop) (k k' : K) (d d' : D) (l l' : LogState) (done begun : List (State × Answer)) → AreAnswers done → AreAnswers begun → length begun ≤ 1
+  pub safe_stop : (stop : Stop) (k k' : K) (d d' : D) (l l' : LogState) (done begun : List (State × StoredAnswer)) → AreAnswers done → AreAnswers begun → length begun ≤ 1
       → Stops sink disk (k, d, l) (k', d', l') stop (text_of done) (text_of begun) (kept_of done) (kept_of begun)
       → IsCrashSafe sink disk (k, d, l) (k', d', l') (kept_of done ++ kept_of begun)
   safe_stop SinkFault k k' d d' l l' done begun are are_begun few s =
@@ -104,7 +104,7 @@ module _ {K D State : Type 0} (sink : OfSink.Ghosts K) (disk : OfDisk.Ghosts D)
   safe_stop NoMemory k k' d d' l l' done begun are are_begun few s = safe_done k k' d d' l l' done (kept_of begun) [] are refl (behind_nothing (sink.held k) (sink.held k') (text_of done) s.given) s.stored s.moments
 
   -- the log was full, and then the line of that refusal was given, or a prefix of it
-  pub safe_refusal : (k k' k'' : K) (d d' : D) (l l' : LogState) (done begun : List (State × Answer)) (more : List ℕ) → AreAnswers done → ok_lines more ≡ 0
+  pub safe_refusal : (k k' k'' : K) (d d' : D) (l l' : LogState) (done begun : List (State × StoredAnswer)) (more : List ℕ) → AreAnswers done → ok_lines more ≡ 0
       → Stops sink disk (k, d, l) (k', d', l') LogFull (text_of done) (text_of begun) (kept_of done) (kept_of begun) → Gave sink k' k'' more
       → IsCrashSafe sink disk (k, d, l) (k'', d', l') (kept_of done ++ kept_of begun)
   safe_refusal k k' k'' d d' l l' done begun more are none s given =

@@ -17,7 +17,7 @@ use Rattle.store_run.specs.ApplyEnds.{log_full_line, said_at, status_of, SaysSto
 use Rattle.store_run.specs.InTime.{EndsAtSource, AnswersInTime}
 use Rattle.store_run.specs.JournalEnds.{StopsJournal}
 use Rattle.store_run.specs.StoreRuns.{run, AreAnsweredIn, text_of}
-use Rattle.store_run.specs.declared.session.Answer.{Answer}
+use Rattle.store_run.specs.declared.session.StoredAnswer.{StoredAnswer}
 use Rattle.store_run.specs.declared.session.StoredSession as OfSession
 use Rattle.command_ends.specs.declared.status.Status.{Status}
 use Rattle.command_ends.specs.declared.status.Status.TheVariants as ending
@@ -69,7 +69,7 @@ module _ {K : Type 0} (sink : OfSink.Ghosts K) where
 module _ {S K D A : Type 0} (source : OfSource.Ghosts S) (sink : OfSink.Ghosts K) (disk : OfDisk.Ghosts D) (session : OfSession.Ghosts A) where
   -- the journal was read to its end, its lines were answered, and this was written behind
   module _ (i i' : S) (k k' : K) (t : session.State) (status : Status) where
-    read_in_time : (bytes : List ℕ) (steps : List (session.State × Answer)) (more : List ℕ) → Took source i i' bytes → run session t 0 (lines_of bytes) ≡ Some steps → Gave sink k k' (text_of steps ++ more)
+    read_in_time : (bytes : List ℕ) (steps : List (session.State × StoredAnswer)) (more : List ℕ) → Took source i i' bytes → run session t 0 (lines_of bytes) ≡ Some steps → Gave sink k k' (text_of steps ++ more)
         → AnswersInTime source sink session (i, k) (i', k') t status
     read_in_time bytes steps more took is_run gave =
         let given = text_of steps ++ more in

@@ -10,7 +10,7 @@ use Rattle.script_input.proofs.Fronts.{cut_last}
 use Rattle.store_run.specs.Effects.{IsProperFront}
 use Rattle.store_run.specs.OkLines.{cut, begins_ok, is_ok_line, ok_lines, IsLine, IsOtherLine, AllOther}
 use Rattle.store_run.specs.StoreRuns.{AreAnswers, text_of, kept_of}
-use Rattle.store_run.specs.declared.session.Answer.{Answer}
+use Rattle.store_run.specs.declared.session.StoredAnswer.{StoredAnswer}
 use Rattle.texts.proofs.Tests.{and_false}
 use Rattle.std.proofs.Math.Seq.{take-append-add}
 
@@ -83,7 +83,7 @@ few_kept (Some payload) = omega arith
 
 module _ {State : Type 0} where
   -- the answers of some steps have as many `ok` lines as there are payloads
-  pub count_answers : (steps : List (State × Answer)) (rest : List ℕ) → AreAnswers steps → ok_lines (text_of steps ++ rest) ≡ length (kept_of steps) + ok_lines rest
+  pub count_answers : (steps : List (State × StoredAnswer)) (rest : List ℕ) → AreAnswers steps → ok_lines (text_of steps ++ rest) ≡ length (kept_of steps) + ok_lines rest
   count_answers [] rest are = omega arith
   count_answers (s ∷ steps) rest are =
       let line = ap ok_lines (append_assoc s.1.line (text_of steps) rest) ∙ count_line s.1.line (text_of steps ++ rest) are.0.is_line in
@@ -91,19 +91,19 @@ module _ {State : Type 0} where
       let ok : bit (begins_ok s.1.line) ≡ bit (is_some s.1.payload) = ap bit are.0.ok in
       omega (arith, line, more, ok, length_kept s.1.payload, length-append (option_to_list s.1.payload) (kept_of steps))
 
-  pub count_all : (steps : List (State × Answer)) → AreAnswers steps → ok_lines (text_of steps) ≡ length (kept_of steps)
+  pub count_all : (steps : List (State × StoredAnswer)) → AreAnswers steps → ok_lines (text_of steps) ≡ length (kept_of steps)
   count_all steps are =
       let h = ap ok_lines (sym (append-nil (text_of steps))) ∙ count_answers steps [] are in
       let none : ok_lines [] ≡ 0 = refl in
       omega (arith, h, none)
 
   -- of an answer that was begun no LF was given, and there is at most one payload
-  pub begun_front : (begun : List (State × Answer)) (front : List ℕ) → length begun ≤ 1 → AreAnswers begun → IsProperFront front (text_of begun) → has_no_end front ≡ true
+  pub begun_front : (begun : List (State × StoredAnswer)) (front : List ℕ) → length begun ≤ 1 → AreAnswers begun → IsProperFront front (text_of begun) → has_no_end front ≡ true
   begun_front [] front few are f = absurd (omega (arith, f.some, ap length f.parts, length-append front f.rest))
   begun_front (s ∷ []) front few are f = line_front s.1.line front are.0.is_line (subst (IsProperFront front) (append-nil s.1.line) f)
   begun_front (s ∷ s' ∷ more) front few are f = absurd (omega (arith, few))
 
-  pub begun_kept : (begun : List (State × Answer)) → length begun ≤ 1 → length (kept_of begun) ≤ 1
+  pub begun_kept : (begun : List (State × StoredAnswer)) → length begun ≤ 1 → length (kept_of begun) ≤ 1
   begun_kept [] few = omega arith
   begun_kept (s ∷ []) few = omega (arith, few_kept s.1.payload, length-append (option_to_list s.1.payload) [])
   begun_kept (s ∷ s' ∷ more) few = absurd (omega (arith, few))

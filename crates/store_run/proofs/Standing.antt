@@ -4,40 +4,40 @@ use Rattle.std.specs.Prelude.{option_to_list}
 use Rattle.edit_journal.specs.declared.line.Line.{Line}
 use Rattle.store_run.specs.StoreRuns.{AreSteps, last, kept_of}
 use Rattle.store_run.specs.declared.session.StoredSession as OfSession
-use Rattle.store_run.specs.declared.session.Answer.{Answer}
+use Rattle.store_run.specs.declared.session.StoredAnswer.{StoredAnswer}
 
 abbrev Payloads : Type 0
 Payloads = List (List ℕ)
 
 module _ {A : Type 0} (session : OfSession.Ghosts A)
     (version_stands : (ps : Payloads) (t : session.State) (v : List ℕ) → session.stands_for ps ≡ Ok (t, Some v) → session.stands_for (ps ++ v ∷ []) ≡ Ok (t, None))
-    (change_stands : (ps : Payloads) (t t' : session.State) (n : ℕ) (line : Line) (a : Answer) (p : List ℕ) → session.stands_for ps ≡ Ok (t, None) → session.answer t n line ≡ Some (t', a) → session.is_step t n line (t', a) → a.payload ≡ Some p
+    (change_stands : (ps : Payloads) (t t' : session.State) (n : ℕ) (line : Line) (a : StoredAnswer) (p : List ℕ) → session.stands_for ps ≡ Ok (t, None) → session.answer t n line ≡ Some (t', a) → session.is_step t n line (t', a) → a.payload ≡ Some p
     → session.stands_for (ps ++ p ∷ []) ≡ Ok (t', None))
-    (refused_stays : (t t' : session.State) (n : ℕ) (line : Line) (a : Answer) → session.answer t n line ≡ Some (t', a) → a.payload ≡ None → t' ≡ t) where
+    (refused_stays : (t t' : session.State) (n : ℕ) (line : Line) (a : StoredAnswer) → session.answer t n line ≡ Some (t', a) → a.payload ≡ None → t' ≡ t) where
   -- these payloads, of which the last ones are `front`, stand for the triple behind the steps that kept `front`
-  pub record StandsIn (before front : Payloads) (t : session.State) (steps : List (session.State × Answer)) : Type 0 where
-    pub xs : List (session.State × Answer)
-    pub ys : List (session.State × Answer)
+  pub record StandsIn (before front : Payloads) (t : session.State) (steps : List (session.State × StoredAnswer)) : Type 0 where
+    pub xs : List (session.State × StoredAnswer)
+    pub ys : List (session.State × StoredAnswer)
     pub parts : steps ≡ xs ++ ys
     pub stands : session.stands_for (before ++ front) ≡ Ok (last t xs, None)
     pub kept : front ≡ kept_of xs
 
   -- one more step in front, which kept this payload or none
-  onto : (before front : Payloads) (o : Option (List ℕ)) (before' front' : Payloads) (t : session.State) (s : session.State × Answer) (steps : List (session.State × Answer)) → s.1.payload ≡ o
+  onto : (before front : Payloads) (o : Option (List ℕ)) (before' front' : Payloads) (t : session.State) (s : session.State × StoredAnswer) (steps : List (session.State × StoredAnswer)) → s.1.payload ≡ o
       → before' ++ front' ≡ before ++ front → front ≡ option_to_list o ++ front' → StandsIn before' front' s.0 steps → StandsIn before front t (s ∷ steps)
   onto before front o before' front' t s steps is same parts h = record {
     xs = s ∷ h.xs;
     ys = h.ys;
-    parts = ap (λ (l : List (session.State × Answer)). s ∷ l) h.parts;
+    parts = ap (λ (l : List (session.State × StoredAnswer)). s ∷ l) h.parts;
     stands = ap session.stands_for (sym same) ∙ h.stands;
     kept = parts ∙ ap (λ l. option_to_list o ++ l) h.kept ∙ ap (λ p. option_to_list p ++ kept_of h.xs) (sym is);
   }
 
-  at_once : (before : Payloads) (t : session.State) (steps : List (session.State × Answer)) → session.stands_for before ≡ Ok (t, None) → StandsIn before [] t steps
+  at_once : (before : Payloads) (t : session.State) (steps : List (session.State × StoredAnswer)) → session.stands_for before ≡ Ok (t, None) → StandsIn before [] t steps
   at_once before t steps h = record { xs = []; ys = steps; parts = refl; stands = ap session.stands_for (append-nil before) ∙ h; kept = refl }
 
   -- a step that kept something, or nothing
-  front_step : (before : Payloads) (t : session.State) (s : session.State × Answer) (steps : List (session.State × Answer)) (p : List ℕ) (front rest : Payloads) → session.stands_for before ≡ Ok (t, None)
+  front_step : (before : Payloads) (t : session.State) (s : session.State × StoredAnswer) (steps : List (session.State × StoredAnswer)) (p : List ℕ) (front rest : Payloads) → session.stands_for before ≡ Ok (t, None)
       → (n : ℕ) × (line : Line) × (session.answer t n line ≡ Some s) × session.is_step t n line s → (o : Option (List ℕ)) → s.1.payload ≡ o → option_to_list o ++ kept_of steps ≡ (p ∷ front) ++ rest
       → ((before' front' rest' : Payloads) → session.stands_for before' ≡ Ok (s.0, None) → kept_of steps ≡ front' ++ rest' → StandsIn before' front' s.0 steps)
       → StandsIn before (p ∷ front) t (s ∷ steps)
@@ -53,7 +53,7 @@ module _ {A : Type 0} (session : OfSession.Ghosts A)
       onto before (p ∷ front) (Some q) (before ++ q ∷ []) front t s steps is where_ parts (more (before ++ q ∷ []) front rest next tail)
 
   -- the first of the payloads that are kept stand for the triple behind the steps that kept them
-  pub front_stands : (before : Payloads) (t : session.State) (steps : List (session.State × Answer)) (front rest : Payloads) → session.stands_for before ≡ Ok (t, None) → AreSteps session t steps → kept_of steps ≡ front ++ rest
+  pub front_stands : (before : Payloads) (t : session.State) (steps : List (session.State × StoredAnswer)) (front rest : Payloads) → session.stands_for before ≡ Ok (t, None) → AreSteps session t steps → kept_of steps ≡ front ++ rest
       → StandsIn before front t steps
   front_stands before t [] [] rest h chain e = at_once before t [] h
   front_stands before t [] (p ∷ front) rest h chain e = cc
@@ -61,7 +61,7 @@ module _ {A : Type 0} (session : OfSession.Ghosts A)
   front_stands before t (s ∷ steps) (p ∷ front) rest h chain e =
       front_step before t s steps p front rest h chain.0 s.1.payload refl e (λ before' front' rest' h' e'. front_stands before' s.0 steps front' rest' h' chain.1 e')
 
-  all_step : (before : Payloads) (t : session.State) (s : session.State × Answer) (steps : List (session.State × Answer)) → session.stands_for before ≡ Ok (t, None) → (n : ℕ) × (line : Line) × (session.answer t n line ≡ Some s) × session.is_step t n line s
+  all_step : (before : Payloads) (t : session.State) (s : session.State × StoredAnswer) (steps : List (session.State × StoredAnswer)) → session.stands_for before ≡ Ok (t, None) → (n : ℕ) × (line : Line) × (session.answer t n line ≡ Some s) × session.is_step t n line s
       → (o : Option (List ℕ)) → s.1.payload ≡ o → ((before' : Payloads) → session.stands_for before' ≡ Ok (s.0, None) → session.stands_for (before' ++ kept_of steps) ≡ Ok (last s.0 steps, None))
       → session.stands_for (before ++ (option_to_list o ++ kept_of steps)) ≡ Ok (last s.0 steps, None)
   all_step before t s steps h step None is more =
@@ -71,24 +71,24 @@ module _ {A : Type 0} (session : OfSession.Ghosts A)
       ap session.stands_for (sym (append_assoc before (q ∷ []) (kept_of steps))) ∙ more (before ++ q ∷ []) (change_stands before t s.0 step.0 step.1 s.1 q h step.2 step.3 is)
 
   -- all payloads that are kept stand for the last triple
-  pub all_stand : (before : Payloads) (t : session.State) (steps : List (session.State × Answer)) → session.stands_for before ≡ Ok (t, None) → AreSteps session t steps → session.stands_for (before ++ kept_of steps) ≡ Ok (last t steps, None)
+  pub all_stand : (before : Payloads) (t : session.State) (steps : List (session.State × StoredAnswer)) → session.stands_for before ≡ Ok (t, None) → AreSteps session t steps → session.stands_for (before ++ kept_of steps) ≡ Ok (last t steps, None)
   all_stand before t [] h chain = ap session.stands_for (append-nil before) ∙ h
   all_stand before t (s ∷ steps) h chain = all_step before t s steps h chain.0 s.1.payload refl (λ before' h'. all_stand before' s.0 steps h' chain.1)
 
   -- ---- with the version record
 
-  pub whole_stands : (before : Payloads) (t : session.State) (version : Option (List ℕ)) (steps : List (session.State × Answer)) → session.stands_for before ≡ Ok (t, version) → AreSteps session t steps
+  pub whole_stands : (before : Payloads) (t : session.State) (version : Option (List ℕ)) (steps : List (session.State × StoredAnswer)) → session.stands_for before ≡ Ok (t, version) → AreSteps session t steps
       → session.stands_for ((before ++ option_to_list version) ++ kept_of steps) ≡ Ok (last t steps, None)
   whole_stands before t None steps h chain = ap (λ (b : Payloads). session.stands_for (b ++ kept_of steps)) (append-nil before) ∙ all_stand before t steps h chain
   whole_stands before t (Some v) steps h chain = all_stand (before ++ v ∷ []) t steps (version_stands before t v h) chain
 
   -- the payloads stand for the triple behind the steps that kept `front`, with the version record in front of it or still to be stored
-  abbrev pub StandsFor : Payloads → session.State → Option (List ℕ) → List (session.State × Answer) → Payloads → Type 0
-  StandsFor before t version steps front = (xs : List (session.State × Answer)) × (ys : List (session.State × Answer)) × (v : Option (List ℕ))
+  abbrev pub StandsFor : Payloads → session.State → Option (List ℕ) → List (session.State × StoredAnswer) → Payloads → Type 0
+  StandsFor before t version steps front = (xs : List (session.State × StoredAnswer)) × (ys : List (session.State × StoredAnswer)) × (v : Option (List ℕ))
       × (steps ≡ xs ++ ys) × (session.stands_for (before ++ front) ≡ Ok (last t xs, v))
       × (front ++ option_to_list v ≡ option_to_list version ++ kept_of xs) × ((front ≡ []) ⊎ (v ≡ None))
 
-  pub each_stands : (before : Payloads) (t : session.State) (version : Option (List ℕ)) (steps : List (session.State × Answer)) (front rest : Payloads) → session.stands_for before ≡ Ok (t, version) → AreSteps session t steps
+  pub each_stands : (before : Payloads) (t : session.State) (version : Option (List ℕ)) (steps : List (session.State × StoredAnswer)) (front rest : Payloads) → session.stands_for before ≡ Ok (t, version) → AreSteps session t steps
       → option_to_list version ++ kept_of steps ≡ front ++ rest → StandsFor before t version steps front
   each_stands before t None steps front rest h chain e =
       let k = front_stands before t steps front rest h chain e in

@@ -15,9 +15,9 @@ use Rattle.store_run.specs.Effects.{Adds, Stops}
 use Rattle.store_run.specs.StoreRuns.{GoesOver, AreSteps, AreAnswers, AreAnsweredIn, last, any_refused, text_of}
 use Rattle.store_run.specs.StoreRuns.{kept_of}
 use Rattle.store_run.specs.Stopping.{stop_of_input, IsOwnStop}
-use Rattle.store_run.specs.declared.session.Answer.{Answer}
+use Rattle.store_run.specs.declared.session.StoredAnswer.{StoredAnswer}
 use Rattle.store_run.specs.declared.session.StoredSession as OfSession
-use Rattle.store_run.specs.declared.journal.Progress.{Progress}
+use Rattle.store_run.specs.declared.journal.StoreProgress.{StoreProgress}
 use Rattle.store_run.specs.declared.stop.Stop.{Stop}
 use Rattle.gate_log.specs.LogOnDisk.{LogState}
 use Rattle.store_run.specs.declared.stop.Stop.TheVariants.{SourceFault, TooLong}
@@ -30,9 +30,9 @@ module _ {K D A : Type 0} (sink : OfSink.Ghosts K) (disk : OfDisk.Ghosts D) (ses
     (old new : K × D × LogState) where
   -- These lines were answered, by these steps of the run. Their answer lines were written in order, and the payloads
   -- of the changes that were accepted are stored behind those from before.
-  pub record Answers (t : session.State) (p : Progress) (lines : List Line) (t' : session.State)
-      (p' : Progress) : Type 0 where
-    pub steps : List (session.State × Answer)
+  pub record Answers (t : session.State) (p : StoreProgress) (lines : List Line) (t' : session.State)
+      (p' : StoreProgress) : Type 0 where
+    pub steps : List (session.State × StoredAnswer)
     pub goes : GoesOver session t p.number lines steps t' p'.number
     pub at_last : last t steps ≡ t'
     pub chain : AreSteps session t steps
@@ -46,8 +46,8 @@ module _ {K D A : Type 0} (sink : OfSink.Ghosts K) (disk : OfDisk.Ghosts D) (ses
     pub lines : List Line
     pub rest : List Line
     pub parts : among ≡ lines ++ rest
-    pub done : List (session.State × Answer)
-    pub begun : List (session.State × Answer)
+    pub done : List (session.State × StoredAnswer)
+    pub begun : List (session.State × StoredAnswer)
     pub t' : session.State
     pub n' : ℕ
     pub goes : GoesOver session t n lines (done ++ begun) t' n'
@@ -86,8 +86,8 @@ module _ {S K D A : Type 0} (source : OfSource.Ghosts S) (sink : OfSink.Ghosts K
 
   -- A journal that comes in pieces came to its end. All lines that have ended are answered, and the input has the
   -- last one.
-  pub record EndsPieces (input : TakenInput) (t : session.State) (p : Progress) (t' : session.State)
-      (p' : Progress) : Type 0 where
+  pub record EndsPieces (input : TakenInput) (t : session.State) (p : StoreProgress) (t' : session.State)
+      (p' : StoreProgress) : Type 0 where
     pub bytes : List ℕ
     pub consumes : Took source old.0 new.0 bytes
     pub at_end : IsRead source old.0 new.0
@@ -99,8 +99,8 @@ module _ {S K D A : Type 0} (source : OfSource.Ghosts S) (sink : OfSink.Ghosts K
   -- The answering as it goes on. These bytes were taken, some of the lines that have ended in them are answered, and
   -- the input has the others. Those that had ended when the source was called last are the first of the lines that
   -- are answered.
-  pub record ComesOn (input : TakenInput) (t : session.State) (p : Progress) (t' : session.State)
-      (p' : Progress) : Type 0 where
+  pub record ComesOn (input : TakenInput) (t : session.State) (p : StoreProgress) (t' : session.State)
+      (p' : StoreProgress) : Type 0 where
     pub bytes : List ℕ
     pub consumes : Took source old.0 new.0 bytes
     pub count : input.taken ≡ length bytes
@@ -116,9 +116,9 @@ module _ {S K D A : Type 0} (source : OfSource.Ghosts S) (sink : OfSink.Ghosts K
 -- A source, a sink, a disk and the log on it, an input, and a state with its progress, before the turn and after it.
 module _ {S K D A : Type 0} (source : OfSource.Ghosts S) (sink : OfSink.Ghosts K) (disk : OfDisk.Ghosts D)
     (session : OfSession.Ghosts A) (old new : S × K × D × LogState) (input input' : TakenInput) (t : session.State)
-    (p : Progress) where
+    (p : StoreProgress) where
   -- All lines that had ended were answered, and then the source was asked for the next piece.
-  pub record AnswersThenTakes (t' : session.State) (p' : Progress) (result : Result Bool TakeFault) : Type 0 where
+  pub record AnswersThenTakes (t' : session.State) (p' : StoreProgress) (result : Result Bool TakeFault) : Type 0 where
     pub mid : TakenInput
     pub lines : mid.lines ≡ record { ended = []; begun = input.lines.begun }
     pub taken : mid.taken ≡ input.taken
@@ -133,6 +133,6 @@ module _ {S K D A : Type 0} (source : OfSource.Ghosts S) (sink : OfSink.Ghosts K
         (new.1, new.2, new.3) t p.number input.lines.ended stop
 
   -- the turn stopped so, or at the piece
-  abbrev pub StopsTurn : session.State → Progress → Stop → Type 0
+  abbrev pub StopsTurn : session.State → StoreProgress → Stop → Type 0
   StopsTurn t' p' stop =
       StopsUnasked stop ⊎ (fault : TakeFault) × (stop ≡ stop_of_input fault) × AnswersThenTakes t' p' (Err fault)

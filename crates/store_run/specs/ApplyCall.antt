@@ -18,7 +18,7 @@ use Rattle.store_run.specs.ApplyEnds.{Exits}
 use Rattle.store_run.specs.OkLines.{ok_lines}
 use Rattle.store_run.specs.Refusals.{IsUnwritten, IsOpening, FailsUnopened}
 use Rattle.store_run.specs.StoreRuns.{run, AreSteps, last, any_refused, text_of, kept_of}
-use Rattle.store_run.specs.declared.session.Answer.{Answer}
+use Rattle.store_run.specs.declared.session.StoredAnswer.{StoredAnswer}
 use Rattle.store_run.specs.declared.session.StoredSession as OfSession
 use Rattle.command_ends.specs.declared.status.Status.{Status}
 
@@ -26,10 +26,10 @@ use Rattle.command_ends.specs.declared.status.Status.{Status}
 -- the run: the one behind the steps that stored these first ones. If there are any, the version record is not still to
 -- be stored.
 abbrev pub EachStands : {A : Type 0} → (session : OfSession.Ghosts A) → List (List ℕ) → session.State
-    → Option (List ℕ) → List (session.State × Answer) → Type 0
+    → Option (List ℕ) → List (session.State × StoredAnswer) → Type 0
 EachStands session before t version steps = (front rest : List (List ℕ))
     → option_to_list version ++ kept_of steps ≡ front ++ rest
-    → (xs : List (session.State × Answer)) × (ys : List (session.State × Answer)) × (v : Option (List ℕ))
+    → (xs : List (session.State × StoredAnswer)) × (ys : List (session.State × StoredAnswer)) × (v : Option (List ℕ))
     × (steps ≡ xs ++ ys) × (session.stands_for (before ++ front) ≡ Ok (last t xs, v))
     × (front ++ option_to_list v ≡ option_to_list version ++ kept_of xs) × ((front ≡ []) ⊎ (v ≡ None))
 
@@ -55,7 +55,7 @@ module _ {S K D A : Type 0} (source : OfSource.Ghosts S) (sink : OfSink.Ghosts K
     pub consumes : Took source old.0 new.0 bytes
     pub at_end : IsRead source old.0 new.0
     pub within : length bytes ≤ MOST_BYTES
-    pub steps : List (session.State × Answer)
+    pub steps : List (session.State × StoredAnswer)
     pub is_run : run session t 0 (lines_of bytes) ≡ Some steps
     pub given : Gave sink old.1 new.1 (text_of steps ++ session.state_text (last t steps))
     pub kept : IfSome (disk.content new.2) (HoldsPayloads ((before ++ option_to_list version) ++ kept_of steps))
@@ -78,7 +78,7 @@ module _ {S K D A : Type 0} (source : OfSource.Ghosts S) (sink : OfSink.Ghosts K
     pub lines : List Line
     pub rest : List Line
     pub parts : lines_of bytes ≡ lines ++ rest
-    pub steps : List (session.State × Answer)
+    pub steps : List (session.State × StoredAnswer)
     pub is_run : run session t 0 lines ≡ Some steps
     pub given : List ℕ
     pub appends : Gave sink old.1 new.1 given
@@ -104,9 +104,9 @@ module _ {S K D A : Type 0} (source : OfSource.Ghosts S) (sink : OfSink.Ghosts K
     pub stands : StandsOn disk d1 log before
     pub exits : Exits source sink disk session (old.0, old.1, d1, log) (new.0, new.1, new.2, log')
         (option_to_list version) t t' status
-    pub stand : (steps : List (session.State × Answer)) → AreSteps session t steps
+    pub stand : (steps : List (session.State × StoredAnswer)) → AreSteps session t steps
         → session.stands_for ((before ++ option_to_list version) ++ kept_of steps) ≡ Ok (last t steps, None)
-    pub each : (steps : List (session.State × Answer)) → AreSteps session t steps
+    pub each : (steps : List (session.State × StoredAnswer)) → AreSteps session t steps
         → EachStands session before t version steps
 
   -- the call ended so, or failed before: then the source was not called, and nothing was written to the disk or the

@@ -20,9 +20,9 @@ use Rattle.store_run.specs.Refusals.{refusal_line}
 use Rattle.store_run.specs.declared.refusals.StoreRefusal.TheVariants as refusing
 use Rattle.store_run.specs.StoreRuns.{run, AreSteps, last, any_refused, text_of, kept_of}
 use Rattle.store_run.specs.Stopping.{IsOwnStop}
-use Rattle.store_run.specs.declared.session.Answer.{Answer}
+use Rattle.store_run.specs.declared.session.StoredAnswer.{StoredAnswer}
 use Rattle.store_run.specs.declared.session.StoredSession as OfSession
-use Rattle.store_run.specs.declared.journal.Progress.{Progress}
+use Rattle.store_run.specs.declared.journal.StoreProgress.{StoreProgress}
 use Rattle.command_ends.specs.Statuses.{end_of}
 use Rattle.command_ends.specs.declared.status.Status.{Status}
 use Rattle.command_ends.specs.declared.status.Status.TheVariants as ending
@@ -67,7 +67,7 @@ pub record AfterVersion {K D : Type 0} (sink : OfSink.Ghosts K) (disk : OfDisk.G
 module _ {S K D A : Type 0} (source : OfSource.Ghosts S) (sink : OfSink.Ghosts K) (disk : OfDisk.Ghosts D)
     (session : OfSession.Ghosts A) (old new : S × K × D × LogState) where
   -- The journal came to its end. All its lines are answered, and their payloads are stored behind the version record.
-  abbrev pub EndsStored : List (List ℕ) → session.State → session.State → Progress → Type 0
+  abbrev pub EndsStored : List (List ℕ) → session.State → session.State → StoreProgress → Type 0
   EndsStored version t t' p' = AfterVersion sink disk (old.1, old.2, old.3) version (λ d1 l1.
       EndsJournal source sink disk session (old.0, old.1, d1, l1) new t (record { number = 0; refused = false }) t' p')
 
@@ -90,7 +90,7 @@ module _ {S K D A : Type 0} (source : OfSource.Ghosts S) (sink : OfSink.Ghosts K
     pub consumes : Took source old.0 new.0 bytes
     pub at_end : IsRead source old.0 new.0
     pub within : length bytes ≤ MOST_BYTES
-    pub steps : List (session.State × Answer)
+    pub steps : List (session.State × StoredAnswer)
     pub is_run : run session t 0 (lines_of bytes) ≡ Some steps
     pub at_last : last t steps ≡ t'
     pub chain : AreSteps session t steps
@@ -104,7 +104,7 @@ module _ {S K D A : Type 0} (source : OfSource.Ghosts S) (sink : OfSink.Ghosts K
   -- the sink failed.
   pub record EndsShort (version : List (List ℕ)) (t t' : session.State) (status : Status) : Type 0 where
     pub k1 : K
-    pub progress : Progress
+    pub progress : StoreProgress
     pub ends : EndsStored source sink disk session old (new.0, k1, new.2, new.3) version t t' progress
     pub short : (status ≡ ending.NoMemory) × Gave sink k1 new.1 []
         ⊎ (status ≡ ending.SinkFault) × GaveFront sink k1 new.1 (session.state_text t')
@@ -135,7 +135,7 @@ module _ {S K D A : Type 0} (source : OfSource.Ghosts S) (sink : OfSink.Ghosts K
     pub lines : List Line
     pub rest : List Line
     pub parts : lines_of bytes ≡ lines ++ rest
-    pub steps : List (session.State × Answer)
+    pub steps : List (session.State × StoredAnswer)
     pub is_run : run session t 0 lines ≡ Some steps
     pub chain : AreSteps session t steps
     pub given : List ℕ

@@ -3,7 +3,7 @@ use Rattle.std.specs.Prelude.{◌≡◌, ℕ, ◌==◌, List, [], ◌∷◌, ◌
 use Rattle.std.specs.Prelude.{length, take, if◌then◌else◌, is_some}
 use Rattle.std.specs.List.{onto_first, concat}
 use Rattle.edit_journal.specs.Pieces.{has_no_end}
-use Rattle.store_run.specs.declared.session.Answer.{Answer}
+use Rattle.store_run.specs.declared.session.StoredAnswer.{StoredAnswer}
 
 -- The bytes cut behind each LF, which stays at the end of its line. What follows the last LF is one more line if it
 -- is not empty.
@@ -30,7 +30,7 @@ pub record IsLine (line : List ℕ) : Type 0 where
   pub plain : has_no_end text ≡ true
 
 -- An answer's line is one line. It begins with `ok ` if and only if there is a payload.
-pub record IsAnswer (answer : Answer) : Type 0 where
+pub record IsAnswer (answer : StoredAnswer) : Type 0 where
   pub is_line : IsLine answer.line
   pub ok : begins_ok answer.line ≡ is_some answer.payload
 

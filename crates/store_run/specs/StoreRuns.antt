@@ -5,56 +5,56 @@ use Rattle.std.specs.Io.{StartsWith}
 use Rattle.edit_journal.specs.Lines.{is_blank}
 use Rattle.edit_journal.specs.declared.line.Line.{Line}
 use Rattle.store_run.specs.OkLines.{IsAnswer}
-use Rattle.store_run.specs.declared.session.Answer.{Answer}
+use Rattle.store_run.specs.declared.session.StoredAnswer.{StoredAnswer}
 use Rattle.store_run.specs.declared.session.StoredSession as OfSession
 
 module _ {State : Type 0} where
   -- the answer lines of some steps
-  abbrev pub text_of : List (State × Answer) → List ℕ
+  abbrev pub text_of : List (State × StoredAnswer) → List ℕ
   text_of [] = []
   text_of (s ∷ steps) = s.1.line ++ text_of steps
 
   -- the payloads of the changes that were accepted
-  abbrev pub kept_of : List (State × Answer) → List (List ℕ)
+  abbrev pub kept_of : List (State × StoredAnswer) → List (List ℕ)
   kept_of [] = []
   kept_of (s ∷ steps) = option_to_list s.1.payload ++ kept_of steps
 
   -- an item was refused
-  abbrev pub any_refused : List (State × Answer) → Bool
+  abbrev pub any_refused : List (State × StoredAnswer) → Bool
   any_refused [] = false
   any_refused (s ∷ steps) = not (is_some s.1.payload) || any_refused steps
 
   -- each step has an answer
-  abbrev pub AreAnswers : List (State × Answer) → Type 0
+  abbrev pub AreAnswers : List (State × StoredAnswer) → Type 0
   AreAnswers [] = Unit {0}
   AreAnswers (s ∷ steps) = IsAnswer s.1 × AreAnswers steps
 
   -- the state after the last step
-  abbrev pub last : State → List (State × Answer) → State
+  abbrev pub last : State → List (State × StoredAnswer) → State
   last t [] = t
   last t (s ∷ steps) = last s.0 steps
 
 module _ {A : Type 0} (session : OfSession.Ghosts A) where
   -- for each line that is not blank the state after it and its answer; n items were answered before
-  abbrev pub run : session.State → ℕ → List Line → Option (List (session.State × Answer))
+  abbrev pub run : session.State → ℕ → List Line → Option (List (session.State × StoredAnswer))
   run t n [] = Some []
   run t n (line ∷ lines) = if is_blank line then run t n lines
       else option_and_then (λ s. option_map (λ steps. s ∷ steps) (run s.0 (n + 1) lines)) (session.answer t
       (n + 1) line)
 
   -- The run goes over these lines by these steps, whatever lines follow: from the first state and number to the second.
-  abbrev pub GoesOver : session.State → ℕ → List Line → List (session.State × Answer) → session.State → ℕ → Type 0
+  abbrev pub GoesOver : session.State → ℕ → List Line → List (session.State × StoredAnswer) → session.State → ℕ → Type 0
   GoesOver t n lines steps t' n' = (more : List Line)
       → run t n (lines ++ more) ≡ option_map (λ rest. steps ++ rest) (run t' n' more)
 
   -- each step is what some line makes of the state before it, and it was made
-  abbrev pub AreSteps : session.State → List (session.State × Answer) → Type 0
+  abbrev pub AreSteps : session.State → List (session.State × StoredAnswer) → Type 0
   AreSteps t [] = Unit {0}
   AreSteps t (s ∷ steps) = ((n : ℕ) × (line : Line) × (session.answer t n line ≡ Some s) × session.is_step t n line s)
       × AreSteps s.0 steps
 
   -- These lines are answered, n items before them, and their answer lines are the beginning of this text.
   pub record AreAnsweredIn (t : session.State) (n : ℕ) (lines : List Line) (text : List ℕ) : Type 0 where
-    pub steps : List (session.State × Answer)
+    pub steps : List (session.State × StoredAnswer)
     pub is_run : run t n lines ≡ Some steps
     pub written : StartsWith text (text_of steps)

@@ -15,7 +15,7 @@ ghost use Rattle.store_run.specs.JournalEnds.{EndsJournal, StopsJournal};
 ghost use Rattle.store_run.specs.OkLines.{AreOtherLines};
 ghost use Rattle.store_run.specs.Stopping.{IsOwnStop};
 
-use crate::journal::{Progress, answer_line, answer_pieces};
+use crate::journal::{StoreProgress, store_line, store_pieces};
 use crate::refusals::give_stop;
 use crate::session::StoredSession;
 use crate::stop::Stop;
@@ -27,7 +27,7 @@ use script_input::{Input, piece_buffer};
 use std::alloc::Global;
 use texts::Bytes;
 
-/// Answers a whole journal. The errors are those of [`answer_pieces`].
+/// Answers a whole journal. The errors are those of [`store_pieces`].
 pub fn answer_journal<S: Source, A: StoredSession, K: Sink, D: Disk>(
     alloc: Global,
     session: &mut A,
@@ -35,7 +35,7 @@ pub fn answer_journal<S: Source, A: StoredSession, K: Sink, D: Disk>(
     log: &mut Log,
     disk: &mut D,
     sink: &mut K,
-) -> Result<Progress, Stop>
+) -> Result<StoreProgress, Stop>
     requires stands { (base : List (List ℕ)) × StandsOn D.Disk disk.old log.old base }
     ensures ended { IfOk result
         (EndsJournal S.Source K.Sink D.Disk A.StoredSession
@@ -57,7 +57,7 @@ pub fn answer_journal<S: Source, A: StoredSession, K: Sink, D: Disk>(
         return Err(Stop::NoMemory);
     };
     let mut input = Input::new(alloc);
-    let progress = answer_pieces(
+    let progress = store_pieces(
         alloc, session, &mut input, source, &mut piece, log, disk, sink,
     )?;
     answer_last(alloc, session, progress, input, log, disk, sink)
@@ -67,12 +67,12 @@ pub fn answer_journal<S: Source, A: StoredSession, K: Sink, D: Disk>(
 fn answer_last<A: StoredSession, K: Sink, D: Disk>(
     alloc: Global,
     session: &mut A,
-    progress: Progress,
+    progress: StoreProgress,
     input: Input,
     log: &mut Log,
     disk: &mut D,
     sink: &mut K,
-) -> Result<Progress, Stop>
+) -> Result<StoreProgress, Stop>
     requires fits { progress.number + 1 < 2 ^ 64 }
     requires none { input.lines.ended ≡ [] }
     requires stands { (base : List (List ℕ)) × StandsOn D.Disk disk.old log.old base }
@@ -93,7 +93,7 @@ fn answer_last<A: StoredSession, K: Sink, D: Disk>(
     let Some(line) = input.last() else {
         return Ok(progress);
     };
-    answer_line(alloc, session, &mut progress, &line, log, disk, sink)?;
+    store_line(alloc, session, &mut progress, &line, log, disk, sink)?;
     Ok(progress)
 }
 
@@ -106,7 +106,7 @@ fn answer_stored<S: Source, A: StoredSession, K: Sink, D: Disk>(
     log: &mut Log,
     disk: &mut D,
     sink: &mut K,
-) -> Result<Progress, Stop>
+) -> Result<StoreProgress, Stop>
     requires stands { (base : List (List ℕ)) × StandsOn D.Disk disk.old log.old base }
     ensures ended { IfOk result
         (EndsStored S.Source K.Sink D.Disk A.StoredSession
@@ -178,7 +178,7 @@ pub fn continue_store<S: Source, A: StoredSession, K: Sink, D: Disk>(
 fn give_state<A: StoredSession, K: Sink>(
     alloc: Global,
     session: &A,
-    progress: Progress,
+    progress: StoreProgress,
     sink: &mut K,
 ) -> Status
     ensures gives { (result ≡ end_of progress.refused)

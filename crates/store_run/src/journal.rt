@@ -11,7 +11,7 @@ ghost use Rattle.store_run.specs.ApplyCauses.{Counted, stop_in};
 ghost use Rattle.store_run.specs.Effects.{StandsOn, Adds, Stops};
 ghost use Rattle.store_run.specs.Stopping.{IsOwnStop};
 
-use crate::session::{Answer, StoredSession};
+use crate::session::{StoredAnswer, StoredSession};
 use crate::stop::Stop;
 use crate::store::{give_line, store_and_answer};
 use edit_journal::{Line, is_blank};
@@ -22,12 +22,12 @@ use std::alloc::Global;
 
 /// How far a journal is answered: how many items it had, and whether one was refused.
 #[derive(Clone, Copy, Debug, PartialEq, Eq)]
-pub struct Progress {
+pub struct StoreProgress {
     pub number: u64,
     pub refused: bool,
 }
 
-impl Progress {
+impl StoreProgress {
     // One more item.
     fn count(&mut self, refused: bool)
         requires { self.old.number + 1 < 2 ^ 64 }
@@ -42,7 +42,7 @@ impl Progress {
 // Writes an answer line. If the answer has a payload, it is stored before; if not, the disk is not called.
 fn give_answer<K: Sink, D: Disk>(
     alloc: Global,
-    answer: &Answer,
+    answer: &StoredAnswer,
     log: &mut Log,
     disk: &mut D,
     sink: &mut K,
@@ -77,7 +77,7 @@ fn give_answer<K: Sink, D: Disk>(
 fn answer_item<A: StoredSession, K: Sink, D: Disk>(
     alloc: Global,
     session: &mut A,
-    progress: &mut Progress,
+    progress: &mut StoreProgress,
     line: &Line,
     log: &mut Log,
     disk: &mut D,
@@ -108,8 +108,8 @@ fn answer_item<A: StoredSession, K: Sink, D: Disk>(
 // Stores and writes an answer, and counts it.
 fn finish_item<K: Sink, D: Disk>(
     alloc: Global,
-    progress: &mut Progress,
-    answer: &Answer,
+    progress: &mut StoreProgress,
+    answer: &StoredAnswer,
     log: &mut Log,
     disk: &mut D,
     sink: &mut K,
@@ -137,11 +137,11 @@ fn finish_item<K: Sink, D: Disk>(
 /// Answers a line. A blank one is skipped, and any other is an item.
 ///
 /// The payload of a change that is accepted is stored before its answer is written, and a refused item makes no call of
-/// the disk. The errors are those of [`answer_pieces`].
-pub fn answer_line<A: StoredSession, K: Sink, D: Disk>(
+/// the disk. The errors are those of [`store_pieces`].
+pub fn store_line<A: StoredSession, K: Sink, D: Disk>(
     alloc: Global,
     session: &mut A,
-    progress: &mut Progress,
+    progress: &mut StoreProgress,
     line: &Line,
     log: &mut Log,
     disk: &mut D,
@@ -168,11 +168,11 @@ pub fn answer_line<A: StoredSession, K: Sink, D: Disk>(
     answer_item(alloc, session, progress, line, log, disk, sink)
 }
 
-/// Answers the lines that an LF has ended in what was taken from the input. The errors are those of [`answer_pieces`].
-pub fn answer_lines<A: StoredSession, K: Sink, D: Disk>(
+/// Answers the lines that an LF has ended in what was taken from the input. The errors are those of [`store_pieces`].
+pub fn store_lines<A: StoredSession, K: Sink, D: Disk>(
     alloc: Global,
     session: &mut A,
-    progress: &mut Progress,
+    progress: &mut StoreProgress,
     input: &mut Input,
     log: &mut Log,
     disk: &mut D,
@@ -205,7 +205,7 @@ pub fn answer_lines<A: StoredSession, K: Sink, D: Disk>(
         let Some(line) = next else {
             return Ok(());
         };
-        answer_line(alloc, session, progress, &line, log, disk, sink)?;
+        store_line(alloc, session, progress, &line, log, disk, sink)?;
     }
 }
 
@@ -221,7 +221,7 @@ pub fn answer_lines<A: StoredSession, K: Sink, D: Disk>(
 /// or the source was not called. After `SourceFault` and `TooLong` all lines that have ended are answered. After
 /// `LogFull` and `NoMemory` what is stored is what the `ok` lines say that were written. After `SinkFault` the change
 /// whose line was begun is stored too. After `DiskFault` the change that was not answered is stored or not.
-pub fn answer_pieces<S: Source, A: StoredSession, K: Sink, D: Disk>(
+pub fn store_pieces<S: Source, A: StoredSession, K: Sink, D: Disk>(
     alloc: Global,
     session: &mut A,
     input: &mut Input,
@@ -230,7 +230,7 @@ pub fn answer_pieces<S: Source, A: StoredSession, K: Sink, D: Disk>(
     log: &mut Log,
     disk: &mut D,
     sink: &mut K,
-) -> Result<Progress, Stop>
+) -> Result<StoreProgress, Stop>
     requires some { 0 < length piece.old }
     requires lines { input.old.lines ≡ nothing_fed }
     requires taken { input.old.taken ≡ 0 }
@@ -252,7 +252,7 @@ pub fn answer_pieces<S: Source, A: StoredSession, K: Sink, D: Disk>(
     ensures source_fault { IsErrOf result Stop.SourceFault
         → SourceFailed S.Source source.old source.new }
 {
-    let mut progress = Progress {
+    let mut progress = StoreProgress {
         number: 0,
         refused: false,
     };
@@ -279,7 +279,7 @@ pub fn answer_pieces<S: Source, A: StoredSession, K: Sink, D: Disk>(
 fn answer_turn<S: Source, A: StoredSession, K: Sink, D: Disk>(
     alloc: Global,
     session: &mut A,
-    progress: &mut Progress,
+    progress: &mut StoreProgress,
     input: &mut Input,
     source: &mut S,
     piece: &mut [u8],
@@ -307,7 +307,7 @@ fn answer_turn<S: Source, A: StoredSession, K: Sink, D: Disk>(
     ensures source_fault { IsErrOf result Stop.SourceFault
         → SourceFailed S.Source source.old source.new }
 {
-    if let Err(stop) = answer_lines(alloc, session, progress, input, log, disk, sink) {
+    if let Err(stop) = store_lines(alloc, session, progress, input, log, disk, sink) {
         return Err(stop);
     }
     match input.take_piece(source, piece) {

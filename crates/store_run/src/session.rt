@@ -5,7 +5,7 @@ ghost use Rattle.std.specs.declared.result.Result.{Result};
 ghost use Rattle.edit_journal.specs.declared.line.Line.{Line};
 ghost use Rattle.store_run.specs.OkLines.{IsAnswer, AreOtherLines};
 ghost use Rattle.store_run.specs.Reopening.{IsReopenFault};
-ghost use Rattle.store_run.specs.declared.session.Answer.{Answer};
+ghost use Rattle.store_run.specs.declared.session.StoredAnswer.{StoredAnswer};
 ghost use Rattle.store_run.specs.declared.session.ReopenFault.{ReopenFault};
 
 use edit_journal::Line;
@@ -15,14 +15,14 @@ use texts::Bytes;
 
 /// The answer to an item of a journal.
 #[derive(Drop)]
-pub struct Answer {
+pub struct StoredAnswer {
     /// The answer line, with its line feed.
     pub line: Bytes,
     /// The payload of the change, if it was accepted.
     pub payload: Option<Bytes>,
 }
 
-impl Answer {
+impl StoredAnswer {
     /// Whether the item was refused.
     pub fn is_refused(&self) -> bool
         ensures { result ≡ not (is_some self.now.payload) }
@@ -63,10 +63,10 @@ pub trait StoredSession: Sized {
     ghost state: { Self → State };
 
     /// What the line with this number makes of a state: the next state, and the answer.
-    ghost answer: { State → ℕ → Line → Option (State × Answer) };
+    ghost answer: { State → ℕ → Line → Option (State × StoredAnswer) };
 
     /// What holds of a step that was made: its payload is one that is read back, and so on.
-    ghost is_step: { State → ℕ → Line → State × Answer → Type 0 };
+    ghost is_step: { State → ℕ → Line → State × StoredAnswer → Type 0 };
 
     /// The state lines.
     ghost state_text: { State → List ℕ };
@@ -92,7 +92,7 @@ pub trait StoredSession: Sized {
         ensures { IfOk result (λ payload. is_snapshot (state self.now) payload) };
 
     /// Answers the item with this number. The only error is running out of memory.
-    fn answer(&mut self, alloc: Global, number: u64, line: &Line) -> Result<Answer, AllocError>
+    fn answer(&mut self, alloc: Global, number: u64, line: &Line) -> Result<StoredAnswer, AllocError>
         ensures answer { IfOk result (λ a.
             answer (state self.old) number line.now ≡ Some (state self.new, a)) }
         ensures step { IfOk result (λ a. is_step (state self.old) number line.now (state self.new, a)) }
@@ -109,7 +109,7 @@ pub trait StoredSession: Sized {
 
     /// The payload of a change that was accepted stands for its step.
     ghost change_stands: { (ps : List (List ℕ)) (t t' : State)
-        (n : ℕ) (line : Line) (a : Answer) (p : List ℕ)
+        (n : ℕ) (line : Line) (a : StoredAnswer) (p : List ℕ)
         → stands_for ps ≡ Ok (t, None) → answer t n line ≡ Some (t', a)
         → is_step t n line (t', a) → a.payload ≡ Some p
         → stands_for (ps ++ p ∷ []) ≡ Ok (t', None) };
@@ -120,7 +120,7 @@ pub trait StoredSession: Sized {
 
     /// The payload of a change that was accepted counts one.
     ghost change_counts: { (ps : List (List ℕ)) (t t' : State)
-        (n : ℕ) (line : Line) (a : Answer) (p : List ℕ)
+        (n : ℕ) (line : Line) (a : StoredAnswer) (p : List ℕ)
         → stands_for ps ≡ Ok (t, None) → answer t n line ≡ Some (t', a)
         → is_step t n line (t', a) → a.payload ≡ Some p
         → count_of (ps ++ p ∷ []) ≡ count_of ps + 1 };
@@ -131,7 +131,7 @@ pub trait StoredSession: Sized {
         → count_of (ps ++ p ∷ []) ≡ count_of ps };
 
     /// An item that is refused leaves the state.
-    ghost refused_stays: { (t t' : State) (n : ℕ) (line : Line) (a : Answer)
+    ghost refused_stays: { (t t' : State) (n : ℕ) (line : Line) (a : StoredAnswer)
         → answer t n line ≡ Some (t', a) → a.payload ≡ None → t' ≡ t };
 
     /// A snapshot leaves the state.

@@ -22,7 +22,7 @@ use Rattle.pair_answers.specs.Answers.{answer_line}
 use Rattle.pair_answers.specs.ItemRuns.{JournalItem, JournalAnswer}
 use Rattle.lens_forms.specs.Forms.{left_type, right_type}
 use Rattle.store_run.specs.OkLines.{IsLine, IsAnswer, AreOtherLines, begins_ok}
-use Rattle.store_run.specs.declared.session.Answer.{Answer}
+use Rattle.store_run.specs.declared.session.StoredAnswer.{StoredAnswer}
 use Rattle.store_session.specs.StoredStates.{StoredState, state_with, change_text, payload_of, stored_answer, taken, answer_item, answer, state_text}
 use Rattle.store_session.proofs.Decimals.{decimal_plain}
 use Rattle.store_session.proofs.NoLineEnd.{text_plain}
@@ -122,17 +122,17 @@ module _ (s : StoredState) (n : ℕ) where
         ok = begins n x (is_refused x) refl ∙ sym (has_payload s item u x h);
       }
 
-  of_taken : (item : JournalItem) (t : StoredState) (a : Answer) (o : Option (TripleTree × JournalAnswer)) → taken s item ≡ o
-      → option_map {U = StoredState × Answer} (λ (step : TripleTree × JournalAnswer). (state_with s.form step.0, stored_answer n item step.1)) o ≡ Some (t, a) → IsAnswer a
+  of_taken : (item : JournalItem) (t : StoredState) (a : StoredAnswer) (o : Option (TripleTree × JournalAnswer)) → taken s item ≡ o
+      → option_map {U = StoredState × StoredAnswer} (λ (step : TripleTree × JournalAnswer). (state_with s.form step.0, stored_answer n item step.1)) o ≡ Some (t, a) → IsAnswer a
   of_taken item t a (Some step) took h =
       let pair : (state_with s.form step.0, stored_answer n item step.1) ≡ (t, a) = cc in
-      subst (λ (p : StoredState × Answer). IsAnswer p.1) pair (item_answered item step.0 step.1 took)
+      subst (λ (p : StoredState × StoredAnswer). IsAnswer p.1) pair (item_answered item step.0 step.1 took)
   of_taken item t a None took h = cc
 
-pub item_is_answer : (s t : StoredState) (n : ℕ) (item : JournalItem) (a : Answer) → answer_item s n item ≡ Some (t, a) → IsAnswer a
+pub item_is_answer : (s t : StoredState) (n : ℕ) (item : JournalItem) (a : StoredAnswer) → answer_item s n item ≡ Some (t, a) → IsAnswer a
 item_is_answer s t n item a h = of_taken s n item t a (taken s item) refl h
 
-pub is_answer : (s t : StoredState) (n : ℕ) (line : Line) (a : Answer) → answer s n line ≡ Some (t, a) → IsAnswer a
+pub is_answer : (s t : StoredState) (n : ℕ) (line : Line) (a : StoredAnswer) → answer s n line ≡ Some (t, a) → IsAnswer a
 is_answer s t n line a h = of_taken s n (change_of_line line) t a (taken s (change_of_line line)) refl h
 
 -- ---- the state lines

@@ -15,7 +15,7 @@ use Rattle.pair_answers.specs.ItemRuns.{JournalItem, JournalAnswer, IsInStepFor,
 use Rattle.lens_forms.specs.Forms.{FormTree}
 use Rattle.lens_forms.specs.Typing.{is_typed}
 use Rattle.store_run.specs.StoreRuns.{run, kept_of, any_refused}
-use Rattle.store_run.specs.declared.session.Answer.{Answer}
+use Rattle.store_run.specs.declared.session.StoredAnswer.{StoredAnswer}
 use Rattle.store_session.specs.Journals.{accepted_change, accepted_changes, IsStateInStep, IsRunOfItems, IsJournalRun}
 use Rattle.store_session.specs.StoredStates.{StoredState, state_with, change_text, payload_of, stored_answer, taken, answer_item, answer, stored_session}
 use Rattle.store_session.proofs.AnswerLines.{has_payload}
@@ -39,13 +39,13 @@ module _ (s : StoredState) (n : ℕ) (item : JournalItem) (u : TripleTree) (x : 
   abbrev pub next : StoredState
   next = state_with s.form u
 
-  abbrev pub made : StoredState × Answer
+  abbrev pub made : StoredState × StoredAnswer
   made = (next, stored_answer (n + 1) item x)
 
   pub answered : answer_item s (n + 1) item ≡ Some made
-  answered = ap (option_map {U = StoredState × Answer} (λ (step : TripleTree × JournalAnswer). (state_with s.form step.0, stored_answer (n + 1) item step.1))) took
+  answered = ap (option_map {U = StoredState × StoredAnswer} (λ (step : TripleTree × JournalAnswer). (state_with s.form step.0, stored_answer (n + 1) item step.1))) took
 
-  pub run_more : (items : List JournalItem) (steps : List (StoredState × Answer)) → IsRunOfItems next (n + 1) items steps → IsRunOfItems s n (item ∷ items) (made ∷ steps)
+  pub run_more : (items : List JournalItem) (steps : List (StoredState × StoredAnswer)) → IsRunOfItems next (n + 1) items steps → IsRunOfItems s n (item ∷ items) (made ∷ steps)
   run_more items steps r =
       record {
         journal = (u, x) ∷ r.journal;
@@ -62,15 +62,15 @@ module _ (s : StoredState) (n : ℕ) (item : JournalItem) (u : TripleTree) (x : 
 
 -- ---- all lines
 
-abbrev HasRun : StoredState → ℕ → Option (List (StoredState × Answer)) → List JournalItem → Type 0
-HasRun s n o items = (steps : List (StoredState × Answer)) × (o ≡ Some steps) × IsRunOfItems s n items steps
+abbrev HasRun : StoredState → ℕ → Option (List (StoredState × StoredAnswer)) → List JournalItem → Type 0
+HasRun s n o items = (steps : List (StoredState × StoredAnswer)) × (o ≡ Some steps) × IsRunOfItems s n items steps
 
 -- `view` is the state of a value that answers, of which nothing is used here
 module _ {A : Type 0} (view : A → StoredState) where
   -- a line that is not blank, and the lines behind it
-  abbrev first_and_others : StoredState → ℕ → Line → List Line → Option (List (StoredState × Answer))
+  abbrev first_and_others : StoredState → ℕ → Line → List Line → Option (List (StoredState × StoredAnswer))
   first_and_others s n line lines =
-      option_and_then (λ (m : StoredState × Answer). option_map (λ (steps : List (StoredState × Answer)). m ∷ steps) (run (stored_session view) m.0 (n + 1) lines)) (answer s (n + 1) line)
+      option_and_then (λ (m : StoredState × StoredAnswer). option_map (λ (steps : List (StoredState × StoredAnswer)). m ∷ steps) (run (stored_session view) m.0 (n + 1) lines)) (answer s (n + 1) line)
 
   first_run : (s : StoredState) (n : ℕ) (line : Line) (lines : List Line)
       → (k : (m : TripleTree × JournalAnswer) × (taken s (change_of_line line) ≡ Some m) × IsInStepFor s.form m.0)
@@ -91,7 +91,7 @@ module _ {A : Type 0} (view : A → StoredState) where
   by_blank s n line lines false skipped first = first
 
   pub runs : (s : StoredState) (n : ℕ) (lines : List Line) → is_typed s.form ≡ true → IsStateInStep s
-      → (steps : List (StoredState × Answer)) × (run (stored_session view) s n lines ≡ Some steps) × IsJournalRun s n lines steps
+      → (steps : List (StoredState × StoredAnswer)) × (run (stored_session view) s n lines ≡ Some steps) × IsJournalRun s n lines steps
   runs s n [] typed h = ([], refl, record { journal = []; is_run = refl; text = refl; at_last = refl; refused = refl; kept = refl; in_step = tt })
   runs s n (line ∷ lines) typed h =
       let k = item_in_step s.form typed s.triple (change_of_line line) h in
@@ -99,10 +99,10 @@ module _ {A : Type 0} (view : A → StoredState) where
       (first_run s n line lines k (runs (state_with s.form k.0.0) (n + 1) lines typed k.2))
 
   pub runs_to_the_end : (s : StoredState) (n : ℕ) (lines : List Line) → is_typed s.form ≡ true → IsStateInStep s
-      → (steps : List (StoredState × Answer)) × (run (stored_session view) s n lines ≡ Some steps)
+      → (steps : List (StoredState × StoredAnswer)) × (run (stored_session view) s n lines ≡ Some steps)
   runs_to_the_end s n lines typed h = let r = runs s n lines typed h in (r.0, r.1)
 
-  pub runs_alike : (s : StoredState) (n : ℕ) (lines : List Line) (steps : List (StoredState × Answer)) → is_typed s.form ≡ true → IsStateInStep s
+  pub runs_alike : (s : StoredState) (n : ℕ) (lines : List Line) (steps : List (StoredState × StoredAnswer)) → is_typed s.form ≡ true → IsStateInStep s
       → run (stored_session view) s n lines ≡ Some steps → IsJournalRun s n lines steps
   runs_alike s n lines steps typed h e =
       let r = runs s n lines typed h in

@@ -4,8 +4,8 @@ use Rattle.lens_forms.specs.Forms.{FormTree}
 use Rattle.edit_session.specs.Step.{TripleTree}
 use Rattle.store_records.specs.RecordOutcomes.{IsBadFirst}
 use Rattle.store_records.specs.StoredLens.{lens_and_version, stored_lens}
-use Rattle.store_records.specs.declared.record_fault.ReopenFault.{ReopenFault as RecordFault}
-use Rattle.store_records.specs.declared.record_fault.ReopenFault.TheVariants as of_records
+use Rattle.store_records.specs.declared.record_fault.RecordFault.{RecordFault}
+use Rattle.store_records.specs.declared.record_fault.RecordFault.TheVariants as of_records
 use Rattle.store_run.specs.Reopening.{IsReopenFault}
 use Rattle.store_run.specs.declared.session.ReopenFault.{ReopenFault}
 use Rattle.store_run.specs.declared.session.ReopenFault.TheVariants as of_stores

@@ -18,8 +18,8 @@ use Rattle.lens_core.specs.Translation.{translate}
 use Rattle.lens_forms.specs.Forms.{FormTree, left_type, right_type}
 use Rattle.lens_forms.specs.Typing.{is_typed}
 use Rattle.store_records.specs.RecordJson.{RecordTree, version_record, change_record, snapshot_record}
-use Rattle.store_records.specs.declared.record_fault.ReopenFault.{ReopenFault as RecordFault}
-use Rattle.store_records.specs.declared.record_fault.ReopenFault.TheVariants.{BadRecord, NotConsistent}
+use Rattle.store_records.specs.declared.record_fault.RecordFault.{RecordFault}
+use Rattle.store_records.specs.declared.record_fault.RecordFault.TheVariants.{BadRecord, NotConsistent}
 use Rattle.store_session.specs.ConsistencyTest.{is_consistent}
 use Rattle.store_session.specs.Stands.{Standing, after_record, after_step, after_triple, is_too_new, step_of, triple_of, stands}
 use Rattle.store_session.specs.ConsistencyDecided.{consistent_if}

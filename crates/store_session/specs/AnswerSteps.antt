@@ -16,7 +16,7 @@ use Rattle.edit_session.specs.Step.{TripleTree, Stepped, AllStepped, alone, step
 use Rattle.pair_answers.specs.ItemRuns.{JournalItem, JournalAnswer}
 use Rattle.lens_core.specs.Translation.{translate}
 use Rattle.lens_forms.specs.Forms.{left_type, right_type}
-use Rattle.store_run.specs.declared.session.Answer.{Answer}
+use Rattle.store_run.specs.declared.session.StoredAnswer.{StoredAnswer}
 use Rattle.store_session.specs.Stands.{step_of}
 use Rattle.store_session.specs.StoredStates.{StoredState, state_with, change_text, payload_of, stored_answer, taken}
 use Rattle.store_session.specs.StoredStates.{answer_item, answer}
@@ -94,12 +94,12 @@ fit_of_line TooLong change h = cc
 -- ---- the two kinds of answer
 
 -- the state stays, and there is no payload
-pub record Stays (s t : StoredState) (a : Answer) : Type 0 where
+pub record Stays (s t : StoredState) (a : StoredAnswer) : Type 0 where
   pub same : t ≡ s
   pub none : a.payload ≡ None
 
 -- the change of the item makes the step, and the payload is its
-pub record Steps (s t : StoredState) (item : JournalItem) (a : Answer) : Type 0 where
+pub record Steps (s t : StoredState) (item : JournalItem) (a : StoredAnswer) : Type 0 where
   pub change : ChangeTree
   pub is : item ≡ Ok change
   pub form : t ≡ state_with s.form t.triple
@@ -107,10 +107,10 @@ pub record Steps (s t : StoredState) (item : JournalItem) (a : Answer) : Type 0 
   pub step : step_of s.form s.triple change ≡ Some (Ok (t.triple, words))
   pub payload : a.payload ≡ Some (change_text change)
 
-abbrev pub Kinds : StoredState → StoredState → JournalItem → Answer → Type 0
+abbrev pub Kinds : StoredState → StoredState → JournalItem → StoredAnswer → Type 0
 Kinds s t item a = Stays s t a ⊎ Steps s t item a
 
-abbrev made_of : StoredState → ℕ → JournalItem → TripleTree × JournalAnswer → StoredState × Answer
+abbrev made_of : StoredState → ℕ → JournalItem → TripleTree × JournalAnswer → StoredState × StoredAnswer
 made_of s n item step = (state_with s.form step.0, stored_answer n item step.1)
 
 module _ (s : StoredState) (n : ℕ) where
@@ -147,20 +147,20 @@ module _ (s : StoredState) (n : ℕ) where
   item_kind (Ok change) u x took = change_kind change u x (is_refused x) took refl
   item_kind (Err fault) u x took = fault_kind fault u x took
 
-  of_taken : (item : JournalItem) (t : StoredState) (a : Answer) (o : Option (TripleTree × JournalAnswer))
+  of_taken : (item : JournalItem) (t : StoredState) (a : StoredAnswer) (o : Option (TripleTree × JournalAnswer))
       → taken s item ≡ o
-      → option_map {U = StoredState × Answer} (made_of s n item) o ≡ Some (t, a) → Kinds s t item a
+      → option_map {U = StoredState × StoredAnswer} (made_of s n item) o ≡ Some (t, a) → Kinds s t item a
   of_taken item t a (Some step) took h =
       let pair : made_of s n item step ≡ (t, a) = cc in
-      subst (λ (p : StoredState × Answer). Kinds s p.0 item p.1) pair (item_kind item step.0 step.1 took)
+      subst (λ (p : StoredState × StoredAnswer). Kinds s p.0 item p.1) pair (item_kind item step.0 step.1 took)
   of_taken item t a None took h = cc
 
-  pub kinds : (item : JournalItem) (t : StoredState) (a : Answer) → answer_item s n item ≡ Some (t, a)
+  pub kinds : (item : JournalItem) (t : StoredState) (a : StoredAnswer) → answer_item s n item ≡ Some (t, a)
       → Kinds s t item a
   kinds item t a h = of_taken item t a (taken s item) refl h
 
 -- an item that is refused leaves the state
-pub refused_stays : (t t' : StoredState) (n : ℕ) (line : Line) (a : Answer) → answer t n line ≡ Some (t', a) → a.payload
+pub refused_stays : (t t' : StoredState) (n : ℕ) (line : Line) (a : StoredAnswer) → answer t n line ≡ Some (t', a) → a.payload
     ≡ None → t' ≡ t
 refused_stays t t' n line a e none =
     elim (kinds t n (change_of_line line) t' a e) [ inl r ↦ r.same | inr r ↦ let p = r.payload in cc ]

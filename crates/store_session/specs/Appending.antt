@@ -5,18 +5,18 @@ use Rattle.std.proofs.Common.{refl, sym, ap, ◌∙◌, arith}
 use Rattle.lens_forms.specs.Forms.{FormTree}
 use Rattle.store_records.specs.RecordJson.{record_in}
 use Rattle.store_records.specs.StoredLens.{lens_and_version}
-use Rattle.store_records.specs.declared.record_fault.ReopenFault.{ReopenFault}
+use Rattle.store_records.specs.declared.record_fault.RecordFault.{RecordFault}
 use Rattle.store_session.specs.Stands.{Standing, going_on, after_record, after_payloads, at_start, from_opening, stands}
 
-going_on_nowhere : (r : Result Standing ReopenFault) → going_on (λ t. Ok t) r ≡ r
+going_on_nowhere : (r : Result Standing RecordFault) → going_on (λ t. Ok t) r ≡ r
 going_on_nowhere (Ok t) = refl
 going_on_nowhere (Err fault) = refl
 
 -- the record of a payload with this number
-abbrev next_record : List ℕ → ℕ → Standing → Result Standing ReopenFault
+abbrev next_record : List ℕ → ℕ → Standing → Result Standing RecordFault
 next_record p number t = after_record number t (record_in p)
 
-append_step : (p : List ℕ) (n m : ℕ) (ps : List (List ℕ)) (r : Result Standing ReopenFault)
+append_step : (p : List ℕ) (n m : ℕ) (ps : List (List ℕ)) (r : Result Standing RecordFault)
     → ((t : Standing) → after_payloads (n + 1) t (ps ++ p ∷ [])
     ≡ going_on (next_record p m) (after_payloads (n + 1) t ps))
     → going_on (λ t. after_payloads (n + 1) t (ps ++ p ∷ [])) r

@@ -11,7 +11,7 @@ use Rattle.edit_session.specs.Run.{is_refused}
 use Rattle.pair_answers.specs.Answers.{answer_lines}
 use Rattle.pair_answers.specs.ItemRuns.{JournalItem, JournalAnswer, IsInStepFor, items_of, run_from}
 use Rattle.store_run.specs.StoreRuns.{text_of, kept_of, any_refused, last}
-use Rattle.store_run.specs.declared.session.Answer.{Answer}
+use Rattle.store_run.specs.declared.session.StoredAnswer.{StoredAnswer}
 use Rattle.store_session.specs.StoredStates.{StoredState, state_with, change_text}
 
 -- the change of an item, where the answer accepts it
@@ -33,15 +33,15 @@ IsStateInStep s = IsInStepFor s.form s.triple
 -- the same triple at the end, refused where that run refuses. All states are consistent. The payloads are those of the
 -- changes that were accepted, in order.
 pub record IsRunOfItems (s : StoredState) (n : ℕ) (items : List JournalItem)
-    (steps : List (StoredState × Answer)) : Type 0 where
+    (steps : List (StoredState × StoredAnswer)) : Type 0 where
   pub journal : List (TripleTree × JournalAnswer)
   pub is_run : run_from s.form s.triple items ≡ Some journal
   pub text : text_of steps ≡ answer_lines (n + 1) journal
   pub at_last : last s steps ≡ state_with s.form (journals.last s.triple journal)
   pub refused : any_refused steps ≡ journals.any_refused journal
   pub kept : kept_of steps ≡ map change_text (accepted_changes items journal)
-  pub in_step : AllByRecursion (λ (step : StoredState × Answer). IsStateInStep step.0) steps
+  pub in_step : AllByRecursion (λ (step : StoredState × StoredAnswer). IsStateInStep step.0) steps
 
 -- the items are those of the lines of a journal
-abbrev pub IsJournalRun : StoredState → ℕ → List Line → List (StoredState × Answer) → Type 0
+abbrev pub IsJournalRun : StoredState → ℕ → List Line → List (StoredState × StoredAnswer) → Type 0
 IsJournalRun s n lines steps = IsRunOfItems s n (items_of lines) steps

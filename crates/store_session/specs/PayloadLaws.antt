@@ -9,8 +9,8 @@ use Rattle.edit_journal.specs.declared.line.Line.{Line}
 use Rattle.edit_session.specs.Step.{TripleTree}
 use Rattle.lens_forms.specs.Forms.{FormTree}
 use Rattle.store_records.specs.RecordJson.{version_record, record_in, tree_of_change_record}
-use Rattle.store_records.specs.declared.record_fault.ReopenFault.{ReopenFault as RecordFault}
-use Rattle.store_run.specs.declared.session.Answer.{Answer}
+use Rattle.store_records.specs.declared.record_fault.RecordFault.{RecordFault}
+use Rattle.store_run.specs.declared.session.StoredAnswer.{StoredAnswer}
 use Rattle.store_session.specs.Stands.{Standing, after_record, stands, step_of}
 use Rattle.store_session.specs.Standings.{standing}
 use Rattle.store_session.specs.Written.{the_change, the_snapshot, HasRecord}
@@ -93,7 +93,7 @@ has_record : (change : ChangeTree) (version : ℕ) → Fit change → version �
 has_record (one e) version fit two = fit
 has_record (group es) version fit two = (fit.0, fit.1, two)
 
-module _ (ps : List (List ℕ)) (t t' : StoredState) (n : ℕ) (line : Line) (a : Answer) (p : List ℕ)
+module _ (ps : List (List ℕ)) (t t' : StoredState) (n : ℕ) (line : Line) (a : StoredAnswer) (p : List ℕ)
     (h : stands_for ps ≡ Ok (t, None))
     (e : answer t n line ≡ Some (t', a)) (step : IsStep t n line (t', a)) (some : a.payload ≡ Some p) where
   -- the record of the change is written behind what stands

@@ -13,8 +13,8 @@ use Rattle.store_session.specs.ConsistencyTest.{is_consistent}
 use Rattle.store_records.specs.StoredComplements.{complement_of}
 use Rattle.store_records.specs.RecordJson.{RecordTree, version_record, change_record, snapshot_record, record_in}
 use Rattle.store_records.specs.StoredLens.{lens_and_version}
-use Rattle.store_records.specs.declared.record_fault.ReopenFault.{ReopenFault}
-use Rattle.store_records.specs.declared.record_fault.ReopenFault.TheVariants.{BadRecord, NotConsistent}
+use Rattle.store_records.specs.declared.record_fault.RecordFault.{RecordFault}
+use Rattle.store_records.specs.declared.record_fault.RecordFault.TheVariants.{BadRecord, NotConsistent}
 
 -- the form of the lens, the triple, the number of change records, and the version
 pub record Standing : Type 0 where
@@ -30,7 +30,7 @@ abbrev pub step_of : FormTree → TripleTree → ChangeTree → Option AllSteppe
 step_of l t change = step_all (left_type l) (right_type l) (translate l) t change
 
 -- the triple after a change that was accepted, counted once; a change that is refused is a bad record
-abbrev pub after_step : ℕ → Standing → Option AllStepped → Result Standing ReopenFault
+abbrev pub after_step : ℕ → Standing → Option AllStepped → Result Standing RecordFault
 after_step number s (Some (Ok made)) = Ok (record s { triple = made.0; count = s.count + 1 })
 after_step number s (Some (Err why)) = Err (BadRecord number)
 after_step number s None = Err (BadRecord number)
@@ -43,7 +43,7 @@ triple_of l p = option_and_then (λ x. option_and_then (λ c. option_map (λ y. 
     (document_of (right_type l) p.2)) (complement_of l p.0)) (document_of (left_type l) p.1)
 
 -- a snapshot puts its triple in the place of the one before, if it is consistent
-abbrev pub after_triple : ℕ → Standing → Option TripleTree → Result Standing ReopenFault
+abbrev pub after_triple : ℕ → Standing → Option TripleTree → Result Standing RecordFault
 after_triple number s (Some t) =
     if is_consistent s.form t.left t.comp t.right then Ok (record s { triple = t }) else Err (NotConsistent number)
 after_triple number s None = Err (BadRecord number)
@@ -57,7 +57,7 @@ is_too_new (group es) version = not (nat_eq version 2)
 
 -- The version 2 may follow in a store of version 1. An entry is stepped at both versions, and a group at version 2. A
 -- snapshot is taken if it is consistent. What is no record is a bad one.
-abbrev pub after_record : ℕ → Standing → Option RecordTree → Result Standing ReopenFault
+abbrev pub after_record : ℕ → Standing → Option RecordTree → Result Standing RecordFault
 after_record number s None = Err (BadRecord number)
 after_record number s (Some version_record) =
     if nat_eq s.version 1 then Ok (record s { version = 2 }) else Err (BadRecord number)
@@ -66,12 +66,12 @@ after_record number s (Some (change_record change)) =
 after_record number s (Some (snapshot_record p)) = after_triple number s (triple_of s.form p)
 
 -- the records from this number on, each from what stands after the one before it
-abbrev pub going_on : (Standing → Result Standing ReopenFault) → Result Standing ReopenFault
-    → Result Standing ReopenFault
+abbrev pub going_on : (Standing → Result Standing RecordFault) → Result Standing RecordFault
+    → Result Standing RecordFault
 going_on others (Ok s) = others s
 going_on others (Err fault) = Err fault
 
-abbrev pub after_payloads : ℕ → Standing → List (List ℕ) → Result Standing ReopenFault
+abbrev pub after_payloads : ℕ → Standing → List (List ℕ) → Result Standing RecordFault
 after_payloads number s [] = Ok s
 after_payloads number s (p ∷ ps) =
     going_on (λ t. after_payloads (number + 1) t ps) (after_record number s (record_in p))
@@ -83,11 +83,11 @@ abbrev pub at_start : FormTree × ℕ → Standing
 at_start o =
     record { form = o.0; triple = first (left_type o.0) (right_type o.0) (missing o.0); count = 0; version = o.1 }
 
-abbrev pub from_opening : List (List ℕ) → Option (FormTree × ℕ) → Result Standing ReopenFault
+abbrev pub from_opening : List (List ℕ) → Option (FormTree × ℕ) → Result Standing RecordFault
 from_opening ps (Some o) = after_payloads 2 (at_start o) ps
 from_opening ps None = Err (BadRecord 1)
 
 -- what payloads stand for; the records are numbered from 1 on
-abbrev pub stands : List (List ℕ) → Result Standing ReopenFault
+abbrev pub stands : List (List ℕ) → Result Standing RecordFault
 stands [] = Err (BadRecord 1)
 stands (p ∷ ps) = from_opening ps (lens_and_version p)

@@ -4,12 +4,12 @@ use Rattle.std.proofs.Common.{◌≡◌, ℕ, ◌+◌, List, [], ◌∷◌, Opti
 use Rattle.lens_forms.specs.Forms.{FormTree}
 use Rattle.store_records.specs.RecordJson.{RecordTree, record_in}
 use Rattle.store_records.specs.StoredLens.{lens_and_version}
-use Rattle.store_records.specs.declared.record_fault.ReopenFault.{ReopenFault}
+use Rattle.store_records.specs.declared.record_fault.RecordFault.{RecordFault}
 use Rattle.store_session.specs.Stands.{Standing, going_on, after_record, after_payloads, at_start, from_opening, stands}
 
 module _ (P : Standing → Type 0) (keeps : (n : ℕ) (s t : Standing) (r : Option RecordTree) → P s → after_record n s r
     ≡ Ok t → P t) where
-  others_hold : (others : Standing → Result Standing ReopenFault) (r : Result Standing ReopenFault) (u : Standing)
+  others_hold : (others : Standing → Result Standing RecordFault) (r : Result Standing RecordFault) (u : Standing)
       → ((t : Standing) → r ≡ Ok t → others t ≡ Ok u → P u) → going_on others r ≡ Ok u → P u
   others_hold others (Ok t) u all h = all t refl h
   others_hold others (Err fault) u all h = cc

@@ -15,9 +15,9 @@ use Rattle.pair_answers.specs.ItemRuns.{JournalItem, JournalAnswer, IsInStepFor}
 use Rattle.lens_core.specs.Translation.{translate}
 use Rattle.lens_forms.specs.Forms.{FormTree, left_type, right_type}
 use Rattle.store_records.specs.RecordJson.{tree_of_version, tree_of_change_record, tree_of_snapshot}
-use Rattle.store_records.specs.declared.record_fault.ReopenFault.{ReopenFault as RecordFault}
-use Rattle.store_records.specs.declared.record_fault.ReopenFault.TheVariants as of_records
-use Rattle.store_run.specs.declared.session.Answer.{Answer}
+use Rattle.store_records.specs.declared.record_fault.RecordFault.{RecordFault}
+use Rattle.store_records.specs.declared.record_fault.RecordFault.TheVariants as of_records
+use Rattle.store_run.specs.declared.session.StoredAnswer.{StoredAnswer}
 use Rattle.store_run.specs.declared.session.ReopenFault.{ReopenFault}
 use Rattle.store_run.specs.declared.session.ReopenFault.TheVariants as of_stores
 use Rattle.store_run.specs.declared.session.StoredSession as OfSession
@@ -83,15 +83,15 @@ abbrev pub taken : StoredState → JournalItem → Option (TripleTree × Journal
 taken s item = take_item (left_type s.form) (right_type s.form) (translate s.form) s.triple item
 
 -- the answer to the item with this number, as a store has it
-abbrev pub stored_answer : ℕ → JournalItem → JournalAnswer → Answer
+abbrev pub stored_answer : ℕ → JournalItem → JournalAnswer → StoredAnswer
 stored_answer n item answer = record { line = lines.answer_line n answer; payload = payload_of item answer }
 
 -- what the item with this number makes of a state: the next state, and the answer
-abbrev pub answer_item : StoredState → ℕ → JournalItem → Option (StoredState × Answer)
+abbrev pub answer_item : StoredState → ℕ → JournalItem → Option (StoredState × StoredAnswer)
 answer_item s n item = option_map (λ step. (state_with s.form step.0, stored_answer n item step.1)) (taken s item)
 
 -- the same of the line with this number
-abbrev pub answer : StoredState → ℕ → Line → Option (StoredState × Answer)
+abbrev pub answer : StoredState → ℕ → Line → Option (StoredState × StoredAnswer)
 answer s n line = answer_item s n (change_of_line line)
 
 -- the payload is read back as the record of the change that the item is
@@ -100,7 +100,7 @@ ReadsAsChange (Ok change) payload = tree_of_text payload ≡ Some (tree_of_chang
 ReadsAsChange (Err fault) payload = ⊥
 
 -- what is known of the step by this line: if it has a payload, that is read back as the record of its change
-abbrev pub IsStep : StoredState → ℕ → Line → StoredState × Answer → Type 0
+abbrev pub IsStep : StoredState → ℕ → Line → StoredState × StoredAnswer → Type 0
 IsStep s n line made = IfSome made.1.payload (ReadsAsChange (change_of_line line))
 
 -- ---- the other texts

@@ -24,7 +24,7 @@ use Rattle.serde_json.specs.Data.{Data}
 use Rattle.store_records.specs.RecordJson.{version_record, change_record, snapshot_record, tree_of_program}
 use Rattle.store_records.specs.RecordJson.{tree_of_first_program, tree_of_change_record, opening_of, record_of}
 use Rattle.store_records.specs.StoredLens.{accepted, form_of_text, with_form, opening_of_payload, lens_and_version}
-use Rattle.store_records.specs.declared.record_fault.ReopenFault.TheVariants.{BadRecord, NotConsistent}
+use Rattle.store_records.specs.declared.record_fault.RecordFault.TheVariants.{BadRecord, NotConsistent}
 use Rattle.store_records.proofs.ComplementsAreRead.{read_back}
 use Rattle.store_records.proofs.RecordsAreRead.{program_read, first_program_read, version_read, change_read}
 use Rattle.store_records.proofs.RecordsAreRead.{snapshot_read}

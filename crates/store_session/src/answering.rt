@@ -27,7 +27,7 @@ use edit_session::{GroupFault, Session, StepFault};
 use lens_flat::Flat;
 use std::alloc::{AllocError, Global};
 use store_records::change_payload;
-use store_run::Answer;
+use store_run::StoredAnswer;
 use texts::Bytes;
 
 // Answers the item with this number, which steps the session if it is a change that is accepted. The line is read once.
@@ -36,7 +36,7 @@ pub(crate) fn answer_item(
     session: &mut Session<Flat>,
     number: u64,
     line: &Line,
-) -> Result<Answer, AllocError>
+) -> Result<StoredAnswer, AllocError>
     ensures answer { IfOk result (λ a.
         answer (session_state session.old) number line.now ≡ Some (session_state session.new, a)) }
     ensures step { IfOk result (λ a.
@@ -52,7 +52,7 @@ pub(crate) fn answer_item(
 }
 
 // Answers a line that is not a change, for this fault.
-fn answer_fault(alloc: Global, number: u64, fault: EntryFault) -> Result<Answer, AllocError>
+fn answer_fault(alloc: Global, number: u64, fault: EntryFault) -> Result<StoredAnswer, AllocError>
     requires of_the_line { fault ≢ EntryFault.NoMemory }
     ensures answer { IfOk result (λ a. (form : FormTree) (triple : TripleTree) (item : JournalItem)
         → IsRefused (cause_of fault) item
@@ -69,7 +69,7 @@ fn answer_entry(
     session: &mut Session<Flat>,
     number: u64,
     entry: Entry,
-) -> Result<Answer, AllocError>
+) -> Result<StoredAnswer, AllocError>
     requires counts_fit { change_counts_fit (one (entry_tree entry)) ≡ true }
     ensures answer { IfOk result (λ a. answer_item (session_state session.old) number (Ok (one (entry_tree entry)))
         ≡ Some (session_state session.new, a)) }
@@ -94,7 +94,7 @@ fn answer_group(
     session: &mut Session<Flat>,
     number: u64,
     change: &Change,
-) -> Result<Answer, AllocError>
+) -> Result<StoredAnswer, AllocError>
     requires is_group { (es : List (Side × WordTree)) × (change_tree change.now ≡ group es) }
     requires counts_fit { change_counts_fit (change_tree change.now) ≡ true }
     ensures answer { IfOk result (λ a. answer_item (session_state session.old) number (Ok (change_tree change.now))
@@ -126,7 +126,7 @@ fn types_are_low(lens: &Flat)
 }
 
 // The answer of this line to a change that was accepted.
-fn accepted(alloc: Global, line: Bytes, change: &Change) -> Result<Answer, AllocError>
+fn accepted(alloc: Global, line: Bytes, change: &Change) -> Result<StoredAnswer, AllocError>
     requires counts_fit { change_counts_fit (change_tree change.now) ≡ true }
     ensures line { IfOk result (λ a. a.line ≡ line) }
     ensures payload { IfOk result (λ a. a.payload ≡ Some (change_text (change_tree change.now))) }
@@ -134,18 +134,18 @@ fn accepted(alloc: Global, line: Bytes, change: &Change) -> Result<Answer, Alloc
         → IfSome a.payload (ReadsAsChange (Ok (change_tree change.now)))) }
 {
     let payload = change_payload(alloc, change)?;
-    Ok(Answer {
+    Ok(StoredAnswer {
         line,
         payload: Some(payload),
     })
 }
 
 // The answer of this line to an item that was refused.
-fn refused(line: Bytes) -> Answer
+fn refused(line: Bytes) -> StoredAnswer
     ensures line { result.line ≡ line }
     ensures payload { result.payload ≡ None }
 {
-    Answer {
+    StoredAnswer {
         line,
         payload: None,
     }

@@ -22,6 +22,6 @@ mod snapshot_making;
 mod snapshot_reading;
 pub mod standing_laws;
 
-pub use crate::reopening::{Opened, go_on, reopen, reopen_first};
+pub use crate::reopening::{OpenedRecords, go_on, reopen, reopen_first};
 pub use crate::session::StoreSession;
 pub use crate::snapshot_making::snapshot_of;

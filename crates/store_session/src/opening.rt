@@ -12,11 +12,11 @@ ghost use Rattle.store_session.specs.StoredStates.{stands_for, count_of, fault_o
 ghost use Rattle.store_session.specs.SessionStates.{session_state};
 
 use crate::session::StoreSession;
-use crate::{Opened as OpenedRecords, reopen};
+use crate::{OpenedRecords, reopen};
 use lens_flat::Flat;
 use lens_io::Payloads;
 use std::alloc::{AllocError, Global};
-use store_records::{ReopenFault as RecordFault, StoredLens, stored_lens, version_payload};
+use store_records::{RecordFault, StoredLens, stored_lens, version_payload};
 use store_run::{Opened, ReopenFault};
 use texts::Bytes;
 

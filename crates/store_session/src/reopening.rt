@@ -9,7 +9,7 @@ ghost use Rattle.lens_forms.specs.Forms.{FormTree, form_tree};
 ghost use Rattle.edit_session.specs.Step.{IsInStep};
 ghost use Rattle.edit_session.specs.Views.{triple_tree};
 ghost use Rattle.store_records.specs.RecordJson.{record_of, record_in, version_record, change_record, snapshot_record};
-ghost use Rattle.store_records.specs.declared.record_fault.ReopenFault;
+ghost use Rattle.store_records.specs.declared.record_fault.RecordFault;
 ghost use Rattle.store_records.specs.StoredLens.{stored_lens};
 ghost use Rattle.store_session.specs.ReopenOutcomes.{IsReopenFault, Reaches};
 ghost use Rattle.store_session.specs.Stands.{after_record, at_start, is_too_new, stands};
@@ -24,13 +24,13 @@ use lens_types::Typed;
 use serde_json::Value;
 use std::alloc::Global;
 use store_records::{
-    ReopenFault, StoredLens, VERSION, change_in, is_version_record, read_tree, snapshot_in,
+    RecordFault, StoredLens, VERSION, change_in, is_version_record, read_tree, snapshot_in,
 };
 use texts::Bytes;
 
 /// A stored session that was opened.
 #[derive(Drop)]
-pub struct Opened<L: EditLens> {
+pub struct OpenedRecords<L: EditLens> {
     /// The session, with the triple for which the payloads stand.
     pub session: Session<L>,
     /// How many of the records are changes.
@@ -56,7 +56,7 @@ pub fn reopen<L: EditLens + Drop>(
     lens: L,
     stored: &StoredLens,
     payloads: &Payloads,
-) -> Result<Opened<L>, ReopenFault>
+) -> Result<OpenedRecords<L>, RecordFault>
     requires means { IsLensOf (L.left_type lens) (L.right_type lens) (L.start lens) (L.holds lens) (L.carried lens)
         (form_tree stored.now.typed) }
     requires stored { stored_lens payloads.now ≡ Some (form_tree stored.now.typed, stored.now.version) }
@@ -87,7 +87,7 @@ pub fn reopen_first<L: EditLens + Drop>(
     stored: &StoredLens,
     payloads: &Payloads,
     kept: usize,
-) -> Result<Opened<L>, ReopenFault>
+) -> Result<OpenedRecords<L>, RecordFault>
     requires means { IsLensOf (L.left_type lens) (L.right_type lens) (L.start lens) (L.holds lens) (L.carried lens)
         (form_tree stored.now.typed) }
     requires stored { stored_lens payloads.now ≡ Some (form_tree stored.now.typed, stored.now.version) }
@@ -115,8 +115,8 @@ pub fn go_on<L: EditLens>(
     typed: &Typed,
     payloads: &Payloads,
     kept: usize,
-    opened: &mut Opened<L>,
-) -> Result<(), ReopenFault>
+    opened: &mut OpenedRecords<L>,
+) -> Result<(), RecordFault>
     requires means { IsLensOf (L.left_type opened.old.session.lens) (L.right_type opened.old.session.lens)
         (L.start opened.old.session.lens) (L.holds opened.old.session.lens) (L.carried opened.old.session.lens)
         (form_tree typed.now) }
@@ -138,18 +138,18 @@ fn begin<L: EditLens + Drop>(
     alloc: Global,
     lens: L,
     stored: &StoredLens,
-) -> Result<Opened<L>, ReopenFault>
+) -> Result<OpenedRecords<L>, RecordFault>
     requires means { IsLensOf (L.left_type lens) (L.right_type lens) (L.start lens) (L.holds lens) (L.carried lens)
         (form_tree stored.now.typed) }
     ensures stands { MatchResult result
         (λ o. standing (form_tree stored.now.typed) (triple_tree o.session.triple) o.count o.version
         ≡ at_start (form_tree stored.now.typed, stored.now.version))
-        (λ fault. fault ≡ ReopenFault.NoMemory) }
+        (λ fault. fault ≡ RecordFault.NoMemory) }
     ensures lens { IfOk result (λ o. o.session.lens ≡ lens) }
     ensures count { IfOk result (λ o. o.count ≡ 0) }
 {
     let session = Session::start(alloc, lens)?;
-    Ok(Opened {
+    Ok(OpenedRecords {
         session,
         count: 0,
         version: stored.version,
@@ -163,8 +163,8 @@ fn take_records<L: EditLens>(
     records: &[Bytes],
     from: usize,
     to: usize,
-    opened: &mut Opened<L>,
-) -> Result<(), ReopenFault>
+    opened: &mut OpenedRecords<L>,
+) -> Result<(), RecordFault>
     requires means { IsLensOf (L.left_type opened.old.session.lens) (L.right_type opened.old.session.lens)
         (L.start opened.old.session.lens) (L.holds opened.old.session.lens) (L.carried opened.old.session.lens)
         (form_tree typed.now) }
@@ -194,8 +194,8 @@ fn take_record<L: EditLens>(
     typed: &Typed,
     number: u64,
     payload: &[u8],
-    opened: &mut Opened<L>,
-) -> Result<(), ReopenFault>
+    opened: &mut OpenedRecords<L>,
+) -> Result<(), RecordFault>
     requires means { IsLensOf (L.left_type opened.old.session.lens) (L.right_type opened.old.session.lens)
         (L.start opened.old.session.lens) (L.holds opened.old.session.lens) (L.carried opened.old.session.lens)
         (form_tree typed.now) }
@@ -209,7 +209,7 @@ fn take_record<L: EditLens>(
     ensures count { opened.new.count ≤ opened.old.count + 1 }
 {
     let Some(tree) = read_tree(alloc, payload)? else {
-        return Err(ReopenFault::BadRecord { number });
+        return Err(RecordFault::BadRecord { number });
     };
     take_tree(alloc, typed, number, &tree, opened)
 }
@@ -220,8 +220,8 @@ fn take_tree<L: EditLens>(
     typed: &Typed,
     number: u64,
     tree: &Value,
-    opened: &mut Opened<L>,
-) -> Result<(), ReopenFault>
+    opened: &mut OpenedRecords<L>,
+) -> Result<(), RecordFault>
     requires means { IsLensOf (L.left_type opened.old.session.lens) (L.right_type opened.old.session.lens)
         (L.start opened.old.session.lens) (L.holds opened.old.session.lens) (L.carried opened.old.session.lens)
         (form_tree typed.now) }
@@ -244,7 +244,7 @@ fn take_tree<L: EditLens>(
         Some((comp, left, right)) => {
             take_snapshot(alloc, typed, number, comp, left, right, opened)
         }
-        None => Err(ReopenFault::BadRecord { number }),
+        None => Err(RecordFault::BadRecord { number }),
     }
 }
 
@@ -252,8 +252,8 @@ fn take_tree<L: EditLens>(
 fn take_change<L: EditLens>(
     number: u64,
     change: &Change,
-    opened: &mut Opened<L>,
-) -> Result<(), ReopenFault>
+    opened: &mut OpenedRecords<L>,
+) -> Result<(), RecordFault>
     requires count { opened.old.count < number }
     ensures stands { (form : FormTree)
         → IsLensOf (L.left_type opened.old.session.lens) (L.right_type opened.old.session.lens)
@@ -266,15 +266,15 @@ fn take_change<L: EditLens>(
     ensures count { opened.new.count ≤ opened.old.count + 1 }
 {
     if is_too_new(change, opened.version) {
-        return Err(ReopenFault::BadRecord { number });
+        return Err(RecordFault::BadRecord { number });
     }
     match opened.session.step_all(change) {
         Ok(_words) => {
             opened.count += 1;
             Ok(())
         }
-        Err(GroupFault::NoApply { .. }) => Err(ReopenFault::BadRecord { number }),
-        Err(GroupFault::NoMemory) => Err(ReopenFault::NoMemory),
+        Err(GroupFault::NoApply { .. }) => Err(RecordFault::BadRecord { number }),
+        Err(GroupFault::NoMemory) => Err(RecordFault::NoMemory),
     }
 }
 
@@ -289,7 +289,7 @@ fn is_too_new(change: &Change, version: u64) -> bool
 }
 
 // Makes the version 2, in a store of version 1.
-fn take_version<L: EditLens>(number: u64, opened: &mut Opened<L>) -> Result<(), ReopenFault>
+fn take_version<L: EditLens>(number: u64, opened: &mut OpenedRecords<L>) -> Result<(), RecordFault>
     ensures stands { (form : FormTree) → Reaches result
         (after_record number (standing form (triple_tree opened.old.session.triple) opened.old.count opened.old.version)
         (Some version_record))
@@ -298,7 +298,7 @@ fn take_version<L: EditLens>(number: u64, opened: &mut Opened<L>) -> Result<(), 
     ensures count { opened.new.count ≡ opened.old.count }
 {
     if opened.version != 1 {
-        return Err(ReopenFault::BadRecord { number });
+        return Err(RecordFault::BadRecord { number });
     }
     opened.version = VERSION;
     Ok(())
@@ -312,8 +312,8 @@ fn take_snapshot<L: EditLens>(
     comp: &Value,
     left: &Value,
     right: &Value,
-    opened: &mut Opened<L>,
-) -> Result<(), ReopenFault>
+    opened: &mut OpenedRecords<L>,
+) -> Result<(), RecordFault>
     requires means { IsLensOf (L.left_type opened.old.session.lens) (L.right_type opened.old.session.lens)
         (L.start opened.old.session.lens) (L.holds opened.old.session.lens) (L.carried opened.old.session.lens)
         (form_tree typed.now) }
@@ -326,10 +326,10 @@ fn take_snapshot<L: EditLens>(
     ensures count { opened.new.count ≡ opened.old.count }
 {
     let Some(triple) = read_triple(alloc, typed, comp, left, right)? else {
-        return Err(ReopenFault::BadRecord { number });
+        return Err(RecordFault::BadRecord { number });
     };
     if !is_in_step(alloc, typed, &triple)? {
-        return Err(ReopenFault::NotConsistent { number });
+        return Err(RecordFault::NotConsistent { number });
     }
     opened.session.replace(triple);
     Ok(())

@@ -6,7 +6,7 @@ ghost use Rattle.edit_journal.specs.declared.line.Line.{Line};
 ghost use Rattle.lens_forms.specs.Typing.{is_typed};
 ghost use Rattle.store_run.specs.OkLines.{IsAnswer};
 ghost use Rattle.store_run.specs.StoreRuns.{run};
-ghost use Rattle.store_run.specs.declared.session.Answer.{Answer};
+ghost use Rattle.store_run.specs.declared.session.StoredAnswer.{StoredAnswer};
 ghost use Rattle.store_session.specs.Journals.{IsStateInStep, IsJournalRun};
 ghost use Rattle.store_session.specs.StoredStates.{StoredState, stands_for, answer};
 
@@ -28,9 +28,9 @@ pub fn stored_is_in_step()
 pub fn answers_are_the_run()
     ensures ends { (state : StoredState) (number : ℕ) (lines : List Line)
         → is_typed state.form ≡ true → IsStateInStep state
-        → (steps : List (StoredState × Answer))
+        → (steps : List (StoredState × StoredAnswer))
         × (run ⟦<StoreSession as StoredSession>⟧ state number lines ≡ Some steps) }
-    ensures same { (state : StoredState) (number : ℕ) (lines : List Line) (steps : List (StoredState × Answer))
+    ensures same { (state : StoredState) (number : ℕ) (lines : List Line) (steps : List (StoredState × StoredAnswer))
         → is_typed state.form ≡ true → IsStateInStep state
         → run ⟦<StoreSession as StoredSession>⟧ state number lines ≡ Some steps
         → IsJournalRun state number lines steps }
@@ -38,6 +38,6 @@ pub fn answers_are_the_run()
 
 /// Every answer is one line, which begins with `ok ` if and only if there is a payload.
 pub fn answers_are_lines()
-    ensures { (before after : StoredState) (number : ℕ) (line : Line) (made : Answer)
+    ensures { (before after : StoredState) (number : ℕ) (line : Line) (made : StoredAnswer)
         → answer before number line ≡ Some (after, made) → IsAnswer made }
 {}

@@ -10,7 +10,7 @@ use Rattle.lens_core.specs.Translation.{translate}
 use Rattle.lens_forms.specs.Forms.{FormTree, left_type, right_type}
 use Rattle.edit_session.specs.Step.{TripleTree, AllStepped}
 use Rattle.store_records.specs.RecordJson.{change_record, snapshot_record, change_in, version_in, snapshot_in, record_of, record_in}
-use Rattle.store_records.specs.declared.record_fault.ReopenFault.TheVariants.{BadRecord}
+use Rattle.store_records.specs.declared.record_fault.RecordFault.TheVariants.{BadRecord}
 use Rattle.store_session.specs.Stands.{Standing, step_of, is_too_new, after_step, after_record, after_payloads}
 use Rattle.store_undo.specs.Undoing.{change_of, changes_of}
 use Rattle.store_undo.proofs.Splitting.{went_on}

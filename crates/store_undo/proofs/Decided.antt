@@ -9,8 +9,8 @@ use Rattle.lens_core.specs.Consistency.{IsConsistent}
 use Rattle.lens_forms.specs.Forms.{FormTree}
 use Rattle.store_records.specs.RecordJson.{RecordTree, version_record, change_record, snapshot_record, record_in}
 use Rattle.store_records.specs.StoredLens.{lens_and_version}
-use Rattle.store_records.specs.declared.record_fault.ReopenFault.{ReopenFault}
-use Rattle.store_records.specs.declared.record_fault.ReopenFault.TheVariants as reopening
+use Rattle.store_records.specs.declared.record_fault.RecordFault.{RecordFault}
+use Rattle.store_records.specs.declared.record_fault.RecordFault.TheVariants as reopening
 use Rattle.store_run.specs.declared.refusals.StoreRefusal.{StoreRefusal}
 use Rattle.store_run.specs.declared.refusals.StoreRefusal.TheVariants.{NothingToUndo}
 use Rattle.store_session.specs.ConsistencyTest.{is_consistent}
@@ -22,7 +22,7 @@ use Rattle.store_undo.proofs.UndoRefusals.{same_undoing}
 
 -- ---- a reading of payloads never runs out of memory
 
-abbrev Memory : Result Standing ReopenFault → Type 0
+abbrev Memory : Result Standing RecordFault → Type 0
 Memory r = r ≡ Err reopening.NoMemory
 
 step_known : (n : ℕ) (s : Standing) (o : Option AllStepped) → Memory (after_step n s o) → ⊥
@@ -52,7 +52,7 @@ record_known n s (Some version_record) h = version_known n (record s { version =
 record_known n s (Some (change_record change)) h = change_known n s (step_of s.form s.triple change) (is_too_new change s.version) h
 record_known n s (Some (snapshot_record p)) h = triple_known n s (triple_of s.form p) h
 
-going_known : (others : Standing → Result Standing ReopenFault) (r : Result Standing ReopenFault) → (Memory r → ⊥) → ((t : Standing) → Memory (others t) → ⊥) → Memory (going_on others r) → ⊥
+going_known : (others : Standing → Result Standing RecordFault) (r : Result Standing RecordFault) → (Memory r → ⊥) → ((t : Standing) → Memory (others t) → ⊥) → Memory (going_on others r) → ⊥
 going_known others (Ok t) first rest h = rest t h
 going_known others (Err fault) first rest h = first h
 
@@ -79,7 +79,7 @@ undone_changes : (count : ℕ) (held : List (List ℕ)) (now : Standing) (o : Op
 undone_changes count held now (Some cs) h last none = let stood = stood_then count held now cs h last in (_, stood.undoes)
 undone_changes count held now None h last none = cc
 
-undone_standing : (count : ℕ) (held : List (List ℕ)) (r : Result Standing ReopenFault) → stands held ≡ r → refusal_of r (last_changes count held) ≡ None → IsUndone count held
+undone_standing : (count : ℕ) (held : List (List ℕ)) (r : Result Standing RecordFault) → stands held ≡ r → refusal_of r (last_changes count held) ≡ None → IsUndone count held
 undone_standing count held (Ok now) is none = undone_changes count held now (last_changes count held) is refl none
 undone_standing count held (Err (reopening.BadRecord number)) is none = cc
 undone_standing count held (Err (reopening.NotConsistent number)) is none = cc
@@ -102,12 +102,12 @@ undone_in count bytes none = undone_log count bytes (log_of bytes) refl none
 
 -- ---- refused
 
-refused_changes : (now : Standing) (r : Result Standing ReopenFault) (o : Option (List ChangeTree)) (refusal : StoreRefusal) → refusal_of (Ok now) o ≡ Some refusal
+refused_changes : (now : Standing) (r : Result Standing RecordFault) (o : Option (List ChangeTree)) (refusal : StoreRefusal) → refusal_of (Ok now) o ≡ Some refusal
     → option_and_then (λ (cs : List ChangeTree). undoing_from now cs r) o ≡ None
 refused_changes now r (Some cs) refusal q = cc
 refused_changes now r None refusal q = refl
 
-refused_standing : (count : ℕ) (held : List (List ℕ)) (r : Result Standing ReopenFault) (refusal : StoreRefusal) → refusal_of r (last_changes count held) ≡ Some refusal → undoing_of count held r ≡ None
+refused_standing : (count : ℕ) (held : List (List ℕ)) (r : Result Standing RecordFault) (refusal : StoreRefusal) → refusal_of r (last_changes count held) ≡ Some refusal → undoing_of count held r ≡ None
 refused_standing count held (Ok now) refusal q = refused_changes now (stands (payloads_before count held)) (last_changes count held) refusal q
 refused_standing count held (Err fault) refusal q = refl
 
@@ -124,7 +124,7 @@ nothing_changes : (count : ℕ) (held : List (List ℕ)) (now : Standing) (o : O
 nothing_changes count held now (Some cs) is last q = cc
 nothing_changes count held now None is last q = (now, is, last)
 
-nothing_standing : (count : ℕ) (held : List (List ℕ)) (r : Result Standing ReopenFault) → stands held ≡ r → refusal_of r (last_changes count held) ≡ Some NothingToUndo → HasNothing count held
+nothing_standing : (count : ℕ) (held : List (List ℕ)) (r : Result Standing RecordFault) → stands held ≡ r → refusal_of r (last_changes count held) ≡ Some NothingToUndo → HasNothing count held
 nothing_standing count held (Ok now) is q = nothing_changes count held now (last_changes count held) is refl q
 nothing_standing count held (Err (reopening.BadRecord number)) is q = cc
 nothing_standing count held (Err (reopening.NotConsistent number)) is q = cc
@@ -149,7 +149,7 @@ earlier_changes count held now (Some cs) u is last h undoes =
     (is, stood.was, stood.stood, refl, stood.over.form)
 earlier_changes count held now None u is last h undoes = cc
 
-earlier_standing : (count : ℕ) (held : List (List ℕ)) (r : Result Standing ReopenFault) (u : Undoing) → stands held ≡ r → undoing_of count held r ≡ Some u → undoing count held ≡ Some u → StoodEarlier count held u
+earlier_standing : (count : ℕ) (held : List (List ℕ)) (r : Result Standing RecordFault) (u : Undoing) → stands held ≡ r → undoing_of count held r ≡ Some u → undoing count held ≡ Some u → StoodEarlier count held u
 earlier_standing count held (Ok now) u is h undoes = earlier_changes count held now (last_changes count held) u is refl h undoes
 earlier_standing count held (Err fault) u is h undoes = cc
 
@@ -158,7 +158,7 @@ stood_earlier count held u h = earlier_standing count held (stands held) u refl 
 
 -- ---- what stands behind it
 
-same_standing : (s t : Standing) (r : Result Standing ReopenFault) → r ≡ Ok s → r ≡ Ok t → s ≡ t
+same_standing : (s t : Standing) (r : Result Standing RecordFault) → r ≡ Ok s → r ≡ Ok t → s ≡ t
 same_standing s t (Ok now) e f =
     let one : now ≡ s = cc in
     let other : now ≡ t = cc in

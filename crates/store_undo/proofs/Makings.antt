@@ -5,7 +5,7 @@ use Rattle.edit_module.specs.Changes.{ChangeTree}
 use Rattle.edit_session.specs.Step.{TripleTree}
 use Rattle.edit_session.specs.Views.{triple_tree}
 use Rattle.lens_forms.specs.Forms.{FormTree, form_tree, left_type, right_type}
-use Rattle.store_records.specs.declared.record_fault.ReopenFault.{ReopenFault}
+use Rattle.store_records.specs.declared.record_fault.RecordFault.{RecordFault}
 use Rattle.store_session.specs.Stands.{Standing, stands}
 use Rattle.store_session.specs.Standings.{standing}
 use Rattle.store_undo.specs.Making.{AreTexts, IsMade, StoodTwice, UndoneBy, kept_before}
@@ -17,7 +17,7 @@ use Rattle.store_undo.proofs.Earlier.{stood_then, some_last}
 use Rattle.store_undo.proofs.VersionRecords.{undone_stands}
 use Rattle.edit_undo.specs.Undone.{BothTrees, BringsBack}
 
-same_standing : (s t : Standing) (r : Result Standing ReopenFault) → r ≡ Ok s → r ≡ Ok t → s ≡ t
+same_standing : (s t : Standing) (r : Result Standing RecordFault) → r ≡ Ok s → r ≡ Ok t → s ≡ t
 same_standing s t (Ok now) e f =
     let one : now ≡ s = cc in
     let other : now ≡ t = cc in

@@ -2,11 +2,11 @@
 use Rattle.std.proofs.Common.{◌≡◌, ℕ, ◌+◌, ◌<◌, List, [], ◌∷◌, ◌++◌, length, Option, Some, None, Result, Ok, Err, refl, sym, ◌∙◌, arith}
 use Rattle.lens_forms.specs.Forms.{FormTree}
 use Rattle.store_records.specs.StoredLens.{lens_and_version}
-use Rattle.store_records.specs.declared.record_fault.ReopenFault.{ReopenFault}
+use Rattle.store_records.specs.declared.record_fault.RecordFault.{RecordFault}
 use Rattle.store_session.specs.Stands.{Standing, going_on, after_payloads, at_start, from_opening, stands}
 use Rattle.store_session.proofs.PartsStand.{after_both}
 
-pub went_on : (others : Standing → Result Standing ReopenFault) (r : Result Standing ReopenFault) (end : Standing) → going_on others r ≡ Ok end
+pub went_on : (others : Standing → Result Standing RecordFault) (r : Result Standing RecordFault) (end : Standing) → going_on others r ≡ Ok end
     → (s : Standing) × (r ≡ Ok s) × (others s ≡ Ok end)
 went_on others (Ok s) end h = (s, refl, h)
 went_on others (Err fault) end h = cc

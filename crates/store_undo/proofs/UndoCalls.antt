@@ -7,7 +7,7 @@ use Rattle.lens_io.specs.declared.sink.Sink as OfSink
 use Rattle.gate_log.specs.LogOnDisk.{LogState, HoldsPayloads}
 use Rattle.edit_module.specs.Changes.{ChangeTree}
 use Rattle.edit_session.specs.Step.{TripleTree}
-use Rattle.store_records.specs.declared.record_fault.ReopenFault.{ReopenFault}
+use Rattle.store_records.specs.declared.record_fault.RecordFault.{RecordFault}
 use Rattle.store_run.specs.Effects.{HoldsFirst, StandsOn, Stops}
 use Rattle.store_run.specs.Refusals.{IsUnwritten, IsOpening, FailsUnopened}
 use Rattle.store_run.specs.StoreEnds.{StoreEnds, StoresBehind}
@@ -35,15 +35,15 @@ made_from now t (Some r) u h =
     ap (λ (x : Undoing). x.now) same
 made_from now t None u h = cc
 
-from_now : (now : Standing) (cs : List ChangeTree) (r : Result Standing ReopenFault) (u : Undoing) → undoing_from now cs r ≡ Some u → now ≡ u.now
+from_now : (now : Standing) (cs : List ChangeTree) (r : Result Standing RecordFault) (u : Undoing) → undoing_from now cs r ≡ Some u → now ≡ u.now
 from_now now cs (Ok was) u h = made_from now was.triple _ u h
 from_now now cs (Err fault) u h = cc
 
-of_changes : (now : Standing) (r : Result Standing ReopenFault) (o : Option (List ChangeTree)) (u : Undoing) → option_and_then (λ (cs : List ChangeTree). undoing_from now cs r) o ≡ Some u → now ≡ u.now
+of_changes : (now : Standing) (r : Result Standing RecordFault) (o : Option (List ChangeTree)) (u : Undoing) → option_and_then (λ (cs : List ChangeTree). undoing_from now cs r) o ≡ Some u → now ≡ u.now
 of_changes now r (Some cs) u h = from_now now cs r u h
 of_changes now r None u h = cc
 
-of_standing : (count : ℕ) (held : List (List ℕ)) (r : Result Standing ReopenFault) (u : Undoing) → stands held ≡ r → undoing_of count held r ≡ Some u → stands held ≡ Ok u.now
+of_standing : (count : ℕ) (held : List (List ℕ)) (r : Result Standing RecordFault) (u : Undoing) → stands held ≡ r → undoing_of count held r ≡ Some u → stands held ≡ Ok u.now
 of_standing count held (Ok now) u is h = is ∙ ap Ok (of_changes now (stands (payloads_before count held)) (last_changes count held) u h)
 of_standing count held (Err fault) u is h = cc
 

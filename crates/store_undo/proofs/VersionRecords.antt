@@ -9,7 +9,7 @@ use Rattle.serde_json.proofs.OnLiterals.{serde_json_on_literals}
 use Rattle.serde_json.specs.Written.{compact_text}
 use Rattle.edit_session.specs.Step.{TripleTree}
 use Rattle.store_records.specs.RecordJson.{tree_of_version, version_record, record_in}
-use Rattle.store_records.specs.declared.record_fault.ReopenFault.TheVariants.{BadRecord}
+use Rattle.store_records.specs.declared.record_fault.RecordFault.TheVariants.{BadRecord}
 use Rattle.store_session.specs.Stands.{Standing, after_record, stands}
 use Rattle.store_session.specs.Written.{the_snapshot}
 use Rattle.store_session.specs.Appending.{stands_append}

@@ -10,8 +10,8 @@ use Rattle.lens_core.specs.Translation.{translate}
 use Rattle.lens_forms.specs.Forms.{FormTree, form_tree, left_type, right_type}
 use Rattle.edit_session.specs.Step.{TripleTree, IsInStep}
 use Rattle.edit_session.specs.Views.{triple_tree}
-use Rattle.store_records.specs.declared.record_fault.ReopenFault.{ReopenFault}
-use Rattle.store_records.specs.declared.record_fault.ReopenFault.TheVariants as reopening
+use Rattle.store_records.specs.declared.record_fault.RecordFault.{RecordFault}
+use Rattle.store_records.specs.declared.record_fault.RecordFault.TheVariants as reopening
 use Rattle.store_session.specs.Stands.{Standing, stands}
 use Rattle.store_session.specs.Standings.{standing}
 use Rattle.store_session.specs.StoredStates.{IsSnapshot, state_with}
@@ -66,7 +66,7 @@ IsMakingFault wanted (Refused refusal) = wanted ≡ Some refusal
 IsMakingFault wanted NoMemory = Unit {0}
 
 -- the fault of a reopening in these words
-abbrev pub fault_of : ReopenFault → MakingFault
+abbrev pub fault_of : RecordFault → MakingFault
 fault_of (reopening.BadRecord number) = Refused (BadRecord number)
 fault_of (reopening.NotConsistent number) = Refused (NotConsistent number)
 fault_of reopening.NoMemory = NoMemory

@@ -9,8 +9,8 @@ use Rattle.edit_session.specs.Step.{TripleTree}
 use Rattle.lens_core.specs.Translation.{translate}
 use Rattle.lens_forms.specs.Forms.{left_type, right_type}
 use Rattle.store_records.specs.RecordJson.{change_in}
-use Rattle.store_records.specs.declared.record_fault.ReopenFault.{ReopenFault}
-use Rattle.store_records.specs.declared.record_fault.ReopenFault.TheVariants as reopening
+use Rattle.store_records.specs.declared.record_fault.RecordFault.{RecordFault}
+use Rattle.store_records.specs.declared.record_fault.RecordFault.TheVariants as reopening
 use Rattle.store_run.specs.declared.refusals.StoreRefusal.{StoreRefusal}
 use Rattle.store_run.specs.declared.refusals.StoreRefusal.TheVariants.{NotALog, BadRecord, NotConsistent, NothingToUndo}
 use Rattle.store_session.specs.Stands.{Standing, stands}
@@ -48,13 +48,13 @@ pub record Undoing : Type 0 where
   pub words : BothTrees
 
 -- from what the payloads before these changes represent
-abbrev pub undoing_from : Standing → List ChangeTree → Result Standing ReopenFault → Option Undoing
+abbrev pub undoing_from : Standing → List ChangeTree → Result Standing RecordFault → Option Undoing
 undoing_from now changes (Ok was) =
     option_map (λ r. record { now = now; before = was.triple; words = r.1 })
     (undone (left_type now.form) (right_type now.form) (translate now.form) was.triple changes)
 undoing_from now changes (Err fault) = None
 
-abbrev pub undoing_of : ℕ → List (List ℕ) → Result Standing ReopenFault → Option Undoing
+abbrev pub undoing_of : ℕ → List (List ℕ) → Result Standing RecordFault → Option Undoing
 undoing_of count held (Ok now) =
     option_and_then (λ changes. undoing_from now changes (stands (payloads_before count held)))
     (last_changes count held)
@@ -68,7 +68,7 @@ undoing count held = undoing_of count held (stands held)
 
 -- payloads are refused that represent no session, and those that represent one if their last records are not so many
 -- changes
-abbrev pub refusal_of : Result Standing ReopenFault → Option (List ChangeTree) → Option StoreRefusal
+abbrev pub refusal_of : Result Standing RecordFault → Option (List ChangeTree) → Option StoreRefusal
 refusal_of (Ok now) (Some changes) = None
 refusal_of (Ok now) None = Some NothingToUndo
 refusal_of (Err (reopening.BadRecord number)) changes = Some (BadRecord number)

@@ -19,7 +19,7 @@ use edit_undo::{BothWords, undo_changes};
 use lens_flat::Flat;
 use lens_io::Payloads;
 use std::alloc::{AllocError, Global};
-use store_records::ReopenFault;
+use store_records::RecordFault;
 use store_run::StoreRefusal;
 use texts::Bytes;
 
@@ -79,17 +79,17 @@ fn make_opened(
 }
 
 // The fault in the words of a store.
-fn refused(fault: ReopenFault) -> MakingFault
+fn refused(fault: RecordFault) -> MakingFault
     ensures { result ≡ fault_of fault }
 {
     match fault {
-        ReopenFault::BadRecord { number } => {
+        RecordFault::BadRecord { number } => {
             MakingFault::Refused(StoreRefusal::BadRecord { number })
         }
-        ReopenFault::NotConsistent { number } => {
+        RecordFault::NotConsistent { number } => {
             MakingFault::Refused(StoreRefusal::NotConsistent { number })
         }
-        ReopenFault::NoMemory => MakingFault::NoMemory,
+        RecordFault::NoMemory => MakingFault::NoMemory,
     }
 }
 

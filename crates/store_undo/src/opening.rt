@@ -17,8 +17,8 @@ use lens_flat::Flat;
 use lens_io::Payloads;
 use lens_types::Typed;
 use std::alloc::{AllocError, Global};
-use store_records::{ReopenFault, StoredLens, stored_lens, version_payload};
-use store_session::{Opened, go_on, reopen_first};
+use store_records::{RecordFault, StoredLens, stored_lens, version_payload};
+use store_session::{OpenedRecords, go_on, reopen_first};
 use texts::{Bytes, Twin};
 
 // The version of a store whose version record is still to be stored.
@@ -27,7 +27,7 @@ const FIRST_VERSION: u64 = 1;
 // A session that was opened, and the triple that it had before the last records.
 #[derive(Drop)]
 pub(crate) struct OpenedTwice {
-    pub(crate) opened: Opened<Flat>,
+    pub(crate) opened: OpenedRecords<Flat>,
     pub(crate) earlier: Triple,
 }
 
@@ -37,7 +37,7 @@ pub(crate) fn open(
     alloc: Global,
     count: u64,
     payloads: &Payloads,
-) -> Result<OpenedTwice, ReopenFault>
+) -> Result<OpenedTwice, RecordFault>
     ensures stands { MatchResult result (StoodTwice count payloads.now) (IsReopenFault (stands payloads.now)) }
 {
     match stored_lens(alloc, payloads) {
@@ -52,7 +52,7 @@ fn open_with(
     stored: &StoredLens,
     count: u64,
     payloads: &Payloads,
-) -> Result<OpenedTwice, ReopenFault>
+) -> Result<OpenedTwice, RecordFault>
     requires stored { stored_lens payloads.now ≡ Some (form_tree stored.now.typed, stored.now.version) }
     ensures stands { MatchResult result (StoodTwice count payloads.now) (IsReopenFault (stands payloads.now)) }
 {
@@ -70,8 +70,8 @@ fn open_rest(
     typed: &Typed,
     payloads: &Payloads,
     kept: usize,
-    opened: &mut Opened<Flat>,
-) -> Result<Triple, ReopenFault>
+    opened: &mut OpenedRecords<Flat>,
+) -> Result<Triple, RecordFault>
     requires form { form_tree opened.old.session.lens.typed ≡ form_tree typed.now }
     requires within { kept ≤ length payloads.now }
     requires stood { stands (take kept payloads.now)

@@ -3,5 +3,5 @@ use Rattle.hub_run.proofs.run.answer_item.Goals as goal
 
 pub returns-clause-answer : goal.returns-clause-answer
 returns-clause-answer c =
-    answer_is c.args.hub.now c.take_item.new.hub c.args.line.now c.args.number c.in_ok-answer.answer c.in_ok-line.line c.is_refused-refused.result c.in_ok-answer.ensures.has_line c.take_item.ensures.lens
+    answer_is c.args.hub.now c.take_hub_item.new.hub c.args.line.now c.args.number c.in_ok-answer.answer c.in_ok-line.line c.is_refused-refused.result c.in_ok-answer.ensures.has_line c.take_hub_item.ensures.lens
     c.in_ok-answer.ensures.answer c.in_ok-line.ensures.line c.is_refused-refused.ensures.refused

@@ -6,5 +6,5 @@ use Rattle.link_run.proofs.journal.answer_item.Goals as goal
 
 pub returns : goal.returns
 returns c =
-    answered_line (form_tree c.args.link.now.left.lens.typed) (form_tree c.take_item.new.link.left.lens.typed) (link_tree c.take_item.new.link) c.args.number c.in_ok-line.line c.is_refused-refused.result _
+    answered_line (form_tree c.args.link.now.left.lens.typed) (form_tree c.take_link_item.new.link.left.lens.typed) (link_tree c.take_link_item.new.link) c.args.number c.in_ok-line.line c.is_refused-refused.result _
     (ap (λ l. form_tree l.typed) c.in_ok-answer.ensures.lens) c.in_ok-answer.answer c.in_ok-answer.ensures.has_line c.in_ok-answer.ensures.answer c.in_ok-line.ensures.line c.is_refused-refused.ensures.refused

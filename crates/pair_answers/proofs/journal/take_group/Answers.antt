@@ -2,7 +2,7 @@ use Rattle.std.proofs.Common.{◌≡◌, subst}
 use Rattle.edit_module.specs.Views.{entry_trees, word_trees}
 use Rattle.edit_session.specs.Views.{triple_tree}
 use Rattle.pair_answers.specs.AnswerLines.{HasAnswerLine}
-use Rattle.pair_answers.specs.declared.answers.Answer.TheVariants.{GroupCarried}
+use Rattle.pair_answers.specs.declared.answers.PairAnswer.TheVariants.{GroupCarried}
 use Rattle.pair_answers.proofs.AnswersHaveLines.{words_counted}
 use Rattle.pair_answers.proofs.StepCounts.{each_counted}
 use Rattle.pair_answers.proofs.journal.take_group.Goals as goal

@@ -3,7 +3,7 @@ use Rattle.std.proofs.lemmas.Result.{err_from_is_err_and}
 use Rattle.lens_forms.specs.Forms.{form_tree}
 use Rattle.edit_session.specs.Views.{triple_tree}
 use Rattle.store_records.specs.RecordJson.{record_in}
-use Rattle.store_records.specs.declared.record_fault.ReopenFault.{ReopenFault}
+use Rattle.store_records.specs.declared.record_fault.RecordFault.{RecordFault}
 use Rattle.store_session.specs.ReopenOutcomes.{IsReopenFault}
 use Rattle.store_session.specs.Stands.{Standing, stands, after_record}
 use Rattle.store_session.specs.Standings.{standing}
@@ -36,6 +36,6 @@ returns-in_err-take_record-clause-stands g c =
     let within : l.at < length ps = omega (arith, c.loop-at-test.true, c.requires.within) in
     let next = next_stands l.at ps c.index-records-at.result s within c.index-records-at.is l.invariant.stood in
     let taken = subst (λ (x : List ℕ). stands (take (l.at + 1) ps) ≡ after_record (l.at + 1) s (record_in x)) (sym c.as_slice.ensures) next in
-    let here = subst (λ (r : Result Standing ReopenFault). IsReopenFault r fault) (sym taken) c.in_err-take_record.ensures.stands in
+    let here = subst (λ (r : Result Standing RecordFault). IsReopenFault r fault) (sym taken) c.in_err-take_record.ensures.stands in
     let p = err_from_is_err_and c.from_residual.result c.from_residual.ensures.1 in
     rw (p.1, p.2) (all_fail (l.at + 1) ps fault (omega arith) (omega (arith, within)) here)

@@ -7,7 +7,7 @@ use Rattle.store_run.proofs.ApplyCausesHold.{counted_none, counted_then, counted
 use Rattle.store_run.proofs.InTime.{few_more}
 use Rattle.store_run.proofs.Outcomes.{passed_on}
 use Rattle.store_run.proofs.StoredPayloads.{images_held}
-use Rattle.store_run.proofs.journal.answer_pieces.Goals as goal
+use Rattle.store_run.proofs.journal.store_pieces.Goals as goal
 
 pub pieces-init : goal.pieces-init
 pieces-init g c =

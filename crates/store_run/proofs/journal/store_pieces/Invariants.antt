@@ -4,7 +4,7 @@ use Rattle.script_input.specs.declared.limits.TheConstants.{MOST_BYTES}
 use Rattle.store_run.specs.Answered.{ComesOn}
 use Rattle.store_run.specs.ApplyCauses.{Counted}
 use Rattle.store_run.proofs.AnsweredLines.{progress_at}
-use Rattle.store_run.proofs.journal.answer_pieces.Given as goal
+use Rattle.store_run.proofs.journal.store_pieces.Given as goal
 
 -- the answering has come on over the bytes that were taken
 abbrev pub invariant-pieces : goal.invariant-pieces

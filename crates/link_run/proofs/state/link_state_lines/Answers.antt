@@ -12,7 +12,7 @@ use Rattle.turn_link.specs.RightViews.{right_tree}
 use Rattle.turn_link.specs.LinkViews.{link_tree}
 use Rattle.link_run.specs.Answers.{numbers_line}
 use Rattle.link_run.proofs.ShownState.{shown_text, shown_fits}
-use Rattle.link_run.proofs.state.state_lines.Goals as goal
+use Rattle.link_run.proofs.state.link_state_lines.Goals as goal
 
 pub document_line-requires-clause-typed : goal.document_line-requires-clause-typed
 document_line-requires-clause-typed g c =

@@ -2,7 +2,7 @@ use Rattle.std.proofs.Common.{◌≡◌, ◌+◌, ◌≤◌, List, ◌++◌, len
 use Rattle.edit_journal.specs.declared.line.Line.{Line}
 use Rattle.store_run.specs.Answered.{Answers}
 use Rattle.store_run.specs.ApplyCauses.{Counted}
-use Rattle.store_run.proofs.journal.answer_lines.Given as goal
+use Rattle.store_run.proofs.journal.store_lines.Given as goal
 
 -- the lines that were taken are answered
 abbrev pub invariant-lines : goal.invariant-lines

@@ -1,7 +1,7 @@
 use Rattle.std.proofs.Common.{sym, ◌∙◌}
 use Rattle.store_run.proofs.AnsweredLines.{answers_blank}
 use Rattle.store_run.proofs.StoredPayloads.{images_held}
-use Rattle.store_run.proofs.journal.answer_line.Goals as goal
+use Rattle.store_run.proofs.journal.store_line.Goals as goal
 
 pub returns-then-is_blank-clause-answered : goal.returns-then-is_blank-clause-answered
 returns-then-is_blank-clause-answered g c =
