@@ -28,6 +28,8 @@ extern "C" {
 #define EDITLENS_LINE_FEED 8       /* a line feed is in the line, and nothing changed */
 #define EDITLENS_UNKNOWN_PART 9    /* the number is not one of what can be shown, and nothing changed */
 #define EDITLENS_FULL 10           /* no further item has a number, and nothing changed */
+#define EDITLENS_RECORDS_REFUSED 11 /* there is no session: the records of its log are refused, for the cause beside it */
+#define EDITLENS_NO_CHANGE 12      /* the part is one of the last change, and the last line was not one that was accepted; nothing changed */
 
 /* What editlens_session_show can show. */
 #define EDITLENS_STATE 0      /* the three lines `left JSON`, `right JSON` and `complement JSON` */
@@ -36,6 +38,10 @@ extern "C" {
 #define EDITLENS_RIGHT 3      /* the right document, as JSON */
 #define EDITLENS_LEFT_TYPE 4  /* the left type, in canonical text */
 #define EDITLENS_RIGHT_TYPE 5 /* the right type, in canonical text */
+#define EDITLENS_SNAPSHOT 6   /* a record for a log: a snapshot of the documents and the complement */
+#define EDITLENS_CHANGE 7     /* a record for a log: the change that the last line was, if it was accepted */
+#define EDITLENS_UNDO_LEFT 8  /* the word that takes the left document back over that change, as JSON */
+#define EDITLENS_UNDO_RIGHT 9 /* the word that takes the right document back over that change, as JSON */
 
 /* Why something is refused: the member `cause` of an answer. docs/FORMATS.md and docs/LANGUAGE.md say when each comes. */
 #define EDITLENS_NO_CAUSE 0
@@ -76,36 +82,56 @@ extern "C" {
 #define EDITLENS_NOT_RIGHT 43
 #define EDITLENS_NOT_CONSISTENT 44
 
+/* The records of a log (EDITLENS_RECORDS_REFUSED): `at` is the number, from 1, of the first record that is at fault. */
+#define EDITLENS_BAD_RECORD 51
+#define EDITLENS_RECORD_NOT_CONSISTENT 52
+
 struct editlens_answer {
     uint32_t status; /* how the call ended */
     uint32_t cause;  /* why something is refused, or 0 */
     uint64_t number; /* how many items the session was given */
     uint64_t part;   /* the number, from 0, of the entry of a group that does not apply, or 0 */
-    uint64_t at;     /* the number, from 0, of the first primitive that fails; or an offset in a program; or 0 */
+    uint64_t at;     /* the number, from 0, of the first primitive that fails; or an offset in a program; or the number of a record; or 0 */
     size_t len;      /* how many bytes the text has that answers the last call */
 };
 
 /* How many bytes a session takes. */
 size_t editlens_session_size(void);
 
-/* Puts the session over a program, or why there is none, into the memory at `at`. editlens_session_status says which. */
+/* Puts the session over a program, or why there is none, into the memory at `at`. editlens_session_status says which. The text is then the
+   first record of a log. */
 void editlens_session_open(void *at, const uint8_t *program, size_t program_len);
 
+/* The same for a session whose left document is given, as JSON; the right one is made. The second record of a log is a snapshot then. A text
+   that is not of a document of the left type is refused as a state is: EDITLENS_STATE_REFUSED with EDITLENS_NOT_LEFT. */
+void editlens_session_import_left(void *at, const uint8_t *program, size_t program_len, const uint8_t *document, size_t document_len);
+
+/* The same for the right document: EDITLENS_NOT_RIGHT. */
+void editlens_session_import_right(void *at, const uint8_t *program, size_t program_len, const uint8_t *document, size_t document_len);
+
 /* The same for a session that goes on from a state: the texts that editlens_session_show gave for EDITLENS_LEFT, EDITLENS_COMPLEMENT and
-   EDITLENS_RIGHT, or others. They are refused if they are not consistent. Items are numbered from 1 on. */
+   EDITLENS_RIGHT, or others. They are refused if they are not consistent. Items are numbered from 1 on. The second record of a log is a
+   snapshot then. */
 void editlens_session_resume(void *at, const uint8_t *program, size_t program_len, const uint8_t *left, size_t left_len,
                              const uint8_t *complement, size_t complement_len, const uint8_t *right, size_t right_len);
 
-/* EDITLENS_DONE if there is a session; else EDITLENS_PROGRAM_REFUSED, EDITLENS_STATE_REFUSED or EDITLENS_NO_SESSION. */
+/* The session for which the records of a log stand: the first record, and behind it changes and snapshots. A line feed ends each of them; no
+   record that the library makes has one in it. Items are numbered from 1 on. The text is empty; or it is the record that the log of an old
+   store has to get before any other. */
+void editlens_session_reopen(void *at, const uint8_t *records, size_t records_len);
+
+/* EDITLENS_DONE if there is a session; else EDITLENS_PROGRAM_REFUSED, EDITLENS_STATE_REFUSED, EDITLENS_RECORDS_REFUSED or
+   EDITLENS_NO_SESSION. */
 struct editlens_answer editlens_session_status(void *at);
 
 /* Gives a session a line of a journal, without its line feed. The text is then the answer line, with one. */
 struct editlens_answer editlens_session_step(void *at, const uint8_t *line, size_t line_len);
 
-/* Makes a part of the state the text. */
+/* Makes a part of the state or of the last change the text. */
 struct editlens_answer editlens_session_show(void *at, uint32_t part);
 
-/* Writes the text that answers the last call to the head of `out`: an answer line, what was shown, or the line of a program that is refused.
+/* Writes the text that answers the last call to the head of `out`: an answer line, what was shown, a record, or the line of a program that is
+   refused.
    EDITLENS_SMALL_BUFFER if it has more than `out_len` bytes; `len` then says how many are wanted. The text can be asked for again. */
 struct editlens_answer editlens_session_text(void *at, uint8_t *out, size_t out_len);
 

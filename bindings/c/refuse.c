@@ -37,7 +37,7 @@ void __wrap_free(void *block) {
 }
 
 enum { ROOM = 1 << 20 };
-static char script[ROOM], wanted[ROOM], found[ROOM], state[3][ROOM];
+static char script[ROOM], wanted[ROOM], found[ROOM], state[3][ROOM], logged[ROOM];
 static char room[8192] __attribute__((aligned(16)));
 static long refusals;
 
@@ -81,13 +81,38 @@ static void resume(const char *program, size_t len, const size_t *lens) {
     }
 }
 
-/* The report of the script, in which the request with this number is refused. In the middle the session is resumed from its own texts. */
+static void reopen(size_t len) {
+    for (;;) {
+        editlens_session_reopen(room, (const uint8_t *)logged, len);
+        if (editlens_session_status(room).status != EDITLENS_NO_SESSION) {
+            return;
+        }
+        refusals++;
+        editlens_session_close(room);
+    }
+}
+
+static void import(const char *program, size_t len, size_t right) {
+    for (;;) {
+        editlens_session_import_right(room, (const uint8_t *)program, len, (uint8_t *)state[2], right);
+        if (editlens_session_status(room).status != EDITLENS_NO_SESSION) {
+            return;
+        }
+        refusals++;
+        editlens_session_close(room);
+    }
+}
+
+/* The report of the script, in which the request with this number is refused. The session is then resumed from its own texts, reopened from its
+   log, and made from its right document. */
 static size_t report(char *out, long refused) {
     char *journal = strstr(script, "\n---\n");
-    size_t program = (size_t)(journal - script) + 1, len = 0, lens[3];
+    size_t program = (size_t)(journal - script) + 1, len = 0, lens[3], stored = 0;
     left = refused;
     asked = 0;
     open(script, program);
+    stored += text_to(logged);
+    logged[stored++] = '\n';
     for (char *line = journal + 5; *line != 0;) {
         char *feed = strchr(line, '\n');
         size_t size = feed == NULL ? strlen(line) : (size_t)(feed - line);
@@ -96,6 +121,11 @@ static size_t report(char *out, long refused) {
             refusals++;
         }
         len += text_to(out + len);
+        if (answer.status == EDITLENS_DONE) {
+            stored += show_to(logged + stored, EDITLENS_CHANGE);
+            logged[stored++] = '\n';
+            len += show_to(out + len, EDITLENS_UNDO_LEFT);
+        }
         line += size + (feed != NULL);
     }
     for (uint32_t part = EDITLENS_LEFT; part <= EDITLENS_RIGHT; part++) {
@@ -105,6 +135,13 @@ static size_t report(char *out, long refused) {
     len += show_to(out + len, EDITLENS_RIGHT_TYPE);
     editlens_session_close(room);
     resume(script, program, lens);
+    len += show_to(out + len, EDITLENS_STATE);
+    editlens_session_close(room);
+    reopen(stored);
+    len += show_to(out + len, EDITLENS_STATE);
+    len += show_to(out + len, EDITLENS_SNAPSHOT);
+    editlens_session_close(room);
+    import(script, program, lens[2]);
     len += show_to(out + len, EDITLENS_STATE);
     editlens_session_close(room);
     left = -1;

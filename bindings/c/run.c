@@ -1,7 +1,7 @@
 /* `editlens run` over the library, for tests: a script on the standard input, its report on the standard output, and the same status.
 
-   After each line the session is closed and resumed from its own texts if the word `resume` is given. Its items are then numbered from 1 on
-   again, so the number of each answer line is written anew. */
+   After each item the session is closed, and if the word `resume` is given it is resumed from its own texts; if the word `reopen` is given, from
+   its log. Its items are then numbered from 1 on again, so the number of each answer line is written anew. */
 #include "editlens.h"
 
 #include <stdio.h>
@@ -61,6 +61,44 @@ static void resume(void *session, const uint8_t *program, size_t len) {
     }
 }
 
+/* A log: the first record, and behind it that of each change that was accepted. Every tenth record is a snapshot. */
+static struct text log_of = {NULL, 0};
+static unsigned long records;
+
+static void store(struct text record) {
+    if (memchr(record.bytes, '\n', record.len) != NULL) {
+        exit(90);
+    }
+    log_of.bytes = realloc(log_of.bytes, log_of.len + record.len + 1);
+    if (log_of.bytes == NULL) {
+        exit(89);
+    }
+    memcpy(log_of.bytes + log_of.len, record.bytes, record.len);
+    log_of.bytes[log_of.len + record.len] = '\n';
+    log_of.len += record.len + 1;
+    free(record.bytes);
+    records++;
+}
+
+static void reopen(void *session, int accepted) {
+    if (accepted) {
+        store(shown(session, EDITLENS_CHANGE));
+        free(shown(session, EDITLENS_UNDO_LEFT).bytes);
+        free(shown(session, EDITLENS_UNDO_RIGHT).bytes);
+    } else if (editlens_session_show(session, EDITLENS_CHANGE).status != EDITLENS_NO_CHANGE) {
+        exit(88);
+    }
+    if (records % 10 == 9) {
+        store(shown(session, EDITLENS_SNAPSHOT));
+    }
+    editlens_session_close(session);
+    editlens_session_reopen(session, log_of.bytes, log_of.len);
+    struct editlens_answer answer = editlens_session_status(session);
+    if (answer.status != EDITLENS_DONE || answer.len != 0) {
+        exit(87);
+    }
+}
+
 /* Where the line `---` ends the program part; the end of the script if there is none. */
 static size_t end_of_program(const uint8_t *script, size_t len, size_t *journal) {
     for (size_t begin = 0; begin < len;) {
@@ -78,7 +116,7 @@ static size_t end_of_program(const uint8_t *script, size_t len, size_t *journal)
 }
 
 int main(int words, char **word) {
-    int resumes = words > 1 && strcmp(word[1], "resume") == 0, refused = 0;
+    int resumes = words > 1 && strcmp(word[1], "resume") == 0, reopens = words > 1 && strcmp(word[1], "reopen") == 0, refused = 0;
     size_t len = 0, room = 1 << 16, got, journal;
     uint8_t *script = malloc(room);
     while (script != NULL && (got = fread(script + len, 1, room - len, stdin)) > 0) {
@@ -98,6 +136,7 @@ int main(int words, char **word) {
         give(session);
     } else {
         unsigned long long number = 0;
+        store(taken(session));
         for (size_t begin = journal; begin < len;) {
             const uint8_t *feed = memchr(script + begin, '\n', len - begin);
             size_t end = feed == NULL ? len : (size_t)(feed - script);
@@ -108,12 +147,15 @@ int main(int words, char **word) {
             if (answer.status != EDITLENS_BLANK) {
                 number++;
                 refused |= answer.status == EDITLENS_REFUSED;
-                if (answer.number != (resumes ? 1 : number) || (answer.status == EDITLENS_REFUSED) != (answer.cause != EDITLENS_NO_CAUSE)) {
+                if (answer.number != (resumes || reopens ? 1 : number) || (answer.status == EDITLENS_REFUSED) != (answer.cause != EDITLENS_NO_CAUSE)) {
                     return 93;
                 }
                 if (resumes) {
                     give_numbered(session, number);
                     resume(session, script, program);
+                } else if (reopens) {
+                    give_numbered(session, number);
+                    reopen(session, answer.status == EDITLENS_DONE);
                 } else {
                     give(session);
                 }
@@ -128,5 +170,6 @@ int main(int words, char **word) {
     editlens_session_close(session);
     free(session);
     free(script);
+    free(log_of.bytes);
     return status == EDITLENS_DONE ? refused : status == EDITLENS_PROGRAM_REFUSED ? 3 : 91;
 }

@@ -70,18 +70,23 @@ static napi_value answered(napi_env env, struct held *held, struct editlens_answ
     return object;
 }
 
-/* open(program) or open(program, left, complement, right): the session, as a value that only this addon reads. */
+enum { OPEN, RESUME, IMPORT_LEFT, IMPORT_RIGHT, REOPEN, KINDS };
+
+/* open(0, program), open(1, program, left, complement, right), open(2, program, left), open(3, program, right) or open(4, records): the
+   session, as a value that only this addon reads. */
 static napi_value open_session(napi_env env, napi_callback_info info) {
-    size_t count = 4, lens[4];
+    static const size_t wanted[KINDS] = {1, 4, 2, 2, 1};
+    size_t count = 5, lens[4];
     const uint8_t *texts[4];
-    napi_value given[4], value;
+    uint32_t kind = KINDS;
+    napi_value given[5], value;
     napi_get_cb_info(env, info, &count, given, NULL, NULL);
-    if (count != 1 && count != 4) {
-        napi_throw_type_error(env, NULL, "one text or four are wanted");
+    if (count == 0 || napi_get_value_uint32(env, given[0], &kind) != napi_ok || kind >= KINDS || count != wanted[kind] + 1) {
+        napi_throw_type_error(env, NULL, "a kind of opening with its texts is wanted");
         return NULL;
     }
-    for (size_t i = 0; i < count; i++) {
-        if (!bytes_of(env, given[i], &texts[i], &lens[i])) {
+    for (size_t i = 0; i + 1 < count; i++) {
+        if (!bytes_of(env, given[i + 1], &texts[i], &lens[i])) {
             return NULL;
         }
     }
@@ -94,10 +99,12 @@ static napi_value open_session(napi_env env, napi_callback_info info) {
         return NULL;
     }
     held->session = session;
-    if (count == 1) {
-        editlens_session_open(session, texts[0], lens[0]);
-    } else {
-        editlens_session_resume(session, texts[0], lens[0], texts[1], lens[1], texts[2], lens[2], texts[3], lens[3]);
+    switch (kind) {
+    case OPEN: editlens_session_open(session, texts[0], lens[0]); break;
+    case RESUME: editlens_session_resume(session, texts[0], lens[0], texts[1], lens[1], texts[2], lens[2], texts[3], lens[3]); break;
+    case IMPORT_LEFT: editlens_session_import_left(session, texts[0], lens[0], texts[1], lens[1]); break;
+    case IMPORT_RIGHT: editlens_session_import_right(session, texts[0], lens[0], texts[1], lens[1]); break;
+    default: editlens_session_reopen(session, texts[0], lens[0]);
     }
     if (napi_create_external(env, held, finalize, NULL, &value) != napi_ok) {
         finalize(env, held, NULL);

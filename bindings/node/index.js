@@ -3,8 +3,9 @@
 
 const addon = require(process.env.EDITLENS_ADDON || './editlens.node');
 
-const STATUS = ['done', 'blank', 'refused', 'program-refused', 'state-refused', 'no-session', 'no-memory', 'small-buffer', 'line-feed', 'unknown-part', 'full'];
-const PARTS = {state: 0, left: 1, complement: 2, right: 3, leftType: 4, rightType: 5};
+const STATUS = ['done', 'blank', 'refused', 'program-refused', 'state-refused', 'no-session', 'no-memory', 'small-buffer', 'line-feed', 'unknown-part', 'full',
+  'records-refused', 'no-change'];
+const PARTS = {state: 0, left: 1, complement: 2, right: 3, leftType: 4, rightType: 5, snapshot: 6, change: 7, undoLeft: 8, undoRight: 9};
 
 /** A call that did not do what it was asked. `status` is a name, and `cause`, `part` and `at` are the numbers of editlens.h. */
 class EditlensError extends Error {
@@ -16,18 +17,35 @@ class EditlensError extends Error {
   }
 }
 
-/** Two documents that a lens keeps in step. `state` has the texts `left`, `complement` and `right` of a session before it. */
+/** How a session is opened: the number of the addon's call, and its texts. */
+function opening(program, state) {
+  if (state === undefined) return [0, program];
+  if (state.records) return [4, state.records.map((it) => it + '\n').join('')];
+  if (state.complement !== undefined) return [1, program, state.left, state.complement, state.right];
+  return state.left !== undefined ? [2, program, state.left] : [3, program, state.right];
+}
+
+/**
+ * Two documents that a lens keeps in step. `state` has the texts `left`, `complement` and `right` of a session before it; or `left` or `right`
+ * alone, and the other document is made. `opening` is the record that a log gets before any other.
+ */
 class Session {
   #held;
 
   constructor(program, state) {
-    const texts = state ? [program, state.left, state.complement, state.right] : [program];
-    this.#held = addon.open(...texts.map((it) => Buffer.from(it)));
+    const [kind, ...texts] = opening(program, state);
+    this.#held = addon.open(kind, ...texts.map((it) => Buffer.from(it)));
     const answer = addon.status(this.#held);
+    this.opening = answer.text.toString();
     if (answer.status !== 0) {
       this.close();
       throw new EditlensError(answer);
     }
+  }
+
+  /** The session for which the records of a log stand: `opening`, and behind it `change` after each line that was accepted, and snapshots. */
+  static reopen(records) {
+    return new Session('', {records});
   }
 
   /** Takes a line of a journal, without its line feed. Returns whether it was accepted, the answer line, and the numbers of a refusal. */
@@ -37,7 +55,10 @@ class Session {
     return {accepted: answer.status === 0, line: answer.text.toString(), cause: answer.cause, part: answer.part, at: answer.at};
   }
 
-  /** A part of the state: `state`, `left`, `complement`, `right`, `leftType` or `rightType`. */
+  /**
+   * A part of the state: `state`, `left`, `complement`, `right`, `leftType`, `rightType` or `snapshot`; or of the change that the last line was:
+   * `change`, `undoLeft` or `undoRight`.
+   */
   show(part) {
     const answer = addon.show(this.#held, PARTS[part] ?? 99);
     if (answer.status !== 0) throw new EditlensError(answer);

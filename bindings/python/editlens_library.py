@@ -16,9 +16,10 @@ import threading
 
 HERE = os.path.dirname(os.path.abspath(__file__))
 
-DONE, BLANK, REFUSED, PROGRAM_REFUSED, STATE_REFUSED, NO_SESSION, NO_MEMORY, SMALL_BUFFER, LINE_FEED, UNKNOWN_PART, FULL = range(11)
-STATE, LEFT, COMPLEMENT, RIGHT, LEFT_TYPE, RIGHT_TYPE = range(6)
+DONE, BLANK, REFUSED, PROGRAM_REFUSED, STATE_REFUSED, NO_SESSION, NO_MEMORY, SMALL_BUFFER, LINE_FEED, UNKNOWN_PART, FULL, RECORDS_REFUSED, NO_CHANGE = range(13)
+STATE, LEFT, COMPLEMENT, RIGHT, LEFT_TYPE, RIGHT_TYPE, SNAPSHOT, CHANGE, UNDO_LEFT, UNDO_RIGHT = range(10)
 NOT_LEFT, NOT_COMPLEMENT, NOT_RIGHT, NOT_CONSISTENT = range(41, 45)
+BAD_RECORD, RECORD_NOT_CONSISTENT = range(51, 53)
 
 STATE_FAULTS = {
     NOT_LEFT: "the left text is not the JSON of a left document",
@@ -26,6 +27,8 @@ STATE_FAULTS = {
     NOT_RIGHT: "the right text is not the JSON of a right document",
     NOT_CONSISTENT: "the documents and the complement are not consistent",
 }
+
+RECORD_FAULTS = {BAD_RECORD: "record {} is not one that may stand there", RECORD_NOT_CONSISTENT: "record {} is a snapshot that is not consistent"}
 
 
 class Answer(ctypes.Structure):
@@ -49,10 +52,12 @@ class NoLibrary(Exception):
 
 
 class Unopened(Exception):
-    """There is no session: the program is refused (`line` says why), or the state is (`cause`), or neither, where `line` is empty."""
+    """There is no session: the program is refused (`line` says why), or the state is (`cause`), or the records are (`cause`, and `at` is the
+    number of the record), or none of these, where memory ran out."""
 
     def __init__(self, answer, line):
-        super().__init__(line.decode().rstrip("\n") or STATE_FAULTS.get(answer.cause, "memory ran out"))
+        faults = {**STATE_FAULTS, **{cause: text.format(answer.at) for cause, text in RECORD_FAULTS.items()}}
+        super().__init__(line.decode().rstrip("\n") or faults.get(answer.cause, "memory ran out"))
         self.status, self.cause, self.at, self.line = answer.status, answer.cause, answer.at, line
 
 
@@ -78,7 +83,10 @@ def load(path=None):
         for name, given, answer in (
             ("size", [], size),
             ("open", [at, text, size], None),
+            ("import_left", [at, *[text, size] * 2], None),
+            ("import_right", [at, *[text, size] * 2], None),
             ("resume", [at, *[text, size] * 4], None),
+            ("reopen", [at, text, size], None),
             ("status", [at], Answer),
             ("step", [at, text, size], Answer),
             ("show", [at, ctypes.c_uint32], Answer),
@@ -92,24 +100,39 @@ def load(path=None):
 
 
 class Kept:
-    """A session over bytes. `state` is None, or the texts of a left document, a complement and a right document. Raises Unopened."""
+    """A session over bytes. Raises Unopened.
 
-    def __init__(self, program, state=None, path=None):
+    `state` is None, or the texts of a left document, a complement and a right document. In place of it `left` or `right` is the text of one
+    document, and the other one is made. `records` are those of a log, in place of a program. `opening` is the record that a log gets before any
+    other; it is empty if `records` are given, but for the log of an old store.
+    """
+
+    def __init__(self, program=None, state=None, path=None, *, left=None, right=None, records=None):
+        if sum(it is not None for it in (state, left, right, records)) > 1 or (program is None) == (records is None):
+            raise TypeError("a program, with a state or one document or neither, is wanted; or the records of a log")
         self.library, self.thread, self.at = load(path), threading.get_ident(), None
         size = self.library.editlens_session_size()
         self.room = ctypes.create_string_buffer(size + 15)
         self.buffer = ctypes.create_string_buffer(4096)
         at = (ctypes.addressof(self.room) + 15) & ~15
-        if state is None:
-            self.library.editlens_session_open(at, program, len(program))
-        else:
+        if records is not None:
+            log = b"".join(it + b"\n" for it in records)
+            self.library.editlens_session_reopen(at, log, len(log))
+        elif state is not None:
             self.library.editlens_session_resume(at, program, len(program), *[it for text in state for it in (text, len(text))])
+        elif left is not None:
+            self.library.editlens_session_import_left(at, program, len(program), left, len(left))
+        elif right is not None:
+            self.library.editlens_session_import_right(at, program, len(program), right, len(right))
+        else:
+            self.library.editlens_session_open(at, program, len(program))
         self.at = at
         answer = self.library.editlens_session_status(at)
         if answer.status != DONE:
             line = self.text()
             self.close()
             raise Unopened(answer, line)
+        self.opening = self.text()
 
     def __enter__(self):
         return self
@@ -139,7 +162,8 @@ class Kept:
         return self.answered(answer), self.text()
 
     def show(self, part):
-        """The bytes of a part of the state: STATE, LEFT, COMPLEMENT, RIGHT, LEFT_TYPE or RIGHT_TYPE."""
+        """The bytes of a part of the state: STATE, LEFT, COMPLEMENT, RIGHT, LEFT_TYPE, RIGHT_TYPE or SNAPSHOT, which is a record for a log. Or of
+        the change that the last line was: CHANGE, which is a record for a log, UNDO_LEFT or UNDO_RIGHT. ValueError if it was not accepted."""
         self.answered(self.library.editlens_session_show(self.here(), part))
         return self.text()
 
@@ -157,7 +181,12 @@ class Kept:
         if answer.status == NO_MEMORY:
             raise MemoryError("memory ran out, and the session is as before")
         if answer.status > REFUSED:
-            reasons = {LINE_FEED: "a line feed is in the line", UNKNOWN_PART: "this is not a part of the state", FULL: "no further item has a number"}
+            reasons = {
+                LINE_FEED: "a line feed is in the line",
+                UNKNOWN_PART: "this is not a part of the state",
+                FULL: "no further item has a number",
+                NO_CHANGE: "the last line was not a change that was accepted",
+            }
             raise ValueError(reasons[answer.status])
         return answer
 

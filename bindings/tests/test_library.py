@@ -71,7 +71,7 @@ class OverBytes(unittest.TestCase):
             with self.assertRaises(ValueError):
                 kept.step(b"a\nb")
             with self.assertRaises(ValueError):
-                kept.show(6)
+                kept.show(99)
             self.assertEqual(kept.items, 1)
         with self.assertRaises(ValueError):
             kept.step(b"{}")
@@ -100,6 +100,60 @@ class OverBytes(unittest.TestCase):
         ):
             with self.assertRaises(library.Unopened) as caught:
                 library.Kept(SMALL.encode(), texts)
+            self.assertEqual((caught.exception.status, caught.exception.cause), (library.STATE_REFUSED, cause))
+
+    def test_a_log_is_reopened(self):
+        with library.Kept(SMALL.encode()) as kept:
+            records = [kept.opening]
+            self.assertEqual(json.loads(kept.opening), {"program": SMALL.rstrip("\n"), "version": 2})
+            for line in (
+                b'{"side":"left","edit":[{"at":["hours",[{"set":8}]]}]}',
+                b'{"side":"left","edit":[{"at":["none",[]]}]}',
+                b"",
+                b'{"group":[{"side":"right","edit":[{"at":["time",[{"add":1}]]}]},{"side":"left","edit":[{"at":["done",[{"set":true}]]}]}]}',
+            ):
+                if kept.step(line)[0].status == library.DONE:
+                    records.append(kept.show(library.CHANGE))
+                else:
+                    with self.assertRaises(ValueError):
+                        kept.show(library.CHANGE)
+            self.assertEqual(len(records), 3)
+            self.assertEqual(json.loads(kept.show(library.UNDO_LEFT)), [{"at": ["done", [{"set": False}]]}, {"at": ["hours", [{"set": 8}]]}])
+            self.assertEqual(json.loads(kept.show(library.UNDO_RIGHT)), [{"at": ["time", [{"set": 8}]]}])
+            shown, snapshot = kept.show(library.STATE), kept.show(library.SNAPSHOT)
+        for log in (records, [*records, snapshot], [records[0], snapshot]):
+            with library.Kept(records=log) as kept:
+                self.assertEqual((kept.show(library.STATE), kept.opening, kept.items), (shown, b"", 0))
+        with library.Kept(records=[b'{"program":"main id int"}']) as kept:
+            self.assertEqual(kept.opening, b'{"version":2}')
+        wrong = snapshot.replace(b'"hours":9', b'"hours":7')
+        for log, cause, at in (
+            ([], library.BAD_RECORD, 1),
+            ([b"{}"], library.BAD_RECORD, 1),
+            ([*records[:2], b"{}", wrong], library.BAD_RECORD, 3),
+            ([*records, wrong, b"{}"], library.RECORD_NOT_CONSISTENT, 4),
+        ):
+            with self.assertRaises(library.Unopened) as caught:
+                library.Kept(records=log)
+            self.assertEqual((caught.exception.status, caught.exception.cause, caught.exception.at), (library.RECORDS_REFUSED, cause, at))
+
+    def test_records_are_those_of_a_store(self):
+        # (what a store's commands store, of the same program and lines)
+        with library.Kept(SMALL.encode()) as kept:
+            kept.step(b' {"edit" : [{"at":["hours",[{"set":8}]]}], "side" : "left"} ')
+            self.assertEqual(kept.show(library.CHANGE), b'{"entry":{"edit":[{"at":["hours",[{"set":8}]]}],"side":"left"}}')
+
+    def test_one_document_is_given(self):
+        with library.Kept(SMALL.encode(), right=b'{"time":8}') as kept:
+            self.assertEqual((kept.show(library.LEFT), kept.items), (b'{"done":false,"hours":8}', 0))
+            log, shown = [kept.opening, kept.show(library.SNAPSHOT)], kept.show(library.STATE)
+        with library.Kept(records=log) as kept:
+            self.assertEqual(kept.show(library.STATE), shown)
+        with library.Kept(SMALL.encode(), left=b'{"done":true,"hours":8}') as kept:
+            self.assertEqual(kept.show(library.RIGHT), b'{"time":8}')
+        for given, cause in (({"left": b'{"time":8}'}, library.NOT_LEFT), ({"right": b'{"done":true,"hours":8}'}, library.NOT_RIGHT)):
+            with self.assertRaises(library.Unopened) as caught:
+                library.Kept(SMALL.encode(), **given)
             self.assertEqual((caught.exception.status, caught.exception.cause), (library.STATE_REFUSED, cause))
 
     def test_a_session_stays_on_its_thread(self):

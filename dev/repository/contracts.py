@@ -9,9 +9,9 @@ from . import TOP, read_lines
 
 HEAD = re.compile(r"^(?P<indent> *)(?P<pub>pub )?(?:const )?fn (?P<name>\w+)")
 CLAUSE = re.compile(r"^\s*(requires|ensures)\b *(\w*) *(\{.*)$")
-# The groups of crates.txt whose crates are no libraries, and the crates of the program's group that have no call.
+# The groups of crates.txt whose crates are no libraries, and the crate of the program's group that has no call.
 OTHER_GROUPS = ("Tests.", "Measurements.")
-PROGRAMS = ("editlens", "generated_lines")
+PROGRAMS = ("editlens",)
 
 
 @dataclass

@@ -1,13 +1,13 @@
-"""Writes what generated_lines prints: the summary of a journal that the program makes itself, by the rule of docs/FORMATS.md."""
+"""Writes cases of the command `gen`: the summary of a journal that the program makes itself, by the rule of docs/FORMATS.md."""
 
-import os
-
-from .. import TOP
 from ..generated import lines_of_summary
+from ..steps import write_step
+
+# How many entries, and the seed: the smallest counts, the ends of both ranges, and counts between.
+RUNS = [(1, 0), (2, 1), (17, 3), (100, 2**33), (2000, 7), (2500, 2**64 - 1), (10000, 0), (10000, 2**64 - 1)]
 
 
 def files():
-    """The output of the program for the words in its file of arguments."""
-    with open(os.path.join(TOP, "crates", "generated_lines", "args"), encoding="utf-8") as words:
-        _, count, seed = words.read().split()
-    yield "generated_lines/stdout", lines_of_summary(int(count), int(seed)).encode()
+    """The file of cases."""
+    runs = ((["gen", str(count), str(seed)], lines_of_summary(count, seed)) for count, seed in RUNS)
+    yield "case_commands/data/generated.cases", b"".join(write_step(words, 0, b"", wanted.encode()) for words, wanted in runs)

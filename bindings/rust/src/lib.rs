@@ -53,6 +53,22 @@ pub enum StateFault {
     NotConsistent,
 }
 
+/// A side of a lens.
+#[derive(Clone, Copy, Debug, PartialEq, Eq, Hash)]
+pub enum Side {
+    Left,
+    Right,
+}
+
+/// Why the records of a log are refused, with the number, from 1, of the first record that is at fault.
+#[derive(Clone, Copy, Debug, PartialEq, Eq, Hash)]
+pub enum RecordFault {
+    /// The record is not one that may stand there.
+    BadRecord(u64),
+    /// The record is a snapshot whose documents and complement are not consistent.
+    NotConsistent(u64),
+}
+
 /// The answer to a line.
 #[derive(Clone, Debug, PartialEq, Eq)]
 pub enum Answer {
@@ -89,6 +105,10 @@ pub enum Error {
     ProgramRefused { line: String, cause: u32, at: u64 },
     /// The texts of the state are refused.
     StateRefused(StateFault),
+    /// The records of the log are refused.
+    RecordsRefused(RecordFault),
+    /// The last line was not a change that was accepted. Nothing changed.
+    NoChange,
     /// A line feed is in the line. Nothing changed.
     LineFeed,
     /// Memory ran out. The session is as before.
@@ -105,6 +125,9 @@ impl fmt::Display for Error {
             Error::StateRefused(StateFault::NotComplement) => out.write_str("the text of the complement is not the JSON of one"),
             Error::StateRefused(StateFault::NotRight) => out.write_str("the right text is not the JSON of a right document"),
             Error::StateRefused(StateFault::NotConsistent) => out.write_str("the documents and the complement are not consistent"),
+            Error::RecordsRefused(RecordFault::BadRecord(number)) => write!(out, "record {number} is not one that may stand there"),
+            Error::RecordsRefused(RecordFault::NotConsistent(number)) => write!(out, "record {number} is a snapshot that is not consistent"),
+            Error::NoChange => out.write_str("the last line was not a change that was accepted"),
             Error::LineFeed => out.write_str("a line feed is in the line"),
             Error::NoMemory => out.write_str("memory ran out"),
             Error::Full => out.write_str("no further item has a number"),
@@ -119,12 +142,34 @@ pub struct Session {
     // A pointer, so that the session is not `Send` and not `Sync`.
     at: NonNull<u8>,
     layout: Layout,
+    opening: String,
 }
 
 impl Session {
     /// A session over a program, with its initial documents.
     pub fn open(program: &str) -> Result<Session, Error> {
         Session::made(|at| unsafe { raw::editlens_session_open(at, program.as_ptr(), program.len()) })
+    }
+
+    /// A session over a program of which one document is given, as JSON; the other one is made. A log begins with
+    /// [`Session::opening`] and [`Session::snapshot`] then.
+    pub fn import(program: &str, side: Side, document: &str) -> Result<Session, Error> {
+        let import = match side {
+            Side::Left => raw::editlens_session_import_left,
+            Side::Right => raw::editlens_session_import_right,
+        };
+        Session::made(|at| unsafe { import(at, program.as_ptr(), program.len(), document.as_ptr(), document.len()) })
+    }
+
+    /// The session for which the records of a log stand: [`Session::opening`], and behind it [`Session::change`] after each line that was
+    /// accepted, and snapshots where they are wanted.
+    pub fn reopen<R: AsRef<str>>(records: impl IntoIterator<Item = R>) -> Result<Session, Error> {
+        let mut text = String::new();
+        for record in records {
+            text.push_str(record.as_ref());
+            text.push('\n');
+        }
+        Session::made(|at| unsafe { raw::editlens_session_reopen(at, text.as_ptr(), text.len()) })
     }
 
     /// A session that goes on from a state: what [`Session::left`], [`Session::complement`] and [`Session::right`] returned.
@@ -148,12 +193,13 @@ impl Session {
         let layout = Layout::from_size_align(unsafe { raw::editlens_session_size() }, 16).unwrap();
         let Some(at) = NonNull::new(unsafe { alloc(layout) }) else { handle_alloc_error(layout) };
         open(at.as_ptr());
-        let mut session = Session { at, layout };
+        let mut session = Session { at, layout, opening: String::new() };
         let answer = unsafe { raw::editlens_session_status(session.at.as_ptr()) };
-        match answer.status {
-            raw::DONE => Ok(session),
-            _ => Err(session.error(answer)),
+        if answer.status != raw::DONE {
+            return Err(session.error(answer));
         }
+        session.opening = session.text();
+        Ok(session)
     }
 
     /// Takes a line of a journal, without its line feed.
@@ -197,6 +243,30 @@ impl Session {
         self.shown(raw::RIGHT_TYPE)
     }
 
+    /// The record that a log gets before any other: that of the program. After [`Session::reopen`] it is empty. But if the log
+    /// is that of an old store, it is the record of the version, which the log still needs.
+    pub fn opening(&self) -> &str {
+        &self.opening
+    }
+
+    /// A record for a log: a snapshot of the documents and the complement.
+    pub fn snapshot(&mut self) -> Result<String, Error> {
+        self.shown(raw::SNAPSHOT)
+    }
+
+    /// A record for a log: the change that the last line was. [`Error::NoChange`] if it was not accepted.
+    pub fn change(&mut self) -> Result<String, Error> {
+        self.shown(raw::CHANGE)
+    }
+
+    /// The word that takes the document of a side back over the change that the last line was, as JSON.
+    pub fn undo(&mut self, side: Side) -> Result<String, Error> {
+        self.shown(match side {
+            Side::Left => raw::UNDO_LEFT,
+            Side::Right => raw::UNDO_RIGHT,
+        })
+    }
+
     /// How many items the session was given.
     pub fn items(&self) -> u64 {
         unsafe { raw::editlens_session_status(self.at.as_ptr()) }.number
@@ -226,6 +296,11 @@ impl Session {
                 raw::NOT_RIGHT => StateFault::NotRight,
                 _ => StateFault::NotConsistent,
             }),
+            raw::RECORDS_REFUSED => Error::RecordsRefused(match answer.cause {
+                raw::BAD_RECORD => RecordFault::BadRecord(answer.at),
+                _ => RecordFault::NotConsistent(answer.at),
+            }),
+            raw::NO_CHANGE => Error::NoChange,
             raw::LINE_FEED => Error::LineFeed,
             raw::FULL => Error::Full,
             _ => Error::NoMemory,

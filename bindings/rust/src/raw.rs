@@ -18,6 +18,8 @@ pub const PROGRAM_REFUSED: u32 = 3;
 pub const STATE_REFUSED: u32 = 4;
 pub const LINE_FEED: u32 = 8;
 pub const FULL: u32 = 10;
+pub const RECORDS_REFUSED: u32 = 11;
+pub const NO_CHANGE: u32 = 12;
 
 pub const STATE: u32 = 0;
 pub const LEFT: u32 = 1;
@@ -25,6 +27,10 @@ pub const COMPLEMENT: u32 = 2;
 pub const RIGHT: u32 = 3;
 pub const LEFT_TYPE: u32 = 4;
 pub const RIGHT_TYPE: u32 = 5;
+pub const SNAPSHOT: u32 = 6;
+pub const CHANGE: u32 = 7;
+pub const UNDO_LEFT: u32 = 8;
+pub const UNDO_RIGHT: u32 = 9;
 
 pub const KIND: u32 = 1;
 pub const PLACE: u32 = 2;
@@ -43,9 +49,13 @@ pub const NOT_LEFT: u32 = 41;
 pub const NOT_COMPLEMENT: u32 = 42;
 pub const NOT_RIGHT: u32 = 43;
 
+pub const BAD_RECORD: u32 = 51;
+
 extern "C" {
     pub fn editlens_session_size() -> usize;
     pub fn editlens_session_open(at: *mut u8, program: *const u8, program_len: usize);
+    pub fn editlens_session_import_left(at: *mut u8, program: *const u8, program_len: usize, document: *const u8, document_len: usize);
+    pub fn editlens_session_import_right(at: *mut u8, program: *const u8, program_len: usize, document: *const u8, document_len: usize);
     pub fn editlens_session_resume(
         at: *mut u8,
         program: *const u8,
@@ -57,6 +67,7 @@ extern "C" {
         right: *const u8,
         right_len: usize,
     );
+    pub fn editlens_session_reopen(at: *mut u8, records: *const u8, records_len: usize);
     pub fn editlens_session_status(at: *mut u8) -> Answer;
     pub fn editlens_session_step(at: *mut u8, line: *const u8, line_len: usize) -> Answer;
     pub fn editlens_session_show(at: *mut u8, part: u32) -> Answer;

@@ -1,5 +1,5 @@
 //! The example of the tasks, sessions in threads, refusals, and cases of whole runs against their stored answers.
-use editlens::{Answer, Cause, Error, Session, StateFault};
+use editlens::{Answer, Cause, Error, RecordFault, Session, Side, StateFault};
 use std::path::{Path, PathBuf};
 
 const SMALL: &str = "main {hours ~ time: id int, left done: bool}\n";
@@ -94,6 +94,49 @@ fn a_state_is_resumed_if_it_is_consistent() {
     assert_eq!(refused("{}", &comp, &right), Error::StateRefused(StateFault::NotLeft));
     assert_eq!(refused(&left, "7", &right), Error::StateRefused(StateFault::NotComplement));
     assert_eq!(refused(&left, &comp, "not JSON"), Error::StateRefused(StateFault::NotRight));
+}
+
+#[test]
+fn a_log_is_reopened() {
+    let mut session = Session::open(SMALL).unwrap();
+    let mut records = vec![session.opening().to_string()];
+    assert_eq!(records[0], r#"{"program":"main {hours ~ time: id int, left done: bool}","version":2}"#);
+    assert_eq!(session.change(), Err(Error::NoChange));
+    for line in [
+        r#"{"side":"left","edit":[{"at":["hours",[{"set":8}]]}]}"#,
+        r#"{"side":"left","edit":[{"at":["none",[]]}]}"#,
+        r#"{"group":[{"side":"right","edit":[{"at":["time",[{"add":1}]]}]},{"side":"left","edit":[{"at":["done",[{"set":true}]]}]}]}"#,
+    ] {
+        match session.step(line).unwrap() {
+            Answer::Accepted { .. } => records.push(session.change().unwrap()),
+            _ => assert_eq!(session.change(), Err(Error::NoChange)),
+        }
+    }
+    assert_eq!(records.len(), 3);
+    assert_eq!(session.undo(Side::Right).unwrap(), r#"[{"at":["time",[{"set":8}]]}]"#);
+    let mut again = Session::reopen(&records).unwrap();
+    assert_eq!((again.state(), again.opening(), again.items()), (session.state(), "", 0));
+    records.push(again.snapshot().unwrap());
+    assert_eq!(Session::reopen(&records).unwrap().state(), session.state());
+    let refused = |records: &[String]| Session::reopen(records).map(|_| ()).unwrap_err();
+    assert_eq!(refused(&[]), Error::RecordsRefused(RecordFault::BadRecord(1)));
+    records.insert(2, "{}".into());
+    assert_eq!(refused(&records), Error::RecordsRefused(RecordFault::BadRecord(3)));
+    records[2] = records.pop().unwrap().replace("\"hours\":9", "\"hours\":7");
+    assert_eq!(refused(&records), Error::RecordsRefused(RecordFault::NotConsistent(3)));
+}
+
+#[test]
+fn one_document_is_given() {
+    let mut session = Session::import(SMALL, Side::Right, r#"{"time":8}"#).unwrap();
+    assert_eq!((session.left().unwrap().as_str(), session.items()), (r#"{"done":false,"hours":8}"#, 0));
+    let records = [session.opening().to_string(), session.snapshot().unwrap()];
+    assert_eq!(Session::reopen(&records).unwrap().state(), session.state());
+    let mut session = Session::import(SMALL, Side::Left, r#"{"done":true,"hours":8}"#).unwrap();
+    assert_eq!(session.right().unwrap(), r#"{"time":8}"#);
+    let refused = |side| Session::import(SMALL, side, "{}").map(|_| ()).unwrap_err();
+    assert_eq!(refused(Side::Left), Error::StateRefused(StateFault::NotLeft));
+    assert_eq!(refused(Side::Right), Error::StateRefused(StateFault::NotRight));
 }
 
 #[test]

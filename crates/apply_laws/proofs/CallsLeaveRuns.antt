@@ -135,7 +135,7 @@ module _ {S K D : Type 0} (source : OfSource.Ghosts S) (sink : OfSink.Ghosts K) 
     abbrev again : Store disk old.2
     again = record { bytes = image; told = told; payloads = between.payloads; holds = holds; state = between.state; version = between.version; stands = between.stands }
 
-    goes_on : ContinuesRun source sink disk old new status before between items first.journal
+    goes_on : ContinuesRun source sink disk old new status first
     goes_on = record {
       leaves = λ c is. elim (leaves_run source sink disk old new status again second c is) [
         | inl unopened ↦ inl unopened
@@ -152,14 +152,14 @@ module _ {S K D : Type 0} (source : OfSource.Ghosts S) (sink : OfSink.Ghosts K) 
     start = parts_of disk old1.2 store
 
     pub goes_on_from_image : disk.images new1.2 image → StaysUnopened source sink disk old1 new1 status1 image
-        ⊎ ((left : LeavesRun source sink disk old1 new1 start image) × ContinuesRun source sink disk old2 new2 status2 start left.after (items_of left.lines) left.run.journal)
+        ⊎ ((left : LeavesRun source sink disk old1 new1 start image) × ContinuesRun source sink disk old2 new2 status2 left.run)
     goes_on_from_image is = elim (leaves_run source sink disk old1 new1 status1 store first image is) [
       | inl unopened ↦ inl unopened
       | inr left ↦ inr (left, goes_on old2 new2 status2 start left.after (items_of left.lines) left.run image left.holds told second)
     ]
 
     pub goes_on_from_end : IsFinished status1 → disk.content new1.2 ≡ Some image
-        → (left : FinishesRun source sink disk old1 new1 start) × ContinuesRun source sink disk old2 new2 status2 start left.after (items_of (lines_of left.bytes)) left.run.journal
+        → (left : FinishesRun source sink disk old1 new1 start) × ContinuesRun source sink disk old2 new2 status2 left.run
     goes_on_from_end h is =
         let left = finishes_run source sink disk old1 new1 status1 store first h in
         let holds : HoldsPayloads left.after.payloads image = subst (λ o. IfSome o (HoldsPayloads left.after.payloads)) is left.holds in

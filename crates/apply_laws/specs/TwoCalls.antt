@@ -4,10 +4,9 @@ use Rattle.command_ends.specs.Statuses.{IsFinished}
 use Rattle.std.specs.Prelude.{◌≡◌, ◌⊎◌, ℕ, ◌+◌, ◌≤◌, List, ◌++◌, length, None, IfSome}
 use Rattle.edit_journal.specs.Pieces.{lines_of}
 use Rattle.edit_journal.specs.declared.line.Line.{Line}
-use Rattle.edit_session.specs.Step.{TripleTree}
 use Rattle.gate_log.specs.LogOnDisk.{HoldsPayloads}
 use Rattle.pair_answers.specs.Answers.{text_from}
-use Rattle.pair_answers.specs.ItemRuns.{JournalItem, JournalAnswer, items_of}
+use Rattle.pair_answers.specs.ItemRuns.{JournalItem, items_of}
 use Rattle.lens_io.specs.Calls.{Took, IsRead, Gave}
 use Rattle.lens_io.specs.declared.disk.Disk as OfDisk
 use Rattle.lens_io.specs.declared.sink.Sink as OfSink
@@ -68,15 +67,15 @@ module _ {S K D : Type 0} (source : OfSource.Ghosts S) (sink : OfSink.Ghosts K) 
     pub unopened : Unopened source sink disk old new status
     pub was : disk.images old.2 image
 
-  -- A first call over the store `before` left the store `between`, by these items and steps. A second call over
+  -- A first call made this run, over these items from the store `before` to the store `between`. A second call over
   -- `between` goes on from there: the two are one run.
-  pub record ContinuesRun (old new : S × K × D) (status : Status) (before between : StoreParts)
-      (items : List JournalItem) (steps : List (TripleTree × JournalAnswer)) : Type 0 where
+  pub record ContinuesRun {before between : StoreParts} {items : List JournalItem} (old new : S × K × D)
+      (status : Status) (first : HoldsRun before items between) : Type 0 where
     -- An image that the second call may leave is a store, which one run over the accepted changes of both makes of the
     -- store `before`. Or it was possible before the second call, which could not open the store.
     pub leaves : (image : List ℕ) → disk.images new.2 image → StaysUnopened old new status image
         ⊎ ((second : LeavesRun old new between image)
-        × AreOneRun before items steps (items_of second.lines) second.run.journal second.after)
+        × AreOneRun before items first.journal (items_of second.lines) second.run.journal second.after)
     -- if the second call came to its end, its answers and its last state are those of that one run
     pub finishes : IsFinished status → (second : FinishesRun old new between)
-        × AreOneRun before items steps (items_of (lines_of second.bytes)) second.run.journal second.after
+        × AreOneRun before items first.journal (items_of (lines_of second.bytes)) second.run.journal second.after

@@ -9,7 +9,7 @@ ghost use Rattle.command_ends.specs.Statuses.{IsFinished};
 ghost use Rattle.std.specs.Prelude.{◌≡◌, ◌⊎◌, ℕ, ◌++◌, List, Some};
 ghost use Rattle.edit_journal.specs.Pieces.{lines_of};
 ghost use Rattle.edit_session.specs.Step.{TripleTree};
-ghost use Rattle.pair_answers.specs.ItemRuns.{JournalItem, JournalAnswer, items_of, run_from};
+ghost use Rattle.pair_answers.specs.ItemRuns.{JournalItem, JournalAnswer, run_from};
 ghost use Rattle.lens_forms.specs.Forms.{FormTree};
 ghost use Rattle.editlens_main.specs.Applies.{Applies};
 ghost use Rattle.editlens_main.specs.Stores.{Store};
@@ -74,16 +74,14 @@ pub fn two_calls_are_one_run<S: Source, K: Sink, D: Disk>()
         → Applies S.Source K.Sink D.Disk old2 new2 status2 → D.Disk.content old2.2 ≡ Some image
         → StaysUnopened S.Source K.Sink D.Disk old1 new1 status1 image
         ⊎ ((first : LeavesRun S.Source K.Sink D.Disk old1 new1 (parts_of D.Disk old1.2 store) image)
-        × ContinuesRun S.Source K.Sink D.Disk old2 new2 status2 (parts_of D.Disk old1.2 store) first.after
-        (items_of first.lines) first.run.journal) }
+        × ContinuesRun S.Source K.Sink D.Disk old2 new2 status2 first.run) }
     ensures finished { (old1 new1 old2 new2 : S × K × D) (status1 status2 : Status)
         (store : Store D.Disk old1.2) (image : List ℕ)
         → Applies S.Source K.Sink D.Disk old1 new1 status1 → IsFinished status1
         → D.Disk.content new1.2 ≡ Some image
         → Applies S.Source K.Sink D.Disk old2 new2 status2 → D.Disk.content old2.2 ≡ Some image
         → (first : FinishesRun S.Source K.Sink D.Disk old1 new1 (parts_of D.Disk old1.2 store))
-        × ContinuesRun S.Source K.Sink D.Disk old2 new2 status2 (parts_of D.Disk old1.2 store) first.after
-        (items_of (lines_of first.bytes)) first.run.journal }
+        × ContinuesRun S.Source K.Sink D.Disk old2 new2 status2 first.run }
 {}
 
 /// A journal that is cut between lines and applied in two calls comes to what one call over the complete journal

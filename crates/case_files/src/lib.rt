@@ -1,8 +1,11 @@
-//! The steps of files of cases, for the programs that run them. reference/CASES.md has the form of a file.
+//! Files of cases, for the programs that run them: of commands, step by step, and of one case a line. reference/CASES.md
+//! has the form of each.
 #![tactic(auto)]
 
 mod head;
+mod rows;
 mod step;
 
 pub use crate::head::{Head, Lengths};
+pub use crate::rows::{CaseLine, compare_files};
 pub use crate::step::{Step, read_step};

@@ -9,6 +9,7 @@ use Rattle.kept_sessions.specs.declared.outcome.Outcome.{Outcome}
 use Rattle.kept_sessions.specs.declared.outcome.Outcome.TheVariants as outcome
 use Rattle.kept_sessions.specs.declared.outcome.Part.{Part}
 use Rattle.kept_sessions.specs.declared.outcome.Part.TheVariants.{State, Left, Complement, Right, LeftType, RightType}
+use Rattle.kept_sessions.specs.declared.outcome.Part.TheVariants.{Snapshot, Change, UndoLeft, UndoRight}
 use Rattle.editlens_c.specs.declared.answer.Answer.{Answer}
 use Rattle.editlens_c.specs.declared.codes.TheConstants as code
 use Rattle.editlens_c.specs.declared.reasons.Reason.{Reason}
@@ -18,6 +19,7 @@ abbrev pub closed_status : Kept → ℕ
 closed_status (kept.Open r) = code.DONE
 closed_status (kept.Refused refused line) = code.PROGRAM_REFUSED
 closed_status (kept.StateRefused fault) = code.STATE_REFUSED
+closed_status (kept.RecordsRefused fault) = code.RECORDS_REFUSED
 closed_status kept.NoMemory = code.NO_SESSION
 
 abbrev pub status_of : Outcome → Kept → ℕ
@@ -27,6 +29,7 @@ status_of (outcome.NoApply part at cause) k = code.REFUSED
 status_of (outcome.NotAChange fault) k = code.REFUSED
 status_of outcome.LineFeed k = code.LINE_FEED
 status_of outcome.Full k = code.FULL
+status_of outcome.NoChange k = code.NO_CHANGE
 status_of outcome.NoMemory k = code.NO_MEMORY
 status_of outcome.NoSession k = closed_status k
 
@@ -35,6 +38,7 @@ abbrev pub number_of : Kept → ℕ
 number_of (kept.Open r) = r.number
 number_of (kept.Refused refused line) = 0
 number_of (kept.StateRefused fault) = 0
+number_of (kept.RecordsRefused fault) = 0
 number_of kept.NoMemory = 0
 
 -- the answer has this status and this reason, the number of items of what is kept, and the length of its text
@@ -54,6 +58,10 @@ part_of n = if n == code.STATE then Some State
     else if n == code.RIGHT then Some Right
     else if n == code.LEFT_TYPE then Some LeftType
     else if n == code.RIGHT_TYPE then Some RightType
+    else if n == code.SNAPSHOT then Some Snapshot
+    else if n == code.CHANGE then Some Change
+    else if n == code.UNDO_LEFT then Some UndoLeft
+    else if n == code.UNDO_RIGHT then Some UndoRight
     else None
 
 -- a text has room: it is at the head of the buffer, and the rest is as it was; or the buffer is too small, and as it

@@ -4,7 +4,9 @@ use base.Fml.{Fml, ftrue, fsep, fex}
 use base.Fraction.{full_share}
 use denote.RawPtr.{Ptr, lies_at, room_at}
 use Rattle.core.specs.Mem.{type_size}
-use Rattle.kept_sessions.specs.Kept.{IsOpened, IsResumed, IsStepped, IsShown, text_of}
+use Rattle.edit_journal.specs.Pieces.{texts_of}
+use Rattle.texts.specs.declared.side.Side.{Side}
+use Rattle.kept_sessions.specs.Kept.{IsOpened, IsImported, IsResumed, IsReopened, IsStepped, IsShown, text_of}
 use Rattle.kept_sessions.specs.contracts.kept.Kept.{the_row}
 use Rattle.kept_sessions.specs.declared.kept.Kept.{Kept}
 use Rattle.kept_sessions.specs.declared.outcome.Outcome.{Outcome}
@@ -34,9 +36,17 @@ keeps_some at Fact = fex Kept (λ kept. fsep (fex (Fact kept) (λ _. ftrue)) (ke
 abbrev pub keeps_opened : Ptr → List ℕ → Fml
 keeps_opened at program = keeps_some at (IsOpened program)
 
+-- what is there after a program was opened with this document of a side
+abbrev pub keeps_imported : Ptr → List ℕ → Side → List ℕ → Fml
+keeps_imported at program side document = keeps_some at (IsImported program side document)
+
 -- what is there after a program was opened to go on from a state
 abbrev pub keeps_resumed : Ptr → List ℕ → List ℕ → List ℕ → List ℕ → Fml
 keeps_resumed at program left complement right = keeps_some at (IsResumed program left complement right)
+
+-- what is there after the records of a log were opened, each of which an LF ends
+abbrev pub keeps_reopened : Ptr → List ℕ → Fml
+keeps_reopened at records = keeps_some at (IsReopened (texts_of records))
 
 -- what is kept stays as it is, and the answer says what it is
 abbrev pub Tells : Kept → Answer → Kept → Type 0

@@ -11,6 +11,8 @@ use Rattle.lens_syntax.specs.declared.fault.ProgramFault.{ProgramFault}
 use Rattle.lens_syntax.specs.declared.fault.ProgramFault.TheVariants as syntax
 use Rattle.lens_types.specs.declared.fault.TypeFault.{TypeFault}
 use Rattle.lens_types.specs.declared.fault.TypeFault.TheVariants as typing
+use Rattle.store_records.specs.declared.record_fault.RecordFault.{RecordFault}
+use Rattle.store_records.specs.declared.record_fault.RecordFault.TheVariants as record_fault
 use Rattle.kept_sessions.specs.declared.kept.Kept.{Kept}
 use Rattle.kept_sessions.specs.declared.kept.Kept.TheVariants as kept
 use Rattle.kept_sessions.specs.declared.outcome.Outcome.{Outcome}
@@ -95,6 +97,14 @@ state_cause state.NotRight = code.NOT_RIGHT
 state_cause state.NotConsistent = code.NOT_CONSISTENT
 state_cause state.NoMemory = code.NO_CAUSE
 
+-- ---- logs
+
+-- why the records of a log are refused, with the number of the record
+abbrev pub record_reason : RecordFault → Reason
+record_reason (record_fault.BadRecord number) = record { cause = code.BAD_RECORD; part = 0; at = number }
+record_reason (record_fault.NotConsistent number) = record { cause = code.RECORD_NOT_CONSISTENT; part = 0; at = number }
+record_reason record_fault.NoMemory = no_place code.NO_CAUSE
+
 -- ---- calls
 
 -- why there is no session
@@ -103,6 +113,7 @@ closed_reason (kept.Open r) = no_place code.NO_CAUSE
 closed_reason (kept.Refused refused line) =
     record { cause = program_cause refused; part = 0; at = program_offset refused }
 closed_reason (kept.StateRefused fault) = no_place (state_cause fault)
+closed_reason (kept.RecordsRefused fault) = record_reason fault
 closed_reason kept.NoMemory = no_place code.NO_CAUSE
 
 -- why a call ended so
@@ -114,4 +125,5 @@ reason_of outcome.Done k = no_place code.NO_CAUSE
 reason_of outcome.Blank k = no_place code.NO_CAUSE
 reason_of outcome.LineFeed k = no_place code.NO_CAUSE
 reason_of outcome.Full k = no_place code.NO_CAUSE
+reason_of outcome.NoChange k = no_place code.NO_CAUSE
 reason_of outcome.NoMemory k = no_place code.NO_CAUSE

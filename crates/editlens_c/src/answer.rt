@@ -19,7 +19,8 @@ pub struct Answer {
     pub number: u64,
     /// The number of the entry of a group that does not apply, from 0, or 0.
     pub part: u64,
-    /// The number, from 0, of the first primitive that fails; or the offset in a program that its refusal names; or 0.
+    /// The number, from 0, of the first primitive that fails; or the offset in a program that its refusal names; or the
+    /// number, from 1, of the record that is refused; or 0.
     pub at: u64,
     /// How many bytes the text has that answers the last call.
     pub len: usize,
@@ -73,6 +74,7 @@ fn status_of(outcome: Outcome, kept: &Kept) -> u32
         Outcome::NoApply { .. } | Outcome::NotAChange(_) => REFUSED,
         Outcome::LineFeed => LINE_FEED,
         Outcome::Full => FULL,
+        Outcome::NoChange => NO_CHANGE,
         Outcome::NoMemory => NO_MEMORY,
         Outcome::NoSession => closed_status(kept),
     }
@@ -86,6 +88,7 @@ fn closed_status(kept: &Kept) -> u32
         Kept::Open(_) => DONE,
         Kept::Refused(_, _) => PROGRAM_REFUSED,
         Kept::StateRefused(_) => STATE_REFUSED,
+        Kept::RecordsRefused(_) => RECORDS_REFUSED,
         Kept::NoMemory => NO_SESSION,
     }
 }
@@ -96,7 +99,7 @@ fn number_of(kept: &Kept) -> u64
 {
     match kept {
         Kept::Open(running) => running.number,
-        Kept::Refused(_, _) | Kept::StateRefused(_) | Kept::NoMemory => 0,
+        Kept::Refused(_, _) | Kept::StateRefused(_) | Kept::RecordsRefused(_) | Kept::NoMemory => 0,
     }
 }
 
@@ -116,6 +119,14 @@ pub(crate) fn part_of(number: u32) -> Option<Part>
         Some(Part::LeftType)
     } else if number == RIGHT_TYPE {
         Some(Part::RightType)
+    } else if number == SNAPSHOT {
+        Some(Part::Snapshot)
+    } else if number == CHANGE {
+        Some(Part::Change)
+    } else if number == UNDO_LEFT {
+        Some(Part::UndoLeft)
+    } else if number == UNDO_RIGHT {
+        Some(Part::UndoRight)
     } else {
         None
     }

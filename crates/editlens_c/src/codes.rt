@@ -22,6 +22,10 @@ pub const LINE_FEED: u32 = 8;
 pub const UNKNOWN_PART: u32 = 9;
 /// No further item has a number, and nothing changed.
 pub const FULL: u32 = 10;
+/// There is no session, since the records of its log are refused, for the cause beside it.
+pub const RECORDS_REFUSED: u32 = 11;
+/// The part is one of the last change, and the last line was not a change that was accepted. Nothing changed.
+pub const NO_CHANGE: u32 = 12;
 
 /// The three state lines.
 pub const STATE: u32 = 0;
@@ -35,6 +39,14 @@ pub const RIGHT: u32 = 3;
 pub const LEFT_TYPE: u32 = 4;
 /// The right type.
 pub const RIGHT_TYPE: u32 = 5;
+/// The payload of a snapshot.
+pub const SNAPSHOT: u32 = 6;
+/// The payload of the last change.
+pub const CHANGE: u32 = 7;
+/// The word that takes the left document back over the last change.
+pub const UNDO_LEFT: u32 = 8;
+/// The word that takes the right document back over the last change.
+pub const UNDO_RIGHT: u32 = 9;
 
 /// There is no cause to name.
 pub const NO_CAUSE: u32 = 0;
@@ -98,3 +110,8 @@ pub const NOT_COMPLEMENT: u32 = 42;
 pub const NOT_RIGHT: u32 = 43;
 /// The three are not consistent.
 pub const NOT_CONSISTENT: u32 = 44;
+
+/// The record is not one that may stand there, with its number.
+pub const BAD_RECORD: u32 = 51;
+/// The record is a snapshot whose documents and complement are not consistent, with its number.
+pub const RECORD_NOT_CONSISTENT: u32 = 52;

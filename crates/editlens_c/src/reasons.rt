@@ -1,7 +1,7 @@
 //! Why something is refused, as numbers.
 ghost use Rattle.std.specs.Prelude.{◌≡◌};
 ghost use Rattle.editlens_c.specs.Reasons.{no_place, item_cause, line_cause, syntax_cause, typing_cause, program_cause};
-ghost use Rattle.editlens_c.specs.Reasons.{program_offset, state_cause, closed_reason, reason_of};
+ghost use Rattle.editlens_c.specs.Reasons.{program_offset, state_cause, record_reason, closed_reason, reason_of};
 
 use crate::codes::*;
 use accepted_programs::Refused;
@@ -10,6 +10,7 @@ use edit_module::Cause;
 use kept_sessions::{Kept, Outcome, StateFault};
 use lens_syntax::ProgramFault;
 use lens_types::TypeFault;
+use store_records::RecordFault;
 
 /// The number of a cause, and two places.
 #[derive(Clone, Copy, Drop)]
@@ -31,9 +32,12 @@ pub(crate) fn reason_of(outcome: Outcome, kept: &Kept) -> Reason
         },
         Outcome::NotAChange(fault) => alone(line_cause(fault)),
         Outcome::NoSession => closed_reason(kept),
-        Outcome::Done | Outcome::Blank | Outcome::LineFeed | Outcome::Full | Outcome::NoMemory => {
-            alone(NO_CAUSE)
-        }
+        Outcome::Done
+        | Outcome::Blank
+        | Outcome::LineFeed
+        | Outcome::Full
+        | Outcome::NoChange
+        | Outcome::NoMemory => alone(NO_CAUSE),
     }
 }
 
@@ -48,6 +52,7 @@ pub(crate) fn closed_reason(kept: &Kept) -> Reason
             at: program_offset(refused),
         },
         Kept::StateRefused(fault) => alone(state_cause(*fault)),
+        Kept::RecordsRefused(fault) => record_reason(*fault),
         Kept::Open(_) | Kept::NoMemory => alone(NO_CAUSE),
     }
 }
@@ -149,5 +154,24 @@ fn state_cause(fault: StateFault) -> u32
         StateFault::NotRight => NOT_RIGHT,
         StateFault::NotConsistent => NOT_CONSISTENT,
         StateFault::NoMemory => NO_CAUSE,
+    }
+}
+
+// Why the records of a log are refused, with the number of the record.
+fn record_reason(fault: RecordFault) -> Reason
+    ensures { result ≡ record_reason fault }
+{
+    match fault {
+        RecordFault::BadRecord { number } => Reason {
+            cause: BAD_RECORD,
+            part: 0,
+            at: number,
+        },
+        RecordFault::NotConsistent { number } => Reason {
+            cause: RECORD_NOT_CONSISTENT,
+            part: 0,
+            at: number,
+        },
+        RecordFault::NoMemory => alone(NO_CAUSE),
     }
 }

@@ -1,15 +1,19 @@
 //! A session that a caller keeps, by a pointer to memory of its own that has room for it.
 ghost use Rattle.std.specs.Prelude.{◌≡◌};
 ghost use types.Logic.{sem};
-ghost use Rattle.kept_sessions.specs.Kept.{IsOpened, IsResumed};
+ghost use Rattle.edit_journal.specs.Pieces.{texts_of};
+ghost use Rattle.kept_sessions.specs.Kept.{IsOpened, IsImported, IsResumed, IsReopened};
 ghost use Rattle.kept_sessions.specs.declared.kept.Kept.{Kept as kept_type};
-ghost use Rattle.editlens_c.specs.Keeping.{keeps, keeps_opened, keeps_resumed, keeps_told, keeps_stepped, keeps_shown};
-ghost use Rattle.editlens_c.specs.Keeping.{keeps_written, room, room_size, Tells, StepsTo, ShowsTo, Writes};
+ghost use Rattle.texts.specs.declared.side.Side.TheVariants.{Left, Right};
+ghost use Rattle.editlens_c.specs.Keeping.{keeps, keeps_opened, keeps_imported, keeps_resumed, keeps_reopened};
+ghost use Rattle.editlens_c.specs.Keeping.{keeps_told, keeps_stepped, keeps_shown, keeps_written, room, room_size};
+ghost use Rattle.editlens_c.specs.Keeping.{Tells, StepsTo, ShowsTo, Writes};
 
 use crate::answer::{Answer, answer_to, is_written, part_of, plain_answer, standing_of};
 use crate::codes::{DONE, SMALL_BUFFER, UNKNOWN_PART};
 use kept_sessions::Kept;
 use std::alloc::Global;
+use texts::Side;
 
 /// How many bytes a session takes. The caller's memory is aligned to 16 bytes.
 #[unsafe(no_mangle)]
@@ -21,7 +25,13 @@ pub extern "C" fn editlens_session_size() -> usize
 
 /// Puts the session over a program, or why there is none, into memory that has room for it.
 ///
-/// `editlens_session_status` says which, and each session is closed, also one that is refused.
+/// `editlens_session_status` says which. The text is the payload of the first record of a log.
+///
+/// # Safety
+///
+/// The caller has `editlens_session_size()` bytes at `at`, aligned to 16, where no session is. They stay there until
+/// `editlens_session_close`, which each session wants once, also one that is refused. `program` may be read during the
+/// call.
 #[unsafe(no_mangle)]
 pub unsafe extern "C" fn editlens_session_open(alloc: Global, at: *mut u8, program: &[u8])
     requires* { sem 𝓛 (room at) }
@@ -37,10 +47,68 @@ fn opened(alloc: Global, program: &[u8]) -> Kept
     Kept::open(alloc, program)
 }
 
+/// Puts the session over a program whose left document is given, or why there is none, into memory that has room for
+/// it.
+///
+/// The document is JSON, and the right one is made. The text is the payload of the first record of a log; a snapshot is
+/// the next.
+///
+/// # Safety
+///
+/// As for `editlens_session_open`; `document` may be read, too.
+#[unsafe(no_mangle)]
+pub unsafe extern "C" fn editlens_session_import_left(
+    alloc: Global,
+    at: *mut u8,
+    program: &[u8],
+    document: &[u8],
+)
+    requires* { sem 𝓛 (room at) }
+    ensures* { sem 𝓛 (keeps_imported at program.now Left document.now) }
+{
+    let kept = imported_left(alloc, program, document);
+    unsafe { std::ptr::write(at as *mut Kept, kept) };
+}
+
+fn imported_left(alloc: Global, program: &[u8], document: &[u8]) -> Kept
+    ensures { IsImported program.now Left document.now result }
+{
+    Kept::import(alloc, program, Side::Left, document)
+}
+
+/// The same, where the right document is given and the left one is made.
+///
+/// # Safety
+///
+/// As for `editlens_session_open`; `document` may be read, too.
+#[unsafe(no_mangle)]
+pub unsafe extern "C" fn editlens_session_import_right(
+    alloc: Global,
+    at: *mut u8,
+    program: &[u8],
+    document: &[u8],
+)
+    requires* { sem 𝓛 (room at) }
+    ensures* { sem 𝓛 (keeps_imported at program.now Right document.now) }
+{
+    let kept = imported_right(alloc, program, document);
+    unsafe { std::ptr::write(at as *mut Kept, kept) };
+}
+
+fn imported_right(alloc: Global, program: &[u8], document: &[u8]) -> Kept
+    ensures { IsImported program.now Right document.now result }
+{
+    Kept::import(alloc, program, Side::Right, document)
+}
+
 /// Puts the session that goes on from a state, or why there is none, into memory that has room for it.
 ///
 /// The state is the JSON of a left document, of a complement and of a right document, as `editlens_session_show` shows
-/// them.
+/// them. The text is the payload of the first record of a log; a snapshot is the next.
+///
+/// # Safety
+///
+/// As for `editlens_session_open`; the three texts may be read, too.
 #[unsafe(no_mangle)]
 pub unsafe extern "C" fn editlens_session_resume(
     alloc: Global,
@@ -63,7 +131,34 @@ fn resumed(alloc: Global, program: &[u8], left: &[u8], complement: &[u8], right:
     Kept::resume(alloc, program, left, complement, right)
 }
 
+/// Puts the session for which the records of a log stand, or why there is none, into memory that has room for it.
+///
+/// An LF ends each record. The text is empty; or it is the version record, which a log of version 1 still needs.
+///
+/// # Safety
+///
+/// As for `editlens_session_open`; it is `records` that may be read.
+#[unsafe(no_mangle)]
+pub unsafe extern "C" fn editlens_session_reopen(alloc: Global, at: *mut u8, records: &[u8])
+    requires* { sem 𝓛 (room at) }
+    ensures* { sem 𝓛 (keeps_reopened at records.now) }
+{
+    let kept = reopened(alloc, records);
+    unsafe { std::ptr::write(at as *mut Kept, kept) };
+}
+
+fn reopened(alloc: Global, records: &[u8]) -> Kept
+    ensures { IsReopened (texts_of records.now) result }
+{
+    Kept::reopen(alloc, records)
+}
+
 /// Whether there is a session, or why there is none. Nothing changes.
+///
+/// # Safety
+///
+/// A session was put at `at` and is not closed; or why there is none was put there. It is the thread that put it there
+/// that calls, and no other call uses `at` meanwhile.
 #[unsafe(no_mangle)]
 pub unsafe extern "C" fn editlens_session_status(at: *mut u8) -> Answer
     ghost kept: { kept_type }
@@ -80,6 +175,10 @@ fn told(kept: &mut Kept) -> Answer
 }
 
 /// Gives a session a line of a journal, without its LF. The text is then the answer line.
+///
+/// # Safety
+///
+/// As for `editlens_session_status`; `line` may be read during the call.
 #[unsafe(no_mangle)]
 pub unsafe extern "C" fn editlens_session_step(alloc: Global, at: *mut u8, line: &[u8]) -> Answer
     ghost kept: { kept_type }
@@ -96,7 +195,11 @@ fn stepped(alloc: Global, kept: &mut Kept, line: &[u8]) -> Answer
     answer_to(outcome, kept)
 }
 
-/// Makes a part of a session's state the text: the one that has this number.
+/// Makes a part of a session's state or of its last change the text: the one that has this number.
+///
+/// # Safety
+///
+/// As for `editlens_session_status`.
 #[unsafe(no_mangle)]
 pub unsafe extern "C" fn editlens_session_show(alloc: Global, at: *mut u8, part: u32) -> Answer
     ghost kept: { kept_type }
@@ -120,6 +223,10 @@ fn shown(alloc: Global, kept: &mut Kept, part: u32) -> Answer
 
 /// Writes the text that answers the last call to the head of `out`: an answer line, what was shown, or the line of a
 /// program that is refused. Where `out` is too small it stays as it is; `len` says how many bytes are wanted.
+///
+/// # Safety
+///
+/// As for `editlens_session_status`; `out` may be written during the call.
 #[unsafe(no_mangle)]
 pub unsafe extern "C" fn editlens_session_text(at: *mut u8, out: &mut [u8]) -> Answer
     ghost kept: { kept_type }
@@ -140,6 +247,10 @@ fn texted(kept: &mut Kept, out: &mut [u8]) -> Answer
 }
 
 /// Ends a session, and frees all that it holds but the caller's memory.
+///
+/// # Safety
+///
+/// As for `editlens_session_status`. Nothing is at `at` afterwards, so a session is closed once.
 #[unsafe(no_mangle)]
 pub unsafe extern "C" fn editlens_session_close(at: *mut u8)
     ghost kept: { kept_type }

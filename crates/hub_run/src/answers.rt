@@ -5,7 +5,8 @@ ghost use Rattle.serde_json.specs.Written.{comma_if, compact_text};
 ghost use Rattle.edit_module.specs.Views.{word_tree, word_trees};
 ghost use Rattle.edit_json.specs.WordJson.{tree_of_word};
 ghost use Rattle.view_hub.specs.Views.{carried_tree};
-ghost use Rattle.hub_run.specs.Answers.{HubAnswerTree, tree_of_words, hub_ok_line, no_view_line, hub_answer_line, is_refused};
+ghost use Rattle.hub_run.specs.Answers.{HubAnswerTree, tree_of_words, hub_ok_line, no_view_line, hub_answer_line};
+ghost use Rattle.hub_run.specs.Answers.{is_refused};
 ghost use Rattle.hub_run.specs.AnswerLines.{HasAnswerLine};
 ghost use Rattle.hub_run.specs.Views.{answer_tree};
 

@@ -56,7 +56,11 @@ pub fn lines_of_view(
 /// The state lines of a hub: `hub JSON`, and for each view `view V JSON` and `complement V JSON`.
 ///
 /// The hub's lenses are those of the forms. The only error is running out of memory.
-pub fn hub_state_lines(alloc: Global, typed: &[Typed], hub: &Hub<Flat>) -> Result<Vec<u8>, AllocError>
+pub fn hub_state_lines(
+    alloc: Global,
+    typed: &[Typed],
+    hub: &Hub<Flat>,
+) -> Result<Vec<u8>, AllocError>
     requires of_forms { map form_tree typed.now ≡ forms_of_lenses hub.now.lenses }
     ensures lines { IfOk result (λ text. text.items
         ≡ hub_state_lines (map form_tree typed.now) (hub_tree hub.now.parts)) }

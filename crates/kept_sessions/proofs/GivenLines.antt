@@ -1,6 +1,5 @@
 -- The lines that a session is given are answered as a run answers them.
-use Rattle.std.proofs.Common.{◌≡◌, ℕ, ◌+◌, List, [], ◌∷◌, ◌++◌, Bool, true, false, cond, map, Option, Some, option_map, option_and_then, Result, Ok, refl, sym, ap, ap₂, subst, ◌∙◌, append_assoc}
-use Rattle.accepted_programs.specs.Program.{lens_of}
+use Rattle.std.proofs.Common.{◌≡◌, ℕ, ◌+◌, List, [], ◌∷◌, ◌++◌, Bool, true, false, cond, map, Some, option_map, option_and_then, refl, sym, ap, ap₂, subst, ◌∙◌}
 use Rattle.edit_journal.specs.EntryJson.{change_of_line}
 use Rattle.edit_journal.specs.Lines.{line_of, is_blank}
 use Rattle.edit_journal.specs.declared.line.Line.{Line}
@@ -9,12 +8,12 @@ use Rattle.edit_session.specs.Sessions.{SessionOf}
 use Rattle.edit_session.specs.Step.{TripleTree}
 use Rattle.edit_session.specs.Views.{triple_tree}
 use Rattle.pair_answers.specs.Answers.{answer_line, answer_lines, state_lines}
-use Rattle.pair_answers.specs.ItemRuns.{JournalItem, JournalAnswer, items_of, run_from, first_of}
+use Rattle.pair_answers.specs.ItemRuns.{JournalItem, JournalAnswer, items_of, run_from}
 use Rattle.lens_core.specs.Translation.{translate}
 use Rattle.lens_flat.specs.declared.flat.ReadyForm.{ReadyForm}
 use Rattle.lens_forms.specs.Forms.{FormTree, form_tree, left_type, right_type}
-use Rattle.kept_sessions.specs.Journals.{is_taken, IsGivenFirst, IsGiven, IsReported}
-use Rattle.kept_sessions.specs.Kept.{IsStarted, IsOpened, IfOpen, takes_line, takes_bytes, IsStepped, IsShow, shows_part, IsShown, text_of}
+use Rattle.kept_sessions.specs.Journals.{is_taken, IsGiven, IsReported}
+use Rattle.kept_sessions.specs.Kept.{IsStarted, IsOpened, takes_bytes, IsStepped, shows_part, IsShown, text_of}
 use Rattle.kept_sessions.specs.Steps.{form_of, has_line_feed, line_step, IsLineStep}
 use Rattle.kept_sessions.specs.declared.kept.Kept.{Kept}
 use Rattle.kept_sessions.specs.declared.kept.Kept.TheVariants as kept
@@ -70,6 +69,7 @@ taken_step : (b : Bool) (r : Running) (line : List ℕ) (end : Outcome) (next : 
 taken_step true r line end next taken s = let no : is_taken outcome.LineFeed ≡ true = subst (λ e. is_taken e ≡ true) s.0 taken in cc
 taken_step false r line outcome.LineFeed next taken s = cc
 taken_step false r line outcome.Full next taken s = cc
+taken_step false r line outcome.NoChange next taken s = cc
 taken_step false r line outcome.NoMemory next taken s = cc
 taken_step false r line outcome.NoSession next taken s = cc
 taken_step false r line outcome.Done (kept.Open m) taken s = (m, refl, s)
@@ -120,10 +120,10 @@ reported_shown : (program : List ℕ) (lines : List (List ℕ)) (texts : List �
     → Runs (form_of r) r (items_of (map line_of lines)) texts m → shows_part m part.State outcome.Done shown → IsReported program lines (texts ++ text_of shown)
 reported_shown program lines texts r m (kept.Open x) s c h = record {
   form = form_of r;
-  lens = s.lens;
+  lens = s.fresh.lens;
   steps = c.steps;
   is_run = subst (λ t. run_from (form_of r) t (items_of (map line_of lines)) ≡ Some c.steps) s.first c.is_run;
-  is_text = ap₂ (λ y z. y ++ z) (c.is_texts ∙ ap (λ n. answer_lines (n + 1) c.steps) s.number)
+  is_text = ap₂ (λ y z. y ++ z) (c.is_texts ∙ ap (λ n. answer_lines (n + 1) c.steps) s.fresh.number)
       (h.text ∙ ap₂ state_lines c.form_stays (c.comes_to ∙ ap (λ t. last t c.steps) s.first));
 }
 reported_shown program lines texts r m _ s c h = absurd h
@@ -150,5 +150,7 @@ is_reported program lines texts (kept.Refused refused line) last shown opened gi
     absurd (not_shown (kept.Refused refused line) last shown lines texts (λ end line next s. s.0) (λ next s. differ s.0) given h)
 is_reported program lines texts (kept.StateRefused fault) last shown opened given h =
     absurd (not_shown (kept.StateRefused fault) last shown lines texts (λ end line next s. s.0) (λ next s. differ s.0) given h)
+is_reported program lines texts (kept.RecordsRefused fault) last shown opened given h =
+    absurd (not_shown (kept.RecordsRefused fault) last shown lines texts (λ end line next s. s.0) (λ next s. differ s.0) given h)
 is_reported program lines texts kept.NoMemory last shown opened given h =
     absurd (not_shown kept.NoMemory last shown lines texts (λ end line next s. s.0) (λ next s. differ s.0) given h)

@@ -1,4 +1,15 @@
+pub mod CutTexts
+pub mod FirstRecords
+pub mod FreshSessions
 pub mod GivenLines
+pub mod ImportSteps
+pub mod ItemSteps
+pub mod LogRecords
+pub mod LogTexts
+pub mod LoggedLines
+pub mod MadeChanges
 pub mod PartTexts
 pub mod RefusedPrograms
 pub mod SameStates
+pub mod UndoneSteps
+pub mod UndoneTexts

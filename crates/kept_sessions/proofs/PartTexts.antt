@@ -1,5 +1,5 @@
 -- The texts of documents and of complements, which nest no deeper than the reader of JSON reads back.
-use Rattle.std.proofs.Common.{◌≡◌, ℕ, ◌≤◌, ◌*◌, List, true, Result, Ok, Err, IfOk, subst, sym, arith}
+use Rattle.std.proofs.Common.{◌≡◌, ℕ, ◌≤◌, List, true, Result, Ok, Err, IfOk, subst, sym, arith}
 use Rattle.serde_json.specs.Data.{Data, depth}
 use Rattle.serde_json.specs.Read.{max_depth}
 use Rattle.doc_values.specs.Documents.{DocTree}

@@ -1,6 +1,5 @@
 -- What is resumed from the texts that a session showed is the same session.
-use Rattle.std.proofs.Common.{◌≡◌, ℕ, List, true, Option, Some, Result, Ok, Err, refl, sym, ap, subst, ◌∙◌}
-use Rattle.serde_json.specs.Data.{Data}
+use Rattle.std.proofs.Common.{◌≡◌, ℕ, List, true, Option, Some, Result, Ok, Err, refl, sym, subst, ◌∙◌}
 use Rattle.accepted_programs.specs.Program.{Refusal, lens_of}
 use Rattle.accepted_programs.proofs.AcceptedForms.{accepted_typed}
 use Rattle.complement_file.proofs.TreesDiffer as complements
@@ -73,8 +72,8 @@ one_state form left comp right t u typed x y =
 not_refused : (form : FormTree) (left comp right : List ℕ) (t : TripleTree) (why : StateFault) → is_typed form ≡ true → IsInStepFor form t → IsStateText form left comp right t
     → IsStateFault form left comp right why → why ≡ fault.NoMemory
 not_refused form left comp right t fault.NotLeft typed k s h = absurd (h t.left s.left_is)
-not_refused form left comp right t fault.NotComplement typed k s h = absurd (h t.comp s.comp_is)
-not_refused form left comp right t fault.NotRight typed k s h = absurd (h t.right s.right_is)
+not_refused form left comp right t fault.NotComplement typed k s h = absurd (h.1 t.comp s.comp_is)
+not_refused form left comp right t fault.NotRight typed k s h = absurd (h.2 t.right s.right_is)
 not_refused form left comp right t fault.NotConsistent typed k s h = absurd (h.not_in_step (subst (IsInStepFor form) (one_state form left comp right t h.triple typed s h.is) k))
 not_refused form left comp right t fault.NoMemory typed k s h = refl
 
@@ -86,7 +85,7 @@ pub is_same_state : (program left comp right : List ℕ) (form : FormTree) (t : 
     → IsResumed program left comp right resumed → IsSameState form t resumed
 is_same_state program left comp right form t (kept.Open r) lens k x c y h =
     let typed = accepted_typed program form lens in
-    let same = same_ok form (form_of r) (lens_of program) lens h.lens in
+    let same = same_ok form (form_of r) (lens_of program) lens h.fresh.lens in
     let shown = shown_state form left comp right t x c y in
     (same, one_state form left comp right (triple_tree r.session.triple) t typed (subst (λ (f : FormTree). IsStateText f left comp right (triple_tree r.session.triple)) same h.state) shown)
 is_same_state program left comp right form t (kept.Refused refused line) lens k x c y h = absurd (not_both form h.is_line.refusal (lens_of program) lens h.is_line.is)
@@ -95,4 +94,5 @@ is_same_state program left comp right form t (kept.StateRefused why) lens k x c 
     let same = same_ok form h.form (lens_of program) lens h.lens in
     let is_fault = subst (λ (f : FormTree). IsStateFault f left comp right why) same h.is_fault in
     absurd (h.known (not_refused form left comp right t why typed k (shown_state form left comp right t x c y) is_fault))
+is_same_state program left comp right form t (kept.RecordsRefused why) lens k x c y h = absurd h
 is_same_state program left comp right form t kept.NoMemory lens k x c y h = tt

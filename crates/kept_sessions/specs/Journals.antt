@@ -13,12 +13,12 @@ use Rattle.kept_sessions.specs.declared.kept.Kept.{Kept}
 use Rattle.kept_sessions.specs.declared.kept.Kept.TheVariants as kept
 use Rattle.kept_sessions.specs.declared.outcome.Outcome.{Outcome}
 use Rattle.kept_sessions.specs.declared.outcome.Outcome.TheVariants as outcome
-use Rattle.kept_sessions.specs.declared.running.Running.{Running}
 
 -- the line was taken: it was answered, or it is blank
 abbrev pub is_taken : Outcome → Bool
 is_taken outcome.LineFeed = false
 is_taken outcome.Full = false
+is_taken outcome.NoChange = false
 is_taken outcome.NoMemory = false
 is_taken outcome.NoSession = false
 is_taken end = true

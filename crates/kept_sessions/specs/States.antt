@@ -1,11 +1,12 @@
--- The texts of a state: what a session shows of it, and what it is read from. Read it from the end: `IsPartText` and
--- `IsStateFault`, `IsStateText`, then `IsDocumentText` and `IsComplementText`.
-use Rattle.std.specs.Prelude.{◌≡◌, ℕ, List, true, Some}
+-- The texts of a state: what a session shows of it, and what it is read from. Read it from the end: `ShowsText`,
+-- `IsPartText`, `IsStateFault`, `IsStateText`, then `IsDocumentText` and `IsComplementText`.
+use Rattle.std.specs.Prelude.{◌≡◌, ℕ, List, Bool, true, false, Option, Some}
 use Rattle.serde_json.specs.Data.{Data}
 use Rattle.serde_json.specs.Written.{compact_text}
 use Rattle.doc_values.specs.Documents.{DocTree}
 use Rattle.doc_values.specs.Types.{TyTree}
 use Rattle.doc_values.specs.Typing.{has}
+use Rattle.texts.specs.declared.side.Side.TheVariants as side
 use Rattle.value_json.specs.DocumentJson.{tree_of_document, holds_i64s}
 use Rattle.edit_journal.specs.EntryJson.{tree_of_text}
 use Rattle.lens_forms.specs.Forms.{FormTree, left_type, right_type}
@@ -13,12 +14,18 @@ use Rattle.lens_core.specs.Complements.{CompTree, Fits}
 use Rattle.complement_file.specs.ComplementJson.{tree_of_complement}
 use Rattle.program_writing.specs.Canonical.{canonical_type}
 use Rattle.edit_session.specs.Step.{TripleTree}
+use Rattle.edit_session.specs.Views.{triple_tree}
 use Rattle.pair_answers.specs.Answers.{state_lines}
 use Rattle.pair_answers.specs.ItemRuns.{IsInStepFor}
+use Rattle.store_records.specs.RecordJson.{tree_of_snapshot}
+use Rattle.kept_sessions.specs.Changes.{IsNoneMade, HasChangeText, HasUndoText}
+use Rattle.kept_sessions.specs.Steps.{form_of}
 use Rattle.kept_sessions.specs.declared.outcome.Part.{Part}
 use Rattle.kept_sessions.specs.declared.outcome.Part.TheVariants as part
 use Rattle.kept_sessions.specs.declared.outcome.StateFault.{StateFault}
 use Rattle.kept_sessions.specs.declared.outcome.StateFault.TheVariants as fault
+use Rattle.kept_sessions.specs.declared.running.Accepted.{Accepted}
+use Rattle.kept_sessions.specs.declared.running.Running.{Running}
 
 -- ---- what is read
 
@@ -57,11 +64,25 @@ pub record IsOutOfStep (form : FormTree) (left comp right : List ℕ) : Type 0 w
   pub is : IsStateText form left comp right triple
   pub not_in_step : IsInStepFor form triple → ⊥
 
--- the fault is so of the three texts; running out of memory says nothing
+-- the text is of some document of the type, or of some complement of the form; or it is of none
+abbrev pub IsOfType : TyTree → List ℕ → Type 0
+IsOfType ty text = (doc : DocTree) × IsDocumentText ty text doc
+
+abbrev pub IsOfForm : FormTree → List ℕ → Type 0
+IsOfForm form text = (comp : CompTree) × IsComplementText form text comp
+
+abbrev pub IsNotOfType : TyTree → List ℕ → Type 0
+IsNotOfType ty text = (doc : DocTree) → IsDocumentText ty text doc → ⊥
+
+abbrev pub IsNotOfForm : FormTree → List ℕ → Type 0
+IsNotOfForm form text = (comp : CompTree) → IsComplementText form text comp → ⊥
+
+-- The fault is the first one of the three texts, in this order; running out of memory says nothing.
 abbrev pub IsStateFault : FormTree → List ℕ → List ℕ → List ℕ → StateFault → Type 0
-IsStateFault form left comp right fault.NotLeft = (doc : DocTree) → IsDocumentText (left_type form) left doc → ⊥
-IsStateFault form left comp right fault.NotComplement = (c : CompTree) → IsComplementText form comp c → ⊥
-IsStateFault form left comp right fault.NotRight = (doc : DocTree) → IsDocumentText (right_type form) right doc → ⊥
+IsStateFault form left comp right fault.NotLeft = IsNotOfType (left_type form) left
+IsStateFault form left comp right fault.NotComplement = IsOfType (left_type form) left × IsNotOfForm form comp
+IsStateFault form left comp right fault.NotRight =
+    IsOfType (left_type form) left × IsOfForm form comp × IsNotOfType (right_type form) right
 IsStateFault form left comp right fault.NotConsistent = IsOutOfStep form left comp right
 IsStateFault form left comp right fault.NoMemory = Unit {0}
 
@@ -83,11 +104,48 @@ pub record IsWrittenComplement (form : FormTree) (comp : CompTree) (text : List 
   pub is_text : IsTextOf (tree_of_complement form comp) text
   pub fits : Fits form comp
 
--- the text of a part of a state
-abbrev pub IsPartText : FormTree → TripleTree → Part → List ℕ → Type 0
-IsPartText form t part.State text = text ≡ state_lines form t
-IsPartText form t part.Left text = IsWrittenDocument (left_type form) t.left text
-IsPartText form t part.Complement text = IsWrittenComplement form t.comp text
-IsPartText form t part.Right text = IsWrittenDocument (right_type form) t.right text
-IsPartText form t part.LeftType text = text ≡ canonical_type (left_type form)
-IsPartText form t part.RightType text = text ≡ canonical_type (right_type form)
+-- the payload of a snapshot of a triple, of which both documents can be read
+pub record IsSnapshotText (form : FormTree) (t : TripleTree) (text : List ℕ) : Type 0 where
+  pub is_text : IsTextOf (tree_of_snapshot form t.left t.comp t.right) text
+  pub in_step : IsInStepFor form t
+  pub left_ints : holds_i64s t.left ≡ true
+  pub right_ints : holds_i64s t.right ≡ true
+
+-- the text of a part, for a form at a triple where this was accepted last
+abbrev pub IsPartText : FormTree → TripleTree → Option Accepted → Part → List ℕ → Type 0
+IsPartText form t last part.State text = text ≡ state_lines form t
+IsPartText form t last part.Left text = IsWrittenDocument (left_type form) t.left text
+IsPartText form t last part.Complement text = IsWrittenComplement form t.comp text
+IsPartText form t last part.Right text = IsWrittenDocument (right_type form) t.right text
+IsPartText form t last part.LeftType text = text ≡ canonical_type (left_type form)
+IsPartText form t last part.RightType text = text ≡ canonical_type (right_type form)
+IsPartText form t last part.Snapshot text = IsSnapshotText form t text
+IsPartText form t last part.Change text = HasChangeText form last text
+IsPartText form t last part.UndoLeft text = HasUndoText form last side.Left text
+IsPartText form t last part.UndoRight text = HasUndoText form last side.Right text
+
+-- the part is one of the last change
+abbrev pub is_of_change : Part → Bool
+is_of_change part.Change = true
+is_of_change part.UndoLeft = true
+is_of_change part.UndoRight = true
+is_of_change p = false
+
+-- the part is one of the last change, and there is none
+pub record HasNoChange (form : FormTree) (last : Option Accepted) (p : Part) : Type 0 where
+  pub of_change : is_of_change p ≡ true
+  pub none : IsNoneMade form last
+
+-- ---- showing
+
+-- the text is that of the part, and all else stays
+pub record IsShow (before : Running) (p : Part) (after : Running) : Type 0 where
+  pub session : after.session ≡ before.session
+  pub number : after.number ≡ before.number
+  pub accepted : after.accepted ≡ before.accepted
+  pub text : IsPartText (form_of before) (triple_tree before.session.triple) before.accepted p after.text.items
+
+-- the part is shown; or there is no text of it, and nothing changes
+abbrev pub ShowsText : Running → Part → Bool → Running → Type 0
+ShowsText before p true after = IsShow before p after
+ShowsText before p false after = HasNoChange (form_of before) before.accepted p × (after ≡ before)

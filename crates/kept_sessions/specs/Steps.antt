@@ -1,5 +1,5 @@
 -- What a line makes of a session. Read it from the end: `IsLineStep`, `IsItemStep`, then `Answers` and `outcome_of`.
-use Rattle.std.specs.Prelude.{◌≡◌, ℕ, ◌+◌, ◌==◌, List, [], Bool, true, false, Some}
+use Rattle.std.specs.Prelude.{◌≡◌, ℕ, ◌+◌, ◌==◌, List, [], Bool, true, false, None, Some}
 use Rattle.std.specs.List.{list_any}
 use Rattle.edit_journal.specs.EntryJson.{LineFault, line_too_long, not_json, not_an_entry, not_an_edit, change_of_line}
 use Rattle.edit_journal.specs.Lines.{line_of, is_blank}
@@ -10,10 +10,11 @@ use Rattle.edit_session.specs.Run.{take_item, carried, no_apply, group_carried, 
 use Rattle.edit_session.specs.Sessions.{SessionOf}
 use Rattle.edit_session.specs.Views.{triple_tree}
 use Rattle.pair_answers.specs.Answers.{answer_line}
-use Rattle.pair_answers.specs.ItemRuns.{JournalAnswer}
+use Rattle.pair_answers.specs.ItemRuns.{JournalAnswer, IsInStepFor}
 use Rattle.lens_core.specs.Translation.{translate}
 use Rattle.lens_flat.specs.declared.flat.ReadyForm.{ReadyForm}
 use Rattle.lens_forms.specs.Forms.{FormTree, form_tree, left_type, right_type}
+use Rattle.kept_sessions.specs.Changes.{IsKept}
 use Rattle.kept_sessions.specs.declared.outcome.Outcome.{Outcome}
 use Rattle.kept_sessions.specs.declared.outcome.Outcome.TheVariants as outcome
 use Rattle.kept_sessions.specs.declared.running.Running.{Running}
@@ -58,17 +59,20 @@ pub record Answers (before : SessionOf ReadyForm) (number : ℕ) (line : Line) (
   pub is_text : text ≡ answer_line number answer
   pub ended : end ≡ outcome_of answer
 
--- the line is an item with the next number, and its answer line is the text
+-- the line is an item with the next number, its answer line is the text, and it is kept if it was accepted
 pub record IsItemStep (before : Running) (line : Line) (end : Outcome) (after : Running) : Type 0 where
   pub lens : after.session.lens ≡ before.session.lens
+  pub in_step : IsInStepFor (form_of before) (triple_tree before.session.triple)
   pub number : after.number ≡ before.number + 1
   pub answers : Answers before.session after.number line after.text.items end after.session
+  pub accepted : IsKept (triple_tree before.session.triple) line end after.accepted
 
--- the line is blank, and there is no text
+-- the line is blank, there is no text, and no line was accepted last
 pub record IsBlankStep (before : Running) (end : Outcome) (after : Running) : Type 0 where
   pub session : after.session ≡ before.session
   pub number : after.number ≡ before.number
   pub text : after.text.items ≡ []
+  pub accepted : after.accepted ≡ None
   pub ended : end ≡ outcome.Blank
 
 abbrev pub line_step : Bool → Running → Line → Outcome → Running → Type 0
@@ -79,9 +83,10 @@ line_step false before line end after = IsItemStep before line end after
 abbrev pub IsLineStep : Running → List ℕ → Outcome → Running → Type 0
 IsLineStep before bytes end after = line_step (is_blank (line_of bytes)) before (line_of bytes) end after
 
--- the lens, the documents, the complement, the number and the text are those from before
+-- the lens, the documents, the complement, the number, the text and the last change are those from before
 pub record IsAsBefore (before after : Running) : Type 0 where
   pub lens : after.session.lens ≡ before.session.lens
   pub triple : triple_tree after.session.triple ≡ triple_tree before.session.triple
   pub number : after.number ≡ before.number
   pub text : after.text ≡ before.text
+  pub accepted : after.accepted ≡ before.accepted

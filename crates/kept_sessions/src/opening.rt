@@ -6,10 +6,12 @@ ghost use Rattle.edit_session.specs.Views.{triple_tree};
 ghost use Rattle.pair_answers.specs.ItemRuns.{first_of};
 ghost use Rattle.lens_forms.specs.Forms.{form_tree};
 ghost use Rattle.kept_sessions.specs.Kept.{IsOpened, IsRefusedProgram};
+ghost use Rattle.kept_sessions.specs.Records.{IsFirstRecord};
 
+use crate::beginning::{Begun, begin};
 use crate::kept::Kept;
 use crate::running::Running;
-use accepted_programs::{Refused, read_lens};
+use accepted_programs::Refused;
 use answer_text::refused_part_line;
 use edit_session::Session;
 use lens_flat::Flat;
@@ -20,22 +22,25 @@ use std::alloc::{AllocError, Global};
 pub(crate) fn open(alloc: Global, program: &[u8]) -> Kept
     ensures { IsOpened program.now result }
 {
-    match read_lens(alloc, program) {
-        Ok(typed) => started(alloc, typed),
+    match begin(alloc, program) {
+        Ok(begun) => started(alloc, begun),
         Err(refused) => closed(alloc, refused),
     }
 }
 
-fn started(alloc: Global, typed: Typed) -> Kept
-    ensures { (program : List ℕ) → lens_of program ≡ Ok (form_tree typed) → IsOpened program result }
+fn started(alloc: Global, begun: Begun) -> Kept
+    ensures { (program : List ℕ) → lens_of program ≡ Ok (form_tree begun.typed)
+        → IsFirstRecord program begun.text.items → IsOpened program result }
 {
+    let Begun { typed, text } = begun;
     match first_session(alloc, &typed) {
-        Ok(session) => Kept::Open(Running::new(alloc, session)),
+        Ok(session) => Kept::Open(Running::new(session, text)),
         Err(_) => Kept::NoMemory,
     }
 }
 
-fn first_session(alloc: Global, typed: &Typed) -> Result<Session<Flat>, AllocError>
+// The session at the first triple of a lens.
+pub(crate) fn first_session(alloc: Global, typed: &Typed) -> Result<Session<Flat>, AllocError>
     ensures form { IfOk result (λ s. form_tree s.lens.typed ≡ form_tree typed.now) }
     ensures first { IfOk result (λ s. triple_tree s.triple ≡ first_of (form_tree typed.now)) }
 {

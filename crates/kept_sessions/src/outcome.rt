@@ -31,6 +31,8 @@ pub enum Outcome {
     LineFeed,
     /// No further item has a number, and nothing changed.
     Full,
+    /// The part is one of the last change, and no change was accepted by the last line. Nothing changed.
+    NoChange,
     /// Memory ran out, and the session is as before.
     NoMemory,
     /// There is no session.
@@ -73,6 +75,14 @@ pub enum Part {
     LeftType,
     /// The right type, in canonical text.
     RightType,
+    /// The payload of a snapshot of the state: a record for a log.
+    Snapshot,
+    /// The payload of the change that the last line was: a record for a log.
+    Change,
+    /// The word that takes the left document back over that change, as JSON.
+    UndoLeft,
+    /// The word that takes the right document back over that change, as JSON.
+    UndoRight,
 }
 
 /// Why the texts of a state are refused. They are tested in the order of these variants.

@@ -1,5 +1,5 @@
-//! The texts that a session shows.
-ghost use Rattle.std.specs.Prelude.{◌≡◌, ◌≤◌, false, IfOk, IsTrue};
+//! The texts of the parts of a state and of the last change.
+ghost use Rattle.std.specs.Prelude.{◌≡◌, ◌≤◌, false, IfOk, MatchOption, IsTrue};
 ghost use Rattle.serde_json.specs.View.{view};
 ghost use Rattle.serde_json.specs.Data.{depth};
 ghost use Rattle.serde_json.specs.Read.{max_depth};
@@ -12,10 +12,13 @@ ghost use Rattle.lens_core.specs.Complements.{comp_tree, Fits};
 ghost use Rattle.lens_forms.specs.Forms.{form_tree};
 ghost use Rattle.lens_forms.specs.declared.limits.TheConstants.{GREATEST_HEIGHT};
 ghost use Rattle.program_writing.specs.Canonical.{canonical_type};
-ghost use Rattle.kept_sessions.specs.States.{IsPartText, IsTextOf, IsWrittenDocument, IsWrittenComplement};
+ghost use Rattle.kept_sessions.specs.States.{HasNoChange, IsPartText, IsTextOf, IsWrittenDocument, IsWrittenComplement};
+ghost use Rattle.kept_sessions.specs.States.{IsSnapshotText};
 ghost use Rattle.kept_sessions.specs.Steps.{session_form};
 
+use crate::changes::{change_text, undo_text};
 use crate::outcome::Part;
+use crate::running::Accepted;
 use complement_file::write_comp;
 use doc_values::{Doc, Ty};
 use edit_session::Session;
@@ -26,26 +29,34 @@ use pair_answers::state_lines;
 use program_writing::write_type;
 use serde_json::Value;
 use std::alloc::{AllocError, Global};
+use store_records::snapshot_payload;
+use texts::Side;
 use value_json::{write_compact, write_doc};
 
-// The text of a part of the state.
+// The text of a part of the state or of the last change. None if and only if there is no such change.
 #[tactic(auto, using(lens_flat::proofs::FormLenses::is_lens_of))]
 pub(crate) fn part_text(
     alloc: Global,
     session: &Session<Flat>,
+    last: &Option<Accepted>,
     part: Part,
-) -> Result<Vec<u8>, AllocError>
-    ensures { IfOk result
-        (λ text. IsPartText (session_form session.now) (triple_tree session.now.triple) part text.items) }
+) -> Result<Option<Vec<u8>>, AllocError>
+    ensures { IfOk result (λ found. MatchOption found
+        (HasNoChange (session_form session.now) last.now part)
+        (λ text. IsPartText (session_form session.now) (triple_tree session.now.triple) last.now part text.items)) }
 {
     let typed = session.lens().typed();
     match part {
-        Part::State => state_lines(alloc, typed, session),
-        Part::Left => document_text(alloc, typed.left(), session.left()),
-        Part::Complement => complement_text(alloc, typed, session.comp()),
-        Part::Right => document_text(alloc, typed.right(), session.right()),
-        Part::LeftType => type_text(alloc, typed.left()),
-        Part::RightType => type_text(alloc, typed.right()),
+        Part::State => Ok(Some(state_lines(alloc, typed, session)?)),
+        Part::Left => Ok(Some(document_text(alloc, typed.left(), session.left())?)),
+        Part::Complement => Ok(Some(complement_text(alloc, typed, session.comp())?)),
+        Part::Right => Ok(Some(document_text(alloc, typed.right(), session.right())?)),
+        Part::LeftType => Ok(Some(type_text(alloc, typed.left())?)),
+        Part::RightType => Ok(Some(type_text(alloc, typed.right())?)),
+        Part::Snapshot => Ok(Some(snapshot_text(alloc, session)?)),
+        Part::Change => change_text(alloc, typed, last),
+        Part::UndoLeft => undo_text(alloc, typed, last, Side::Left),
+        Part::UndoRight => undo_text(alloc, typed, last, Side::Right),
     }
 }
 
@@ -74,6 +85,17 @@ fn type_text(alloc: Global, ty: &Ty) -> Result<Vec<u8>, AllocError>
 {
     let text = write_type(alloc, ty)?;
     Ok(text.into_string().into_bytes())
+}
+
+// The payload of a snapshot of the session's triple.
+fn snapshot_text(alloc: Global, session: &Session<Flat>) -> Result<Vec<u8>, AllocError>
+    ensures { IfOk result
+        (λ text. IsSnapshotText (session_form session.now) (triple_tree session.now.triple) text.items) }
+{
+    let typed = session.lens().typed();
+    let (left, right) = (session.left(), session.right());
+    let payload = snapshot_payload(alloc, typed, left, session.comp(), right)?;
+    Ok(payload.into_vec())
 }
 
 // The text of a tree that nests no deeper than the reader of JSON reads back.

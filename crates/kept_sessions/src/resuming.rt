@@ -9,14 +9,15 @@ ghost use Rattle.pair_answers.specs.ItemRuns.{IsInStepFor};
 ghost use Rattle.lens_core.specs.Complements.{CompTree, comp_tree};
 ghost use Rattle.lens_forms.specs.Forms.{form_tree};
 ghost use Rattle.kept_sessions.specs.Kept.{IsResumed};
+ghost use Rattle.kept_sessions.specs.Records.{IsFirstRecord};
 ghost use Rattle.kept_sessions.specs.States.{IsDocumentTree, IsDocumentText, IsComplementTree, IsComplementText};
-ghost use Rattle.kept_sessions.specs.States.{IsStateText, IsStateFault};
+ghost use Rattle.kept_sessions.specs.States.{IsNotOfType, IsNotOfForm, IsStateText, IsStateFault};
 
+use crate::beginning::{Begun, begin};
 use crate::kept::Kept;
 use crate::opening::closed;
 use crate::outcome::StateFault;
 use crate::running::Running;
-use accepted_programs::read_lens;
 use complement_file::{CompFault, read_comp};
 use doc_values::{Doc, Ty};
 use edit_session::{Session, Triple};
@@ -33,37 +34,45 @@ use value_json::{DocFault, read_doc};
 pub(crate) fn resume(alloc: Global, program: &[u8], left: &[u8], comp: &[u8], right: &[u8]) -> Kept
     ensures { IsResumed program.now left.now comp.now right.now result }
 {
-    match read_lens(alloc, program) {
-        Ok(typed) => resumed(alloc, typed, left, comp, right),
+    match begin(alloc, program) {
+        Ok(begun) => resumed(alloc, begun, left, comp, right),
         Err(refused) => closed(alloc, refused),
     }
 }
 
-fn resumed(alloc: Global, typed: Typed, left: &[u8], comp: &[u8], right: &[u8]) -> Kept
-    ensures { (program : List ℕ) → lens_of program ≡ Ok (form_tree typed)
+fn resumed(alloc: Global, begun: Begun, left: &[u8], comp: &[u8], right: &[u8]) -> Kept
+    ensures { (program : List ℕ) → lens_of program ≡ Ok (form_tree begun.typed)
+        → IsFirstRecord program begun.text.items
         → IsResumed program left.now comp.now right.now result }
 {
-    match read_state(alloc, &typed, left, comp, right) {
-        Ok(triple) => going_on(alloc, &typed, triple),
+    match read_state(alloc, &begun.typed, left, comp, right) {
+        Ok(triple) => going_on(alloc, begun, triple),
         Err(StateFault::NoMemory) => Kept::NoMemory,
         Err(fault) => Kept::StateRefused(fault),
     }
 }
 
 // The session of a triple that is consistent.
-fn going_on(alloc: Global, typed: &Typed, triple: Triple) -> Kept
-    requires in_step { IsInStepFor (form_tree typed.now) (triple_tree triple) }
-    ensures { (program left comp right : List ℕ) → lens_of program ≡ Ok (form_tree typed.now)
-        → IsStateText (form_tree typed.now) left comp right (triple_tree triple)
+fn going_on(alloc: Global, begun: Begun, triple: Triple) -> Kept
+    requires in_step { IsInStepFor (form_tree begun.typed) (triple_tree triple) }
+    ensures { (program left comp right : List ℕ) → lens_of program ≡ Ok (form_tree begun.typed)
+        → IsFirstRecord program begun.text.items
+        → IsStateText (form_tree begun.typed) left comp right (triple_tree triple)
         → IsResumed program left comp right result }
 {
-    match session_at(alloc, typed, triple) {
-        Ok(session) => Kept::Open(Running::new(alloc, session)),
+    let Begun { typed, text } = begun;
+    match session_at(alloc, &typed, triple) {
+        Ok(session) => Kept::Open(Running::new(session, text)),
         Err(_) => Kept::NoMemory,
     }
 }
 
-fn session_at(alloc: Global, typed: &Typed, triple: Triple) -> Result<Session<Flat>, AllocError>
+// The session of a lens at a triple that is consistent.
+pub(crate) fn session_at(
+    alloc: Global,
+    typed: &Typed,
+    triple: Triple,
+) -> Result<Session<Flat>, AllocError>
     requires in_step { IsInStepFor (form_tree typed.now) (triple_tree triple) }
     ensures form { IfOk result (λ s. form_tree s.lens.typed ≡ form_tree typed.now) }
     ensures triple { IfOk result (λ s. triple_tree s.triple ≡ triple_tree triple) }
@@ -94,7 +103,7 @@ fn read_state(
     Ok(triple)
 }
 
-// The triple of these texts, consistent or not, or which of them is the first that the lens does not have.
+// The triple of these texts, consistent or not, or which text is the first that is not of the lens.
 fn read_triple(
     alloc: Global,
     typed: &Typed,
@@ -119,9 +128,13 @@ fn read_triple(
 }
 
 // The document of a type that a text is the JSON of. None if and only if there is none.
-fn document_of_text(alloc: Global, ty: &Ty, text: &[u8]) -> Result<Option<Doc>, AllocError>
+pub(crate) fn document_of_text(
+    alloc: Global,
+    ty: &Ty,
+    text: &[u8],
+) -> Result<Option<Doc>, AllocError>
     ensures { IfOk result (λ found. MatchOption found
-        ((doc : DocTree) → IsDocumentText (ty_tree ty.now) text.now doc → ⊥)
+        (IsNotOfType (ty_tree ty.now) text.now)
         (λ doc. IsDocumentText (ty_tree ty.now) text.now (doc_tree doc))) }
 {
     match read_tree(alloc, text)? {
@@ -145,7 +158,7 @@ fn document_of_tree(alloc: Global, ty: &Ty, tree: &Value) -> Result<Option<Doc>,
 // The complement of a lens that a text is the JSON of. None if and only if there is none.
 fn complement_of_text(alloc: Global, typed: &Typed, text: &[u8]) -> Result<Option<Comp>, AllocError>
     ensures { IfOk result (λ found. MatchOption found
-        ((comp : CompTree) → IsComplementText (form_tree typed.now) text.now comp → ⊥)
+        (IsNotOfForm (form_tree typed.now) text.now)
         (λ comp. IsComplementText (form_tree typed.now) text.now (comp_tree comp))) }
 {
     match read_tree(alloc, text)? {

@@ -51,7 +51,8 @@ module _ (form : FormTree) where
     abbrev StepsOn : LinkTree → ℕ → ScriptItem → FormTree → Type 0
     StepsOn s n item f =
         (r : (FormTree × LinkTree) × Answer)
-        × (option_map (numbered f n) (take_link_item (left_type f) (right_type f) (missing f) (translate f) s item) ≡ Some r)
+        × (option_map (numbered f n) (take_link_item (left_type f) (right_type f) (missing f) (translate f) s item)
+        ≡ Some r)
         × IsInTurnsWith form r.0
 
     steps_on : (s : LinkTree) (n : ℕ) (item : ScriptItem) → IsLinkOf form s → StepsOn s n item form

@@ -8,7 +8,8 @@ ghost use Rattle.turn_link.specs.Views.{told_tree, link_refusal, batch_tree};
 ghost use Rattle.link_run.specs.EventJson.{EventCause};
 ghost use Rattle.link_run.specs.Reading.{cause_of};
 ghost use Rattle.link_run.specs.Items.{is_refused};
-ghost use Rattle.link_run.specs.Answers.{accepted_line, refused_line, told_line, refusal_line, fault_text, link_answer_line};
+ghost use Rattle.link_run.specs.Answers.{accepted_line, refused_line, told_line, refusal_line, fault_text};
+ghost use Rattle.link_run.specs.Answers.{link_answer_line};
 ghost use Rattle.link_run.specs.Views.{answer_tree, HasToldLine, HasAnswerLine, IsSome};
 
 use crate::fault::EventFault;
@@ -45,7 +46,11 @@ impl LinkAnswer {
 ///
 /// In the word of a batch each insertion and each deletion is of 1 to 65,536 items, and no fault is
 /// that memory ran out. So it is with every answer of [`take_link_item`](crate::take_link_item).
-pub fn link_answer_line(alloc: Global, number: u64, answer: &LinkAnswer) -> Result<Bytes, AllocError>
+pub fn link_answer_line(
+    alloc: Global,
+    number: u64,
+    answer: &LinkAnswer,
+) -> Result<Bytes, AllocError>
     requires has_line { HasAnswerLine answer.now }
     ensures line { IfOk result (λ line. IfSome (answer_tree answer.now)
         (λ answer. line ≡ link_answer_line number answer)) }

@@ -35,7 +35,8 @@ impl PairAnswer {
     {
         match self {
             PairAnswer::Carried(_, _) | PairAnswer::GroupCarried(_, _) => false,
-            PairAnswer::NoApply { .. } | PairAnswer::GroupNoApply { .. } | PairAnswer::NoEntry(_) => true,
+            PairAnswer::NoApply { .. } | PairAnswer::GroupNoApply { .. } | PairAnswer::NoEntry(_) =>
+                true,
         }
     }
 }

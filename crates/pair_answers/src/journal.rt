@@ -43,7 +43,10 @@ pub fn take_item<L: EditLens>(
 }
 
 // The answer to an entry, which steps the session.
-fn take_entry<L: EditLens>(session: &mut Session<L>, entry: &Entry) -> Result<PairAnswer, AllocError>
+fn take_entry<L: EditLens>(
+    session: &mut Session<L>,
+    entry: &Entry,
+) -> Result<PairAnswer, AllocError>
     ensures answer { IfOk result (λ answer. take_change (L.left_type session.old.lens)
         (L.right_type session.old.lens) (L.carried session.old.lens)
         (triple_tree session.old.triple) (one (entry_tree entry.now))
@@ -60,7 +63,10 @@ fn take_entry<L: EditLens>(session: &mut Session<L>, entry: &Entry) -> Result<Pa
 }
 
 // The answer to a group of entries, which steps the session by all of them or by none.
-fn take_group<L: EditLens>(session: &mut Session<L>, entries: Entries) -> Result<PairAnswer, AllocError>
+fn take_group<L: EditLens>(
+    session: &mut Session<L>,
+    entries: Entries,
+) -> Result<PairAnswer, AllocError>
     ensures answer { IfOk result (λ answer. take_change (L.left_type session.old.lens)
         (L.right_type session.old.lens) (L.carried session.old.lens)
         (triple_tree session.old.triple) (group (entry_trees entries))

@@ -15,6 +15,10 @@ use Rattle.script_run.proofs.Prefixes.{part_behind}
 abbrev make : ℕ → Bool → List ℕ → Come
 make n r x = record { number = n; refused = r; text = x }
 
+-- a state, and the progress with it
+abbrev pub with_progress : {T : Type 0} → T → Progress → T × Progress
+with_progress t p = (t, p)
+
 -- answers that are written are behind those before
 come_given : (given : List ℕ) (p p' : Progress) (held held' : Option (List ℕ)) → (g : GivesAnswers p p' held held') → come given p ≡ come (given ++ g.given) p'
 come_given given p p' held held' g =
@@ -23,56 +27,56 @@ come_given given p p' held held' g =
     ∙ ap (λ x. make p'.number p'.refused x) (ap (λ x. given ++ x) g.kept ∙ sym (append_assoc given g.given p'.text.items))
 
 module _ {T : Type 0} (answer : T → ℕ → Line → Option (T × Answer)) where
-  pub nothing_answered : (t : T) (p : Progress) (held : Option (List ℕ)) → AnswersLines answer t p [] held held t p
-  nothing_answered t p held = record {
+  pub nothing_answered : (old : T × Progress) (held : Option (List ℕ)) → AnswersLines answer old [] held held old
+  nothing_answered old held = record {
     text = [];
     appends = Appends-nil held;
-    goes = λ given more. ap (λ x. written_after answer t (come x p) more) (sym (append-nil given));
+    goes = λ given more. ap (λ x. written_after answer old.0 (come x old.1) more) (sym (append-nil given));
   }
 
   -- a line was handled
-  pub line_answered : (t t' : T) (p p' : Progress) (line : Line) (held : Option (List ℕ))
-      → ((given : List ℕ) (lines : List Line) → written_after answer t (come given p) (line ∷ lines) ≡ written_after answer t' (come given p') lines)
-      → AnswersLines answer t p (line ∷ []) held held t' p'
-  line_answered t t' p p' line held h = record {
+  pub line_answered : (old new : T × Progress) (line : Line) (held : Option (List ℕ))
+      → ((given : List ℕ) (lines : List Line) → written_after answer old.0 (come given old.1) (line ∷ lines) ≡ written_after answer new.0 (come given new.1) lines)
+      → AnswersLines answer old (line ∷ []) held held new
+  line_answered old new line held h = record {
     text = [];
     appends = Appends-nil held;
-    goes = λ given more. h given more ∙ ap (λ x. written_after answer t' (come x p') more) (sym (append-nil given));
+    goes = λ given more. h given more ∙ ap (λ x. written_after answer new.0 (come x new.1) more) (sym (append-nil given));
   }
 
   -- answers were written
-  pub answers_given : (t : T) (p p' : Progress) (held held' : Option (List ℕ)) → GivesAnswers p p' held held' → AnswersLines answer t p [] held held' t p'
-  answers_given t p p' held held' g = record {
+  pub answers_given : (old : T × Progress) (p : Progress) (held held' : Option (List ℕ)) → GivesAnswers old.1 p held held' → AnswersLines answer old [] held held' (old.0, p)
+  answers_given old p held held' g = record {
     text = g.given;
     appends = g.appends;
-    goes = λ given more. ap (λ c. written_after answer t c more) (come_given given p p' held held' g);
+    goes = λ given more. ap (λ c. written_after answer old.0 c more) (come_given given old.1 p held held' g);
   }
 
   -- the run stopped when the answers that were kept were written, or a prefix of them
-  pub stops_given : (t : T) (p : Progress) (ended : List Line) (held held' : Option (List ℕ)) (stopped : Stopped) → WritesPart held held' p.text.items stopped
-      → StopsLines answer t p ended held held' stopped
-  stops_given t p ended held held' stopped w = record {
+  pub stops_given : (old : T × Progress) (ended : List Line) (held held' : Option (List ℕ)) (stopped : Stopped) → WritesPart held held' old.1.text.items stopped
+      → StopsLines answer old ended held held' stopped
+  stops_given old ended held held' stopped w = record {
     lines = [];
     rest = ended;
     parts = refl;
-    text = p.text.items;
-    number = p.number;
-    refused = p.refused;
-    state = t;
+    text = old.1.text.items;
+    number = old.1.number;
+    refused = old.1.refused;
+    state = old.0;
     goes = λ given more. refl;
     writes = w;
   }
 
   -- the same where the progress is as before
-  pub stops_unchanged : (t : T) (p p' : Progress) (ended : List Line) (held held' : Option (List ℕ)) (stopped : Stopped) → come [] p' ≡ come [] p → WritesPart held held' p'.text.items stopped
-      → StopsLines answer t p ended held held' stopped
-  stops_unchanged t p p' ended held held' stopped same w =
-      stops_given t p ended held held' stopped (subst (λ x. WritesPart held held' x stopped) (ap (λ (c : Come). c.text) same) w)
+  pub stops_unchanged : (old : T × Progress) (p : Progress) (ended : List Line) (held held' : Option (List ℕ)) (stopped : Stopped) → come [] p ≡ come [] old.1 → WritesPart held held' p.text.items stopped
+      → StopsLines answer old ended held held' stopped
+  stops_unchanged old p ended held held' stopped same w =
+      stops_given old ended held held' stopped (subst (λ x. WritesPart held held' x stopped) (ap (λ (c : Come). c.text) same) w)
 
   -- a stop at some lines is one at them and any that follow
-  pub stops_before : (t : T) (p : Progress) (ended more : List Line) (held held' : Option (List ℕ)) (stopped : Stopped) → StopsLines answer t p ended held held' stopped
-      → StopsLines answer t p (ended ++ more) held held' stopped
-  stops_before t p ended more held held' stopped s = record {
+  pub stops_before : (old : T × Progress) (ended more : List Line) (held held' : Option (List ℕ)) (stopped : Stopped) → StopsLines answer old ended held held' stopped
+      → StopsLines answer old (ended ++ more) held held' stopped
+  stops_before old ended more held held' stopped s = record {
     lines = s.lines;
     rest = s.rest ++ more;
     parts = ap (λ l. l ++ more) s.parts ∙ append_assoc s.lines s.rest more;
@@ -84,24 +88,23 @@ module _ {T : Type 0} (answer : T → ℕ → Line → Option (T × Answer)) whe
     writes = s.writes;
   }
 
-  module _ (t t' : T) (p p' : Progress) (lines : List Line) (held mid : Option (List ℕ)) (a : AnswersLines answer t p lines held mid t' p') where
+  module _ (old mid : T × Progress) (lines : List Line) (held held' : Option (List ℕ)) (a : AnswersLines answer old lines held held' mid) where
     -- more lines
-    pub answers_on : (t'' : T) (p'' : Progress) (next : List Line) (held' : Option (List ℕ)) → AnswersLines answer t' p' next mid held' t'' p''
-        → AnswersLines answer t p (lines ++ next) held held' t'' p''
-    answers_on t'' p'' next held' b = record {
+    pub answers_on : (new : T × Progress) (next : List Line) (held'' : Option (List ℕ)) → AnswersLines answer mid next held' held'' new → AnswersLines answer old (lines ++ next) held held'' new
+    answers_on new next held'' b = record {
       text = a.text ++ b.text;
-      appends = Appends-trans held mid held' a.text b.text a.appends b.appends;
+      appends = Appends-trans held held' held'' a.text b.text a.appends b.appends;
       goes = λ given more.
-          ap (λ l. written_after answer t (come given p) l) (append_assoc lines next more)
+          ap (λ l. written_after answer old.0 (come given old.1) l) (append_assoc lines next more)
           ∙ a.goes given (next ++ more)
           ∙ b.goes (given ++ a.text) more
-          ∙ ap (λ x. written_after answer t'' (come x p'') more) (append_assoc given a.text b.text);
+          ∙ ap (λ x. written_after answer new.0 (come x new.1) more) (append_assoc given a.text b.text);
     }
 
     -- a stop at the lines that follow
-    pub stops_on : (whole next : List Line) (held' : Option (List ℕ)) (stopped : Stopped) → whole ≡ lines ++ next → StopsLines answer t' p' next mid held' stopped
-        → StopsLines answer t p whole held held' stopped
-    stops_on whole next held' stopped e s = record {
+    pub stops_on : (whole next : List Line) (held'' : Option (List ℕ)) (stopped : Stopped) → whole ≡ lines ++ next → StopsLines answer mid next held' held'' stopped
+        → StopsLines answer old whole held held'' stopped
+    stops_on whole next held'' stopped e s = record {
       lines = lines ++ s.lines;
       rest = s.rest;
       parts = e ∙ ap (λ l. lines ++ l) s.parts ∙ sym (append_assoc lines s.lines s.rest);
@@ -110,18 +113,18 @@ module _ {T : Type 0} (answer : T → ℕ → Line → Option (T × Answer)) whe
       refused = s.refused;
       state = s.state;
       goes = λ given more.
-          ap (λ l. written_after answer t (come given p) l) (append_assoc lines s.lines more)
+          ap (λ l. written_after answer old.0 (come given old.1) l) (append_assoc lines s.lines more)
           ∙ a.goes given (s.lines ++ more)
           ∙ s.goes (given ++ a.text) more
           ∙ ap (λ x. written_after answer s.state (make s.number s.refused x) more) (append_assoc given a.text s.text);
-      writes = part_behind stopped held mid held' a.text s.text a.appends s.writes;
+      writes = part_behind stopped held held' held'' a.text s.text a.appends s.writes;
     }
 
     -- answers were written behind the lines, or the sink failed at them
-    pub then_given : (r : Result (Unit {0}) Stopped) (p'' : Progress) (held' : Option (List ℕ)) → OnOk r (GivesAnswers p' p'' mid held')
-        → IfErr r (λ stopped. (stopped ≡ SinkFault) × AppendsFront mid held' p'.text.items)
-        → MatchResult r (λ _. AnswersLines answer t p lines held held' t' p'') (StopsLines answer t p lines held held')
-    then_given (Ok u) p'' held' g s =
-        subst (λ l. AnswersLines answer t p l held held' t' p'') (append-nil lines) (answers_on t' p'' [] held' (answers_given t' p' p'' mid held' g))
-    then_given (Err stopped) p'' held' g s =
-        stops_on lines [] held' stopped (sym (append-nil lines)) (stops_given t' p' [] mid held' stopped (subst (WritesPart mid held' p'.text.items) (sym s.0) s.1))
+    pub then_given : (r : Result (Unit {0}) Stopped) (p : Progress) (held'' : Option (List ℕ)) → OnOk r (GivesAnswers mid.1 p held' held'')
+        → IfErr r (λ stopped. (stopped ≡ SinkFault) × AppendsFront held' held'' mid.1.text.items)
+        → MatchResult r (λ _. AnswersLines answer old lines held held'' (mid.0, p)) (StopsLines answer old lines held held'')
+    then_given (Ok u) p held'' g s =
+        subst (λ l. AnswersLines answer old l held held'' (mid.0, p)) (append-nil lines) (answers_on (mid.0, p) [] held'' (answers_given mid p held' held'' g))
+    then_given (Err stopped) p held'' g s =
+        stops_on lines [] held'' stopped (sym (append-nil lines)) (stops_given mid [] held' held'' stopped (subst (WritesPart held' held'' mid.1.text.items) (sym s.0) s.1))

@@ -77,7 +77,7 @@ has_part source old new input front rest part t head = record {
   by_call (inr last) = last
 
 -- a prefix of a text has at least what was written before
-front_after : {K : Type 0} (sink : OfSink.Ghosts K) (old new : K) (given text : List ℕ) → (count : ℕ) × (length given ≤ count) × WritesStopped 0 [] text count (sink.held old) (sink.held new) stop.SinkFault
+front_after : {K : Type 0} (sink : OfSink.Ghosts K) (old new : K) (given text : List ℕ) → (count : ℕ) × (length given ≤ count) × WritesStopped text count (sink.held old) (sink.held new) stop.SinkFault
     → (front : GaveFront sink old new text) × (length given ≤ front.0)
 front_after sink old new given text (count, few, writes) = ((count, writes.0, writes.1), few)
 
@@ -302,7 +302,7 @@ module _ {H : Type 0} (script : OfScript.Ghosts H) (stay : EveryRunStaysInStep s
           (ended_whole (s, k) (s', k') bytes took end few (given ++ q.text.items) q.status h (Appends-trans (sink.held k) (sink.held mid) (sink.held k') given q.text.items gave all))
       ended_report (Ok q) status h (inr (same, front)) =
           subst (EndsSo (s, k) (s', k')) (sym same)
-          (let f = front_after sink k k' given (given ++ q.text.items) (stopped_behind stop.SinkFault 0 [] (sink.held k) (sink.held mid) (sink.held k') given q.text.items gave front) in
+          (let f = front_after sink k k' given (given ++ q.text.items) (stopped_behind stop.SinkFault (sink.held k) (sink.held mid) (sink.held k') given q.text.items gave front) in
           ended_sink (s, k) (s', k') bytes took (omega (arith, few)) (given ++ q.text.items) (inr (inr (end, (q.status, h)))) f.0 (first_of_all source s s' bytes given f.0.0 nothing are f.1))
       ended_report (Err e) status h (same, all) =
           subst (EndsSo (s, k) (s', k')) (sym same)

@@ -3,9 +3,10 @@
 use Rattle.std.specs.Prelude.{◌≡◌, ◌⊎◌, ℕ, ◌+◌, ◌<◌, ◌≤◌, List, [], ◌++◌, length, take, Bool, true, false, Some, Result}
 use Rattle.std.specs.Prelude.{Ok, Err}
 use Rattle.std.specs.declared.option.Option.{Option}
-use Rattle.std.specs.Io.KnownBytes.{Appends, Consumes, IsAtEnd}
-use Rattle.lens_io.specs.Calls.{Took, IsUnasked}
+use Rattle.std.specs.Io.KnownBytes.{Appends}
+use Rattle.lens_io.specs.Calls.{Took, IsRead, IsUnasked, Gave}
 use Rattle.lens_io.specs.Content.{AppendsFront}
+use Rattle.lens_io.specs.declared.sink.Sink as OfSink
 use Rattle.lens_io.specs.declared.source.Source as OfSource
 use Rattle.edit_journal.specs.Pieces.{fed}
 use Rattle.edit_journal.specs.declared.line.Line.{Line}
@@ -33,15 +34,17 @@ WritesPart held held' text SinkFault = AppendsFront held held' text
 WritesPart held held' text NoMemory = Appends held held' text
 WritesPart held held' text stopped = ⊥
 
--- What was written when a run stopped before its end, over this many bytes: this many bytes of the text. A fault of the
--- source, and too many bytes, leave no line that has ended.
-abbrev pub WritesStopped : ℕ → List Line → List ℕ → ℕ → Option (List ℕ) → Option (List ℕ) → Stopped → Type 0
-WritesStopped taken rest text count held held' SourceFault =
-    (rest ≡ []) × (count ≡ length text) × Appends held held' text × (taken ≤ MOST_BYTES)
-WritesStopped taken rest text count held held' TooLong =
-    (rest ≡ []) × (count ≡ length text) × Appends held held' text × (MOST_BYTES < taken)
-WritesStopped taken rest text count held held' SinkFault = (count < length text) × Appends held held' (take count text)
-WritesStopped taken rest text count held held' NoMemory = (count ≡ length text) × Appends held held' text
+-- This many bytes of the text were written when a run stopped: not all of them after a fault of the sink, else all.
+abbrev pub WritesStopped : List ℕ → ℕ → Option (List ℕ) → Option (List ℕ) → Stopped → Type 0
+WritesStopped text count held held' SinkFault = (count < length text) × Appends held held' (take count text)
+WritesStopped text count held held' stopped = (count ≡ length text) × Appends held held' text
+
+-- These lines had ended and were not answered when a run stopped, over this many bytes. A fault of the source, and too
+-- many bytes, leave none.
+abbrev pub LeavesLines : ℕ → List Line → Stopped → Type 0
+LeavesLines taken rest SourceFault = (rest ≡ []) × (taken ≤ MOST_BYTES)
+LeavesLines taken rest TooLong = (rest ≡ []) × (MOST_BYTES < taken)
+LeavesLines taken rest stopped = Unit {0}
 
 -- The source is called once, and gives so many bytes. After too many bytes it is not called.
 abbrev pub CallsOnce : {S : Type 0} → OfSource.Ghosts S → S → S → ℕ → Result Bool Stopped → Type 0
@@ -56,18 +59,18 @@ CutsShort stopped = ⊥
 
 -- A run of a state that answers lines so.
 module _ {T : Type 0} (answer : T → ℕ → Line → Option (T × Answer)) where
-  -- The run goes over these lines, and these answers are written on the way: from the first state and progress it comes
-  -- to the second, whatever was written before and whatever lines follow.
-  pub record AnswersLines (t : T) (p : Progress) (lines : List Line) (held held' : Option (List ℕ)) (t' : T)
-      (p' : Progress) : Type 0 where
+  -- The run goes over these lines, and these answers are written on the way: from the old state and progress it comes
+  -- to the new, whatever was written before and whatever lines follow.
+  pub record AnswersLines (old : T × Progress) (lines : List Line) (held held' : Option (List ℕ))
+      (new : T × Progress) : Type 0 where
     pub text : List ℕ
     pub appends : Appends held held' text
-    pub goes : (given : List ℕ) (more : List Line)
-        → written_after answer t (come given p) (lines ++ more) ≡ written_after answer t' (come (given ++ text) p') more
+    pub goes : (given : List ℕ) (more : List Line) → written_after answer old.0 (come given old.1) (lines ++ more)
+        ≡ written_after answer new.0 (come (given ++ text) new.1) more
 
   -- The run was stopped at these lines: of all but the rest the answers were made, and these were written, or a prefix
   -- of them.
-  pub record StopsLines (t : T) (p : Progress) (ended : List Line) (held held' : Option (List ℕ))
+  pub record StopsLines (old : T × Progress) (ended : List Line) (held held' : Option (List ℕ))
       (stopped : Stopped) : Type 0 where
     pub lines : List Line
     pub rest : List Line
@@ -76,52 +79,11 @@ module _ {T : Type 0} (answer : T → ℕ → Line → Option (T × Answer)) whe
     pub number : ℕ
     pub refused : Bool
     pub state : T
-    pub goes : (given : List ℕ) (more : List Line) → written_after answer t (come given p) (lines ++ more)
+    pub goes : (given : List ℕ) (more : List Line) → written_after answer old.0 (come given old.1) (lines ++ more)
         ≡ written_after answer state (record { number = number; refused = refused; text = given ++ text }) more
     pub writes : WritesPart held held' text stopped
 
-  -- ---- one turn
-
-  -- All lines that the piece has ended are answered, and their answers are written. An empty piece is the end, and then
-  -- there were not too many bytes.
-  pub record PieceAnswered (input input' : TakenInput) (bytes : List ℕ) (source' held held' : Option (List ℕ))
-      (t t' : T) (p p' : Progress) (more : Bool) : Type 0 where
-    pub lines : input'.lines ≡ record { ended = []; begun = (fed input.lines bytes).begun }
-    pub answers : AnswersLines t p (fed input.lines bytes).ended held held' t' p'
-    pub written : p'.text.items ≡ []
-    pub some : more ≡ true → 0 < length bytes
-    pub at_end : more ≡ false → (bytes ≡ []) × IsAtEnd source' × (input.taken ≤ MOST_BYTES)
-
-  -- A fault of the source, and too many bytes, take nothing and write nothing.
-  abbrev pub StopsPiece : TakenInput → TakenInput → List ℕ → Option (List ℕ) → Option (List ℕ) → T → Progress → Stopped
-      → Type 0
-  StopsPiece input input' bytes held held' t p SourceFault =
-      (bytes ≡ []) × Appends held held' [] × (input'.taken ≤ MOST_BYTES)
-  StopsPiece input input' bytes held held' t p TooLong =
-      (bytes ≡ []) × Appends held held' [] × (MOST_BYTES < input'.taken)
-  StopsPiece input input' bytes held held' t p SinkFault =
-      StopsLines t p (fed input.lines bytes).ended held held' SinkFault
-  StopsPiece input input' bytes held held' t p NoMemory =
-      StopsLines t p (fed input.lines bytes).ended held held' NoMemory
-
-  abbrev pub PieceEnds : TakenInput → TakenInput → List ℕ → Option (List ℕ) → Option (List ℕ) → Option (List ℕ) → T → T
-      → Progress → Progress → Result Bool Stopped → Type 0
-  PieceEnds input input' bytes source' held held' t t' p p' (Ok more) =
-      PieceAnswered input input' bytes source' held held' t t' p p' more
-  PieceEnds input input' bytes source' held held' t t' p p' (Err stopped) =
-      StopsPiece input input' bytes held held' t p stopped
-
-  -- These bytes were taken by one call of the source, and what they have ended was answered.
-  pub record AnswersPiece {S : Type 0} (source : OfSource.Ghosts S) (s s' : S) (input input' : TakenInput)
-      (held held' : Option (List ℕ)) (t t' : T) (p p' : Progress) (result : Result Bool Stopped) : Type 0 where
-    pub bytes : List ℕ
-    pub consumes : Took source s s' bytes
-    pub once : CallsOnce source s s' (length bytes) result
-    pub taken : input'.taken ≡ input.taken + length bytes
-    pub at_most : input'.taken ≤ MOST_BYTES + 1
-    pub ends : PieceEnds input input' bytes (source.left s') held held' t t' p p' result
-
-  -- ---- a run from a state on
+  -- ---- from a state on
 
   module _ (start : T) where
     -- the answer lines to these lines are this text
@@ -147,61 +109,103 @@ module _ {T : Type 0} (answer : T → ℕ → Line → Option (T × Answer)) whe
       pub answered : AreAnswered (fed before.lines earlier).ended text
       pub written : length text ≤ count
 
-    -- the source was not called, and nothing was taken; or all lines that had ended before its last call are answered
-    abbrev pub AnswersFirst : {S : Type 0} → OfSource.Ghosts S → S → S → TakenInput → List ℕ → ℕ → Type 0
-    AnswersFirst source s s' before more count =
-        IsUnasked source s s' × (more ≡ []) ⊎ AnswersBefore before (source.last s') more count
+-- What the loop finds before a piece, and leaves after it: its devices, the input as far as it was taken, and the state
+-- that answers its lines.
+pub record Stage (S K T : Type 0) : Type 0 where
+  pub source : S
+  pub sink : K
+  pub input : TakenInput
+  pub state : T
 
-    -- A run that stopped after these bytes. Of the lines that have ended all but the rest are answered, and this many
-    -- bytes of the answers were written.
-    pub record StopsRun {S : Type 0} (source : OfSource.Ghosts S) (s s' : S) (before : TakenInput) (more : List ℕ)
-        (held held' : Option (List ℕ)) (stopped : Stopped) : Type 0 where
-      pub lines : List Line
-      pub rest : List Line
-      pub ended : (fed before.lines more).ended ≡ lines ++ rest
-      pub text : List ℕ
-      pub answered : AreAnswered lines text
-      pub count : ℕ
-      pub writes : WritesStopped (before.taken + length more) rest text count held held' stopped
-      pub answers_first : CutsShort stopped → AnswersFirst source s s' before more count
+-- The loop came from the old stage to the new one.
+module _ {S K T : Type 0} (answer : T → ℕ → Line → Option (T × Answer)) (source : OfSource.Ghosts S)
+    (sink : OfSink.Ghosts K) (old new : Stage S K T) where
+  -- ---- one turn
 
-    -- A run that came to the end of its input, where the source gave nothing more: the answers to all lines that have
-    -- ended were written.
-    pub record EndsRun {S : Type 0} (source : OfSource.Ghosts S) (s' : S) (before input : TakenInput) (more : List ℕ)
-        (held held' : Option (List ℕ)) (t : T) (p : Progress) : Type 0 where
-      pub at_end : IsAtEnd (source.left s')
-      pub gave_nothing : source.last s' ≡ 0
-      pub within : before.taken + length more ≤ MOST_BYTES
-      pub given : List ℕ
-      pub appends : Appends held held' given
-      pub nothing_left : p.text.items ≡ []
-      pub none : input.lines.ended ≡ []
-      pub begun : (fed before.lines more).begun ≡ input.lines.begun
-      pub comes : ComesTo (fed before.lines more).ended given t p
+  -- All lines that the piece has ended are answered, and their answers are written. An empty piece is the end, and then
+  -- there were not too many bytes.
+  pub record PieceAnswered (bytes : List ℕ) (p p' : Progress) (more : Bool) : Type 0 where
+    pub lines : new.input.lines ≡ record { ended = []; begun = (fed old.input.lines bytes).begun }
+    pub answers : AnswersLines answer (old.state, p) (fed old.input.lines bytes).ended
+        (sink.held old.sink) (sink.held new.sink) (new.state, p')
+    pub written : p'.text.items ≡ []
+    pub some : more ≡ true → 0 < length bytes
+    pub at_end : more ≡ false → (bytes ≡ []) × IsRead source old.source new.source × (old.input.taken ≤ MOST_BYTES)
 
-    abbrev pub HasEnded : {S : Type 0} → OfSource.Ghosts S → S → S → TakenInput → TakenInput → List ℕ → Option (List ℕ)
-        → Option (List ℕ) → T → Result Progress Stopped → Type 0
-    HasEnded source s s' before input more held held' t (Ok p) = EndsRun source s' before input more held held' t p
-    HasEnded source s s' before input more held held' t (Err stopped) =
-        StopsRun source s s' before more held held' stopped
+  -- A fault of the source, and too many bytes, take nothing and write nothing.
+  abbrev pub StopsPiece : List ℕ → Progress → Stopped → Type 0
+  StopsPiece bytes p SourceFault = (bytes ≡ []) × Gave sink old.sink new.sink [] × (new.input.taken ≤ MOST_BYTES)
+  StopsPiece bytes p TooLong = (bytes ≡ []) × Gave sink old.sink new.sink [] × (MOST_BYTES < new.input.taken)
+  StopsPiece bytes p stopped =
+      StopsLines answer (old.state, p) (fed old.input.lines bytes).ended
+      (sink.held old.sink) (sink.held new.sink) stopped
 
-    -- Answering the lines of an input took these bytes more.
-    pub record AnswersPieces {S : Type 0} (source : OfSource.Ghosts S) (s s' : S) (before input : TakenInput)
-        (held held' : Option (List ℕ)) (t : T) (result : Result Progress Stopped) : Type 0 where
-      pub more : List ℕ
-      pub consumes : Took source s s' more
-      pub at_most : before.taken + length more ≤ MOST_BYTES + 1
-      pub has_ended : HasEnded source s s' before input more held held' t result
+  abbrev pub PieceEnds : List ℕ → Progress → Progress → Result Bool Stopped → Type 0
+  PieceEnds bytes p p' (Ok more) = PieceAnswered bytes p p' more
+  PieceEnds bytes p p' (Err stopped) = StopsPiece bytes p stopped
 
-    -- The run as it goes on: these bytes were taken, all lines that have ended are answered, and their answers are
-    -- written.
-    pub record ComesOn (before input : TakenInput) (left' left'' held held' : Option (List ℕ)) (t : T)
-        (p : Progress) : Type 0 where
-      pub more : List ℕ
-      pub consumes : Consumes left' left'' more
-      pub count : input.taken ≡ before.taken + length more
-      pub given : List ℕ
-      pub appends : Appends held held' given
-      pub lines : input.lines ≡ record { ended = []; begun = (fed before.lines more).begun }
-      pub written : p.text.items ≡ []
-      pub comes : ComesTo (fed before.lines more).ended given t p
+  -- These bytes were taken by one call of the source, and what they have ended was answered.
+  pub record AnswersPiece (p p' : Progress) (result : Result Bool Stopped) : Type 0 where
+    pub bytes : List ℕ
+    pub consumes : Took source old.source new.source bytes
+    pub once : CallsOnce source old.source new.source (length bytes) result
+    pub taken : new.input.taken ≡ old.input.taken + length bytes
+    pub at_most : new.input.taken ≤ MOST_BYTES + 1
+    pub ends : PieceEnds bytes p p' result
+
+  -- ---- the loop, which took these bytes more
+
+  -- the source was not called, and nothing was taken; or all lines that had ended before its last call are answered
+  abbrev pub AnswersFirst : List ℕ → ℕ → Type 0
+  AnswersFirst more count =
+      IsUnasked source old.source new.source × (more ≡ [])
+      ⊎ AnswersBefore answer old.state old.input (source.last new.source) more count
+
+  -- It stopped after these bytes. Of the lines that have ended all but the rest are answered, and this many bytes of
+  -- the answers were written.
+  pub record StopsRun (more : List ℕ) (stopped : Stopped) : Type 0 where
+    pub lines : List Line
+    pub rest : List Line
+    pub ended : (fed old.input.lines more).ended ≡ lines ++ rest
+    pub text : List ℕ
+    pub answered : AreAnswered answer old.state lines text
+    pub count : ℕ
+    pub writes : WritesStopped text count (sink.held old.sink) (sink.held new.sink) stopped
+    pub leaves : LeavesLines (old.input.taken + length more) rest stopped
+    pub answers_first : CutsShort stopped → AnswersFirst more count
+
+  -- It came to the end of its input, where the source gave nothing more: the answers to all lines that have ended were
+  -- written.
+  pub record EndsRun (more : List ℕ) (p : Progress) : Type 0 where
+    pub at_end : IsRead source old.source new.source
+    pub gave_nothing : source.last new.source ≡ 0
+    pub within : old.input.taken + length more ≤ MOST_BYTES
+    pub given : List ℕ
+    pub gave : Gave sink old.sink new.sink given
+    pub nothing_left : p.text.items ≡ []
+    pub none : new.input.lines.ended ≡ []
+    pub begun : (fed old.input.lines more).begun ≡ new.input.lines.begun
+    pub comes : ComesTo answer old.state (fed old.input.lines more).ended given new.state p
+
+  abbrev pub HasEnded : List ℕ → Result Progress Stopped → Type 0
+  HasEnded more (Ok p) = EndsRun more p
+  HasEnded more (Err stopped) = StopsRun more stopped
+
+  -- Answering the lines of an input took these bytes more.
+  pub record AnswersPieces (result : Result Progress Stopped) : Type 0 where
+    pub more : List ℕ
+    pub consumes : Took source old.source new.source more
+    pub at_most : old.input.taken + length more ≤ MOST_BYTES + 1
+    pub has_ended : HasEnded more result
+
+  -- The loop as it goes on: these bytes were taken, all lines that have ended are answered, and their answers are
+  -- written.
+  pub record ComesOn (p : Progress) : Type 0 where
+    pub more : List ℕ
+    pub consumes : Took source old.source new.source more
+    pub count : new.input.taken ≡ old.input.taken + length more
+    pub given : List ℕ
+    pub gave : Gave sink old.sink new.sink given
+    pub lines : new.input.lines ≡ record { ended = []; begun = (fed old.input.lines more).begun }
+    pub written : p.text.items ≡ []
+    pub comes : ComesTo answer old.state (fed old.input.lines more).ended given new.state p

@@ -40,8 +40,9 @@ pub fn answer_pieces<S: Source, K: Sink, A: LineAnswers>(
 ) -> Result<Progress, Stopped>
     requires some { 0 < length piece.old }
     requires within { IsWithin input.old }
-    ensures answers { AnswersPieces A.answer (A.state state.old) S.Source source.old source.new input.old input.new
-        (K.held sink.old) (K.held sink.new) (A.state state.new) result }
+    ensures answers { AnswersPieces A.answer S.Source K.Sink
+        (record { source = source.old; sink = sink.old; input = input.old; state = A.state state.old })
+        (record { source = source.new; sink = sink.new; input = input.new; state = A.state state.new }) result }
     ensures few { GaveFew S.Source source.old source.new (length piece.old) }
     ensures number { IfOk result (λ p. p.number ≤ MOST_BYTES + 1) }
     ensures source_fault { IsErrOf result Stopped.SourceFault
@@ -80,9 +81,10 @@ pub fn answer_piece<S: Source, K: Sink, A: LineAnswers>(
     requires written { progress.old.text.items ≡ [] }
     requires number { progress.old.number ≤ input.old.taken }
     requires within { input.old.taken ≤ MOST_BYTES + 1 }
-    ensures one_piece { AnswersPiece A.answer S.Source source.old source.new input.old input.new
-        (K.held sink.old) (K.held sink.new) (A.state state.old)
-        (A.state state.new) progress.old progress.new result }
+    ensures one_piece { AnswersPiece A.answer S.Source K.Sink
+        (record { source = source.old; sink = sink.old; input = input.old; state = A.state state.old })
+        (record { source = source.new; sink = sink.new; input = input.new; state = A.state state.new })
+        progress.old progress.new result }
     ensures few { GaveFew S.Source source.old source.new (length piece.old) }
     ensures answered { OnOk result (input.new.lines.ended ≡ []) }
     ensures written { OnOk result (progress.new.text.items ≡ []) }
@@ -113,11 +115,10 @@ fn answer_ended<K: Sink, A: LineAnswers>(
 ) -> Result<(), Stopped>
     requires fits { progress.old.number + length input.old.lines.ended < 2 ^ 64 }
     ensures answers { MatchResult result
-        (λ _. AnswersLines A.answer (A.state state.old) progress.old
-        input.old.lines.ended (K.held sink.old) (K.held sink.new)
-        (A.state state.new) progress.new)
-        (StopsLines A.answer (A.state state.old) progress.old
-        input.old.lines.ended (K.held sink.old) (K.held sink.new)) }
+        (λ _. AnswersLines A.answer (A.state state.old, progress.old) input.old.lines.ended
+        (K.held sink.old) (K.held sink.new) (A.state state.new, progress.new))
+        (StopsLines A.answer (A.state state.old, progress.old) input.old.lines.ended
+        (K.held sink.old) (K.held sink.new)) }
     ensures rest { OnOk result
         (input.new.lines ≡ record { ended = []; begun = input.old.lines.begun }) }
     ensures written { OnOk result (progress.new.text.items ≡ []) }
@@ -148,11 +149,10 @@ fn answer_line<K: Sink, A: LineAnswers>(
 ) -> Result<(), Stopped>
     requires fits { progress.old.number + 1 < 2 ^ 64 }
     ensures answers { MatchResult result
-        (λ _. AnswersLines A.answer (A.state state.old) progress.old
-        (line.now ∷ []) (K.held sink.old) (K.held sink.new)
-        (A.state state.new) progress.new)
-        (StopsLines A.answer (A.state state.old) progress.old
-        (line.now ∷ []) (K.held sink.old) (K.held sink.new)) }
+        (λ _. AnswersLines A.answer (A.state state.old, progress.old) (line.now ∷ [])
+        (K.held sink.old) (K.held sink.new) (A.state state.new, progress.new))
+        (StopsLines A.answer (A.state state.old, progress.old) (line.now ∷ [])
+        (K.held sink.old) (K.held sink.new)) }
     ensures few_kept { OnOk result (length progress.new.text.items < MOST_KEPT) }
     ensures number { OnOk result (progress.new.number ≤ progress.old.number + 1) }
     ensures sink_faults { (K.faults sink.old ≤ K.faults sink.new)

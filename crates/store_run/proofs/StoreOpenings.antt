@@ -20,6 +20,7 @@ use Rattle.store_run.specs.Reopening.{IsReopenFault}
 use Rattle.store_run.specs.Stores.{Store, RefusedStore}
 use Rattle.store_run.specs.declared.opening.OpenFault.{OpenFault}
 use Rattle.store_run.specs.declared.opening.OpenFault.TheVariants.{Refused, DiskFault, NoMemory}
+use Rattle.store_run.specs.declared.opening.OpenedStore.{OpenedStore}
 use Rattle.store_run.specs.declared.refusals.StoreRefusal.{StoreRefusal}
 use Rattle.store_run.specs.declared.refusals.StoreRefusal.TheVariants.{NotALog, LogExists, LogFull, BadRecord, NotConsistent, NothingToUndo}
 use Rattle.store_run.specs.declared.session.ReopenFault.{ReopenFault}
@@ -91,9 +92,9 @@ module _ {K : Type 0} (sink : OfSink.Ghosts K) (k k' : K) (status : Status) wher
   unopened_other NoMemory fails ends = ([], refl, ends.1)
 
 -- the state and the version of a session that was opened are those of its store
-pub as_opened : {D A : Type 0} (disk : OfDisk.Ghosts D) (session : OfSession.Ghosts A) (d d' : D) (store : Store disk session d) (l : LogState) (state : session.State) (version : Option (List ℕ)) (count : ℕ)
-    → IsOpened disk session d d' store l state version count → ◌≡◌ {A = session.State × Option (List ℕ)} (state, version) (store.state, store.version)
-as_opened disk session d d' store l state version count o = ap₂ (λ (x : session.State) (y : Option (List ℕ)). (x, y)) o.state_is o.version_is
+pub as_opened : {D A : Type 0} (disk : OfDisk.Ghosts D) (session : OfSession.Ghosts A) (d d' : D) (store : Store disk session d) (made : OpenedStore A) → IsOpened disk session d d' store made
+    → ◌≡◌ {A = session.State × Option (List ℕ)} (session.state made.session, made.version) (store.state, store.version)
+as_opened disk session d d' store made o = ap₂ (λ (x : session.State) (y : Option (List ℕ)). (x, y)) o.state_is o.version_is
 
 -- an error is one fault
 pub same_fault : {T : Type 0} (fault other : OpenFault) → IsErrOf {T = T} (Err fault) other → fault ≡ other

@@ -17,7 +17,8 @@ use Rattle.store_run.specs.declared.stop.Stop.{Stop}
 module _ {S K D A : Type 0} (source : OfSource.Ghosts S) (sink : OfSink.Ghosts K) (disk : OfDisk.Ghosts D)
     (session : OfSession.Ghosts A) (old new : S × K × D × LogState) where
   -- The source was read to its end, and gave these bytes. All their lines are answered.
-  pub record EndsJournal (t : session.State) (p : StoreProgress) (t' : session.State) (p' : StoreProgress) : Type 0 where
+  pub record EndsJournal (t : session.State) (p : StoreProgress) (t' : session.State)
+      (p' : StoreProgress) : Type 0 where
     pub bytes : List ℕ
     pub consumes : Took source old.0 new.0 bytes
     pub at_end : IsRead source old.0 new.0

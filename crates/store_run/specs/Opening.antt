@@ -1,7 +1,6 @@
 -- What the opening of a store comes to. Read it from the end: `EndsUnopened` is of a command whose store was not
 -- opened, `IsOpened`, `FailsToOpen` and `IsRefusedFor` are of the session, `IsReadLog` and `IsUnreadFor` of the log.
 use Rattle.std.specs.Prelude.{◌≡◌, ℕ, List, []}
-use Rattle.std.specs.declared.option.Option.{Option}
 use Rattle.command_ends.specs.declared.status.Status.{Status}
 use Rattle.command_ends.specs.declared.status.Status.TheVariants as ending
 use Rattle.lens_io.specs.Calls.{Gave}
@@ -16,6 +15,7 @@ use Rattle.store_run.specs.Refusals.{Refuses}
 use Rattle.store_run.specs.Stores.{Store}
 use Rattle.store_run.specs.declared.opening.OpenFault.{OpenFault}
 use Rattle.store_run.specs.declared.opening.OpenFault.TheVariants.{Refused, DiskFault, NoMemory}
+use Rattle.store_run.specs.declared.opening.OpenedStore.{OpenedStore}
 use Rattle.store_run.specs.declared.refusals.StoreRefusal.{StoreRefusal}
 use Rattle.store_run.specs.declared.refusals.StoreRefusal.TheVariants.{NotALog, LogExists, LogFull, BadRecord}
 use Rattle.store_run.specs.declared.refusals.StoreRefusal.TheVariants.{NotConsistent}
@@ -60,14 +60,14 @@ IsUnreadFor bytes NoMemory = Unit {0}
 
 -- ---- a session that is opened
 
--- The session, the version record and the count of changes are those of the store, whose log stands on the disk.
-pub record IsOpened {D A : Type 0} (disk : OfDisk.Ghosts D) (session : OfSession.Ghosts A) (old new : D)
-    (store : Store disk session old)
-    (log : LogState) (state : session.State) (version : Option (List ℕ)) (count : ℕ) : Type 0 where
-  pub stands : StandsOn disk new log store.payloads
-  pub state_is : state ≡ store.state
-  pub version_is : version ≡ store.version
-  pub counted : count ≡ session.count_of store.payloads
+module _ {D A : Type 0} (disk : OfDisk.Ghosts D) (session : OfSession.Ghosts A) (old new : D)
+    (store : Store disk session old) where
+  -- The session, the version record and the count of changes are those of the store, whose log stands on the disk.
+  pub record IsOpened (made : OpenedStore A) : Type 0 where
+    pub stands : StandsOn disk new made.log store.payloads
+    pub state_is : session.state made.session ≡ store.state
+    pub version_is : made.version ≡ store.version
+    pub counted : made.count ≡ session.count_of store.payloads
 
 -- a store is not refused
 abbrev pub FailsToOpen : OpenFault → Type 0

@@ -69,12 +69,12 @@ module _ {S A : Type 0} (source : OfSource.Ghosts S) (session : OfSession.Ghosts
   IsCauseInRoom room before t version ending.NoMemory = Unit {0}
   IsCauseInRoom room before t version status = ⊥
 
--- the same, of a source and a disk before the call and after it
-abbrev pub IsApplyCause : {S D A : Type 0} → OfSource.Ghosts S → OfDisk.Ghosts D → (session : OfSession.Ghosts A) → S
-    × D → S × D
-    → List (List ℕ) → session.State → Option (List ℕ) → Status → Type 0
-IsApplyCause source disk session old new before t version status =
-    IsCauseInRoom source session old.0 new.0 (disk.room old.1) before t version status
+module _ {S D A : Type 0} (source : OfSource.Ghosts S) (disk : OfDisk.Ghosts D) (session : OfSession.Ghosts A)
+    (old new : S × D) where
+  -- the same, of a source and a disk before the call and after it
+  abbrev pub IsApplyCause : List (List ℕ) → session.State → Option (List ℕ) → Status → Type 0
+  IsApplyCause before t version status =
+      IsCauseInRoom source session old.0 new.0 (disk.room old.1) before t version status
 
 module _ {A : Type 0} (session : OfSession.Ghosts A) where
   -- the version record, if it is to be stored, or a snapshot of the state has no room on a disk of so many bytes
@@ -93,7 +93,7 @@ module _ {A : Type 0} (session : OfSession.Ghosts A) where
   IsPackCauseInRoom room before t version ending.NoMemory = Unit {0}
   IsPackCauseInRoom room before t version status = ⊥
 
--- the same, of a disk before the call
-abbrev pub IsPackCause : {D A : Type 0} → OfDisk.Ghosts D → (session : OfSession.Ghosts A) → D
-    → List (List ℕ) → session.State → Option (List ℕ) → Status → Type 0
-IsPackCause disk session old before t version status = IsPackCauseInRoom session (disk.room old) before t version status
+module _ {D A : Type 0} (disk : OfDisk.Ghosts D) (session : OfSession.Ghosts A) (old : D) where
+  -- the same, of a disk before the call
+  abbrev pub IsPackCause : List (List ℕ) → session.State → Option (List ℕ) → Status → Type 0
+  IsPackCause before t version status = IsPackCauseInRoom session (disk.room old) before t version status

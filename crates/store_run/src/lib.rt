@@ -31,7 +31,7 @@ pub use journal::{StoreProgress, store_line, store_lines, store_pieces};
 pub use opening::{OpenFault, OpenedStore, ReadStore, open_store, read_store, refuse_store};
 pub use pack_call::{pack, pack_store};
 pub use refusals::{StoreRefusal, give_stop, refuse};
-pub use session::{StoredAnswer, Opened, ReopenFault, StoredSession};
+pub use session::{Opened, ReopenFault, StoredAnswer, StoredSession};
 pub use stop::Stop;
 pub use store::{store_and_answer, store_version};
 pub use view_call::{show, verify};

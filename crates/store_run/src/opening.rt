@@ -125,8 +125,7 @@ pub fn open_store<A: StoredSession + Drop, D: Disk>(
     disk: &mut D,
 ) -> Result<OpenedStore<A>, OpenFault>
     ensures opened { (store : Store D.Disk A.StoredSession disk.old)
-        → MatchResult result (λ made. IsOpened D.Disk A.StoredSession disk.old disk.new store
-        made.log (A.state made.session) made.version made.count) FailsToOpen }
+        → MatchResult result (IsOpened D.Disk A.StoredSession disk.old disk.new store) FailsToOpen }
     ensures refused { (other : RefusedStore D.Disk A.StoredSession disk.old)
         → MatchResult result (λ _. ⊥) (IsRefusedFor other.reason) }
     ensures held { (store : Store D.Disk A.StoredSession disk.old)

@@ -92,7 +92,12 @@ pub trait StoredSession: Sized {
         ensures { IfOk result (λ payload. is_snapshot (state self.now) payload) };
 
     /// Answers the item with this number. The only error is running out of memory.
-    fn answer(&mut self, alloc: Global, number: u64, line: &Line) -> Result<StoredAnswer, AllocError>
+    fn answer(
+        &mut self,
+        alloc: Global,
+        number: u64,
+        line: &Line,
+    ) -> Result<StoredAnswer, AllocError>
         ensures answer { IfOk result (λ a.
             answer (state self.old) number line.now ≡ Some (state self.new, a)) }
         ensures step { IfOk result (λ a. is_step (state self.old) number line.now (state self.new, a)) }

@@ -160,7 +160,8 @@ module _ (s : StoredState) (n : ℕ) where
   kinds item t a h = of_taken item t a (taken s item) refl h
 
 -- an item that is refused leaves the state
-pub refused_stays : (t t' : StoredState) (n : ℕ) (line : Line) (a : StoredAnswer) → answer t n line ≡ Some (t', a) → a.payload
+pub refused_stays : (t t' : StoredState) (n : ℕ) (line : Line) (a : StoredAnswer) → answer t n line ≡ Some (t', a)
+    → a.payload
     ≡ None → t' ≡ t
 refused_stays t t' n line a e none =
     elim (kinds t n (change_of_line line) t' a e) [ inl r ↦ r.same | inr r ↦ let p = r.payload in cc ]

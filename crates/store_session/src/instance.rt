@@ -8,7 +8,7 @@ use crate::snapshot_making::snapshot_of;
 use edit_journal::Line;
 use lens_io::Payloads;
 use std::alloc::{AllocError, Global};
-use store_run::{StoredAnswer, Opened, ReopenFault, StoredSession};
+use store_run::{Opened, ReopenFault, StoredAnswer, StoredSession};
 use texts::Bytes;
 
 impl StoredSession for StoreSession {
@@ -55,7 +55,12 @@ impl StoredSession for StoreSession {
         snapshot_of(alloc, &self.session)
     }
 
-    fn answer(&mut self, alloc: Global, number: u64, line: &Line) -> Result<StoredAnswer, AllocError> {
+    fn answer(
+        &mut self,
+        alloc: Global,
+        number: u64,
+        line: &Line,
+    ) -> Result<StoredAnswer, AllocError> {
         answer_item(alloc, &mut self.session, number, line)
     }
 

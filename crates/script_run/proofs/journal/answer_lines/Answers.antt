@@ -1,8 +1,8 @@
-use Rattle.std.proofs.Common.{Ok, Err, length, sym, subst, arith}
+use Rattle.std.proofs.Common.{length, sym, subst, arith}
 use Rattle.lens_io.specs.Content.{IsFull}
-use Rattle.script_run.specs.LineEnds.{AnswersPieces}
 use Rattle.script_run.specs.ScriptEnds.{Ended}
 use Rattle.script_run.proofs.JournalEnds.{run_ends, run_stops}
+use Rattle.script_run.proofs.PiecesComeOn.{stage}
 use Rattle.script_run.proofs.journal.answer_lines.Goals as goal
 use Rattle.lens_io.proofs.Increases.{sink_failed_since}
 
@@ -15,32 +15,22 @@ last_report-requires-clause-fits g c = omega (arith, c.in-Ok.ensures.number)
 pub returns-in-Ok-clause-ended : goal.returns-in-Ok-clause-ended
 returns-in-Ok-clause-ended g c = λ start front rest part program t head is first.
     let script = g.A.ScriptState in
-    let sink = g.K.Sink in
-    let input = c.args.input in
-    let next = c.answer_pieces.new.input in
-    let now = c.args.source.now in
-    let now' = c.answer_pieces.new.source in
-    let k = c.args.sink.now in
-    let mid = c.answer_pieces.new.sink in
-    let end = script.state c.answer_pieces.new.state.state in
-    let p = subst (λ u. AnswersPieces script.answer u g.S.Source now now' input next (sink.held k) (sink.held mid) end (Ok c.in-Ok.progress)) first c.in-Ok.ensures.answers in
-    run_ends script c.requires.in_step g.S.Source sink start now now' input front rest part t head program is next k mid c.give_report.new.sink p.more end c.in-Ok.progress p.has_ended
+    let after = c.answer_pieces.new in
+    let old = stage c.args.source.now c.args.sink.now c.args.input (script.state c.args.lines.now.state) in
+    let new = stage after.source after.sink after.input (script.state after.state.state) in
+    let p = c.in-Ok.ensures.answers in
+    run_ends script c.requires.in_step g.S.Source g.K.Sink start old new front rest part t head program is first c.give_report.new.sink p.more c.in-Ok.progress p.has_ended
     c.last_report.result c.give_report.result p.consumes c.last_report.ensures.report c.give_report.ensures.gives
 
 pub returns-in-Err-clause-ended : goal.returns-in-Err-clause-ended
 returns-in-Err-clause-ended g c = λ start front rest part program t head is first.
     let script = g.A.ScriptState in
-    let sink = g.K.Sink in
-    let input = c.args.input in
-    let next = c.answer_pieces.new.input in
-    let now = c.args.source.now in
-    let now' = c.answer_pieces.new.source in
-    let k = c.args.sink.now in
-    let k' = c.answer_pieces.new.sink in
-    let end = script.state c.answer_pieces.new.state.state in
-    let p = subst (λ u. AnswersPieces script.answer u g.S.Source now now' input next (sink.held k) (sink.held k') end (Err c.in-Err.stopped)) first c.in-Err.ensures.answers in
-    subst (Ended script g.S.Source sink (start, k) (now', k')) (sym c.status.ensures)
-    (run_stops script c.requires.in_step g.S.Source sink start now now' input front rest part t head program is (length c.args.piece.now) c.requires.few c.in-Err.ensures.few k k' p.more c.in-Err.stopped p.consumes p.at_most
+    let after = c.answer_pieces.new in
+    let old = stage c.args.source.now c.args.sink.now c.args.input (script.state c.args.lines.now.state) in
+    let new = stage after.source after.sink after.input (script.state after.state.state) in
+    let p = c.in-Err.ensures.answers in
+    subst (Ended script g.S.Source g.K.Sink (start, old.sink) (new.source, new.sink)) (sym c.status.ensures)
+    (run_stops script c.requires.in_step g.S.Source g.K.Sink start old new front rest part t head program is first (length c.args.piece.now) c.requires.few c.in-Err.ensures.few p.more c.in-Err.stopped p.consumes p.at_most
     p.has_ended)
 
 pub returns-in-Ok-clause-sink_fault : goal.returns-in-Ok-clause-sink_fault

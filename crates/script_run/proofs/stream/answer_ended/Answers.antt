@@ -3,16 +3,17 @@ use Rattle.std.specs.Prelude.{MatchResult}
 use Rattle.script_input.proofs.EndedLines.{taken_line, none_taken}
 use Rattle.script_input.proofs.Outcomes.{as_error}
 use Rattle.script_run.specs.LineEnds.{AnswersLines, StopsLines}
-use Rattle.script_run.proofs.AnsweredLines.{nothing_answered, answers_on, stops_on, stops_before, stops_given, then_given}
+use Rattle.script_run.proofs.AnsweredLines.{with_progress, nothing_answered, answers_on, stops_on, stops_before, stops_given, then_given}
 use Rattle.script_run.proofs.stream.answer_ended.Goals as goal
 
 pub lines-init : goal.lines-init
 lines-init g c =
     let answer = g.A.LineAnswers.answer in
     let state = g.A.LineAnswers.state in
-    let start = c.args.state.now in
+    let held = g.K.Sink.held in
+    let old = with_progress (state c.args.state.now) c.args.progress.now in
     record {
-      goes = ([], refl, nothing_answered answer (state start) c.args.progress.now (g.K.Sink.held c.args.sink.now));
+      goes = ([], refl, nothing_answered answer old (held c.args.sink.now));
       begun = refl;
       count = refl;
       number = omega arith;
@@ -24,52 +25,42 @@ pub returns-in_err-answer_line-in-Ok-Some-clause-answers : goal.returns-in_err-a
 returns-in_err-answer_line-in-Ok-Some-clause-answers g c =
     let answer = g.A.LineAnswers.answer in
     let state = g.A.LineAnswers.state in
-    let start = c.args.state.now in
-    let now = c.lines.state in
-    let held = g.K.Sink.held c.args.sink.now in
-    let held' = g.K.Sink.held c.lines.sink in
+    let held = g.K.Sink.held in
+    let old = with_progress (state c.args.state.now) c.args.progress.now in
+    let mid = with_progress (state c.lines.state) c.lines.progress in
     let h = c.lines.invariant.goes in
-    let ended = c.args.input.now.lines.ended in
     let new = c.take_line.new.self in
     let line = c.in-Ok-Some.line in
     let taken = taken_line line new.lines c.lines.input.lines (ap (λ l. (l, new.lines)) (sym c.in-Ok-Some.field-0-is) ∙ c.in-Ok-Some.ensures.taken) in
-    let next = c.answer_line.new.state in
-    let p = c.lines.progress in
-    let p' = c.answer_line.new.progress in
-    let held'' = g.K.Sink.held c.answer_line.new.sink in
-    let stopped = c.in_err-answer_line-in-Ok-Some.field-0.0 in
-    let stop = c.in_err-answer_line-in-Ok-Some.ensures.answers in
+    let after = c.answer_line.new in
+    let ended = c.args.input.now.lines.ended in
     let rest = new.lines.ended in
-    let wide = stops_before answer (state now) p (line ∷ []) rest held' held'' stopped stop in
-    as_error c.from_residual.result (λ r. MatchResult r (λ _. AnswersLines answer (state start) c.args.progress.now ended held held'' (state next) p')
-    (StopsLines answer (state start) c.args.progress.now ended held held'')) stopped
-    (stops_on answer (state start) (state now) c.args.progress.now p h.0 held held' h.2 ended (line ∷ rest) held'' stopped (h.1 ∙ ap (λ l. h.0 ++ l) taken.0) wide)
+    let stopped = c.in_err-answer_line-in-Ok-Some.field-0.0 in
+    let wide = stops_before answer mid (line ∷ []) rest (held c.lines.sink) (held after.sink) stopped c.in_err-answer_line-in-Ok-Some.ensures.answers in
+    as_error c.from_residual.result (λ r. MatchResult r
+    (λ _. AnswersLines answer old ended (held c.args.sink.now) (held after.sink) (state after.state, after.progress))
+    (StopsLines answer old ended (held c.args.sink.now) (held after.sink))) stopped
+    (stops_on answer old mid h.0 (held c.args.sink.now) (held c.lines.sink) h.2 ended (line ∷ rest) (held after.sink) stopped (h.1 ∙ ap (λ l. h.0 ++ l) taken.0) wide)
     c.from_residual.ensures.1
 
 pub lines-preserved-in_ok-answer_line-in-Ok-Some : goal.lines-preserved-in_ok-answer_line-in-Ok-Some
 lines-preserved-in_ok-answer_line-in-Ok-Some g c =
     let answer = g.A.LineAnswers.answer in
     let state = g.A.LineAnswers.state in
-    let start = c.args.state.now in
-    let now = c.lines.state in
-    let held = g.K.Sink.held c.args.sink.now in
-    let held' = g.K.Sink.held c.lines.sink in
+    let held = g.K.Sink.held in
+    let old = with_progress (state c.args.state.now) c.args.progress.now in
+    let mid = with_progress (state c.lines.state) c.lines.progress in
     let h = c.lines.invariant.goes in
-    let ended = c.args.input.now.lines.ended in
     let new = c.take_line.new.self in
     let line = c.in-Ok-Some.line in
     let taken = taken_line line new.lines c.lines.input.lines (ap (λ l. (l, new.lines)) (sym c.in-Ok-Some.field-0-is) ∙ c.in-Ok-Some.ensures.taken) in
-    let next = c.answer_line.new.state in
-    let p = c.lines.progress in
-    let p' = c.answer_line.new.progress in
-    let held'' = g.K.Sink.held c.answer_line.new.sink in
+    let after = c.answer_line.new in
     let e = c.in_ok-answer_line-in-Ok-Some.ensures in
-    let a = e.answers in
     record {
       goes = (
         h.0 ++ line ∷ [],
         h.1 ∙ ap (λ l. h.0 ++ l) taken.0 ∙ sym (append_assoc h.0 (line ∷ []) new.lines.ended),
-        answers_on answer (state start) (state now) c.args.progress.now p h.0 held held' h.2 (state next) p' (line ∷ []) held'' a,
+        answers_on answer old mid h.0 (held c.args.sink.now) (held c.lines.sink) h.2 (state after.state, after.progress) (line ∷ []) (held after.sink) e.answers,
       );
       begun = taken.1 ∙ c.lines.invariant.begun;
       count = c.in-Ok-Some.ensures.count ∙ c.lines.invariant.count;
@@ -82,26 +73,20 @@ pub lines-preserved : goal.lines-preserved
 lines-preserved g c =
     let answer = g.A.LineAnswers.answer in
     let state = g.A.LineAnswers.state in
-    let start = c.args.state.now in
-    let now = c.lines.state in
-    let held = g.K.Sink.held c.args.sink.now in
-    let held' = g.K.Sink.held c.lines.sink in
+    let held = g.K.Sink.held in
+    let old = with_progress (state c.args.state.now) c.args.progress.now in
+    let mid = with_progress (state c.lines.state) c.lines.progress in
     let h = c.lines.invariant.goes in
-    let ended = c.args.input.now.lines.ended in
     let new = c.take_line.new.self in
     let line = c.in-Ok-Some.line in
     let taken = taken_line line new.lines c.lines.input.lines (ap (λ l. (l, new.lines)) (sym c.in-Ok-Some.field-0-is) ∙ c.in-Ok-Some.ensures.taken) in
-    let next = c.answer_line.new.state in
-    let p = c.lines.progress in
-    let p' = c.answer_line.new.progress in
-    let held'' = g.K.Sink.held c.answer_line.new.sink in
+    let after = c.answer_line.new in
     let e = c.in_ok-answer_line-in-Ok-Some.ensures in
-    let a = e.answers in
     record {
       goes = (
         h.0 ++ line ∷ [],
         h.1 ∙ ap (λ l. h.0 ++ l) taken.0 ∙ sym (append_assoc h.0 (line ∷ []) new.lines.ended),
-        answers_on answer (state start) (state now) c.args.progress.now p h.0 held held' h.2 (state next) p' (line ∷ []) held'' a,
+        answers_on answer old mid h.0 (held c.args.sink.now) (held c.lines.sink) h.2 (state after.state, after.progress) (line ∷ []) (held after.sink) e.answers,
       );
       begun = taken.1 ∙ c.lines.invariant.begun;
       count = c.in-Ok-Some.ensures.count ∙ c.lines.invariant.count;
@@ -114,34 +99,30 @@ pub returns-in-Ok-None-clause-answers : goal.returns-in-Ok-None-clause-answers
 returns-in-Ok-None-clause-answers g c =
     let answer = g.A.LineAnswers.answer in
     let state = g.A.LineAnswers.state in
-    let start = c.args.state.now in
-    let now = c.lines.state in
-    let held = g.K.Sink.held c.args.sink.now in
-    let held' = g.K.Sink.held c.lines.sink in
+    let held = g.K.Sink.held in
+    let old = with_progress (state c.args.state.now) c.args.progress.now in
+    let mid = with_progress (state c.lines.state) c.lines.progress in
     let h = c.lines.invariant.goes in
     let ended = c.args.input.now.lines.ended in
     let new = c.take_line.new.self in
     let none = none_taken new.lines c.lines.input.lines (ap (λ l. (l, new.lines)) (sym c.in-Ok-None.field-0-is) ∙ c.in-Ok-None.ensures.taken) in
     let all : ended ≡ h.0 = h.1 ∙ ap (λ l. h.0 ++ l) none.0 ∙ append-nil h.0 in
-    let held'' = g.K.Sink.held c.give_answers.new.sink in
-    let p'' = c.give_answers.new.progress in
-    subst (λ e. MatchResult c.give_answers.result (λ _. AnswersLines answer (state start) c.args.progress.now e held held'' (state now) p'')
-    (StopsLines answer (state start) c.args.progress.now e held held'')) (sym all)
-    (then_given answer (state start) (state now) c.args.progress.now c.lines.progress h.0 held held' h.2 c.give_answers.result p'' held'' c.give_answers.ensures.given c.give_answers.ensures.stopped)
+    let after = c.give_answers.new in
+    subst (λ e. MatchResult c.give_answers.result
+    (λ _. AnswersLines answer old e (held c.args.sink.now) (held after.sink) (state c.lines.state, after.progress))
+    (StopsLines answer old e (held c.args.sink.now) (held after.sink))) (sym all)
+    (then_given answer old mid h.0 (held c.args.sink.now) (held c.lines.sink) h.2 c.give_answers.result after.progress (held after.sink) c.give_answers.ensures.given c.give_answers.ensures.stopped)
 
 pub returns-in-Err-clause-answers : goal.returns-in-Err-clause-answers
 returns-in-Err-clause-answers g c =
     let answer = g.A.LineAnswers.answer in
     let state = g.A.LineAnswers.state in
-    let start = c.args.state.now in
-    let now = c.lines.state in
-    let held = g.K.Sink.held c.args.sink.now in
-    let held' = g.K.Sink.held c.lines.sink in
+    let held = g.K.Sink.held in
+    let old = with_progress (state c.args.state.now) c.args.progress.now in
+    let mid = with_progress (state c.lines.state) c.lines.progress in
     let h = c.lines.invariant.goes in
-    let ended = c.args.input.now.lines.ended in
-    let new = c.take_line.new.self in
     let next = c.lines.input.lines.ended in
-    let held'' = g.K.Sink.held c.out_of_memory.new.sink in
+    let held' = held c.out_of_memory.new.sink in
     let stopped = c.out_of_memory.result in
-    stops_on answer (state start) (state now) c.args.progress.now c.lines.progress h.0 held held' h.2 ended next held'' stopped h.1
-    (stops_given answer (state now) c.lines.progress next held' held'' stopped c.out_of_memory.ensures.writes)
+    stops_on answer old mid h.0 (held c.args.sink.now) (held c.lines.sink) h.2 c.args.input.now.lines.ended next held' stopped h.1
+    (stops_given answer mid next (held c.lines.sink) held' stopped c.out_of_memory.ensures.writes)

@@ -9,11 +9,10 @@ invariant-lines g l =
     let answer = g.A.LineAnswers.answer in
     let state = g.A.LineAnswers.state in
     let sink = g.K.Sink in
-    let start = l.fn.state in
     record {
       goes : (lines : List Line) × (l.fn.input.lines.ended ≡ lines ++ l.input.lines.ended)
-          × AnswersLines answer (state start) l.fn.progress lines
-          (sink.held l.fn.sink) (sink.held l.sink) (state l.state) l.progress;
+          × AnswersLines answer (state l.fn.state, l.fn.progress) lines
+          (sink.held l.fn.sink) (sink.held l.sink) (state l.state, l.progress);
       begun : l.input.lines.begun ≡ l.fn.input.lines.begun;
       count : l.input.taken ≡ l.fn.input.taken;
       number : l.progress.number + length l.input.lines.ended ≤ l.fn.progress.number + length l.fn.input.lines.ended;

@@ -2,6 +2,7 @@ use Rattle.std.proofs.Common.{◌≡◌, ◌+◌, ◌-◌, ◌≤◌, length}
 use Rattle.script_input.specs.Taking.{GaveFew}
 use Rattle.script_input.specs.declared.limits.TheConstants.{MOST_BYTES}
 use Rattle.script_run.specs.LineEnds.{ComesOn}
+use Rattle.script_run.proofs.PiecesComeOn.{stage}
 use Rattle.script_run.proofs.stream.answer_pieces.Given as goal
 
 -- the run has come on over the bytes that were taken
@@ -9,12 +10,11 @@ abbrev pub invariant-pieces : goal.invariant-pieces
 invariant-pieces g l =
     let answer = g.A.LineAnswers.answer in
     let state = g.A.LineAnswers.state in
-    let start = l.fn.state in
     let source = g.S.Source in
     let sink = g.K.Sink in
     record {
-      comes : ComesOn answer (state start) l.fn.input l.input
-          (source.left l.fn.source) (source.left l.source) (sink.held l.fn.sink) (sink.held l.sink) (state l.state) l.progress;
+      comes : ComesOn answer source sink
+          (stage l.fn.source l.fn.sink l.fn.input (state l.fn.state)) (stage l.source l.sink l.input (state l.state)) l.progress;
       few : GaveFew source l.fn.source l.source (length l.piece);
       number : l.progress.number ≤ l.input.taken;
       at_most : l.input.taken ≤ MOST_BYTES + 1;

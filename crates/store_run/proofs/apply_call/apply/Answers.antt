@@ -41,7 +41,7 @@ returns-in-Ok-clause-continues g c =
     λ store f.
     let o = c.in-Ok.ensures.opened store in
     let before = store.payloads in
-    let same = as_opened disk session d d1 store l t0 v0 made.count o in
+    let same = as_opened disk session d d1 store made o in
     let stands = store.stands ∙ ap (λ (x : session.State × Option (List ℕ)). Ok x) (sym same) in
     subst (λ (x : session.State × Option (List ℕ)). ContinuesCall source sink disk session (i, k) (i', k', d') before x.0 x.1 status) same
     (continues_call source sink disk session hold reads laws.version_stands laws.change_stands laws.refused_stays laws.version_counts laws.change_counts i i' k k' d1 d' l l' before v0 t0 t' status e.exits f o.stands stands)
@@ -73,7 +73,7 @@ returns-in-Ok-clause-safe g c =
     λ store.
     let o = c.in-Ok.ensures.opened store in
     let before = store.payloads in
-    let same = as_opened disk session d d1 store l t0 v0 made.count o in
+    let same = as_opened disk session d d1 store made o in
     let stands = store.stands ∙ ap (λ (x : session.State × Option (List ℕ)). Ok x) (sym same) in
     let here = subst (λ (x : session.State × Option (List ℕ)). IsSafeCall source sink disk session (i, k, d1) (i', k', d') (HoldsPayloads before) before x.0 x.1) same
     (safe_call source sink disk session hold reads laws.version_stands laws.change_stands laws.refused_stays laws.version_counts laws.change_counts i i' k k' d1 d' before v0 t0 l e.safe o.stands stands) in
@@ -107,7 +107,7 @@ returns-in-Ok-clause-exits g c =
     λ store.
     let o = c.in-Ok.ensures.opened store in
     let before = store.payloads in
-    let same = as_opened disk session d d1 store l t0 v0 made.count o in
+    let same = as_opened disk session d d1 store made o in
     let stands = store.stands ∙ ap (λ (x : session.State × Option (List ℕ)). Ok x) (sym same) in
     let here = subst (λ (x : session.State × Option (List ℕ)). EndsOpened source sink disk session (i, k, d1) (i', k', d') before x.0 x.1 status) same
     (opened_here source sink disk session hold reads laws.version_stands laws.change_stands laws.refused_stays laws.version_counts laws.change_counts g.met.D.Disk.only_now i i' k k' d1 d' l l' before v0 t0 t' status e.exits o.stands stands) in
@@ -165,8 +165,8 @@ returns-in-Err-clause-safe g c =
     λ store.
     elim (c.in-Err.ensures.held store) [
       | inl failed ↦
-        let at_disk = unopened_at_disk sink k k' status fault (same_fault fault DiskFault failed) ends in
-        inl (at_disk.0, record { unasked = refl; given = at_disk.1; only = c.in-Err.ensures.opening.unwritten.only; moments = c.in-Err.ensures.opening.moments })
+          let at_disk = unopened_at_disk sink k k' status fault (same_fault fault DiskFault failed) ends in
+          inl (at_disk.0, record { unasked = refl; given = at_disk.1; only = c.in-Err.ensures.opening.unwritten.only; moments = c.in-Err.ensures.opening.moments })
       | inr now ↦ inr (safe_synced source sink disk session hold reads laws.version_stands laws.change_stands laws.refused_stays laws.version_counts laws.change_counts (disk.images d) i i k k' d d1 store.payloads store.version store.state refl
           (unopened_other sink k k' status fault (c.in-Err.ensures.opened store) ends) now c.in-Err.ensures.opening.moments store.stands)
     ]

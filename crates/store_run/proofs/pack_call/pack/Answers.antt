@@ -37,7 +37,7 @@ returns-in-Ok-clause-packs g c =
     λ store f.
     let o = c.in-Ok.ensures.opened store in
     let before = store.payloads in
-    let same = as_opened disk session d d1 store l t0 v0 made.count o in
+    let same = as_opened disk session d d1 store made o in
     let stands = store.stands ∙ ap (λ (x : session.State × Option (List ℕ)). Ok x) (sym same) in
     subst (λ (x : session.State × Option (List ℕ)). PacksCall sink disk session k (k', d') before x.0 x.1) same (e.packs before o.stands stands o.counted f)
 
@@ -63,7 +63,7 @@ returns-in-Ok-clause-safe g c =
     λ store.
     let o = c.in-Ok.ensures.opened store in
     let before = store.payloads in
-    let same = as_opened disk session d d1 store l t0 v0 made.count o in
+    let same = as_opened disk session d d1 store made o in
     let stands = store.stands ∙ ap (λ (x : session.State × Option (List ℕ)). Ok x) (sym same) in
     let here = subst (λ (x : session.State × Option (List ℕ)). IsSafePack disk session d1 d' (HoldsPayloads before) before x.0 x.1) same (e.safe before o.stands stands) in
     inr (safe_after sink disk hold session reads laws.version_stands laws.snapshot_stands laws.version_counts laws.snapshot_counts d d' before store.state store.version store.stands (HoldsPayloads before) (disk.images d) d1
@@ -91,7 +91,7 @@ returns-in-Ok-clause-exits g c =
     λ store.
     let o = c.in-Ok.ensures.opened store in
     let before = store.payloads in
-    let same = as_opened disk session d d1 store l t0 v0 made.count o in
+    let same = as_opened disk session d d1 store made o in
     let stands = store.stands ∙ ap (λ (x : session.State × Option (List ℕ)). Ok x) (sym same) in
     let opening = c.in-Ok.ensures.opening in
     elim (subst (λ (x : session.State × Option (List ℕ)). EndsPack sink disk session (k, d1) (k', d') before x.0 x.1 status) same (e.exits before o.stands stands o.counted)) [
@@ -142,8 +142,8 @@ returns-in-Err-clause-safe g c =
     λ store.
     elim (c.in-Err.ensures.held store) [
       | inl failed ↦
-        let at_disk = unopened_at_disk sink k k' status fault (same_fault fault DiskFault failed) ends in
-        inl (at_disk.0, record { given = at_disk.1; only = c.in-Err.ensures.opening.unwritten.only; moments = c.in-Err.ensures.opening.moments })
+          let at_disk = unopened_at_disk sink k k' status fault (same_fault fault DiskFault failed) ends in
+          inl (at_disk.0, record { given = at_disk.1; only = c.in-Err.ensures.opening.unwritten.only; moments = c.in-Err.ensures.opening.moments })
       | inr now ↦ inr (safe_kept sink disk hold session reads laws.version_stands laws.snapshot_stands laws.version_counts laws.snapshot_counts d d1 store.payloads store.state store.version store.stands (disk.images d) now c.in-Err.ensures.opening.moments)
     ]
 

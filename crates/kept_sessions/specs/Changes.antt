@@ -1,0 +1,102 @@
+-- The last change of a session: what is kept of it, and its texts. Read it from the end: `HasUndoText`,
+-- `HasChangeText`, `IsNoneMade`, `IsMade`, then `IsKept`.
+use Rattle.std.specs.Prelude.{◌≡◌, ℕ, List, [], ◌∷◌, Option, None, Some, Ok}
+use Rattle.serde_json.specs.Written.{compact_text}
+use Rattle.texts.specs.declared.side.Side.{Side}
+use Rattle.texts.specs.declared.side.Side.TheVariants as side
+use Rattle.doc_values.specs.Documents.{DocTree}
+use Rattle.doc_values.specs.Types.{TyTree}
+use Rattle.edit_json.specs.WordJson.{tree_of_word}
+use Rattle.edit_module.specs.Action.{act}
+use Rattle.edit_module.specs.Changes.{ChangeTree}
+use Rattle.edit_module.specs.Words.{WordTree}
+use Rattle.edit_journal.specs.EntryJson.{change_of_line, tree_of_text}
+use Rattle.edit_journal.specs.declared.line.Line.{Line}
+use Rattle.edit_session.specs.Step.{TripleTree}
+use Rattle.edit_session.specs.Views.{triple_tree}
+use Rattle.pair_answers.specs.ItemRuns.{IsInStepFor}
+use Rattle.lens_core.specs.Translation.{translate}
+use Rattle.lens_forms.specs.Forms.{FormTree, left_type, right_type}
+use Rattle.store_records.specs.RecordJson.{tree_of_change_record}
+use Rattle.store_session.specs.Stands.{step_of}
+use Rattle.edit_undo.specs.Undone.{BothTrees, BringsBack, undone}
+use Rattle.kept_sessions.specs.declared.outcome.Outcome.{Outcome}
+use Rattle.kept_sessions.specs.declared.outcome.Outcome.TheVariants as outcome
+use Rattle.kept_sessions.specs.declared.running.Accepted.{Accepted}
+
+-- ---- what is kept
+
+-- the line, and this triple from before it
+pub record IsKeptAs (t : TripleTree) (line : Line) (a : Accepted) : Type 0 where
+  pub line_is : a.line ≡ line
+  pub before_is : triple_tree a.before ≡ t
+
+abbrev pub keeps_line : TripleTree → Line → Option Accepted → Type 0
+keeps_line t line (Some a) = IsKeptAs t line a
+keeps_line t line None = ⊥
+
+-- a line from this triple on is kept if its change was accepted; otherwise nothing is
+abbrev pub IsKept : TripleTree → Line → Outcome → Option Accepted → Type 0
+IsKept t line outcome.Done kept = keeps_line t line kept
+IsKept t line end kept = kept ≡ None
+
+-- ---- whether there is a change
+
+-- the line is a change, which the lens of the form accepts at the consistent triple that is kept with it
+pub record IsMade (form : FormTree) (a : Accepted) : Type 0 where
+  pub change : ChangeTree
+  pub is : change_of_line a.line ≡ Ok change
+  pub in_step : IsInStepFor form (triple_tree a.before)
+  pub after : TripleTree
+  pub words : List WordTree
+  pub step : step_of form (triple_tree a.before) change ≡ Some (Ok (after, words))
+
+-- no change was accepted last
+abbrev pub IsNoneMade : FormTree → Option Accepted → Type 0
+IsNoneMade form (Some a) = IsMade form a → ⊥
+IsNoneMade form None = Unit {0}
+
+-- ---- its payload
+
+-- the text is the payload of the change that the line is; it is read back as its record, where some triple accepts the
+-- change
+pub record IsChangeText (form : FormTree) (line : Line) (text : List ℕ) : Type 0 where
+  pub change : ChangeTree
+  pub is : change_of_line line ≡ Ok change
+  pub is_text : text ≡ compact_text (tree_of_change_record change)
+  pub reads_back : (t after : TripleTree) (words : List WordTree) → step_of form t change ≡ Some (Ok (after, words))
+      → tree_of_text text ≡ Some (tree_of_change_record change)
+
+abbrev pub HasChangeText : FormTree → Option Accepted → List ℕ → Type 0
+HasChangeText form (Some a) text = IsChangeText form a.line text
+HasChangeText form None text = ⊥
+
+-- ---- the words that take it back
+
+abbrev pub word_on : Side → BothTrees → WordTree
+word_on side.Left words = words.left
+word_on side.Right words = words.right
+
+-- The change goes from the one triple to the other, and the words take its documents back.
+pub record IsWayBack (form : FormTree) (before : TripleTree) (change : ChangeTree) (words : BothTrees) : Type 0 where
+  pub after : TripleTree
+  pub undoes : undone (left_type form) (right_type form) (translate form) before (change ∷ []) ≡ Some (after, words)
+  pub back : BringsBack (left_type form) (right_type form) words after before
+
+-- The text is that of the word of this side, of the two that take the documents back over the change that the line is.
+pub record IsUndoText (form : FormTree) (a : Accepted) (s : Side) (text : List ℕ) : Type 0 where
+  pub change : ChangeTree
+  pub is : change_of_line a.line ≡ Ok change
+  pub words : BothTrees
+  pub way : IsWayBack form (triple_tree a.before) change words
+  pub is_text : text ≡ compact_text (tree_of_word (word_on s words))
+
+-- the text is that of a word that takes the one document back to the other
+pub record IsWordBack (ty : TyTree) (now was : DocTree) (text : List ℕ) : Type 0 where
+  pub word : WordTree
+  pub is_text : text ≡ compact_text (tree_of_word word)
+  pub acts : act ty word now ≡ Ok was
+
+abbrev pub HasUndoText : FormTree → Option Accepted → Side → List ℕ → Type 0
+HasUndoText form (Some a) s text = IsUndoText form a s text
+HasUndoText form None s text = ⊥
