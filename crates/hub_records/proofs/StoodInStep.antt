@@ -37,7 +37,7 @@ use Rattle.hub_run.specs.Answers.{HubAnswerTree, carried}
 use Rattle.hub_run.specs.FormLenses.{form_lens}
 use Rattle.hub_run.specs.FoundLenses.{AllTyped, HasLeft}
 use Rattle.hub_run.specs.Lenses.{first_left}
-use Rattle.hub_run.specs.Runs.{take_item, answer_of, hub_of}
+use Rattle.hub_run.specs.Runs.{take_hub_item, answer_of, hub_of}
 use Rattle.hub_run.specs.declared.pieces.TheConstants.{MOST_VIEWS}
 use Rattle.hub_run.proofs.FormsInStep.{TypedForm, form_of, with_types, forms_back, typed_lens, TypedHub, FormHub, is_hub, hub_back, forms_stay, forms_start}
 use Rattle.hub_run.proofs.FoundForms.{OneLeft, typed_more, one_more, some_left}
@@ -115,7 +115,7 @@ edit_stays : (forms : List FormTree) → AllTyped forms → (h : HubTree) (e : P
     → step form_lens forms h e ≡ Some (Ok s) → FormHub forms s.0
 edit_stays forms all h e s k is =
     let t = forms_stay forms all h (Ok e) k in
-    let took : take_item form_lens forms h (Ok e) ≡ Some (s.0, carried s.1) = ap (option_map (answer_of h)) is in
+    let took : take_hub_item form_lens forms h (Ok e) ≡ Some (s.0, carried s.1) = ap (option_map (answer_of h)) is in
     let other = t.1 in
     let pair : t.0 ≡ (s.0, carried s.1) = cc in
     subst (λ (p : HubTree × HubAnswerTree). FormHub forms p.0) pair t.2

@@ -17,9 +17,9 @@ use Rattle.lens_forms.specs.Forms.{FormTree, left_type, right_type}
 use Rattle.view_hub.specs.Groups.{GroupStepped, step_group}
 use Rattle.view_hub.specs.Hubs as hubs
 use Rattle.view_hub.specs.Hubs.{ViewTree, HubTree, CarriedTree, Place, Refusal, step}
-use Rattle.hub_run.specs.Answers.{tree_of_words, ok_line}
+use Rattle.hub_run.specs.Answers.{tree_of_words, hub_ok_line}
 use Rattle.hub_run.specs.FormLenses.{form_lens}
-use Rattle.hub_run.specs.Runs.{HubState, lines_of_view, view_lines, hub_line, state_lines, state_text}
+use Rattle.hub_run.specs.Runs.{HubState, lines_of_view, view_lines, hub_line, hub_state_lines, state_text}
 use Rattle.store_run.specs.OkLines.{IsLine, IsAnswer, IsOtherLine, AllOther, AreOtherLines, begins_ok}
 use Rattle.store_run.specs.declared.session.StoredAnswer.{StoredAnswer}
 use Rattle.store_session.proofs.Decimals.{decimal_plain}
@@ -37,7 +37,7 @@ last_part part h = record { text = part; whole = refl; plain = h }
 numbered : (front : List ℕ) (n : ℕ) → has_no_end front ≡ true → has_no_end (front ++ decimal n) ≡ true
 numbered front n h = plain_both front (decimal n) h (decimal_plain n)
 
-ok_is_line : (n : ℕ) (c : CarriedTree) → IsLine (ok_line n c)
+ok_is_line : (n : ℕ) (c : CarriedTree) → IsLine (hub_ok_line n c)
 ok_is_line n c =
     let w = compact_text (tree_of_word c.hub) in
     let vs = compact_text (tree_of_words c.views) in
@@ -138,7 +138,7 @@ views_are_other v (l ∷ ls) (w ∷ vs) =
     (in_front view (comp ++ rest) (tree_is_other (codes "view " ++ decimal v) (tree_of_document (right_type l) w.doc) (numbered (codes "view ") v refl) refl)
     (in_front comp rest (tree_is_other (codes "complement " ++ decimal v) (tree_of_complement l w.comp) (numbered (codes "complement ") v refl) refl) (views_are_other (v + 1) ls vs)))
 
-forms_are_other : (ls : List FormTree) (h : HubTree) → AreOtherLines (state_lines ls h)
+forms_are_other : (ls : List FormTree) (h : HubTree) → AreOtherLines (hub_state_lines ls h)
 forms_are_other [] h = ([], refl, tt)
 forms_are_other (l ∷ ls) h =
     in_front (hub_line l h.hub) (view_lines 0 (l ∷ ls) h.views) (tree_is_other (codes "hub") (tree_of_document (left_type l) h.hub) refl refl) (views_are_other 0 (l ∷ ls) h.views)

@@ -12,7 +12,7 @@ use Rattle.lens_flat.specs.declared.flat.ReadyForm.{ReadyForm}
 use Rattle.lens_forms.specs.Forms.{form_tree}
 use Rattle.view_hub.specs.Groups.{then_others, step_group}
 use Rattle.view_hub.specs.Hubs.{HubTree, Place, CarriedTree, Refusal, step}
-use Rattle.hub_run.specs.Answers.{ok_line}
+use Rattle.hub_run.specs.Answers.{hub_ok_line}
 use Rattle.hub_run.specs.FormLenses.{form_lens}
 use Rattle.hub_run.specs.RunStates.{forms_of_lenses, ready_lens}
 use Rattle.hub_run.specs.Runs.{HubState}
@@ -37,9 +37,9 @@ module _ (ls : List ReadyForm) (h : HubTree) (n : ℕ) where
   edit_step e r is = sym (steps_are (λ (l : ReadyForm). form_tree l.typed) form_lens ls h e) ∙ is
 
   pub edit_accepted : (e : Place × WordTree) (k : HubTree) (c : CarriedTree) (a : StoredAnswer) → step ready_lens ls h e ≡ Some (Ok (k, c))
-      → a.line ≡ ok_line n c → a.payload ≡ Some (change_text (one e)) → answer_item (state ls h) n (Ok (one e)) ≡ made k a
+      → a.line ≡ hub_ok_line n c → a.payload ≡ Some (change_text (one e)) → answer_item (state ls h) n (Ok (one e)) ≡ made k a
   edit_accepted e k c a is line payload =
-      ap (option_map (edit_answered (state ls h) n e)) (edit_step e (Ok (k, c)) is) ∙ ap (made k) (sym (answer_is a (ok_line n c) (Some (change_text (one e))) line payload))
+      ap (option_map (edit_answered (state ls h) n e)) (edit_step e (Ok (k, c)) is) ∙ ap (made k) (sym (answer_is a (hub_ok_line n c) (Some (change_text (one e))) line payload))
 
   pub edit_refused : (e : Place × WordTree) (why : Refusal) (a : StoredAnswer) → step ready_lens ls h e ≡ Some (Err why)
       → a.line ≡ refused_edit_line n why → a.payload ≡ None → answer_item (state ls h) n (Ok (one e)) ≡ made h a

@@ -9,7 +9,7 @@ use Rattle.edit_module.specs.Words.{WordTree}
 use Rattle.answer_text.specs.Lines.{no_apply_line, group_refused_line, fault_line}
 use Rattle.view_hub.specs.Groups.{GroupStepped, RefusedPart, step_group}
 use Rattle.view_hub.specs.Hubs.{HubTree, CarriedTree, Place, Refusal, no_view, no_apply, step}
-use Rattle.hub_run.specs.Answers.{tree_of_words, ok_line, no_view_line}
+use Rattle.hub_run.specs.Answers.{tree_of_words, hub_ok_line, no_view_line}
 use Rattle.hub_run.specs.FormLenses.{form_lens}
 use Rattle.hub_run.specs.Runs.{HubState}
 use Rattle.store_run.specs.declared.session.StoredAnswer.{StoredAnswer}
@@ -62,7 +62,7 @@ accepted_with s h change line =
 
 -- the answer to an edit, and to a group
 abbrev pub edit_answered : HubState → ℕ → Place × WordTree → Result (HubTree × CarriedTree) Refusal → HubState × StoredAnswer
-edit_answered s n e (Ok r) = accepted_with s r.0 (one e) (ok_line n r.1)
+edit_answered s n e (Ok r) = accepted_with s r.0 (one e) (hub_ok_line n r.1)
 edit_answered s n e (Err why) = refused_with s (refused_edit_line n why)
 
 abbrev pub group_answered : HubState → ℕ → List (Place × WordTree) → GroupStepped → HubState × StoredAnswer

@@ -3,7 +3,7 @@
 use crate::answering::answer_line;
 use crate::opening::open;
 use crate::session::HubSession;
-use crate::showing::hub_state_lines;
+use crate::showing::stored_state_lines;
 use crate::snapshots::snapshot_of;
 use edit_journal::Line;
 use lens_io::Payloads;
@@ -62,6 +62,6 @@ impl StoredSession for HubSession {
     }
 
     fn state_lines(&self, alloc: Global) -> Result<Bytes, AllocError> {
-        hub_state_lines(alloc, &self.hub)
+        stored_state_lines(alloc, &self.hub)
     }
 }

@@ -14,4 +14,4 @@ mod showing;
 mod snapshots;
 
 pub use crate::session::HubSession;
-pub use crate::showing::hub_state_lines;
+pub use crate::showing::stored_state_lines;

@@ -6,7 +6,7 @@ ghost use Rattle.store_run.specs.OkLines.{AreOtherLines};
 ghost use Rattle.hub_run.specs.RunStates.{forms_of_lenses, state_of};
 ghost use Rattle.hub_run.specs.Runs.{state_text};
 
-use hub_run::state_lines;
+use hub_run::hub_state_lines;
 use lens_flat::Flat;
 use lens_types::Typed;
 use std::alloc::{AllocError, Global};
@@ -15,12 +15,12 @@ use view_hub::Hub;
 
 /// The state lines of a hub: `hub JSON`, and for each view `view V JSON` and `complement V JSON`. The only error is
 /// running out of memory.
-pub fn hub_state_lines(alloc: Global, hub: &Hub<Flat>) -> Result<Bytes, AllocError>
+pub fn stored_state_lines(alloc: Global, hub: &Hub<Flat>) -> Result<Bytes, AllocError>
     ensures text { IfOk result (λ text. text ≡ state_text (state_of hub.now)) }
     ensures lines { IfOk result AreOtherLines }
 {
     let typed = typed_of(alloc, hub.lenses())?;
-    let text = state_lines(alloc, &typed, hub)?;
+    let text = hub_state_lines(alloc, &typed, hub)?;
     Ok(Bytes::from_vec(text))
 }
 

@@ -10,7 +10,7 @@ use Rattle.view_hub.specs.Hubs.{HubTree, CarriedTree}
 use Rattle.view_hub.specs.Laws.{IsHub}
 use Rattle.hub_run.specs.FormLenses.{form_lens}
 use Rattle.hub_run.specs.FoundLenses.{AllTyped}
-use Rattle.hub_run.specs.Runs.{state_lines}
+use Rattle.hub_run.specs.Runs.{hub_state_lines}
 use Rattle.hub_records.specs.HubChanges.{HubChangeTree}
 use Rattle.hub_records.specs.HubRecords.{tree_of_hub_snapshot}
 use Rattle.hub_records.specs.HubStands.{HubStanding, stands_for}

@@ -11,7 +11,7 @@ use Rattle.gate_log.specs.LogBytes.{LogContent, payloads, not_a_log, bad_record,
 use Rattle.view_hub.specs.Hubs.{HubTree, Place, CarriedTree}
 use Rattle.view_hub.specs.Laws.{IsHub}
 use Rattle.hub_run.specs.FormLenses.{form_lens}
-use Rattle.hub_run.specs.Runs.{state_lines}
+use Rattle.hub_run.specs.Runs.{hub_state_lines}
 use Rattle.hub_records.specs.HubChanges.{HubChangeTree, edits_of}
 use Rattle.hub_records.specs.HubRecords.{change_in, tree_of_hub_snapshot}
 use Rattle.hub_records.specs.HubStands.{HubStanding, stands_for}
@@ -89,7 +89,7 @@ words_text c = tree_line (codes "undo hub") (tree_of_word c.hub) ++ view_undo_li
 
 -- these lines, and the state lines of the hub before the last changes
 abbrev pub undo_text : HubUndoing → List ℕ
-undo_text u = words_text u.words ++ state_lines u.now.forms u.before
+undo_text u = words_text u.words ++ hub_state_lines u.now.forms u.before
 
 -- The words act on the documents that there are now, and make those from before the last changes. That hub is in step,
 -- and with the snapshot behind the payloads it is what the store represents.

@@ -6,7 +6,7 @@ use Rattle.edit_journal.specs.EntryJson.{tree_of_text}
 use Rattle.lens_forms.specs.Forms.{FormTree}
 use Rattle.view_hub.specs.Hubs.{HubTree, CarriedTree}
 use Rattle.hub_run.specs.FormLenses.{form_lens}
-use Rattle.hub_run.specs.Runs.{state_lines}
+use Rattle.hub_run.specs.Runs.{hub_state_lines}
 use Rattle.hub_records.specs.HubChanges.{HubChangeTree}
 use Rattle.hub_records.specs.HubRecords.{tree_of_hub_snapshot}
 use Rattle.hub_records.specs.Views.{hub_change_tree}
@@ -36,7 +36,7 @@ pub record AreTexts (forms : List FormTree) (h : HubTree) (r : HubTree × Carrie
     (payload lines : List ℕ) : Type 0 where
   pub snapshot : payload ≡ compact_text (tree_of_hub_snapshot forms h)
   pub reads : tree_of_text payload ≡ Some (tree_of_hub_snapshot forms h)
-  pub written : lines ≡ words_text r.1 ++ state_lines forms h
+  pub written : lines ≡ words_text r.1 ++ hub_state_lines forms h
   pub back : BringsBack form_lens forms r.1 r.0 h
   pub whole : hub_holds_i64s h ≡ true
 
