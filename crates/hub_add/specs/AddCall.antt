@@ -17,11 +17,10 @@ use Rattle.view_hub.specs.Hubs.{HubTree}
 use Rattle.view_hub.specs.Laws.{IsHub}
 use Rattle.hub_run.specs.FormLenses.{form_lens}
 use Rattle.hub_run.specs.Runs.{HubState, state_text}
-use Rattle.hub_records.specs.HubLenses.{joins}
 use Rattle.hub_records.specs.HubRecords.{tree_of_added}
 use Rattle.hub_records.specs.HubStands.{view_more}
 use Rattle.hub_session.specs.HubStates.{stands_for}
-use Rattle.store_more.specs.MoreCall.{EndsUnwritten, Exits, IsSafeMore, MoreEnds, StoresOne}
+use Rattle.store_more.specs.MoreCall.{Exits, IsSafeMore, MoreEnds}
 use Rattle.store_more.specs.MoreCauses.{OneHasNoRoom}
 use Rattle.store_new.specs.NewEnds.{GivesLine, StopsAfter}
 use Rattle.store_new.specs.Scripts.{RefusesPart}
@@ -57,12 +56,18 @@ pub record IsViewMore (before : List (List ℕ)) (state : HubState) (program : P
 
 module _ {K D : Type 0} (sink : OfSink.Ghosts K) (disk : OfDisk.Ghosts D) (old new : K × D) where
   -- For the helpers: the end of the call behind a program that is accepted, over a log that stands.
-  pub record EndsAdded (before : List (List ℕ)) (state : HubState) (program : ProgramTree) (form : FormTree)
+  pub record EndsStored (before : List (List ℕ)) (state : HubState) (program : ProgramTree) (form : FormTree)
       (status : Status) : Type 0 where
     pub payload : List ℕ
     pub lines : List ℕ
     pub text : IsViewText state program form payload lines
     pub ends : MoreEnds sink disk old new before payload lines status
+
+  -- the same, or memory ran out before
+  abbrev pub EndsAdded : List (List ℕ) → HubState → ProgramTree → FormTree → Status → Type 0
+  EndsAdded before state program form status =
+      EndsStored before state program form status
+      ⊎ (status ≡ ending.NoMemory) × (new.1 ≡ old.1) × Gave sink old.0 new.0 []
 
 module _ {S K D : Type 0} (source : OfSource.Ghosts S) (sink : OfSink.Ghosts K) (disk : OfDisk.Ghosts D)
     (old new : S × K × D) (before : List (List ℕ)) (state : HubState) (status : Status) where
@@ -78,6 +83,7 @@ module _ {S K D : Type 0} (source : OfSource.Ghosts S) (sink : OfSink.Ghosts K) 
     pub took : Took source old.0 new.0 bytes
     pub at_most : length bytes ≤ MOST_BYTES + 1
     pub stops : StopsAfter (view_part state.forms) bytes status
+    pub no_disk : status ≡ ending.DiskFault → ⊥
     pub unwritten : IsUnwritten disk old.2 new.2
     pub given : Gave sink old.1 new.1 []
 

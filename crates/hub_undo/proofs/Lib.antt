@@ -6,3 +6,4 @@ pub mod OneEdit
 pub mod Steps
 pub mod UndoCalls
 pub mod UndoRefusals
+pub mod UndoneForms

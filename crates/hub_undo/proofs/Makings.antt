@@ -1,5 +1,5 @@
 -- What is made, from what was opened and from what its parts say.
-use Rattle.std.proofs.Common.{◌≡◌, ℕ, ◌-◌, List, [], ◌∷◌, ◌++◌, length, take, Option, Some, None, Result, Ok, Err, map, refl, sym, ap, subst, ◌∙◌}
+use Rattle.std.proofs.Common.{◌≡◌, ℕ, List, ◌++◌, true, Option, Some, None, Result, Ok, Err, sym, ap, ap₂, subst, ◌∙◌}
 use Rattle.std.specs.Prelude.{option_map, option_and_then}
 use Rattle.lens_forms.specs.Forms.{FormTree}
 use Rattle.store_records.specs.declared.record_fault.RecordFault.{RecordFault}
@@ -9,13 +9,13 @@ use Rattle.store_run.specs.declared.refusals.StoreRefusal.{StoreRefusal}
 use Rattle.view_hub.specs.Hubs.{HubTree, CarriedTree}
 use Rattle.view_hub.specs.Laws.{IsHub}
 use Rattle.hub_run.specs.FormLenses.{form_lens}
-use Rattle.hub_run.specs.FoundLenses.{AllTyped}
 use Rattle.hub_run.specs.Runs.{hub_state_lines}
 use Rattle.hub_records.specs.HubChanges.{HubChangeTree}
 use Rattle.hub_records.specs.HubRecords.{tree_of_hub_snapshot}
 use Rattle.hub_records.specs.HubStands.{HubStanding, stands_for}
 use Rattle.hub_records.specs.Outcomes.{IsStandFault}
-use Rattle.hub_records.proofs.StoodInStep.{IsSound, stood_sound}
+use Rattle.hub_records.specs.WholeInts.{hub_holds_i64s}
+use Rattle.hub_records.proofs.StoodInStep.{stood_sound}
 use Rattle.hub_records.proofs.WrittenStands.{hub_stands}
 use Rattle.serde_json.specs.Written.{compact_text}
 use Rattle.edit_journal.specs.EntryJson.{tree_of_text}
@@ -75,3 +75,18 @@ pub refused_fault : (count : ℕ) (held : List (List ℕ)) (fault : RecordFault)
 refused_fault count held (BadRecord number) is = ap (λ r. refusal_of r (last_changes count held)) is
 refused_fault count held (NotConsistent number) is = ap (λ r. refusal_of r (last_changes count held)) is
 refused_fault count held NoMemory is = tt
+
+-- ---- the texts of a hub that is as it was
+
+pub texts_same : (forms now_forms : List FormTree) (h now : HubTree) (r : HubTree × CarriedTree) (words : CarriedTree) (payload lines : List ℕ) → now_forms ≡ forms → now ≡ h → words ≡ r.1
+    → BringsBack form_lens forms r.1 r.0 h → payload ≡ compact_text (tree_of_hub_snapshot now_forms now) → tree_of_text payload ≡ Some (tree_of_hub_snapshot now_forms now)
+    → hub_holds_i64s now ≡ true → lines ≡ words_text words ++ hub_state_lines now_forms now → AreTexts forms h r payload lines
+texts_same forms now_forms h now r words payload lines same_forms same_hub same_words back text reads whole written =
+    let tree : tree_of_hub_snapshot now_forms now ≡ tree_of_hub_snapshot forms h = ap₂ tree_of_hub_snapshot same_forms same_hub in
+    record {
+      snapshot = text ∙ ap compact_text tree;
+      reads = reads ∙ ap Some tree;
+      written = written ∙ ap₂ (λ (c : CarriedTree) (state : List ℕ). words_text c ++ state) same_words (ap₂ hub_state_lines same_forms same_hub);
+      back = back;
+      whole = subst (λ (x : HubTree). hub_holds_i64s x ≡ true) same_hub whole;
+    }

@@ -1,11 +1,13 @@
 //! What `undo` stores and writes, which is made before anything is stored.
 
-ghost use Rattle.std.specs.Prelude.{◌≡◌, ◌<◌, ◌-◌, List, ℕ, IfOk, MatchResult, Ok, Some, length, map, option_map, take};
+ghost use Rattle.std.specs.Prelude.{◌≡◌, ◌≤◌, List, ℕ, IfOk, MatchResult, Ok, drop, length, option_map, take};
 ghost use Rattle.view_hub.specs.Hubs.{CarriedTree, HubTree};
 ghost use Rattle.view_hub.specs.Views.{carried_tree, hub_tree};
+ghost use Rattle.hub_run.specs.FormLenses.{form_lens};
 ghost use Rattle.hub_run.specs.RunStates.{forms_of_lenses};
 ghost use Rattle.hub_records.specs.HubChanges.{HubChangeTree};
 ghost use Rattle.hub_records.specs.HubStands.{HubStanding, stands_for};
+ghost use Rattle.hub_undo.specs.HubUndone.{BringsBack};
 ghost use Rattle.hub_undo.specs.HubUndoing.{changes_of, last_changes, undo_refusal};
 ghost use Rattle.hub_undo.specs.UndoMaking.{AreTexts, IsMade, IsMakingFault, UndoneBy, change_trees, fault_of};
 
@@ -65,7 +67,7 @@ fn make_opened(
     let Some(changes) = last_changes(alloc, records, count)? else {
         return Err(MakingFault::Refused(StoreRefusal::NothingToUndo));
     };
-    let more = make_undone(alloc, &records[..records.len() - count as usize], &changes)?;
+    let more = make_undone(alloc, records, records.len() - count as usize, changes.as_slice())?;
     Ok(more)
 }
 
@@ -82,16 +84,21 @@ fn last_changes(
     if count >= records.len() as u64 {
         return Ok(None);
     }
-    changes_of(alloc, &records[records.len() - count as usize..])
+    changes_from(alloc, records, records.len() - count as usize)
 }
 
-// The changes of these payloads. None if one of them is not of a change.
-fn changes_of(alloc: Global, records: &[Bytes]) -> Result<Option<Vec<HubChange>>, AllocError>
-    ensures { IfOk result (λ changes. option_map (λ cs. change_trees cs.items) changes ≡ changes_of records.now) }
+// The changes of the payloads from this place on. None if one of them is not of a change.
+fn changes_from(
+    alloc: Global,
+    records: &[Bytes],
+    from: usize,
+) -> Result<Option<Vec<HubChange>>, AllocError>
+    ensures { IfOk result (λ changes. option_map (λ cs. change_trees cs.items) changes
+        ≡ changes_of (drop from records.now)) }
 {
     let mut changes = Vec::new(alloc);
-    for record in records {
-        match change_of_payload(alloc, record.as_slice())? {
+    for at in from..records.len() {
+        match change_of_payload(alloc, records[at].as_slice())? {
             Some(change) => changes.push(change)?,
             None => return Ok(None),
         }
@@ -99,24 +106,31 @@ fn changes_of(alloc: Global, records: &[Bytes]) -> Result<Option<Vec<HubChange>>
     Ok(Some(changes))
 }
 
-// The snapshot of the hub of these payloads, and the lines of the words that take the changes behind it back.
+// The snapshot of the hub of the first payloads, which are so many, and the lines of the words that take the changes
+// behind them back.
 fn make_undone(
     alloc: Global,
     records: &[Bytes],
+    kept: usize,
     changes: &[HubChange],
 ) -> Result<MoreText, AllocError>
-    requires stood { (was : HubStanding) × (stands_for records.now ≡ Ok was)
+    requires within { kept ≤ length records.now }
+    requires stood { (was : HubStanding) × (stands_for (take kept records.now) ≡ Ok was)
         × ((r : HubTree × CarriedTree) × UndoneBy was.forms was.hub (change_trees changes.now) r) }
-    ensures { IfOk result (λ more. (was : HubStanding) (r : HubTree × CarriedTree) → stands_for records.now ≡ Ok was
+    ensures { IfOk result (λ more. (was : HubStanding) (r : HubTree × CarriedTree)
+        → stands_for (take kept records.now) ≡ Ok was
         → UndoneBy was.forms was.hub (change_trees changes.now) r
         → AreTexts was.forms was.hub r more.payload more.lines) }
 {
-    let mut opened = match reopen_hub(alloc, records) {
-        Ok(opened) => opened,
-        Err(RecordFault::NoMemory) => return Err(AllocError),
-        Err(_) => unreachable!(),
-    };
-    texts_of(alloc, &mut opened.hub, changes)
+    match reopen_hub(alloc, &records[..kept]) {
+        Ok(opened) => {
+            let mut opened = opened;
+            texts_of(alloc, &mut opened.hub, changes)
+        }
+        Err(RecordFault::NoMemory) => Err(AllocError),
+        Err(RecordFault::BadRecord { .. }) => unreachable!(),
+        Err(RecordFault::NotConsistent { .. }) => unreachable!(),
+    }
 }
 
 // The same over that hub. It is then as it was.
@@ -147,7 +161,8 @@ fn words_of(
         × UndoneBy (forms_of_lenses hub.old.lenses) (hub_tree hub.old.parts) (change_trees changes.now) r }
     ensures words { IfOk result (λ words. (r : HubTree × CarriedTree)
         → UndoneBy (forms_of_lenses hub.old.lenses) (hub_tree hub.old.parts) (change_trees changes.now) r
-        → carried_tree words ≡ r.1) }
+        → (carried_tree words ≡ r.1)
+        × BringsBack form_lens (forms_of_lenses hub.old.lenses) r.1 r.0 (hub_tree hub.old.parts)) }
     ensures lenses { hub.new.lenses ≡ hub.old.lenses }
     ensures parts { IfOk result (λ _. hub_tree hub.new.parts ≡ hub_tree hub.old.parts) }
 {
