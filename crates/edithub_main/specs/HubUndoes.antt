@@ -21,8 +21,8 @@ module _ (count : ℕ) {K D : Type 0} (sink : OfSink.Ghosts K) (disk : OfDisk.Gh
 
   -- over a store whose last records, so many as the count says, are of changes, which can be undone
   pub record TakesHubBack (store : HubToUndo disk count old.1) : Type 0 where
-    -- At its end the store holds one more snapshot, of the hub before the last changes, and the lines were written. That
-    -- hub is in step, the store represents it, and the words that were written take each document back.
+    -- At its end the store holds one more snapshot, of the hub before the last changes, and the lines were written.
+    -- That hub is in step, the store represents it, and the words that were written take each document back.
     pub continues : status ≡ Done → UndoesCall sink disk old new store.payloads store.undone
     -- what was written and stored at every status
     pub stops : Exits sink disk old new store.payloads (snapshot_text store.undone) (undo_text store.undone) status

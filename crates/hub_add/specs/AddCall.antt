@@ -39,12 +39,13 @@ abbrev pub with_view : HubState → FormTree → HubTree → HubState
 with_view state form hub = record { forms = state.forms ++ form ∷ []; hub = hub }
 
 -- For the helpers: the payload of the program, which reads as its tree, and the state lines of the hub with its view.
-pub record IsViewText (state : HubState) (program : ProgramTree) (form : FormTree) (payload lines : List ℕ) : Type 0 where
-  pub hub : HubTree
-  pub made : view_more form state.hub ≡ Some hub
-  pub is : payload ≡ added_payload program
-  pub reads : tree_of_text payload ≡ Some (tree_of_added (canonical program))
-  pub written : lines ≡ state_text (with_view state form hub)
+pub record IsViewText (state : HubState) (program : ProgramTree) (form : FormTree) (payload lines : List ℕ) : Type 0
+  where
+    pub hub : HubTree
+    pub made : view_more form state.hub ≡ Some hub
+    pub is : payload ≡ added_payload program
+    pub reads : tree_of_text payload ≡ Some (tree_of_added (canonical program))
+    pub written : lines ≡ state_text (with_view state form hub)
 
 -- The hub with the view of this form behind the others is in step, and the payloads with that of the program behind
 -- them represent it.

@@ -15,7 +15,8 @@ added_form forms part =
     else Err too_many_views
 
 -- This program part is read as the program, and its lens has the form, behind these.
-pub record IsAcceptedView (forms : List FormTree) (part : List ℕ) (program : ProgramTree) (form : FormTree) : Type 0 where
+pub record IsAcceptedView (forms : List FormTree) (part : List ℕ) (program : ProgramTree)
+    (form : FormTree) : Type 0 where
   pub read : bounded part ≡ Ok program
   pub has_lens : added_form forms part ≡ Ok form
 

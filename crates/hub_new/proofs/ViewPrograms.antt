@@ -41,7 +41,7 @@ step_programs p ps before forms (Ok form) is rest h =
     let others = rest (before ++ form ∷ []) h in (
       here.0 ∷ others.0,
       ap (option_and_then (λ (q : ProgramTree). option_map (λ (qs : List ProgramTree). q ∷ qs) (programs_of ps))) here.1
-      ∙ ap (option_map (λ (qs : List ProgramTree). here.0 ∷ qs)) others.1,
+          ∙ ap (option_map (λ (qs : List ProgramTree). here.0 ∷ qs)) others.1,
     )
 step_programs p ps before forms (Err refusal) is rest h = absurd cc
 

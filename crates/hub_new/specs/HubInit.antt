@@ -1,4 +1,5 @@
--- What the command `init` of a hub makes of a script. Read it from the end: `StartsHub`, `hub_command`, then `BeginsHub`.
+-- What the command `init` of a hub makes of a script. Read it from the end: `StartsHub`, `hub_command`, then
+-- `BeginsHub`.
 use Rattle.std.specs.Prelude.{◌≡◌, ℕ, ◌≤◌, List, [], ◌∷◌, length, map, IfSome, Some, Ok}
 use Rattle.lens_io.specs.Calls.{Took, IsRead, Gave}
 use Rattle.lens_io.specs.declared.disk.Disk as OfDisk

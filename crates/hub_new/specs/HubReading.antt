@@ -20,8 +20,8 @@ use Rattle.hub_new.specs.HubParts.{IsAcceptedHub, view_programs}
 use Rattle.hub_new.specs.declared.reading.UnreadHub.{UnreadHub}
 use Rattle.hub_new.specs.declared.reading.UnreadHub.TheVariants.{Refused, Stopped}
 
--- The line of the refusal was written, or a prefix of it and the sink failed; or memory ran out, as after a refusal that
--- is none, and nothing was written.
+-- The line of the refusal was written, or a prefix of it and the sink failed; or memory ran out, as after a refusal
+-- that is none, and nothing was written.
 pub record RefusesViews {K : Type 0} (sink : OfSink.Ghosts K) (old new : K) (refused : HubRefused)
     (status : Status) : Type 0 where
   pub ends : (refusal : HubRefusal) → IsRefusalOf refused refusal

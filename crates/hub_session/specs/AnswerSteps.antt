@@ -37,7 +37,8 @@ module _ (s : HubState) (n : ℕ) where
   abbrev KindOf : HubItem → HubState × StoredAnswer → Type 0
   KindOf item p = Kinds s p.0 item p.1
 
-  edit_kind : (e : Place × WordTree) (o : Option (Result (HubTree × CarriedTree) Refusal)) (t : HubState) (a : StoredAnswer)
+  edit_kind : (e : Place × WordTree) (o : Option (Result (HubTree × CarriedTree) Refusal)) (t : HubState)
+      (a : StoredAnswer)
       → step form_lens s.forms s.hub e ≡ o
       → option_map (edit_answered s n e) o ≡ Some (t, a) → Kinds s t (Ok (one e)) a
   edit_kind e (Some (Ok r)) t a is h =

@@ -61,7 +61,8 @@ accepted_with s h change line =
     (record { forms = s.forms; hub = h }, record { line = line; payload = Some (change_text change) })
 
 -- the answer to an edit, and to a group
-abbrev pub edit_answered : HubState → ℕ → Place × WordTree → Result (HubTree × CarriedTree) Refusal → HubState × StoredAnswer
+abbrev pub edit_answered : HubState → ℕ → Place × WordTree → Result (HubTree × CarriedTree) Refusal → HubState
+    × StoredAnswer
 edit_answered s n e (Ok r) = accepted_with s r.0 (one e) (hub_ok_line n r.1)
 edit_answered s n e (Err why) = refused_with s (refused_edit_line n why)
 

@@ -20,7 +20,7 @@ use answer_text::{fault_line, group_refused_line, no_apply_line};
 use edit_journal::{EntryFault, Line};
 use edit_module::Word;
 use hub_records::{HubChange, change_payload, lenses_are_low, read_hub_change};
-use hub_run::{no_view_line, hub_ok_line};
+use hub_run::{hub_ok_line, no_view_line};
 use lens_flat::Flat;
 use std::alloc::{AllocError, Global};
 use store_run::StoredAnswer;

@@ -8,7 +8,7 @@ use crate::snapshots::snapshot_of;
 use edit_journal::Line;
 use lens_io::Payloads;
 use std::alloc::{AllocError, Global};
-use store_run::{StoredAnswer, Opened, ReopenFault, StoredSession};
+use store_run::{Opened, ReopenFault, StoredAnswer, StoredSession};
 use texts::Bytes;
 
 impl StoredSession for HubSession {
@@ -57,7 +57,12 @@ impl StoredSession for HubSession {
         snapshot_of(alloc, &self.hub)
     }
 
-    fn answer(&mut self, alloc: Global, number: u64, line: &Line) -> Result<StoredAnswer, AllocError> {
+    fn answer(
+        &mut self,
+        alloc: Global,
+        number: u64,
+        line: &Line,
+    ) -> Result<StoredAnswer, AllocError> {
         answer_line(alloc, &mut self.hub, number, line)
     }
 

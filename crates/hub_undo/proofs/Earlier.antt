@@ -140,8 +140,8 @@ module _ (forms : List FormTree) where
       (λ behind. subst (λ (x : HubTree). UndoneTo behind x more k) (sym f.4) (rest behind)) in (
         others.0,
         ap (option_and_then
-        (undone_first form_lens (λ c. joined_carried (undone_step form_lens forms h c) words) (λ behind next. undone_behind form_lens forms behind next (es ++ more)))) f.1
-        ∙ others.1,
+            (undone_first form_lens (λ c. joined_carried (undone_step form_lens forms h c) words) (λ behind next. undone_behind form_lens forms behind next (es ++ more)))) f.1
+            ∙ others.1,
         others.2,
       )
 

@@ -5,5 +5,6 @@ pub mod Makings
 pub mod OneEdit
 pub mod Steps
 pub mod UndoCalls
+pub mod UndoLines
 pub mod UndoRefusals
 pub mod UndoneForms

@@ -100,7 +100,8 @@ pub record TakesBack (held : List (List ℕ)) (u : HubUndoing) : Type 0 where
 
 -- ---- refusals
 
--- payloads are refused that represent no hub, and those that represent one if their last records are not so many changes
+-- payloads are refused that represent no hub, and those that represent one if their last records are not so many
+-- changes
 abbrev pub refusal_of : Result HubStanding RecordFault → Option (List HubChangeTree) → Option StoreRefusal
 refusal_of (Ok now) (Some changes) = None
 refusal_of (Ok now) None = Some NothingToUndo

@@ -26,7 +26,8 @@ joined_views _ _ = []
 
 -- the same at the hub too
 abbrev pub joined_carried : CarriedTree → CarriedTree → CarriedTree
-joined_carried first second = record { hub = joined first.hub second.hub; views = joined_views first.views second.views }
+joined_carried first second =
+    record { hub = joined first.hub second.hub; views = joined_views first.views second.views }
 
 module _ {L : Type 0} (lens : OfLens.Ghosts L) where
   -- ---- one edit
@@ -61,8 +62,8 @@ module _ {L : Type 0} (lens : OfLens.Ghosts L) where
       (step lens ls h e)
 
   -- The hub after some edits, each from the hub that the one before it left, and the words that take its documents back
-  -- to those of the first hub. Each word joins, from the last edit to the first, the inverses of the words that acted on
-  -- its document. There are none if an edit is refused.
+  -- to those of the first hub. Each word joins, from the last edit to the first, the inverses of the words that acted
+  -- on its document. There are none if an edit is refused.
   abbrev pub undone : List L → HubTree → List (Place × WordTree) → Option (HubTree × CarriedTree)
   undone ls h es = undone_behind ls (no_words (length ls)) h es
 

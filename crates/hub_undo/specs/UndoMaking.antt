@@ -18,7 +18,8 @@ use Rattle.store_run.specs.declared.refusals.StoreRefusal.{StoreRefusal}
 use Rattle.store_run.specs.declared.refusals.StoreRefusal.TheVariants.{BadRecord, NotConsistent}
 use Rattle.store_more.specs.declared.storing.MoreText.{MoreText}
 use Rattle.hub_undo.specs.HubUndone.{BringsBack, undone}
-use Rattle.hub_undo.specs.HubUndoing.{HubUndoing, TakesBack, edits_of_all, snapshot_text, undo_text, undoing, words_text}
+use Rattle.hub_undo.specs.HubUndoing.{HubUndoing, TakesBack, edits_of_all, snapshot_text, undo_text, undoing}
+use Rattle.hub_undo.specs.HubUndoing.{words_text}
 use Rattle.hub_undo.specs.declared.making.MakingFault.{MakingFault}
 use Rattle.hub_undo.specs.declared.making.MakingFault.TheVariants.{Refused, NoMemory}
 

@@ -67,7 +67,12 @@ fn make_opened(
     let Some(changes) = last_changes(alloc, records, count)? else {
         return Err(MakingFault::Refused(StoreRefusal::NothingToUndo));
     };
-    let more = make_undone(alloc, records, records.len() - count as usize, changes.as_slice())?;
+    let more = make_undone(
+        alloc,
+        records,
+        records.len() - count as usize,
+        changes.as_slice(),
+    )?;
     Ok(more)
 }
 

@@ -30,8 +30,8 @@ use view_hub::{Hub, HubCarried, HubFault, HubParts, HubSide, View};
 
 /// Steps a hub through changes, and returns words that take its document and that of each view back to what they were.
 ///
-/// Each word joins, from the last change to the first and in a group from the last edit to the first, the inverses of the
-/// words that acted on its document. It acts on the document that there is then, and gives the one from before.
+/// Each word joins, from the last change to the first and in a group from the last edit to the first, the inverses of
+/// the words that acted on its document. It acts on the document that there is then, and gives the one from before.
 ///
 /// None if and only if an edit is refused. The hub has then taken the steps before that edit. The only error is running
 /// out of memory; the hub is then in step, as at any time, and has taken some of the steps.

@@ -23,17 +23,17 @@ use store_run::{read_store, refuse, refuse_store};
 /// last `count` changes.
 ///
 /// It stores a snapshot of that hub behind the payloads, and then writes the lines `undo hub WORD` and, for each view,
-/// `undo view V WORD`, and the state lines. Each word takes its document back. The payload and the lines are made before
-/// anything is stored.
+/// `undo view V WORD`, and the state lines. Each word takes its document back. The payload and the lines are made
+/// before anything is stored.
 ///
-/// - `undoes`: after `Done` the snapshot is stored behind the payloads from before, and the lines were written. With the
-///   snapshot the payloads represent the hub before the last changes, which is in step, and each word acts on its
+/// - `undoes`: after `Done` the snapshot is stored behind the payloads from before, and the lines were written. With
+///   the snapshot the payloads represent the hub before the last changes, which is in step, and each word acts on its
 ///   document from before the call and gives that of the snapshot.
 /// - `safe`: whatever the status, an image that a crash leaves holds the payloads from before, or these and such a
 ///   snapshot, or was possible before the call. If the sync of the opening failed, nothing has changed.
 /// - `exits`: what was written and what is stored after each status, if the last `count` payloads are of changes.
-/// - `causes`: over such payloads `StoreRefused` comes only if the log had no room for the snapshot, and `DiskFault`, if
-///   the disk's room is known, only if the disk had none.
+/// - `causes`: over such payloads `StoreRefused` comes only if the log had no room for the snapshot, and `DiskFault`,
+///   if the disk's room is known, only if the disk had none.
 /// - `complete`: so with no fault, and if the log has room, the status is `Done` or `NoMemory`.
 /// - `refused`: the line `store refused: REASON` is written, unless the disk failed, whose room is not known then, or
 ///   memory ran out before. Nothing is written to the disk. The reason is `nothing-to-undo` if and only if the payloads

@@ -1,6 +1,7 @@
 //! The lines of `undo`.
 
-ghost use Rattle.std.specs.Prelude.{◌≡◌, ◌++◌, IfOk, codes};
+ghost use Rattle.std.specs.Prelude.{◌≡◌, ◌++◌, IfOk, codes, decimal};
+ghost use Rattle.answer_text.specs.Lines.{tree_line};
 ghost use Rattle.serde_json.specs.Written.{compact_text};
 ghost use Rattle.edit_json.specs.WordJson.{tree_of_word};
 ghost use Rattle.edit_module.specs.Views.{word_tree, word_trees};
@@ -39,11 +40,19 @@ fn with_views(alloc: Global, bytes: Vec<u8>, words: &[Word]) -> Result<Vec<u8>, 
 {
     let mut all = bytes;
     for number in 0..words.len() {
-        let label = format!(in alloc; "undo view {number} ")?;
-        let longer = with_word(all, label.as_bytes(), &words[number])?;
+        let longer = with_view(alloc, all, number as u64, &words[number])?;
         all = longer;
     }
     Ok(all)
+}
+
+// These bytes, and behind them `undo view V WORD`.
+fn with_view(alloc: Global, bytes: Vec<u8>, number: u64, word: &Word) -> Result<Vec<u8>, AllocError>
+    ensures { IfOk result (λ all. all.items ≡ bytes.items
+        ++ tree_line (codes "undo view " ++ decimal number) (tree_of_word (word_tree word.now))) }
+{
+    let label = format!(in alloc; "undo view {number} ")?;
+    with_word(bytes, label.as_bytes(), word)
 }
 
 // These bytes, and behind them a label, the compact text of a word and a line feed.

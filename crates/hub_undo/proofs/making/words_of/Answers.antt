@@ -32,8 +32,7 @@ returns-clause-words c =
     let made = rw c.in-Some.is at c.in_ok-words.ensures.undone in
     let back = rw c.in-Some.is at c.in_ok-words.ensures.brings_back in
     λ r is.
-    let same : (k, words) ≡ r = same_made (undone form_lens forms h es) (k, words) r (sym (undone_is hub.lenses h es) ∙ sym made) is in
-    (
+    let same : (k, words) ≡ r = same_made (undone form_lens forms h es) (k, words) r (sym (undone_is hub.lenses h es) ∙ sym made) is in (
       ap (λ (p : HubTree × CarriedTree). p.1) same,
       subst (λ (p : HubTree × CarriedTree). BringsBack form_lens forms p.1 p.0 h) same (forms_back hub.lenses words k h back),
     )

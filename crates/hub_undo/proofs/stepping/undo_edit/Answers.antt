@@ -14,8 +14,7 @@ words_back-requires-clause-acted g c =
     let old = c.args.hub.now in
     let new = c.step.new.self in
     let before = hub_tree c.in_ok-before.before in
-    let words = carried_tree c.in-Ok.carried in
-    (
+    let words = carried_tree c.in-Ok.carried in (
       hub_tree new.parts,
       edit_acts of old.lenses c.lenses.result.now (hub_tree old.parts) before (hub_tree new.parts) (edit_tree c.args.edit.now) words
           (c.lenses.ensures.lenses ∙ c.step.ensures.lenses) c.in_ok-before.ensures.copy c.in-Ok.ensures.steps (words_act of g.met.L.EditLens.consistent_is_typed) c.in_ok-before.ensures.in_step,

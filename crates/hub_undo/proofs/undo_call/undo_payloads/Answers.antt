@@ -26,16 +26,19 @@ returns-in-Ok-clause-ends g c =
     λ u st h.
     let same = same_undoing (undoing c.args.count before) made.u u made.is h in
     subst (λ (x : HubUndoing). UndoEnds g.K.Sink disk (k, d) (k', d') before x status) same
-    (inl (record {
-      d1 = d;
-      log = l;
-      log' = l';
-      stands = st;
-      opens = opening_none disk only d;
-      ends =
-          subst (λ (y : List ℕ). StoreEnds g.K.Sink disk (k, d, l) (k', d', l') y [] (snapshot_text made.u) status) made.lines
-          (subst (λ (x : List ℕ). StoreEnds g.K.Sink disk (k, d, l) (k', d', l') more.lines [] x status) made.snapshot c.store_one.ensures.ends);
-    }, made.takes_back))
+    (inl (
+      record {
+        d1 = d;
+        log = l;
+        log' = l';
+        stands = st;
+        opens = opening_none disk only d;
+        ends =
+            subst (λ (y : List ℕ). StoreEnds g.K.Sink disk (k, d, l) (k', d', l') y [] (snapshot_text made.u) status) made.lines
+            (subst (λ (x : List ℕ). StoreEnds g.K.Sink disk (k, d, l) (k', d', l') more.lines [] x status) made.snapshot c.store_one.ensures.ends);
+      },
+      made.takes_back,
+    ))
 
 pub returns-in-Ok-clause-refused : goal.returns-in-Ok-clause-refused
 returns-in-Ok-clause-refused g c =
