@@ -1,2 +1,3 @@
 pub mod HubClauses
+pub mod HubWords
 pub mod HubsInStep

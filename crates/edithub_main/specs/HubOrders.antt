@@ -1,6 +1,6 @@
 -- The command that the words name, and which devices it uses. A word is its bytes, and the program's name is the first
 -- word. Read it from the end: `usage_line`, `uses_disk`, `reads_source`, `order_named`, then `order_of`.
-use Rattle.std.specs.Prelude.{ℕ, ◌≤◌, List, [], ◌∷◌, ◌++◌, Bool, true, false, Option, Some, None, String, codes, map}
+use Rattle.std.specs.Prelude.{ℕ, List, [], ◌∷◌, ◌++◌, Bool, true, false, Option, Some, None, String, codes, map}
 use Rattle.std.specs.Prelude.{if◌then◌else◌, bytes_eq, option_map, string_bytes}
 use Rattle.std.specs.declared.alloc.Global.{Global}
 use Rattle.command_words.specs.Orders.{count_of}
@@ -32,11 +32,6 @@ order_of (name ∷ word ∷ count ∷ more ∷ words) = None
 -- the order that the words give
 abbrev pub order_named : List (String Global) → Option HubOrder
 order_named words = order_of (map string_bytes words)
-
--- `undo` takes back from 1 to 10,000 changes
-abbrev pub HasFewChanges : HubOrder → Type 0
-HasFewChanges (Undo count) = (1 ≤ count) × (count ≤ 10000)
-HasFewChanges order = Unit {0}
 
 -- whether a command only reads the store; words that name none do not
 abbrev pub only_reads : Option HubOrder → Bool

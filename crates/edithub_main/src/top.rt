@@ -4,7 +4,7 @@ ghost use Rattle.lens_io.specs.Calls.{SourceFailed, SinkFailed, DiskFailed};
 ghost use Rattle.edithub_main.specs.HubAdds.{HubAdds};
 ghost use Rattle.edithub_main.specs.HubApplies.{HubApplies};
 ghost use Rattle.edithub_main.specs.HubEnds.{EndsOrder, GivesUsage, IsCaused, LeavesAlone, MayEnd};
-ghost use Rattle.edithub_main.specs.HubOrders.{HasFewChanges, order_named, reads_source, uses_disk};
+ghost use Rattle.edithub_main.specs.HubOrders.{order_named, reads_source, uses_disk};
 ghost use Rattle.edithub_main.specs.HubPacks.{HubPacks};
 ghost use Rattle.edithub_main.specs.HubShows.{HubShows, HubVerifies};
 ghost use Rattle.edithub_main.specs.HubUndoes.{HubUndoes};
@@ -78,7 +78,6 @@ fn run_order<S: Source, K: Sink, D: Disk>(
     sink: &mut K,
     disk: &mut D,
 ) -> Status
-    requires { HasFewChanges order }
     ensures ends { EndsOrder S.Source K.Sink D.Disk
         (source.old, sink.old, disk.old) (source.new, sink.new, disk.new) result order }
     ensures statuses { MayEnd (Some order) result }

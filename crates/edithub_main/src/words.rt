@@ -1,6 +1,6 @@
 //! The words of the command line.
-ghost use Rattle.std.specs.Prelude.{◌≡◌, ◌≤◌, IfSome, map, string_bytes};
-ghost use Rattle.edithub_main.specs.HubOrders.{HasFewChanges, only_reads, order_of, plain_order, undo_order};
+ghost use Rattle.std.specs.Prelude.{◌≡◌, length, map, string_bytes};
+ghost use Rattle.edithub_main.specs.HubOrders.{only_reads, order_of, plain_order, undo_order};
 
 use command_words::read_count;
 
@@ -28,12 +28,11 @@ pub enum HubOrder {
 /// The words of a command are any name and one of `init`, `apply`, `show`, `verify`, `pack` and `add`, or any name,
 /// `undo` and K, a number of one to twenty ASCII digits from 1 to 10,000.
 pub fn read_order(words: &[String]) -> Option<HubOrder>
-    ensures order { result ≡ order_of (map string_bytes words.now) }
-    ensures few { IfSome result HasFewChanges }
+    ensures { result ≡ order_of (map string_bytes words.now) }
 {
     match words.len() {
-        2 => plain_order(words[1].as_str()),
-        3 => undo_order(words[1].as_str(), words[2].as_str()),
+        2 => read_two(words),
+        3 => read_three(words),
         _ => None,
     }
 }
@@ -45,10 +44,25 @@ pub fn only_reads(words: &[String]) -> bool
     matches!(read_order(words), Some(HubOrder::Show | HubOrder::Verify))
 }
 
+// Two words name a command of one word, or nothing.
+fn read_two(words: &[String]) -> Option<HubOrder>
+    requires { length words.now ≡ 2 }
+    ensures { result ≡ order_of (map string_bytes words.now) }
+{
+    plain_order(words[1].as_str())
+}
+
+// Three words name `undo` with its number, or nothing.
+fn read_three(words: &[String]) -> Option<HubOrder>
+    requires { length words.now ≡ 3 }
+    ensures { result ≡ order_of (map string_bytes words.now) }
+{
+    undo_order(words[1].as_str(), words[2].as_str())
+}
+
 // The command that is written as this one word.
 fn plain_order(word: &str) -> Option<HubOrder>
-    ensures order { result ≡ plain_order word.now }
-    ensures few { IfSome result HasFewChanges }
+    ensures { result ≡ plain_order word.now }
 {
     match word {
         "init" => Some(HubOrder::Init),
@@ -63,8 +77,7 @@ fn plain_order(word: &str) -> Option<HubOrder>
 
 // The command `undo` with this number.
 fn undo_order(word: &str, count: &str) -> Option<HubOrder>
-    ensures order { result ≡ undo_order word.now count.now }
-    ensures few { IfSome result HasFewChanges }
+    ensures { result ≡ undo_order word.now count.now }
 {
     if word != "undo" {
         return None;

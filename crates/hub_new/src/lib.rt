@@ -9,4 +9,4 @@ mod reading;
 mod starting;
 
 pub use crate::reading::{AcceptedHub, UnreadHub, accepted_views, read_views};
-pub use crate::starting::init_hub;
+pub use crate::starting::{init_hub, refuse_views};
