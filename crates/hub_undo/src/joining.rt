@@ -44,7 +44,7 @@ fn no_view_words(alloc: Global, views: usize) -> Result<Words, AllocError>
     ensures { IfOk result (λ words. word_trees words ≡ no_view_words views) }
 {
     let mut words = Vec::with_capacity(alloc, views)?;
-    for at in 0..views {
+    for _ in 0..views {
         let none = Word::from_vec(Vec::new(alloc));
         words.push(none)?;
     }
