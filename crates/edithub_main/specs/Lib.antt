@@ -1,5 +1,6 @@
 pub mod HubAdds
 pub mod HubApplies
+pub mod HubBytes
 pub mod HubEnds
 pub mod HubOrders
 pub mod HubPacks

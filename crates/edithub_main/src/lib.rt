@@ -8,6 +8,7 @@
 //! [`run_program`] is the same over the real streams and the file of the store.
 #![tactic(auto)]
 
+pub mod laws;
 mod real;
 mod stores;
 mod top;

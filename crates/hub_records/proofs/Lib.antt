@@ -12,5 +12,6 @@ pub mod RecordSteps
 pub mod RecordsAreRead
 pub mod SavedViews
 pub mod SnapshotViews
+pub mod StandsKnown
 pub mod StoodInStep
 pub mod WrittenStands

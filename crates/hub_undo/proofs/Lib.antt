@@ -1,3 +1,4 @@
+pub mod Decided
 pub mod Earlier
 pub mod JoinedViews
 pub mod Joins

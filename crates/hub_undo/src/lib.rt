@@ -6,6 +6,7 @@
 #![tactic(auto)]
 
 mod joining;
+pub mod laws;
 mod making;
 mod stepping;
 mod undo_call;

@@ -19,7 +19,7 @@ returns-in-Ok-clause-ends g c =
     let d' = c.store_one.new.disk in
     let l = c.args.log.now in
     let l' = c.store_one.new.log in
-    let before = c.args.payloads in
+    let before = c.args.payloads.now in
     let made = rw c.as_slice.ensures at c.in-Ok.ensures in
     let more = c.in-Ok.more in
     let status = c.store_one.result in
@@ -43,12 +43,12 @@ returns-in-Ok-clause-ends g c =
 pub returns-in-Ok-clause-refused : goal.returns-in-Ok-clause-refused
 returns-in-Ok-clause-refused g c =
     let made = rw c.as_slice.ensures at c.in-Ok.ensures in
-    λ refusal q. absurd (never_refused c.args.count c.args.payloads made.u refusal made.is q)
+    λ refusal q. absurd (never_refused c.args.count c.args.payloads.now made.u refusal made.is q)
 
 pub returns-in-Err-Refused-clause-ends : goal.returns-in-Err-Refused-clause-ends
 returns-in-Err-Refused-clause-ends g c =
     let fault = rw c.as_slice.ensures at c.in-Err-Refused.ensures in
-    λ u st h. absurd (never_refused c.args.count c.args.payloads u c.in-Err-Refused.refusal h (subst (IsMakingFault (undo_refusal c.args.count c.args.payloads)) c.in-Err-Refused.field-0-is fault))
+    λ u st h. absurd (never_refused c.args.count c.args.payloads.now u c.in-Err-Refused.refusal h (subst (IsMakingFault (undo_refusal c.args.count c.args.payloads.now)) c.in-Err-Refused.field-0-is fault))
 
 pub returns-in-Err-Refused-clause-refused : goal.returns-in-Err-Refused-clause-refused
 returns-in-Err-Refused-clause-refused g c =
@@ -56,8 +56,8 @@ returns-in-Err-Refused-clause-refused g c =
     let fault = rw c.as_slice.ensures at c.in-Err-Refused.ensures in
     λ refusal q. (
       unwritten_none disk c.args.disk.now,
-      same_refusal g.K.Sink disk c.args.sink.now c.refuse.new.sink c.args.disk.now c.args.disk.now c.refuse.result c.in-Err-Refused.refusal refusal (undo_refusal c.args.count c.args.payloads)
-          (subst (IsMakingFault (undo_refusal c.args.count c.args.payloads)) c.in-Err-Refused.field-0-is fault) q c.refuse.ensures.refuses,
+      same_refusal g.K.Sink disk c.args.sink.now c.refuse.new.sink c.args.disk.now c.args.disk.now c.refuse.result c.in-Err-Refused.refusal refusal (undo_refusal c.args.count c.args.payloads.now)
+          (subst (IsMakingFault (undo_refusal c.args.count c.args.payloads.now)) c.in-Err-Refused.field-0-is fault) q c.refuse.ensures.refuses,
     )
 
 pub returns-in-Err-NoMemory-clause-ends : goal.returns-in-Err-NoMemory-clause-ends
@@ -68,7 +68,7 @@ returns-in-Err-NoMemory-clause-ends g c =
     let hold = images_held disk g.met.D.Disk.content_is_image in
     let d = c.args.disk.now in
     let l = c.args.log.now in
-    let before = c.args.payloads in
+    let before = c.args.payloads.now in
     λ u st h.
     inr (record {
       opens = opening_none disk only d;
