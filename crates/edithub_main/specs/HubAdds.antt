@@ -1,11 +1,12 @@
 -- What `add` promises. What it takes, writes and stores at each status is defined in hub_add. Read it from the end:
 -- `HubAdds`, then `AddsOn`.
 use Rattle.std.specs.Prelude.{◌≡◌}
-use Rattle.lens_io.specs.Calls.{IsUnasked}
+use Rattle.lens_io.specs.Calls.{IsUnasked, SourceFailed, SinkFailed, DiskFailed}
 use Rattle.lens_io.specs.declared.disk.Disk as OfDisk
 use Rattle.lens_io.specs.declared.sink.Sink as OfSink
 use Rattle.lens_io.specs.declared.source.Source as OfSource
-use Rattle.hub_add.specs.AddCall.{AddEnds, AddsView, IsAddCause}
+use Rattle.store_run.specs.Rooms.{TakesTooMany, most_bytes}
+use Rattle.hub_add.specs.AddCall.{AddEnds, AddsView, EndsWhole, IsAddCause, ViewHasNoRoom}
 use Rattle.edithub_main.specs.HubStores.{HubStore, RefusedHub, IsStateInStep, RefusesHub}
 use Rattle.command_ends.specs.declared.status.Status.{Status}
 use Rattle.command_ends.specs.declared.status.Status.TheVariants.{Done}
@@ -23,6 +24,13 @@ module _ {S K D : Type 0} (source : OfSource.Ghosts S) (sink : OfSink.Ghosts K) 
     -- after StoreRefused the log had no room for the payload, and after DiskFault the disk had none if its room is
     -- known
     pub caused : IsAddCause source disk (old.0, old.2) (new.0, new.2) store.payloads store.state status
+    -- it comes to its end, or refuses the program part, or memory runs out, if no device fails, not too many bytes are
+    -- taken and the log has room
+    pub completes : (SourceFailed source old.0 new.0 → ⊥) → (SinkFailed sink old.1 new.1 → ⊥)
+        → (DiskFailed disk old.2 new.2 → ⊥)
+        → (TakesTooMany source old.0 new.0 → ⊥)
+        → (ViewHasNoRoom source old.0 new.0 store.payloads store.state most_bytes → ⊥)
+        → EndsWhole status
 
   pub record HubAdds : Type 0 where
     pub of_store : (store : HubStore disk old.2) → AddsOn store

@@ -2,6 +2,7 @@
 use Rattle.std.proofs.Common.{◌≡◌, ◌⊎◌, inl, inr, ℕ, List, [], ◌∷◌, ◌++◌, Option, Some, None, Result, Ok, Err, refl, sym, subst, arith}
 use Rattle.std.specs.Prelude.{IfSome, IsNone}
 use Rattle.std.proofs.KnownBytes.{Appends-nil}
+use Rattle.command_ends.specs.Statuses.{IsAmong, init_statuses}
 use Rattle.command_ends.specs.declared.status.Status.{Status}
 use Rattle.command_ends.specs.declared.status.Status.TheVariants as ending
 use Rattle.gate_log.specs.LogOnDisk.{LogState, HoldsPayloads}
@@ -28,12 +29,12 @@ use Rattle.store_new.specs.Reading.{status_at}
 use Rattle.store_new.specs.ScriptReading.{ReadsFront, RefusesWith}
 use Rattle.store_run.specs.Effects.{StandsOn}
 use Rattle.store_run.specs.Refusals.{FailsUnopened, IsOpening, IsUnwritten}
-use Rattle.store_run.specs.Rooms.{most_bytes}
+use Rattle.store_run.specs.Rooms.{TakesTooMany, most_bytes}
 use Rattle.store_run.proofs.Effects.{if_known}
 use Rattle.store_run.proofs.Moments.{leaves_then}
 use Rattle.store_run.proofs.Openings.{opening_then, unwritten_none, unwritten_then}
 use Rattle.store_run.proofs.Rooms.{none_some}
-use Rattle.hub_add.specs.AddCall.{AddEnds, AddsView, EndsAdded, FailsFirst, IsAddCause, RefusesView, StopsReading, StoresView, ViewHasNoRoom, added_payload, with_view}
+use Rattle.hub_add.specs.AddCall.{AddEnds, AddsView, EndsAdded, EndsWhole, FailsFirst, IsAddCause, RefusesView, StopsReading, StoresView, ViewHasNoRoom, added_payload, with_view}
 use Rattle.hub_add.specs.AddReading.{ReadsRefusedView, ReadsView}
 use Rattle.hub_add.specs.AddedView.{added_form, view_part}
 use Rattle.hub_add.proofs.ViewsMore.{is_view_more, text_reads}
@@ -234,3 +235,24 @@ module _ {S K D : Type 0} (source : OfSource.Ghosts S) (sink : OfSink.Ghosts K) 
 
     pub add_cause : Ends (s, k, d) (s', k', d') status → IsAddCause source disk (s, d) (s', d') before state status
     add_cause ends = record { full = full ends; over = over ends }
+
+    too_many : Ends (s, k, d) (s', k', d') status → status ≡ ending.InputTooLong → TakesTooMany source s s'
+    too_many (inl f) is = elim f.fails.0.0 [ inl e ↦ cc | inr e ↦ cc ]
+    too_many (inr (inl r)) is =
+        let stops = subst (λ (x : Status). StopsAfter (view_part state.forms) r.bytes x) is r.stops in
+        record { bytes = r.bytes; consumes = r.took; over = omega (arith, stops.0, r.at_most) }
+    too_many (inr (inr (inl r))) is = elim r.given [ inl e ↦ let other = e.0 in cc | inr e ↦ let other = e.0 in cc ]
+    too_many (inr (inr (inr v))) is = absurd (subst (IsCauseInRoom (disk.room d) before (added_payload v.program)) is (caused v))
+
+    -- with no fault and with room it comes to its end, or refuses the program part, or memory runs out
+    pub add_complete : Ends (s, k, d) (s', k', d') status → IsAmong init_statuses status → (status ≡ ending.SourceFault → ⊥) → (status ≡ ending.SinkFault → ⊥) → (status ≡ ending.DiskFault → ⊥)
+        → (TakesTooMany source s s' → ⊥) → (ViewHasNoRoom source s s' before state most_bytes → ⊥) → EndsWhole status
+    add_complete ends (inl e) no_source no_sink no_disk few room = inl e
+    add_complete ends (inr (inl e)) no_source no_sink no_disk few room = inr (inl e)
+    add_complete ends (inr (inr (inl e))) no_source no_sink no_disk few room = absurd (room (full ends e))
+    add_complete ends (inr (inr (inr (inl e)))) no_source no_sink no_disk few room = absurd (no_source e)
+    add_complete ends (inr (inr (inr (inr (inl e))))) no_source no_sink no_disk few room = absurd (no_sink e)
+    add_complete ends (inr (inr (inr (inr (inr (inl e)))))) no_source no_sink no_disk few room = absurd (no_disk e)
+    add_complete ends (inr (inr (inr (inr (inr (inr (inl e))))))) no_source no_sink no_disk few room = absurd (few (too_many ends e))
+    add_complete ends (inr (inr (inr (inr (inr (inr (inr (inl e)))))))) no_source no_sink no_disk few room = inr (inr e)
+    add_complete ends (inr (inr (inr (inr (inr (inr (inr (inr e)))))))) no_source no_sink no_disk few room = absurd e

@@ -151,3 +151,7 @@ pub record IsAddCause {S D : Type 0} (source : OfSource.Ghosts S) (disk : OfDisk
   pub full : status ≡ ending.StoreRefused → ViewHasNoRoom source old.0 new.0 before state most_bytes
   pub over : status ≡ ending.DiskFault
       → IfSome (disk.room old.1) (λ most. ViewHasNoRoom source old.0 new.0 before state most)
+
+-- the call came to its end, or refused the program part, or memory ran out
+abbrev pub EndsWhole : Status → Type 0
+EndsWhole status = (status ≡ ending.Done) ⊎ (status ≡ ending.ProgramRefused) ⊎ (status ≡ ending.NoMemory)

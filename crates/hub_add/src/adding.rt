@@ -6,12 +6,14 @@ ghost use Rattle.lens_forms.specs.Forms.{form_tree};
 ghost use Rattle.program_terms.specs.Views.{program_tree};
 ghost use Rattle.store_run.specs.Effects.{StandsOn};
 ghost use Rattle.store_run.specs.Refusals.{IsUnwritten, EndsRefused};
+ghost use Rattle.store_run.specs.Rooms.{TakesTooMany, most_bytes};
 ghost use Rattle.store_run.specs.Stores.{Store, RefusedStore};
 ghost use Rattle.hub_run.specs.RunStates.{forms_of_lenses, state_of};
 ghost use Rattle.hub_records.specs.HubLenses.{joins};
 ghost use Rattle.hub_session.specs.HubStates.{stands_for};
 ghost use Rattle.hub_session.specs.contracts.instance.HubSessionStoredSession.TheImpl.{ghosts as hubs};
-ghost use Rattle.hub_add.specs.AddCall.{AddEnds, AddsView, EndsAdded, IsAddCause, IsViewText};
+ghost use Rattle.hub_add.specs.AddCall.{AddEnds, AddsView, EndsAdded, EndsWhole, IsAddCause, IsViewText};
+ghost use Rattle.hub_add.specs.AddCall.{ViewHasNoRoom};
 
 use crate::reading::{UnreadView, read_view};
 use command_ends::Status;
@@ -33,12 +35,13 @@ use store_run::{StoredSession, open_store, refuse_store};
 ///
 /// - `adds`: after `Done` the payload of the program is stored behind those from before. They represent the hub with
 ///   one view more, which is in step, and its state lines were written.
-/// - `stops`: what was taken, written and stored after each status. `ProgramRefused` comes only if the program part is
+/// - `stops`: what was taken, written and stored after each status, and what a crash leaves: an image holds the payloads
+///   from before, or these and the new one, or was possible before the call. `ProgramRefused` comes only if the program part is
 ///   whole and refused: for a program that is refused, for 64 views, or for another left type, as `hub` refuses it.
-/// - `safe`: whatever the status, an image that a crash leaves holds the payloads from before, or these and the new
-///   one, or was possible before the call.
 /// - `causes`: `StoreRefused` comes only if the log had no room for the payload, and `DiskFault`, if the disk's room is
 ///   known, only if the disk had none.
+/// - `complete`: so with no fault, and if not too many bytes are taken and the log has room, the status is `Done` or
+///   `ProgramRefused` or `NoMemory`.
 /// - `refused`: over bytes that are no store the line `store refused: REASON` is written, unless the disk failed, whose
 ///   room is not known then, or memory ran out before. The source is not called, and nothing is written to the disk.
 /// - `statuses`: it ends by one of eight statuses. `source_fault`, `sink_fault`, `disk_fault`: these come only if that
@@ -58,6 +61,13 @@ pub fn add<S: Source, K: Sink, D: Disk>(
     ensures causes { (store : Store D.Disk hubs disk.old)
         → IsAddCause S.Source D.Disk (source.old, disk.old) (source.new, disk.new)
         store.payloads store.state result }
+    ensures complete { (store : Store D.Disk hubs disk.old)
+        → (SourceFailed S.Source source.old source.new → ⊥)
+        → (SinkFailed K.Sink sink.old sink.new → ⊥)
+        → (DiskFailed D.Disk disk.old disk.new → ⊥)
+        → (TakesTooMany S.Source source.old source.new → ⊥)
+        → (ViewHasNoRoom S.Source source.old source.new store.payloads store.state most_bytes → ⊥)
+        → EndsWhole result }
     ensures refused { (other : RefusedStore D.Disk hubs disk.old)
         → IsUnwritten D.Disk disk.old disk.new × IsUnasked S.Source source.old source.new
         × EndsRefused K.Sink D.Disk (sink.old, disk.old) (sink.new, disk.new) other.reason result }

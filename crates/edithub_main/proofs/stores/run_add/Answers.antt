@@ -10,6 +10,7 @@ returns-clause-adds g c =
         in_step = hub_in_step s.payloads s.state s.version s.stands;
         stops = e.stops s;
         caused = e.causes s;
+        completes = e.complete s;
       };
       refuses = λ other. let x = e.refused other in ((x.0, x.2), x.1);
     }

@@ -1,4 +1,5 @@
 use Rattle.std.proofs.Common.{◌≡◌, inl, ℕ, List, Option, None, Ok, Err, refl, ap, sym, subst, ◌∙◌}
+use Rattle.command_ends.proofs.AmongStatuses.{quiet_reads_nothing}
 use Rattle.lens_io.proofs.Increases.{increased_since}
 use Rattle.store_run.specs.declared.opening.OpenFault.{OpenFault}
 use Rattle.store_run.proofs.StoredPayloads.{images_held, reads_held}
@@ -7,7 +8,7 @@ use Rattle.hub_run.specs.RunStates.{state_of}
 use Rattle.hub_run.specs.Runs.{HubState}
 use Rattle.hub_session.specs.HubStates.{stands_for}
 use Rattle.hub_add.specs.AddCall.{AddEnds}
-use Rattle.hub_add.proofs.AddingEnds.{add_cause, adds_view, ends_behind, fails_first}
+use Rattle.hub_add.proofs.AddingEnds.{add_cause, add_complete, adds_view, ends_behind, fails_first}
 use Rattle.hub_add.proofs.AddStatuses.{quiet_inits}
 use Rattle.hub_add.proofs.ViewsMore.{no_version}
 use Rattle.hub_add.proofs.adding.add.Goals as goal
@@ -55,13 +56,24 @@ returns-in-Ok-clause-causes g c =
     add_cause g.S.Source g.K.Sink disk hold reads store.payloads store.state c.args.source.now c.add_opened.new.source c.args.sink.now c.add_opened.new.sink c.args.disk.now c.add_opened.new.disk
     c.add_opened.result store.bytes store.told (returns-in-Ok-clause-stops g c store)
 
-pub returns-in-Ok-clause-refused : goal.returns-in-Ok-clause-refused
-returns-in-Ok-clause-refused g c = λ other. absurd (c.in-Ok.ensures.refused other)
-
 pub returns-in-Ok-clause-disk_fault : goal.returns-in-Ok-clause-disk_fault
 returns-in-Ok-clause-disk_fault g c =
     let faults = g.D.Disk.faults in
     λ e. increased_since (faults c.args.disk.now) (faults c.open_store.new.disk) (faults c.add_opened.new.disk) c.in-Ok.ensures.faults (c.add_opened.ensures.disk_fault e)
+
+pub returns-in-Ok-clause-complete : goal.returns-in-Ok-clause-complete
+returns-in-Ok-clause-complete g c =
+    let disk = g.D.Disk in
+    let hold = images_held disk g.met.D.Disk.content_is_image in
+    let reads = reads_held disk in
+    let e = c.add_opened.ensures in
+    λ store no_source no_sink no_disk few room.
+    add_complete g.S.Source g.K.Sink disk hold reads store.payloads store.state c.args.source.now c.add_opened.new.source c.args.sink.now c.add_opened.new.sink c.args.disk.now c.add_opened.new.disk
+    c.add_opened.result store.bytes store.told (returns-in-Ok-clause-stops g c store) e.statuses (λ x. no_source (e.source_fault x)) (λ x. no_sink (e.sink_fault x))
+    (λ x. no_disk (returns-in-Ok-clause-disk_fault g c x)) few room
+
+pub returns-in-Ok-clause-refused : goal.returns-in-Ok-clause-refused
+returns-in-Ok-clause-refused g c = λ other. absurd (c.in-Ok.ensures.refused other)
 
 -- ---- the store was not opened
 
@@ -110,3 +122,14 @@ returns-in-Err-clause-disk_fault g c = λ e. c.in-Err.ensures.cause (ap (λ (x :
 
 pub returns-in-Err-clause-statuses : goal.returns-in-Err-clause-statuses
 returns-in-Err-clause-statuses g c = quiet_inits c.refuse_store.result c.refuse_store.ensures.statuses
+
+pub returns-in-Err-clause-complete : goal.returns-in-Err-clause-complete
+returns-in-Err-clause-complete g c =
+    let disk = g.D.Disk in
+    let hold = images_held disk g.met.D.Disk.content_is_image in
+    let reads = reads_held disk in
+    let e = c.refuse_store.ensures in
+    λ store no_source no_sink no_disk few room.
+    add_complete g.S.Source g.K.Sink disk hold reads store.payloads store.state c.args.source.now c.args.source.now c.args.sink.now c.refuse_store.new.sink c.args.disk.now c.open_store.new.disk
+    c.refuse_store.result store.bytes store.told (returns-in-Err-clause-stops g c store) (quiet_inits c.refuse_store.result e.statuses)
+    (λ x. absurd (quiet_reads_nothing c.refuse_store.result e.statuses x)) (λ x. no_sink (e.sink_fault x)) (λ x. no_disk (returns-in-Err-clause-disk_fault g c x)) few room
