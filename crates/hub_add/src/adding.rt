@@ -35,9 +35,10 @@ use store_run::{StoredSession, open_store, refuse_store};
 ///
 /// - `adds`: after `Done` the payload of the program is stored behind those from before. They represent the hub with
 ///   one view more, which is in step, and its state lines were written.
-/// - `stops`: what was taken, written and stored after each status, and what a crash leaves: an image holds the payloads
-///   from before, or these and the new one, or was possible before the call. `ProgramRefused` comes only if the program part is
-///   whole and refused: for a program that is refused, for 64 views, or for another left type, as `hub` refuses it.
+/// - `stops`: what was taken, written and stored after each status, and what a crash leaves: an image holds the
+///   payloads from before, or these and the new one, or was possible before the call. `ProgramRefused` comes only if
+///   the program part is whole and refused: for a program that is refused, for 64 views, or for another left type, as
+///   `hub` refuses it.
 /// - `causes`: `StoreRefused` comes only if the log had no room for the payload, and `DiskFault`, if the disk's room is
 ///   known, only if the disk had none.
 /// - `complete`: so with no fault, and if not too many bytes are taken and the log has room, the status is `Done` or
