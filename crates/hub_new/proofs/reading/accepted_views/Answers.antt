@@ -6,9 +6,9 @@ use Rattle.hub_new.proofs.reading.accepted_views.Goals as goal
 
 pub with_programs-requires : goal.with_programs-requires
 with_programs-requires c =
-    let part = c.requires.0 in
-    let h = c.requires.1 in
-    (part, h, lenses_here c.args.pieces.now part (map form_tree c.in_ok-lenses.lenses.items) h (c.in_ok-lenses.ensures.lenses h.ended h.begun h.holds))
+    let part = c.requires.held.0 in
+    let h = c.requires.held.1 in
+    record { held = (part, h, lenses_here c.args.pieces.now part (map form_tree c.in_ok-lenses.lenses.items) h (c.in_ok-lenses.ensures.lenses h.ended h.begun h.holds)) }
 
 pub returns-clause-accepted : goal.returns-clause-accepted
 returns-clause-accepted c = λ part h.

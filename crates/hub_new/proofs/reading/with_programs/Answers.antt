@@ -6,7 +6,7 @@ use Rattle.hub_new.proofs.reading.with_programs.Goals as goal
 
 pub unreachable-requires : goal.unreachable-requires
 unreachable-requires c =
-    absurd (never_none c.args.pieces.now c.requires.0 (map form_tree c.args.lenses.items) c.requires.1 c.requires.2 (rw c.in-None.is at c.in_ok-programs.ensures))
+    absurd (never_none c.args.pieces.now c.requires.held.0 (map form_tree c.args.lenses.items) c.requires.held.1 c.requires.held.2 (rw c.in-None.is at c.in_ok-programs.ensures))
 
 pub returns-in-Some-clause-accepted : goal.returns-in-Some-clause-accepted
 returns-in-Some-clause-accepted c = λ part h is.

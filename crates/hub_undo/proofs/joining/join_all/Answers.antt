@@ -6,12 +6,12 @@ use Rattle.hub_undo.proofs.Joins.{joining_none, joining_last, joining_end, last_
 use Rattle.hub_undo.proofs.joining.join_all.Goals as goal
 
 pub parts-init : goal.parts-init
-parts-init c = joining_none c.args.views (carried_tree c.in_ok-all.all) (carried_trees c.args.parts.items) c.in_ok-all.ensures c.requires
+parts-init c = joining_none c.args.views (carried_tree c.in_ok-all.all) (carried_trees c.args.parts.items) c.in_ok-all.ensures c.requires.views
 
 pub join-requires : goal.join-requires
 join-requires c =
     let l = c.parts in
-    last_views l.views l.all c.in-Some.part c.pop.new.self.items l.parts.items (joined_all l.views (carried_trees c.args.parts.items)) c.in-Some.ensures.items l.invariant
+    record { views = last_views l.views l.all c.in-Some.part c.pop.new.self.items l.parts.items (joined_all l.views (carried_trees c.args.parts.items)) c.in-Some.ensures.items l.invariant }
 
 pub parts-preserved : goal.parts-preserved
 parts-preserved c =

@@ -5,7 +5,7 @@ use Rattle.hub_undo.proofs.JoinedViews.{joins_none, joins_last, joins_end, never
 use Rattle.hub_undo.proofs.joining.join_views.Goals as goal
 
 pub views-init : goal.views-init
-views-init c = joins_none c.args.first.items c.args.second.items c.in_ok-joined.joined.items c.requires c.in_ok-joined.ensures.items
+views-init c = joins_none c.args.first.items c.args.second.items c.in_ok-joined.joined.items c.requires.views c.in_ok-joined.ensures.items
 
 pub unreachable-requires : goal.unreachable-requires
 unreachable-requires c =

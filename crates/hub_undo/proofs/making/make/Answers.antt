@@ -5,7 +5,7 @@ use Rattle.hub_undo.proofs.Makings.{refused_fault}
 use Rattle.hub_undo.proofs.making.make.Goals as goal
 
 pub make_opened-requires : goal.make_opened-requires
-make_opened-requires c = (c.in-Ok.now.count, c.in-Ok.ensures.stands)
+make_opened-requires c = record { stood = (c.in-Ok.now.count, c.in-Ok.ensures.stands) }
 
 pub returns-in-Err : goal.returns-in-Err
 returns-in-Err c =

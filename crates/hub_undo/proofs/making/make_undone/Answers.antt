@@ -13,7 +13,7 @@ texts_of-requires c =
     let r = c.requires.stood.2.0 in
     let here = hub_standing c.in-Ok.opened.hub c.in-Ok.opened.count in
     let same = same_standing (stands_for (take c.args.kept c.args.records.now)) was here c.requires.stood.1 c.in-Ok.ensures.stands in
-    (r, subst (λ (s : HubStanding). UndoneBy s.forms s.hub changes r) same c.requires.stood.2.1)
+    record { accepted = (r, subst (λ (s : HubStanding). UndoneBy s.forms s.hub changes r) same c.requires.stood.2.1) }
 
 pub returns-in-Ok : goal.returns-in-Ok
 returns-in-Ok c =

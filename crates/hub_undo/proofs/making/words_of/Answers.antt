@@ -16,10 +16,12 @@ unreachable-requires c =
     let es = edits_of_all (change_trees c.args.changes.now) in
     let h = hub_tree hub.parts in
     let none = rw c.in_default.is at c.in_ok-words.ensures.undone in
-    never_none (undone form_lens (forms_of_lenses hub.lenses) h es) c.requires.0 c.requires.1 (sym (undone_is hub.lenses h es) ∙ sym none)
+    never_none (undone form_lens (forms_of_lenses hub.lenses) h es) c.requires.accepted.0 c.requires.accepted.1 (sym (undone_is hub.lenses h es) ∙ sym none)
 
 pub replace-requires : goal.replace-requires
-replace-requires c = subst (λ ls. IsHub ready_lens ls (hub_tree c.in_ok-earlier.earlier)) (sym c.in_ok-words.ensures.lenses) c.in_ok-earlier.ensures.in_step
+replace-requires c = record {
+  in_step = subst (λ ls. IsHub ready_lens ls (hub_tree c.in_ok-earlier.earlier)) (sym c.in_ok-words.ensures.lenses) c.in_ok-earlier.ensures.in_step;
+}
 
 pub returns-clause-words : goal.returns-clause-words
 returns-clause-words c =

@@ -31,7 +31,7 @@ join_all-requires g c =
     let none : carried_trees c.new-parts.result.items ≡ [] = ap (λ (cs : List HubCarried). carried_trees cs) c.new-parts.ensures.items in
     let parts : carried_trees c.undo_each.new.parts.items ≡ all.0 = all.1 ∙ ap (λ (cs : List CarriedTree). cs ++ all.0) none in
     let lenses = c.lenses.ensures.lenses ∙ c.in_ok-undo_each.ensures.lenses in
-    subst (λ ls. HasViews (length ls) (carried_trees c.undo_each.new.parts.items)) (sym lenses) (subst (HasViews (length hub.lenses)) (sym parts) all.2.views)
+    record { views = subst (λ ls. HasViews (length ls) (carried_trees c.undo_each.new.parts.items)) (sym lenses) (subst (HasViews (length hub.lenses)) (sym parts) all.2.views) }
 
 pub returns-clause-undone : goal.returns-clause-undone
 returns-clause-undone g c =

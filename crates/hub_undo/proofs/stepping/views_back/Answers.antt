@@ -17,34 +17,34 @@ loop-at-init g c = so_far_first g.L.EditLens c.args.lenses.now c.args.views.now 
 
 pub word_back-requires-clause-well_formed : goal.word_back-requires-clause-well_formed
 word_back-requires-clause-well_formed g c =
-    subst (λ (t : TyTree). is_well_formed t ≡ true) (sym c.ty-ty.ensures) (g.met.L.EditLens.types_are_well_formed c.index-lenses-at.result.now).1
+    subst (λ (t : TyTree). is_well_formed t ≡ true) (sym c.ty-ty.ensures) (g.met.L.EditLens.types_are_well_formed c.index-lenses-at.result).1
 
 pub word_back-requires-clause-typed : goal.word_back-requires-clause-typed
 word_back-requires-clause-typed g c =
     let l = c.loop-at in
     let within : l.at < length c.args.carried.now = omega (arith, c.loop-at-test.true) in
-    let here = acts_at g.L.EditLens c.args.lenses.now c.args.views.now c.args.carried.now l.at c.index-lenses-at.result.now c.index-views-at.result.now c.index-carried-at.result.now
+    let here = acts_at g.L.EditLens c.args.lenses.now c.args.views.now c.args.carried.now l.at c.index-lenses-at.result c.index-views-at.result c.index-carried-at.result
     c.requires.lenses c.requires.views within c.index-lenses-at.is c.index-views-at.is c.index-carried-at.is l.words.items c.requires.acted.0 c.requires.acted.1 l.invariant in
-    subst (λ (t : TyTree). has t (doc_tree c.index-views-at.result.now.doc.value) ≡ true) (sym c.ty-ty.ensures) here.typed
+    subst (λ (t : TyTree). has t (doc_tree c.index-views-at.result.doc.value) ≡ true) (sym c.ty-ty.ensures) here.typed
 
 pub word_back-requires-clause-acts : goal.word_back-requires-clause-acts
 word_back-requires-clause-acts g c =
     let l = c.loop-at in
     let within : l.at < length c.args.carried.now = omega (arith, c.loop-at-test.true) in
-    let here = acts_at g.L.EditLens c.args.lenses.now c.args.views.now c.args.carried.now l.at c.index-lenses-at.result.now c.index-views-at.result.now c.index-carried-at.result.now
+    let here = acts_at g.L.EditLens c.args.lenses.now c.args.views.now c.args.carried.now l.at c.index-lenses-at.result c.index-views-at.result c.index-carried-at.result
     c.requires.lenses c.requires.views within c.index-lenses-at.is c.index-views-at.is c.index-carried-at.is l.words.items c.requires.acted.0 c.requires.acted.1 l.invariant in
-    (here.after, subst (λ (t : TyTree). act t (word_tree c.index-carried-at.result.now) (doc_tree c.index-views-at.result.now.doc.value) ≡ Ok here.after) (sym c.ty-ty.ensures) here.acts)
+    (here.after, subst (λ (t : TyTree). act t (word_tree c.index-carried-at.result) (doc_tree c.index-views-at.result.doc.value) ≡ Ok here.after) (sym c.ty-ty.ensures) here.acts)
 
 pub loop-at-preserved : goal.loop-at-preserved
 loop-at-preserved g c =
     let l = c.loop-at in
     let of = g.L.EditLens in
-    let lens = c.index-lenses-at.result.now in
-    let word = word_tree c.index-carried-at.result.now in
-    let doc = doc_tree c.index-views-at.result.now.doc.value in
+    let lens = c.index-lenses-at.result in
+    let word = word_tree c.index-carried-at.result in
+    let doc = doc_tree c.index-views-at.result.doc.value in
     let back = word_tree c.in_ok-back.back in
     let within : l.at < length c.args.carried.now = omega (arith, c.loop-at-test.true) in
-    so_far_next of c.args.lenses.now c.args.views.now c.args.carried.now l.at lens c.index-views-at.result.now c.index-carried-at.result.now
+    so_far_next of c.args.lenses.now c.args.views.now c.args.carried.now l.at lens c.index-views-at.result c.index-carried-at.result
     c.requires.lenses c.requires.views within c.index-lenses-at.is c.index-views-at.is c.index-carried-at.is l.words.items c.push.new.self.items c.in_ok-back.back
     (subst (λ (t : TyTree). back ≡ inverse t word doc) c.ty-ty.ensures c.in_ok-back.ensures.is)
     (subst (λ (t : TyTree). TakesBack t back (act t word doc) doc) c.ty-ty.ensures c.in_ok-back.ensures.takes_back) c.in_ok-push.ensures.items l.invariant

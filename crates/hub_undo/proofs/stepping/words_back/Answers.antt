@@ -15,17 +15,17 @@ use Rattle.hub_undo.proofs.stepping.words_back.Goals as goal
 
 pub word_back-requires-clause-well_formed : goal.word_back-requires-clause-well_formed
 word_back-requires-clause-well_formed g c =
-    subst (λ (t : TyTree). is_well_formed t ≡ true) (sym c.ty.ensures) (g.met.L.EditLens.types_are_well_formed c.index-lenses-0.result.now).0
+    subst (λ (t : TyTree). is_well_formed t ≡ true) (sym c.ty.ensures) (g.met.L.EditLens.types_are_well_formed c.index-lenses-0.result).0
 
 pub word_back-requires-clause-typed : goal.word_back-requires-clause-typed
 word_back-requires-clause-typed g c =
-    let here = hub_here g.L.EditLens c.args.lenses.now c.index-lenses-0.result.now (hub_tree c.args.parts.now) (carried_tree c.args.carried.now) c.requires.acted.0 c.requires.some c.index-lenses-0.is c.requires.acted.1 in
+    let here = hub_here g.L.EditLens c.args.lenses.now c.index-lenses-0.result (hub_tree c.args.parts.now) (carried_tree c.args.carried.now) c.requires.acted.0 c.requires.some c.index-lenses-0.is c.requires.acted.1 in
     subst (λ (t : TyTree). has t (doc_tree c.args.parts.now.hub.value) ≡ true) (sym c.ty.ensures) here.0
 
 pub word_back-requires-clause-acts : goal.word_back-requires-clause-acts
 word_back-requires-clause-acts g c =
     let after = c.requires.acted.0 in
-    let here = hub_here g.L.EditLens c.args.lenses.now c.index-lenses-0.result.now (hub_tree c.args.parts.now) (carried_tree c.args.carried.now) after c.requires.some c.index-lenses-0.is c.requires.acted.1 in
+    let here = hub_here g.L.EditLens c.args.lenses.now c.index-lenses-0.result (hub_tree c.args.parts.now) (carried_tree c.args.carried.now) after c.requires.some c.index-lenses-0.is c.requires.acted.1 in
     (after.hub, subst (λ (t : TyTree). act t (word_tree c.args.carried.now.hub) (doc_tree c.args.parts.now.hub.value) ≡ Ok after.hub) (sym c.ty.ensures) here.1)
 
 pub views_back-requires-clause-lenses : goal.views_back-requires-clause-lenses
@@ -48,7 +48,7 @@ pub returns-clause-is : goal.returns-clause-is
 returns-clause-is g c =
     let of = g.L.EditLens in
     let ls = c.args.lenses.now in
-    let l = c.index-lenses-0.result.now in
+    let l = c.index-lenses-0.result in
     let h = hub_tree c.args.parts.now in
     let carried = carried_tree c.args.carried.now in
     let hub = subst (λ (t : TyTree). word_tree c.in_ok-hub.hub ≡ inverse t carried.hub h.hub) c.ty.ensures c.in_ok-hub.ensures.is in
@@ -59,7 +59,7 @@ pub returns-clause-back : goal.returns-clause-back
 returns-clause-back g c =
     let of = g.L.EditLens in
     let ls = c.args.lenses.now in
-    let l = c.index-lenses-0.result.now in
+    let l = c.index-lenses-0.result in
     let h = hub_tree c.args.parts.now in
     let carried = carried_tree c.args.carried.now in
     let back = word_tree c.in_ok-hub.hub in
