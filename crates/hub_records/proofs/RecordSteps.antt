@@ -25,6 +25,10 @@ form_of l = form_tree l.typed
 abbrev pub standing : List ReadyForm → HubTree → ℕ → HubStanding
 standing ls h count = record { forms = forms_of_lenses ls; hub = h; count = count }
 
+-- what a lens adds for the word that makes the hub's document is what its form adds
+pub added_more : (l : ReadyForm) (w : WordTree) (h k : HubTree) → w ≡ construct (left_type (form_of l)) h.hub → add_view ready_lens l w h ≡ Some k → view_more (form_of l) h ≡ Some k
+added_more l w h k word added = ap (λ (x : WordTree). add_view ready_lens l x h) (sym word) ∙ added
+
 module _ (n : ℕ) (ls : List ReadyForm) (h : HubTree) (count : ℕ) where
   -- ---- a change
 
@@ -50,7 +54,7 @@ module _ (n : ℕ) (ls : List ReadyForm) (h : HubTree) (count : ℕ) where
       → w ≡ construct (left_type (form_of l)) h.hub → add_view ready_lens l w h ≡ Some k → new ≡ ls ++ l ∷ []
       → after_record n (standing ls h count) (Some (add_record text)) ≡ Ok (standing new k count)
   view_reaches text l w new k found word added lenses =
-      let more : view_more (form_of l) h ≡ Some k = ap (λ (x : WordTree). add_view ready_lens l x h) (sym word) ∙ added in
+      let more : view_more (form_of l) h ≡ Some k = added_more l w h k word added in
       let with_it : with_form (standing ls h count) (form_of l) ≡ Some (record (standing ls h count) { forms = forms_of_lenses ls ++ form_of l ∷ []; hub = k }) =
       ap (option_map (λ (x : HubTree). record (standing ls h count) { forms = forms_of_lenses ls ++ form_of l ∷ []; hub = x })) more in
       let forms : forms_of_lenses new ≡ forms_of_lenses ls ++ form_of l ∷ [] = ap forms_of_lenses lenses ∙ forms_snoc ls l in

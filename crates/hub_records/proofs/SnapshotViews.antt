@@ -18,7 +18,8 @@ use Rattle.hub_run.specs.RunStates.{forms_of_lenses, ready_lens, IsHubOf}
 use Rattle.store_session.specs.ConsistencyTest.{is_consistent}
 use Rattle.store_session.specs.ConsistencyDecided.{consistent_if}
 use Rattle.hub_records.specs.HubRecords.{view_parts}
-use Rattle.hub_records.specs.HubStands.{view_of, views_of, are_consistent}
+use Rattle.value_json.specs.DocumentJson.{document_of}
+use Rattle.hub_records.specs.HubStands.{view_of, views_of, hub_from, are_consistent}
 
 abbrev form_of : ReadyForm → FormTree
 form_of l = form_tree l.typed
@@ -84,6 +85,36 @@ other_count (l ∷ ls) (d ∷ trees) other =
       by_view : (o : Option ViewTree) (rest : Option (List ViewTree)) → rest ≡ None → None ≡ option_and_then (λ v. option_map (λ vs. v ∷ vs) rest) o
       by_view (Some v) rest none = ap (option_map (λ vs. v ∷ vs)) (sym none)
       by_view None rest none = refl
+
+-- ---- the document and the views
+
+pub no_lens : (ls : List ReadyForm) (p : Data × Items) → length ls ≡ 0 → None ≡ hub_from (forms_of_lenses ls) p
+no_lens [] p none = refl
+no_lens (l ∷ ls) p none = absurd (omega arith)
+
+module _ (ls : List ReadyForm) (l : ReadyForm) (d : Data) (ds : Items) where
+  -- what is made of the document and of the views, where there is a first lens
+  abbrev made : Option DocTree → Option (List ViewTree) → Option HubTree
+  made document views = option_and_then (λ x. option_map (λ vs. record { hub = x; views = vs }) views) document
+
+  by_first : 0 < length ls → l ≡ get_or ls 0 l → made (document_of (left_type (form_of l)) d) (views_of (forms_of_lenses ls) ds) ≡ hub_from (forms_of_lenses ls) (d, ds)
+  by_first = at_first ls where
+    at_first : (ms : List ReadyForm) → 0 < length ms → l ≡ get_or ms 0 l → made (document_of (left_type (form_of l)) d) (views_of (forms_of_lenses ms) ds) ≡ hub_from (forms_of_lenses ms) (d, ds)
+    at_first [] some is = absurd (omega arith)
+    at_first (m ∷ ms) some is = ap (λ (k : ReadyForm). made (document_of (left_type (form_of k)) d) (views_of (forms_of_lenses (m ∷ ms)) ds)) is
+
+  pub no_document : 0 < length ls → l ≡ get_or ls 0 l → None ≡ document_of (left_type (form_of l)) d → None ≡ hub_from (forms_of_lenses ls) (d, ds)
+  no_document some is none = ap (λ o. made o (views_of (forms_of_lenses ls) ds)) none ∙ by_first some is
+
+  pub no_views : (x : DocTree) → 0 < length ls → l ≡ get_or ls 0 l → Some x ≡ document_of (left_type (form_of l)) d → None ≡ views_of (forms_of_lenses ls) ds
+      → None ≡ hub_from (forms_of_lenses ls) (d, ds)
+  no_views x some is found none = ap (made (Some x)) none ∙ ap (λ o. made o (views_of (forms_of_lenses ls) ds)) found ∙ by_first some is
+
+  pub all_parts : (x : DocTree) (vs : List ViewTree) → 0 < length ls → l ≡ get_or ls 0 l → Some x ≡ document_of (left_type (form_of l)) d → Some vs ≡ views_of (forms_of_lenses ls) ds
+      → Some (record { hub = x; views = vs }) ≡ hub_from (forms_of_lenses ls) (d, ds)
+  all_parts x vs some is found all = ap (made (Some x)) all ∙ ap (λ o. made o (views_of (forms_of_lenses ls) ds)) found ∙ by_first some is
+
+pub ruleset parts_rules = (no_lens, no_document, no_views, all_parts)
 
 -- ---- the test of consistency
 

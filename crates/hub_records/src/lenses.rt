@@ -123,6 +123,7 @@ pub fn joins(before: &[Flat], typed: &Typed) -> bool
 /// makes the hub's document.
 ///
 /// Fails only if memory runs out, and the hub is then as it was.
+#[tactic(auto, using(crate::proofs::RecordSteps::added_more))]
 pub fn add_lens(alloc: Global, hub: &mut Hub<Flat>, lens: Flat) -> Result<(), AllocError>
     requires one_left { HaveOneLeftType ready_lens (hub.old.lenses ++ lens ∷ []) }
     ensures added { OnOk result (view_more (form_tree lens.typed) (hub_tree hub.old.parts)
@@ -131,7 +132,8 @@ pub fn add_lens(alloc: Global, hub: &mut Hub<Flat>, lens: Flat) -> Result<(), Al
     ensures unchanged { OnErr result (hub.new ≡ hub.old) }
 {
     let word = construct(alloc, lens.typed().left(), hub.hub())?;
-    hub.add(lens, &word)
+    hub.add(lens, &word)?;
+    Ok(())
 }
 
 // The lens of a text, where the grammar and the checker accept it.

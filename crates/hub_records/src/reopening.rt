@@ -1,13 +1,13 @@
 //! The hub for which payloads stand.
 
-ghost use Rattle.std.specs.Prelude.{◌≡◌, ◌<◌, ◌≤◌, ◌+◌, ℕ, Some, Ok, IfOk, MatchResult, option_map};
+ghost use Rattle.std.specs.Prelude.{◌≡◌, ◌<◌, ◌≤◌, ◌+◌, ℕ, Some, Ok, IfOk, MatchResult, drop, option_map};
 ghost use Rattle.serde_json.specs.View.{view, items_view};
 ghost use Rattle.view_hub.specs.Views.{hub_tree};
 ghost use Rattle.hub_run.specs.RunStates.{forms_of_lenses, IsHubOf};
 ghost use Rattle.hub_run.specs.Runs.{hub_of};
 ghost use Rattle.hub_records.specs.HubLenses.{forms_of_payload, stored_forms};
 ghost use Rattle.hub_records.specs.HubRecords.{record_in, record_of, change_record, add_record, snapshot_record};
-ghost use Rattle.hub_records.specs.HubStands.{after_record, at_start, stands_for};
+ghost use Rattle.hub_records.specs.HubStands.{after_payloads, after_record, at_start, stands_for};
 ghost use Rattle.hub_records.specs.Outcomes.{IsFirstFault, IsStandFault, Reaches};
 ghost use Rattle.hub_records.specs.Views.{hub_change_tree, hub_standing};
 
@@ -60,9 +60,7 @@ pub fn reopen_hub(alloc: Global, records: &[Bytes]) -> Result<OpenedHub, RecordF
         return Err(RecordFault::BadRecord { number: FIRST });
     }
     let mut opened = begin(alloc, records[0].as_slice())?;
-    for at in 1..records.len() {
-        take_record(alloc, at as u64 + 1, records[at].as_slice(), &mut opened)?;
-    }
+    take_records(alloc, records, &mut opened)?;
     // The proof needs that the hub is in step, which this call says.
     let _hub = opened.hub.hub();
     Ok(opened)
@@ -80,6 +78,21 @@ fn begin(alloc: Global, payload: &[u8]) -> Result<OpenedHub, RecordFault>
     };
     let hub = Hub::start(alloc, lenses)?;
     Ok(OpenedHub { hub, count: 0 })
+}
+
+// Goes on by the records behind the first one.
+fn take_records(alloc: Global, records: &[Bytes], opened: &mut OpenedHub) -> Result<(), RecordFault>
+    requires count { opened.old.count ≡ 0 }
+    requires stood { after_payloads 2 (hub_standing opened.old.hub opened.old.count) (drop 1 records.now)
+        ≡ stands_for records.now }
+    ensures stands { MatchResult result
+        (λ _. stands_for records.now ≡ Ok (hub_standing opened.new.hub opened.new.count))
+        (IsStandFault (stands_for records.now)) }
+{
+    for at in 1..records.len() {
+        take_record(alloc, at as u64 + 1, records[at].as_slice(), opened)?;
+    }
+    Ok(())
 }
 
 // Goes on by the record with this number.

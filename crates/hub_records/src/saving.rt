@@ -1,7 +1,7 @@
 //! The payload of a snapshot of a hub.
 
-ghost use Rattle.std.specs.Prelude.{◌≡◌, true, IfOk, IsTrue, OnOk, Some};
-ghost use Rattle.serde_json.specs.Data.{array};
+ghost use Rattle.std.specs.Prelude.{◌≡◌, true, codes, IfOk, IsTrue, OnOk, Some};
+ghost use Rattle.serde_json.specs.Data.{array, member, no_members, object};
 ghost use Rattle.serde_json.specs.View.{view};
 ghost use Rattle.serde_json.specs.Written.{compact_text};
 ghost use Rattle.doc_values.specs.Documents.{doc_tree};
@@ -10,12 +10,13 @@ ghost use Rattle.doc_values.specs.Typing.{has};
 ghost use Rattle.value_json.specs.DocumentJson.{holds_i64s, tree_of_document};
 ghost use Rattle.edit_journal.specs.EntryJson.{tree_of_text};
 ghost use Rattle.lens_core.specs.Complements.{comp_tree, Fits};
-ghost use Rattle.lens_forms.specs.Forms.{form_tree, right_type};
+ghost use Rattle.lens_forms.specs.Forms.{form_tree, left_type, right_type};
 ghost use Rattle.view_hub.specs.Views.{hub_tree, view_tree, view_trees};
 ghost use Rattle.hub_run.specs.RunStates.{forms_of_lenses, IsHubOf};
 ghost use Rattle.hub_records.specs.HubRecords.{items_of_views, tree_of_hub, tree_of_hub_snapshot, tree_of_view};
 ghost use Rattle.hub_records.specs.WholeInts.{hub_holds_i64s, views_hold_i64s};
 
+use crate::low::lenses_are_low;
 use crate::payloads::{payload_of, record_named};
 use complement_file::write_comp;
 use doc_values::{Doc, Ty};
@@ -41,9 +42,21 @@ pub fn snapshot_payload(alloc: Global, hub: &Hub<Flat>) -> Result<Bytes, AllocEr
     // The ints of all documents are i64.
     ensures ints { OnOk result (hub_holds_i64s (hub_tree hub.now.parts) ≡ true) }
 {
-    let content = hub_record(alloc, hub.lenses(), hub.parts())?;
-    let tree = record_named(alloc, "snapshot", content)?;
+    let lenses = hub.lenses();
+    lenses_are_low(lenses);
+    let parts = hub.parts();
+    let tree = snapshot_record(alloc, lenses, parts)?;
     payload_of(alloc, &tree)
+}
+
+fn snapshot_record(alloc: Global, lenses: &[Flat], parts: &HubParts) -> Result<Value, AllocError>
+    requires in_step { IsHubOf lenses.now (hub_tree parts.now) }
+    ensures tree { IfOk result (λ tree. view tree
+        ≡ tree_of_hub_snapshot (forms_of_lenses lenses.now) (hub_tree parts.now)) }
+    ensures ints { OnOk result (hub_holds_i64s (hub_tree parts.now) ≡ true) }
+{
+    let content = hub_record(alloc, lenses, parts)?;
+    record_named(alloc, "snapshot", content)
 }
 
 // The tree of a hub: its document and its views.
@@ -53,7 +66,26 @@ fn hub_record(alloc: Global, lenses: &[Flat], parts: &HubParts) -> Result<Value,
         ≡ tree_of_hub (forms_of_lenses lenses.now) (hub_tree parts.now)) }
     ensures ints { OnOk result (hub_holds_i64s (hub_tree parts.now) ≡ true) }
 {
-    let hub = document_record(alloc, lenses[0].typed().left(), &parts.hub)?;
+    parts_record(alloc, lenses[0].typed(), lenses, parts)
+}
+
+// The same, where the first lens is given.
+fn parts_record(
+    alloc: Global,
+    first: &Typed,
+    lenses: &[Flat],
+    parts: &HubParts,
+) -> Result<Value, AllocError>
+    requires has_type { IsTrue (has (left_type (form_tree first.now)) (doc_tree parts.now.hub.value)) }
+    requires in_step { IsHubOf lenses.now (hub_tree parts.now) }
+    ensures tree { IfOk result (λ tree. view tree
+        ≡ object (member (codes "hub")
+        (tree_of_document (left_type (form_tree first.now)) (doc_tree parts.now.hub.value))
+        (member (codes "views") (array (items_of_views (forms_of_lenses lenses.now)
+        (view_trees parts.now.views.items))) no_members))) }
+    ensures ints { OnOk result (hub_holds_i64s (hub_tree parts.now) ≡ true) }
+{
+    let hub = document_record(alloc, first.left(), &parts.hub)?;
     let views = views_record(alloc, lenses, parts)?;
     let mut members = Map::new(alloc);
     put(&mut members, alloc, "hub", hub)?;

@@ -31,6 +31,7 @@ use view_hub::{HubParts, View};
 //
 // None if and only if one of them is not one of its lens's: a document of its type, or a complement that fits; or there
 // is not a view for each lens.
+#[tactic(auto, using(crate::proofs::SnapshotViews::parts_rules))]
 pub(crate) fn read_parts(
     alloc: Global,
     lenses: &[Flat],

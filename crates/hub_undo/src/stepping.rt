@@ -25,6 +25,7 @@ use edit_module::change::Words;
 use hub_records::HubChange;
 use lens_core::EditLens;
 use std::alloc::{AllocError, Global};
+use std::rc::Rc;
 use texts::Side;
 use view_hub::{Hub, HubCarried, HubFault, HubParts, HubSide, View};
 
@@ -168,15 +169,15 @@ fn views_back<L: EditLens>(
 }
 
 // The word that takes a document back over a word that acts on it.
-fn word_back(alloc: Global, ty: &Ty, word: &Word, doc: &Doc) -> Result<Word, AllocError>
+fn word_back(alloc: Global, ty: &Ty, word: &Word, doc: &Rc<Doc>) -> Result<Word, AllocError>
     requires well_formed { is_well_formed (ty_tree ty.now) ≡ true }
-    requires typed { has (ty_tree ty.now) (doc_tree doc.now) ≡ true }
+    requires typed { has (ty_tree ty.now) (doc_tree doc.now.value) ≡ true }
     requires acts { (after : DocTree)
-        × (act (ty_tree ty.now) (word_tree word.now) (doc_tree doc.now) ≡ Ok after) }
+        × (act (ty_tree ty.now) (word_tree word.now) (doc_tree doc.now.value) ≡ Ok after) }
     ensures is { IfOk result (λ back. word_tree back
-        ≡ inverse (ty_tree ty.now) (word_tree word.now) (doc_tree doc.now)) }
+        ≡ inverse (ty_tree ty.now) (word_tree word.now) (doc_tree doc.now.value)) }
     ensures takes_back { IfOk result (λ back. TakesBack (ty_tree ty.now) (word_tree back)
-        (act (ty_tree ty.now) (word_tree word.now) (doc_tree doc.now)) (doc_tree doc.now)) }
+        (act (ty_tree ty.now) (word_tree word.now) (doc_tree doc.now.value)) (doc_tree doc.now.value)) }
 {
     match inverse(alloc, ty, word, doc) {
         Ok(back) => Ok(back),

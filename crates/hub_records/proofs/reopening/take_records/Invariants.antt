@@ -1,7 +1,7 @@
 use Rattle.std.proofs.Common.{◌≡◌, ◌+◌, ◌≤◌, drop}
 use Rattle.hub_records.specs.HubStands.{after_payloads, stands_for}
 use Rattle.hub_records.specs.Views.{hub_standing}
-use Rattle.hub_records.proofs.reopening.reopen_hub.Given as goal
+use Rattle.hub_records.proofs.reopening.take_records.Given as goal
 
 -- the records that are left make, of what stands now, what all records stand for
 abbrev pub invariant-loop-at : goal.invariant-loop-at
