@@ -35,7 +35,7 @@ same_more : (ty : TyTree) (ls : List ReadyForm) (l : ReadyForm) → SameLeft rea
 same_more ty [] l all is = (is, tt)
 same_more ty (m ∷ ls) l all is = (all.0, same_more ty ls l all.1 is)
 
-one_more : (ls : List ReadyForm) (l : ReadyForm) → HasOneLeft ls → joins (forms_of_lenses ls) (form_of l) ≡ true → HaveOneLeftType ready_lens (ls ++ l ∷ [])
+pub one_more : (ls : List ReadyForm) (l : ReadyForm) → HasOneLeft ls → joins (forms_of_lenses ls) (form_of l) ≡ true → HaveOneLeftType ready_lens (ls ++ l ∷ [])
 one_more [] l all is = tt
 one_more (m ∷ ls) l all is =
     let few = nat_lt (length (forms_of_lenses (m ∷ ls))) MOST_VIEWS in

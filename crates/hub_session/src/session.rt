@@ -3,7 +3,7 @@
 ghost use Rattle.std.specs.Prelude.{◌≡◌, ◌++◌, ◌∷◌, [], true, Some, OnErr, OnOk};
 ghost use Rattle.lens_forms.specs.Forms.{form_tree};
 ghost use Rattle.view_hub.specs.Views.{hub_tree};
-ghost use Rattle.hub_run.specs.RunStates.{forms_of_lenses};
+ghost use Rattle.hub_run.specs.RunStates.{forms_of_lenses, IsHubOf};
 ghost use Rattle.hub_records.specs.HubLenses.{joins};
 ghost use Rattle.hub_records.specs.HubStands.{view_more};
 
@@ -37,7 +37,16 @@ impl HubSession {
             ≡ forms_of_lenses self.old.hub.lenses ++ form_tree typed.now ∷ []) }
         ensures unchanged { OnErr result (self.new ≡ self.old) }
     {
+        is_in_step(&self.hub);
         let lens = Flat::compile(alloc, typed)?;
-        add_lens(alloc, &mut self.hub, lens)
+        add_lens(alloc, &mut self.hub, lens)?;
+        Ok(())
     }
+}
+
+// Does nothing; its clause is what a hub's calls say of it.
+pub(crate) fn is_in_step(hub: &Hub<Flat>)
+    ensures { IsHubOf hub.now.lenses (hub_tree hub.now.parts) }
+{
+    let _ = hub.hub();
 }

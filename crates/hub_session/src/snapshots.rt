@@ -4,6 +4,7 @@ ghost use Rattle.std.specs.Prelude.{IfOk};
 ghost use Rattle.hub_run.specs.RunStates.{state_of};
 ghost use Rattle.hub_session.specs.HubStates.{IsSnapshot};
 
+use crate::session::is_in_step;
 use hub_records::snapshot_payload;
 use lens_flat::Flat;
 use std::alloc::{AllocError, Global};
@@ -14,8 +15,7 @@ use view_hub::Hub;
 pub(crate) fn snapshot_of(alloc: Global, hub: &Hub<Flat>) -> Result<Bytes, AllocError>
     ensures { IfOk result (IsSnapshot (state_of hub.now)) }
 {
+    is_in_step(hub);
     let payload = snapshot_payload(alloc, hub)?;
-    // The proof needs that the hub is in step, which this call says.
-    let _hub = hub.hub();
     Ok(payload)
 }
