@@ -15,6 +15,7 @@ mod journal;
 pub mod laws;
 mod line;
 mod pieces;
+mod programs;
 mod run;
 mod script;
 mod state;

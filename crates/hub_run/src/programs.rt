@@ -1,10 +1,9 @@
 //! The programs of the pieces of a program part.
 
 ghost use Rattle.std.specs.Prelude.{◌≡◌, ◌≤◌, ◌++◌, ◌∷◌, [], List, ℕ, IfOk, length, map, option_map};
-ghost use Rattle.lens_syntax.specs.Programs.{bounded};
 ghost use Rattle.program_terms.specs.Views.{program_tree};
 ghost use Rattle.script_input.specs.Parts.{HoldsPart};
-ghost use Rattle.hub_run.specs.HeldPieces.{HoldsPieces};
+ghost use Rattle.hub_run.specs.HeldPieces.{HoldsEach, HoldsPieces};
 ghost use Rattle.hub_run.specs.PiecePrograms.{program_of, programs_of};
 ghost use Rattle.hub_run.specs.declared.pieces.TheConstants.{MOST_VIEWS};
 
@@ -26,19 +25,44 @@ impl Pieces {
         if self.is_many {
             return Ok(None);
         }
-        let mut programs = Vec::new(alloc);
-        for piece in &self.ended {
-            let Some(program) = program_of(alloc, piece)? else {
-                return Ok(None);
-            };
-            programs.push(program)?;
-        }
-        let Some(program) = program_of(alloc, &self.begun)? else {
+        let Some(programs) = programs_of(alloc, &self.ended)? else {
+            return Ok(None);
+        };
+        with_last(alloc, programs, &self.begun)
+    }
+}
+
+// The programs of these pieces, if each is one.
+fn programs_of(alloc: Global, pieces: &[ProgramText]) -> Result<Option<Vec<Program>>, AllocError>
+    ensures { IfOk result (λ programs. (texts : List (List ℕ)) → HoldsEach pieces.now texts
+        → option_map (λ ps. map program_tree ps.items) programs ≡ programs_of texts) }
+{
+    let mut programs = Vec::new(alloc);
+    for piece in pieces {
+        let Some(program) = program_of(alloc, piece)? else {
             return Ok(None);
         };
         programs.push(program)?;
-        Ok(Some(programs))
     }
+    Ok(Some(programs))
+}
+
+// These programs, and behind them that of a piece, if it is one.
+fn with_last(
+    alloc: Global,
+    before: Vec<Program>,
+    piece: &ProgramText,
+) -> Result<Option<Vec<Program>>, AllocError>
+    ensures { IfOk result (λ programs. (text : List ℕ) → HoldsPart piece.now text
+        → option_map (λ ps. map program_tree ps.items) programs
+        ≡ option_map (λ p. map program_tree before.items ++ p ∷ []) (program_of text)) }
+{
+    let mut programs = before;
+    let Some(program) = program_of(alloc, piece)? else {
+        return Ok(None);
+    };
+    programs.push(program)?;
+    Ok(Some(programs))
 }
 
 // The program of a piece, if it is one.
@@ -52,6 +76,7 @@ fn program_of(alloc: Global, piece: &ProgramText) -> Result<Option<Program>, All
     }
 }
 
+#[tactic(auto, using(crate::proofs::PiecesRead::not_read))]
 fn program_of_text(alloc: Global, text: &[u8]) -> Result<Option<Program>, AllocError>
     ensures { IfOk result (λ program. option_map program_tree program ≡ program_of text.now) }
 {
