@@ -1,7 +1,7 @@
 use Rattle.edithub_main.proofs.HubsInStep.{hub_in_step}
 use Rattle.edithub_main.proofs.stores.run_show.Goals as goal
 
-pub returns-clause-shows : goal.returns-clause-showCLAUSE
+pub returns-clause-shows : goal.returns-clause-shows
 returns-clause-shows g c =
     let e = c.show.ensures in
     record {

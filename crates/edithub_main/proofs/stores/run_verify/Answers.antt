@@ -1,7 +1,7 @@
 use Rattle.edithub_main.proofs.HubsInStep.{hub_in_step}
 use Rattle.edithub_main.proofs.stores.run_verify.Goals as goal
 
-pub returns-clause-verifies : goal.returns-clause-verifCLAUSE
+pub returns-clause-verifies : goal.returns-clause-verifies
 returns-clause-verifies g c =
     let e = c.verify.ensures in
     record {
