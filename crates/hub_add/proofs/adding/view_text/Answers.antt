@@ -12,5 +12,5 @@ returns c =
       made = c.in_ok-add.ensures.added;
       is = c.in_ok-payload.ensures.text;
       reads = c.in_ok-payload.ensures.reads_back;
-      written = c.in_ok-lines.ensures ∙ ap (λ forms. state_text (record { forms = forms; hub = hub })) c.in_ok-add.ensures.forms;
+      written = c.in_ok-lines.ensures.text ∙ ap (λ forms. state_text (record { forms = forms; hub = hub })) c.in_ok-add.ensures.forms;
     }
