@@ -31,11 +31,11 @@ returns-in_err-take_record c =
     let within : l.at < length ps = omega (arith, c.loop-at-test.true) in
     let here = subst (λ (x : List ℕ). IsStandFault (after_record (l.at + 1) s (record_in x)) fault) c.as_slice.ensures c.in_err-take_record.ensures.stands in
     let p = err_from_is_err_and c.from_residual.result c.from_residual.ensures.1 in
-    rw (p.1, p.2) (left_fails ps l.at (l.at + 1) s c.index-records-at.result fault (stands_for ps) within c.index-records-at.is here l.invariant.left)
+    record { stands = rw (p.1, p.2) (left_fails ps l.at (l.at + 1) s c.index-records-at.result fault (stands_for ps) within c.index-records-at.is here l.invariant.left) }
 
 pub returns : goal.returns
 returns c =
     let l = c.loop-at in
     let ps = c.args.records.now in
     let past : length ps ≤ l.at = omega (arith, c.loop-at-test.false) in
-    left_end ps l.at (l.at + 1) (hub_standing l.opened.hub l.opened.count) (stands_for ps) past l.invariant.left
+    record { stands = left_end ps l.at (l.at + 1) (hub_standing l.opened.hub l.opened.count) (stands_for ps) past l.invariant.left }
