@@ -197,6 +197,28 @@ def words():
     yield step(["init"], 3, "", "program refused: view 0 not-a-program 0\n")
 
 
+def failing():
+    """The source fails, or the sink at the first line: a change is then stored, a journal that was not read is not."""
+    whole = script(FIRST, SECOND)
+    first = KeptHub([FIRST, SECOND])
+    changed, packed, undone, added = (KeptHub([FIRST, SECOND]) for _ in range(4))
+    for kept in (changed, packed, undone, added):
+        kept.edit(1, *X3)
+    packed.pack()
+    undone.undo(1)
+    added.add(THIRD)
+    begun, one = log(*first.payloads), log(*changed.payloads)
+    for words, given, before, after in (
+        (["init"], whole, b"", begun),
+        (["apply"], line_of(X3) + line_of(Q2), begun, one),
+        (["add"], script(THIRD), one, log(*added.payloads)),
+    ):
+        yield write_step(words, 5, given.encode(), b"", 0, (before, before), {"source_fails": [0]})
+        yield write_step(words, 6, given.encode(), b"", 0, (before, after), {"sink_fails": [0]})
+    for words, after in ((["show"], one), (["verify"], one), (["pack"], log(*packed.payloads)), (["undo", "1"], log(*undone.payloads)), (["frob"], one)):
+        yield write_step(words, 6, b"", b"", 0, (one, after), {"sink_fails": [0]})
+
+
 def forged():
     """Payloads that stand for no hub, and some that stand for one though the program writes others."""
     first = KeptHub([FIRST, SECOND]).payloads[0]
@@ -248,5 +270,5 @@ def forged():
 
 def files():
     """The file of cases."""
-    parts = (two_views, most_views, by_chance, words, forged)
+    parts = (two_views, most_views, by_chance, words, failing, forged)
     yield "case_hubs/data/kept_hubs.cases", b"".join(row for part in parts for row in part())
