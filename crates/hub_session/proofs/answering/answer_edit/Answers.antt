@@ -15,5 +15,5 @@ pub returns-in-Ok-clause-reads : goal.returns-in-Ok-clause-reads
 returns-in-Ok-clause-reads c =
     let hub = c.args.hub.now in
     let low_forms = subst (λ (ls : List ReadyForm). AllLow (forms_of_lenses ls)) c.lenses.ensures.lenses c.lenses_are_low.ensures in
-    let low = edit_low hub.lenses (hub_tree hub.parts) (place_of c.args.side, word_tree c.args.word.now) (hub_tree c.step.new.self.parts) (carried_tree c.in-Ok.carried) low_forms c.in-Ok.ensures.steps in
+    let low = edit_low hub.lenses (hub_tree hub.parts) c.args.number (place_of c.args.side, word_tree c.args.word.now) (hub_tree c.step.new.self.parts) (carried_tree c.in-Ok.carried) low_forms c.in-Ok.ensures.steps in
     IfOk-weaker c.accepted.result _ _ (λ a h. h (subst (λ (change : HubChangeTree). depth (tree_of_hub_change change) ≤ max_depth) (sym c.requires.is_edit) low)) c.accepted.ensures.reads

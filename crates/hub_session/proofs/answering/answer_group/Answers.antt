@@ -14,5 +14,5 @@ pub returns-in-Ok-clause-reads : goal.returns-in-Ok-clause-reads
 returns-in-Ok-clause-reads c =
     let hub = c.args.hub.now in
     let low_forms = subst (λ (ls : List ReadyForm). AllLow (forms_of_lenses ls)) c.lenses.ensures.lenses c.lenses_are_low.ensures in
-    let low = group_low hub.lenses (hub_tree hub.parts) (edit_trees c.args.edits.now) (hub_tree c.step_all.new.self.parts) (map carried_tree c.in-Ok.words.items) low_forms c.in-Ok.ensures.steps in
+    let low = group_low hub.lenses (hub_tree hub.parts) c.args.number (edit_trees c.args.edits.now) (hub_tree c.step_all.new.self.parts) (map carried_tree c.in-Ok.words.items) low_forms c.in-Ok.ensures.steps in
     IfOk-weaker c.accepted.result _ _ (λ a h. h (subst (λ (change : HubChangeTree). depth (tree_of_hub_change change) ≤ max_depth) (sym c.requires.is_group) low)) c.accepted.ensures.reads
