@@ -1,4 +1,5 @@
--- What a caller keeps, and what a call makes of it. Read it from the end: `text_of`, `IsShown`, `IsStepped`, `IsOpened`.
+-- What a caller keeps, and what a call makes of it. Read it from the end: `text_of`, `IsShown`, `IsStepped`, then
+-- `IsOpened`.
 use Rattle.std.specs.Prelude.{◌≡◌, ℕ, ◌+◌, ◌^◌, List, [], Bool, true, false, None, Ok, Err}
 use Rattle.edit_journal.specs.Pieces.{has_no_end}
 use Rattle.hub_run.specs.FoundLenses.{IsRefusalOf}

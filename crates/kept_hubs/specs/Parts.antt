@@ -31,7 +31,8 @@ complement_text v = compact_text (tree_of_complement v.0 v.1.comp)
 -- the view with this number, from 0, if there is one
 abbrev pub view_at : HubState → ℕ → Option FormedView
 view_at t number =
-    option_and_then (λ form. option_map (λ view. (form, view)) (slice_get t.hub.views number)) (slice_get t.forms number)
+    option_and_then (λ form. option_map (λ view. (form, view)) (slice_get t.hub.views number))
+    (slice_get t.forms number)
 
 -- the text of a part; there is none of a view that there is not
 abbrev pub part_text : HubState → HubPart → Option (List ℕ)

@@ -50,7 +50,7 @@ impl FormHub {
     /// A hub of these lenses at its start. There is a lens, and all lenses have the same left type.
     ///
     /// The only error is running out of memory.
-    pub fn start(alloc: Global, typed: Vec<Typed>) -> Result<FormHub, AllocError>
+    pub(crate) fn start(alloc: Global, typed: Vec<Typed>) -> Result<FormHub, AllocError>
         requires one_left { HaveOneLeftType form_lens (map form_tree typed.items) }
         ensures state { IfOk result (λ h. state_of h ≡ first_state (map form_tree typed.items)) }
         ensures in_step { IfOk result (λ h. StaysInStep h) }
@@ -64,7 +64,7 @@ impl FormHub {
     ///
     /// The only error is running out of memory. The lenses, the documents and the complements are then as before, also
     /// if the hub had stepped and its answer found no room.
-    pub fn take(
+    pub(crate) fn take(
         &mut self,
         alloc: Global,
         number: u64,
@@ -87,7 +87,7 @@ impl FormHub {
     /// The text of a part of the state. None if and only if the part is one of a view that does not exist.
     ///
     /// The only error is running out of memory.
-    pub fn part(&self, alloc: Global, part: HubPart) -> Result<Option<Vec<u8>>, AllocError>
+    pub(crate) fn part(&self, alloc: Global, part: HubPart) -> Result<Option<Vec<u8>>, AllocError>
         ensures text { IfOk result (λ found.
             part_text (state_of self.now) part ≡ option_map (λ text. text.items) found) }
     {
