@@ -10,7 +10,7 @@ use Rattle.script_run.specs.Report.{with_state, report_with}
 use Rattle.script_run.specs.declared.line_answers.Answer.{Answer}
 use Rattle.lens_forms.specs.Forms.{FormTree}
 use Rattle.view_hub.specs.Views.{hub_tree}
-use Rattle.hub_run.specs.Answers.{answer_line, is_refused}
+use Rattle.hub_run.specs.Answers.{hub_answer_line, is_refused}
 use Rattle.hub_run.specs.HubScript.{hub_script}
 use Rattle.hub_run.specs.Lenses.{lenses_of}
 use Rattle.hub_run.specs.RunStates.{forms_of_lenses, state_of}
@@ -50,7 +50,7 @@ one_line true r m line end lines rest t' is s c =
 one_line false r m line end lines rest t' is s c =
     let t = hub_state r in
     let a = s.answers in
-    let said : Answer = record { line = answer_line m.number a.answer; refused = is_refused a.answer } in
+    let said : Answer = record { line = hub_answer_line m.number a.answer; refused = is_refused a.answer } in
     let x : HubState × Answer = (hub_state m, said) in
     let answer_is : answer t m.number line ≡ Some x =
     ap (option_map (answered (forms_of r) m.number)) a.step

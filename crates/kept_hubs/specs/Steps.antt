@@ -7,11 +7,11 @@ use Rattle.edit_journal.specs.declared.line.Line.{Line}
 use Rattle.lens_flat.specs.declared.flat.ReadyForm.{ReadyForm}
 use Rattle.lens_forms.specs.Forms.{FormTree}
 use Rattle.view_hub.specs.Views.{HubOf, hub_tree}
-use Rattle.hub_run.specs.Answers.{HubAnswerTree, carried, no_view, no_apply, no_edit, answer_line}
+use Rattle.hub_run.specs.Answers.{HubAnswerTree, carried, no_view, no_apply, no_edit, hub_answer_line}
 use Rattle.hub_run.specs.EditJson.{edit_of_line}
 use Rattle.hub_run.specs.FormLenses.{form_lens}
 use Rattle.hub_run.specs.RunStates.{forms_of_lenses, state_of}
-use Rattle.hub_run.specs.Runs.{HubState, IsInStep, take_item}
+use Rattle.hub_run.specs.Runs.{HubState, IsInStep, take_hub_item}
 use Rattle.kept_hubs.specs.declared.outcome.HubOutcome.{HubOutcome}
 use Rattle.kept_hubs.specs.declared.outcome.HubOutcome.TheVariants as outcome
 use Rattle.kept_hubs.specs.declared.running.RunningHub.{RunningHub}
@@ -41,10 +41,10 @@ EndsWith (no_edit why) end = (fault : EntryFault) × (end ≡ outcome.NotAnEdit 
 pub record Answers (before : HubOf ReadyForm) (number : ℕ) (line : Line) (text : List ℕ) (end : HubOutcome)
     (after : HubOf ReadyForm) : Type 0 where
   pub answer : HubAnswerTree
-  pub step : take_item form_lens (forms_of_lenses before.lenses) (hub_tree before.parts) (edit_of_line line)
+  pub step : take_hub_item form_lens (forms_of_lenses before.lenses) (hub_tree before.parts) (edit_of_line line)
       ≡ Some (hub_tree after.parts, answer)
   pub lenses : after.lenses ≡ before.lenses
-  pub is_text : text ≡ answer_line number answer
+  pub is_text : text ≡ hub_answer_line number answer
   pub ended : EndsWith answer end
   pub in_step : StaysInStep after
 

@@ -13,7 +13,7 @@ ghost use Rattle.kept_hubs.specs.Steps.{Answers, StaysInStep};
 use crate::outcome::{HubOutcome, HubPart, outcome_of};
 use crate::parts::part_text;
 use edit_journal::Line;
-use hub_run::{answer_line, first_hub, take_item};
+use hub_run::{first_hub, hub_answer_line, take_hub_item};
 use lens_flat::Flat;
 use lens_types::Typed;
 use std::alloc::{AllocError, Global};
@@ -106,9 +106,9 @@ fn answer(
         Answers hub.old number line.now made.0.items made.1 hub.new) }
     ensures lenses { hub.new.lenses ≡ hub.old.lenses }
 {
-    let answer = take_item(alloc, hub, line)?;
+    let answer = take_hub_item(alloc, hub, line)?;
     let outcome = outcome_of(&answer);
-    let text = answer_line(alloc, number, &answer)?;
+    let text = hub_answer_line(alloc, number, &answer)?;
     is_in_step(hub);
     Ok((text.into_vec(), outcome))
 }

@@ -17,7 +17,7 @@ use crate::form_hub::is_in_step;
 use crate::outcome::HubPart;
 use complement_file::write_comp;
 use doc_values::{Doc, Ty};
-use hub_run::state_lines;
+use hub_run::hub_state_lines;
 use lens_core::Comp;
 use lens_flat::Flat;
 use lens_types::Typed;
@@ -38,7 +38,7 @@ pub(crate) fn part_text(
         part_text (state_of hub.now) part ≡ option_map (λ text. text.items) found) }
 {
     match part {
-        HubPart::State => Ok(Some(state_lines(alloc, typed, hub)?)),
+        HubPart::State => Ok(Some(hub_state_lines(alloc, typed, hub)?)),
         HubPart::Document => Ok(Some(hub_text(alloc, typed, hub)?)),
         HubPart::ViewDocument(number) => view_text(alloc, typed, hub, number),
         HubPart::ViewComplement(number) => comp_text(alloc, typed, hub, number),
