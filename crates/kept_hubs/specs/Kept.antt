@@ -1,6 +1,6 @@
 -- What a caller keeps, and what a call makes of it. Read it from the end: `text_of`, `IsShown`, `IsStepped`, then
 -- `IsOpened`.
-use Rattle.std.specs.Prelude.{◌≡◌, ℕ, ◌+◌, ◌^◌, List, [], Bool, true, false, None, Ok, Err}
+use Rattle.std.specs.Prelude.{◌≡◌, ℕ, ◌-◌, ◌^◌, List, [], Bool, true, false, None, Ok, Err}
 use Rattle.edit_journal.specs.Pieces.{has_no_end}
 use Rattle.hub_run.specs.FoundLenses.{IsRefusalOf}
 use Rattle.hub_run.specs.Lenses.{HubRefusal, lenses_of, refusal_line}
@@ -48,7 +48,7 @@ IfOpen kept.NoMemory P = ⊥
 
 -- a line without an LF: it is blank or an item; or no number is left, or memory ran out
 abbrev pub takes_line : RunningHub → List ℕ → HubOutcome → KeptHub → Type 0
-takes_line before line outcome.Full after = (before.number + 1 ≡ 2 ^ 64) × (after ≡ kept.Open before)
+takes_line before line outcome.Full after = (before.number ≡ 2 ^ 64 - 1) × (after ≡ kept.Open before)
 takes_line before line outcome.NoMemory after = IfOpen after (IsAsBefore before)
 takes_line before line outcome.LineFeed after = ⊥
 takes_line before line outcome.NoHub after = ⊥
