@@ -9,6 +9,7 @@ use Rattle.script_run.specs.LineRuns.{last, answer_lines, any_refused, of_steps,
 use Rattle.script_run.specs.Report.{with_state, report_with}
 use Rattle.script_run.specs.declared.line_answers.Answer.{Answer}
 use Rattle.lens_forms.specs.Forms.{FormTree}
+use Rattle.view_hub.specs.Hubs.{HubTree}
 use Rattle.view_hub.specs.Views.{hub_tree}
 use Rattle.hub_run.specs.Answers.{hub_answer_line, is_refused}
 use Rattle.hub_run.specs.HubScript.{hub_script}
@@ -35,6 +36,9 @@ record Runs (t : HubState) (n : ℕ) (lines : List Line) (texts : List ℕ) (t' 
 
 -- ---- one line
 
+abbrev answered_with : List FormTree → HubTree → Answer → HubState × Answer
+answered_with forms h said = (record { forms = forms; hub = h }, said)
+
 one_line : (b : Bool) (r m : RunningHub) (line : Line) (end : HubOutcome) (lines : List Line) (rest : List ℕ) (t' : HubState) → is_blank line ≡ b → line_step b r line end m
     → Runs (hub_state m) m.number lines rest t' → Runs (hub_state r) r.number (line ∷ lines) (m.text.items ++ rest) t'
 one_line true r m line end lines rest t' is s c =
@@ -54,7 +58,7 @@ one_line false r m line end lines rest t' is s c =
     let x : HubState × Answer = (hub_state m, said) in
     let answer_is : answer t m.number line ≡ Some x =
     ap (option_map (answered (forms_of r) m.number)) a.step
-    ∙ ap (λ (forms : List FormTree). Some (record { forms = forms; hub = hub_tree m.hub.parts }, said)) (ap forms_of_lenses (sym a.lenses)) in
+    ∙ ap (λ (forms : List FormTree). Some (answered_with forms (hub_tree m.hub.parts) said)) (ap forms_of_lenses (sym a.lenses)) in
     record {
       steps = x ∷ c.steps;
       is_run = ap (λ b. cond b (run answer t r.number lines)
@@ -101,11 +105,11 @@ given_lines : (r : RunningHub) (lines : List (List ℕ)) (texts : List ℕ) (aft
 given_lines r [] texts after g = record { hub = r; is = g.1; runs = record { steps = []; is_run = refl; is_texts = g.0; comes_to = refl } }
 given_lines r (line ∷ lines) texts after g =
     let t = taken_step (has_no_end line) r line g.end g.next g.taken g.stepped in
-    let c = given_lines t.0 lines g.rest after (subst (λ k. IsGiven k lines g.rest after) t.1 g.others_given) in
+    let c = given_lines t.0 lines g.rest after (subst (λ (k : KeptHub). IsGiven k lines g.rest after) t.1 g.others_given) in
     record {
       hub = c.hub;
       is = c.is;
-      runs = subst (λ all. Runs (hub_state r) r.number (map line_of (line ∷ lines)) all (hub_state c.hub)) (sym (g.is_texts ∙ ap (λ k. text_of k ++ g.rest) t.1))
+      runs = subst (λ (all : List ℕ). Runs (hub_state r) r.number (map line_of (line ∷ lines)) all (hub_state c.hub)) (sym (g.is_texts ∙ ap (λ (k : KeptHub). text_of k ++ g.rest) t.1))
           (one_line (is_blank (line_of line)) r t.0 (line_of line) g.end (map line_of lines) g.rest (hub_state c.hub) refl t.2 c.runs);
     }
 

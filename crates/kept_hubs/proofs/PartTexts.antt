@@ -14,9 +14,8 @@ use Rattle.lens_types.specs.declared.typed.Typed.{Typed}
 use Rattle.view_hub.specs.Hubs.{ViewTree, HubTree}
 use Rattle.view_hub.specs.Views.{view_tree}
 use Rattle.view_hub.specs.declared.view.View as a_view
-use Rattle.hub_run.specs.RunStates.{forms_of_lenses, IsHubOf}
+use Rattle.hub_run.specs.RunStates.{forms_of_lenses}
 use Rattle.hub_run.specs.Runs.{HubState}
-use Rattle.hub_run.proofs.StateLines.{ViewThere, view_there}
 use Rattle.kept_hubs.specs.Parts.{FormedView, hub_text, view_at, document_text, complement_text}
 
 -- ---- the hub's document
