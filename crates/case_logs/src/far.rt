@@ -50,6 +50,8 @@ impl Disk for FarDisk {
 
     ghost room = { λ _. None };
 
+    ghost writes = { λ _. 0 };
+
     ghost counts_now = { λ s t c le now. now };
 
     ghost only_now = { λ s c was. was };

@@ -3,6 +3,7 @@ pub mod Decided
 pub mod Earlier
 pub mod Makings
 pub mod Splitting
+pub mod TreeTexts
 pub mod UndoCalls
 pub mod UndoCauses
 pub mod UndoRefusals

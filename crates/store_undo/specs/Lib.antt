@@ -1,4 +1,5 @@
 pub mod Making
+pub mod TreeTexts
 pub mod UndoCall
 pub mod UndoCauses
 pub mod UndoEnds

@@ -9,6 +9,7 @@
 mod last_changes;
 mod making;
 mod opening;
+mod tree_texts;
 mod undo_call;
 mod undo_laws;
 mod undo_texts;
