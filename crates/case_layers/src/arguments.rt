@@ -1,7 +1,7 @@
 //! Arguments of any call, read from their trees: texts, names, numbers, sides.
 
 use anyhow::{Context, Result, bail};
-use hold_shapes::SharedList;
+use hold_shapes::{DepthSeq, SharedList};
 use serde_json::Value;
 use std::alloc::Global;
 use texts::{Name, Names, Side, Str};
@@ -64,10 +64,10 @@ pub fn counts(alloc: Global, tree: &Value) -> Result<Vec<u64>> {
     }
 }
 
-/// Returns the numbers that an array has, as a list whose copies share them. It is refused as by `counts`.
-pub fn shared_counts(alloc: Global, tree: &Value) -> Result<SharedList<u64>> {
-    let counts = counts(alloc, tree)?;
-    Ok(SharedList::from_vec(alloc, counts)?)
+/// Returns the depths that an array has, as a list whose copies share them. It is refused as by `counts`.
+pub fn shared_depths(alloc: Global, tree: &Value) -> Result<DepthSeq> {
+    let depths = counts(alloc, tree)?;
+    Ok(DepthSeq::from_vec(alloc, depths)?)
 }
 
 /// Returns the side that a tree names. It is refused if it is neither `left` nor `right`.

@@ -1,7 +1,7 @@
 //! Shapes, origins and places as JSON trees.
 
 use crate::answers::{object, text};
-use crate::arguments::{as_count, counts, name, shared_counts, shared_names};
+use crate::arguments::{as_count, counts, name, shared_depths, shared_names};
 use crate::case::Case;
 use anyhow::{Context, Result, bail};
 use hold_shapes::{Held, KeyedShape, ListShape, Origin, Origins, Path, Place, Shape, TreeShape};
@@ -40,7 +40,7 @@ fn keyed_shape(alloc: Global, content: &Value) -> Result<Shape> {
 }
 
 fn tree_shape(alloc: Global, content: &Value) -> Result<Shape> {
-    match TreeShape::from_depths(shared_counts(alloc, content)?) {
+    match TreeShape::from_depths(shared_depths(alloc, content)?) {
         Some(nodes) => Ok(nodes.into_shape()),
         None => bail!("the depths are not a tree"),
     }

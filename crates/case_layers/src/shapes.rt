@@ -91,7 +91,7 @@ pub fn run_from_names(alloc: Global, case: &Case<'_>) -> Result<Value> {
 
 /// Runs `from_depths`: whether the numbers are the depths of an ordered tree.
 pub fn run_from_depths(alloc: Global, case: &Case<'_>) -> Result<Value> {
-    let depths = arguments::shared_counts(alloc, case.argument("depths")?)?;
+    let depths = arguments::shared_depths(alloc, case.argument("depths")?)?;
     Ok(Value::Bool(TreeShape::from_depths(depths).is_some()))
 }
 

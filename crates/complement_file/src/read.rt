@@ -17,7 +17,7 @@ use crate::fault::CompFault;
 use crate::lookup::find_arm;
 use crate::numbers::read_tags;
 use crate::trees::{array_in, nodes_in, object_in, pair_in};
-use hold_shapes::{KeyedShape, ListShape, Shape, TreeShape};
+use hold_shapes::{DepthSeq, KeyedShape, ListShape, Shape, TreeShape};
 use lens_core::{Comp, Comps, then_join};
 use lens_forms::{Form, FormArms, FormRow, FormRows};
 use lens_types::Typed;
@@ -201,7 +201,7 @@ fn read_nodes(alloc: Global, inner: &Form, tree: &Value) -> Result<Comp, CompFau
     if depths.len() != items.len() {
         return Err(CompFault::NotAComplement);
     }
-    let Some(nodes) = TreeShape::from_depths(SharedList::from_vec(alloc, depths)?) else {
+    let Some(nodes) = TreeShape::from_depths(DepthSeq::from_vec(alloc, depths)?) else {
         return Err(CompFault::NotAComplement);
     };
     let comps = read_places(alloc, inner, items)?;

@@ -14,7 +14,7 @@ ghost use Rattle.complement_file.specs.ComplementJson.{tree_of_complement, one, 
 
 use crate::lookup::find_arm;
 use crate::tags::write_tags;
-use hold_shapes::Shape;
+use hold_shapes::{DepthSeq, Shape};
 use lens_core::{Comp, Comps};
 use lens_forms::{Form, FormArms, FormRow, FormRows};
 use lens_types::Typed;
@@ -195,7 +195,7 @@ fn write_keyed(
 fn write_nodes(
     alloc: Global,
     inner: &Form,
-    depths: &SharedList<u64>,
+    depths: &DepthSeq,
     comps: &Comps,
 ) -> Result<Value, AllocError>
     requires typed { IsTrue (is_typed (form_tree inner.now)) }

@@ -9,7 +9,7 @@ ghost use Rattle.doc_values.specs.Initial.{initial, initial_fields, initial_tag}
 
 use crate::doc::{Doc, Docs, with_tag};
 use crate::ty::{Fields, Ty};
-use hold_shapes::{KeyedShape, ListShape, Shape, TreeShape, Twin};
+use hold_shapes::{DepthSeq, KeyedShape, ListShape, Shape, TreeShape, Twin};
 use shared_lists::SharedList;
 use std::alloc::{AllocError, Global};
 
@@ -83,7 +83,7 @@ fn no_keys() -> KeyedShape
 fn root_alone(alloc: Global) -> Result<TreeShape, AllocError>
     ensures { IfOk result (λ s. s ≡ 0 ∷ []) }
 {
-    let depths = SharedList::from_vec(alloc, vec![in alloc; 0]?)?;
+    let depths = DepthSeq::from_vec(alloc, vec![in alloc; 0]?)?;
     match TreeShape::from_depths(depths) {
         Some(shape) => Ok(shape),
         None => unreachable!(),

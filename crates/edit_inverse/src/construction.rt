@@ -21,7 +21,7 @@ use crate::words::{inserted, next_path, push_at, push_key, push_modify, push_nod
 use doc_values::{Doc, Docs, Fields, Ty};
 use edit_module::Atom;
 use edit_module::word::{Primitive, Word};
-use hold_shapes::{Name, Path, Place, Shape, SharedList, Str, Twin};
+use hold_shapes::{DepthSeq, Name, Path, Place, Shape, SharedList, Str, Twin};
 use std::alloc::{AllocError, Global};
 
 /// A word that makes the document from the initial value of its type. Fails only if memory runs out.
@@ -130,8 +130,9 @@ fn build(alloc: Global, ty: &Ty, doc: &Doc) -> Result<Word, AllocError>
 #[cycle(build)]
 fn of_record(alloc: Global, fields: &Fields, docs: &Docs) -> Result<Word, AllocError>
     requires { has_fields (fields_tree fields.now) (docs_tree docs.now) ≡ true }
-    ensures { IfOk result (λ w. word_tree w
-        ≡ at_each (names_of (fields_tree fields.now)) (construct_fields (fields_tree fields.now) (docs_tree docs.now))) }
+    ensures { IfOk result
+        (λ w. word_tree w ≡ at_each (names_of (fields_tree fields.now))
+        (construct_fields (fields_tree fields.now) (docs_tree docs.now))) }
 {
     let mut out = Vec::new(alloc);
     for (i, field) in fields.as_slice().iter().enumerate() {
@@ -214,12 +215,7 @@ fn of_keyed(
 
 // Mod of the root, and then Graft and Mod for each further node.
 #[cycle(build)]
-fn of_tree(
-    alloc: Global,
-    inner: &Ty,
-    depths: &SharedList<u64>,
-    docs: &Docs,
-) -> Result<Word, AllocError>
+fn of_tree(alloc: Global, inner: &Ty, depths: &DepthSeq, docs: &Docs) -> Result<Word, AllocError>
     requires valid { is_valid depths.now ≡ true }
     requires many { length depths.now ≡ length (doc_list (docs_tree docs.now)) }
     requires typed { has_each (ty_tree inner.now) (docs_tree docs.now) ≡ true }

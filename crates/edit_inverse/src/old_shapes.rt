@@ -25,7 +25,7 @@ use crate::words::{next_path, one_edit, push_key, push_node, push_shape};
 use doc_values::{Doc, Docs, Ty};
 use edit_module::action::item_of;
 use edit_module::word::Word;
-use hold_shapes::{Name, Path, Place, Places, Shape, ShapeEdit, SharedList, Twin, trees};
+use hold_shapes::{DepthSeq, Name, Path, Place, Places, Shape, ShapeEdit, Twin, trees};
 use std::alloc::{AllocError, Global};
 
 // The inverse of an edit of a container's shape that acts.
@@ -198,7 +198,7 @@ fn nodes_back(
 }
 
 // The path of the node before a place.
-fn path_before(alloc: Global, depths: &SharedList<u64>, to: usize) -> Result<Vec<u64>, AllocError>
+fn path_before(alloc: Global, depths: &DepthSeq, to: usize) -> Result<Vec<u64>, AllocError>
     requires valid { is_valid depths.now ≡ true }
     requires some { 1 ≤ to }
     requires within { to < length depths.now }
@@ -219,7 +219,7 @@ fn path_before(alloc: Global, depths: &SharedList<u64>, to: usize) -> Result<Vec
 fn grown(
     alloc: Global,
     inner: &Ty,
-    depths: &SharedList<u64>,
+    depths: &DepthSeq,
     docs: &Docs,
     before: Vec<u64>,
     from: usize,
@@ -265,22 +265,17 @@ fn hung_back(alloc: Global, part: &Path, below: &Path, shape: &Shape) -> Result<
 }
 
 // The depths without those of a subtree.
-fn without(
-    alloc: Global,
-    depths: &SharedList<u64>,
-    at: usize,
-) -> Result<SharedList<u64>, AllocError>
+fn without(alloc: Global, depths: &DepthSeq, at: usize) -> Result<DepthSeq, AllocError>
     requires { at < length depths.now }
     ensures { IfOk result (λ rest. rest ≡ remove_part at (end_of depths.now at) depths.now) }
 {
     let end = trees::end(depths, at);
-    let mut rest = depths.copy(alloc)?;
-    rest.delete(alloc, at, end - at)?;
-    Ok(rest)
+    let _len = depths.len();
+    depths.spliced(alloc, at, end, &[])
 }
 
 // How many children the node that a path names has; none, if there is no such node.
-fn children_at(depths: &SharedList<u64>, path: &[u64]) -> u64
+fn children_at(depths: &DepthSeq, path: &[u64]) -> u64
     requires { 0 < length depths.now }
     ensures { result ≡ count_at depths.now path.now }
 {

@@ -332,7 +332,8 @@ fn with_field(
     made: Made,
 ) -> Result<Made, AllocError>
     requires { place < length (doc_list (docs_tree docs.now)) }
-    ensures value { IfOk result (λ m. doc_tree m.value ≡ rec (put_at (docs_tree docs.now) place (doc_tree made.value))) }
+    ensures value { IfOk result
+        (λ m. doc_tree m.value ≡ rec (put_at (docs_tree docs.now) place (doc_tree made.value))) }
     ensures back { IfOk result (λ m. word_tree m.back ≡ only (at name.now (word_tree made.back))) }
 {
     let back = at_word(alloc, name, made.back);

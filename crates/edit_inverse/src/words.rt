@@ -116,7 +116,8 @@ pub(crate) fn next_path(path: Vec<u64>, depth: u64, nodes: u64) -> Result<Vec<u6
     requires some { 1 ≤ depth }
     requires most { depth ≤ length path.items + 1 }
     requires low { (k : ℕ) → slice_index path.items k < nodes }
-    ensures { IfOk result (λ q. (q.items ≡ next_path path.items depth) × ((k : ℕ) → slice_index q.items k < nodes + 1)) }
+    ensures { IfOk result
+        (λ q. (q.items ≡ next_path path.items depth) × ((k : ℕ) → slice_index q.items k < nodes + 1)) }
 {
     let mut path = path;
     let parent = (depth - 1) as usize;

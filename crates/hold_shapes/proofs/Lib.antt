@@ -8,4 +8,5 @@ pub mod PlanOrigins
 pub mod RunOrigins
 pub mod SharedItems
 pub mod ChildPlaces
+pub mod DepthSearches
 pub mod ValidDepths

@@ -9,7 +9,7 @@ ghost use Rattle.hold_shapes.specs.declared.plan.PlanFault.TheVariants.{NoMemory
 ghost use Rattle.hold_shapes.specs.Causes.{IsRefusal};
 ghost use Rattle.hold_shapes.specs.Plans.{plan_keyed, add_key, rename_to, old_places};
 
-use crate::keys::{place, rank};
+use crate::keys::{is_at, place, rank};
 use crate::origins::Origins;
 use crate::parts::{with_item, without_item};
 use crate::plan::{Plan, PlanFault};
@@ -54,10 +54,10 @@ pub(crate) fn put(
         (λ fault. IsRefusal (plan_keyed keys.now (PutKey name.now)) fault) }
 {
     let names = keys.names();
-    if place(names, name).is_some() {
+    let at = rank(names, name);
+    if is_at(names, at, name) {
         return Err(PlanFault::Present);
     }
-    let at = rank(names, name);
     let from = with_fresh(alloc, names.len() as u64, at as u64)?;
     with_key(alloc, names, at, name, from)
 }

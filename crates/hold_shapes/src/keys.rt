@@ -1,5 +1,6 @@
 //! Keys in byte order: a test of the order, the place of a key, and the place for a new one.
-ghost use Rattle.std.specs.Prelude.{◌≡◌, ◌↔◌, ◌<◌, ◌≤◌, length, slice_index_or, IfSome, IsTrue, true};
+ghost use Rattle.std.specs.Prelude.{◌≡◌, ◌↔◌, ◌<◌, ◌≤◌, length, slice_index_or, Some, None, IfSome, IsTrue, true};
+ghost use Rattle.std.specs.Prelude.{false};
 ghost use Rattle.texts.specs.Keys.{is_before, is_rising, key_place, rank};
 
 use shared_lists::{Hint, SharedList, Test};
@@ -42,14 +43,26 @@ pub(crate) fn place(names: &SharedList<Name>, name: &Name) -> Option<u64>
     ensures within { IfSome result (λ p. p < length names.now) }
 {
     let at = rank(names, name);
-    if at >= names.len() {
-        return None;
-    }
-    if name.is_same(name_at(names, at)) {
+    if is_at(names, at, name) {
         Some(at as u64)
     } else {
         None
     }
+}
+
+/// Whether a name is among names in byte order, given how many of them are before it. Does not allocate.
+#[tactic(auto, using(texts::proofs::KeyOrder::search_rules))]
+pub(crate) fn is_at(names: &SharedList<Name>, at: usize, name: &Name) -> bool
+    requires rising { is_rising names.now ≡ true }
+    requires place { at ≡ rank name.now names.now }
+    ensures there { result ≡ true → key_place name.now names.now ≡ Some at }
+    ensures absent { result ≡ false → key_place name.now names.now ≡ None }
+    ensures within { result ≡ true → at < length names.now }
+{
+    if at >= names.len() {
+        return false;
+    }
+    name.is_same(name_at(names, at))
 }
 
 // The test whether a name is before another one.

@@ -9,6 +9,7 @@
 //! edits costs does not grow with the shape.
 #![tactic(auto)]
 
+mod depth_parts;
 mod edit;
 mod gathering;
 mod held;
@@ -37,5 +38,6 @@ pub use crate::path::Path;
 pub use crate::places::Places;
 pub use crate::plan::{Plan, PlanFault};
 pub use crate::shape::{KeyedShape, ListShape, Shape, TreeShape};
+pub use depth_seq::DepthSeq;
 pub use shared_lists::{Hint, SharedList};
 pub use texts::{Name, Names, Str, Twin, twin_all};

@@ -1,7 +1,6 @@
 //! Changes of shared lists: the new list shares what stays with the old one.
 ghost use Rattle.std.specs.Prelude.{◌≡◌, ◌≤◌, ◌<◌, ◌+◌, ◌-◌, ◌^◌, ◌++◌, ◌∷◌, [], length, take, drop, IfOk};
 ghost use Rattle.std.specs.List.{insert, remove};
-ghost use Rattle.hold_shapes.specs.Plans.{remove_part, insert_part, move_part};
 
 use shared_lists::{Hint, SharedList};
 use std::alloc::{AllocError, Global};
@@ -63,73 +62,21 @@ pub(crate) fn without_item<T: Drop + Hint>(
     Ok(left)
 }
 
-/// A list without the part between two places.
+/// A list with the items between two places replaced by those of another list, which both lists share then.
 #[tactic(auto, using(crate::proofs::SharedItems::part_rules))]
-pub(crate) fn remove_part<T: Drop + Hint>(
+pub(crate) fn replace_part<T: Drop + Hint>(
     alloc: Global,
     items: &SharedList<T>,
     from: usize,
     to: usize,
+    more: &SharedList<T>,
 ) -> Result<SharedList<T>, AllocError>
     requires order { from ≤ to }
     requires within { to ≤ length items.now }
-    ensures { IfOk result (λ list. list ≡ remove_part from to items.now) }
+    requires fits { from + (length more.now + (length items.now - to)) < 2 ^ 64 }
+    ensures { IfOk result (λ list. list ≡ take from items.now ++ more.now ++ drop to items.now) }
 {
-    let mut left = items.copy(alloc)?;
-    left.delete(alloc, from, to - from)?;
-    Ok(left)
-}
-
-/// A list with a part inserted at a place.
-#[tactic(auto, using(crate::proofs::SharedItems::part_rules))]
-pub(crate) fn insert_part<T: Drop + Hint>(
-    alloc: Global,
-    at: usize,
-    part: &SharedList<T>,
-    items: &SharedList<T>,
-) -> Result<SharedList<T>, AllocError>
-    requires { at ≤ length items.now }
-    ensures { IfOk result (λ list. list ≡ insert_part at part.now items.now) }
-{
-    if part.len() > usize::MAX - items.len() {
-        return Err(AllocError);
-    }
-    let back = with_back(alloc, part, items, at)?;
-    let front = items.part(alloc, 0, at)?;
-    front.concat(alloc, &back)
-}
-
-// A part, and behind it the items of a list from a place on.
-#[tactic(auto, using(crate::proofs::SharedItems::part_rules))]
-fn with_back<T: Drop + Hint>(
-    alloc: Global,
-    part: &SharedList<T>,
-    items: &SharedList<T>,
-    at: usize,
-) -> Result<SharedList<T>, AllocError>
-    requires within { at ≤ length items.now }
-    requires fits { length part.now + length items.now < 2 ^ 64 }
-    ensures { IfOk result (λ list. list ≡ part.now ++ drop at items.now) }
-{
-    let back = items.part(alloc, at, items.len() - at)?;
-    part.concat(alloc, &back)
-}
-
-/// A list with the part between two places moved to a place of the rest.
-#[tactic(auto, using(crate::proofs::SharedItems::part_rules))]
-pub(crate) fn move_part<T: Drop + Hint>(
-    alloc: Global,
-    items: &SharedList<T>,
-    from: usize,
-    to: usize,
-    at: usize,
-) -> Result<SharedList<T>, AllocError>
-    requires order { from ≤ to }
-    requires within { to ≤ length items.now }
-    requires place { at + (to - from) ≤ length items.now }
-    ensures { IfOk result (λ list. list ≡ move_part from to at items.now) }
-{
-    let part = items.part(alloc, from, to - from)?;
-    let rest = remove_part(alloc, items, from, to)?;
-    insert_part(alloc, at, &part, &rest)
+    let mut list = items.copy(alloc)?;
+    list.replace(alloc, from, to - from, more)?;
+    Ok(list)
 }

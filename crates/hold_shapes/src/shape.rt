@@ -4,6 +4,7 @@ ghost use Rattle.texts.specs.Keys.{is_rising};
 ghost use Rattle.hold_shapes.specs.Trees.{is_valid};
 
 use crate::{keys, trees};
+use depth_seq::DepthSeq;
 use shared_lists::SharedList;
 use std::alloc::{AllocError, Global};
 use std::marker::Model;
@@ -38,7 +39,7 @@ impl Model for KeyedShape {
 /// share the depths.
 #[derive(Drop)]
 pub struct TreeShape {
-    depths: SharedList<u64>,
+    depths: DepthSeq,
 }
 
 impl Model for TreeShape {
@@ -122,7 +123,7 @@ impl TreeShape {
     /// Returns None if and only if the list is not a valid depth list, which is not empty, begins with 0,
     /// and in which each later number is from 1 to the number before it plus 1, and at most 15.
     /// The list is then dropped.
-    pub fn from_depths(depths: SharedList<u64>) -> Option<TreeShape>
+    pub fn from_depths(depths: DepthSeq) -> Option<TreeShape>
         ensures { MatchOption result (is_valid depths ≡ false) (λ s. (is_valid depths ≡ true) × (s ≡ depths)) }
     {
         if trees::is_valid(&depths) {
@@ -133,7 +134,7 @@ impl TreeShape {
     }
 
     // The depths of a tree as a shape.
-    pub(crate) fn of_valid(depths: SharedList<u64>) -> TreeShape
+    pub(crate) fn of_valid(depths: DepthSeq) -> TreeShape
         requires { is_valid depths ≡ true }
         ensures { result ≡ depths }
     {
@@ -141,7 +142,7 @@ impl TreeShape {
     }
 
     /// The depths of the nodes, in preorder.
-    pub fn depths(&self) -> &SharedList<u64>
+    pub fn depths(&self) -> &DepthSeq
         ensures value { result.now ≡ self.now }
         ensures valid { is_valid self.now ≡ true }
     {
@@ -182,9 +183,9 @@ impl Twin for TreeShape {
 
     ghost meaning = { λ s. s };
 
-    fn twin(&self, alloc: Global) -> Result<Self, AllocError> {
+    fn twin(&self, _alloc: Global) -> Result<Self, AllocError> {
         Ok(TreeShape {
-            depths: self.depths.copy(alloc)?,
+            depths: self.depths.copy()?,
         })
     }
 }

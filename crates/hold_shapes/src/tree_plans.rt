@@ -8,14 +8,14 @@ ghost use Rattle.hold_shapes.specs.Causes.{IsRefusal};
 ghost use Rattle.hold_shapes.specs.Plans.{plan_tree, old_places, remove_part, move_part, move_subtree, place_for_child};
 ghost use Rattle.hold_shapes.specs.Plans.{allowed_depths, hang_below};
 
+use crate::depth_parts::{insert_part, move_part, remove_part, with_depth};
 use crate::origins::Origins;
-use crate::parts::{insert_part, move_part, remove_part, with_item};
 use crate::path::Path;
 use crate::plan::{Plan, PlanFault};
 use crate::plan_origins::{self, with_fresh, without_part};
 use crate::shape::TreeShape;
 use crate::trees::{child, children, depth_at, end, node};
-use shared_lists::SharedList;
+use depth_seq::DepthSeq;
 use std::alloc::{AllocError, Global};
 
 // A fresh node as the last child of a node.
@@ -39,7 +39,7 @@ pub(crate) fn graft(
     }
     let to = end(depths, at);
     let from = with_fresh(alloc, depths.len() as u64, to as u64)?;
-    let grown = with_item(alloc, depths, to, depth + 1)?;
+    let grown = with_depth(alloc, depths, to, depth + 1)?;
     Ok(Plan {
         shape: TreeShape::of_valid(grown),
         from,
@@ -80,7 +80,7 @@ pub(crate) fn prune(
 // The origins after the subtree between two places is moved to a place of the rest.
 fn moved_nodes(
     alloc: Global,
-    depths: &SharedList<u64>,
+    depths: &DepthSeq,
     from: usize,
     to: usize,
     at: usize,
@@ -101,7 +101,7 @@ fn moved_nodes(
 
 // The place of a child of a node; without such a child, the place that a new last one has.
 #[tactic(auto, using(crate::proofs::ChildPlaces::slot_rules))]
-fn place_for_child(depths: &SharedList<u64>, at: usize, number: u64) -> usize
+fn place_for_child(depths: &DepthSeq, at: usize, number: u64) -> usize
     requires { at < length depths.now }
     ensures value { result ≡ place_for_child depths.now at (child depths.now at number) }
     ensures above { at < result }
@@ -117,14 +117,15 @@ fn place_for_child(depths: &SharedList<u64>, at: usize, number: u64) -> usize
 #[tactic(auto, using(crate::proofs::ChildPlaces::slot_rules))]
 fn place_in_rest(
     alloc: Global,
-    depths: &SharedList<u64>,
+    depths: &DepthSeq,
     at: usize,
     from: usize,
     number: u64,
 ) -> Result<usize, AllocError>
     requires order { at < from }
     requires within { from < length depths.now }
-    ensures value { IfOk result (λ place. place ≡ place_for_child (remove_part from (end_of depths.now from) depths.now) at
+    ensures value { IfOk result
+        (λ place. place ≡ place_for_child (remove_part from (end_of depths.now from) depths.now) at
         (child (remove_part from (end_of depths.now from) depths.now) at number)) }
     ensures bound { IfOk result (λ place. place + (end_of depths.now from - from) ≤ length depths.now) }
 {
@@ -135,7 +136,7 @@ fn place_in_rest(
 // The tree after the subtree between two places is moved to a place of the rest.
 fn moved_subtree(
     alloc: Global,
-    depths: &SharedList<u64>,
+    depths: &DepthSeq,
     from: usize,
     to: usize,
     at: usize,
@@ -198,12 +199,7 @@ fn moved_depth(old: u64, top: u64, depth: u64) -> Option<u64>
 
 // The depths of a subtree whose root has depth `top`, after it is moved below a node of this depth.
 #[tactic(auto, using(crate::proofs::MovedDepths::depth_rules))]
-fn moved_depths(
-    alloc: Global,
-    part: &SharedList<u64>,
-    top: u64,
-    depth: u64,
-) -> Result<Vec<u64>, PlanFault>
+fn moved_depths(alloc: Global, part: &DepthSeq, top: u64, depth: u64) -> Result<Vec<u64>, PlanFault>
     ensures { MatchResult result
         (λ all. allowed_depths top depth part.now ≡ Ok all.items)
         (λ fault. IsRefusal (allowed_depths top depth part.now) fault) }
@@ -221,29 +217,30 @@ fn moved_depths(
 // The depths of the subtree between two places, after it is moved below a node of this depth.
 fn moved_block(
     alloc: Global,
-    depths: &SharedList<u64>,
+    depths: &DepthSeq,
     from: usize,
     to: usize,
     depth: u64,
-) -> Result<SharedList<u64>, PlanFault>
+) -> Result<DepthSeq, PlanFault>
     requires order { from < to }
     requires within { to ≤ length depths.now }
     ensures { MatchResult result
         (λ block. allowed_depths (slice_index depths.now from) depth (slice_range depths.now from to) ≡ Ok block)
-        (λ fault. IsRefusal (allowed_depths (slice_index depths.now from) depth (slice_range depths.now from to)) fault) }
+        (λ fault.
+        IsRefusal (allowed_depths (slice_index depths.now from) depth (slice_range depths.now from to)) fault) }
 {
     let part = depths.part(alloc, from, to - from)?;
     let moved = moved_depths(alloc, &part, depth_at(depths, from), depth)?;
-    Ok(SharedList::from_vec(alloc, moved)?)
+    Ok(DepthSeq::from_vec(alloc, moved)?)
 }
 
 // The subtree between two places becomes the last child of a node of the rest.
 #[tactic(auto, using(crate::proofs::MovedDepths::hung_rules))]
 fn hang_below(
     alloc: Global,
-    depths: &SharedList<u64>,
+    depths: &DepthSeq,
     from: usize,
-    rest: &SharedList<u64>,
+    rest: &DepthSeq,
     at: usize,
 ) -> Result<Plan<TreeShape>, PlanFault>
     requires valid { is_valid depths.now ≡ true }

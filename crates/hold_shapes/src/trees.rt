@@ -2,11 +2,11 @@
 ghost use Rattle.std.specs.Prelude.{◌≡◌, ◌↔◌, ◌<◌, ◌≤◌, length, slice_index, IfSome, IsTrue, true};
 ghost use Rattle.hold_shapes.specs.Trees.{is_valid, end_of, children, child, node};
 
-use shared_lists::SharedList;
+use depth_seq::{DepthSeq, Found};
 
 // The depth at a place.
 #[tactic(auto, using(crate::proofs::SharedItems::item_rules))]
-pub(crate) fn depth_at(depths: &SharedList<u64>, at: usize) -> u64
+pub(crate) fn depth_at(depths: &DepthSeq, at: usize) -> u64
     requires { at < length depths.now }
     ensures { result ≡ slice_index depths.now at }
 {
@@ -14,7 +14,7 @@ pub(crate) fn depth_at(depths: &SharedList<u64>, at: usize) -> u64
 }
 
 // Whether the depths are those of a tree in preorder.
-pub(crate) fn is_valid(depths: &SharedList<u64>) -> bool
+pub(crate) fn is_valid(depths: &DepthSeq) -> bool
     ensures { result ≡ is_valid depths.now }
 {
     let mut before: Option<u64> = None;
@@ -43,71 +43,55 @@ pub(crate) fn is_valid(depths: &SharedList<u64>) -> bool
 }
 
 /// The place after the subtree of a node, which is one of the places.
-pub fn end(depths: &SharedList<u64>, at: usize) -> usize
+#[tactic(auto, using(crate::proofs::DepthSearches::end_rules))]
+pub fn end(depths: &DepthSeq, at: usize) -> usize
     requires { at < length depths.now }
     ensures value { result ≡ end_of depths.now at }
     ensures above { at < result }
     ensures within { result ≤ length depths.now }
 {
     let size = depths.len();
-    let depth = depth_at(depths, at);
-    for i in at + 1..size {
-        if depth_at(depths, i) <= depth {
-            return i;
-        }
+    match depths.find(at + 1, depth_at(depths, at), u64::MAX) {
+        Found::Child(_) => unreachable!(),
+        Found::End(place, _) => place,
+        Found::Behind(_) => size,
     }
-    size
 }
 
 /// How many children a node has, which is one of the places.
-pub fn children(depths: &SharedList<u64>, at: usize) -> usize
+#[tactic(auto, using(crate::proofs::DepthSearches::children_rules))]
+pub fn children(depths: &DepthSeq, at: usize) -> usize
     requires { at < length depths.now }
     ensures { result ≡ children depths.now at }
 {
-    let size = depths.len();
-    let depth = depth_at(depths, at);
-    let mut count = 0;
-    for i in at + 1..size {
-        let next = depth_at(depths, i);
-        if next <= depth {
-            return count;
-        }
-        if next == depth + 1 {
-            count += 1;
-        }
+    let _size = depths.len();
+    match depths.find(at + 1, depth_at(depths, at), u64::MAX) {
+        Found::Child(_) => unreachable!(),
+        Found::End(_, count) => count as usize,
+        Found::Behind(count) => count as usize,
     }
-    count
 }
 
 /// The place of a child of a node, which is one of the places. Children are numbered from 0. Returns None if and only
 /// if the node has no child of this number.
-pub fn child(depths: &SharedList<u64>, at: usize, number: u64) -> Option<usize>
+#[tactic(auto, using(crate::proofs::DepthSearches::child_rules))]
+pub fn child(depths: &DepthSeq, at: usize, number: u64) -> Option<usize>
     requires { at < length depths.now }
     ensures value { result ≡ child depths.now at number }
     ensures above { IfSome result (λ p. at < p) }
     ensures within { IfSome result (λ p. p < length depths.now) }
 {
-    let size = depths.len();
-    let depth = depth_at(depths, at);
-    let mut left = number;
-    for i in at + 1..size {
-        let next = depth_at(depths, i);
-        if next <= depth {
-            return None;
-        }
-        if next == depth + 1 {
-            if left == 0 {
-                return Some(i);
-            }
-            left -= 1;
-        }
+    let _size = depths.len();
+    match depths.find(at + 1, depth_at(depths, at), number) {
+        Found::Child(place) => Some(place),
+        Found::End(_, _) => None,
+        Found::Behind(_) => None,
     }
-    None
 }
 
 /// The place of the node that a path names. The tree has a root. Returns None if and only if there is no such node.
 #[tactic(auto, using(crate::proofs::Nodes::node_rules))]
-pub fn node(depths: &SharedList<u64>, path: &[u64]) -> Option<usize>
+pub fn node(depths: &DepthSeq, path: &[u64]) -> Option<usize>
     requires { 0 < length depths.now }
     ensures value { result ≡ node depths.now path.now }
     ensures within { IfSome result (λ p. p < length depths.now) }
@@ -123,7 +107,7 @@ pub fn node(depths: &SharedList<u64>, path: &[u64]) -> Option<usize>
 }
 
 // The place of the node that a path names.
-pub(crate) fn place(depths: &SharedList<u64>, path: &[u64]) -> Option<u64>
+pub(crate) fn place(depths: &DepthSeq, path: &[u64]) -> Option<u64>
     requires { is_valid depths.now ≡ true }
     ensures { result ≡ node depths.now path.now }
 {
@@ -137,7 +121,7 @@ pub(crate) fn place(depths: &SharedList<u64>, path: &[u64]) -> Option<u64>
 }
 
 // Whether both lists have the same depths in the same order.
-pub(crate) fn are_same(depths: &SharedList<u64>, others: &SharedList<u64>) -> bool
+pub(crate) fn are_same(depths: &DepthSeq, others: &DepthSeq) -> bool
     ensures { IsTrue result ↔ (depths.now ≡ others.now) }
 {
     if depths.len() != others.len() {

@@ -7,7 +7,7 @@ ghost use Rattle.lens_core.specs.Complements.{missing_rows, missing_arm};
 ghost use Rattle.lens_forms.specs.Forms.{form_tree, rows_tree, arms_tree};
 
 use crate::comp::{Comp, Comps, then_join};
-use hold_shapes::{KeyedShape, ListShape, Shape, TreeShape};
+use hold_shapes::{DepthSeq, KeyedShape, ListShape, Shape, TreeShape};
 use lens_forms::{Form, FormArms, FormRow, FormRows};
 use shared_lists::SharedList;
 use std::alloc::{AllocError, Global};
@@ -86,7 +86,7 @@ fn no_keys() -> KeyedShape
 fn one_node(alloc: Global, part: Comp) -> Result<Comp, AllocError>
     ensures { IfOk result (λ c. comp_tree c ≡ hold_comp (TreeOf (0 ∷ [])) (more_comps (comp_tree part) no_comps)) }
 {
-    let depths = SharedList::from_vec(alloc, vec![in alloc; 0]?)?;
+    let depths = DepthSeq::from_vec(alloc, vec![in alloc; 0]?)?;
     let shape = match TreeShape::from_depths(depths) {
         Some(shape) => shape,
         None => unreachable!(),

@@ -22,8 +22,9 @@ pub fn are_lists_kept(alloc: Global, list: &SharedList<u64>) -> Result<bool, All
     let set = is_kept_by_set(alloc, list)?;
     let inserted = is_kept_by_insert_many(alloc, list)?;
     let deleted = is_kept_by_delete(alloc, list)?;
+    let replaced = is_kept_by_replace(alloc, list)?;
     let joined = are_kept_by_concat(alloc, list)?;
-    Ok(set && inserted && deleted && joined && is_kept_by_part(alloc, list)?)
+    Ok(set && inserted && deleted && replaced && joined && is_kept_by_part(alloc, list)?)
 }
 
 fn is_kept_by_set(alloc: Global, list: &SharedList<u64>) -> Result<bool, AllocError> {
@@ -55,6 +56,18 @@ fn is_kept_by_delete(alloc: Global, list: &SharedList<u64>) -> Result<bool, Allo
         return Ok(false);
     }
     match copy.delete(alloc, 3, 2) {
+        Ok(()) => Ok(!is_same(list, &copy)),
+        Err(_) => Ok(is_same(list, &copy)),
+    }
+}
+
+fn is_kept_by_replace(alloc: Global, list: &SharedList<u64>) -> Result<bool, AllocError> {
+    let mut copy = list.copy(alloc)?;
+    let more = SharedList::from_vec(alloc, vec![in alloc; 70]?)?;
+    if copy.len() < 10 || copy.len() > 1_000_000 || more.len() != 1 {
+        return Ok(false);
+    }
+    match copy.replace(alloc, 3, 2, &more) {
         Ok(()) => Ok(!is_same(list, &copy)),
         Err(_) => Ok(is_same(list, &copy)),
     }

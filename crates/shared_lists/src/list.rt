@@ -154,6 +154,27 @@ impl<T: Drop + Hint> SharedList<T> {
         self.splice(alloc, place, place + count, &None)
     }
 
+    /// Replaces some items, from a place on, by those of another list, which both lists share then.
+    ///
+    /// If there is no memory, the list is as it was.
+    pub fn replace(
+        &mut self,
+        alloc: Global,
+        place: usize,
+        count: usize,
+        items: &SharedList<T>,
+    ) -> Result<(), AllocError>
+        requires within { place + count ≤ length self.old }
+        requires fits { length self.old - count + length items.now < 2 ^ 64 }
+        ensures replaced { OnOk result (self.new
+            ≡ take place self.old ++ items.now ++ drop (place + count) self.old) }
+        ensures unchanged { OnErr result (self.new ≡ self.old) }
+    {
+        let _len = self.len();
+        let more = items.tree()?;
+        self.splice(alloc, place, place + count, &more)
+    }
+
     /// A list of the items of two lists, one after the other. All three lists share the items.
     pub fn concat(&self, alloc: Global, other: &SharedList<T>) -> Result<SharedList<T>, AllocError>
         requires { length self.now + length other.now < 2 ^ 64 }
@@ -174,11 +195,12 @@ impl<T: Drop + Hint> SharedList<T> {
         requires { place + count ≤ length self.now }
         ensures { IfOk result (λ list. list ≡ take count (drop place self.now)) }
     {
-        let behind = self.len() - place - count;
-        let mut list = self.copy(alloc)?;
-        list.delete(alloc, 0, place)?;
-        list.delete(alloc, count, behind)?;
-        Ok(list)
+        let _len = self.len();
+        let tree = match &self.root {
+            None => None,
+            Some(root) => splices::range(alloc, root.tree(), place, place + count)?,
+        };
+        SharedList::from_tree(alloc, tree)
     }
 
     // The list of a tree.

@@ -203,7 +203,7 @@ fn owners_of<T: Drop>(alloc: Global, items: &[Rc<T>]) -> Result<Vec<Rc<T>>, Allo
 
 /// The items of a tree with those from `from` to before `to` replaced by those of another tree.
 ///
-/// None is a tree of no items.
+/// None is a tree of no items. If nothing is replaced by nothing, it is the same tree, shared.
 #[cycle(splice)]
 #[tactic(auto, using(crate::proofs::SplicedLists::splice_rules))]
 pub(crate) fn splice<T: Drop + Hint>(
@@ -224,6 +224,9 @@ pub(crate) fn splice<T: Drop + Hint>(
     if from == 0 && to == tree.len() {
         return owner_of(more);
     }
+    if from == to && len_of(more) == 0 {
+        return Ok(Some(tree.clone()?));
+    }
     match &tree.node {
         Node::Chunk(items) => splice_chunk(alloc, items.as_slice(), from, to, more),
         Node::Join(left, right, middle, _, _, _) => {
@@ -239,6 +242,42 @@ pub(crate) fn splice<T: Drop + Hint>(
                 let back = splice(alloc, right, 0, to - middle, &None)?;
                 join_optional(alloc, front, back)
             }
+        }
+    }
+}
+
+/// Some of the items of a tree, from `from` to before `to`.
+///
+/// Goes down to the smallest part of the tree that has all of them, and makes new nodes below that part alone.
+#[cycle(range)]
+#[tactic(auto, using(crate::proofs::SplicedLists::range_rules))]
+pub(crate) fn range<T: Drop + Hint>(
+    alloc: Global,
+    tree: &Rc<Tree<T>>,
+    from: usize,
+    to: usize,
+) -> Result<Option<Rc<Tree<T>>>, AllocError>
+    requires order { from ≤ to }
+    requires within { to ≤ length tree.now.value }
+    ensures { IfOk result (λ t. optional_items t ≡ take (to - from) (drop from tree.now.value)) }
+{
+    match &tree.node {
+        Node::Chunk(items) => {
+            let (_, behind) = items.as_slice().split_at(from);
+            let (inner, _) = behind.split_at(to - from);
+            chunk_optional(alloc, owners_of(alloc, inner)?)
+        }
+        Node::Join(left, right, middle, _, _, _) => {
+            let middle = *middle;
+            if to <= middle {
+                return range(alloc, left, from, to);
+            }
+            if middle <= from {
+                return range(alloc, right, from - middle, to - middle);
+            }
+            let front = splice(alloc, left, 0, from, &None)?;
+            let back = splice(alloc, right, to - middle, right.len(), &None)?;
+            join_optional(alloc, front, back)
         }
     }
 }

@@ -8,8 +8,8 @@ ghost use Rattle.hold_shapes.specs.Plans.{plan as plan_of};
 ghost use Rattle.hold_shapes.specs.Gather.{content_at};
 
 use hold_shapes::{
-    Held, KeyedShape, ListShape, Origin, Origins, Path, Place, PlanFault, Shape, ShapeEdit,
-    TreeShape, gather,
+    DepthSeq, Held, KeyedShape, ListShape, Origin, Origins, Path, Place, PlanFault, Shape,
+    ShapeEdit, TreeShape, gather,
 };
 use shape_laws::plans_are_lawful;
 use shared_lists::{Hint, SharedList};
@@ -36,7 +36,7 @@ fn keyed(alloc: Global) -> Result<Option<KeyedShape>, AllocError> {
 // A root with two leaves.
 fn tree(alloc: Global) -> Result<Option<TreeShape>, AllocError> {
     let depths = Vec::from_slice(alloc, &[0, 1, 1])?;
-    Ok(TreeShape::from_depths(SharedList::from_vec(alloc, depths)?))
+    Ok(TreeShape::from_depths(DepthSeq::from_vec(alloc, depths)?))
 }
 
 // Origins written one after another: a number for an old place, a star for a fresh one.

@@ -20,7 +20,7 @@ use crate::fault::DocFault;
 use crate::numbers::{read_counts, read_int};
 use crate::parts::{only_member, two_members};
 use doc_values::{Doc, Docs, Fields, Ty, has_text};
-use hold_shapes::{KeyedShape, ListShape, Name, Names, Shape, Str, TreeShape};
+use hold_shapes::{DepthSeq, KeyedShape, ListShape, Name, Names, Shape, Str, TreeShape};
 use serde_json::{Map, Value};
 use shared_lists::SharedList;
 use std::alloc::{AllocError, Global};
@@ -249,7 +249,7 @@ fn ordered(alloc: Global, depths: Vec<u64>, docs: Docs) -> Result<Doc, DocFault>
     if depths.len() != docs.len() {
         return Err(DocFault::NotOfType);
     }
-    match TreeShape::from_depths(SharedList::from_vec(alloc, depths)?) {
+    match TreeShape::from_depths(DepthSeq::from_vec(alloc, depths)?) {
         Some(nodes) => Ok(Doc::Hold(Shape::Tree(nodes), docs)),
         None => Err(DocFault::NotOfType),
     }

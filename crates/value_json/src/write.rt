@@ -12,7 +12,7 @@ ghost use Rattle.value_json.specs.DocumentJson.{tree_of_document, document_of, f
 ghost use Rattle.value_json.specs.DocumentJson.{content_items, holds_i64s, all_hold_i64s};
 
 use doc_values::{Doc, Docs, Fields, Ty};
-use hold_shapes::{Name, Shape};
+use hold_shapes::{DepthSeq, Name, Shape};
 use serde_json::{Map, Value, put};
 use shared_lists::SharedList;
 use std::alloc::{AllocError, Global};
@@ -156,7 +156,7 @@ fn write_keyed(
 fn write_ordered(
     alloc: Global,
     inner: &Ty,
-    depths: &SharedList<u64>,
+    depths: &DepthSeq,
     docs: &Docs,
 ) -> Result<Value, AllocError>
     requires well_formed { is_well_formed (ty_tree inner.now) ≡ true }
@@ -178,7 +178,7 @@ fn write_ordered(
 }
 
 /// The array of these depths. Fails only if memory runs out.
-pub fn write_depths(alloc: Global, depths: &SharedList<u64>) -> Result<Value, AllocError>
+pub fn write_depths(alloc: Global, depths: &DepthSeq) -> Result<Value, AllocError>
     ensures { IfOk result (λ tree. view tree ≡ array (count_items depths.now)) }
 {
     let count = depths.len();

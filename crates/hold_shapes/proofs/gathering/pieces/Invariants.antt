@@ -1,7 +1,7 @@
 use Rattle.std.proofs.Common.{◌≡◌, ◌+◌, ◌++◌, All, map, drop, length}
 use Rattle.hold_shapes.specs.Gather.{content_at, IsBelow}
 use Rattle.hold_shapes.specs.Runs.{all_origins}
-use Rattle.hold_shapes.proofs.gathering.gather.Given as goal
+use Rattle.hold_shapes.proofs.gathering.pieces.Given as goal
 
 abbrev pub invariant-loop-i : goal.invariant-loop-i
 invariant-loop-i g l =

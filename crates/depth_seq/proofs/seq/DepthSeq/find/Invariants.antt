@@ -1,0 +1,4 @@
+use Rattle.depth_seq.proofs.seq.DepthSeq.find.Given as goal
+
+abbrev pub ghosts-counted_search : goal.ghosts-counted_search
+ghosts-counted_search a = record { name = a.blank.name; parts = a.blank.parts }
