@@ -23,7 +23,7 @@ step_with s a = option_map (λ tree. (s, tree)) (answer_tree a)
 
 -- a batch has a line if the counts in its word fit
 abbrev pub HasToldLine : Told → Type 0
-HasToldLine (Sealed b) = counts_fit (word_tree b.word) ≡ true
+HasToldLine (Sealed b) = counts_fit (word_tree b.word.value) ≡ true
 HasToldLine _ = Unit {0}
 
 -- an answer has a line if what is told has; running out of memory is not an answer

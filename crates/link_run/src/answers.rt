@@ -78,7 +78,7 @@ fn told_line(alloc: Global, number: u64, told: &Told) -> Result<Bytes, AllocErro
 }
 
 fn batch_line(alloc: Global, number: u64, batch: &Batch) -> Result<Bytes, AllocError>
-    requires counts_fit { counts_fit (word_tree batch.now.word) ≡ true }
+    requires counts_fit { counts_fit (word_tree batch.now.word.value) ≡ true }
     ensures { IfOk result (λ line. line ≡ told_line number (sealed (batch_tree batch.now))) }
 {
     let word = write_word_text(alloc, &batch.word)?;

@@ -12,6 +12,7 @@ use lens_types::{Form, Typed, check};
 use script_input::ProgramText;
 use serde_json::Value;
 use std::alloc::Global;
+use std::rc::Rc;
 use store_new::give_line;
 use store_records::stored_lens;
 use texts::Side;
@@ -98,7 +99,7 @@ fn complements_of_other_lenses(rt: HostRuntime) {
 }
 
 fn batch(alloc: Global, number: u64, text: &str) -> Option<Batch> {
-    let word = word(alloc, text)?;
+    let word = Rc::new(alloc, word(alloc, text)?).ok()?;
     Some(Batch { number, word })
 }
 

@@ -23,6 +23,7 @@ use edit_module::{ActFault, Word, act};
 use lens_core::{Carried, CarryFault, Comp, EditLens};
 use std::alloc::{AllocError, Global};
 use std::marker::Model;
+use std::rc::Rc;
 use texts::{Side, Twin};
 
 // What a left site holds.
@@ -304,6 +305,7 @@ fn sealed<L: EditLens>(
     };
     let number = parts.number + 1;
     let doc = after(parts).twin(alloc)?;
+    let word = Rc::new(alloc, word)?;
     let batch = Batch { number, word };
     let last = batch.twin(alloc)?;
     let next = LeftParts {

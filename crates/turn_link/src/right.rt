@@ -23,6 +23,7 @@ use doc_values::{Doc, Ty, init};
 use edit_module::{ActFault, Word, act};
 use std::alloc::{AllocError, Global};
 use std::marker::Model;
+use std::rc::Rc;
 use texts::{Side, Twin};
 
 // What a right site holds.
@@ -258,6 +259,7 @@ fn sealed(alloc: Global, ty: &Ty, parts: &RightParts) -> Result<(RightParts, Bat
     let number = parts.number + 1;
     let doc = after(parts).twin(alloc)?;
     let word = parts.draft.twin(alloc)?;
+    let word = Rc::new(alloc, word)?;
     let batch = Batch { number, word };
     let last = batch.twin(alloc)?;
     let next = RightParts {
