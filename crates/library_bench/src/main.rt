@@ -1,65 +1,64 @@
-//! Edits, reads and writes large documents, and decides consistency, so that bench/library.sh can time it.
+//! Repeats a task over a file, so that bench/library and bench/primitives can time it.
 //!
-//! Words: a task, the number of records of the document, and how often the task is done. The task `every` does
-//! each of the others, one after another. A line has a task and the number of records that it leaves.
+//! Words: a task, a file, and how often the task is done; then more of these threes. The first line of the file is a
+//! lens program, and the lines behind it are JSON:
+//!
+//! - `act`: a document of the left type, and then words. Each word is applied to that document.
+//! - `act-right`: the same, with a document of the right type.
+//! - `read`: a document of the left type. It is read from its tree.
+//! - `write`: a document of the left type. Its tree is written.
+//! - `decide`: a left document, a complement and a right document. It is decided whether they are consistent.
+//!
+//! A line for each task says what came out the last time: `yes` or `no` of a decision, and else the number of parts of
+//! a document, which are the contents of a record or of a container. Of a word it says also whether anything changed.
 #![tactic(auto)]
 
-mod action;
-mod address_book;
-mod contacts;
-mod decision;
-mod deep;
-mod edits;
-mod json;
-mod lens;
-mod task;
+mod tasks;
+mod values;
 
-use crate::task::Task;
-use anyhow::bail;
+use crate::tasks::{acted, decided, read_often, write_often};
+use crate::values::{first_line, lens_in};
+use anyhow::{Context, Result, bail};
+use lens_types::Typed;
 use std::alloc::Global;
-use std::env;
+use std::rt::Files;
+use std::{env, fs};
 
-fn main(rt: HostRuntime) -> anyhow::Result<()> {
-    let alloc = rt.alloc();
-    let words: Vec<String> = env::args(&rt)?.collect(alloc)?;
-    if words.len() != 4 {
-        bail!("give a task, a number of records and a number of times");
-    }
-    let size = words[2].as_str().parse::<u64>()?;
-    let times = words[3].as_str().parse::<u64>()?;
-    for name in NAMES {
-        if words[1].as_str() == name || words[1].as_str() == "every" {
-            let line = line_of(alloc, name, size, times)?;
-            println!(rt; "{line}")?;
-        }
+fn main(rt: HostRuntime) -> Result<()> {
+    let words: Vec<String> = env::args(&rt)?.collect(rt.alloc())?;
+    for three in words.as_slice().get(1..).unwrap_or(&[]).chunks(3) {
+        run(&rt, three)?;
     }
     Ok(())
 }
 
-// The names of the tasks.
-const NAMES: [&str; 15] = [
-    "list-mod",
-    "list-ins",
-    "list-del",
-    "list-move",
-    "list-write",
-    "list-read",
-    "list-deep",
-    "list-inserts",
-    "keyed-mod",
-    "keyed-put",
-    "keyed-drop",
-    "keyed-rename",
-    "keyed-write",
-    "keyed-read",
-    "consistent",
-];
-
-// The line of the task of a name, after it was done.
-fn line_of(alloc: Global, name: &str, size: u64, times: u64) -> anyhow::Result<String> {
-    let Some(task) = Task::named(name) else {
-        bail!("there is no such task");
+// Does a task, and prints what came out.
+fn run<R: Files + AllocGlobal + Print>(rt: &R, words: &[String]) -> Result<()> {
+    let [task, file, times] = words else {
+        bail!("give a task, a file and a number of times");
     };
-    let records = task.records_left(alloc, size, times)?;
-    Ok(format!(in alloc; "{name}: {records} records")?)
+    let text = fs::read_to_string(rt, file.as_str()).context("the file is not read")?;
+    let times = times.as_str().parse::<u64>()?;
+    let came = outcome(rt.alloc(), task.as_str(), text.as_str(), times)?;
+    println!(rt; "{task} {file}: {came}")?;
+    Ok(())
+}
+
+// What comes of a task over the text of a file.
+fn outcome(alloc: Global, task: &str, text: &str, times: u64) -> Result<String> {
+    let (program, values) = first_line(text)?;
+    let lens = lens_in(alloc, program)?;
+    outcome_by(alloc, &lens, task, values, times)
+}
+
+// The same, with the lens of the file and the lines behind it.
+fn outcome_by(alloc: Global, lens: &Typed, task: &str, values: &str, times: u64) -> Result<String> {
+    match task {
+        "act" => acted(alloc, lens.left(), values, times),
+        "act-right" => acted(alloc, lens.right(), values, times),
+        "read" => read_often(alloc, lens.left(), values, times),
+        "write" => write_often(alloc, lens.left(), values, times),
+        "decide" => decided(alloc, lens, values, times),
+        _ => bail!("there is no such task"),
+    }
 }
