@@ -18,8 +18,8 @@ pub record IsTreeText (d : Data) (text : List ℕ) : Type 0 where
   pub numbers : HasNumbers (outline d)
   pub back : of_json (outline d) ≡ Some d
 
--- The texts are those of the triple's trees. The triple is consistent, its ints are i64, and its snapshot nests no deeper
--- than a reader of JSON reads.
+-- The texts are those of the triple's trees. The triple is consistent, its ints are i64, and its snapshot nests no
+-- deeper than a reader of JSON reads.
 pub record AreTreeTexts (l : FormTree) (t : TripleTree) (made : TreeTexts) : Type 0 where
   pub left : IsTreeText (tree_of_document (left_type l) t.left) (string_bytes made.left)
   pub comp : IsTreeText (tree_of_complement l t.comp) (string_bytes made.comp)
