@@ -138,6 +138,58 @@ struct editlens_answer editlens_session_text(void *at, uint8_t *out, size_t out_
 /* Ends a session, and gives back all that it holds but the memory at `at`, which is the caller's. */
 void editlens_session_close(void *at);
 
+/* A hub: one document that is kept in step with up to 64 views, as the command `hub` keeps them. A caller has memory for it, of
+   editlens_hub_size() bytes and aligned to 16, and owes what it owes for a session. The statuses and the causes are those of a session, where
+   a hub takes the place of a session and the texts of its programs that of a program; and these: */
+
+/* What editlens_hub_show can show. */
+#define EDITLENS_HUB_STATE 0       /* the state lines: `hub JSON`, and `view V JSON` and `complement V JSON` for each view */
+#define EDITLENS_HUB_DOCUMENT 1    /* the hub's document, as JSON */
+#define EDITLENS_VIEW_DOCUMENT 2   /* the document of a view, as JSON */
+#define EDITLENS_VIEW_COMPLEMENT 3 /* the complement of a view, as JSON */
+
+/* A line, or a part to be shown, names a view that does not exist (EDITLENS_REFUSED). */
+#define EDITLENS_NO_VIEW 61
+
+/* Programs of views (EDITLENS_PROGRAM_REFUSED): there are more than 64; or the left type of the view `part` is not that of view 0. Where a
+   program alone is refused, the cause is that of the program, `part` is the number of the view, from 0, and `at` an offset in its text. */
+#define EDITLENS_TOO_MANY_VIEWS 62
+#define EDITLENS_VIEWS_DIFFER 63
+
+/* The texts of a state (EDITLENS_STATE_REFUSED): there is not one of the hub and two of each view; the first is of no document of the hub; one
+   is of no document of the view `part`. With the number of the view in `part` come EDITLENS_NOT_COMPLEMENT and EDITLENS_NOT_CONSISTENT, too. */
+#define EDITLENS_OTHER_COUNT 64
+#define EDITLENS_NOT_HUB 65
+#define EDITLENS_NOT_VIEW 66
+
+/* How many bytes a hub takes. */
+size_t editlens_hub_size(void);
+
+/* Puts the hub over the programs of its views, or why there is none, into the memory at `at`. The programs are those of a script: one text, with
+   a line `+++` between them. editlens_hub_status says which. The text is the line of a refusal, or empty. */
+void editlens_hub_open(void *at, const uint8_t *programs, size_t programs_len);
+
+/* The same for a hub that goes on from a state: JSON texts, with a line feed behind each. They are what editlens_hub_show gave for
+   EDITLENS_HUB_DOCUMENT, and then for each view in order for EDITLENS_VIEW_DOCUMENT and EDITLENS_VIEW_COMPLEMENT, or others. They are refused if
+   they are not consistent. Items are numbered from 1 on. */
+void editlens_hub_resume(void *at, const uint8_t *programs, size_t programs_len, const uint8_t *state, size_t state_len);
+
+/* EDITLENS_DONE if there is a hub; else EDITLENS_PROGRAM_REFUSED, EDITLENS_STATE_REFUSED or EDITLENS_NO_SESSION. */
+struct editlens_answer editlens_hub_status(void *at);
+
+/* Gives a hub a line of its journal, without its line feed: {"at":"hub","edit":WORD} or {"at":V,"edit":WORD}. The text is then the answer line,
+   with a line feed. */
+struct editlens_answer editlens_hub_step(void *at, const uint8_t *line, size_t line_len);
+
+/* Makes a part of the state the text. `view` is the number of the view, from 0, for the two parts of a view, and any number for the others. */
+struct editlens_answer editlens_hub_show(void *at, uint32_t part, uint64_t view);
+
+/* Writes the text that answers the last call to the head of `out`, as editlens_session_text does. */
+struct editlens_answer editlens_hub_text(void *at, uint8_t *out, size_t out_len);
+
+/* Ends a hub, and gives back all that it holds but the memory at `at`, which is the caller's. */
+void editlens_hub_close(void *at);
+
 #ifdef __cplusplus
 }
 #endif

@@ -53,10 +53,10 @@ class NoLibrary(Exception):
 
 class Unopened(Exception):
     """There is no session: the program is refused (`line` says why), or the state is (`cause`), or the records are (`cause`, and `at` is the
-    number of the record), or none of these, where memory ran out."""
+    number of the record), or none of these, where memory ran out. Or there is no hub, and `faults` has what is said of each of its causes."""
 
-    def __init__(self, answer, line):
-        faults = {**STATE_FAULTS, **{cause: text.format(answer.at) for cause, text in RECORD_FAULTS.items()}}
+    def __init__(self, answer, line, faults=None):
+        faults = faults or {**STATE_FAULTS, **{cause: text.format(answer.at) for cause, text in RECORD_FAULTS.items()}}
         super().__init__(line.decode().rstrip("\n") or faults.get(answer.cause, "memory ran out"))
         self.status, self.cause, self.at, self.line = answer.status, answer.cause, answer.at, line
 

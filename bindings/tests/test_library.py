@@ -77,10 +77,12 @@ class OverBytes(unittest.TestCase):
             kept.step(b"{}")
 
     def test_a_program_that_is_refused_has_its_numbers(self):
-        with self.assertRaises(library.Unopened) as caught:
-            library.Kept(b"main {")
-        self.assertEqual((caught.exception.status, caught.exception.cause, caught.exception.at), (library.PROGRAM_REFUSED, 22, 6))
-        self.assertEqual(caught.exception.line, b"program refused: not-a-program 6\n")
+        # (the program is looked at before the texts)
+        for given in ({}, {"left": b"{}"}, {"right": b"{}"}, {"state": (b"{}", b"7", b"")}):
+            with self.assertRaises(library.Unopened) as caught:
+                library.Kept(b"main {", **given)
+            self.assertEqual((caught.exception.status, caught.exception.cause, caught.exception.at), (library.PROGRAM_REFUSED, 22, 6))
+            self.assertEqual(caught.exception.line, b"program refused: not-a-program 6\n")
 
     def test_a_state_is_resumed_if_it_is_consistent(self):
         with library.Kept(SMALL.encode()) as kept:

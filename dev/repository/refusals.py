@@ -5,10 +5,12 @@ A line of dev/refusals.table that begins at the margin names a call, as `gate_lo
     NAMES | CLAUSES | TESTS | WHEN
 
 Names are separated by spaces; `StoreRefused/log-full` is one reason of a refusal. `never` before the names says that the contract rules
-them out; this may be `NoMemory`, too. A test is a path below crates/, and behind a colon what has to be there: words of one line of the
-file, joined by ` & `. `-` says that there is none. `cannot: WHY` in place of tests says why nothing can show the refusal. WHEN may be left
-out where the docstring of the call has a line for the refusal. A line `answers CALL | WHY` names a call whose `Option` or status is no
-refusal.
+them out; this may be `NoMemory`, too. A test is a path below crates/, or one that begins with bindings/, and behind a colon what has to be
+there: words of one line of the file, joined by ` & `. `-` says that there is none. `cannot: WHY` in place of tests says why nothing can show
+the refusal. WHEN may be left out where the docstring of the call has a line for the refusal. A line `answers CALL | WHY` names a call whose
+`Option` or status is no refusal.
+
+A call that makes a value of its own type, which is `Open` or says why it is not, has each other variant as a refusal.
 """
 
 import os
@@ -21,6 +23,7 @@ from .contracts import enums, libraries, public_calls
 
 TABLE = os.path.join(TOP, "dev", "refusals.table")
 MEMORY = ("NoMemory", "OutOfMemory")
+OPEN = "Open"
 CANNOT = "cannot: "
 
 @dataclass
@@ -90,6 +93,9 @@ class Refusals:
             return found + [it for it in names if it not in MEMORY], any(it in MEMORY for it in names)
         if call.result.startswith("Option<"):
             return ["None"], False
+        if call.result == call.owner and OPEN in self.variants(call, call.result):
+            names = self.variants(call, call.result)
+            return [it for it in names if it not in (OPEN, *MEMORY)], any(it in MEMORY for it in names)
         if call.result.endswith("Status") and not call.owner.endswith("Status"):
             names = self.variants(call, call.result)
             return [it for it in names if it not in ("Done", *MEMORY)], any(it in MEMORY for it in names)
@@ -118,6 +124,8 @@ def first_sentence(text):
 
 def below_top(path):
     """The place of a test from the top of the repository. An edit may be in plants/ in place of its crate."""
+    if path.startswith("bindings/"):
+        return path
     planted = os.path.join("plants", path.replace("/must-fail/", "/"))
     return planted if "/must-fail/" in path and os.path.isfile(os.path.join(TOP, planted)) else f"crates/{path}"
 
@@ -127,11 +135,11 @@ def lacking(test):
     path, _, words = test.partition(":")
     place = os.path.join(TOP, below_top(path))
     if not os.path.isfile(place):
-        return f"there is no file crates/{path}"
+        return f"there is no file {below_top(path)}"
     wanted = [it.strip() for it in words.split(" & ") if it.strip()]
     with open(place, encoding="utf-8", errors="replace") as file:
         if wanted and not any(all(word in line for word in wanted) for line in file):
-            return f"crates/{path} has no line with {words}"
+            return f"{below_top(path)} has no line with {words}"
     return None
 
 

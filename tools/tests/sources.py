@@ -17,7 +17,7 @@ from repository.edits import by_crate, page_with_table, table_of  # noqa: E402
 from repository.lemmas import renamed  # noqa: E402
 from repository.map import above_its_group, page_with_map, picture, tables  # noqa: E402
 from repository.map import faults_of as faults_of_map  # noqa: E402
-from repository.refusals import Line, faults_of, lacking, read_table, report, rows_of, said, unshown  # noqa: E402
+from repository.refusals import Line, Refusals, faults_of, lacking, read_table, report, rows_of, said, unshown  # noqa: E402
 
 NEEDS_PROGRAM = False
 CRATES = """# Base: one crate.
@@ -131,6 +131,14 @@ def test_what_is_wrong_is_named():
     assert "no file" in lacking("low/src/missing.rt")
     assert "no line" in lacking("gate_log/src/log.rt:create_log & no such words")
     assert lacking("gate_log/src/log.rt:fn create_log") is None
+    assert lacking("bindings/header:def differences") is None
+    assert lacking("bindings/header:no such words") == "bindings/header has no line with no such words"
+
+
+def test_a_call_that_opens_its_own_type_refuses_by_each_other_variant():
+    refusals, calls = Refusals(), {it.path: it for crate in ("kept_hubs", "texts") for it in public_calls(crate)}
+    assert refusals.of(calls["KeptHub::resume"]) == (["Refused", "StateRefused"], True)
+    assert refusals.of(calls["Side::other"]) == ([], False)
 
 
 def test_why_nothing_can_show_a_refusal():

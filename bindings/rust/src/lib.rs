@@ -23,7 +23,10 @@ use std::alloc::{alloc, dealloc, handle_alloc_error, Layout};
 use std::fmt;
 use std::ptr::{null_mut, NonNull};
 
+mod hub;
 mod raw;
+
+pub use hub::{Hub, HubStateFault};
 
 /// Why a change does not apply, or why a line is not a change. docs/EDITS.md and docs/FORMATS.md say when each comes.
 #[derive(Clone, Copy, Debug, PartialEq, Eq, Hash)]
@@ -42,6 +45,8 @@ pub enum Cause {
     NotJson,
     NotAnEntry,
     NotAnEdit,
+    /// The line of a hub's journal names a view that does not exist.
+    NoView,
 }
 
 /// Which text of a state is refused, or that the three are not consistent.
@@ -103,8 +108,12 @@ impl Answer {
 pub enum Error {
     /// The program is refused, with this line. `cause` is a number of `editlens.h`, and `at` the offset that the line names, or 0.
     ProgramRefused { line: String, cause: u32, at: u64 },
+    /// The programs of a hub are refused, with this line. `view` is the number of the view that the line names, or 0.
+    ProgramsRefused { line: String, cause: u32, view: u64, at: u64 },
     /// The texts of the state are refused.
     StateRefused(StateFault),
+    /// The texts of the state of a hub are refused.
+    HubStateRefused(HubStateFault),
     /// The records of the log are refused.
     RecordsRefused(RecordFault),
     /// The last line was not a change that was accepted. Nothing changed.
@@ -120,11 +129,12 @@ pub enum Error {
 impl fmt::Display for Error {
     fn fmt(&self, out: &mut fmt::Formatter<'_>) -> fmt::Result {
         match self {
-            Error::ProgramRefused { line, .. } => out.write_str(line.trim_end()),
+            Error::ProgramRefused { line, .. } | Error::ProgramsRefused { line, .. } => out.write_str(line.trim_end()),
             Error::StateRefused(StateFault::NotLeft) => out.write_str("the left text is not the JSON of a left document"),
             Error::StateRefused(StateFault::NotComplement) => out.write_str("the text of the complement is not the JSON of one"),
             Error::StateRefused(StateFault::NotRight) => out.write_str("the right text is not the JSON of a right document"),
             Error::StateRefused(StateFault::NotConsistent) => out.write_str("the documents and the complement are not consistent"),
+            Error::HubStateRefused(fault) => fault.fmt(out),
             Error::RecordsRefused(RecordFault::BadRecord(number)) => write!(out, "record {number} is not one that may stand there"),
             Error::RecordsRefused(RecordFault::NotConsistent(number)) => write!(out, "record {number} is a snapshot that is not consistent"),
             Error::NoChange => out.write_str("the last line was not a change that was accepted"),
@@ -337,6 +347,7 @@ fn item_cause(number: u32) -> Cause {
         raw::LINE_TOO_LONG => Cause::LineTooLong,
         raw::NOT_JSON => Cause::NotJson,
         raw::NOT_AN_ENTRY => Cause::NotAnEntry,
+        raw::NO_VIEW => Cause::NoView,
         _ => Cause::NotAnEdit,
     }
 }

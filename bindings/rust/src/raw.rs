@@ -51,6 +51,15 @@ pub const NOT_RIGHT: u32 = 43;
 
 pub const BAD_RECORD: u32 = 51;
 
+pub const HUB_STATE: u32 = 0;
+pub const HUB_DOCUMENT: u32 = 1;
+pub const VIEW_DOCUMENT: u32 = 2;
+pub const VIEW_COMPLEMENT: u32 = 3;
+pub const NO_VIEW: u32 = 61;
+pub const OTHER_COUNT: u32 = 64;
+pub const NOT_HUB: u32 = 65;
+pub const NOT_VIEW: u32 = 66;
+
 extern "C" {
     pub fn editlens_session_size() -> usize;
     pub fn editlens_session_open(at: *mut u8, program: *const u8, program_len: usize);
@@ -73,4 +82,13 @@ extern "C" {
     pub fn editlens_session_show(at: *mut u8, part: u32) -> Answer;
     pub fn editlens_session_text(at: *mut u8, out: *mut u8, out_len: usize) -> Answer;
     pub fn editlens_session_close(at: *mut u8);
+
+    pub fn editlens_hub_size() -> usize;
+    pub fn editlens_hub_open(at: *mut u8, programs: *const u8, programs_len: usize);
+    pub fn editlens_hub_resume(at: *mut u8, programs: *const u8, programs_len: usize, state: *const u8, state_len: usize);
+    pub fn editlens_hub_status(at: *mut u8) -> Answer;
+    pub fn editlens_hub_step(at: *mut u8, line: *const u8, line_len: usize) -> Answer;
+    pub fn editlens_hub_show(at: *mut u8, part: u32, view: u64) -> Answer;
+    pub fn editlens_hub_text(at: *mut u8, out: *mut u8, out_len: usize) -> Answer;
+    pub fn editlens_hub_close(at: *mut u8);
 }

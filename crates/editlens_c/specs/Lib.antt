@@ -1,3 +1,5 @@
 pub mod Answers
+pub mod HubAnswers
+pub mod HubKeeping
 pub mod Keeping
 pub mod Reasons

@@ -8,6 +8,9 @@
 
 mod answer;
 mod codes;
+mod hub_answer;
+mod hub_codes;
+mod hubs;
 mod reasons;
 mod sessions;
 

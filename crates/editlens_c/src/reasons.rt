@@ -58,7 +58,7 @@ pub(crate) fn closed_reason(kept: &Kept) -> Reason
 }
 
 // A cause that names no place.
-fn alone(cause: u32) -> Reason
+pub(crate) fn alone(cause: u32) -> Reason
     ensures { result ≡ no_place cause }
 {
     Reason {
@@ -68,7 +68,7 @@ fn alone(cause: u32) -> Reason
     }
 }
 
-fn item_cause(cause: Cause) -> u32
+pub(crate) fn item_cause(cause: Cause) -> u32
     ensures { result ≡ item_cause cause }
 {
     match cause {
@@ -84,7 +84,7 @@ fn item_cause(cause: Cause) -> u32
     }
 }
 
-fn line_cause(fault: EntryFault) -> u32
+pub(crate) fn line_cause(fault: EntryFault) -> u32
     ensures { result ≡ line_cause fault }
 {
     match fault {
@@ -96,7 +96,7 @@ fn line_cause(fault: EntryFault) -> u32
     }
 }
 
-fn program_cause(refused: &Refused) -> u32
+pub(crate) fn program_cause(refused: &Refused) -> u32
     ensures { result ≡ program_cause refused.now }
 {
     match refused {
@@ -134,7 +134,7 @@ fn typing_cause(fault: &TypeFault) -> u32
 }
 
 // The offset in the program that a refusal names, or 0.
-fn program_offset(refused: &Refused) -> u64
+pub(crate) fn program_offset(refused: &Refused) -> u64
     ensures { result ≡ program_offset refused.now }
 {
     match refused {

@@ -23,4 +23,6 @@ mod running;
 
 pub use kept::Kept;
 pub use outcome::{Outcome, Part, StateFault};
+pub use records::cut;
+pub use resuming::{complement_of_text, document_of_text};
 pub use running::{Accepted, Running};

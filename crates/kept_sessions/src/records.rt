@@ -6,8 +6,10 @@ ghost use Rattle.kept_sessions.specs.Cutting.{onto};
 use std::alloc::{AllocError, Global};
 use texts::Bytes;
 
-// The texts of some bytes that are cut at each LF. What is behind the last LF is a text too, if it is not empty.
-pub(crate) fn cut(alloc: Global, bytes: &[u8]) -> Result<Vec<Bytes>, AllocError>
+/// The texts of some bytes that are cut at each LF. What is behind the last LF is a text too, if it is not empty.
+///
+/// The only error is running out of memory.
+pub fn cut(alloc: Global, bytes: &[u8]) -> Result<Vec<Bytes>, AllocError>
     ensures { IfOk result (λ texts. texts.items ≡ texts_of bytes.now) }
 {
     let mut texts = Vec::new(alloc);

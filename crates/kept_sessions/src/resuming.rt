@@ -127,12 +127,10 @@ fn read_triple(
     Ok(Triple { left, comp, right })
 }
 
-// The document of a type that a text is the JSON of. None if and only if there is none.
-pub(crate) fn document_of_text(
-    alloc: Global,
-    ty: &Ty,
-    text: &[u8],
-) -> Result<Option<Doc>, AllocError>
+/// The document of a type that a text is the JSON of. None if and only if there is none.
+///
+/// The only error is running out of memory.
+pub fn document_of_text(alloc: Global, ty: &Ty, text: &[u8]) -> Result<Option<Doc>, AllocError>
     ensures { IfOk result (λ found. MatchOption found
         (IsNotOfType (ty_tree ty.now) text.now)
         (λ doc. IsDocumentText (ty_tree ty.now) text.now (doc_tree doc))) }
@@ -155,8 +153,14 @@ fn document_of_tree(alloc: Global, ty: &Ty, tree: &Value) -> Result<Option<Doc>,
     }
 }
 
-// The complement of a lens that a text is the JSON of. None if and only if there is none.
-fn complement_of_text(alloc: Global, typed: &Typed, text: &[u8]) -> Result<Option<Comp>, AllocError>
+/// The complement of a lens that a text is the JSON of. None if and only if there is none.
+///
+/// The only error is running out of memory.
+pub fn complement_of_text(
+    alloc: Global,
+    typed: &Typed,
+    text: &[u8],
+) -> Result<Option<Comp>, AllocError>
     ensures { IfOk result (λ found. MatchOption found
         (IsNotOfForm (form_tree typed.now) text.now)
         (λ comp. IsComplementText (form_tree typed.now) text.now (comp_tree comp))) }

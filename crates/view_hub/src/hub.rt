@@ -98,6 +98,25 @@ impl<L: EditLens> Hub<L> {
         Ok(carried)
     }
 
+    /// Puts a document and views in the place of the hub's own. Each view is in its lens's relation with the document.
+    ///
+    /// The lenses stay. It does not allocate.
+    pub fn replace(&mut self, parts: HubParts)
+        requires in_step { IsHub L.EditLens self.old.lenses (hub_tree parts) }
+        ensures lenses { self.new.lenses ≡ self.old.lenses }
+        ensures parts { self.new.parts ≡ parts }
+    {
+        self.parts = parts;
+    }
+
+    /// The hub's document and the views. Each view is in its lens's relation with the document.
+    pub fn parts(&self) -> &HubParts
+        ensures parts { result.now ≡ self.now.parts }
+        ensures in_step { IsHub L.EditLens self.now.lenses (hub_tree self.now.parts) }
+    {
+        &self.parts
+    }
+
     /// The hub's document. It is in each view's relation with the view's complement and document.
     pub fn hub(&self) -> &Doc
         ensures hub { result.now ≡ self.now.parts.hub.value }
