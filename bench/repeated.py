@@ -19,7 +19,7 @@ def write_file(path, lens, values):
 
 
 def run(program, task, path, times):
-    """What came out of a task that was done so many times, the seconds of processor time, and the most MB that the run held."""
+    """What came out of a task that was done so many times, the seconds of processor time, and the most MB held."""
     child = subprocess.Popen([program, task, path, str(times)], stdout=subprocess.PIPE, text=True)
     line = child.stdout.read().strip()
     _, status, used = os.wait4(child.pid, 0)
@@ -39,5 +39,8 @@ def shortest(program, task, path, times, wanted):
 
 
 def once(program, task, path, times, wanted=None):
-    """Seconds of one time: those of a run with so many times more, without those of a run with one. So reading the file is not counted."""
+    """Seconds of one time: those of a run with so many times more, without those of a run with one.
+
+    So reading the file is not counted.
+    """
     return (shortest(program, task, path, times + 1, wanted) - shortest(program, task, path, 1, wanted)) / times
