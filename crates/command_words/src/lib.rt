@@ -11,5 +11,5 @@ mod numbers;
 mod orders;
 mod reader;
 
-pub use crate::orders::{Order, WordsFault};
+pub use crate::orders::{Order, WordsFault, read_count};
 pub use crate::reader::{only_reads, read_words};

@@ -11,6 +11,7 @@ pub mod HubLines
 pub mod HubStarts
 pub mod MappedLenses
 pub mod PieceLines
+pub mod PiecesRead
 pub mod RunsInStep
 pub mod StateLines
 pub mod WordLists

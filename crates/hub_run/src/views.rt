@@ -116,8 +116,8 @@ pub fn view_lens(alloc: Global, before: &[Typed], piece: &ProgramText) -> Result
     }
 }
 
-// Why the view with this number is refused, whose program is.
-fn refused_view(number: u64, refused: Refused) -> HubRefused
+/// Why the view with this number is refused, whose program is refused for this cause.
+pub fn refused_view(number: u64, refused: Refused) -> HubRefused
     requires has_line { IsKnown refused }
     ensures refused { (ty : Option TyTree) (outcome : Result FormTree Refusal) → IsRefusal outcome refused
         → IsRefused (view_with ty number outcome) result }

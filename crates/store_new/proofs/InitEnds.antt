@@ -24,7 +24,7 @@ use Rattle.store_new.specs.Init.{program_payload, Begins, Starts, init_command}
 use Rattle.store_new.specs.Making.{EndsPlan}
 use Rattle.store_new.specs.NewRooms.{PlanHasNoRoom, ScriptHasNoRoom}
 use Rattle.store_new.specs.InitStores.{IsFirstStore}
-use Rattle.store_new.specs.Scripts.{IsAccepted, IsAcceptedPart}
+use Rattle.store_new.specs.Scripts.{IsAccepted, IsAcceptedPart, one_program}
 use Rattle.store_new.specs.NewStores.{HoldsStore, EndsMaking}
 use Rattle.command_ends.specs.declared.status.Status.{Status}
 use Rattle.command_ends.specs.declared.status.Status.TheVariants.{Done, SomeRefused, ProgramRefused, StoreRefused, SourceFault, SinkFault, DiskFault}
@@ -56,10 +56,10 @@ begins bytes program form payloads lines a s = record {
   stand = ap stands s.are ∙ program_stands_first (program_part bytes) program form a s.reads;
 }
 
-pub accepts : (bytes : List ℕ) (payloads : List (List ℕ)) (lines : List ℕ) → Begins bytes payloads lines → IsAcceptedPart bytes
+pub accepts : (bytes : List ℕ) (payloads : List (List ℕ)) (lines : List ℕ) → Begins bytes payloads lines → IsAcceptedPart one_program bytes
 accepts bytes payloads lines b = (b.form, b.accepted.has_lens)
 
-pub refuses : (bytes line : List ℕ) → init_command.refuses bytes line → IsAcceptedPart bytes
+pub refuses : (bytes line : List ℕ) → init_command.refuses bytes line → IsAcceptedPart one_program bytes
 refuses bytes line h = absurd h
 
 -- the script was read, and the disk has no room for its store
@@ -69,7 +69,7 @@ begins_no_room source o s s' program form r h =
     no_room_for_script source init_command o s s' r.bytes (IsFirstStore program form) r.took r.read r.within (λ payloads lines f. begins r.bytes program form payloads lines r.accepted f) h
 
 -- the refusal of a program part never ends with a fault of the source or of the disk
-pub never_device : {K : Type 0} (sink : OfSink.Ghosts K) (k k' : K) (outcome : Result FormTree Refusal) (status : Status) → RefusesWith sink k k' outcome status
+pub never_device : {K : Type 0} (sink : OfSink.Ghosts K) (k k' : K) (outcome : Result FormTree Refusal) (status : Status) → RefusesWith one_program sink k k' outcome status
     → (status ≡ SourceFault) ⊎ (status ≡ DiskFault) → ⊥
 never_device sink k k' outcome status (inl (line, is, inl (same, given))) (inl e) = cc
 never_device sink k k' outcome status (inl (line, is, inl (same, given))) (inr e) = cc
@@ -111,7 +111,7 @@ module _ {S K D : Type 0} (source : OfSource.Ghosts S) (sink : OfSink.Ghosts K) 
     by_line : (status ≡ StoreRefused) ⊎ (status ≡ SinkFault) → ⊥
     by_line (inl x) = cc
     by_line (inr x) = cc
-  no_document (inr (inl e)) is = subst (StopsAfter e.bytes) is e.stops
+  no_document (inr (inl e)) is = subst (StopsAfter one_program e.bytes) is e.stops
   no_document (inr (inr (inl e))) is = by_line (given_with sink k k' e.line ProgramRefused status e.given) where
     by_line : (status ≡ ProgramRefused) ⊎ (status ≡ SinkFault) → ⊥
     by_line (inl x) = cc

@@ -23,6 +23,7 @@ ghost use Rattle.store_new.specs.NewEnds.{Completes, Ends, KeepsStore, RefusesAt
 ghost use Rattle.store_new.specs.Found.{document_of_found};
 ghost use Rattle.store_new.specs.ImportReading.{ReadsImport};
 ghost use Rattle.store_new.specs.ScriptReading.{IsUnread};
+ghost use Rattle.store_new.specs.Scripts.{one_program};
 ghost use Rattle.store_new.specs.Import.{Imports, RefusesImport, import_command};
 ghost use Rattle.store_new.specs.Making.{EndsPlan};
 ghost use Rattle.store_new.specs.NewRooms.{PlanHasNoRoom, ScriptHasNoRoom};
@@ -108,7 +109,7 @@ pub fn import<S: Source, K: Sink, D: Disk>(
         → RefusesImport S.Source K.Sink D.Disk (source.old, sink.old, disk.old) (source.new, sink.new, disk.new) }
     ensures ends { Ends S.Source K.Sink D.Disk import_command
         (source.old, sink.old, disk.old) (source.new, sink.new, disk.new) result }
-    ensures at_once { RefusesAtOnce S.Source source.old source.new result }
+    ensures at_once { RefusesAtOnce one_program S.Source source.old source.new result }
     ensures exists { KeepsStore S.Source K.Sink D.Disk
         (source.old, sink.old, disk.old) (source.new, sink.new, disk.new) result }
     ensures statuses { IsAmong import_statuses result }

@@ -34,8 +34,8 @@ pub enum Unread {
     Stopped(TakeFault),
 }
 
-// The status of a command whose script was not read to its end, for this fault.
-pub(crate) fn status_at(fault: TakeFault) -> Status
+/// The status of a command whose script was not read to its end, for this fault.
+pub fn status_at(fault: TakeFault) -> Status
     ensures { result ≡ status_at fault }
 {
     match fault {

@@ -8,26 +8,56 @@ ghost use Rattle.doc_values.specs.Typing.{has};
 ghost use Rattle.edit_module.specs.Action.{act};
 ghost use Rattle.edit_module.specs.Refusals.{IsRefusal};
 ghost use Rattle.edit_module.specs.Views.{word_tree};
+ghost use Rattle.view_hub.specs.Views.{hub_tree, view_tree};
 
 use doc_values::{Doc, Ty, init};
 use edit_module::{ActFault, Word, act};
 use lens_core::Comp;
 use std::alloc::{AllocError, Global};
 use std::rc::Rc;
+use texts::Twin;
 
-// A view: its complement and its document. A document is shared, so that a step which leaves it as it is copies no
-// document.
+/// A view: its complement and its document. A document is shared, so that a step which leaves it as it is copies no
+/// document.
 #[derive(Drop)]
-pub(crate) struct View {
-    pub(crate) comp: Comp,
-    pub(crate) doc: Rc<Doc>,
+pub struct View {
+    /// The complement of the view's lens.
+    pub comp: Comp,
+    /// The document of the view.
+    pub doc: Rc<Doc>,
 }
 
-// The document of the hub, and the views.
+/// The document of the hub, and the views.
 #[derive(Drop)]
-pub(crate) struct HubParts {
-    pub(crate) hub: Rc<Doc>,
-    pub(crate) views: Vec<View>,
+pub struct HubParts {
+    /// The document of the hub.
+    pub hub: Rc<Doc>,
+    /// The views, in the order of their lenses.
+    pub views: Vec<View>,
+}
+
+// A copy of the parts, which shares their contents.
+pub(crate) fn copy_parts(alloc: Global, parts: &HubParts) -> Result<HubParts, AllocError>
+    ensures { IfOk result (λ copy. hub_tree copy ≡ hub_tree parts.now) }
+{
+    let mut views = Vec::with_capacity(alloc, parts.views.len())?;
+    for view in &parts.views {
+        views.push(copy_view(alloc, view)?)?;
+    }
+    Ok(HubParts {
+        hub: parts.hub.clone()?,
+        views,
+    })
+}
+
+fn copy_view(alloc: Global, view: &View) -> Result<View, AllocError>
+    ensures { IfOk result (λ copy. view_tree copy ≡ view_tree view.now) }
+{
+    let comp = view.comp.twin(alloc)?;
+    Ok(View {
+        comp,
+        doc: view.doc.clone()?,
+    })
 }
 
 // The initial document of a type.

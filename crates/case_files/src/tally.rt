@@ -1,8 +1,9 @@
 //! All cases of a file, and how many of them differ.
 
+use crate::commands::Commands;
 use crate::compare::{Outcome, run_cut, run_step, write_difference};
+use crate::step::{Step, read_step};
 use anyhow::{Result, bail};
-use case_files::{Step, read_step};
 use std::alloc::{AllocError, Global};
 
 // How many differing steps of a file are shown.
@@ -75,13 +76,13 @@ impl Tally {
     }
 
     // Runs a step of the last case.
-    fn take_step(&mut self, alloc: Global, step: &Step) -> Result<()> {
-        self.take_outcome(alloc, step, &run_step(alloc, step)?)?;
+    fn take_step<C: Commands>(&mut self, alloc: Global, step: &Step) -> Result<()> {
+        self.take_outcome(alloc, step, &run_step::<C>(alloc, step)?)?;
         if step.head.says_source() {
             return Ok(());
         }
         for &piece in &CUTS {
-            self.take_outcome(alloc, step, &run_cut(alloc, step, piece)?)?;
+            self.take_outcome(alloc, step, &run_cut::<C>(alloc, step, piece)?)?;
         }
         Ok(())
     }
@@ -105,7 +106,7 @@ impl Tally {
 }
 
 /// Runs all cases of a file. A case begins with each step whose number is 0.
-pub fn run_file(alloc: Global, bytes: &[u8]) -> Result<Tally> {
+pub fn run_file<C: Commands>(alloc: Global, bytes: &[u8]) -> Result<Tally> {
     let mut tally = Tally::new(alloc);
     let mut place = 0;
     for _ in 0..bytes.len() {
@@ -114,7 +115,7 @@ pub fn run_file(alloc: Global, bytes: &[u8]) -> Result<Tally> {
         }
         let (step, length) = read_step(alloc, &bytes[place..])?;
         tally.count_step(step.head.step)?;
-        tally.take_step(alloc, &step)?;
+        tally.take_step::<C>(alloc, &step)?;
         place = place.saturating_add(length);
     }
     Ok(tally)

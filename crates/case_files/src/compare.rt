@@ -2,9 +2,9 @@
 
 ghost use Rattle.std.specs.Prelude.{◌≡◌, ◌↔◌, ◌<◌, All, IsTrue};
 
+use crate::commands::Commands;
+use crate::step::Step;
 use anyhow::{Result, bail};
-use case_files::Step;
-use editlens_main::editlens;
 use lens_io::{Bytes, MemDisk, MemSink, MemSource};
 use std::alloc::{AllocError, Global};
 
@@ -26,17 +26,17 @@ impl Outcome {
 }
 
 /// Runs the command of a step, with its input in the pieces that the step says.
-pub fn run_step(alloc: Global, step: &Step) -> Result<Outcome> {
-    run_in_pieces(alloc, step, step.head.pieces.clone()?)
+pub fn run_step<C: Commands>(alloc: Global, step: &Step) -> Result<Outcome> {
+    run_in_pieces::<C>(alloc, step, step.head.pieces.clone()?)
 }
 
 /// Runs the command of a step with its input in pieces of one length.
-pub fn run_cut(alloc: Global, step: &Step, piece: u64) -> Result<Outcome> {
+pub fn run_cut<C: Commands>(alloc: Global, step: &Step, piece: u64) -> Result<Outcome> {
     let pieces = vec![in alloc; piece; step.input.len()]?;
-    run_in_pieces(alloc, step, pieces)
+    run_in_pieces::<C>(alloc, step, pieces)
 }
 
-fn run_in_pieces(alloc: Global, step: &Step, pieces: Vec<u64>) -> Result<Outcome> {
+fn run_in_pieces<C: Commands>(alloc: Global, step: &Step, pieces: Vec<u64>) -> Result<Outcome> {
     if !are_positive(&pieces) {
         bail!("a piece has 0 bytes");
     }
@@ -49,12 +49,12 @@ fn run_in_pieces(alloc: Global, step: &Step, pieces: Vec<u64>) -> Result<Outcome
     );
     let store = Bytes::from_vec(step.store_before.clone()?);
     let mut disk = MemDisk::new(alloc, store, Vec::new(alloc))?;
-    let status = editlens(alloc, &step.head.words, &mut source, &mut sink, &mut disk);
+    let status = C::run(alloc, &step.head.words, &mut source, &mut sink, &mut disk);
     if sink.memory_faults() > 0 || disk.memory_faults() > 0 {
         bail!("the output or the store does not fit in memory");
     }
     Ok(Outcome {
-        status: status.code(),
+        status,
         output: sink.bytes().to_vec(alloc)?,
         store: disk.bytes().to_vec(alloc)?,
     })

@@ -1,0 +1,189 @@
+//! The payloads that the program writes into the store of a hub.
+
+ghost use Rattle.std.specs.Prelude.{◌≡◌, ◌≤◌, true, false, IfOk, OnOk, Some};
+ghost use Rattle.serde_json.specs.Data.{array, depth, string};
+ghost use Rattle.serde_json.specs.Read.{max_depth};
+ghost use Rattle.serde_json.specs.View.{view};
+ghost use Rattle.serde_json.specs.Written.{has_float, compact_text};
+ghost use Rattle.edit_journal.specs.EntryJson.{tree_of_text};
+ghost use Rattle.edit_json.specs.WordJson.{counts_fit};
+ghost use Rattle.edit_module.specs.Views.{word_tree};
+ghost use Rattle.hub_run.specs.EditJson.{place_fits, tree_of_edit, tree_of_place};
+ghost use Rattle.program_terms.specs.Views.{program_tree};
+ghost use Rattle.program_writing.specs.Canonical.{canonical};
+ghost use Rattle.store_records.specs.RecordJson.{one_member};
+ghost use Rattle.view_hub.specs.Views.{edit_trees, place_of};
+ghost use Rattle.hub_records.specs.HubChanges.{all_counts_fit, all_numbers_fit, edit_fits, edits_of, group};
+ghost use Rattle.hub_records.specs.HubChanges.{items_of_edits, tree_of_hub_change};
+ghost use Rattle.hub_records.specs.HubRecords.{items_of_texts, tree_of_added, tree_of_programs};
+ghost use Rattle.hub_records.specs.Views.{canonical_texts, hub_change_tree};
+
+use crate::change::HubChange;
+use crate::parts::FIRST_VERSION;
+use edit_json::write_word;
+use edit_module::Word;
+use lens_syntax::{Program, write_program};
+use serde_json::{Map, Value, put};
+use std::alloc::{AllocError, Global};
+use texts::Bytes;
+use value_json::{write_compact, write_text};
+use view_hub::HubSide;
+
+/// The payload of the first record of a new hub: the canonical text of the program of each view, in order, and the
+/// version 1.
+///
+/// Fails only if memory runs out.
+pub fn programs_payload(alloc: Global, programs: &[Program]) -> Result<Bytes, AllocError>
+    ensures text { IfOk result (λ bytes. bytes
+        ≡ compact_text (tree_of_programs (canonical_texts programs.now))) }
+
+    // A reader of JSON gives its tree back.
+    ensures reads_back { IfOk result (λ bytes. tree_of_text bytes
+        ≡ Some (tree_of_programs (canonical_texts programs.now))) }
+{
+    let tree = programs_record(alloc, programs)?;
+    payload_of(alloc, &tree)
+}
+
+fn programs_record(alloc: Global, programs: &[Program]) -> Result<Value, AllocError>
+    ensures { IfOk result (λ tree. view tree ≡ tree_of_programs (canonical_texts programs.now)) }
+{
+    let texts = write_texts(alloc, programs)?;
+    let mut members = Map::new(alloc);
+    put(&mut members, alloc, "hub", texts)?;
+    put(&mut members, alloc, "version", Value::from(FIRST_VERSION))?;
+    Ok(Value::Object(members))
+}
+
+// The array of the canonical texts of programs.
+fn write_texts(alloc: Global, programs: &[Program]) -> Result<Value, AllocError>
+    ensures { IfOk result (λ tree. view tree
+        ≡ array (items_of_texts (canonical_texts programs.now))) }
+{
+    let mut items = Vec::with_capacity(alloc, programs.len())?;
+    for program in programs {
+        items.push(text_of(alloc, program)?)?;
+    }
+    Ok(Value::Array(items))
+}
+
+// The string of the canonical text of a program.
+fn text_of(alloc: Global, program: &Program) -> Result<Value, AllocError>
+    ensures { IfOk result (λ tree. view tree ≡ string (canonical (program_tree program.now))) }
+{
+    let text = write_program(alloc, program)?;
+    write_text(alloc, text.as_str())
+}
+
+/// The payload of one view more: the canonical text of its program.
+///
+/// Fails only if memory runs out.
+pub fn added_payload(alloc: Global, program: &Program) -> Result<Bytes, AllocError>
+    ensures text { IfOk result (λ bytes. bytes
+        ≡ compact_text (tree_of_added (canonical (program_tree program.now)))) }
+
+    // A reader of JSON gives its tree back.
+    ensures reads_back { IfOk result (λ bytes. tree_of_text bytes
+        ≡ Some (tree_of_added (canonical (program_tree program.now)))) }
+{
+    let tree = record_named(alloc, "add", text_of(alloc, program)?)?;
+    payload_of(alloc, &tree)
+}
+
+// An object with one member.
+pub(crate) fn record_named(alloc: Global, name: &str, content: Value) -> Result<Value, AllocError>
+    ensures { IfOk result (λ tree. view tree ≡ one_member name.now (view content)) }
+{
+    let mut members = Map::new(alloc);
+    put(&mut members, alloc, name, content)?;
+    Ok(Value::Object(members))
+}
+
+// The text of a tree without floats, with no space between its parts.
+pub(crate) fn payload_of(alloc: Global, tree: &Value) -> Result<Bytes, AllocError>
+    requires { has_float (view tree.now) ≡ false }
+    ensures text { IfOk result (λ bytes. bytes ≡ compact_text (view tree.now)) }
+    ensures reads_back { IfOk result (λ bytes. depth (view tree.now) ≤ max_depth
+        → tree_of_text bytes ≡ Some (view tree.now)) }
+{
+    let text = write_compact(alloc, tree)?;
+    Ok(Bytes::from_vec(text.into_bytes()))
+}
+
+/// The payload of a change: the tree of its edit, or of its group, as a line of a journal has it.
+///
+/// Each insertion and each deletion in the change is of 1 to 65,536 items, as in every change that applies. Fails only
+/// if memory runs out.
+pub fn change_payload(alloc: Global, change: &HubChange) -> Result<Bytes, AllocError>
+    requires counts_fit { all_counts_fit (edits_of (hub_change_tree change.now)) ≡ true }
+
+    ensures text { IfOk result (λ bytes. bytes
+        ≡ compact_text (tree_of_hub_change (hub_change_tree change.now))) }
+
+    // A reader of JSON gives its tree back, unless it nests too deep for it; that of a change that applies does not.
+    ensures reads_back { IfOk result (λ bytes.
+        depth (tree_of_hub_change (hub_change_tree change.now)) ≤ max_depth
+        → tree_of_text bytes ≡ Some (tree_of_hub_change (hub_change_tree change.now))) }
+
+    // The program can hold every number in the change.
+    ensures numbers { OnOk result (all_numbers_fit (edits_of (hub_change_tree change.now)) ≡ true) }
+{
+    let tree = write_change(alloc, change)?;
+    payload_of(alloc, &tree)
+}
+
+fn write_change(alloc: Global, change: &HubChange) -> Result<Value, AllocError>
+    requires counts_fit { all_counts_fit (edits_of (hub_change_tree change.now)) ≡ true }
+    ensures tree { IfOk result (λ tree. view tree ≡ tree_of_hub_change (hub_change_tree change.now)) }
+    ensures numbers { OnOk result (all_numbers_fit (edits_of (hub_change_tree change.now)) ≡ true) }
+{
+    match change {
+        HubChange::One((side, word)) => write_edit(alloc, *side, word),
+        HubChange::Group(edits) => write_group(alloc, edits),
+    }
+}
+
+// An object with exactly the member `group`, the array of the edits' trees.
+fn write_group(alloc: Global, edits: &[(HubSide, Word)]) -> Result<Value, AllocError>
+    requires counts_fit { all_counts_fit (edit_trees edits.now) ≡ true }
+    ensures tree { IfOk result (λ tree. view tree ≡ tree_of_hub_change (group (edit_trees edits.now))) }
+    ensures numbers { OnOk result (all_numbers_fit (edit_trees edits.now) ≡ true) }
+{
+    let items = write_edits(alloc, edits)?;
+    record_named(alloc, "group", items)
+}
+
+fn write_edits(alloc: Global, edits: &[(HubSide, Word)]) -> Result<Value, AllocError>
+    requires counts_fit { all_counts_fit (edit_trees edits.now) ≡ true }
+    ensures tree { IfOk result (λ tree. view tree ≡ array (items_of_edits (edit_trees edits.now))) }
+    ensures numbers { OnOk result (all_numbers_fit (edit_trees edits.now) ≡ true) }
+{
+    let mut items = Vec::with_capacity(alloc, edits.len())?;
+    for edit in edits {
+        items.push(write_edit(alloc, edit.0, &edit.1)?)?;
+    }
+    Ok(Value::Array(items))
+}
+
+// An object with exactly the members `at` and `edit`.
+fn write_edit(alloc: Global, side: HubSide, word: &Word) -> Result<Value, AllocError>
+    requires counts_fit { counts_fit (word_tree word.now) ≡ true }
+    ensures tree { IfOk result (λ tree. view tree ≡ tree_of_edit (place_of side, word_tree word.now)) }
+    ensures numbers { OnOk result (edit_fits (place_of side, word_tree word.now) ≡ true) }
+{
+    let edit = write_word(alloc, word)?;
+    let mut members = Map::new(alloc);
+    put(&mut members, alloc, "at", write_place(alloc, side)?)?;
+    put(&mut members, alloc, "edit", edit)?;
+    Ok(Value::Object(members))
+}
+
+fn write_place(alloc: Global, side: HubSide) -> Result<Value, AllocError>
+    ensures tree { IfOk result (λ tree. view tree ≡ tree_of_place (place_of side)) }
+    ensures fits { OnOk result (place_fits (place_of side) ≡ true) }
+{
+    match side {
+        HubSide::Hub => write_text(alloc, "hub"),
+        HubSide::View(number) => Ok(Value::from(number)),
+    }
+}

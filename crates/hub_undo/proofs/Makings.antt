@@ -1,0 +1,92 @@
+-- What is made, from what was opened and from what its parts say.
+use Rattle.std.proofs.Common.{◌≡◌, ℕ, List, ◌++◌, true, Option, Some, None, Result, Ok, Err, sym, ap, ap₂, subst, ◌∙◌}
+use Rattle.std.specs.Prelude.{option_map, option_and_then}
+use Rattle.lens_forms.specs.Forms.{FormTree}
+use Rattle.store_records.specs.declared.record_fault.RecordFault.{RecordFault}
+use Rattle.store_records.specs.declared.record_fault.RecordFault.TheVariants.{BadRecord, NotConsistent, NoMemory}
+use Rattle.store_more.specs.declared.storing.MoreText.{MoreText}
+use Rattle.store_run.specs.declared.refusals.StoreRefusal.{StoreRefusal}
+use Rattle.view_hub.specs.Hubs.{HubTree, CarriedTree}
+use Rattle.view_hub.specs.Laws.{IsHub}
+use Rattle.hub_run.specs.FormLenses.{form_lens}
+use Rattle.hub_run.specs.Runs.{hub_state_lines}
+use Rattle.hub_records.specs.HubChanges.{HubChangeTree}
+use Rattle.hub_records.specs.HubRecords.{tree_of_hub_snapshot}
+use Rattle.hub_records.specs.HubStands.{HubStanding, stands_for}
+use Rattle.hub_records.specs.Outcomes.{IsStandFault}
+use Rattle.hub_records.specs.WholeInts.{hub_holds_i64s}
+use Rattle.hub_records.proofs.StoodInStep.{stood_sound}
+use Rattle.hub_records.proofs.WrittenStands.{hub_stands}
+use Rattle.serde_json.specs.Written.{compact_text}
+use Rattle.edit_journal.specs.EntryJson.{tree_of_text}
+use Rattle.hub_undo.specs.HubUndone.{BringsBack}
+use Rattle.hub_undo.specs.HubUndoing.{HubUndoing, TakesBack, last_changes, payloads_before, refusal_of, snapshot_text, undo_refusal, undo_text, undoing, undoing_from, undoing_of, words_text}
+use Rattle.hub_undo.specs.UndoMaking.{AreTexts, IsMade, IsMakingFault, UndoneBy, fault_of}
+use Rattle.hub_undo.specs.declared.making.MakingFault.{MakingFault}
+use Rattle.hub_undo.proofs.Earlier.{Earlier, earlier}
+
+module _ (count : ℕ) (held : List (List ℕ)) (now : HubStanding) (changes : List HubChangeTree) (stood : stands_for held ≡ Ok now) (last : last_changes count held ≡ Some changes) where
+  abbrev before : Earlier count held now changes
+  before = earlier count held now changes stood last
+
+  -- what the payloads in front stand for, with what undoing the changes comes to
+  pub accepted_of : (was : HubStanding) × (stands_for (payloads_before count held) ≡ Ok was) × ((r : HubTree × CarriedTree) × UndoneBy was.forms was.hub changes r)
+  accepted_of = (before.was, before.stood, (before.made, before.undone_is))
+
+  abbrev pub undoing_now : HubUndoing
+  undoing_now = record { now = now; before = before.was.hub; words = before.made.1 }
+
+  pub is_undoing : undoing count held ≡ Some undoing_now
+  is_undoing =
+      ap (undoing_of count held) stood
+      ∙ ap (option_and_then (λ cs. undoing_from now cs (stands_for (payloads_before count held)))) last
+      ∙ ap (undoing_from now changes) before.stood
+      ∙ ap (option_map {U = HubUndoing} (λ (r : HubTree × CarriedTree). record { now = now; before = before.was.hub; words = r.1 })) before.undone_is
+
+  -- the same texts, in the lenses of what stands now
+  abbrev Texts : List FormTree → List ℕ → List ℕ → Type 0
+  Texts forms payload lines = AreTexts forms before.was.hub before.made payload lines
+
+  in_step_before : IsHub form_lens now.forms before.was.hub
+  in_step_before = subst (λ fs. IsHub form_lens fs before.was.hub) before.forms (stood_sound (payloads_before count held) before.was before.stood).1
+
+  module _ (payload lines : List ℕ) (texts : Texts now.forms payload lines) where
+    taken_back : TakesBack held undoing_now
+    taken_back = record {
+      words = subst (λ (h : HubTree). BringsBack form_lens now.forms before.made.1 h before.was.hub) before.ends texts.back;
+      in_step = in_step_before;
+      stand = hub_stands held (snapshot_text undoing_now) now stood before.was.hub (ap tree_of_text (sym texts.snapshot) ∙ texts.reads) (stood_sound held now stood).0 in_step_before texts.whole;
+    }
+
+  pub made_of : (more : MoreText) → ((was : HubStanding) (r : HubTree × CarriedTree) → stands_for (payloads_before count held) ≡ Ok was → UndoneBy was.forms was.hub changes r
+      → AreTexts was.forms was.hub r more.payload more.lines) → IsMade count held more
+  made_of more made =
+      let texts = subst (λ fs. Texts fs more.payload more.lines) before.forms (made before.was before.made before.stood before.undone_is) in
+      record { u = undoing_now; is = is_undoing; snapshot = texts.snapshot; lines = texts.written; takes_back = taken_back more.payload more.lines texts }
+
+-- ---- payloads that are refused
+
+-- payloads that stand, and whose last records are not so many changes
+pub nothing_to_undo : (count : ℕ) (held : List (List ℕ)) (now : HubStanding) → stands_for held ≡ Ok now → last_changes count held ≡ None → undo_refusal count held ≡ refusal_of (Ok now) None
+nothing_to_undo count held now stood none =
+    ap (λ r. refusal_of r (last_changes count held)) stood ∙ ap (refusal_of (Ok now)) none
+
+pub refused_fault : (count : ℕ) (held : List (List ℕ)) (fault : RecordFault) → IsStandFault (stands_for held) fault → IsMakingFault (undo_refusal count held) (fault_of fault)
+refused_fault count held (BadRecord number) is = ap (λ r. refusal_of r (last_changes count held)) is
+refused_fault count held (NotConsistent number) is = ap (λ r. refusal_of r (last_changes count held)) is
+refused_fault count held NoMemory is = tt
+
+-- ---- the texts of a hub that is as it was
+
+pub texts_same : (forms now_forms : List FormTree) (h now : HubTree) (r : HubTree × CarriedTree) (words : CarriedTree) (payload lines : List ℕ) → now_forms ≡ forms → now ≡ h → words ≡ r.1
+    → BringsBack form_lens forms r.1 r.0 h → payload ≡ compact_text (tree_of_hub_snapshot now_forms now) → tree_of_text payload ≡ Some (tree_of_hub_snapshot now_forms now)
+    → hub_holds_i64s now ≡ true → lines ≡ words_text words ++ hub_state_lines now_forms now → AreTexts forms h r payload lines
+texts_same forms now_forms h now r words payload lines same_forms same_hub same_words back text reads whole written =
+    let tree : tree_of_hub_snapshot now_forms now ≡ tree_of_hub_snapshot forms h = ap₂ tree_of_hub_snapshot same_forms same_hub in
+    record {
+      snapshot = text ∙ ap compact_text tree;
+      reads = reads ∙ ap Some tree;
+      written = written ∙ ap₂ (λ (c : CarriedTree) (state : List ℕ). words_text c ++ state) same_words (ap₂ hub_state_lines same_forms same_hub);
+      back = back;
+      whole = subst (λ (x : HubTree). hub_holds_i64s x ≡ true) same_hub whole;
+    }

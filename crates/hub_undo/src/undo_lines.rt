@@ -1,0 +1,68 @@
+//! The lines of `undo`.
+
+ghost use Rattle.std.specs.Prelude.{◌≡◌, ◌++◌, IfOk, codes, decimal};
+ghost use Rattle.answer_text.specs.Lines.{tree_line};
+ghost use Rattle.serde_json.specs.Written.{compact_text};
+ghost use Rattle.edit_json.specs.WordJson.{tree_of_word};
+ghost use Rattle.edit_module.specs.Views.{word_tree, word_trees};
+ghost use Rattle.view_hub.specs.Views.{carried_tree, hub_tree};
+ghost use Rattle.hub_run.specs.RunStates.{forms_of_lenses, state_of};
+ghost use Rattle.hub_run.specs.Runs.{state_text};
+ghost use Rattle.hub_undo.specs.HubUndoing.{view_undo_lines, words_text};
+
+use edit_json::append_word;
+use edit_module::Word;
+use hub_session::stored_state_lines;
+use lens_flat::Flat;
+use std::alloc::{AllocError, Global};
+use texts::Bytes;
+use view_hub::{Hub, HubCarried};
+
+// The lines `undo hub WORD` and, for each view, `undo view V WORD`, and the state lines of the hub.
+pub(crate) fn undo_lines(
+    alloc: Global,
+    hub: &Hub<Flat>,
+    words: &HubCarried,
+) -> Result<Bytes, AllocError>
+    ensures { IfOk result (λ lines. lines
+        ≡ words_text (carried_tree words.now) ++ state_text (state_of hub.now)) }
+{
+    let first = with_word(Vec::new(alloc), b"undo hub ", &words.hub)?;
+    let mut text = with_views(alloc, first, words.views.as_slice())?;
+    let state = stored_state_lines(alloc, hub)?;
+    text.extend_from_slice(state.as_slice())?;
+    Ok(Bytes::from_vec(text))
+}
+
+// These bytes, and behind them the line of each view.
+fn with_views(alloc: Global, bytes: Vec<u8>, words: &[Word]) -> Result<Vec<u8>, AllocError>
+    ensures { IfOk result (λ all. all.items ≡ bytes.items ++ view_undo_lines 0 (word_trees words.now)) }
+{
+    let mut all = bytes;
+    for number in 0..words.len() {
+        let longer = with_view(alloc, all, number as u64, &words[number])?;
+        all = longer;
+    }
+    Ok(all)
+}
+
+// These bytes, and behind them `undo view V WORD`.
+fn with_view(alloc: Global, bytes: Vec<u8>, number: u64, word: &Word) -> Result<Vec<u8>, AllocError>
+    ensures { IfOk result (λ all. all.items ≡ bytes.items
+        ++ tree_line (codes "undo view " ++ decimal number) (tree_of_word (word_tree word.now))) }
+{
+    let label = format!(in alloc; "undo view {number} ")?;
+    with_word(bytes, label.as_bytes(), word)
+}
+
+// These bytes, and behind them a label, the compact text of a word and a line feed.
+fn with_word(bytes: Vec<u8>, label: &[u8], word: &Word) -> Result<Vec<u8>, AllocError>
+    ensures { IfOk result (λ all. all.items
+        ≡ bytes.items ++ (label.now ++ (compact_text (tree_of_word (word_tree word.now)) ++ codes "\n"))) }
+{
+    let mut bytes = bytes;
+    bytes.extend_from_slice(label)?;
+    let mut bytes = append_word(bytes, word)?;
+    bytes.extend_from_slice(b"\n")?;
+    Ok(bytes)
+}

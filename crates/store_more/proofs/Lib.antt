@@ -1,0 +1,2 @@
+pub mod MoreCalls
+pub mod MoreCauses

@@ -1,0 +1,2 @@
+pub mod MoreCall
+pub mod MoreCauses
