@@ -187,11 +187,16 @@ def by_chance():
 
 def words():
     """Words that name no command, and stores that are none."""
-    for some in ([], ["frob"], ["run"], ["undo"], ["undo", "0"], ["undo", "01"], ["undo", "10001"], ["show", "x"]):
+    for some in ([], ["frob"], ["run"], ["undo"], ["undo", "0"], ["undo", "+1"], ["undo", "10001"], ["show", "x"]):
         yield step(some, 2, "main {}", USAGE)
-    for some in (["apply"], ["show"], ["verify"], ["pack"], ["undo", "1"], ["add"]):
+    for some in (["apply"], ["show"], ["verify"], ["pack"], ["undo", "1"], ["undo", "001"], ["add"]):
         yield step(some, 4, "", "store refused: not-a-log\n")
         yield step(some, 4, "", "store refused: bad-record 1\n", log(program("main {a ~ b: id int}"), entry("left", "[]")))
+    yield from refused_scripts()
+
+
+def refused_scripts():
+    """Scripts that make no store."""
     yield step(["init"], 3, "main id int\n+++\nmain id text\n", "program refused: views-differ 1\n")
     yield step(["init"], 3, "main id int\n+++\nmain idd text\n", "program refused: view 1 not-a-program 9\n")
     yield step(["init"], 3, "", "program refused: view 0 not-a-program 0\n")
@@ -269,6 +274,7 @@ def forged():
 
 
 def files():
-    """The file of cases."""
+    """The file of cases, and that of the steps in which every call of a device fails."""
     parts = (two_views, most_views, by_chance, words, failing, forged)
     yield "case_hubs/data/kept_hubs.cases", b"".join(row for part in parts for row in part())
+    yield "case_hub_faults/data/hub_faults.cases", b"".join(row for part in (two_views, refused_scripts) for row in part())

@@ -26,7 +26,7 @@ pub use crate::head::{HubHead, read_hub_head};
 pub use crate::journal::take_hub_item;
 pub use crate::line::{read_edit_tree, read_hub_edit, side_and_edit};
 pub use crate::pieces::{MOST_VIEWS, Pieces};
-pub use crate::run::HubRun;
+pub use crate::run::{HubRun, first_hub};
 pub use crate::script::run_hub;
 pub use crate::state::{hub_line, hub_state_lines, lines_of_view};
 pub use crate::views::{HubRefused, refusal_line, refused_view, view_lens};

@@ -158,9 +158,11 @@ fn not_opened(alloc: Global, refused: &HubRefused) -> NotOpened
     }
 }
 
-// A hub of these lenses at its start.
+/// A hub of these lenses at its start. There is a lens, and all lenses have the same left type.
+///
+/// The only error is running out of memory.
 #[tactic(auto, using(crate::proofs::HubStarts::one_left_of_lenses))]
-fn first_hub(alloc: Global, typed: &[Typed]) -> Result<Hub<Flat>, AllocError>
+pub fn first_hub(alloc: Global, typed: &[Typed]) -> Result<Hub<Flat>, AllocError>
     requires one_left { HaveOneLeftType form_lens (map form_tree typed.now) }
     ensures forms { IfOk result (λ h. map form_tree typed.now ≡ forms_of_lenses h.lenses) }
     ensures first { IfOk result (λ h. hub_tree h.parts ≡ hub_of (map form_tree typed.now)) }

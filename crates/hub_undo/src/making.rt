@@ -20,7 +20,7 @@ use store_more::MoreText;
 use store_records::RecordFault;
 use store_run::StoreRefusal;
 use texts::Bytes;
-use view_hub::{Hub, HubCarried};
+use view_hub::{Hub, HubCarried, copy_parts};
 
 // Why nothing is made.
 #[derive(Clone, Copy)]
@@ -171,7 +171,7 @@ fn words_of(
     ensures lenses { hub.new.lenses ≡ hub.old.lenses }
     ensures parts { IfOk result (λ _. hub_tree hub.new.parts ≡ hub_tree hub.old.parts) }
 {
-    let earlier = hub.copy_parts(alloc)?;
+    let earlier = copy_parts(alloc, hub.parts())?;
     let Some(words) = undo_changes(alloc, hub, changes)? else {
         unreachable!()
     };

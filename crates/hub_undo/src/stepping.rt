@@ -27,7 +27,7 @@ use lens_core::EditLens;
 use std::alloc::{AllocError, Global};
 use std::rc::Rc;
 use texts::Side;
-use view_hub::{Hub, HubCarried, HubFault, HubParts, HubSide, View};
+use view_hub::{Hub, HubCarried, HubFault, HubParts, HubSide, View, copy_parts};
 
 /// Steps a hub through changes, and returns words that take its document and that of each view back to what they were.
 ///
@@ -109,7 +109,7 @@ fn undo_edit<L: EditLens>(
         (edit_tree edit.now) (hub_tree hub.new.parts) (option_map carried_tree words)) }
     ensures lenses { hub.new.lenses ≡ hub.old.lenses }
 {
-    let before = hub.copy_parts(alloc)?;
+    let before = copy_parts(alloc, hub.parts())?;
     match hub.step(edit.0, &edit.1) {
         Ok(carried) => {
             let words = words_back(alloc, hub.lenses(), &before, &carried)?;

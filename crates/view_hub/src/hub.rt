@@ -182,14 +182,6 @@ impl<L: EditLens> Hub<L> {
         &self.parts
     }
 
-    /// A copy of the document and of the views, which shares their contents. It fails only if memory runs out.
-    pub fn copy_parts(&self, alloc: Global) -> Result<HubParts, AllocError>
-        ensures copy { IfOk result (λ parts. hub_tree parts ≡ hub_tree self.now.parts) }
-        ensures in_step { IfOk result (λ parts. IsHub L.EditLens self.now.lenses (hub_tree parts)) }
-    {
-        copy_parts(alloc, &self.parts)
-    }
-
     /// The hub's document. It is in each view's relation with the view's complement and document.
     pub fn hub(&self) -> &Doc
         ensures hub { result.now ≡ self.now.parts.hub.value }

@@ -36,8 +36,8 @@ pub struct HubParts {
     pub views: Vec<View>,
 }
 
-// A copy of the parts, which shares their contents.
-pub(crate) fn copy_parts(alloc: Global, parts: &HubParts) -> Result<HubParts, AllocError>
+/// A copy of the parts, which shares their contents. The only error is running out of memory.
+pub fn copy_parts(alloc: Global, parts: &HubParts) -> Result<HubParts, AllocError>
     ensures { IfOk result (λ copy. hub_tree copy ≡ hub_tree parts.now) }
 {
     let mut views = Vec::with_capacity(alloc, parts.views.len())?;
