@@ -18,5 +18,5 @@ pub mod write;
 pub use crate::fault::EntryFault;
 pub use crate::line::{Line, MOST_LINE_BYTES, is_blank};
 pub use crate::lines::Lines;
-pub use crate::read::{read_change_tree, read_edit, read_entry, read_tree};
+pub use crate::read::{group_items, read_change_tree, read_edit, read_entry, read_tree};
 pub use crate::write::{side_text, write_carried, write_change, write_entry};

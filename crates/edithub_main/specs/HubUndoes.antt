@@ -5,8 +5,8 @@ use Rattle.lens_io.specs.Calls.{SinkFailed, DiskFailed}
 use Rattle.lens_io.specs.declared.disk.Disk as OfDisk
 use Rattle.lens_io.specs.declared.sink.Sink as OfSink
 use Rattle.store_run.specs.Rooms.{most_bytes}
-use Rattle.store_more.specs.MoreCall.{IsUntouched, Exits}
-use Rattle.store_more.specs.MoreCauses.{OneHasNoRoom, IsMoreCause}
+use Rattle.store_run.specs.MoreCall.{IsUntouched, Exits}
+use Rattle.store_run.specs.MoreCauses.{OneHasNoRoom, IsMoreCause}
 use Rattle.hub_undo.specs.HubUndoing.{snapshot_text, undo_text}
 use Rattle.hub_undo.specs.UndoCall.{HubToUndo, IsSafeUndo, RefusedToUndo, UndoesCall}
 use Rattle.edithub_main.specs.HubStores.{RefusesHub}

@@ -10,6 +10,7 @@ use Rattle.lens_io.specs.declared.sink.Sink as OfSink
 use Rattle.lens_io.specs.declared.source.Source as OfSource
 use Rattle.store_new.specs.Command.{Command}
 use Rattle.store_new.specs.NewEnds.{Ends}
+use Rattle.accepted_programs.specs.Program.{IsAccepted}
 use Rattle.store_new.specs.Scripts.{IsAcceptedPart}
 use Rattle.store_new.proofs.CommandStatuses.{by_end}
 use Rattle.script_run.specs.ScriptEnds.{Stops, Reports, IsComplete}

@@ -3,8 +3,7 @@
 ghost use Rattle.std.specs.Prelude.{◌↔◌, ◌<◌, All, IsTrue};
 
 use anyhow::{Result, bail};
-use case_files::Step;
-use editlens_main::editlens;
+use case_files::{Commands, Step};
 use lens_io::{Bytes, Disk, MemDisk, MemSink, MemSource, Sink, Source};
 use std::alloc::{AllocError, Global};
 
@@ -132,32 +131,36 @@ fn disk_calls(disk: &mut MemDisk) -> u64 {
 }
 
 /// Runs the command of a step. The call of this number does what the fault says. With none, no call does.
-pub fn run_step(alloc: Global, step: &Step, fails: Option<(Fault, u64)>) -> Result<Run> {
+pub fn run_step<C: Commands>(
+    alloc: Global,
+    step: &Step,
+    fails: Option<(Fault, u64)>,
+) -> Result<Run> {
     let source = source_of(alloc, &step.input, fails)?;
     let sink = sink_of(alloc, step.output.len(), fails)?;
     let disk = disk_of(alloc, &step.store_before, fails)?;
-    run_words(alloc, &step.head.words, source, sink, disk)
+    run_words::<C>(alloc, &step.head.words, source, sink, disk)
 }
 
 /// Runs a command of one word, which reads nothing, over a store of these bytes.
-pub fn run_over(alloc: Global, word: &str, store: &[u8]) -> Result<Run> {
+pub fn run_over<C: Commands>(alloc: Global, word: &str, store: &[u8]) -> Result<Run> {
     let mut words = Vec::new(alloc);
-    words.push(String::from_str(alloc, "editlens")?)?;
+    words.push(String::from_str(alloc, "program")?)?;
     words.push(String::from_str(alloc, word)?)?;
     let source = source_of(alloc, &[], None)?;
     let sink = MemSink::new(alloc, Vec::new(alloc), Vec::new(alloc));
     let disk = disk_of(alloc, store, None)?;
-    run_words(alloc, &words, source, sink, disk)
+    run_words::<C>(alloc, &words, source, sink, disk)
 }
 
-fn run_words(
+fn run_words<C: Commands>(
     alloc: Global,
     words: &[String],
     mut source: MemSource,
     mut sink: MemSink,
     mut disk: MemDisk,
 ) -> Result<Run> {
-    let status = editlens(alloc, words, &mut source, &mut sink, &mut disk).code();
+    let status = C::run(alloc, words, &mut source, &mut sink, &mut disk);
     if sink.memory_faults() > 0 || disk.memory_faults() > 0 {
         bail!("the output or the store does not fit in memory");
     }

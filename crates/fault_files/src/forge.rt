@@ -2,6 +2,7 @@
 
 use crate::devices::run_over;
 use crate::lines::begins_with;
+use crate::program::StorePrograms;
 use crate::stores::{changes_in, gates_of, payloads_of};
 use anyhow::Result;
 use case_files::Step;
@@ -44,29 +45,34 @@ enum Told {
 
 /// Changes each byte in turn of the store of a step of `verify`, and cuts it at each length. What `verify` and `show`
 /// say of it is compared with what docs/FORMATS.md says. A store that is not a log is left out.
-pub fn forge_all(alloc: Global, step: &Step) -> Result<Forged> {
+pub fn forge_all<C: StorePrograms>(alloc: Global, step: &Step) -> Result<Forged> {
     let mut forged = Forged {
         stores: 0,
         differ: 0,
     };
     if let Some(held) = payloads_of(alloc, &step.store_before)? {
-        forge_places(alloc, step, held.as_slice(), &mut forged)?;
+        forge_places::<C>(alloc, step, held.as_slice(), &mut forged)?;
     }
     Ok(forged)
 }
 
-fn forge_places(alloc: Global, step: &Step, held: &[Bytes], forged: &mut Forged) -> Result<()> {
+fn forge_places<C: StorePrograms>(
+    alloc: Global,
+    step: &Step,
+    held: &[Bytes],
+    forged: &mut Forged,
+) -> Result<()> {
     let gates = gates_of(alloc, held)?;
     for place in 0..step.store_before.len() {
         let cut = &step.store_before[..place];
         let told = log_fault(cut).unwrap_or(Told::Same);
-        take(alloc, step, held, told, cut, forged)?;
-        change_byte(alloc, step, held, &gates, place, forged)?;
+        take::<C>(alloc, step, held, told, cut, forged)?;
+        change_byte::<C>(alloc, step, held, &gates, place, forged)?;
     }
     Ok(())
 }
 
-fn change_byte(
+fn change_byte<C: StorePrograms>(
     alloc: Global,
     step: &Step,
     held: &[Bytes],
@@ -81,7 +87,7 @@ fn change_byte(
         }
         if bytes.as_slice() != step.store_before.as_slice() {
             let told = told_of_change(gates, place, &bytes);
-            take(alloc, step, held, told, &bytes, forged)?;
+            take::<C>(alloc, step, held, told, &bytes, forged)?;
         }
     }
     Ok(())
@@ -143,7 +149,7 @@ fn told_of_change(gates: &[usize], place: usize, bytes: &[u8]) -> Told {
     }
 }
 
-fn take(
+fn take<C: StorePrograms>(
     alloc: Global,
     step: &Step,
     held: &[Bytes],
@@ -152,15 +158,20 @@ fn take(
     forged: &mut Forged,
 ) -> Result<()> {
     forged.stores = forged.stores.saturating_add(1);
-    let line = line_of(alloc, step, held, told)?;
-    if !is_told(alloc, step, told, line.as_slice(), bytes)? {
+    let line = line_of::<C>(alloc, step, held, told)?;
+    if !is_told::<C>(alloc, step, told, line.as_slice(), bytes)? {
         forged.differ = forged.differ.saturating_add(1);
     }
     Ok(())
 }
 
 // What `verify` is to write.
-fn line_of(alloc: Global, step: &Step, held: &[Bytes], told: Told) -> Result<Vec<u8>, AllocError> {
+fn line_of<C: StorePrograms>(
+    alloc: Global,
+    step: &Step,
+    held: &[Bytes],
+    told: Told,
+) -> Result<Vec<u8>, AllocError> {
     let line = match told {
         Told::NotALog => format!(in alloc; "store refused: not-a-log\n")?,
         Told::BadRecord(record) | Told::BadPayload(record) => {
@@ -168,7 +179,7 @@ fn line_of(alloc: Global, step: &Step, held: &[Bytes], told: Told) -> Result<Vec
         }
         Told::Ends(0) => format!(in alloc; "store refused: bad-record 1\n")?,
         Told::Ends(count) => {
-            let changes = changes_in(held.get(..count).unwrap_or(held));
+            let changes = changes_in::<C>(held.get(..count).unwrap_or(held));
             format!(in alloc; "consistent {changes}\n")?
         }
         Told::Same | Told::Unknown => return step.output.clone(),
@@ -178,8 +189,14 @@ fn line_of(alloc: Global, step: &Step, held: &[Bytes], told: Told) -> Result<Vec
 
 // Whether `verify` writes this line, or what it writes of the store itself where that is at fault before, and `show`
 // says the same.
-fn is_told(alloc: Global, step: &Step, told: Told, line: &[u8], bytes: &[u8]) -> Result<bool> {
-    let run = run_over(alloc, "verify", bytes)?;
+fn is_told<C: StorePrograms>(
+    alloc: Global,
+    step: &Step,
+    told: Told,
+    line: &[u8],
+    bytes: &[u8],
+) -> Result<bool> {
+    let run = run_over::<C>(alloc, "verify", bytes)?;
     let may_be_before = matches!(told, Told::BadPayload(_) | Told::Ends(_))
         && step.head.status != 0;
     let is_line = run.output() == line || (may_be_before && run.output() == step.output.as_slice());
@@ -189,17 +206,22 @@ fn is_told(alloc: Global, step: &Step, told: Told, line: &[u8], bytes: &[u8]) ->
         is_line
             && run.status == status
             && run.disk.bytes() == bytes
-            && is_shown(alloc, is_refused, run.output(), bytes)?,
+            && is_shown::<C>(alloc, is_refused, run.output(), bytes)?,
     )
 }
 
-// Whether `show` refuses a store by this line, or shows its session.
-fn is_shown(alloc: Global, is_refused: bool, line: &[u8], bytes: &[u8]) -> Result<bool> {
-    let run = run_over(alloc, "show", bytes)?;
+// Whether `show` refuses a store by this line, or shows its state.
+fn is_shown<C: StorePrograms>(
+    alloc: Global,
+    is_refused: bool,
+    line: &[u8],
+    bytes: &[u8],
+) -> Result<bool> {
+    let run = run_over::<C>(alloc, "show", bytes)?;
     let is_right = if is_refused {
         run.status == 4 && run.output() == line
     } else {
-        run.status == 0 && begins_with(run.output(), b"left ")
+        run.status == 0 && C::is_state(run.output())
     };
     Ok(is_right && run.disk.bytes() == bytes)
 }

@@ -2,6 +2,7 @@
 
 use crate::devices::{Fault, given_before};
 use crate::lines::{begins_with, first_lines, is_at_ok, journal_lines, journal_of, ok_lines};
+use crate::program::StorePrograms;
 use crate::stores::{changes_in, count_in_front, has_changes};
 use anyhow::Result;
 use case_files::Step;
@@ -71,7 +72,7 @@ pub fn allowed_after(
     let status = step.head.status;
     match word_of(step) {
         "apply" if status <= SOME_REFUSED => allowed_of_apply(step, before, after, fault, output),
-        "pack" | "undo" if status == DONE => allowed_of_snapshot(before, after, fault),
+        "pack" | "undo" | "add" if status == DONE => allowed_of_records(before, after, fault),
         "init" | "import" if status == DONE => allowed_of_making(after, fault),
         _ => Allowed::Before,
     }
@@ -100,10 +101,12 @@ fn allowed_of_apply(
     }
 }
 
-// The version record may be stored and the snapshot, in this order. They are before anything is written.
-fn allowed_of_snapshot(before: usize, after: usize, fault: Option<Fault>) -> Allowed {
+// The records are stored in order: a version record and a snapshot, or a view. Nothing is stored before all is read, and
+// all before anything is written.
+fn allowed_of_records(before: usize, after: usize, fault: Option<Fault>) -> Allowed {
     match fault {
         Some(Fault::Disk) => Allowed::Front(before, after),
+        Some(Fault::Source) => Allowed::Before,
         _ => Allowed::Front(after, after),
     }
 }
@@ -119,7 +122,7 @@ fn allowed_of_making(after: usize, fault: Option<Fault>) -> Allowed {
 
 /// Whether a store of these bytes is allowed. `all` are the payloads of the store that is wanted in the end. A store
 /// that holds some of them is opened by `verify`, which is to count their changes.
-pub fn is_allowed(
+pub fn is_allowed<C: StorePrograms>(
     alloc: Global,
     step: &Step,
     all: &Payloads,
@@ -128,12 +131,12 @@ pub fn is_allowed(
 ) -> Result<bool> {
     match allowed {
         Allowed::Before => Ok(bytes == step.store_before.as_slice()),
-        Allowed::Front(least, most) => is_front(alloc, all, least, most, bytes),
+        Allowed::Front(least, most) => is_front::<C>(alloc, all, least, most, bytes),
         Allowed::Any => Ok(true),
     }
 }
 
-fn is_front(
+fn is_front<C: StorePrograms>(
     alloc: Global,
     all: &Payloads,
     least: usize,
@@ -144,10 +147,10 @@ fn is_front(
         return Ok(false);
     };
     match all.as_slice().get(..count) {
-        Some(held) if least <= count && count <= most => has_changes(
+        Some(held) if least <= count && count <= most => has_changes::<C>(
             alloc,
             bytes,
-            changes_in(held),
+            changes_in::<C>(held),
         ),
         _ => Ok(false),
     }

@@ -1,7 +1,7 @@
 //! The payloads that bytes hold, what they count, and the places of their gates.
 
 use crate::devices::run_over;
-use crate::lines::begins_with;
+use crate::program::StorePrograms;
 use anyhow::Result;
 use gate_log::open_log;
 use lens_io::{Bytes, MemDisk, Payloads};
@@ -44,13 +44,11 @@ fn front_length(held: &[Bytes], all: &[Bytes]) -> Option<usize> {
 }
 
 /// How many of these payloads are changes.
-pub fn changes_in(payloads: &[Bytes]) -> usize {
-    payloads.iter().filter(|payload| is_change(payload)).count()
-}
-
-fn is_change(payload: &Bytes) -> bool {
-    begins_with(payload.as_slice(), b"{\"entry\":")
-        || begins_with(payload.as_slice(), b"{\"group\":")
+pub fn changes_in<C: StorePrograms>(payloads: &[Bytes]) -> usize {
+    payloads
+        .iter()
+        .filter(|payload| C::is_change(payload.as_slice()))
+        .count()
 }
 
 /// The places of the gates of a log that holds these payloads.
@@ -68,8 +66,8 @@ pub fn gates_of(alloc: Global, payloads: &[Bytes]) -> Result<Vec<usize>, AllocEr
 }
 
 /// Whether `verify` says of these bytes that their session is consistent and has so many changes, and leaves them.
-pub fn has_changes(alloc: Global, bytes: &[u8], changes: usize) -> Result<bool> {
-    let run = run_over(alloc, "verify", bytes)?;
+pub fn has_changes<C: StorePrograms>(alloc: Global, bytes: &[u8], changes: usize) -> Result<bool> {
+    let run = run_over::<C>(alloc, "verify", bytes)?;
     let line = format!(in alloc; "consistent {changes}\n")?;
     Ok(run.status == 0 && run.output() == line.as_bytes() && run.disk.bytes() == bytes)
 }

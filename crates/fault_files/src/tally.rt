@@ -2,6 +2,7 @@
 
 use crate::devices::{Calls, Fault, Run, run_step};
 use crate::forge::forge_all;
+use crate::program::StorePrograms;
 use crate::stops::{Allowed, allowed_after, is_allowed, is_clean_output};
 use crate::stores::{count_of, payloads_of};
 use anyhow::Result;
@@ -73,46 +74,46 @@ impl Tally {
         )
     }
 
-    fn take_step(&mut self, alloc: Global, step: &Step) -> Result<()> {
+    fn take_step<C: StorePrograms>(&mut self, alloc: Global, step: &Step) -> Result<()> {
         self.steps = self.steps.saturating_add(1);
         let before = count_of(alloc, &step.store_before)?;
         let all = match payloads_of(alloc, &step.store_after)? {
             Some(all) => all,
             None => Payloads::from_vec(Vec::new(alloc)),
         };
-        self.take_payloads(alloc, step, before, &all)?;
-        self.take_forged(alloc, step)
+        self.take_payloads::<C>(alloc, step, before, &all)?;
+        self.take_forged::<C>(alloc, step)
     }
 
     // Runs a step as it is, and with each fault.
-    fn take_payloads(
+    fn take_payloads<C: StorePrograms>(
         &mut self,
         alloc: Global,
         step: &Step,
         before: usize,
         all: &Payloads,
     ) -> Result<()> {
-        let Some(calls) = self.take_whole(alloc, step, before, all)? else {
+        let Some(calls) = self.take_whole::<C>(alloc, step, before, all)? else {
             return Ok(());
         };
         for fault in FAULTS {
-            self.take_fault(alloc, step, before, all, fault, calls.of(fault))?;
+            self.take_fault::<C>(alloc, step, before, all, fault, calls.of(fault))?;
         }
         Ok(())
     }
 
     // Runs a step as it is, and returns how many calls it made. Nothing if it did not come out as wanted.
-    fn take_whole(
+    fn take_whole<C: StorePrograms>(
         &mut self,
         alloc: Global,
         step: &Step,
         before: usize,
         all: &Payloads,
     ) -> Result<Option<Calls>> {
-        let mut run = run_step(alloc, step, None)?;
+        let mut run = run_step::<C>(alloc, step, None)?;
         let allowed = allowed_after(step, before, all.as_slice().len(), None, run.output());
         let is_right = run.is_wanted(step)
-            && self.are_allowed(alloc, step, all, allowed, &run.disk)?;
+            && self.are_allowed::<C>(alloc, step, all, allowed, &run.disk)?;
         if is_right {
             return Ok(Some(run.count_calls()));
         }
@@ -121,7 +122,7 @@ impl Tally {
     }
 
     // Runs a step as often as it makes calls of the device of this fault.
-    fn take_fault(
+    fn take_fault<C: StorePrograms>(
         &mut self,
         alloc: Global,
         step: &Step,
@@ -132,8 +133,8 @@ impl Tally {
     ) -> Result<()> {
         for call in 0..calls {
             self.calls = self.calls.saturating_add(1);
-            let run = run_step(alloc, step, Some((fault, call)))?;
-            if !self.is_clean(alloc, step, before, all, fault, call, &run)? {
+            let run = run_step::<C>(alloc, step, Some((fault, call)))?;
+            if !self.is_clean::<C>(alloc, step, before, all, fault, call, &run)? {
                 self.add_difference(alloc, step, name_of(fault), call, run.output())?;
             }
         }
@@ -141,7 +142,7 @@ impl Tally {
     }
 
     // Whether the fault has stopped the command as is wanted, or, if it stops none, the command did all that is wanted.
-    fn is_clean(
+    fn is_clean<C: StorePrograms>(
         &mut self,
         alloc: Global,
         step: &Step,
@@ -159,11 +160,11 @@ impl Tally {
         }
         let after = all.as_slice().len();
         let allowed = allowed_after(step, before, after, Some(fault), run.output());
-        self.are_allowed(alloc, step, all, allowed, &run.disk)
+        self.are_allowed::<C>(alloc, step, all, allowed, &run.disk)
     }
 
     // Whether what the disk reads is allowed, and each image that a crash leaves.
-    fn are_allowed(
+    fn are_allowed<C: StorePrograms>(
         &mut self,
         alloc: Global,
         step: &Step,
@@ -172,13 +173,13 @@ impl Tally {
         disk: &MemDisk,
     ) -> Result<bool> {
         self.images = self.images.saturating_add(1);
-        let mut are_allowed = is_allowed(alloc, step, all, allowed, disk.bytes())?;
+        let mut are_allowed = is_allowed::<C>(alloc, step, all, allowed, disk.bytes())?;
         for number in 0..IMAGES {
             let fill = FILLS[(number % 3) as usize];
             let image = disk.after_crash(alloc, number / 3, fill)?;
             if image.as_slice() != disk.bytes() {
                 self.images = self.images.saturating_add(1);
-                are_allowed = is_allowed(alloc, step, all, allowed, image.as_slice())?
+                are_allowed = is_allowed::<C>(alloc, step, all, allowed, image.as_slice())?
                     && are_allowed;
             }
         }
@@ -186,11 +187,11 @@ impl Tally {
     }
 
     // Forges the store of a step of `verify`.
-    fn take_forged(&mut self, alloc: Global, step: &Step) -> Result<()> {
+    fn take_forged<C: StorePrograms>(&mut self, alloc: Global, step: &Step) -> Result<()> {
         if !is_verify(step) {
             return Ok(());
         }
-        let forged = forge_all(alloc, step)?;
+        let forged = forge_all::<C>(alloc, step)?;
         self.forged = self.forged.saturating_add(forged.stores);
         if forged.differ > 0 {
             self.add_difference(alloc, step, "stores forged", forged.differ, &[])?;
@@ -239,7 +240,7 @@ fn name_of(fault: Fault) -> &'static str {
 }
 
 /// Tries all that can fail in the steps of a file.
-pub fn run_file(alloc: Global, bytes: &[u8]) -> Result<Tally> {
+pub fn run_file<C: StorePrograms>(alloc: Global, bytes: &[u8]) -> Result<Tally> {
     let mut tally = Tally::new(alloc);
     let mut place = 0;
     for _ in 0..bytes.len() {
@@ -247,7 +248,7 @@ pub fn run_file(alloc: Global, bytes: &[u8]) -> Result<Tally> {
             break;
         }
         let (step, length) = read_step(alloc, &bytes[place..])?;
-        tally.take_step(alloc, &step)?;
+        tally.take_step::<C>(alloc, &step)?;
         place = place.saturating_add(length);
     }
     Ok(tally)

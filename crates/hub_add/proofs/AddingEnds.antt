@@ -20,10 +20,10 @@ use Rattle.hub_run.specs.declared.views.HubRefused.{HubRefused}
 use Rattle.hub_session.specs.HubStates.{stands_for}
 use Rattle.hub_new.specs.HubReading.{RefusesViews}
 use Rattle.hub_new.proofs.HubsRead.{refuses_views}
-use Rattle.store_more.specs.MoreCall.{Exits, IsImage, IsSafeMore, MoreEnds, StoresOne}
-use Rattle.store_more.specs.MoreCauses.{IsCauseInRoom, OneHasNoRoom}
-use Rattle.store_more.proofs.MoreCalls as more
-use Rattle.store_more.proofs.MoreCauses.{more_cause}
+use Rattle.store_run.specs.MoreCall.{Exits, IsImage, IsSafeMore, MoreEnds, StoresOne}
+use Rattle.store_run.specs.MoreCauses.{IsCauseInRoom, OneHasNoRoom}
+use Rattle.store_run.proofs.MoreCalls as more
+use Rattle.store_run.proofs.MoreCauses.{more_cause}
 use Rattle.store_new.specs.NewEnds.{GivesLine, StopsAfter}
 use Rattle.store_new.specs.Reading.{status_at}
 use Rattle.store_new.specs.ScriptReading.{ReadsFront, RefusesWith}

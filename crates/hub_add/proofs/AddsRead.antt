@@ -1,11 +1,12 @@
 -- What the reading of a script with one view more has found.
-use Rattle.std.proofs.Common.{◌≡◌, inl, inr, ℕ, ◌<◌, ◌≤◌, Bool, true, false, cond, List, [], ◌++◌, length, Result, Ok, Err, MatchResult, refl, sym, ap, subst, ◌∙◌, arith}
+use Rattle.std.proofs.Common.{◌≡◌, inl, inr, ℕ, ◌<◌, ◌≤◌, Bool, true, false, cond, List, [], ◌∷◌, ◌++◌, length, get_or, Option, Some, Result, Ok, Err, MatchResult, refl, sym, ap, subst, ◌∙◌, arith}
 use Rattle.std.specs.Prelude.{nat_lt}
 use Rattle.std.proofs.lemmas.Bool.{lt-ltb, ltb-true}
 use Rattle.std.proofs.lemmas.List.{length-map}
 use Rattle.accepted_programs.specs.Program.{Refusal, lens_of}
 use Rattle.accepted_programs.proofs.AcceptedForms.{accepted_typed}
-use Rattle.lens_forms.specs.Forms.{FormTree, form_tree}
+use Rattle.doc_values.specs.Types.{TyTree}
+use Rattle.lens_forms.specs.Forms.{FormTree, form_tree, left_type}
 use Rattle.lens_forms.specs.Typing.{is_typed}
 use Rattle.lens_io.specs.declared.failed.TakeFault.{TakeFault}
 use Rattle.lens_io.specs.declared.source.Source as OfSource
@@ -20,15 +21,15 @@ use Rattle.script_input.specs.declared.script.ProgramText.{ProgramText}
 use Rattle.lens_flat.specs.declared.flat.ReadyForm.{ReadyForm}
 use Rattle.hub_run.specs.RunStates.{forms_of_lenses}
 use Rattle.hub_run.specs.FoundLenses.{HasLeft, HasRefusalLine, IsRefused}
-use Rattle.hub_run.specs.Lenses.{HubRefusal, too_many_views, first_left, form_of_view, view_with, with_left}
+use Rattle.hub_run.specs.Lenses.{HubRefusal, too_many_views, first_left, form_of_view}
+use Rattle.hub_run.specs.PiecePrograms.{IsViewOf}
 use Rattle.hub_run.specs.declared.pieces.TheConstants.{MOST_VIEWS}
 use Rattle.hub_run.specs.declared.views.HubRefused.{HubRefused}
 use Rattle.hub_run.proofs.FoundForms.{found_view}
 use Rattle.hub_records.specs.HubLenses.{joins}
 use Rattle.hub_records.proofs.FirstHubs.{may_join}
 use Rattle.store_new.specs.ScriptReading.{ReadsFront}
-use Rattle.store_new.specs.Scripts.{IsAccepted}
-use Rattle.store_new.specs.declared.scripts.Accepted.{Accepted}
+use Rattle.accepted_programs.specs.declared.program.Accepted.{Accepted}
 use Rattle.store_new.proofs.Reading.{part_of, has_part, took_behind, within_behind, skipping_stops}
 use Rattle.hub_add.specs.AddedView.{IsAcceptedView, added_form, view_part}
 use Rattle.hub_add.specs.AddReading.{ReadsView, ReadsRefusedView}
@@ -73,20 +74,23 @@ module _ (forms : List FormTree) (part : List ℕ) (n : ℕ) (count : n ≡ leng
     by_test true fewer = let few = fewer refl in absurd (omega (arith, few, many, count))
     by_test false fewer = refl
 
-  pub with_room : n < MOST_VIEWS → added_form forms part ≡ view_with (first_left forms) n (lens_of part)
+  with_room : n < MOST_VIEWS → added_form forms part ≡ form_of_view (first_left forms) n part
   with_room room =
       if_room (nat_lt (length forms) MOST_VIEWS) (form_of_view (first_left forms) (length forms) part) (lt-ltb (length forms) MOST_VIEWS (omega (arith, room, count)))
       ∙ ap (λ (v : ℕ). form_of_view (first_left forms) v part) (sym count)
 
-  pub view_found : (a : Accepted) (r : Result Accepted HubRefused) → n < MOST_VIEWS → IsAccepted part (program_tree a.program) (form_tree a.lens)
-      → MatchResult r (λ same. (same ≡ a) × (with_left (first_left forms) n (form_tree a.lens) ≡ Ok (form_tree a.lens))) (IsRefused (with_left (first_left forms) n (form_tree a.lens)))
-      → MatchResult r (λ b. IsAcceptedView forms part (program_tree b.program) (form_tree b.lens)) (IsRefused (added_form forms part))
-  view_found a (Ok b) room is h =
-      let lens = with_room room ∙ ap (view_with (first_left forms) n) is.has_lens ∙ h.1 in
-      subst (λ (x : Accepted). IsAcceptedView forms part (program_tree x.program) (form_tree x.lens)) (sym h.0) (record { read = is.read; has_lens = lens })
-  view_found a (Err refused) room is h =
-      let same = with_room room ∙ ap (view_with (first_left forms) n) is.has_lens in
-      subst (λ o. IsRefused o refused) (sym same) h
+  -- what is found of the view, whose left type is to be that of the first of these
+  pub view_found : (ty : TyTree) (r : Result Accepted HubRefused) → n < MOST_VIEWS → first_left forms ≡ Some ty
+      → MatchResult r (λ a. IsViewOf (Some ty) n part (program_tree a.program) (form_tree a.lens)) (IsRefused (form_of_view (Some ty) n part))
+      → MatchResult r (λ a. IsAcceptedView forms part (program_tree a.program) (form_tree a.lens)) (IsRefused (added_form forms part))
+  view_found ty (Ok a) room first h = record { read = h.read; has_lens = with_room room ∙ ap (λ (o : Option TyTree). form_of_view o n part) first ∙ h.has_lens }
+  view_found ty (Err refused) room first h =
+      subst (λ o. IsRefused o refused) (sym (with_room room ∙ ap (λ (o : Option TyTree). form_of_view o n part) first)) h
+
+-- the left type of the first lens
+pub first_of : (ls : List ReadyForm) (l : ReadyForm) → 0 < length ls → l ≡ get_or ls 0 l → first_left (forms_of_lenses ls) ≡ Some (left_type (form_tree l.typed))
+first_of [] l some is = absurd (omega (arith, some))
+first_of (k ∷ ls) l some is = ap (λ (x : ReadyForm). Some (left_type (form_tree x.typed))) (sym is)
 
 -- ---- a script that is a program part alone
 

@@ -20,8 +20,8 @@ use Rattle.hub_run.specs.Runs.{HubState, state_text}
 use Rattle.hub_records.specs.HubRecords.{tree_of_added}
 use Rattle.hub_records.specs.HubStands.{view_more}
 use Rattle.hub_session.specs.HubStates.{stands_for}
-use Rattle.store_more.specs.MoreCall.{Exits, IsSafeMore, MoreEnds}
-use Rattle.store_more.specs.MoreCauses.{OneHasNoRoom}
+use Rattle.store_run.specs.MoreCall.{Exits, IsSafeMore, MoreEnds}
+use Rattle.store_run.specs.MoreCauses.{OneHasNoRoom}
 use Rattle.store_new.specs.NewEnds.{GivesLine, StopsAfter}
 use Rattle.store_new.specs.Scripts.{RefusesPart}
 use Rattle.store_run.specs.Refusals.{IsUnwritten, FailsUnopened}

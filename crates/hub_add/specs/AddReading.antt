@@ -11,8 +11,8 @@ use Rattle.hub_run.specs.FoundLenses.{HasRefusalLine, IsRefused}
 use Rattle.hub_run.specs.declared.views.HubRefused.{HubRefused}
 use Rattle.store_new.specs.ScriptReading.{ReadsFront}
 use Rattle.hub_add.specs.AddedView.{IsAcceptedView, added_form, view_part}
-use Rattle.hub_add.specs.declared.reading.UnreadView.{UnreadView}
-use Rattle.hub_add.specs.declared.reading.UnreadView.TheVariants.{Refused, Stopped}
+use Rattle.hub_new.specs.declared.reading.UnreadHub.{UnreadHub}
+use Rattle.hub_new.specs.declared.reading.UnreadHub.TheVariants.{Refused, Stopped}
 
 module _ {S : Type 0} (source : OfSource.Ghosts S) (old new : S) (forms : List FormTree) where
   -- The source was read to its end, and the program part is accepted.
@@ -33,6 +33,6 @@ module _ {S : Type 0} (source : OfSource.Ghosts S) (old new : S) (forms : List F
     pub known : HasRefusalLine refused
 
   -- why a script was not read to its end, or has no view
-  abbrev pub IsUnreadView : UnreadView → Type 0
+  abbrev pub IsUnreadView : UnreadHub → Type 0
   IsUnreadView (Refused refused) = ReadsRefusedView refused
   IsUnreadView (Stopped fault) = ReadsFront (view_part forms) source old new fault

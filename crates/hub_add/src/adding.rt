@@ -15,17 +15,17 @@ ghost use Rattle.hub_session.specs.contracts.instance.HubSessionStoredSession.Th
 ghost use Rattle.hub_add.specs.AddCall.{AddEnds, AddsView, EndsAdded, EndsWhole, IsAddCause, IsViewText};
 ghost use Rattle.hub_add.specs.AddCall.{ViewHasNoRoom};
 
-use crate::reading::{UnreadView, read_view};
+use crate::reading::read_view;
+use accepted_programs::Accepted;
 use command_ends::Status;
 use gate_log::Log;
-use hub_new::refuse_views;
+use hub_new::{UnreadHub, refuse_views};
 use hub_records::added_payload;
 use hub_session::HubSession;
 use lens_io::{Disk, Sink, Source};
 use std::alloc::{AllocError, Global};
-use store_more::{MoreText, store_one};
-use store_new::{Accepted, status_at};
-use store_run::{StoredSession, open_store, refuse_store};
+use store_new::status_at;
+use store_run::{MoreText, StoredSession, open_store, refuse_store, store_last};
 
 /// Opens the store of a hub, and adds the view of the program of a script.
 ///
@@ -106,10 +106,12 @@ fn add_opened<S: Source, K: Sink, D: Disk>(
     ensures sink_fault { result ≡ Status.SinkFault → SinkFailed K.Sink sink.old sink.new }
     ensures disk_fault { result ≡ Status.DiskFault → DiskFailed D.Disk disk.old disk.new }
 {
+    // The proof needs that the hub has a lens, which this call says.
+    let _parts = session.hub().parts();
     match read_view(alloc, session.hub().lenses(), source) {
         Ok(accepted) => add_program(alloc, session, &accepted, log, sink, disk),
-        Err(UnreadView::Refused(refused)) => refuse_views(alloc, &refused, sink),
-        Err(UnreadView::Stopped(fault)) => status_at(fault),
+        Err(UnreadHub::Refused(refused)) => refuse_views(alloc, &refused, sink),
+        Err(UnreadHub::Stopped(fault)) => status_at(fault),
     }
 }
 
@@ -134,7 +136,7 @@ fn add_program<K: Sink, D: Disk>(
     let Ok(more) = view_text(alloc, session, accepted) else {
         return Status::NoMemory;
     };
-    store_one(alloc, &more, log, sink, disk)
+    store_last(alloc, &None, &more, log, sink, disk)
 }
 
 // The payload of a program, and the state lines of the hub with its view.

@@ -23,6 +23,7 @@ use Rattle.store_new.specs.NewEnds.{Ends}
 use Rattle.store_new.specs.Making.{EndsPlan}
 use Rattle.store_new.specs.NewRooms.{PlanHasNoRoom, ScriptHasNoRoom}
 use Rattle.store_new.specs.NewStores.{HoldsStore}
+use Rattle.accepted_programs.specs.Program.{IsAccepted}
 use Rattle.store_new.specs.Scripts.{IsAcceptedPart}
 use Rattle.store_new.proofs.CommandStatuses.{done}
 use Rattle.store_new.proofs.Commands.{ends_plan}

@@ -1,9 +1,9 @@
 -- What the program part of a hub says to a command that makes a store. Read it from the end: `IsAcceptedHub`.
-use Rattle.std.specs.Prelude.{◌≡◌, ℕ, List, Some, Ok}
+use Rattle.std.specs.Prelude.{ℕ, List}
 use Rattle.lens_forms.specs.Forms.{FormTree}
 use Rattle.program_terms.specs.Terms.{ProgramTree}
 use Rattle.hub_run.specs.Lenses.{HubRefusal, lenses_of, refusal_line}
-use Rattle.hub_run.specs.PiecePrograms.{programs_of}
+use Rattle.hub_run.specs.PiecePrograms.{AreViews}
 use Rattle.hub_run.specs.Pieces.{pieces}
 use Rattle.store_new.specs.Command.{PartMeaning}
 
@@ -16,7 +16,6 @@ view_programs = record {
   refusal_line = refusal_line;
 }
 
--- The pieces of this program part are read as the programs, and their lenses have the forms.
-pub record IsAcceptedHub (part : List ℕ) (programs : List ProgramTree) (forms : List FormTree) : Type 0 where
-  pub read : programs_of (pieces part) ≡ Some programs
-  pub has_lenses : lenses_of part ≡ Ok forms
+-- the pieces of this program part are read as the programs, and their lenses have the forms
+abbrev pub IsAcceptedHub : List ℕ → List ProgramTree → List FormTree → Type 0
+IsAcceptedHub part programs forms = AreViews (pieces part) programs forms

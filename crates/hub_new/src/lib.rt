@@ -8,5 +8,5 @@
 mod reading;
 mod starting;
 
-pub use crate::reading::{AcceptedHub, UnreadHub, accepted_views, read_views};
+pub use crate::reading::{UnreadHub, read_views};
 pub use crate::starting::{init_hub, refuse_views};

@@ -1,5 +1,5 @@
 // Reading the script of a hub up to its programs.
-ghost use Rattle.std.specs.Prelude.{◌≡◌, List, ℕ, IfErr, IfOk, IsErrOf, MatchResult, Ok, map};
+ghost use Rattle.std.specs.Prelude.{List, ℕ, IfErr, IfOk, IsErrOf, MatchResult, map};
 ghost use Rattle.lens_forms.specs.Forms.{form_tree};
 ghost use Rattle.lens_io.specs.Calls.{SourceFailed};
 ghost use Rattle.program_terms.specs.Views.{program_tree};
@@ -8,25 +8,13 @@ ghost use Rattle.hub_run.specs.FormLenses.{form_lens};
 ghost use Rattle.hub_run.specs.FoundLenses.{HasRefusalLine, IsRefused};
 ghost use Rattle.hub_run.specs.HubHeads.{HasPieces};
 ghost use Rattle.hub_run.specs.Lenses.{lenses_of};
-ghost use Rattle.hub_run.specs.declared.views.HubRefused;
 ghost use Rattle.hub_new.specs.HubParts.{IsAcceptedHub};
 ghost use Rattle.hub_new.specs.HubReading.{IsUnreadHub, ReadsHub};
 
-use hub_run::{HubHead, HubRefused, Pieces, read_hub_head};
+use hub_run::{AcceptedViews, HubHead, HubRefused, Pieces, read_hub_head};
 use lens_io::{Source, TakeFault};
-use lens_syntax::Program;
-use lens_types::Typed;
 use script_input::{piece_buffer, skip_rest};
 use std::alloc::Global;
-
-/// The programs of the views of a hub, in order, and their lenses.
-#[derive(Drop)]
-pub struct AcceptedHub {
-    /// The programs.
-    pub programs: Vec<Program>,
-    /// The lens of each.
-    pub lenses: Vec<Typed>,
-}
 
 /// Why a script gives no hub.
 #[derive(Drop)]
@@ -39,7 +27,7 @@ pub enum UnreadHub {
 
 /// The programs of the script of a hub, which is read to its end. The journal part is not looked at. A program part
 /// that is whole and refused is refused at once: behind the block that ended its separator nothing is read.
-pub fn read_views<S: Source>(alloc: Global, source: &mut S) -> Result<AcceptedHub, UnreadHub>
+pub fn read_views<S: Source>(alloc: Global, source: &mut S) -> Result<AcceptedViews, UnreadHub>
     ensures script { MatchResult result
         (λ a. ReadsHub S.Source source.old source.new (map program_tree a.programs.items)
         (map form_tree a.lenses.items))
@@ -70,39 +58,13 @@ pub fn read_views<S: Source>(alloc: Global, source: &mut S) -> Result<AcceptedHu
     }
 }
 
-/// The programs of the pieces of a program part, and their lenses, or why the part is refused: as `lenses` of `Pieces`
-/// refuses it.
-///
-/// The pieces are those of a program part.
-pub fn accepted_views(alloc: Global, pieces: &Pieces) -> Result<AcceptedHub, HubRefused>
-    requires held { (part : List ℕ) × HasPieces pieces.now part }
+// The programs of the pieces of a program part, and their lenses, or why the part is refused.
+fn accepted_views(alloc: Global, pieces: &Pieces) -> Result<AcceptedViews, HubRefused>
     ensures accepted { (part : List ℕ) → HasPieces pieces.now part → MatchResult result
         (λ a. IsAcceptedHub part (map program_tree a.programs.items) (map form_tree a.lenses.items))
         (IsRefused (lenses_of part)) }
     ensures one_left { IfOk result (λ a. HaveOneLeftType form_lens (map form_tree a.lenses.items)) }
     ensures known { IfErr result HasRefusalLine }
 {
-    let lenses = pieces.lenses(alloc)?;
-    with_programs(alloc, pieces, lenses)
-}
-
-// The lenses of some pieces with their programs. Each piece is one, since it has a lens.
-fn with_programs(
-    alloc: Global,
-    pieces: &Pieces,
-    lenses: Vec<Typed>,
-) -> Result<AcceptedHub, HubRefused>
-    requires held { (part : List ℕ) × HasPieces pieces.now part
-        × (lenses_of part ≡ Ok (map form_tree lenses.items)) }
-    ensures accepted { IfOk result (λ a. (part : List ℕ) → HasPieces pieces.now part
-        → lenses_of part ≡ Ok (map form_tree lenses.items)
-        → IsAcceptedHub part (map program_tree a.programs.items) (map form_tree a.lenses.items)) }
-    ensures lenses { IfOk result (λ a. a.lenses ≡ lenses) }
-    ensures memory { IfErr result (λ refused. refused ≡ HubRefused.NoMemory) }
-{
-    let programs = pieces.programs(alloc)?;
-    match programs {
-        Some(programs) => Ok(AcceptedHub { programs, lenses }),
-        None => unreachable!(),
-    }
+    pieces.views(alloc)
 }

@@ -15,10 +15,10 @@ ghost use Rattle.hub_new.specs.HubInit.{IsFirstHub, StartsHub, hub_command};
 ghost use Rattle.hub_new.specs.HubParts.{view_programs};
 ghost use Rattle.hub_new.specs.HubReading.{RefusesViews};
 
-use crate::reading::{AcceptedHub, UnreadHub, read_views};
+use crate::reading::{UnreadHub, read_views};
 use command_ends::Status;
 use hub_records::programs_payload;
-use hub_run::{HubRefused, HubRun, refusal_line};
+use hub_run::{AcceptedViews, HubRefused, HubRun, refusal_line};
 use lens_io::{Disk, Payloads, Sink, Source};
 use lens_types::Typed;
 use script_run::ScriptState;
@@ -82,7 +82,7 @@ fn init_empty<S: Source, K: Sink, D: Disk>(
         → IfSome (D.room disk.old) (ScriptHasNoRoom S.Source hub_command source.old source.new) }
 {
     match read_views(alloc, source) {
-        Ok(accepted) => begin(alloc, accepted, sink, disk),
+        Ok(accepted) => begin(alloc, &accepted, sink, disk),
         Err(UnreadHub::Refused(refused)) => refuse_views(alloc, &refused, sink),
         Err(UnreadHub::Stopped(fault)) => status_at(fault),
     }
@@ -103,18 +103,19 @@ pub fn refuse_views<K: Sink>(alloc: Global, refused: &HubRefused, sink: &mut K) 
 // Makes the store of some programs.
 fn begin<K: Sink, D: Disk>(
     alloc: Global,
-    accepted: AcceptedHub,
+    accepted: &AcceptedViews,
     sink: &mut K,
     disk: &mut D,
 ) -> Status
-    requires one_left { HaveOneLeftType form_lens (map form_tree accepted.lenses.items) }
+    requires one_left { HaveOneLeftType form_lens (map form_tree accepted.now.lenses.items) }
     ensures ends { EndsPlan K.Sink D.Disk (sink.old, disk.old) (sink.new, disk.new)
-        (IsFirstHub (map program_tree accepted.programs.items) (map form_tree accepted.lenses.items)) result }
+        (IsFirstHub (map program_tree accepted.now.programs.items)
+        (map form_tree accepted.now.lenses.items)) result }
     ensures sink_fault { result ≡ Status.SinkFault → SinkFailed K.Sink sink.old sink.new }
     ensures disk_fault { result ≡ Status.DiskFault → DiskFailed D.Disk disk.old disk.new }
     ensures room { result ≡ Status.DiskFault → IfSome (D.room disk.old)
-        (PlanHasNoRoom (IsFirstHub (map program_tree accepted.programs.items)
-        (map form_tree accepted.lenses.items))) }
+        (PlanHasNoRoom (IsFirstHub (map program_tree accepted.now.programs.items)
+        (map form_tree accepted.now.lenses.items))) }
 {
     let Ok(store) = first_store(alloc, accepted) else {
         return Status::NoMemory;
@@ -123,13 +124,13 @@ fn begin<K: Sink, D: Disk>(
 }
 
 // The payload and the state lines of some programs.
-fn first_store(alloc: Global, accepted: AcceptedHub) -> Result<StoreText, AllocError>
-    requires one_left { HaveOneLeftType form_lens (map form_tree accepted.lenses.items) }
-    ensures { IfOk result (λ s. IsFirstHub (map program_tree accepted.programs.items)
-        (map form_tree accepted.lenses.items) s.payloads s.lines.items) }
+fn first_store(alloc: Global, accepted: &AcceptedViews) -> Result<StoreText, AllocError>
+    requires one_left { HaveOneLeftType form_lens (map form_tree accepted.now.lenses.items) }
+    ensures { IfOk result (λ s. IsFirstHub (map program_tree accepted.now.programs.items)
+        (map form_tree accepted.now.lenses.items) s.payloads s.lines.items) }
 {
     let payload = programs_payload(alloc, &accepted.programs)?;
-    let lines = first_lines(alloc, accepted.lenses)?;
+    let lines = first_lines(alloc, &accepted.lenses)?;
     let payloads = Vec::from_array(alloc, [payload])?;
     Ok(StoreText {
         payloads: Payloads::from_vec(payloads),
@@ -138,9 +139,9 @@ fn first_store(alloc: Global, accepted: AcceptedHub) -> Result<StoreText, AllocE
 }
 
 // The state lines of the first hub of some lenses.
-fn first_lines(alloc: Global, lenses: Vec<Typed>) -> Result<Vec<u8>, AllocError>
-    requires one_left { HaveOneLeftType form_lens (map form_tree lenses.items) }
-    ensures { IfOk result (λ lines. lines.items ≡ state_text (first_state (map form_tree lenses.items))) }
+fn first_lines(alloc: Global, lenses: &[Typed]) -> Result<Vec<u8>, AllocError>
+    requires one_left { HaveOneLeftType form_lens (map form_tree lenses.now) }
+    ensures { IfOk result (λ lines. lines.items ≡ state_text (first_state (map form_tree lenses.now))) }
 {
     let hub = HubRun::start(alloc, lenses)?;
     let lines = hub.state_lines(alloc)?;

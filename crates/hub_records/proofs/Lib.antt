@@ -8,6 +8,7 @@ pub mod JoiningForms
 pub mod LowForms
 pub mod OneView
 pub mod Openings
+pub mod PartsStand
 pub mod RecordSteps
 pub mod RecordsAreRead
 pub mod SavedViews

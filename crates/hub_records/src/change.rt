@@ -2,7 +2,7 @@
 
 ghost use Rattle.std.specs.Prelude.{◌≡◌, true, IfOk, option_and_then, option_map};
 ghost use Rattle.serde_json.specs.View.{view, items_view};
-ghost use Rattle.edit_journal.specs.EntryJson.{array_items, group_items, tree_of_text};
+ghost use Rattle.edit_journal.specs.EntryJson.{tree_of_text};
 ghost use Rattle.edit_journal.specs.Reading.{Gives};
 ghost use Rattle.view_hub.specs.Views.{edit_trees};
 ghost use Rattle.hub_records.specs.HubChanges.{all_counts_fit, are_edits, change_of_line, change_of_text};
@@ -10,14 +10,13 @@ ghost use Rattle.hub_records.specs.HubChanges.{change_of_tree, edits_of, edits_o
 ghost use Rattle.hub_records.specs.HubRecords.{change_in, known_change};
 ghost use Rattle.hub_records.specs.Views.{hub_change_tree};
 
-use edit_journal::{EntryFault, Line, read_tree};
+use edit_journal::{EntryFault, Line, group_items, read_tree};
 use edit_module::Word;
 use hub_run::{read_edit_tree, side_and_edit};
 use serde_json::Value;
 use std::alloc::{AllocError, Global};
 use std::slice;
 use store_records::read_tree as read_payload;
-use value_json::only_member;
 use view_hub::HubSide;
 
 /// What a line of the journal of a stored hub asks for.
@@ -112,26 +111,6 @@ fn read_change(alloc: Global, tree: &Value) -> Result<HubChange, EntryFault>
     match group_items(tree) {
         Some(items) => Ok(HubChange::Group(read_group(alloc, items)?)),
         None => Ok(HubChange::One(read_edit_tree(alloc, tree)?)),
-    }
-}
-
-// The trees in an object with exactly the member `group`, an array.
-fn group_items(tree: &Value) -> Option<&[Value]>
-    ensures { option_map (λ items. items_view items.now) result ≡ group_items (view tree.now) }
-{
-    let (name, content) = only_member(tree)?;
-    if name != "group" {
-        return None;
-    }
-    array_items(content)
-}
-
-fn array_items(tree: &Value) -> Option<&[Value]>
-    ensures { option_map (λ items. items_view items.now) result ≡ array_items (view tree.now) }
-{
-    match tree.as_array() {
-        Some(items) => Some(items),
-        None => None,
     }
 }
 

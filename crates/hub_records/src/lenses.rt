@@ -1,12 +1,10 @@
 //! The lenses of a stored hub.
 
-ghost use Rattle.std.specs.Prelude.{◌≡◌, ◌++◌, ◌∷◌, [], Ok, Some, IfOk, IfSome, OnOk, OnErr, option_map};
+ghost use Rattle.std.specs.Prelude.{◌≡◌, ◌++◌, ◌∷◌, [], Some, IfOk, IfSome, OnOk, OnErr, option_map};
 ghost use Rattle.std.specs.Prelude.{option_and_then};
 ghost use Rattle.serde_json.specs.View.{view, items_view};
 ghost use Rattle.lens_forms.specs.Forms.{form_tree};
-ghost use Rattle.accepted_programs.specs.Program.{form_of_program};
-ghost use Rattle.program_terms.specs.Views.{program_tree};
-ghost use Rattle.store_records.specs.StoredLens.{accepted, form_of_text};
+ghost use Rattle.store_records.specs.StoredLens.{form_of_text};
 ghost use Rattle.edit_journal.specs.EntryJson.{tree_of_text};
 ghost use Rattle.view_hub.specs.Laws.{HaveOneLeftType};
 ghost use Rattle.view_hub.specs.Views.{hub_tree};
@@ -20,11 +18,10 @@ use crate::parts::programs_in;
 use edit_inverse::construct;
 use hub_run::MOST_VIEWS;
 use lens_flat::Flat;
-use lens_syntax::{Program, ProgramFault, read_unbounded};
-use lens_types::{TypeFault, Typed, check};
+use lens_types::Typed;
 use serde_json::Value;
 use std::alloc::{AllocError, Global};
-use store_records::read_tree;
+use store_records::{lens_of_text, read_tree};
 use view_hub::Hub;
 
 // The lenses of the first payload of a store.
@@ -134,28 +131,4 @@ pub fn add_lens(alloc: Global, hub: &mut Hub<Flat>, lens: Flat) -> Result<(), Al
     let word = construct(alloc, lens.typed().left(), hub.hub())?;
     hub.add(lens, &word)?;
     Ok(())
-}
-
-// The lens of a text, where the grammar and the checker accept it.
-#[tactic(auto, using(store_records::proofs::Openings::opening_rules))]
-fn lens_of_text(alloc: Global, text: &[u8]) -> Result<Option<Typed>, AllocError>
-    ensures { IfOk result (λ lens. option_map form_tree lens ≡ form_of_text text.now) }
-{
-    match read_unbounded(alloc, text) {
-        Ok(program) => lens_of_program(alloc, &program),
-        Err(ProgramFault::NoMemory) => Err(AllocError),
-        Err(_) => Ok(None),
-    }
-}
-
-#[tactic(auto, using(store_records::proofs::Openings::opening_rules))]
-fn lens_of_program(alloc: Global, program: &Program) -> Result<Option<Typed>, AllocError>
-    ensures { IfOk result (λ lens. option_map form_tree lens
-        ≡ accepted (form_of_program (Ok (program_tree program.now)))) }
-{
-    match check(alloc, program) {
-        Ok(lens) => Ok(Some(lens)),
-        Err(TypeFault::NoMemory) => Err(AllocError),
-        Err(_) => Ok(None),
-    }
 }

@@ -21,5 +21,5 @@ pub use crate::lenses::{add_lens, joining_lens, joins};
 pub use crate::low::lenses_are_low;
 pub use crate::parts::{add_in, programs_in, snapshot_in};
 pub use crate::payloads::{added_payload, change_payload, programs_payload};
-pub use crate::reopening::{OpenedHub, reopen_hub};
+pub use crate::reopening::{OpenedHub, go_on_hub, reopen_first_hub, reopen_hub};
 pub use crate::saving::snapshot_payload;

@@ -1,17 +1,16 @@
 //! The payloads that the program writes into the store of a hub.
 
-ghost use Rattle.std.specs.Prelude.{◌≡◌, ◌≤◌, true, false, IfOk, OnOk, Some};
+ghost use Rattle.std.specs.Prelude.{◌≡◌, ◌≤◌, true, IfOk, OnOk, Some};
 ghost use Rattle.serde_json.specs.Data.{array, depth, string};
 ghost use Rattle.serde_json.specs.Read.{max_depth};
 ghost use Rattle.serde_json.specs.View.{view};
-ghost use Rattle.serde_json.specs.Written.{has_float, compact_text};
+ghost use Rattle.serde_json.specs.Written.{compact_text};
 ghost use Rattle.edit_journal.specs.EntryJson.{tree_of_text};
 ghost use Rattle.edit_json.specs.WordJson.{counts_fit};
 ghost use Rattle.edit_module.specs.Views.{word_tree};
 ghost use Rattle.hub_run.specs.EditJson.{place_fits, tree_of_edit, tree_of_place};
 ghost use Rattle.program_terms.specs.Views.{program_tree};
 ghost use Rattle.program_writing.specs.Canonical.{canonical};
-ghost use Rattle.store_records.specs.RecordJson.{one_member};
 ghost use Rattle.view_hub.specs.Views.{edit_trees, place_of};
 ghost use Rattle.hub_records.specs.HubChanges.{all_counts_fit, all_numbers_fit, edit_fits, edits_of, group};
 ghost use Rattle.hub_records.specs.HubChanges.{items_of_edits, tree_of_hub_change};
@@ -25,8 +24,9 @@ use edit_module::Word;
 use lens_syntax::{Program, write_program};
 use serde_json::{Map, Value, put};
 use std::alloc::{AllocError, Global};
+use store_records::{payload_of, record_named};
 use texts::Bytes;
-use value_json::{write_compact, write_text};
+use value_json::write_text;
 use view_hub::HubSide;
 
 /// The payload of the first record of a new hub: the canonical text of the program of each view, in order, and the
@@ -88,26 +88,6 @@ pub fn added_payload(alloc: Global, program: &Program) -> Result<Bytes, AllocErr
 {
     let tree = record_named(alloc, "add", text_of(alloc, program)?)?;
     payload_of(alloc, &tree)
-}
-
-// An object with one member.
-pub(crate) fn record_named(alloc: Global, name: &str, content: Value) -> Result<Value, AllocError>
-    ensures { IfOk result (λ tree. view tree ≡ one_member name.now (view content)) }
-{
-    let mut members = Map::new(alloc);
-    put(&mut members, alloc, name, content)?;
-    Ok(Value::Object(members))
-}
-
-// The text of a tree without floats, with no space between its parts.
-pub(crate) fn payload_of(alloc: Global, tree: &Value) -> Result<Bytes, AllocError>
-    requires { has_float (view tree.now) ≡ false }
-    ensures text { IfOk result (λ bytes. bytes ≡ compact_text (view tree.now)) }
-    ensures reads_back { IfOk result (λ bytes. depth (view tree.now) ≤ max_depth
-        → tree_of_text bytes ≡ Some (view tree.now)) }
-{
-    let text = write_compact(alloc, tree)?;
-    Ok(Bytes::from_vec(text.into_bytes()))
 }
 
 /// The payload of a change: the tree of its edit, or of its group, as a line of a journal has it.

@@ -1,21 +1,20 @@
 //! The hub for which payloads stand.
 
-ghost use Rattle.std.specs.Prelude.{◌≡◌, ◌<◌, ◌≤◌, ◌+◌, ℕ, Some, Ok, IfOk, MatchResult, drop, option_map};
+ghost use Rattle.std.specs.Prelude.{◌≡◌, ◌<◌, ◌≤◌, ◌+◌, ℕ, Some, Ok, IfOk, MatchResult, length, option_map, take};
 ghost use Rattle.serde_json.specs.View.{view, items_view};
 ghost use Rattle.view_hub.specs.Views.{hub_tree};
 ghost use Rattle.hub_run.specs.RunStates.{forms_of_lenses, IsHubOf};
 ghost use Rattle.hub_run.specs.Runs.{hub_of};
 ghost use Rattle.hub_records.specs.HubLenses.{forms_of_payload, stored_forms};
 ghost use Rattle.hub_records.specs.HubRecords.{record_in, record_of, change_record, add_record, snapshot_record};
-ghost use Rattle.hub_records.specs.HubStands.{after_payloads, after_record, at_start, stands_for};
+ghost use Rattle.hub_records.specs.HubStands.{after_record, at_start, stands_for};
 ghost use Rattle.hub_records.specs.Outcomes.{IsFirstFault, IsStandFault, Reaches};
 ghost use Rattle.hub_records.specs.Views.{hub_change_tree, hub_standing};
 
 use crate::change::{HubChange, change_in};
-use crate::lenses::{joining_lens, lenses_of_payload};
+use crate::lenses::{add_lens, joining_lens, lenses_of_payload};
 use crate::parts::{add_in, snapshot_in};
 use crate::snapshots::{are_consistent, read_parts};
-use edit_inverse::construct;
 use lens_flat::Flat;
 use serde_json::Value;
 use std::alloc::Global;
@@ -56,14 +55,52 @@ pub fn reopen_hub(alloc: Global, records: &[Bytes]) -> Result<OpenedHub, RecordF
     ensures in_step { IfOk result (λ opened.
         IsHubOf opened.hub.lenses (hub_tree opened.hub.parts)) }
 {
+    let opened = reopen_first_hub(alloc, records, records.len())?;
+    // The proof needs that the hub is in step, which this call says.
+    let _hub = opened.hub.hub();
+    Ok(opened)
+}
+
+/// The hub for which the first `kept` payloads of a store stand. [`go_on_hub`] opens the others.
+///
+/// The refusals are those of [`reopen_hub`] over all payloads, if one of the first `kept` is at fault.
+#[tactic(auto, using(crate::proofs::Openings::first_rules))]
+pub fn reopen_first_hub(
+    alloc: Global,
+    records: &[Bytes],
+    kept: usize,
+) -> Result<OpenedHub, RecordFault>
+    requires some { 0 < length records.now → 0 < kept }
+    requires within { kept ≤ length records.now }
+    ensures stands { MatchResult result
+        (λ opened. stands_for (take kept records.now) ≡ Ok (hub_standing opened.hub opened.count))
+        (IsStandFault (stands_for records.now)) }
+    ensures count { IfOk result (λ opened. opened.count ≤ kept) }
+{
     if records.is_empty() {
         return Err(RecordFault::BadRecord { number: FIRST });
     }
     let mut opened = begin(alloc, records[0].as_slice())?;
-    take_records(alloc, records, &mut opened)?;
-    // The proof needs that the hub is in step, which this call says.
-    let _hub = opened.hub.hub();
+    take_records(alloc, records, 1, kept, &mut opened)?;
     Ok(opened)
+}
+
+/// Goes on from the hub for which the first `kept` payloads of a store stand, to that for which all of them stand.
+///
+/// The refusals are those of [`reopen_hub`] over all payloads. The hub is then that of the payloads before the one at
+/// fault.
+pub fn go_on_hub(
+    alloc: Global,
+    records: &[Bytes],
+    kept: usize,
+    opened: &mut OpenedHub,
+) -> Result<(), RecordFault>
+    requires within { kept ≤ length records.now }
+    requires stood { stands_for (take kept records.now) ≡ Ok (hub_standing opened.old.hub opened.old.count) }
+    requires count { opened.old.count ≤ kept }
+    ensures stands { Reaches result (stands_for records.now) (hub_standing opened.new.hub opened.new.count) }
+{
+    take_records(alloc, records, kept, records.len(), opened)
 }
 
 // The hub before any change, for this first payload.
@@ -80,16 +117,24 @@ fn begin(alloc: Global, payload: &[u8]) -> Result<OpenedHub, RecordFault>
     Ok(OpenedHub { hub, count: 0 })
 }
 
-// Goes on by the records behind the first one.
-fn take_records(alloc: Global, records: &[Bytes], opened: &mut OpenedHub) -> Result<(), RecordFault>
-    requires count { opened.old.count ≡ 0 }
-    requires stood { after_payloads 2 (hub_standing opened.old.hub opened.old.count) (drop 1 records.now)
-        ≡ stands_for records.now }
+// Goes on by the records from the one place on, up to the other.
+fn take_records(
+    alloc: Global,
+    records: &[Bytes],
+    from: usize,
+    to: usize,
+    opened: &mut OpenedHub,
+) -> Result<(), RecordFault>
+    requires order { from ≤ to }
+    requires within { to ≤ length records.now }
+    requires stood { stands_for (take from records.now) ≡ Ok (hub_standing opened.old.hub opened.old.count) }
+    requires count { opened.old.count ≤ from }
     ensures stands { MatchResult result
-        (λ _. stands_for records.now ≡ Ok (hub_standing opened.new.hub opened.new.count))
+        (λ _. stands_for (take to records.now) ≡ Ok (hub_standing opened.new.hub opened.new.count))
         (IsStandFault (stands_for records.now)) }
+    ensures count { IfOk result (λ _. opened.new.count ≤ to) }
 {
-    for at in 1..records.len() {
+    for at in from..to {
         take_record(alloc, at as u64 + 1, records[at].as_slice(), opened)?;
     }
     Ok(())
@@ -175,8 +220,7 @@ fn take_added(
     let Some(lens) = joining_lens(alloc, hub.lenses(), text)? else {
         return Err(RecordFault::BadRecord { number });
     };
-    let word = construct(alloc, lens.typed().left(), hub.hub())?;
-    hub.add(lens, &word)?;
+    add_lens(alloc, hub, lens)?;
     Ok(())
 }
 

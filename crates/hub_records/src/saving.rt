@@ -17,13 +17,13 @@ ghost use Rattle.hub_records.specs.HubRecords.{items_of_views, tree_of_hub, tree
 ghost use Rattle.hub_records.specs.WholeInts.{hub_holds_i64s, views_hold_i64s};
 
 use crate::low::lenses_are_low;
-use crate::payloads::{payload_of, record_named};
 use complement_file::write_comp;
 use doc_values::{Doc, Ty};
 use lens_flat::Flat;
 use lens_types::Typed;
 use serde_json::{Map, Value, put};
 use std::alloc::{AllocError, Global};
+use store_records::{payload_of, record_named};
 use texts::Bytes;
 use value_json::write_doc;
 use view_hub::{Hub, HubParts, View};

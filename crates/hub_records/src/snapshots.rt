@@ -5,26 +5,22 @@ ghost use Rattle.serde_json.specs.View.{view, items_view};
 ghost use Rattle.doc_values.specs.Documents.{doc_tree};
 ghost use Rattle.doc_values.specs.Types.{ty_tree};
 ghost use Rattle.value_json.specs.DocumentJson.{document_of};
-ghost use Rattle.lens_core.specs.Complements.{comp_tree};
 ghost use Rattle.lens_forms.specs.Forms.{form_tree};
 ghost use Rattle.store_session.specs.ConsistencyTest.{is_consistent};
-ghost use Rattle.store_records.specs.StoredComplements.{complement_of};
 ghost use Rattle.view_hub.specs.Views.{hub_tree, view_tree, view_trees};
 ghost use Rattle.hub_run.specs.RunStates.{forms_of_lenses};
 ghost use Rattle.hub_records.specs.HubStands.{are_consistent, hub_from, view_of, views_of};
 ghost use Rattle.hub_records.specs.HubRecords.{view_parts};
 
 use crate::parts::view_parts;
-use complement_file::{CompFault, read_comp};
 use doc_values::{Doc, Ty};
 use lens_check::consistent;
-use lens_core::Comp;
 use lens_flat::Flat;
 use lens_types::Typed;
 use serde_json::Value;
 use std::alloc::{AllocError, Global};
 use std::rc::Rc;
-use value_json::{DocFault, read_doc};
+use store_session::{read_complement, read_document};
 use view_hub::{HubParts, View};
 
 // The hub of the trees of a document and of views.
@@ -44,7 +40,7 @@ pub(crate) fn read_parts(
     if lenses.is_empty() {
         return Ok(None);
     }
-    let Some(hub) = read_document(alloc, lenses[0].typed().left(), hub)? else {
+    let Some(hub) = read_shared(alloc, lenses[0].typed().left(), hub)? else {
         return Ok(None);
     };
     let Some(views) = read_views(alloc, lenses, views)? else {
@@ -86,33 +82,20 @@ fn read_view(alloc: Global, typed: &Typed, tree: &Value) -> Result<Option<View>,
     let Some(comp) = read_complement(alloc, typed, comp)? else {
         return Ok(None);
     };
-    let Some(doc) = read_document(alloc, typed.right(), doc)? else {
+    let Some(doc) = read_shared(alloc, typed.right(), doc)? else {
         return Ok(None);
     };
     Ok(Some(View { comp, doc }))
 }
 
-fn read_document(alloc: Global, ty: &Ty, tree: &Value) -> Result<Option<Rc<Doc>>, AllocError>
+// The document of a tree, as a hub shares it.
+fn read_shared(alloc: Global, ty: &Ty, tree: &Value) -> Result<Option<Rc<Doc>>, AllocError>
     ensures { IfOk result (λ doc. option_map (λ d. doc_tree d.value) doc
         ≡ document_of (ty_tree ty.now) (view tree.now)) }
 {
-    match read_doc(alloc, ty, tree) {
-        Ok(doc) => Ok(Some(Rc::new(alloc, doc)?)),
-        Err(DocFault::NotOfType) => Ok(None),
-        Err(DocFault::NoMemory) => Err(AllocError),
-    }
-}
-
-fn read_complement(alloc: Global, typed: &Typed, tree: &Value) -> Result<Option<Comp>, AllocError>
-    ensures { IfOk result (λ comp. option_map comp_tree comp
-        ≡ complement_of (form_tree typed.now) (view tree.now)) }
-{
-    // The proof needs that the form is typed, which this call says.
-    let _form = typed.form();
-    match read_comp(alloc, typed, tree) {
-        Ok(comp) => Ok(Some(comp)),
-        Err(CompFault::NotAComplement) => Ok(None),
-        Err(CompFault::NoMemory) => Err(AllocError),
+    match read_document(alloc, ty, tree)? {
+        Some(doc) => Ok(Some(Rc::new(alloc, doc)?)),
+        None => Ok(None),
     }
 }
 

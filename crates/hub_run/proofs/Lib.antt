@@ -14,4 +14,5 @@ pub mod PieceLines
 pub mod PiecesRead
 pub mod RunsInStep
 pub mod StateLines
+pub mod ViewsRead
 pub mod WordLists

@@ -1,37 +1,15 @@
 -- The programs of a program part, as a loop over its pieces reads them.
 use Rattle.std.proofs.Common.{◌≡◌, ℕ, ◌+◌, ◌<◌, ◌≤◌, Bool, true, false, cond, List, [], ◌∷◌, ◌++◌, append_assoc, append-nil, length, length-append, drop, get_or, map, Option, Some, None, option_map, Result, Ok, Err, refl, sym, ap, subst, ◌∙◌, arith}
-use Rattle.std.specs.Prelude.{nat_le, option_and_then}
+use Rattle.std.specs.Prelude.{option_and_then}
 use Rattle.std.proofs.lemmas.List.{drop_all, map-append}
-use Rattle.std.proofs.lemmas.Bool.{leb-true}
-use Rattle.lens_syntax.specs.Programs.{ProgramCause, too_long, bounded, unbounded, cause_of, IsRefusal}
-use Rattle.lens_syntax.specs.declared.fault.ProgramFault.{ProgramFault}
-use Rattle.lens_syntax.specs.declared.fault.ProgramFault.TheVariants as reading
-use Rattle.lens_syntax.specs.declared.reading.TheConstants.{MOST_PROGRAM_BYTES}
 use Rattle.program_terms.specs.Terms.{ProgramTree}
 use Rattle.program_terms.specs.Views.{program_tree}
 use Rattle.program_terms.specs.declared.program.Program.{Program}
 use Rattle.script_input.specs.Parts.{HoldsPart}
 use Rattle.script_input.specs.declared.script.ProgramText.{ProgramText}
-use Rattle.hub_run.specs.HeldPieces.{HoldsEach, HoldsUnless}
-use Rattle.hub_run.specs.PiecePrograms.{if_program, program_of, programs_of}
-use Rattle.hub_run.specs.declared.pieces.TheConstants.{MOST_VIEWS}
-use Rattle.hub_run.proofs.FoundLoops.{PieceAt, each_length, kept_many, piece_at}
-
--- ---- one piece
-
--- a text that the reader refuses is no program
-pub not_read : (wanted : Result ProgramTree ProgramCause) (fault : ProgramFault) → IsRefusal (cause_of fault) wanted → (fault ≡ reading.NoMemory → ⊥) → if_program wanted ≡ None
-not_read wanted reading.ProgramTooLong h known = ap if_program h
-not_read wanted (reading.NotAProgram at) h known = ap if_program h
-not_read wanted (reading.UnknownName at) h known = ap if_program h
-not_read wanted (reading.RepeatedName at) h known = ap if_program h
-not_read wanted reading.NoMemory h known = absurd (known refl)
-
-pub long_is_none : (text : List ℕ) → MOST_PROGRAM_BYTES < length text → None ≡ program_of text
-long_is_none text long = by_test (nat_le (length text) MOST_PROGRAM_BYTES) refl where
-  by_test : (b : Bool) → b ≡ nat_le (length text) MOST_PROGRAM_BYTES → None ≡ if_program (cond b (unbounded text) (Err too_long))
-  by_test true is = absurd (omega (arith, leb-true (length text) MOST_PROGRAM_BYTES (sym is), long))
-  by_test false is = refl
+use Rattle.hub_run.specs.HeldPieces.{HoldsEach}
+use Rattle.hub_run.specs.PiecePrograms.{program_of, programs_of}
+use Rattle.hub_run.proofs.FoundLoops.{PieceAt, each_length, piece_at}
 
 -- ---- pieces, one after another
 
@@ -66,21 +44,13 @@ next_program kept pieces i k before after program within k_is holds found more =
     sym (ap (behind (map program_tree before)) p.is ∙ ap (option_and_then (λ q. behind (map program_tree before ++ q ∷ []) rest)) (sym (found p.text p.holds))
     ∙ ap (λ ps. behind ps rest) (sym (ap (map program_tree) more ∙ map-append program_tree before (program ∷ []))))
 
-pub lost_program : (kept : List ProgramText) (pieces : List (List ℕ)) (i : ℕ) (k : ProgramText) (before : List Program) → i < length kept → k ≡ get_or kept i k → HoldsEach kept pieces
-    → ((text : List ℕ) → HoldsPart k text → None ≡ program_of text) → behind (map program_tree before) (drop i pieces) ≡ None
-lost_program kept pieces i k before within k_is holds lost =
-    let p = subst (λ q. PieceAt q pieces i) (sym k_is) (piece_at kept pieces i k within holds) in
-    ap (behind (map program_tree before)) p.is ∙ ap (option_and_then (λ q. behind (map program_tree before ++ q ∷ []) (drop (i + 1) pieces))) (sym (lost p.text p.holds))
-
 pub programs_end : (kept : List ProgramText) (pieces : List (List ℕ)) (i : ℕ) (before : List Program) → length kept ≤ i → HoldsEach kept pieces → behind (map program_tree before) (drop i pieces) ≡ Some (map program_tree before)
 programs_end kept pieces i before past holds = ap (behind (map program_tree before)) (drop_all i pieces (omega (arith, past, each_length kept pieces holds)))
 
 -- ---- the last piece
 
-pub last_joins : (before after : List Program) (program : Program) (o : Option ProgramTree) → after ≡ before ++ program ∷ [] → Some (program_tree program) ≡ o
-    → Some (map program_tree after) ≡ option_map (λ p. map program_tree before ++ p ∷ []) o
-last_joins before after program o more found =
-    ap Some (ap (map program_tree) more ∙ map-append program_tree before (program ∷ [])) ∙ ap (option_map (λ p. map program_tree before ++ p ∷ [])) found
+pub programs_joined : (before after : List Program) (program : Program) → after ≡ before ++ program ∷ [] → Some (map program_tree after) ≡ Some (map program_tree before ++ program_tree program ∷ [])
+programs_joined before after program more = ap Some (ap (map program_tree) more ∙ map-append program_tree before (program ∷ []))
 
 -- the programs of pieces with one more
 with_last : Option ProgramTree → List ProgramTree → Option (List ProgramTree)
@@ -105,10 +75,3 @@ snoc (piece ∷ pieces) last = by_first (program_of piece) where
 -- the programs of all pieces, where those of the ended ones are known
 pub all_with_last : (pieces : List (List ℕ)) (last : List ℕ) (ps : List ProgramTree) → Some ps ≡ programs_of pieces → option_map (λ p. ps ++ p ∷ []) (program_of last) ≡ programs_of (pieces ++ last ∷ [])
 all_with_last pieces last ps found = ap (option_and_then (with_last (program_of last))) found ∙ sym (snoc pieces last)
-
-pub none_with_last : (pieces : List (List ℕ)) (last : List ℕ) → None ≡ programs_of pieces → None ≡ programs_of (pieces ++ last ∷ [])
-none_with_last pieces last none = ap (option_and_then (with_last (program_of last))) none ∙ sym (snoc pieces last)
-
--- there are not too many
-pub not_many : {X : Type 0} (b : Bool) (kept : List ProgramText) (last : ProgramText) (ended : List (List ℕ)) (begun : List ℕ) → b ≡ true → HoldsUnless b kept last ended begun → length (ended ++ begun ∷ []) ≤ MOST_VIEWS → X
-not_many b kept last ended begun is h few = absurd (omega (arith, kept_many b kept last ended begun is h, few, length-append ended (begun ∷ [])))

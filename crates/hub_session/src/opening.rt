@@ -2,7 +2,6 @@
 
 ghost use Rattle.std.specs.Prelude.{◌≡◌, Ok, IfOk, MatchResult};
 ghost use Rattle.hub_run.specs.RunStates.{state_of};
-ghost use Rattle.store_session.specs.StoredStates.{fault_of};
 ghost use Rattle.store_run.specs.Reopening.{IsReopenFault};
 ghost use Rattle.hub_session.specs.HubStates.{count_of, stands_for};
 
@@ -10,8 +9,8 @@ use crate::session::HubSession;
 use hub_records::reopen_hub;
 use lens_io::Payloads;
 use std::alloc::Global;
-use store_records::RecordFault;
 use store_run::{Opened, ReopenFault};
+use store_session::stored_fault;
 
 // The hub for which payloads stand, and the number of changes. The store of a hub has no version record to store.
 pub(crate) fn open(alloc: Global, payloads: &Payloads) -> Result<Opened<HubSession>, ReopenFault>
@@ -27,16 +26,5 @@ pub(crate) fn open(alloc: Global, payloads: &Payloads) -> Result<Opened<HubSessi
             count: opened.count,
         }),
         Err(fault) => Err(stored_fault(fault)),
-    }
-}
-
-// The fault in the words of a store.
-fn stored_fault(fault: RecordFault) -> ReopenFault
-    ensures { result ≡ fault_of fault }
-{
-    match fault {
-        RecordFault::BadRecord { number } => ReopenFault::BadRecord { number },
-        RecordFault::NotConsistent { number } => ReopenFault::NotConsistent { number },
-        RecordFault::NoMemory => ReopenFault::NoMemory,
     }
 }

@@ -3,11 +3,12 @@
 ghost use Rattle.std.specs.Prelude.{◌≡◌, ◌++◌, ◌∷◌, [], true, Some, OnErr, OnOk};
 ghost use Rattle.lens_forms.specs.Forms.{form_tree};
 ghost use Rattle.view_hub.specs.Views.{hub_tree};
-ghost use Rattle.hub_run.specs.RunStates.{forms_of_lenses, IsHubOf};
+ghost use Rattle.hub_run.specs.RunStates.{forms_of_lenses};
 ghost use Rattle.hub_records.specs.HubLenses.{joins};
 ghost use Rattle.hub_records.specs.HubStands.{view_more};
 
 use hub_records::add_lens;
+use hub_run::is_in_step;
 use lens_flat::Flat;
 use lens_types::Typed;
 use std::alloc::{AllocError, Global};
@@ -42,11 +43,4 @@ impl HubSession {
         add_lens(alloc, &mut self.hub, lens)?;
         Ok(())
     }
-}
-
-// Does nothing; its clause is what a hub's calls say of it.
-pub(crate) fn is_in_step(hub: &Hub<Flat>)
-    ensures { IsHubOf hub.now.lenses (hub_tree hub.now.parts) }
-{
-    let _ = hub.hub();
 }

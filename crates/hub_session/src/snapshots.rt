@@ -4,8 +4,8 @@ ghost use Rattle.std.specs.Prelude.{IfOk};
 ghost use Rattle.hub_run.specs.RunStates.{state_of};
 ghost use Rattle.hub_session.specs.HubStates.{IsSnapshot};
 
-use crate::session::is_in_step;
 use hub_records::snapshot_payload;
+use hub_run::is_in_step;
 use lens_flat::Flat;
 use std::alloc::{AllocError, Global};
 use texts::Bytes;

@@ -1,10 +1,11 @@
 -- What is made, from what was opened and from what its parts say.
-use Rattle.std.proofs.Common.{◌≡◌, ℕ, List, ◌++◌, true, Option, Some, None, Result, Ok, Err, sym, ap, ap₂, subst, ◌∙◌}
+use Rattle.std.proofs.lemmas.Bool.{lt-ltb}
+use Rattle.std.proofs.Common.{◌≡◌, ℕ, ◌-◌, Bool, cond, length, take, List, ◌++◌, true, Option, Some, None, Result, Ok, Err, sym, ap, ap₂, subst, ◌∙◌}
 use Rattle.std.specs.Prelude.{option_map, option_and_then}
 use Rattle.lens_forms.specs.Forms.{FormTree}
 use Rattle.store_records.specs.declared.record_fault.RecordFault.{RecordFault}
 use Rattle.store_records.specs.declared.record_fault.RecordFault.TheVariants.{BadRecord, NotConsistent, NoMemory}
-use Rattle.store_more.specs.declared.storing.MoreText.{MoreText}
+use Rattle.store_run.specs.declared.storing.MoreText.{MoreText}
 use Rattle.store_run.specs.declared.refusals.StoreRefusal.{StoreRefusal}
 use Rattle.view_hub.specs.Hubs.{HubTree, CarriedTree}
 use Rattle.view_hub.specs.Laws.{IsHub}
@@ -21,17 +22,18 @@ use Rattle.serde_json.specs.Written.{compact_text}
 use Rattle.edit_journal.specs.EntryJson.{tree_of_text}
 use Rattle.hub_undo.specs.HubUndone.{BringsBack}
 use Rattle.hub_undo.specs.HubUndoing.{HubUndoing, TakesBack, last_changes, payloads_before, refusal_of, snapshot_text, undo_refusal, undo_text, undoing, undoing_from, undoing_of, words_text}
-use Rattle.hub_undo.specs.UndoMaking.{AreTexts, IsMade, IsMakingFault, UndoneBy, fault_of}
-use Rattle.hub_undo.specs.declared.making.MakingFault.{MakingFault}
-use Rattle.hub_undo.proofs.Earlier.{Earlier, earlier}
+use Rattle.hub_records.specs.Views.{hub_standing}
+use Rattle.hub_run.specs.RunStates.{ready_lens}
+use Rattle.store_undo.specs.Making.{IsMakingFault, fault_of, kept_before}
+use Rattle.view_hub.specs.Views.{hub_tree}
+use Rattle.hub_undo.specs.UndoMaking.{AreTexts, IsMade, StoodTwice, UndoneBy}
+use Rattle.hub_undo.specs.declared.making.OpenedTwice.{OpenedTwice}
+use Rattle.hub_undo.proofs.UndoneForms.{same_standing}
+use Rattle.hub_undo.proofs.Earlier.{Earlier, earlier, some_last}
 
 module _ (count : ℕ) (held : List (List ℕ)) (now : HubStanding) (changes : List HubChangeTree) (stood : stands_for held ≡ Ok now) (last : last_changes count held ≡ Some changes) where
   abbrev before : Earlier count held now changes
   before = earlier count held now changes stood last
-
-  -- what the payloads in front stand for, with what undoing the changes comes to
-  pub accepted_of : (was : HubStanding) × (stands_for (payloads_before count held) ≡ Ok was) × ((r : HubTree × CarriedTree) × UndoneBy was.forms was.hub changes r)
-  accepted_of = (before.was, before.stood, (before.made, before.undone_is))
 
   abbrev pub undoing_now : HubUndoing
   undoing_now = record { now = now; before = before.was.hub; words = before.made.1 }
@@ -58,11 +60,42 @@ module _ (count : ℕ) (held : List (List ℕ)) (now : HubStanding) (changes : L
       stand = hub_stands held (snapshot_text undoing_now) now stood before.was.hub (ap tree_of_text (sym texts.snapshot) ∙ texts.reads) (stood_sound held now stood).0 in_step_before texts.whole;
     }
 
-  pub made_of : (more : MoreText) → ((was : HubStanding) (r : HubTree × CarriedTree) → stands_for (payloads_before count held) ≡ Ok was → UndoneBy was.forms was.hub changes r
-      → AreTexts was.forms was.hub r more.payload more.lines) → IsMade count held more
-  made_of more made =
-      let texts = subst (λ fs. Texts fs more.payload more.lines) before.forms (made before.was before.made before.stood before.undone_is) in
+  -- what stood before the changes, in the lenses of what stands now
+  pub undone_now : UndoneBy now.forms before.was.hub changes before.made
+  undone_now = subst (λ fs. UndoneBy fs before.was.hub changes before.made) before.forms before.undone_is
+
+  made_now : (more : MoreText) → Texts now.forms more.payload more.lines → IsMade count held more
+  made_now more texts =
       record { u = undoing_now; is = is_undoing; snapshot = texts.snapshot; lines = texts.written; takes_back = taken_back more.payload more.lines texts }
+
+-- ---- what was opened
+
+-- where there are so many changes, the payloads before them are kept
+kept_is : (count : ℕ) (held : List (List ℕ)) (cs : List HubChangeTree) → last_changes count held ≡ Some cs → take (kept_before count (length held)) held ≡ payloads_before count held
+kept_is count held cs last = ap (λ (b : Bool). take (cond b (length held - count) (length held)) held) (lt-ltb count (length held) (some_last count held cs last).0)
+
+module _ (count : ℕ) (held : List (List ℕ)) (changes : List HubChangeTree) (twice : OpenedTwice) (stood : StoodTwice count held twice) (last : last_changes count held ≡ Some changes) where
+  abbrev stands_now : HubStanding
+  stands_now = hub_standing twice.opened.hub twice.opened.count
+
+  -- what stood before the changes is what was opened first
+  same_before : stood.was ≡ (before count held stands_now changes stood.now last).was
+  same_before = same_standing (stands_for (payloads_before count held)) stood.was _ (ap stands_for (sym (kept_is count held changes last)) ∙ stood.before) (before count held stands_now changes stood.now last).stood
+
+  same_hub : (before count held stands_now changes stood.now last).was.hub ≡ hub_tree twice.earlier
+  same_hub = ap (λ (s : HubStanding). s.hub) (sym same_before) ∙ stood.hub
+
+  pub replaced_in_step : IsHub ready_lens twice.opened.hub.lenses (hub_tree twice.earlier)
+  replaced_in_step = subst (λ h. IsHub form_lens stands_now.forms h) same_hub (in_step_before count held stands_now changes stood.now last)
+
+  pub accepted_here : (r : HubTree × CarriedTree) × UndoneBy stands_now.forms (hub_tree twice.earlier) changes r
+  accepted_here = ((before count held stands_now changes stood.now last).made, subst (λ h. UndoneBy stands_now.forms h changes _) same_hub (undone_now count held stands_now changes stood.now last))
+
+  pub made_of : (more : MoreText) → ((r : HubTree × CarriedTree) → UndoneBy stands_now.forms (hub_tree twice.earlier) changes r
+      → AreTexts stands_now.forms (hub_tree twice.earlier) r more.payload more.lines) → IsMade count held more
+  made_of more texts =
+      made_now count held stands_now changes stood.now last more
+      (subst (λ h. AreTexts stands_now.forms h _ more.payload more.lines) (sym same_hub) (texts accepted_here.0 accepted_here.1))
 
 -- ---- payloads that are refused
 

@@ -11,8 +11,8 @@ use Rattle.command_ends.specs.declared.status.Status.{Status}
 use Rattle.command_ends.specs.declared.status.Status.TheVariants as ending
 use Rattle.store_run.proofs.Moments.{leaves_more}
 use Rattle.store_run.proofs.Openings.{opening_then}
-use Rattle.store_more.specs.MoreCall.{Exits, IsImage, IsSafeMore, MoreEnds}
-use Rattle.store_more.proofs.MoreCalls as more
+use Rattle.store_run.specs.MoreCall.{Exits, IsImage, IsSafeMore, MoreEnds}
+use Rattle.store_run.proofs.MoreCalls as more
 use Rattle.hub_undo.specs.HubUndoing.{HubUndoing, TakesBack, snapshot_text, undo_text}
 use Rattle.hub_undo.specs.UndoCall.{IsUndoImage, IsSafeUndo, UndoEnds, UndoesCall}
 

@@ -9,7 +9,7 @@ use Rattle.store_run.specs.Refusals.{IsOpening}
 use Rattle.store_run.specs.StoreEnds.{StoresBehind}
 use Rattle.store_run.specs.declared.refusals.StoreRefusal.{StoreRefusal}
 use Rattle.command_ends.specs.declared.status.Status.{Status}
-use Rattle.store_more.specs.MoreCall.{EndsUnwritten, StoresOne}
+use Rattle.store_run.specs.MoreCall.{EndsUnwritten, StoresOne}
 use Rattle.hub_undo.specs.HubUndoing.{HubUndoing, TakesBack, refusal_in, snapshot_text, undo_text, undoing}
 
 module _ {D : Type 0} (disk : OfDisk.Ghosts D) (count : ℕ) (d : D) where

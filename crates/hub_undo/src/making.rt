@@ -1,78 +1,75 @@
 //! What `undo` stores and writes, which is made before anything is stored.
 
-ghost use Rattle.std.specs.Prelude.{◌≡◌, ◌≤◌, List, ℕ, IfOk, MatchResult, Ok, drop, length, option_map, take};
+ghost use Rattle.std.specs.Prelude.{◌≡◌, IfOk, MatchResult, drop, option_map};
 ghost use Rattle.view_hub.specs.Hubs.{CarriedTree, HubTree};
 ghost use Rattle.view_hub.specs.Views.{carried_tree, hub_tree};
 ghost use Rattle.hub_run.specs.FormLenses.{form_lens};
 ghost use Rattle.hub_run.specs.RunStates.{forms_of_lenses};
-ghost use Rattle.hub_records.specs.HubChanges.{HubChangeTree};
-ghost use Rattle.hub_records.specs.HubStands.{HubStanding, stands_for};
+ghost use Rattle.hub_records.specs.HubStands.{stands_for};
+ghost use Rattle.hub_records.specs.Outcomes.{IsStandFault};
 ghost use Rattle.hub_undo.specs.HubUndone.{BringsBack};
 ghost use Rattle.hub_undo.specs.HubUndoing.{changes_of, last_changes, undo_refusal};
-ghost use Rattle.hub_undo.specs.UndoMaking.{AreTexts, IsMade, IsMakingFault, UndoneBy, change_trees, fault_of};
+ghost use Rattle.hub_undo.specs.UndoMaking.{AreTexts, IsMade, StoodTwice, UndoneBy, change_trees};
+ghost use Rattle.store_undo.specs.Making.{IsMakingFault};
 
 use crate::stepping::undo_changes;
 use crate::undo_lines::undo_lines;
-use hub_records::{HubChange, OpenedHub, change_of_payload, reopen_hub, snapshot_payload};
+use hub_records::{
+    HubChange, OpenedHub, change_of_payload, go_on_hub, reopen_first_hub, snapshot_payload,
+};
 use lens_flat::Flat;
 use std::alloc::{AllocError, Global};
-use store_more::MoreText;
 use store_records::RecordFault;
-use store_run::StoreRefusal;
+use store_run::{MoreText, StoreRefusal};
+use store_undo::{MakingFault, kept_before, making_fault};
 use texts::Bytes;
-use view_hub::{Hub, HubCarried, copy_parts};
+use view_hub::{Hub, HubCarried, HubParts, copy_parts};
 
-// Why nothing is made.
-#[derive(Clone, Copy)]
-pub(crate) enum MakingFault {
-    // The payloads are refused.
-    Refused(StoreRefusal),
-    // Memory ran out.
-    NoMemory,
-}
-
-impl From<AllocError> for MakingFault {
-    ghost use Rattle.std.specs.Prelude.{◌≡◌};
-    ghost use Rattle.hub_undo.specs.declared.making.MakingFault.TheVariants.{NoMemory};
-
-    ghost from_gives = { λ _ fault. fault ≡ NoMemory };
-
-    fn from(_: AllocError) -> MakingFault {
-        MakingFault::NoMemory
-    }
+// A hub that was opened, and the parts that it had before the last records.
+#[derive(Drop)]
+pub(crate) struct OpenedTwice {
+    pub(crate) opened: OpenedHub,
+    pub(crate) earlier: HubParts,
 }
 
 // What `undo` stores and writes over these payloads, or why they are refused.
 pub(crate) fn make(alloc: Global, count: u64, records: &[Bytes]) -> Result<MoreText, MakingFault>
     ensures { MatchResult result (IsMade count records.now) (IsMakingFault (undo_refusal count records.now)) }
 {
-    match reopen_hub(alloc, records) {
-        Ok(now) => make_opened(alloc, count, records, now),
-        Err(fault) => Err(refused(fault)),
+    match open(alloc, count, records) {
+        Ok(twice) => make_opened(alloc, count, records, twice),
+        Err(fault) => Err(making_fault(fault)),
     }
 }
 
-// The same over payloads that represent a hub.
+// The hub that payloads represent, with the parts that it had before the last `count` payloads. If there are not so
+// many behind the first one, the parts are those of all.
+fn open(alloc: Global, count: u64, records: &[Bytes]) -> Result<OpenedTwice, RecordFault>
+    ensures { MatchResult result (StoodTwice count records.now) (IsStandFault (stands_for records.now)) }
+{
+    let kept = kept_before(count, records.len());
+    let mut opened = reopen_first_hub(alloc, records, kept)?;
+    let earlier = copy_parts(alloc, opened.hub.parts())?;
+    go_on_hub(alloc, records, kept, &mut opened)?;
+    Ok(OpenedTwice { opened, earlier })
+}
+
+// The same over payloads that represent a hub, which was opened.
 fn make_opened(
     alloc: Global,
     count: u64,
     records: &[Bytes],
-    now: OpenedHub,
+    twice: OpenedTwice,
 ) -> Result<MoreText, MakingFault>
-    requires stood { (count : ℕ) × (stands_for records.now
-        ≡ Ok (record { forms = forms_of_lenses now.hub.lenses; hub = hub_tree now.hub.parts; count = count })) }
+    requires stood { StoodTwice count records.now twice }
     ensures { MatchResult result (IsMade count records.now) (IsMakingFault (undo_refusal count records.now)) }
 {
-    drop(now);
     let Some(changes) = last_changes(alloc, records, count)? else {
         return Err(MakingFault::Refused(StoreRefusal::NothingToUndo));
     };
-    let more = make_undone(
-        alloc,
-        records,
-        records.len() - count as usize,
-        changes.as_slice(),
-    )?;
+    let mut hub = twice.opened.hub;
+    hub.replace(twice.earlier);
+    let more = texts_of(alloc, &mut hub, changes.as_slice())?;
     Ok(more)
 }
 
@@ -111,34 +108,7 @@ fn changes_from(
     Ok(Some(changes))
 }
 
-// The snapshot of the hub of the first payloads, which are so many, and the lines of the words that take the changes
-// behind them back.
-fn make_undone(
-    alloc: Global,
-    records: &[Bytes],
-    kept: usize,
-    changes: &[HubChange],
-) -> Result<MoreText, AllocError>
-    requires within { kept ≤ length records.now }
-    requires stood { (was : HubStanding) × (stands_for (take kept records.now) ≡ Ok was)
-        × ((r : HubTree × CarriedTree) × UndoneBy was.forms was.hub (change_trees changes.now) r) }
-    ensures { IfOk result (λ more. (was : HubStanding) (r : HubTree × CarriedTree)
-        → stands_for (take kept records.now) ≡ Ok was
-        → UndoneBy was.forms was.hub (change_trees changes.now) r
-        → AreTexts was.forms was.hub r more.payload more.lines) }
-{
-    match reopen_hub(alloc, &records[..kept]) {
-        Ok(opened) => {
-            let mut opened = opened;
-            texts_of(alloc, &mut opened.hub, changes)
-        }
-        Err(RecordFault::NoMemory) => Err(AllocError),
-        Err(RecordFault::BadRecord { .. }) => unreachable!(),
-        Err(RecordFault::NotConsistent { .. }) => unreachable!(),
-    }
-}
-
-// The same over that hub. It is then as it was.
+// The snapshot of a hub, and the lines of the words that take these changes of it back. The hub is then as it was.
 fn texts_of(
     alloc: Global,
     hub: &mut Hub<Flat>,
@@ -177,19 +147,4 @@ fn words_of(
     };
     hub.replace(earlier);
     Ok(words)
-}
-
-// The fault in the words of a store.
-fn refused(fault: RecordFault) -> MakingFault
-    ensures { result ≡ fault_of fault }
-{
-    match fault {
-        RecordFault::BadRecord { number } => {
-            MakingFault::Refused(StoreRefusal::BadRecord { number })
-        }
-        RecordFault::NotConsistent { number } => {
-            MakingFault::Refused(StoreRefusal::NotConsistent { number })
-        }
-        RecordFault::NoMemory => MakingFault::NoMemory,
-    }
 }

@@ -6,18 +6,18 @@ ghost use Rattle.store_run.specs.Effects.{StandsOn};
 ghost use Rattle.store_run.specs.Refusals.{IsUnwritten, EndsRefused};
 ghost use Rattle.store_run.specs.Rooms.{most_bytes};
 ghost use Rattle.store_run.specs.declared.refusals.StoreRefusal.{StoreRefusal};
-ghost use Rattle.store_more.specs.MoreCall.{Exits, IsUntouched};
-ghost use Rattle.store_more.specs.MoreCauses.{IsMoreCause, OneHasNoRoom};
+ghost use Rattle.store_run.specs.MoreCall.{Exits, IsUntouched};
+ghost use Rattle.store_run.specs.MoreCauses.{IsMoreCause, OneHasNoRoom};
 ghost use Rattle.hub_undo.specs.HubUndoing.{HubUndoing, snapshot_text, undo_refusal, undo_text, undoing};
 ghost use Rattle.hub_undo.specs.UndoCall.{HubToUndo, IsSafeUndo, RefusedToUndo, UndoEnds, UndoesCall};
 
-use crate::making::{MakingFault, make};
+use crate::making::make;
 use command_ends::Status;
 use gate_log::Log;
 use lens_io::{Disk, Payloads, Sink};
 use std::alloc::Global;
-use store_more::store_one;
-use store_run::{read_store, refuse, refuse_store};
+use store_run::{read_store, refuse, refuse_store, store_last};
+use store_undo::MakingFault;
 
 /// Opens the store of a hub, and takes its document, its views and their complements back to what they were before the
 /// last `count` changes.
@@ -93,7 +93,7 @@ fn undo_payloads<K: Sink, D: Disk>(
     ensures disk_fault { result ≡ Status.DiskFault → DiskFailed D.Disk disk.old disk.new }
 {
     match make(alloc, count, payloads.as_slice()) {
-        Ok(more) => store_one(alloc, &more, log, sink, disk),
+        Ok(more) => store_last(alloc, &None, &more, log, sink, disk),
         Err(MakingFault::Refused(refusal)) => refuse(alloc, refusal, sink),
         Err(MakingFault::NoMemory) => Status::NoMemory,
     }

@@ -2,7 +2,6 @@
 
 ghost use Rattle.std.specs.Prelude.{◌≡◌, ◌++◌, IfOk, codes, decimal};
 ghost use Rattle.answer_text.specs.Lines.{tree_line};
-ghost use Rattle.serde_json.specs.Written.{compact_text};
 ghost use Rattle.edit_json.specs.WordJson.{tree_of_word};
 ghost use Rattle.edit_module.specs.Views.{word_tree, word_trees};
 ghost use Rattle.view_hub.specs.Views.{carried_tree, hub_tree};
@@ -10,11 +9,11 @@ ghost use Rattle.hub_run.specs.RunStates.{forms_of_lenses, state_of};
 ghost use Rattle.hub_run.specs.Runs.{state_text};
 ghost use Rattle.hub_undo.specs.HubUndoing.{view_undo_lines, words_text};
 
-use edit_json::append_word;
 use edit_module::Word;
 use hub_session::stored_state_lines;
 use lens_flat::Flat;
 use std::alloc::{AllocError, Global};
+use store_undo::with_word;
 use texts::Bytes;
 use view_hub::{Hub, HubCarried};
 
@@ -53,16 +52,4 @@ fn with_view(alloc: Global, bytes: Vec<u8>, number: u64, word: &Word) -> Result<
 {
     let label = format!(in alloc; "undo view {number} ")?;
     with_word(bytes, label.as_bytes(), word)
-}
-
-// These bytes, and behind them a label, the compact text of a word and a line feed.
-fn with_word(bytes: Vec<u8>, label: &[u8], word: &Word) -> Result<Vec<u8>, AllocError>
-    ensures { IfOk result (λ all. all.items
-        ≡ bytes.items ++ (label.now ++ (compact_text (tree_of_word (word_tree word.now)) ++ codes "\n"))) }
-{
-    let mut bytes = bytes;
-    bytes.extend_from_slice(label)?;
-    let mut bytes = append_word(bytes, word)?;
-    bytes.extend_from_slice(b"\n")?;
-    Ok(bytes)
 }

@@ -13,6 +13,7 @@ use Rattle.store_run.specs.Refusals.{refusal_line}
 use Rattle.store_run.specs.declared.refusals.StoreRefusal.TheVariants.{LogExists}
 use Rattle.store_new.specs.Command.{PartMeaning, Command}
 use Rattle.store_new.specs.NewEnds.{GivesLine, StopsAfter, MakesStore, Ends, MayRefuse, RefusesAtOnce, IsEnd, IsComplete, Completes}
+use Rattle.accepted_programs.specs.Program.{IsAccepted}
 use Rattle.store_new.specs.Scripts.{IsAcceptedPart, GoesOn}
 use Rattle.store_new.specs.NewStores.{IsTooLong, EndsMaking}
 use Rattle.command_ends.specs.Statuses.{IsAmong, import_statuses, init_statuses}

@@ -18,6 +18,7 @@ use Rattle.store_new.specs.NewEnds.{GivesLine, StopsAfter, Ends}
 use Rattle.store_new.specs.ScriptReading.{ReadsFront, RefusesWith}
 use Rattle.store_new.specs.Making.{EndsStore, EndsPlan}
 use Rattle.store_new.specs.Reading.{status_at}
+use Rattle.accepted_programs.specs.Program.{IsAccepted}
 use Rattle.store_new.specs.Scripts.{IsAcceptedPart, GoesOn}
 use Rattle.command_ends.specs.declared.status.Status.{Status}
 use Rattle.command_ends.specs.declared.status.Status.TheVariants.{SomeRefused, StoreRefused, DiskFault, NoMemory}

@@ -24,7 +24,8 @@ use Rattle.store_session.specs.WrittenStands.{one_stands}
 use Rattle.texts.specs.declared.side.Side.TheVariants.{Left}
 use Rattle.store_new.specs.NewEnds.{GivesLine, StopsAfter, Ends}
 use Rattle.store_new.specs.NewRooms.{PlanHasNoRoom, ScriptHasNoRoom}
-use Rattle.store_new.specs.Scripts.{IsAccepted, IsAcceptedPart, one_program}
+use Rattle.accepted_programs.specs.Program.{IsAccepted}
+use Rattle.store_new.specs.Scripts.{IsAcceptedPart, one_program}
 use Rattle.store_new.specs.NewStores.{HoldsStore, EndsMaking}
 use Rattle.command_ends.specs.declared.status.Status.{Status}
 use Rattle.command_ends.specs.declared.status.Status.TheVariants.{Done, SomeRefused, ProgramRefused, StoreRefused, SinkFault}

@@ -24,7 +24,8 @@ use Rattle.store_new.specs.Init.{program_payload, Begins, Starts, init_command}
 use Rattle.store_new.specs.Making.{EndsPlan}
 use Rattle.store_new.specs.NewRooms.{PlanHasNoRoom, ScriptHasNoRoom}
 use Rattle.store_new.specs.InitStores.{IsFirstStore}
-use Rattle.store_new.specs.Scripts.{IsAccepted, IsAcceptedPart, one_program}
+use Rattle.accepted_programs.specs.Program.{IsAccepted}
+use Rattle.store_new.specs.Scripts.{IsAcceptedPart, one_program}
 use Rattle.store_new.specs.NewStores.{HoldsStore, EndsMaking}
 use Rattle.command_ends.specs.declared.status.Status.{Status}
 use Rattle.command_ends.specs.declared.status.Status.TheVariants.{Done, SomeRefused, ProgramRefused, StoreRefused, SourceFault, SinkFault, DiskFault}

@@ -21,7 +21,8 @@ use Rattle.store_new.specs.Command.{PartMeaning}
 use Rattle.store_new.specs.NewEnds.{StopsAfter}
 use Rattle.store_new.specs.ScriptReading.{ReadsScript, ReadsRefused, ReadsFront}
 use Rattle.store_new.specs.Reading.{status_at}
-use Rattle.store_new.specs.Scripts.{IsAccepted, IsAcceptedPart, GoesOn, one_program}
+use Rattle.accepted_programs.specs.Program.{IsAccepted}
+use Rattle.store_new.specs.Scripts.{IsAcceptedPart, GoesOn, one_program}
 
 -- ---- a stop
 

@@ -33,7 +33,8 @@ use Rattle.texts.specs.declared.side.Side.TheVariants.{Left, Right}
 use Rattle.value_json.specs.DocumentJson.{document_of}
 use Rattle.store_new.specs.Init.{program_payload}
 use Rattle.store_new.specs.Command.{Command}
-use Rattle.store_new.specs.Scripts.{IsAccepted, one_program}
+use Rattle.accepted_programs.specs.Program.{IsAccepted}
+use Rattle.store_new.specs.Scripts.{one_program}
 use Rattle.store_new.specs.NewStores.{HoldsStore}
 use Rattle.store_new.specs.declared.refused.ImportRefusal.{ImportRefusal}
 use Rattle.store_new.specs.declared.refused.ImportRefusal.TheVariants.{NoDocument, ExtraLine, LineTooLong, NotJson}

@@ -15,7 +15,8 @@ use Rattle.script_input.specs.Lines.{program_part}
 use Rattle.store_records.specs.RecordJson.{tree_of_program}
 use Rattle.store_session.specs.Stands.{at_start, stands}
 use Rattle.store_new.specs.Command.{Command}
-use Rattle.store_new.specs.Scripts.{IsAccepted, one_program}
+use Rattle.accepted_programs.specs.Program.{IsAccepted}
+use Rattle.store_new.specs.Scripts.{one_program}
 use Rattle.store_new.specs.NewStores.{HoldsStore}
 
 -- the payload of a program: its canonical text, in a store of version 2

@@ -11,6 +11,7 @@ use Rattle.script_input.specs.Lines.{program_part}
 use Rattle.store_run.specs.Refusals.{IsUnwritten, refusal_line}
 use Rattle.store_run.specs.declared.refusals.StoreRefusal.TheVariants.{LogExists}
 use Rattle.store_new.specs.Command.{PartMeaning, Command}
+use Rattle.accepted_programs.specs.Program.{IsAccepted}
 use Rattle.store_new.specs.Scripts.{IsAcceptedPart, GoesOn, RefusesPart}
 use Rattle.store_new.specs.NewStores.{IsTooLong, EndsMaking}
 use Rattle.command_ends.specs.declared.status.Status.{Status}

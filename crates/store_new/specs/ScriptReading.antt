@@ -15,7 +15,8 @@ use Rattle.script_input.specs.Lines.{program_part}
 use Rattle.store_new.specs.Command.{PartMeaning}
 use Rattle.store_new.specs.NewEnds.{GivesLine, StopsAfter}
 use Rattle.store_new.specs.Reading.{status_at}
-use Rattle.store_new.specs.Scripts.{IsAccepted, IsLineBy, one_program}
+use Rattle.accepted_programs.specs.Program.{IsAccepted}
+use Rattle.store_new.specs.Scripts.{IsLineBy, one_program}
 use Rattle.store_new.specs.declared.scripts.Unread.{Unread}
 use Rattle.store_new.specs.declared.scripts.Unread.TheVariants.{Refused as IsNoProgram, Stopped}
 use Rattle.command_ends.specs.declared.status.Status.{Status}

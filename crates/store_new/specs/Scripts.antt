@@ -4,16 +4,9 @@ use Rattle.accepted_programs.specs.Program.{Refusal, lens_of}
 use Rattle.answer_text.specs.RefusalLines.{refused_part_line}
 use Rattle.lens_forms.specs.Forms.{FormTree}
 use Rattle.lens_io.specs.declared.source.Source as OfSource
-use Rattle.lens_syntax.specs.Programs.{bounded}
-use Rattle.program_terms.specs.Terms.{ProgramTree}
 use Rattle.script_input.specs.Coming.{has_separator, IsWhole}
 use Rattle.script_input.specs.Lines.{program_part}
 use Rattle.store_new.specs.Command.{PartMeaning}
-
--- This program part is read as the program, and its lens has the form.
-pub record IsAccepted (part : List ℕ) (program : ProgramTree) (form : FormTree) : Type 0 where
-  pub read : bounded part ≡ Ok program
-  pub has_lens : lens_of part ≡ Ok form
 
 -- a program part that is one program: its lens, or the refusal of the program
 abbrev pub one_program : PartMeaning

@@ -32,9 +32,9 @@ ghost use Rattle.store_new.specs.ImportStores.{EndsImport, IsEntryText, IsFoundS
 use crate::document::{DocumentFault, Found, document_of, find_lines};
 use crate::scripts::status_at;
 use crate::{
-    Accepted, LOG_EXISTS, StoreText, Unread, accepted_part, first_session, give_line, make_store,
-    refuse_program,
+    LOG_EXISTS, StoreText, Unread, first_session, give_line, make_store, refuse_program,
 };
+use accepted_programs::Accepted;
 use answer_text::ok_line;
 use command_ends::Status;
 use doc_values::Doc;
@@ -45,7 +45,7 @@ use lens_core::EditLens;
 use lens_io::{Disk, Payloads, Sink, Source, TakeFault};
 use lens_types::Typed;
 use pair_answers::state_lines;
-use script_input::{Head, piece_buffer, read_head};
+use script_input::{Head, accepted_part, piece_buffer, read_head};
 use std::alloc::{AllocError, Global};
 use store_records::{change_payload, program_payload};
 use texts::{Bytes, Side};

@@ -19,9 +19,8 @@ ghost use Rattle.store_new.specs.Scripts.{one_program};
 ghost use Rattle.store_new.specs.InitStores.{IsFirstStore};
 
 use crate::scripts::status_at;
-use crate::{
-    Accepted, LOG_EXISTS, StoreText, Unread, give_line, make_store, read_script, refuse_program,
-};
+use crate::{LOG_EXISTS, StoreText, Unread, give_line, make_store, read_script, refuse_program};
+use accepted_programs::Accepted;
 use command_ends::Status;
 use edit_session::Session;
 use lens_flat::Flat;

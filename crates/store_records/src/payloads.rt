@@ -70,8 +70,8 @@ pub fn version_payload(alloc: Global) -> Result<Bytes, AllocError>
     payload_of(alloc, &tree)
 }
 
-// An object with one member.
-fn record_named(alloc: Global, name: &str, content: Value) -> Result<Value, AllocError>
+/// An object with one member. Fails only if memory runs out.
+pub fn record_named(alloc: Global, name: &str, content: Value) -> Result<Value, AllocError>
     ensures { IfOk result (λ tree. view tree ≡ one_member name.now (view content)) }
 {
     let mut members = Map::new(alloc);

@@ -68,7 +68,7 @@ module _ (count : ℕ) (held : List (List ℕ)) (twice : OpenedTwice) (cs : List
       let are = subst (λ (t : TripleTree). AreTexts form t words made.texts) same here.0 in
       let back = subst (λ (t : TripleTree). BringsBack (left_type form) (right_type form) words now.triple t) same here.1 in
       let was = parts.was in
-      let stand = undone_stands held now was.triple made.texts.snapshot stood.now are.snapshot in
+      let stand = undone_stands held now was.triple made.texts.payload stood.now are.snapshot in
       record {
         u = record { now = now; before = was.triple; words = words };
         is = parts.undoes;

@@ -94,18 +94,6 @@ impl<T: Drop> From<AllocFailed<T>> for HubGroupFault {
     }
 }
 
-impl Twin for HubGroupFault {
-    ghost use Rattle.view_hub.specs.declared.fault.HubGroupFault.{HubGroupFault};
-
-    ghost Meaning = { HubGroupFault };
-
-    ghost meaning = { λ fault. fault };
-
-    fn twin(&self, _alloc: Global) -> Result<Self, AllocError> {
-        Ok(*self)
-    }
-}
-
 impl Twin for HubFault {
     ghost use Rattle.view_hub.specs.declared.fault.HubFault.{HubFault};
 

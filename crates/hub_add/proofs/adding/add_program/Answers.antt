@@ -18,9 +18,9 @@ returns-clause-ends g c =
       ends = inl (record {
         d1 = c.args.disk.now;
         log = c.args.log.now;
-        log' = c.store_one.new.log;
+        log' = c.store_last.new.log;
         opens = opening_none disk g.met.D.Disk.only_now c.args.disk.now;
         stands = st;
-        ends = c.store_one.ensures.ends;
+        ends = c.store_last.ensures.ends;
       });
     })

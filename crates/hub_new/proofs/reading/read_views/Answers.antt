@@ -5,16 +5,6 @@ use Rattle.script_input.specs.Lines.{program_part}
 use Rattle.hub_new.proofs.HubsRead.{part_unread, rest_hub, rest_unread}
 use Rattle.hub_new.proofs.reading.read_views.Goals as goal
 
-pub accepted_views-requires : goal.accepted_views-requires
-accepted_views-requires g c =
-    let whole = rw c.in-Ok-Whole.field-0-is at c.in-Ok-Whole.ensures.head in
-    record { held = (program_part whole.bytes, whole.holds) }
-
-pub accepted_views-2-requires : goal.accepted_views-2-requires
-accepted_views-2-requires g c =
-    let part = rw c.in-Ok-Separated.field-0-is at c.in-Ok-Separated.ensures.head in
-    record { held = (part.part, part.holds) }
-
 pub returns-in-Ok-skip_rest-clause-script : goal.returns-in-Ok-skip_rest-clause-script
 returns-in-Ok-skip_rest-clause-script g c =
     let part = c.in-Ok-Separated in

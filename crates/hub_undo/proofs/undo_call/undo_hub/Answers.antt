@@ -5,7 +5,7 @@ use Rattle.store_run.specs.declared.opening.OpenFault.TheVariants.{DiskFault}
 use Rattle.store_run.proofs.Openings.{same_room, unwritten_then}
 use Rattle.store_run.proofs.StoredPayloads.{images_held, reads_held}
 use Rattle.store_run.proofs.StoreOpenings.{ends_refused, fails_to_open, refused_by_log, same_fault, same_payloads, unopened_at_disk, unread_log}
-use Rattle.store_more.proofs.MoreCauses.{more_cause, more_complete}
+use Rattle.store_run.proofs.MoreCauses.{more_cause, more_complete}
 use Rattle.hub_undo.specs.HubUndoing.{refusal_of_log, snapshot_text, undo_text, undoing}
 use Rattle.hub_undo.specs.UndoCall.{UndoEnds}
 use Rattle.hub_undo.proofs.UndoCalls.{ends_behind, exits_of, safe_kept, safe_of_ends, undoes_call}

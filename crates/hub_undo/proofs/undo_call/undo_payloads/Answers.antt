@@ -5,7 +5,7 @@ use Rattle.store_run.proofs.Openings.{unwritten_none, opening_none}
 use Rattle.store_run.proofs.StoredPayloads.{images_held}
 use Rattle.hub_undo.specs.HubUndoing.{HubUndoing, snapshot_text, undoing, undo_refusal}
 use Rattle.hub_undo.specs.UndoCall.{UndoEnds}
-use Rattle.hub_undo.specs.UndoMaking.{IsMakingFault}
+use Rattle.store_undo.specs.Making.{IsMakingFault}
 use Rattle.hub_undo.proofs.UndoRefusals.{same_refusal, never_refused, same_undoing}
 use Rattle.hub_undo.proofs.undo_call.undo_payloads.Goals as goal
 
@@ -14,15 +14,15 @@ returns-in-Ok-clause-ends g c =
     let disk = g.D.Disk in
     let only = g.met.D.Disk.only_now in
     let k = c.args.sink.now in
-    let k' = c.store_one.new.sink in
+    let k' = c.store_last.new.sink in
     let d = c.args.disk.now in
-    let d' = c.store_one.new.disk in
+    let d' = c.store_last.new.disk in
     let l = c.args.log.now in
-    let l' = c.store_one.new.log in
+    let l' = c.store_last.new.log in
     let before = c.args.payloads.now in
     let made = rw c.as_slice.ensures at c.in-Ok.ensures in
     let more = c.in-Ok.more in
-    let status = c.store_one.result in
+    let status = c.store_last.result in
     λ u st h.
     let same = same_undoing (undoing c.args.count before) made.u u made.is h in
     subst (λ (x : HubUndoing). UndoEnds g.K.Sink disk (k, d) (k', d') before x status) same
@@ -35,7 +35,7 @@ returns-in-Ok-clause-ends g c =
         opens = opening_none disk only d;
         ends =
             subst (λ (y : List ℕ). StoreEnds g.K.Sink disk (k, d, l) (k', d', l') y [] (snapshot_text made.u) status) made.lines
-            (subst (λ (x : List ℕ). StoreEnds g.K.Sink disk (k, d, l) (k', d', l') more.lines [] x status) made.snapshot c.store_one.ensures.ends);
+            (subst (λ (x : List ℕ). StoreEnds g.K.Sink disk (k, d, l) (k', d', l') more.lines [] x status) made.snapshot c.store_last.ensures.ends);
       },
       made.takes_back,
     ))

@@ -1,2 +1,0 @@
-pub mod MoreCalls
-pub mod MoreCauses

@@ -1,2 +1,0 @@
-pub mod MoreCall
-pub mod MoreCauses
