@@ -1,5 +1,5 @@
 //! The words of the command line.
-ghost use Rattle.std.specs.Prelude.{◌≡◌, length, map, string_bytes};
+ghost use Rattle.std.specs.Prelude.{◌≡◌, map, string_bytes};
 ghost use Rattle.edithub_main.specs.HubOrders.{only_reads, order_of, plain_order, undo_order};
 
 use command_words::read_count;
@@ -31,8 +31,8 @@ pub fn read_order(words: &[String]) -> Option<HubOrder>
     ensures { result ≡ order_of (map string_bytes words.now) }
 {
     match words.len() {
-        2 => read_two(words),
-        3 => read_three(words),
+        2 => plain_order(words[1].as_str()),
+        3 => undo_order(words[1].as_str(), words[2].as_str()),
         _ => None,
     }
 }
@@ -42,22 +42,6 @@ pub fn only_reads(words: &[String]) -> bool
     ensures { result ≡ only_reads (order_of (map string_bytes words.now)) }
 {
     matches!(read_order(words), Some(HubOrder::Show | HubOrder::Verify))
-}
-
-// Two words name a command of one word, or nothing.
-fn read_two(words: &[String]) -> Option<HubOrder>
-    requires { length words.now ≡ 2 }
-    ensures { result ≡ order_of (map string_bytes words.now) }
-{
-    plain_order(words[1].as_str())
-}
-
-// Three words name `undo` with its number, or nothing.
-fn read_three(words: &[String]) -> Option<HubOrder>
-    requires { length words.now ≡ 3 }
-    ensures { result ≡ order_of (map string_bytes words.now) }
-{
-    undo_order(words[1].as_str(), words[2].as_str())
 }
 
 // The command that is written as this one word.

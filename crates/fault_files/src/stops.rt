@@ -101,8 +101,8 @@ fn allowed_of_apply(
     }
 }
 
-// The records are stored in order: a version record and a snapshot, or a view. Nothing is stored before all is read, and
-// all before anything is written.
+// The records are stored in order: a version record and a snapshot, or a view. Nothing is stored before all is read,
+// and all before anything is written.
 fn allowed_of_records(before: usize, after: usize, fault: Option<Fault>) -> Allowed {
     match fault {
         Some(Fault::Disk) => Allowed::Front(before, after),

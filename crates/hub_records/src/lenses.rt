@@ -1,16 +1,13 @@
 //! The lenses of a stored hub.
 
 ghost use Rattle.std.specs.Prelude.{◌≡◌, ◌++◌, ◌∷◌, [], Some, IfOk, IfSome, OnOk, OnErr, option_map};
-ghost use Rattle.std.specs.Prelude.{option_and_then};
 ghost use Rattle.serde_json.specs.View.{view, items_view};
 ghost use Rattle.lens_forms.specs.Forms.{form_tree};
 ghost use Rattle.store_records.specs.StoredLens.{form_of_text};
-ghost use Rattle.edit_journal.specs.EntryJson.{tree_of_text};
 ghost use Rattle.view_hub.specs.Laws.{HaveOneLeftType};
 ghost use Rattle.view_hub.specs.Views.{hub_tree};
 ghost use Rattle.hub_run.specs.RunStates.{forms_of_lenses, ready_lens};
 ghost use Rattle.hub_records.specs.HubLenses.{form_of_item, forms_of_items, forms_of_payload, joining, joins};
-ghost use Rattle.hub_records.specs.HubRecords.{programs_of};
 ghost use Rattle.hub_records.specs.HubStands.{view_more};
 ghost use Rattle.hub_records.specs.OneLeftType.{HasOneLeft};
 
@@ -36,18 +33,10 @@ pub(crate) fn lenses_of_payload(
         ≡ forms_of_payload payload.now) }
     ensures one_left { IfOk result (λ o. IfSome o (λ ls. HaveOneLeftType ready_lens ls.items)) }
 {
-    match read_tree(alloc, payload)? {
-        Some(tree) => lenses_of_tree(alloc, &tree),
-        None => Ok(None),
-    }
-}
-
-fn lenses_of_tree(alloc: Global, tree: &Value) -> Result<Option<Vec<Flat>>, AllocError>
-    ensures forms { IfOk result (λ o. option_map (λ ls. forms_of_lenses ls.items) o
-        ≡ option_and_then forms_of_items (programs_of (view tree.now))) }
-    ensures one_left { IfOk result (λ o. IfSome o (λ ls. HaveOneLeftType ready_lens ls.items)) }
-{
-    match programs_in(tree) {
+    let Some(tree) = read_tree(alloc, payload)? else {
+        return Ok(None);
+    };
+    match programs_in(&tree) {
         Some(items) => lenses_of_items(alloc, items),
         None => Ok(None),
     }

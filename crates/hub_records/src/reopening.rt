@@ -6,7 +6,7 @@ ghost use Rattle.view_hub.specs.Views.{hub_tree};
 ghost use Rattle.hub_run.specs.RunStates.{forms_of_lenses, IsHubOf};
 ghost use Rattle.hub_run.specs.Runs.{hub_of};
 ghost use Rattle.hub_records.specs.HubLenses.{forms_of_payload, stored_forms};
-ghost use Rattle.hub_records.specs.HubRecords.{record_in, record_of, change_record, add_record, snapshot_record};
+ghost use Rattle.hub_records.specs.HubRecords.{record_in, change_record, add_record, snapshot_record};
 ghost use Rattle.hub_records.specs.HubStands.{after_record, at_start, stands_for};
 ghost use Rattle.hub_records.specs.Outcomes.{IsFirstFault, IsStandFault, Reaches};
 ghost use Rattle.hub_records.specs.Views.{hub_change_tree, hub_standing};
@@ -156,30 +156,13 @@ fn take_record(
     let Some(tree) = read_tree(alloc, payload)? else {
         return Err(RecordFault::BadRecord { number });
     };
-    take_tree(alloc, number, &tree, opened)
-}
-
-// Goes on by the record of this tree.
-fn take_tree(
-    alloc: Global,
-    number: u64,
-    tree: &Value,
-    opened: &mut OpenedHub,
-) -> Result<(), RecordFault>
-    requires count { opened.old.count < number }
-    ensures stands { Reaches result
-        (after_record number (hub_standing opened.old.hub opened.old.count)
-        (record_of (view tree.now)))
-        (hub_standing opened.new.hub opened.new.count) }
-    ensures count { opened.new.count ≤ opened.old.count + 1 }
-{
-    if let Some(change) = change_in(alloc, tree)? {
+    if let Some(change) = change_in(alloc, &tree)? {
         return take_change(number, &change, opened);
     }
-    if let Some(text) = add_in(tree) {
+    if let Some(text) = add_in(&tree) {
         return take_added(alloc, number, text, &mut opened.hub);
     }
-    match snapshot_in(tree) {
+    match snapshot_in(&tree) {
         Some((hub, views)) => take_snapshot(alloc, number, hub, views, &mut opened.hub),
         None => Err(RecordFault::BadRecord { number }),
     }

@@ -76,7 +76,8 @@ pub struct AcceptedViews {
 }
 
 impl Pieces {
-    /// The lenses of the views, one for each piece, or why the program part is refused: as [`Pieces::views`] refuses it.
+    /// The lenses of the views, one for each piece, or why the program part is refused: as [`Pieces::views`] refuses
+    /// it.
     pub fn lenses(&self, alloc: Global) -> Result<Vec<Typed>, HubRefused>
         ensures lenses { (ended : List (List ℕ)) (begun : List ℕ) → HoldsPieces self.now ended begun
             → MatchResult result
@@ -92,8 +93,8 @@ impl Pieces {
         }
     }
 
-    /// The programs of the views and their lenses, one for each piece, or why the program part is refused. Each piece is
-    /// read once. The part is refused by the first of these:
+    /// The programs of the views and their lenses, one for each piece, or why the program part is refused. Each piece
+    /// is read once. The part is refused by the first of these:
     ///
     /// - `TooManyViews`: if and only if there are more than 64 pieces.
     /// - Then, for each piece in order, `InView`: if and only if its program is refused, with the number of the view

@@ -3,9 +3,9 @@
 use crate::answering::answer_line;
 use crate::opening::open;
 use crate::session::HubSession;
-use crate::showing::stored_state_lines;
-use crate::snapshots::snapshot_of;
 use edit_journal::Line;
+use hub_records::snapshot_payload;
+use hub_run::{hub_state_lines, is_in_step};
 use lens_io::Payloads;
 use std::alloc::{AllocError, Global};
 use store_run::{Opened, ReopenFault, StoredAnswer, StoredSession};
@@ -54,7 +54,8 @@ impl StoredSession for HubSession {
     }
 
     fn snapshot(&self, alloc: Global) -> Result<Bytes, AllocError> {
-        snapshot_of(alloc, &self.hub)
+        is_in_step(&self.hub);
+        snapshot_payload(alloc, &self.hub)
     }
 
     fn answer(
@@ -67,6 +68,7 @@ impl StoredSession for HubSession {
     }
 
     fn state_lines(&self, alloc: Global) -> Result<Bytes, AllocError> {
-        stored_state_lines(alloc, &self.hub)
+        let text = hub_state_lines(alloc, &self.hub)?;
+        Ok(Bytes::from_vec(text))
     }
 }

@@ -10,8 +10,5 @@ mod instance;
 mod lines;
 mod opening;
 mod session;
-mod showing;
-mod snapshots;
 
 pub use crate::session::HubSession;
-pub use crate::showing::stored_state_lines;

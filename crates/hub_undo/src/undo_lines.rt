@@ -10,7 +10,7 @@ ghost use Rattle.hub_run.specs.Runs.{state_text};
 ghost use Rattle.hub_undo.specs.HubUndoing.{view_undo_lines, words_text};
 
 use edit_module::Word;
-use hub_session::stored_state_lines;
+use hub_run::hub_state_lines;
 use lens_flat::Flat;
 use std::alloc::{AllocError, Global};
 use store_undo::with_word;
@@ -28,8 +28,8 @@ pub(crate) fn undo_lines(
 {
     let first = with_word(Vec::new(alloc), b"undo hub ", &words.hub)?;
     let mut text = with_views(alloc, first, words.views.as_slice())?;
-    let state = stored_state_lines(alloc, hub)?;
-    text.extend_from_slice(state.as_slice())?;
+    let state = hub_state_lines(alloc, hub)?;
+    text.extend_from_slice(&state)?;
     Ok(Bytes::from_vec(text))
 }
 

@@ -31,9 +31,7 @@ ghost use Rattle.store_new.specs.ImportStores.{EndsImport, IsEntryText, IsFoundS
 
 use crate::document::{DocumentFault, Found, document_of, find_lines};
 use crate::scripts::status_at;
-use crate::{
-    LOG_EXISTS, StoreText, Unread, first_session, give_line, make_store, refuse_program,
-};
+use crate::{LOG_EXISTS, StoreText, Unread, first_session, give_line, make_store, refuse_program};
 use accepted_programs::Accepted;
 use answer_text::ok_line;
 use command_ends::Status;

@@ -60,7 +60,11 @@ pub fn read_document(alloc: Global, ty: &Ty, tree: &Value) -> Result<Option<Doc>
 }
 
 /// The complement of a tree. None if and only if it does not fit this lens. Fails only if memory runs out.
-pub fn read_complement(alloc: Global, typed: &Typed, tree: &Value) -> Result<Option<Comp>, AllocError>
+pub fn read_complement(
+    alloc: Global,
+    typed: &Typed,
+    tree: &Value,
+) -> Result<Option<Comp>, AllocError>
     ensures { IfOk result (λ comp. option_map comp_tree comp ≡ complement_of (form_tree typed.now) (view tree.now)) }
 {
     // The proof needs that the form is typed, which this call says.

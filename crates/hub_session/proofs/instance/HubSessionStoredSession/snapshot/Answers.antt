@@ -1,9 +1,9 @@
 use Rattle.view_hub.specs.Views.{hub_tree}
 use Rattle.hub_records.proofs.HubSteps.{all_typed, hub_of_forms}
-use Rattle.hub_session.proofs.snapshots.snapshot_of.Goals as goal
+use Rattle.hub_session.proofs.instance.HubSessionStoredSession.snapshot.Goals as goal
 
 pub returns : goal.returns
 returns c =
-    let hub = c.args.hub.now in
-    let e = c.in_ok-payload.ensures in
+    let hub = c.args.self.now.hub in
+    let e = c.snapshot_payload.ensures in
     record { reads = e.reads_back; typed = all_typed hub.lenses; in_step = hub_of_forms hub.lenses (hub_tree hub.parts) c.is_in_step.ensures; whole = e.ints }
