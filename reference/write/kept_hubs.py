@@ -146,6 +146,20 @@ def two_views():
     yield case.rows()
 
 
+def each_command():
+    """Each command once where it is done and once where it is refused."""
+    case = Case(FIRST, SECOND)
+    case.apply(X3, [Q2, A4], (7, []))
+    case.look()
+    case.undo(1)
+    case.pack()
+    case.add(THIRD, "\n---\n")
+    case.refused_add("main id int", "views-differ 3")
+    case.undo(1)
+    case.apply((2, [{"at": ["z", [{"set": 7}]]}]))
+    yield case.rows()
+
+
 def most_views():
     """63 views, one more, and one more than there may be."""
     many = [("rec", [("a", "v%d" % view, ("id", INT)), ("right", "own", TEXT)]) for view in range(65)]
@@ -277,4 +291,4 @@ def files():
     """The file of cases, and that of the steps in which every call of a device fails."""
     parts = (two_views, most_views, by_chance, words, failing, forged)
     yield "case_hubs/data/kept_hubs.cases", b"".join(row for part in parts for row in part())
-    yield "case_hub_faults/data/hub_faults.cases", b"".join(row for part in (two_views, refused_scripts) for row in part())
+    yield "case_hub_faults/data/hub_faults.cases", b"".join(row for part in (each_command, refused_scripts) for row in part())
