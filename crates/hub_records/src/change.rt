@@ -7,7 +7,7 @@ ghost use Rattle.edit_journal.specs.Reading.{Gives};
 ghost use Rattle.view_hub.specs.Views.{edit_trees};
 ghost use Rattle.hub_records.specs.HubChanges.{all_counts_fit, are_edits, change_of_line, change_of_text};
 ghost use Rattle.hub_records.specs.HubChanges.{change_of_tree, edits_of, edits_of_items, group_of_items};
-ghost use Rattle.hub_records.specs.HubRecords.{change_in, known_change};
+ghost use Rattle.hub_records.specs.HubRecords.{change_in};
 ghost use Rattle.hub_records.specs.Views.{hub_change_tree};
 
 use edit_journal::{EntryFault, Line, group_items, read_tree};

@@ -4,8 +4,8 @@ ghost use Rattle.std.specs.Prelude.{◌≡◌, ◌&&◌, option_map, codes, byte
 ghost use Rattle.serde_json.specs.Find.{as_array};
 ghost use Rattle.serde_json.specs.View.{view, items_view};
 ghost use Rattle.value_json.specs.Numbers.{count_of};
-ghost use Rattle.hub_records.specs.HubRecords.{add_in, complement_and_view, hub_and_views, is_first_version};
-ghost use Rattle.hub_records.specs.HubRecords.{programs_of, programs_with_version, snapshot_in, view_parts};
+ghost use Rattle.hub_records.specs.HubRecords.{add_in, is_first_version};
+ghost use Rattle.hub_records.specs.HubRecords.{programs_of, snapshot_in, view_parts};
 
 use serde_json::Value;
 use value_json::{only_member, read_count, two_members};

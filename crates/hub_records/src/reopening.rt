@@ -3,9 +3,8 @@
 ghost use Rattle.std.specs.Prelude.{◌≡◌, ◌<◌, ◌≤◌, ◌+◌, ℕ, Some, Ok, IfOk, MatchResult, length, option_map, take};
 ghost use Rattle.serde_json.specs.View.{view, items_view};
 ghost use Rattle.view_hub.specs.Views.{hub_tree};
-ghost use Rattle.hub_run.specs.RunStates.{forms_of_lenses, IsHubOf};
-ghost use Rattle.hub_run.specs.Runs.{hub_of};
-ghost use Rattle.hub_records.specs.HubLenses.{forms_of_payload, stored_forms};
+ghost use Rattle.hub_run.specs.RunStates.{IsHubOf};
+ghost use Rattle.hub_records.specs.HubLenses.{forms_of_payload};
 ghost use Rattle.hub_records.specs.HubRecords.{record_in, change_record, add_record, snapshot_record};
 ghost use Rattle.hub_records.specs.HubStands.{after_record, at_start, stands_for};
 ghost use Rattle.hub_records.specs.Outcomes.{IsFirstFault, IsStandFault, Reaches};

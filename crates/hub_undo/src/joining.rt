@@ -1,6 +1,6 @@
 // Words of all documents of a hub, joined.
 
-ghost use Rattle.std.specs.Prelude.{◌≡◌, IfOk, List, length, map};
+ghost use Rattle.std.specs.Prelude.{◌≡◌, IfOk, length};
 ghost use Rattle.edit_module.specs.Views.{word_tree, word_trees};
 ghost use Rattle.edit_module.specs.Words.{joined};
 ghost use Rattle.view_hub.specs.Views.{carried_tree};

@@ -1,6 +1,6 @@
 //! The words that take a hub back over edits.
 
-ghost use Rattle.std.specs.Prelude.{◌≡◌, ◌<◌, true, length, List, ℕ, IfOk, IfSome, Ok, option_map};
+ghost use Rattle.std.specs.Prelude.{◌≡◌, ◌<◌, true, length, List, IfOk, IfSome, Ok, option_map};
 ghost use Rattle.doc_values.specs.Documents.{DocTree, doc_tree};
 ghost use Rattle.doc_values.specs.Types.{ty_tree, is_well_formed};
 ghost use Rattle.doc_values.specs.Typing.{has};

@@ -4,8 +4,8 @@ ghost use Rattle.std.specs.Prelude.{◌≡◌, ◌++◌, IfOk, codes, decimal};
 ghost use Rattle.answer_text.specs.Lines.{tree_line};
 ghost use Rattle.edit_json.specs.WordJson.{tree_of_word};
 ghost use Rattle.edit_module.specs.Views.{word_tree, word_trees};
-ghost use Rattle.view_hub.specs.Views.{carried_tree, hub_tree};
-ghost use Rattle.hub_run.specs.RunStates.{forms_of_lenses, state_of};
+ghost use Rattle.view_hub.specs.Views.{carried_tree};
+ghost use Rattle.hub_run.specs.RunStates.{state_of};
 ghost use Rattle.hub_run.specs.Runs.{state_text};
 ghost use Rattle.hub_undo.specs.HubUndoing.{view_undo_lines, words_text};
 
