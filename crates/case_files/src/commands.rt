@@ -20,8 +20,8 @@ pub trait Commands {
 }
 
 /// Runs the commands of the files that the words of the program name, which lie in the folder where it runs. Each file
-/// gives one line, as `commands: 90 cases, 0 differ`. Above it is what was wanted and what came for the first steps that
-/// differ. It is refused if a case differs, and if a file is not readable or has no case.
+/// gives one line, as `commands: 90 cases, 0 differ`. Above it is what was wanted and what came for the first steps
+/// that differ. It is refused if a case differs, and if a file is not readable or has no case.
 pub fn run_files<C: Commands>(rt: &HostRuntime) -> Result<()> {
     let alloc = rt.alloc();
     let words: Vec<String> = env::args(rt)?.collect(alloc)?;
