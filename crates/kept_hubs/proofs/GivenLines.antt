@@ -115,9 +115,6 @@ given_lines r (line ∷ lines) texts after g =
 
 -- ---- the report
 
-some_same : (x y : List ℕ) → Some x ≡ Some y → x ≡ y
-some_same x y h = cc
-
 ends : (b : Bool) → IsFinished (end_of b)
 ends true = inr refl
 ends false = inl refl
@@ -128,9 +125,11 @@ module _ (script : List ℕ) (lines : List (List ℕ)) (texts : List ℕ) (behin
   reported r last_one shown s c h =
       let first = first_state (forms_of r) in
       let goes : run answer first 0 (map line_of lines) ≡ Some c.steps = ap₂ (λ (t : HubState) n. run answer t n (map line_of lines)) (sym s.first) (sym s.number) ∙ c.is_run in
+      let is : Some (state_text (hub_state last_one)) ≡ Some shown.text.items = h.text in
+      let state_is : state_text (hub_state last_one) ≡ shown.text.items = cc in
       let text : answer_lines c.steps ++ state_text (last first c.steps) ≡ texts ++ shown.text.items =
       ap₂ (λ x y. x ++ y) (sym c.is_texts)
-      (ap state_text (ap (λ (t : HubState). last t c.steps) (sym s.first) ∙ sym c.comes_to) ∙ some_same (state_text (hub_state last_one)) shown.text.items h.text) in
+      (ap state_text (ap (λ (t : HubState). last t c.steps) (sym s.first) ∙ sym c.comes_to) ∙ state_is) in
       record {
         status = end_of (any_refused c.steps);
         finished = ends (any_refused c.steps);

@@ -1,6 +1,7 @@
 -- The state of a hub, as loops over its views read and decide it.
-use Rattle.std.proofs.Common.{◌≡◌, ℕ, zero, suc, ◌+◌, ◌*◌, ◌<◌, ◌≤◌, ◌-◌, List, [], ◌∷◌, ◌++◌, map, length, take, drop, get_or, Option, None, Some, inl, inr, refl, sym, ap, ap₂, subst, ◌∙◌, append_assoc, append-nil, arith}
+use Rattle.std.proofs.Common.{◌≡◌, ℕ, suc, ◌+◌, ◌*◌, ◌<◌, ◌≤◌, ◌-◌, List, [], ◌∷◌, ◌++◌, map, length, take, drop, get_or, Option, None, Some, inl, inr, refl, sym, ap, ap₂, subst, ◌∙◌, append_assoc, append-nil, arith}
 use Rattle.std.specs.Prelude.{MatchOption}
+use Rattle.std.proofs.Math.ListN.{get_or-map}
 use Rattle.std.proofs.lemmas.List.{drop_all, drop_more, length-map, take_all}
 use Rattle.doc_values.specs.Documents.{DocTree, doc_tree}
 use Rattle.doc_values.specs.Types.{TyTree}
@@ -14,7 +15,7 @@ use Rattle.view_hub.specs.declared.view.HubParts.{HubParts}
 use Rattle.view_hub.specs.declared.view.View as a_view
 use Rattle.hub_run.specs.FormLenses.{form_lens}
 use Rattle.kept_sessions.specs.States.{IsOfType, IsNotOfType}
-use Rattle.kept_hubs.specs.Resuming.{AreViewTexts, AreStateTexts, IsViewsFault, IsViewOf, IsOutOfStep, IsNotHub, IsStateFault}
+use Rattle.kept_hubs.specs.Resuming.{AreViewTexts, AreStateTexts, IsViewsFault, IsViewOf, IsOutOfStep, IsNotHub, IsStateFault, text_count}
 use Rattle.kept_hubs.specs.StateSteps.{IsViewText, IsViewFault, IsViewsEnd, IsTextsFault, AreAllInStep}
 use Rattle.kept_hubs.specs.declared.outcome.HubStateFault.{HubStateFault}
 use Rattle.kept_hubs.specs.declared.outcome.HubStateFault.TheVariants as fault
@@ -151,14 +152,15 @@ not_hub (u ∷ typed) (x ∷ texts) t text some is within text_is not =
     subst (λ (v : Typed). IsNotOfType (left_type (form_tree v)) x) is (subst (λ (y : List ℕ). IsNotOfType (left_type (form_tree t)) y) text_is not)
 
 -- a fault of the texts of the views, behind a text of the hub
-behind_hub : (forms : List FormTree) (form : FormTree) (hub : List ℕ) (texts : List (List ℕ)) (why : HubStateFault) → IsOfType (left_type form) hub → IsViewsEnd (form ∷ forms) texts why
+behind_hub : (forms : List FormTree) (form : FormTree) (hub : List ℕ) (texts : List (List ℕ)) (why : HubStateFault) → length (hub ∷ texts) ≡ text_count (form ∷ forms) → IsOfType (left_type form) hub
+    → IsViewsEnd (form ∷ forms) texts why
     → IsTextsFault (form ∷ forms) (hub ∷ texts) why
-behind_hub forms form hub texts fault.OtherCount of h = absurd h
-behind_hub forms form hub texts fault.NotHub of h = absurd h
-behind_hub forms form hub texts (fault.NotView n) of h = (of, h)
-behind_hub forms form hub texts (fault.NotComplement n) of h = (of, h)
-behind_hub forms form hub texts (fault.NotConsistent n) of h = absurd h
-behind_hub forms form hub texts fault.NoMemory of h = tt
+behind_hub forms form hub texts fault.OtherCount many of h = absurd h
+behind_hub forms form hub texts fault.NotHub many of h = absurd h
+behind_hub forms form hub texts (fault.NotView n) many of h = (many, (of, h))
+behind_hub forms form hub texts (fault.NotComplement n) many of h = (many, (of, h))
+behind_hub forms form hub texts (fault.NotConsistent n) many of h = absurd h
+behind_hub forms form hub texts fault.NoMemory many of h = tt
 
 pub texts_fault : (typed : List Typed) (texts : List (List ℕ)) (t : Typed) (text : List ℕ) (why : HubStateFault) → 0 < length typed → t ≡ get_or typed 0 t → length texts ≡ 2 * length typed + 1
     → text ≡ get_or texts 0 text → IsOfType (left_type (form_tree t)) text → IsViewsEnd (map form_tree typed) (take (length texts - 1) (drop 1 texts)) why → IsTextsFault (map form_tree typed) texts why
@@ -166,7 +168,7 @@ texts_fault [] texts t text why some is many text_is of h = absurd (omega (arith
 texts_fault (u ∷ typed) [] t text why some is many text_is of h = absurd (omega (arith, many))
 texts_fault (u ∷ typed) (x ∷ texts) t text why some is many text_is of h =
     let all : take (length (x ∷ texts) - 1) texts ≡ texts = take_all (length (x ∷ texts) - 1) texts (omega arith) in
-    behind_hub (map form_tree typed) (form_tree u) x texts why (subst (λ (v : Typed). IsOfType (left_type (form_tree v)) x) is (subst (λ (y : List ℕ). IsOfType (left_type (form_tree t)) y) text_is of))
+    behind_hub (map form_tree typed) (form_tree u) x texts why (many ∙ ap (λ n. 2 * suc n + 1) (sym (length-map typed form_tree))) (subst (λ (v : Typed). IsOfType (left_type (form_tree v)) x) is (subst (λ (y : List ℕ). IsOfType (left_type (form_tree t)) y) text_is of))
     (subst (λ (ts : List (List ℕ)). IsViewsEnd (form_tree u ∷ map form_tree typed) ts why) all h)
 
 -- ---- what is at a place
@@ -175,14 +177,9 @@ texts_fault (u ∷ typed) (x ∷ texts) t text why some is many text_is of h =
 pub is_there : (texts : List (List ℕ)) (i : ℕ) (found text : List ℕ) → text ≡ found → found ≡ get_or texts i found → text ≡ get_or texts i text
 is_there texts i found text same is = same ∙ is ∙ ap (λ (d : List ℕ). get_or texts i d) (sym same)
 
-get_mapped : {X Y : Type 0} (f : X → Y) (xs : List X) (i : ℕ) (x : X) → get_or (map f xs) i (f x) ≡ f (get_or xs i x)
-get_mapped f [] i x = refl
-get_mapped f (y ∷ xs) zero x = refl
-get_mapped f (y ∷ xs) (suc i) x = get_mapped f xs i x
-
 mapped_at : {X Y : Type 0} (f : X → Y) (xs : List X) (i : ℕ) (x : X) → i < length xs → x ≡ get_or xs i x → drop i (map f xs) ≡ f x ∷ drop (i + 1) (map f xs)
 mapped_at f xs i x within is =
-    drop_more (map f xs) i (f x) (omega (arith, within, length-map xs f)) ∙ ap (λ y. y ∷ drop (i + 1) (map f xs)) (get_mapped f xs i x ∙ ap f (sym is))
+    drop_more (map f xs) i (f x) (omega (arith, within, length-map xs f)) ∙ ap (λ y. y ∷ drop (i + 1) (map f xs)) (get_or-map f xs i x ∙ ap f (sym is))
 
 pub forms_at : (typed : List Typed) (i : ℕ) (t : Typed) → i < length typed → t ≡ get_or typed i t → drop i (map form_tree typed) ≡ form_tree t ∷ drop (i + 1) (map form_tree typed)
 forms_at typed i t within is = mapped_at form_tree typed i t within is

@@ -68,8 +68,10 @@ text_count forms = 2 * length forms + 1
 -- Running out of memory says nothing.
 abbrev pub IsStateFault : List FormTree → List (List ℕ) → HubStateFault → Type 0
 IsStateFault forms texts fault.OtherCount = length texts ≡ text_count forms → ⊥
-IsStateFault forms texts fault.NotHub = IsNotHub forms texts
-IsStateFault forms texts (fault.NotView n) = IsBehindHub forms texts (fault.NotView n)
-IsStateFault forms texts (fault.NotComplement n) = IsBehindHub forms texts (fault.NotComplement n)
+IsStateFault forms texts fault.NotHub = (length texts ≡ text_count forms) × IsNotHub forms texts
+IsStateFault forms texts (fault.NotView n) =
+    (length texts ≡ text_count forms) × IsBehindHub forms texts (fault.NotView n)
+IsStateFault forms texts (fault.NotComplement n) =
+    (length texts ≡ text_count forms) × IsBehindHub forms texts (fault.NotComplement n)
 IsStateFault forms texts (fault.NotConsistent n) = IsHubOutOfStep forms texts n
 IsStateFault forms texts fault.NoMemory = Unit {0}

@@ -1,4 +1,5 @@
 use Rattle.std.proofs.Common.{◌<◌, ◌-◌, length, subst, arith, rules}
+use Rattle.std.proofs.lemmas.List.{length-map}
 use Rattle.std.proofs.lemmas.Result.{err_from_is_err_and}
 use Rattle.doc_values.specs.Documents.{DocTree, doc_tree}
 use Rattle.doc_values.specs.Types.{ty_tree}
@@ -12,10 +13,12 @@ returns-in_default c =
     let some = some_typed c.args.typed.now c.requires.one_left in
     let within : 0 < length c.args.texts.now = omega (arith, c.if-texts-typed.false) in
     let text = c.as_slice.result.now in
-    let none : (doc : DocTree) → IsDocumentText (ty_tree c.left.result.now) text doc → ⊥ = search rules in
-    not_hub c.args.typed.now c.args.texts.now c.index-typed-0.result text some c.index-typed-0.is within
-    (is_there c.args.texts.now 0 c.index-texts-0.result text c.as_slice.ensures c.index-texts-0.is)
-    (subst (λ ty. (doc : DocTree) → IsDocumentText ty text doc → ⊥) c.left.ensures.left none)
+    let none : (doc : DocTree) → IsDocumentText (ty_tree c.left.result.now) text doc → ⊥ = search rules in (
+      omega (arith, c.if-texts-typed.false, length-map c.args.typed.now form_tree),
+      not_hub c.args.typed.now c.args.texts.now c.index-typed-0.result text some c.index-typed-0.is within
+          (is_there c.args.texts.now 0 c.index-texts-0.result text c.as_slice.ensures c.index-texts-0.is)
+          (subst (λ ty. (doc : DocTree) → IsDocumentText ty text doc → ⊥) c.left.ensures.left none),
+    )
 
 pub returns-in_err-views : goal.returns-in_err-views
 returns-in_err-views c =
