@@ -27,7 +27,7 @@ checked_typed : (program : Term.ProgramTree) (o : Option Failure) (f : FormTree)
 checked_typed program None f is h = let same : main_form program ≡ f = cc in subst (λ g. is_typed g ≡ true) same (program_typed program is)
 checked_typed program (Some failure) f is h = cc
 
-result_typed : (r : Result Term.ProgramTree ProgramCause) (f : FormTree) → form_of_program r ≡ Ok f → is_typed f ≡ true
+pub result_typed : (r : Result Term.ProgramTree ProgramCause) (f : FormTree) → form_of_program r ≡ Ok f → is_typed f ≡ true
 result_typed (Ok program) f h = checked_typed program (first_failure program) f refl h
 result_typed (Err fault) f h = cc
 

@@ -1,5 +1,5 @@
--- The lens of a program part, or why it is refused.
-use Rattle.std.specs.Prelude.{ℕ, List, Option, Some, None, Result, Ok, Err}
+-- The lens of a program part, or why it is refused. Read it from the end: `IsAccepted`, then `lens_of`.
+use Rattle.std.specs.Prelude.{◌≡◌, ℕ, List, Option, Some, None, Result, Ok, Err}
 use Rattle.program_terms.specs.Terms.{ProgramTree}
 use Rattle.lens_syntax.specs.Programs.{ProgramCause, bounded}
 use Rattle.lens_forms.specs.Forms.{FormTree}
@@ -23,3 +23,8 @@ form_of_program (Err fault) = Err (syntax fault)
 -- the lens of a text
 abbrev pub lens_of : List ℕ → Result FormTree Refusal
 lens_of text = form_of_program (bounded text)
+
+-- The text is read as the program, and its lens has the form.
+pub record IsAccepted (text : List ℕ) (program : ProgramTree) (form : FormTree) : Type 0 where
+  pub read : bounded text ≡ Ok program
+  pub has_lens : lens_of text ≡ Ok form

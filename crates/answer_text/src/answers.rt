@@ -1,22 +1,23 @@
 //! The answers to changes.
-ghost use Rattle.std.specs.Prelude.{◌≡◌, ◌≢◌, true, Some, IfOk, length};
+ghost use Rattle.std.specs.Prelude.{◌≡◌, ◌≢◌, ◌++◌, true, Some, IfOk, length};
 ghost use Rattle.std.specs.List.{list_all};
+ghost use Rattle.serde_json.specs.Written.{compact_text};
 ghost use Rattle.edit_module.specs.Changes.{carried_to};
 ghost use Rattle.edit_module.specs.Views.{word_tree, word_trees, entry_trees};
 ghost use Rattle.edit_json.specs.WordJson.{counts_fit};
-ghost use Rattle.edit_journal.specs.EntryJson.{LineFault};
+ghost use Rattle.edit_journal.specs.EntryJson.{LineFault, tree_of_entries};
 ghost use Rattle.edit_journal.specs.Reading.{cause_of};
 ghost use Rattle.answer_text.specs.Lines.{ok_line, no_apply_line, group_line, group_refused_line, fault_line};
 
 use crate::words::{bytes_of, cause_text, fault_text};
-use edit_journal::{EntryFault, side_text, write_carried};
+use edit_journal::{EntryFault, put_carried, side_text};
 use edit_json::append_word;
 use edit_module::change::Words;
 use edit_module::{Cause, Entries, Word};
 use itoa::Buffer;
+use json::Writer;
 use std::alloc::{AllocError, Global};
 use texts::{Bytes, Side};
-use value_json::write_compact;
 
 // The bytes of most answers, for which room is made at once.
 const USUAL: usize = 128;
@@ -72,10 +73,25 @@ pub fn group_line(
     ensures line { IfOk result (λ line. line
         ≡ group_line number (carried_to (entry_trees group.now) (word_trees words.now))) }
 {
-    let tree = write_carried(alloc, group, words)?;
-    let list = write_compact(alloc, &tree)?;
-    let line = format!(in alloc; "ok {number} group {list}\n")?;
-    Ok(bytes_of(line))
+    let mut digits = Buffer::new();
+    let mut line = Vec::with_capacity(alloc, USUAL)?;
+    line.extend_from_slice(b"ok ")?;
+    line.extend_from_slice(digits.format(number).as_bytes())?;
+    line.extend_from_slice(b" group ")?;
+    let mut line = append_carried(line, group, words)?;
+    line.extend_from_slice(b"\n")?;
+    Ok(Bytes::from_vec(line))
+}
+
+// These bytes, and behind them the text of the array of the trees of translated words, with no space between its parts.
+fn append_carried(bytes: Vec<u8>, group: &Entries, words: &Words) -> Result<Vec<u8>, AllocError>
+    requires one_for_each { length words.now ≡ length group.now }
+    ensures { IfOk result (λ all. all.items ≡ bytes.items
+        ++ compact_text (tree_of_entries (carried_to (entry_trees group.now) (word_trees words.now)))) }
+{
+    let mut out = Writer::new(bytes);
+    put_carried(&mut out, group, words)?;
+    Ok(out.into_inner())
 }
 
 /// `refused N group PART no-apply AT CAUSE` and a line feed: in the group with this number the entry

@@ -5,30 +5,26 @@
 //! of a file. The program fails where a case differs, and where a file is not readable or has no case.
 #![tactic(auto)]
 
-mod compare;
-mod tally;
-
-use crate::tally::run_file;
-use anyhow::{Context, bail};
-use std::io::{self, Write};
-use std::{env, fs};
+use case_files::{Commands, run_files};
+use editlens_main::editlens;
+use lens_io::{MemDisk, MemSink, MemSource};
+use std::alloc::Global;
 
 fn main(rt: HostRuntime) -> anyhow::Result<()> {
-    let alloc = rt.alloc();
-    let words: Vec<String> = env::args(&rt)?.collect(alloc)?;
-    let mut all_agree = true;
-    for path in words.iter().skip(1) {
-        let path = path.as_str();
-        let bytes = fs::read(&rt, path)?;
-        let tally = run_file(alloc, &bytes).context("a file of cases")?;
-        io::writer(&rt).write_all(tally.differences())?;
-        let name = path.strip_suffix(".cases").unwrap_or(path);
-        let line = tally.line(alloc, name)?;
-        println!(rt; "{line}")?;
-        all_agree = all_agree && tally.is_passed();
+    run_files::<Editlens>(&rt)
+}
+
+// The program `editlens`.
+struct Editlens;
+
+impl Commands for Editlens {
+    fn run(
+        alloc: Global,
+        words: &[String],
+        source: &mut MemSource,
+        sink: &mut MemSink,
+        disk: &mut MemDisk,
+    ) -> u8 {
+        editlens(alloc, words, source, sink, disk).code()
     }
-    if !all_agree {
-        bail!("not every case agrees");
-    }
-    Ok(())
 }

@@ -1,40 +1,40 @@
-//! Lets everything that can fail do so once, and compares what stands afterwards with what docs/FORMATS.md says.
+//! Lets everything that can fail in commands of `editlens` do so once, and compares what stands afterwards with what
+//! docs/FORMATS.md says.
 //!
-//! Words: the files, which lie in the folder where the program runs and have the form of reference/CASES.md. Each step
-//! is run as it is, and then once for each call of each device, in which this call fails, or gives or takes less. After
-//! each the images that a crash may leave are opened. For each step of `verify`, every byte of its store is changed,
-//! and its store is cut at every length. Each file gives one line, and above it the first differences. The program
-//! fails where something differs.
+//! Words: the files, which lie in the folder where the program runs. The program fails where something differs.
 #![tactic(auto)]
 
-mod devices;
-mod forge;
-mod lines;
-mod stops;
-mod stores;
-mod tally;
-
-use crate::tally::run_file;
-use anyhow::{Context, bail};
-use std::io::{self, Write};
-use std::{env, fs};
+use case_files::Commands;
+use editlens_main::editlens;
+use fault_files::{StorePrograms, begins_with, run_files};
+use lens_io::{MemDisk, MemSink, MemSource};
+use std::alloc::Global;
 
 fn main(rt: HostRuntime) -> anyhow::Result<()> {
-    let alloc = rt.alloc();
-    let words: Vec<String> = env::args(&rt)?.collect(alloc)?;
-    let mut all_agree = true;
-    for path in words.iter().skip(1) {
-        let path = path.as_str();
-        let bytes = fs::read(&rt, path)?;
-        let tally = run_file(alloc, &bytes).context("a file of cases")?;
-        io::writer(&rt).write_all(tally.differences())?;
-        let name = path.strip_suffix(".cases").unwrap_or(path);
-        let line = tally.line(alloc, name)?;
-        println!(rt; "{line}")?;
-        all_agree = all_agree && tally.is_passed();
+    run_files::<Editlens>(&rt)
+}
+
+// The program `editlens`.
+struct Editlens;
+
+impl Commands for Editlens {
+    fn run(
+        alloc: Global,
+        words: &[String],
+        source: &mut MemSource,
+        sink: &mut MemSink,
+        disk: &mut MemDisk,
+    ) -> u8 {
+        editlens(alloc, words, source, sink, disk).code()
     }
-    if !all_agree {
-        bail!("not everything agrees");
+}
+
+impl StorePrograms for Editlens {
+    fn is_change(payload: &[u8]) -> bool {
+        begins_with(payload, b"{\"entry\":") || begins_with(payload, b"{\"group\":")
     }
-    Ok(())
+
+    fn is_state(lines: &[u8]) -> bool {
+        begins_with(lines, b"left ")
+    }
 }

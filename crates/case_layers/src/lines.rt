@@ -4,7 +4,7 @@ use crate::answers::{fault, ok, ok_bool};
 use crate::bytes::bytes;
 use crate::case::Case;
 use anyhow::{Result, bail};
-use edit_journal::{EntryFault, Line, is_blank, read_entry, write_change};
+use edit_journal::{EntryFault, Line, append_change, is_blank, read_entry};
 use serde_json::Value;
 use std::alloc::Global;
 
@@ -17,9 +17,9 @@ pub fn run_read_entry(alloc: Global, case: &Case<'_>) -> Result<Value> {
 fn change_or_fault(alloc: Global, line: &Line) -> Result<Value> {
     match read_entry(alloc, line) {
         Ok(change) => {
-            let tree = write_change(alloc, &change);
+            let text = append_change(Vec::new(alloc), &change);
             drop(change);
-            ok(alloc, tree?)
+            ok(alloc, Value::from_slice(alloc, text?.as_slice())?)
         }
         Err(fault) => entry_fault(alloc, &fault),
     }

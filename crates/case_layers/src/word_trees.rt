@@ -3,7 +3,7 @@
 use crate::answers::ok;
 use crate::arguments::as_items;
 use anyhow::{Context, Result, bail};
-use edit_json::{has_tree, read_word, write_word};
+use edit_json::{append_word, has_tree, read_word};
 use edit_module::Word;
 use edit_module::word::Primitive;
 use hold_shapes::ShapeEdit;
@@ -67,5 +67,6 @@ fn word_tree(alloc: Global, word: &Word) -> Result<Value> {
     if !has_tree(word) {
         bail!("the word has no tree");
     }
-    Ok(write_word(alloc, word)?)
+    let text = append_word(Vec::new(alloc), word)?;
+    Ok(Value::from_slice(alloc, text.as_slice())?)
 }

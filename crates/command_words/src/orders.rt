@@ -98,8 +98,8 @@ pub fn undo_order(count: &str) -> Option<Order>
     Some(Order::Undo { count })
 }
 
-// A number from 1 to 10,000.
-fn read_count(text: &str) -> Option<u64>
+/// A number from 1 to 10,000, as `gen` and `undo` have it. None if the text is anything else.
+pub fn read_count(text: &str) -> Option<u64>
     ensures { result ≡ count_of text.now }
 {
     let count = read_number(text)?;

@@ -1,6 +1,6 @@
 -- Parts of a list of depths that a search passes by, since what is kept of them says that it goes on behind them.
-use Rattle.std.proofs.Common.{◌≡◌, ℕ, suc, ◌+◌, ◌-◌, ◌<◌, ◌≤◌, List, [], ◌∷◌, length, refl, ap, sym, subst, ◌∙◌, arith, inl, inr}
-use Rattle.std.proofs.lemmas.Bool.{cases_eq, cases_lt, eq-eqb, ne_eqb}
+use Rattle.std.proofs.Common.{◌≡◌, ℕ, ◌+◌, ◌-◌, ◌<◌, ◌≤◌, List, [], ◌∷◌, length, refl, ap, subst, ◌∙◌, arith, inl, inr}
+use Rattle.std.proofs.lemmas.Bool.{cases_eq, cases_lt}
 use Rattle.depth_seq.specs.declared.found.Found.TheVariants.{Behind}
 use Rattle.depth_seq.specs.declared.sum.Sum.{Sum}
 use Rattle.depth_seq.specs.Searches.{search, GoesOn}

@@ -1,5 +1,5 @@
 -- Where a search ends in a list of three parts: xs of the length m, a chunk c, and ys.
-use Rattle.std.proofs.Common.{◌≡◌, ℕ, ◌+◌, ◌-◌, ◌≤◌, List, ◌++◌, length, drop, ap, sym, subst, ◌∙◌, arith}
+use Rattle.std.proofs.Common.{◌≡◌, ℕ, ◌+◌, ◌-◌, ◌≤◌, List, ◌++◌, length, drop, ap, sym, ◌∙◌, arith}
 use Rattle.std.proofs.lemmas.List.{length-drop}
 use Rattle.depth_seq.specs.declared.found.Found.{Found}
 use Rattle.depth_seq.specs.declared.found.Found.TheVariants.{Behind}

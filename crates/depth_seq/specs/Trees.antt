@@ -1,6 +1,6 @@
 -- Balanced trees of depths: the depths in order, the height, and what holds of each node.
 -- The main definitions are `depths` and `IsNode`; `IsShort` bounds the height.
-use Rattle.std.specs.Prelude.{◌≡◌, ℕ, ◌+◌, ◌*◌, ◌^◌, ◌<◌, ◌≤◌, max, List, [], ◌∷◌, ◌++◌, length}
+use Rattle.std.specs.Prelude.{◌≡◌, ℕ, ◌+◌, ◌*◌, ◌^◌, ◌<◌, ◌≤◌, max, List, [], ◌++◌, length}
 use Rattle.depth_seq.specs.Sums.{AreSums}
 use Rattle.depth_seq.specs.declared.sum.Sum.{Sum}
 use Rattle.depth_seq.specs.declared.node.DepthTree.{DepthTree}

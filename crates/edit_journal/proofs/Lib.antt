@@ -6,6 +6,6 @@ pub mod Texts
 pub mod Entries
 pub mod GroupItems
 pub mod Groups
-pub mod Written
+pub mod TextsReadBack
 pub mod Reading
 pub mod TreesDiffer

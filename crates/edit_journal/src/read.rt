@@ -115,8 +115,8 @@ fn read_change(alloc: Global, tree: &Value) -> Result<Change, EntryFault>
     }
 }
 
-// The trees in an object with exactly the member `group`, an array.
-fn group_items(tree: &Value) -> Option<&[Value]>
+/// The trees in an object with exactly the member `group`, an array. None of any other tree. Does not allocate.
+pub fn group_items(tree: &Value) -> Option<&[Value]>
     ensures { option_map (λ items. items_view items.now) result ≡ group_items (view tree.now) }
 {
     let (name, content) = only_member(tree)?;

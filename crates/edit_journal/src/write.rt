@@ -1,134 +1,133 @@
-//! Writing a change as a JSON tree.
+//! Writing a change as tokens and as compact text, without making its tree.
 
-ghost use Rattle.std.specs.Prelude.{◌≡◌, ◌≤◌, ◌*◌, ◌+◌, ℕ, true, false, Some, Ok, IfOk, OnOk, length};
-ghost use Rattle.std.specs.List.{All, list_all};
-ghost use Rattle.serde_json.specs.Data.{depth};
-ghost use Rattle.serde_json.specs.View.{view};
-ghost use Rattle.serde_json.specs.Written.{has_float};
-ghost use Rattle.edit_module.specs.Changes.{entries_of, group, carried_to};
+ghost use Rattle.std.specs.Prelude.{◌≡◌, ◌++◌, true, IfOk, OnOk, length};
+ghost use Rattle.serde_json.specs.Written.{compact_text};
+ghost use Rattle.edit_module.specs.Changes.{group, carried_to};
 ghost use Rattle.edit_module.specs.Views.{word_tree, word_trees, entry_tree, entry_trees, change_tree};
-ghost use Rattle.edit_json.specs.WordJson.{tree_of_word, counts_fit};
-ghost use Rattle.edit_json.specs.Depths.{word_depth};
+ghost use Rattle.edit_json.specs.Tokens.{tokens_of};
+ghost use Rattle.edit_json.specs.WordJson.{numbers_fit};
 ghost use Rattle.edit_journal.specs.EntryJson.{side_text, tree_of_entry, tree_of_entries, tree_of_change};
-ghost use Rattle.edit_journal.specs.EntryJson.{change_counts_fit, entries_counts_fit, entries_numbers_fit, parts_of};
-ghost use Rattle.edit_journal.specs.EntryJson.{entry_of_tree, change_of_tree};
+ghost use Rattle.edit_journal.specs.EntryJson.{entries_numbers_fit, change_numbers_fit};
 
-use edit_json::write_word;
+use edit_json::put_word;
 use edit_module::change::Words;
 use edit_module::{Change, Entries, Entry, Side, Word};
-use serde_json::{Map, Value, put};
-use std::alloc::{AllocError, Global};
+use json::Writer;
+use std::alloc::AllocError;
 
-/// The tree of a change; the page docs/FORMATS.md says which tree this is.
+/// These bytes, and behind them the text of a change's tree, with no space between its parts. The
+/// page docs/FORMATS.md says which tree this is.
 ///
-/// Each insertion and each deletion in its words, inner words included, is of 1 to 65,536 items,
-/// which `edit_json::has_tree` tests. Fails only if memory runs out.
-pub fn write_change(alloc: Global, change: &Change) -> Result<Value, AllocError>
-    requires counts_fit { change_counts_fit (change_tree change.now) ≡ true }
+/// The text is read back as the change if `edit_json::has_tree` holds of its words and they are not
+/// nested too deep for a reader of JSON (`laws`). Fails only if memory runs out; the bytes are then
+/// dropped.
+pub fn append_change(bytes: Vec<u8>, change: &Change) -> Result<Vec<u8>, AllocError>
+    ensures text { IfOk result (λ all. all.items
+        ≡ bytes.items ++ compact_text (tree_of_change (change_tree change.now))) }
 
-    ensures tree { IfOk result (λ tree. view tree ≡ tree_of_change (change_tree change.now)) }
+    // The program can hold every number in its words.
+    ensures whole { OnOk result (change_numbers_fit (change_tree change.now) ≡ true) }
+{
+    let mut out = Writer::new(bytes);
+    put_change(&mut out, change)?;
+    Ok(out.into_inner())
+}
 
-    // It is read back as the same change.
-    ensures reads_back { IfOk result
-        (λ tree. change_of_tree (view tree) ≡ Ok (change_tree change.now)) }
+/// Writes the tokens of a change's tree behind those that were written before. The page
+/// docs/FORMATS.md says which tree this is.
+///
+/// Each insertion and each deletion in its words, inner words included, should be of 1 to 65,536 items,
+/// which `edit_json::has_tree` tests: else no reader takes the tree for a change. Fails only if memory
+/// runs out; a part of the tokens may be written then.
+pub fn put_change(out: &mut Writer, change: &Change) -> Result<(), AllocError>
+    ensures before { out.new.before ≡ out.old.before }
+    ensures tokens { OnOk result
+        (out.new.tokens ≡ out.old.tokens ++ tokens_of (tree_of_change (change_tree change.now))) }
 
-    // It has no float, so its text is defined, and a group nests two deeper than its entries may.
-    ensures no_float { IfOk result (λ tree. has_float (view tree) ≡ false) }
-    ensures nests { IfOk result (λ tree. (n : ℕ)
-        → All (λ entry. word_depth entry.1 ≤ n) (entries_of (change_tree change.now))
-        → depth (view tree) ≤ 3 * n + 4) }
+    // The program can hold every number in its words.
+    ensures whole { OnOk result (change_numbers_fit (change_tree change.now) ≡ true) }
 {
     match change {
-        Change::One(entry) => write_entry(alloc, entry),
-        Change::Group(entries) => write_group(alloc, entries.as_slice()),
+        Change::One(entry) => put_entry(out, entry),
+        Change::Group(entries) => put_group(out, entries.as_slice()),
     }
 }
 
-/// The tree of an entry; the page docs/FORMATS.md says which tree this is.
+/// Writes the tokens of an entry's tree, as `put_change` those of a change.
 ///
-/// Each insertion and each deletion in the word, inner words included, is of 1 to 65,536 items,
-/// which `edit_json::has_tree` tests. Fails only if memory runs out.
-pub fn write_entry(alloc: Global, entry: &Entry) -> Result<Value, AllocError>
-    requires counts_fit { counts_fit (word_tree entry.now.word) ≡ true }
+/// Fails only if memory runs out; a part of the tokens may be written then.
+pub fn put_entry(out: &mut Writer, entry: &Entry) -> Result<(), AllocError>
+    ensures before { out.new.before ≡ out.old.before }
+    ensures tokens { OnOk result
+        (out.new.tokens ≡ out.old.tokens ++ tokens_of (tree_of_entry (entry_tree entry.now))) }
 
-    ensures tree { IfOk result (λ tree. view tree ≡ tree_of_entry (entry_tree entry.now)) }
-
-    // It has the form of an entry, and is read back as the same entry.
-    ensures parts { IfOk result (λ tree. parts_of (view tree)
-        ≡ Some (entry.now.side, tree_of_word (word_tree entry.now.word))) }
-    ensures reads_back { IfOk result
-        (λ tree. entry_of_tree (view tree) ≡ Ok (entry_tree entry.now)) }
-
-    // It has no float, so its text is defined, and it nests one deeper than the tree of the word may.
-    ensures no_float { IfOk result (λ tree. has_float (view tree) ≡ false) }
-    ensures nests { IfOk result (λ tree.
-        depth (view tree) ≤ 3 * word_depth (word_tree entry.now.word) + 2) }
+    // The program can hold every number in the word.
+    ensures whole { OnOk result (numbers_fit (word_tree entry.now.word) ≡ true) }
 {
-    write_parts(alloc, entry.side, &entry.word)
+    put_parts(out, entry.side, &entry.word)
 }
 
-/// The array of the trees of carried words, each an entry of the side to which it was carried: the
-/// other side than that of the entry of the group.
+/// Writes the tokens of the array of the trees of translated words, each an entry of the side to which
+/// it was translated: the other side than that of the entry of the group.
 ///
-/// There are as many words as entries, and each insertion and each deletion in the words is of 1 to
-/// 65,536 items, which `edit_json::has_tree` tests. Fails only if memory runs out.
-pub fn write_carried(alloc: Global, group: &Entries, words: &Words) -> Result<Value, AllocError>
+/// There are as many words as entries. Fails only if memory runs out; a part of the tokens may be
+/// written then.
+pub fn put_carried(out: &mut Writer, group: &Entries, words: &Words) -> Result<(), AllocError>
     requires one_for_each { length words.now ≡ length group.now }
-    requires counts_fit { list_all counts_fit (word_trees words.now) ≡ true }
 
-    ensures tree { IfOk result (λ tree. view tree
-        ≡ tree_of_entries (carried_to (entry_trees group.now) (word_trees words.now))) }
-
-    // It has no float, so its text is defined.
-    ensures no_float { IfOk result (λ tree. has_float (view tree) ≡ false) }
+    ensures before { out.new.before ≡ out.old.before }
+    ensures tokens { OnOk result (out.new.tokens ≡ out.old.tokens
+        ++ tokens_of (tree_of_entries (carried_to (entry_trees group.now) (word_trees words.now)))) }
 {
     let entries = group.as_slice();
     let words = words.as_slice();
-    let mut items = Vec::with_capacity(alloc, words.len())?;
+    out.begin_array()?;
     for i in 0..words.len() {
-        items.push(write_parts(alloc, entries[i].side.other(), &words[i])?)?;
+        put_parts(out, entries[i].side.other(), &words[i])?;
     }
-    Ok(Value::Array(items))
+    out.end_array()
 }
 
 // An object with exactly the member `group`, the array of the entries' trees.
-fn write_group(alloc: Global, entries: &[Entry]) -> Result<Value, AllocError>
-    requires counts_fit { entries_counts_fit (entry_trees entries.now) ≡ true }
-    ensures tree { IfOk result
-        (λ tree. view tree ≡ tree_of_change (group (entry_trees entries.now))) }
-    ensures fits { OnOk result (entries_numbers_fit (entry_trees entries.now) ≡ true) }
+fn put_group(out: &mut Writer, entries: &[Entry]) -> Result<(), AllocError>
+    ensures before { out.new.before ≡ out.old.before }
+    ensures tokens { OnOk result (out.new.tokens
+        ≡ out.old.tokens ++ tokens_of (tree_of_change (group (entry_trees entries.now)))) }
+    ensures whole { OnOk result (entries_numbers_fit (entry_trees entries.now) ≡ true) }
 {
-    let items = write_entries(alloc, entries)?;
-    let mut members = Map::new(alloc);
-    put(&mut members, alloc, "group", items)?;
-    Ok(Value::Object(members))
+    out.begin_object()?;
+    out.key("group")?;
+    put_entries(out, entries)?;
+    out.end_object()
 }
 
-fn write_entries(alloc: Global, entries: &[Entry]) -> Result<Value, AllocError>
-    requires counts_fit { entries_counts_fit (entry_trees entries.now) ≡ true }
-    ensures tree { IfOk result (λ tree. view tree ≡ tree_of_entries (entry_trees entries.now)) }
-    ensures fits { OnOk result (entries_numbers_fit (entry_trees entries.now) ≡ true) }
+#[tactic(auto, using(crate::proofs::GroupItems::entry_rules))]
+fn put_entries(out: &mut Writer, entries: &[Entry]) -> Result<(), AllocError>
+    ensures before { out.new.before ≡ out.old.before }
+    ensures tokens { OnOk result (out.new.tokens
+        ≡ out.old.tokens ++ tokens_of (tree_of_entries (entry_trees entries.now))) }
+    ensures whole { OnOk result (entries_numbers_fit (entry_trees entries.now) ≡ true) }
 {
-    let mut items = Vec::with_capacity(alloc, entries.len())?;
+    out.begin_array()?;
     for entry in entries {
-        items.push(write_entry(alloc, entry)?)?;
+        put_entry(out, entry)?;
     }
-    Ok(Value::Array(items))
+    out.end_array()
 }
 
 // An object with exactly the members `edit` and `side`.
-fn write_parts(alloc: Global, side: Side, word: &Word) -> Result<Value, AllocError>
-    requires counts_fit { counts_fit (word_tree word.now) ≡ true }
-    ensures tree { IfOk result (λ tree. view tree ≡ tree_of_entry (side, word_tree word.now)) }
-    ensures reads_back { IfOk result
-        (λ tree. entry_of_tree (view tree) ≡ Ok (side, word_tree word.now)) }
+fn put_parts(out: &mut Writer, side: Side, word: &Word) -> Result<(), AllocError>
+    ensures before { out.new.before ≡ out.old.before }
+    ensures tokens { OnOk result (out.new.tokens
+        ≡ out.old.tokens ++ tokens_of (tree_of_entry (side, word_tree word.now))) }
+    ensures whole { OnOk result (numbers_fit (word_tree word.now) ≡ true) }
 {
-    let edit = write_word(alloc, word)?;
-    let side = String::from_str(alloc, side_text(side))?;
-    let mut members = Map::new(alloc);
-    put(&mut members, alloc, "edit", edit)?;
-    put(&mut members, alloc, "side", Value::String(side))?;
-    Ok(Value::Object(members))
+    out.begin_object()?;
+    out.key("edit")?;
+    put_word(out, word)?;
+    out.key("side")?;
+    out.string(side_text(side))?;
+    out.end_object()
 }
 
 /// The name of a side, as entries and lines of output have it: `left` or `right`.

@@ -9,3 +9,4 @@ pub mod ReadingHasTree
 pub mod Writing
 pub mod TreesDiffer
 pub mod Tokens
+pub mod TextsReadBack

@@ -1,5 +1,5 @@
 -- The tokens of a word and of an array of numbers, item by item.
-use Rattle.std.proofs.Common.{◌≡◌, ℕ, ◌+◌, ◌<◌, ◌≤◌, ℤ, List, [], ◌∷◌, ◌++◌, map, drop, ◌∙◌}
+use Rattle.std.proofs.Common.{ℕ, List, map, drop}
 use Rattle.json.specs.Token.{Token}
 use Rattle.json.specs.Tree.{items_tokens}
 use Rattle.serde_json.specs.Written.{items_outline}

@@ -33,7 +33,7 @@ place_again (places.Index n) h = rw h refl
 place_again (places.Key k) h = refl
 place_again (places.Node q) h = ap (option_map places.Node) (counts_again q h)
 
-is_u64 : (n : ℕ) → is_count n ≡ true → fits_u64 n ≡ true
+pub is_u64 : (n : ℕ) → is_count n ≡ true → fits_u64 n ≡ true
 is_u64 n h = grind (arith, nat_tests)
 
 item_count_again : (n : ℕ) → is_count n ≡ true → item_count_of (count_tree n) ≡ Some n

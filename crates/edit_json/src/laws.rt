@@ -4,7 +4,8 @@
 
 ghost use Rattle.std.specs.Prelude.{◌≡◌, ◌≤◌, ◌*◌, ◌+◌, true, false, Some};
 ghost use Rattle.serde_json.specs.Data.{Data, depth};
-ghost use Rattle.serde_json.specs.Written.{has_float};
+ghost use Rattle.serde_json.specs.Read.{read, max_depth};
+ghost use Rattle.serde_json.specs.Written.{has_float, compact_text};
 ghost use Rattle.edit_module.specs.Words.{WordTree};
 ghost use Rattle.edit_json.specs.WordJson.{tree_of_word, word_of_tree, counts_fit, numbers_fit};
 ghost use Rattle.edit_json.specs.Depths.{word_depth};
@@ -29,4 +30,12 @@ pub fn reading_inverts_writing()
 pub fn trees_are_shallow()
     ensures no_float { (word : WordTree) → has_float (tree_of_word word) ≡ false }
     ensures nests { (word : WordTree) → depth (tree_of_word word) ≤ 3 * word_depth word + 1 }
+{}
+
+/// The text of the tree of a word whose counts and numbers fit is read back as the tree, unless words
+/// are nested too deep for a reader of JSON.
+pub fn texts_read_back()
+    ensures { (word : WordTree) → counts_fit word ≡ true → numbers_fit word ≡ true
+        → 3 * word_depth word + 1 ≤ max_depth
+        → read (compact_text (tree_of_word word)) ≡ Some (tree_of_word word) }
 {}

@@ -17,6 +17,7 @@ use Rattle.store_run.specs.Refusals.{IsUnwritten}
 use Rattle.store_run.specs.declared.refusals.StoreRefusal.{StoreRefusal}
 use Rattle.store_new.specs.Command.{Command}
 use Rattle.store_new.specs.NewEnds.{Ends, Completes, RefusesAtOnce}
+use Rattle.store_new.specs.Scripts.{one_program}
 use Rattle.store_new.specs.Import.{import_command}
 use Rattle.store_new.specs.Init.{init_command}
 use Rattle.store_session.specs.StoredStates.{StoredState}
@@ -102,7 +103,7 @@ module _ {S K D : Type 0} (source : OfSource.Ghosts S) (sink : OfSink.Ghosts K) 
   never_complete command =
       λ empty. by_bytes (source.left old.0) _ (λ bytes few r f w. record { accepted = λ part room. tt; refused = λ refusal is. tt })
 
-  never_at_once : RefusesAtOnce source old.0 old.0 NoMemory
+  never_at_once : RefusesAtOnce one_program source old.0 old.0 NoMemory
   never_at_once = record { bytes = []; took = Consumes-nil (source.left old.0); only = λ e. cc; whole = λ has refusal is. tt }
 
   pub never_init : MakesStore source sink disk old old NoMemory

@@ -10,6 +10,7 @@ use Rattle.lens_io.specs.declared.sink.Sink as OfSink
 use Rattle.lens_io.specs.declared.source.Source as OfSource
 use Rattle.store_new.specs.Command.{Command}
 use Rattle.store_new.specs.NewEnds.{Ends}
+use Rattle.accepted_programs.specs.Program.{IsAccepted}
 use Rattle.store_new.specs.Scripts.{IsAcceptedPart}
 use Rattle.store_new.proofs.CommandStatuses.{by_end}
 use Rattle.script_run.specs.ScriptEnds.{Stops, Reports, IsComplete}
@@ -104,8 +105,8 @@ module _ (status : Status) (is_full : Type 0) (source : status ≡ SourceFault �
 
   -- a command that makes a store on an empty disk
   module _ {S K D : Type 0} (devices : OfSource.Ghosts S) (gifts : OfSink.Ghosts K) (disk : OfDisk.Ghosts D) (command : Command)
-      (accepts : (bytes : List ℕ) (payloads : List (List ℕ)) (lines : List ℕ) → command.makes bytes payloads lines → IsAcceptedPart bytes)
-      (refuses : (bytes line : List ℕ) → command.refuses bytes line → IsAcceptedPart bytes) (old new : S × K × D)
+      (accepts : (bytes : List ℕ) (payloads : List (List ℕ)) (lines : List ℕ) → command.makes bytes payloads lines → IsAcceptedPart command.part bytes)
+      (refuses : (bytes line : List ℕ) → command.refuses bytes line → IsAcceptedPart command.part bytes) (old new : S × K × D)
       (bytes : List ℕ) (known : devices.left old.0 ≡ Some bytes) (empty : disk.content old.2 ≡ Some []) (few : length bytes ≤ MOST_BYTES)
       (no_room : Type 0) (full : status ≡ DiskFault → no_room) where
     pub made_in_room : Ends devices gifts disk command old new status → MadeInRoom status is_full command bytes no_room

@@ -5,6 +5,7 @@ use Rattle.lens_io.specs.declared.sink.Sink as OfSink
 use Rattle.lens_io.specs.declared.source.Source as OfSource
 use Rattle.store_new.specs.NewEnds.{Ends, Completes, RefusesAtOnce}
 use Rattle.store_new.specs.NewRooms.{ScriptHasNoRoom}
+use Rattle.store_new.specs.Scripts.{one_program}
 use Rattle.store_new.specs.Import.{Imports, RefusesImport, import_command}
 use Rattle.editlens_main.specs.MakesStore.{FindsLog}
 use Rattle.command_ends.specs.declared.status.Status.{Status}
@@ -24,7 +25,7 @@ module _ {S K D : Type 0} (source : OfSource.Ghosts S) (sink : OfSink.Ghosts K) 
     -- A program part that is whole and refused is refused, whatever comes after it, unless the sink failed or memory
     -- ran out. Then at most the rest of the call of the source that ended its separator was read; where no separator
     -- came, the source is at its end.
-    pub at_once : RefusesAtOnce source old.0 new.0 status
+    pub at_once : RefusesAtOnce one_program source old.0 new.0 status
     -- a disk of known room fails only if the script was read to its end and the disk has no room for its store
     pub caused : status ≡ DiskFault → IfSome (disk.room old.2) (ScriptHasNoRoom source import_command old.0 new.0)
     -- over an empty disk and at most 2^30 bytes, if no device fails and the log has room, it comes to its end, or

@@ -1,10 +1,8 @@
 //! The top call over the real streams and the file of the store.
 use crate::{Status, editlens};
-use command_words::only_reads;
+use command_words::{given_words, only_reads};
 use lens_io::{Access, RealDisk, RealSink, RealSource};
-use std::alloc::AllocError;
-use std::env;
-use std::io::{self, ErrorKind};
+use std::io;
 
 /// The file of the store, in the current folder.
 const STORE: &str = "editlens.store";
@@ -31,14 +29,4 @@ pub fn run_program(rt: &HostRuntime) -> Status {
     };
     let mut disk = RealDisk::new(rt, STORE, access);
     editlens(rt.alloc(), &words, &mut source, &mut sink, &mut disk)
-}
-
-// The words of the command line, the program's name first. Words that are not text are given as no words, which name no
-// command.
-fn given_words(rt: &HostRuntime) -> Result<Vec<String>, AllocError> {
-    match env::args(rt) {
-        Ok(words) => words.collect(rt.alloc()),
-        Err(fault) if fault.kind() == ErrorKind::OutOfMemory => Err(AllocError),
-        Err(_) => Ok(Vec::new(rt.alloc())),
-    }
 }

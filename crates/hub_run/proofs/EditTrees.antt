@@ -21,7 +21,7 @@ use Rattle.edit_journal.specs.declared.line.Line.TheVariants.{Text, TooLong}
 use Rattle.view_hub.specs.Hubs.{Place, at_hub, at_view}
 use Rattle.view_hub.specs.declared.side.HubSide.{HubSide}
 use Rattle.hub_run.specs.EditJson.{tree_of_place, tree_of_edit, place_fits, is_hub, place_of_tree, parts_of, edit_with, edit_of_parts, edit_of_tree, edit_if_json, edit_of_line}
-use Rattle.hub_run.specs.Views.{edit_tree}
+use Rattle.view_hub.specs.Views.{edit_tree}
 use Rattle.texts.proofs.Tests.{bytes_eq-is}
 
 -- ---- places
@@ -46,7 +46,7 @@ place_writes_back d p h = by_test (is_hub d) refl h where
 
 -- ---- the parts of a tree
 
-parts_read_back : (e : Place × WordTree) → place_fits e.0 ≡ true → parts_of (tree_of_edit e) ≡ Some (e.0, tree_of_word e.1)
+pub parts_read_back : (e : Place × WordTree) → place_fits e.0 ≡ true → parts_of (tree_of_edit e) ≡ Some (e.0, tree_of_word e.1)
 parts_read_back e fits = ap (option_map (λ place. (place, tree_of_word e.1))) (place_reads_back e.0 fits)
 
 -- the tree of a place and of the tree of an edit

@@ -19,39 +19,40 @@ use Rattle.view_hub.proofs.HubSteps.{starts}
 use Rattle.hub_run.specs.Answers.{HubAnswerTree}
 use Rattle.hub_run.specs.EditJson.{edit_of_line}
 use Rattle.hub_run.specs.FormLenses.{form_lens, lens_by}
+use Rattle.hub_run.specs.FoundLenses.{AllTyped}
 use Rattle.hub_run.specs.HubScript.{hub_script}
 use Rattle.hub_run.specs.Runs.{HubItem, take_hub_item, HubState, answered, answer, hub_of, first_state, IsInStep}
-use Rattle.hub_run.proofs.FoundForms.{AllTyped, accepted_forms}
+use Rattle.hub_run.proofs.FoundForms.{accepted_forms}
 use Rattle.hub_run.proofs.MappedLenses.{items_are, first_views}
 use Rattle.hub_run.proofs.RunsInStep.{item_stays}
 
 -- a form with the proof that it is typed
-abbrev TypedForm : Type 0
+abbrev pub TypedForm : Type 0
 TypedForm = (form : FormTree) × IsTrue (is_typed form)
 
-abbrev form_of : TypedForm → FormTree
+abbrev pub form_of : TypedForm → FormTree
 form_of l = l.0
 
-abbrev with_types : (forms : List FormTree) → AllTyped forms → List TypedForm
+abbrev pub with_types : (forms : List FormTree) → AllTyped forms → List TypedForm
 with_types [] all = []
 with_types (form ∷ forms) all = (form, all.0) ∷ with_types forms all.1
 
-forms_back : (forms : List FormTree) (all : AllTyped forms) → map form_of (with_types forms all) ≡ forms
+pub forms_back : (forms : List FormTree) (all : AllTyped forms) → map form_of (with_types forms all) ≡ forms
 forms_back [] all = refl
 forms_back (form ∷ forms) all = ap (λ fs. form ∷ fs) (forms_back forms all.1)
 
 -- ---- the same of lenses and of their forms
 
-abbrev typed_lens : OfLens.Ghosts TypedForm
+abbrev pub typed_lens : OfLens.Ghosts TypedForm
 typed_lens = lens_by form_of form_lens
 
-abbrev TypedHub : List TypedForm → HubTree → Type 0
+abbrev pub TypedHub : List TypedForm → HubTree → Type 0
 TypedHub = IsHub typed_lens
 
-abbrev FormHub : List FormTree → HubTree → Type 0
+abbrev pub FormHub : List FormTree → HubTree → Type 0
 FormHub = IsHub form_lens
 
-same_typed : (ty : TyTree) (ls : List TypedForm) → SameLeft form_lens ty (map form_of ls) → SameLeft typed_lens ty ls
+pub same_typed : (ty : TyTree) (ls : List TypedForm) → SameLeft form_lens ty (map form_of ls) → SameLeft typed_lens ty ls
 same_typed ty [] h = tt
 same_typed ty (l ∷ ls) h = (h.0, same_typed ty ls h.1)
 
@@ -67,17 +68,17 @@ all_back ty [] x (v ∷ vs) h = absurd h
 all_back ty (l ∷ ls) x [] h = absurd h
 all_back ty (l ∷ ls) x (v ∷ vs) h = (h.0, h.1, all_back ty ls x vs h.2)
 
-is_hub : (ls : List TypedForm) (h : HubTree) → TypedHub ls h → FormHub (map form_of ls) h
+pub is_hub : (ls : List TypedForm) (h : HubTree) → TypedHub ls h → FormHub (map form_of ls) h
 is_hub [] h all = absurd all
 is_hub (l ∷ ls) h all = all_in (left_type l.0) (l ∷ ls) h.hub h.views all
 
-hub_back : (ls : List TypedForm) (h : HubTree) → FormHub (map form_of ls) h → TypedHub ls h
+pub hub_back : (ls : List TypedForm) (h : HubTree) → FormHub (map form_of ls) h → TypedHub ls h
 hub_back [] h all = absurd all
 hub_back (l ∷ ls) h all = all_back (left_type l.0) (l ∷ ls) h.hub h.views all
 
 -- ---- one item
 
-abbrev ItemStays : List FormTree → Type 0
+abbrev pub ItemStays : List FormTree → Type 0
 ItemStays forms = (h : HubTree) (item : HubItem) → FormHub forms h → (s : HubTree × HubAnswerTree) × (take_hub_item form_lens forms h item ≡ Some s) × FormHub forms s.0
 
 typed_stays : (ls : List TypedForm) → ItemStays (map form_of ls)
@@ -85,7 +86,7 @@ typed_stays ls h item all =
     let s = item_stays typed_lens (λ l. form_edits l.0 l.1 Left) (λ l. form_edits l.0 l.1 Right) ls h item (hub_back ls h all) in
     (s.0, sym (items_are form_of form_lens ls h item) ∙ s.1, is_hub ls s.0.0 s.2)
 
-forms_stay : (forms : List FormTree) → AllTyped forms → ItemStays forms
+pub forms_stay : (forms : List FormTree) → AllTyped forms → ItemStays forms
 forms_stay forms all = subst ItemStays (forms_back forms all) (typed_stays (with_types forms all))
 
 state_stays : (forms : List FormTree) → AllTyped forms → (t : HubState) (n : ℕ) (line : Line) → is_blank line ≡ false → IsInStep forms t
@@ -106,7 +107,7 @@ typed_starts (l ∷ ls) one =
     all_in (left_type l.0) (l ∷ ls) x (map (first_view form_lens) (l.0 ∷ map form_of ls))
     (subst (AllInStep typed_lens (left_type l.0) (l ∷ ls) x) (first_views form_of form_lens (l ∷ ls)) views)
 
-forms_start : (forms : List FormTree) → AllTyped forms → HaveOneLeftType form_lens forms → FormHub forms (hub_of forms)
+pub forms_start : (forms : List FormTree) → AllTyped forms → HaveOneLeftType form_lens forms → FormHub forms (hub_of forms)
 forms_start forms all one =
     subst (λ fs. FormHub fs (hub_of fs)) (forms_back forms all)
     (typed_starts (with_types forms all) (subst (HaveOneLeftType form_lens) (sym (forms_back forms all)) one))

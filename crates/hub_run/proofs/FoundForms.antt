@@ -9,7 +9,7 @@ use Rattle.accepted_programs.specs.Program.{Refusal, lens_of}
 use Rattle.accepted_programs.proofs.AcceptedForms.{accepted_typed}
 use Rattle.view_hub.specs.Laws.{SameLeft, HaveOneLeftType}
 use Rattle.hub_run.specs.FormLenses.{form_lens}
-use Rattle.hub_run.specs.FoundLenses.{HasLeft}
+use Rattle.hub_run.specs.FoundLenses.{AllTyped, HasLeft}
 use Rattle.hub_run.specs.Lenses.{HubRefusal, too_many_views, views_differ, with_left, view_with, form_of_view, first_left, then_forms, forms_from, forms_of, lenses_of}
 use Rattle.hub_run.specs.Pieces.{is_cut, pieces, pieces_from}
 use Rattle.script_input.specs.Lines.{cut, up_to_line_end}
@@ -20,17 +20,12 @@ Same = SameLeft form_lens
 abbrev HaveOne : List FormTree → Type 0
 HaveOne = HaveOneLeftType form_lens
 
--- all forms are typed
-abbrev pub AllTyped : List FormTree → Type 0
-AllTyped [] = Unit {0}
-AllTyped (form ∷ forms) = IsTrue (is_typed form) × AllTyped forms
-
 -- all forms have the left type of the first, if there is one
 abbrev pub OneLeft : List FormTree → Type 0
 OneLeft [] = Unit {0}
 OneLeft (form ∷ forms) = Same (left_type form) forms
 
-typed_more : (forms : List FormTree) (form : FormTree) → AllTyped forms → IsTrue (is_typed form) → AllTyped (forms ++ form ∷ [])
+pub typed_more : (forms : List FormTree) (form : FormTree) → AllTyped forms → IsTrue (is_typed form) → AllTyped (forms ++ form ∷ [])
 typed_more [] form all is = (is, tt)
 typed_more (first ∷ forms) form all is = (all.0, typed_more forms form all.1 is)
 
@@ -55,7 +50,7 @@ found_left (Some ty) v found form h = by_test (is_same_ty ty (left_type found)) 
   by_test true is e = let same : found ≡ form = cc in (same, ap left_type (sym same) ∙ sym (is refl))
   by_test false is e = cc
 
-found_view : (ty : Option TyTree) (v : ℕ) (text : List ℕ) (form : FormTree) → form_of_view ty v text ≡ Ok form → (lens_of text ≡ Ok form) × HasLeft ty form
+pub found_view : (ty : Option TyTree) (v : ℕ) (text : List ℕ) (form : FormTree) → form_of_view ty v text ≡ Ok form → (lens_of text ≡ Ok form) × HasLeft ty form
 found_view ty v text form h = by_outcome (lens_of text) refl h where
   by_outcome : (o : Result FormTree Refusal) → lens_of text ≡ o → view_with ty v o ≡ Ok form → (lens_of text ≡ Ok form) × HasLeft ty form
   by_outcome (Ok found) is e = let l = found_left ty v found form e in (is ∙ ap Ok l.0, l.1)
@@ -96,7 +91,7 @@ some_forms p ps before [] h one =
     absurd (not_empty ps before (form_of_view (first_left before) (length before) p) (λ more f e. never_empty ps more f e) h)
 some_forms p ps before (form ∷ forms) h one = one
 
-of_pieces : (ps : List (List ℕ)) (forms : List FormTree) → forms_of ps ≡ Ok forms → forms_from ps [] ≡ Ok forms
+pub of_pieces : (ps : List (List ℕ)) (forms : List FormTree) → forms_of ps ≡ Ok forms → forms_from ps [] ≡ Ok forms
 of_pieces ps forms h = by_test (nat_lt 64 (length ps)) h where
   by_test : (b : Bool) → cond b (Err too_many_views) (forms_from ps []) ≡ Ok forms → forms_from ps [] ≡ Ok forms
   by_test true e = cc

@@ -34,7 +34,7 @@ piece_at (k ∷ kept) (text ∷ pieces) (suc i) d within h =
     let e : suc (i + 1) ≡ suc i + 1 = omega arith in
     record { text = p.text; holds = p.holds; is = p.is ∙ ap (λ n. p.text ∷ drop n (text ∷ pieces)) e }
 
-each_length : (kept : List ProgramText) (pieces : List (List ℕ)) → HoldsEach kept pieces → length kept ≡ length pieces
+pub each_length : (kept : List ProgramText) (pieces : List (List ℕ)) → HoldsEach kept pieces → length kept ≡ length pieces
 each_length [] [] h = refl
 each_length [] (piece ∷ pieces) h = absurd h
 each_length (k ∷ kept) [] h = absurd h

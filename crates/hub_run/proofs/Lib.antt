@@ -11,6 +11,8 @@ pub mod HubLines
 pub mod HubStarts
 pub mod MappedLenses
 pub mod PieceLines
+pub mod PiecesRead
 pub mod RunsInStep
 pub mod StateLines
+pub mod ViewsRead
 pub mod WordLists

@@ -84,7 +84,7 @@ module _ {L F : Type 0} (f : L → F) (lens : OfLens.Ghosts F) where
   at_hub_stepped ls vs w None = refl
   at_hub_stepped ls vs w (Some a) = hub_stepped ls vs w a
 
-  steps_are : (ls : List L) (h : HubTree) (e : Place × WordTree) → step by_f ls h e ≡ step lens (map f ls) h e
+  pub steps_are : (ls : List L) (h : HubTree) (e : Place × WordTree) → step by_f ls h e ≡ step lens (map f ls) h e
   steps_are ls h (at_hub, w) =
       at_hub_stepped ls h.views w (act_on_hub by_f ls w h.hub)
       ∙ ap (option_and_then (after_hub lens (map f ls) h.views w)) (hub_acted ls w h.hub)

@@ -8,7 +8,6 @@ use Rattle.doc_values.specs.Typing.{has}
 use Rattle.doc_values.specs.declared.doc.Doc.{Doc}
 use Rattle.lens_flat.specs.declared.flat.ReadyForm.{ReadyForm}
 use Rattle.lens_forms.specs.Forms.{FormTree, form_tree, left_type, right_type}
-use Rattle.lens_types.specs.declared.typed.Typed.{Typed}
 use Rattle.lens_core.specs.Complements.{comp_tree, Fits}
 use Rattle.lens_core.specs.Consistency.{IsConsistent}
 use Rattle.lens_core.specs.declared.comp.Comp.{Comp}
@@ -113,34 +112,29 @@ no_comp vs k form x there none = by_view vs k there.is none where
 -- ---- the forms of a hub
 
 -- there is a view
-pub some_typed : (typed : List Typed) (ls : List ReadyForm) (h : HubTree) → map form_tree typed ≡ forms_of_lenses ls → IsHubOf ls h → 0 < length typed
-some_typed [] [] h same all = absurd all
-some_typed [] (l ∷ ls) h same all = absurd cc
-some_typed (t ∷ typed) ls h same all = omega arith
+pub some_lens : (ls : List ReadyForm) (h : HubTree) → IsHubOf ls h → 0 < length ls
+some_lens [] h all = absurd all
+some_lens (l ∷ ls) h all = omega arith
 
 -- the form at a place
-typed_at : (typed : List Typed) (i : ℕ) (d : Typed) → i < length typed → slice_get (map form_tree typed) i ≡ Some (form_tree (get_or typed i d))
-typed_at [] i d within = absurd (omega (arith, within))
-typed_at (t ∷ typed) zero d within = refl
-typed_at (t ∷ typed) (suc i) d within = typed_at typed i d (omega (arith, within))
+lens_at : (ls : List ReadyForm) (i : ℕ) (d : ReadyForm) → i < length ls → slice_get (forms_of_lenses ls) i ≡ Some (form_tree (get_or ls i d).typed)
+lens_at [] i d within = absurd (omega (arith, within))
+lens_at (l ∷ ls) zero d within = refl
+lens_at (l ∷ ls) (suc i) d within = lens_at ls i d (omega (arith, within))
 
-pub form_at : (typed : List Typed) (i : ℕ) (t : Typed) → i < length typed → t ≡ get_or typed i t → slice_get (map form_tree typed) i ≡ Some (form_tree t)
-form_at typed i t within is = typed_at typed i t within ∙ ap (λ (u : Typed). Some (form_tree u)) (sym is)
-
-pub lens_at : (typed : List Typed) (ls : List ReadyForm) (i : ℕ) (t : Typed) → map form_tree typed ≡ forms_of_lenses ls → i < length typed → t ≡ get_or typed i t → slice_get (forms_of_lenses ls) i ≡ Some (form_tree t)
-lens_at typed ls i t same within is =
-    ap (λ (fs : List FormTree). slice_get fs i) (sym same) ∙ form_at typed i t within is
+pub form_at : (ls : List ReadyForm) (i : ℕ) (l : ReadyForm) → i < length ls → l ≡ get_or ls i l → slice_get (forms_of_lenses ls) i ≡ Some (form_tree l.typed)
+form_at ls i l within is = lens_at ls i l within ∙ ap (λ (u : ReadyForm). Some (form_tree u.typed)) (sym is)
 
 -- the document of the hub
-pub first_has : (typed : List Typed) (ls : List ReadyForm) (h : HubTree) (t : Typed) → map form_tree typed ≡ forms_of_lenses ls → IsHubOf ls h → t ≡ get_or typed 0 t → IsTrue (has (left_type (form_tree t)) h.hub)
-first_has typed ls h t same all is = hub_has (λ (l : ReadyForm). form_tree l.typed) ls h (form_tree t) all (lens_at typed ls 0 t same (some_typed typed ls h same all) is)
+pub first_has : (ls : List ReadyForm) (h : HubTree) (l : ReadyForm) → IsHubOf ls h → l ≡ get_or ls 0 l → IsTrue (has (left_type (form_tree l.typed)) h.hub)
+first_has ls h l all is = hub_has (λ (l : ReadyForm). form_tree l.typed) ls h (form_tree l.typed) all (form_at ls 0 l (some_lens ls h all) is)
 
 -- all lines, from that of the hub
-pub state_text_is : (typed : List Typed) (h : HubTree) (t : Typed) (line text : List ℕ) → 0 < length typed → t ≡ get_or typed 0 t → line ≡ hub_line (form_tree t) h.hub → text ≡ line ++ view_lines 0 (map form_tree typed) h.views
-    → text ≡ hub_state_lines (map form_tree typed) h
-state_text_is [] h t line text within is line_is text_is = absurd (omega (arith, within))
-state_text_is (u ∷ typed) h t line text within is line_is text_is =
-    text_is ∙ ap (λ (l : List ℕ). l ++ view_lines 0 (form_tree u ∷ map form_tree typed) h.views) (line_is ∙ ap (λ (v : Typed). hub_line (form_tree v) h.hub) is)
+pub state_text_is : (ls : List ReadyForm) (h : HubTree) (l : ReadyForm) (line text : List ℕ) → 0 < length ls → l ≡ get_or ls 0 l → line ≡ hub_line (form_tree l.typed) h.hub
+    → text ≡ line ++ view_lines 0 (forms_of_lenses ls) h.views → text ≡ hub_state_lines (forms_of_lenses ls) h
+state_text_is [] h l line text within is line_is text_is = absurd (omega (arith, within))
+state_text_is (u ∷ ls) h l line text within is line_is text_is =
+    text_is ∙ ap (λ (x : List ℕ). x ++ view_lines 0 (forms_of_lenses (u ∷ ls)) h.views) (line_is ∙ ap (λ (v : ReadyForm). hub_line (form_tree v.typed) h.hub) is)
 
 -- ---- the loop
 

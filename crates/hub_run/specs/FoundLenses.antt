@@ -1,7 +1,8 @@
 -- What the code finds of the lenses of a program part.
-use Rattle.std.specs.Prelude.{◌≡◌, Option, None, Some, Result, Err}
+use Rattle.std.specs.Prelude.{◌≡◌, IsTrue, List, [], ◌∷◌, Option, None, Some, Result, Err}
 use Rattle.doc_values.specs.Types.{TyTree}
 use Rattle.lens_forms.specs.Forms.{FormTree, left_type}
+use Rattle.lens_forms.specs.Typing.{is_typed}
 use Rattle.accepted_programs.specs.Program.{Refusal}
 use Rattle.accepted_programs.specs.Refused.{IsRefusal, IsKnown}
 use Rattle.hub_run.specs.Lenses.{HubRefusal, too_many_views, in_view, views_differ}
@@ -29,3 +30,8 @@ HasRefusalLine _ = Unit {0}
 abbrev pub HasLeft : Option TyTree → FormTree → Type 0
 HasLeft None form = Unit {0}
 HasLeft (Some ty) form = left_type form ≡ ty
+
+-- all forms are typed
+abbrev pub AllTyped : List FormTree → Type 0
+AllTyped [] = Unit {0}
+AllTyped (form ∷ forms) = IsTrue (is_typed form) × AllTyped forms

@@ -7,6 +7,7 @@ pub mod HeldPieces
 pub mod HubHeads
 pub mod HubScript
 pub mod Lenses
+pub mod PiecePrograms
 pub mod Pieces
 pub mod RunStates
 pub mod Runs

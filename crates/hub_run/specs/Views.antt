@@ -1,19 +1,11 @@
--- The trees that edits and answers stand for.
+-- The trees that answers stand for.
 use Rattle.std.specs.Prelude.{Option, Some, option_map}
-use Rattle.edit_module.specs.Words.{WordTree}
-use Rattle.edit_module.specs.Views.{word_tree}
-use Rattle.edit_module.specs.declared.word.Word.{Word}
 use Rattle.edit_journal.specs.Reading.{cause_of}
-use Rattle.view_hub.specs.Hubs.{Place, HubTree}
-use Rattle.view_hub.specs.Views.{place_of, carried_tree}
-use Rattle.view_hub.specs.declared.side.HubSide.{HubSide}
+use Rattle.view_hub.specs.Hubs.{HubTree}
+use Rattle.view_hub.specs.Views.{carried_tree}
 use Rattle.hub_run.specs.Answers.{HubAnswerTree, carried, no_view, no_apply, no_edit}
 use Rattle.hub_run.specs.declared.answers.HubAnswer.{HubAnswer}
 use Rattle.hub_run.specs.declared.answers.HubAnswer.TheVariants.{Carried, NoView, NoApply, NoEdit}
-
--- an edit: the document that is edited, and the word
-abbrev pub edit_tree : HubSide × Word → Place × WordTree
-edit_tree e = (place_of e.0, word_tree e.1)
 
 -- the tree of an answer; there is none for a line of which nothing is known since memory ran out
 abbrev pub answer_tree : HubAnswer → Option HubAnswerTree

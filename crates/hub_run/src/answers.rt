@@ -89,8 +89,8 @@ pub fn no_view_line(alloc: Global, number: u64) -> Result<Bytes, AllocError>
     Ok(Bytes::from_vec(line.into_bytes()))
 }
 
-// Adds the compact JSON of the array of these words.
-fn add_words(line: Vec<u8>, words: &[Word]) -> Result<Vec<u8>, AllocError>
+/// Adds the compact JSON of the array of these words. The only error is running out of memory.
+pub fn add_words(line: Vec<u8>, words: &[Word]) -> Result<Vec<u8>, AllocError>
     ensures { IfOk result (λ all. all.items
         ≡ line.items ++ compact_text (tree_of_words (word_trees words.now))) }
 {

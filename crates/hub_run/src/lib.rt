@@ -20,12 +20,12 @@ mod script;
 mod state;
 mod views;
 
-pub use crate::answers::{HubAnswer, hub_answer_line, hub_ok_line, no_view_line};
+pub use crate::answers::{HubAnswer, add_words, hub_answer_line, hub_ok_line, no_view_line};
 pub use crate::head::{HubHead, read_hub_head};
 pub use crate::journal::take_hub_item;
-pub use crate::line::read_hub_edit;
+pub use crate::line::{read_edit_tree, read_hub_edit, side_and_edit};
 pub use crate::pieces::{MOST_VIEWS, Pieces};
 pub use crate::run::{HubRun, first_hub};
 pub use crate::script::run_hub;
-pub use crate::state::{hub_line, hub_state_lines, lines_of_view};
-pub use crate::views::{HubRefused, refusal_line, view_lens};
+pub use crate::state::{hub_line, hub_state_lines, is_in_step, lines_of_view};
+pub use crate::views::{AcceptedViews, HubRefused, refusal_line, view_with_left};

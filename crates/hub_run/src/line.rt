@@ -9,10 +9,9 @@ ghost use Rattle.edit_journal.specs.EntryJson.{tree_of_line};
 ghost use Rattle.edit_journal.specs.Reading.{Gives};
 ghost use Rattle.edit_journal.specs.declared.fault.EntryFault;
 ghost use Rattle.view_hub.specs.Hubs.{Place};
-ghost use Rattle.view_hub.specs.Views.{place_of};
+ghost use Rattle.view_hub.specs.Views.{edit_tree, place_of};
 ghost use Rattle.hub_run.specs.EditJson.{tree_of_edit, place_fits, is_hub, place_of_tree, parts_of, edit_of_tree};
 ghost use Rattle.hub_run.specs.EditJson.{edit_of_text, edit_of_line};
-ghost use Rattle.hub_run.specs.Views.{edit_tree};
 
 use edit_journal::{EntryFault, Line, read_edit, read_tree};
 use edit_module::Word;
@@ -63,11 +62,13 @@ fn read_text(alloc: Global, bytes: &[u8]) -> Result<(HubSide, Word), EntryFault>
     ensures { Gives edit_tree result (edit_of_text bytes.now) }
 {
     let tree = read_tree(alloc, bytes)?;
-    read_parts(alloc, &tree)
+    read_edit_tree(alloc, &tree)
 }
 
-// The edit of an object with exactly the members `at` and `edit`.
-fn read_parts(alloc: Global, tree: &Value) -> Result<(HubSide, Word), EntryFault>
+/// The edit that a tree is: of an object with exactly the members `at` and `edit`.
+///
+/// Refused as by [`read_hub_edit`], by `NotAnEntry`, `NotAnEdit` and `NoMemory` alone.
+pub fn read_edit_tree(alloc: Global, tree: &Value) -> Result<(HubSide, Word), EntryFault>
     ensures { Gives edit_tree result (edit_of_tree (view tree.now)) }
 {
     let Some((side, edit)) = side_and_edit(tree) else {
@@ -77,8 +78,10 @@ fn read_parts(alloc: Global, tree: &Value) -> Result<(HubSide, Word), EntryFault
     Ok((side, word))
 }
 
-// The document that is edited and the tree of the edit, of an object with exactly these two members.
-fn side_and_edit(tree: &Value) -> Option<(HubSide, &Value)>
+/// The document that is edited and the tree of the edit, of an object with exactly the members `at` and `edit`.
+///
+/// None if and only if the tree is not such an object, or `at` is neither `hub` nor a u64.
+pub fn side_and_edit(tree: &Value) -> Option<(HubSide, &Value)>
     ensures { option_map (λ p. (place_of p.0, view p.1.now)) result ≡ parts_of (view tree.now) }
 {
     let ((first_name, at), (last_name, edit)) = two_members(tree)?;

@@ -27,10 +27,9 @@ use std::marker::Model;
 use texts::Bytes;
 use view_hub::Hub;
 
-/// A hub that answers the journal of a script, with the typed forms of its lenses. Contracts see it as the hub.
+/// A hub that answers the journal of a script. Contracts see it as the hub.
 #[derive(Drop)]
 pub struct HubRun {
-    typed: Vec<Typed>,
     hub: Hub<Flat>,
 }
 
@@ -44,13 +43,7 @@ impl Model for HubRun {
 
     ghost coded = { hub_code ready_form.the_row.coded parts_type.the_row.coded };
 
-    ghost use Rattle.std.specs.Prelude.{◌≡◌, map};
-    ghost use Rattle.lens_forms.specs.Forms.{form_tree};
-    ghost use Rattle.hub_run.specs.RunStates.{forms_of_lenses};
-
     ghost view = { λ r. r.hub };
-
-    ghost invariant = { λ r. map form_tree r.typed.items ≡ forms_of_lenses r.hub.lenses };
 }
 
 impl ScriptState for HubRun {
@@ -85,7 +78,7 @@ impl ScriptState for HubRun {
     }
 
     fn state_lines(&self, alloc: Global) -> Result<Bytes, AllocError> {
-        let lines = hub_state_lines(alloc, &self.typed, &self.hub)?;
+        let lines = hub_state_lines(alloc, &self.hub)?;
         Ok(Bytes::from_vec(lines))
     }
 }
@@ -111,12 +104,12 @@ impl HubRun {
     /// A hub of these lenses at its start. There is a lens, and all lenses have the same left type.
     ///
     /// The only error is running out of memory.
-    pub fn start(alloc: Global, typed: Vec<Typed>) -> Result<HubRun, AllocError>
-        requires one_left { HaveOneLeftType form_lens (map form_tree typed.items) }
-        ensures state { IfOk result (λ r. state_of r ≡ first_state (map form_tree typed.items)) }
+    pub fn start(alloc: Global, typed: &[Typed]) -> Result<HubRun, AllocError>
+        requires one_left { HaveOneLeftType form_lens (map form_tree typed.now) }
+        ensures state { IfOk result (λ r. state_of r ≡ first_state (map form_tree typed.now)) }
     {
-        let hub = first_hub(alloc, &typed)?;
-        Ok(HubRun { typed, hub })
+        let hub = first_hub(alloc, typed)?;
+        Ok(HubRun { hub })
     }
 
     /// The hub of a program part at its start; or the line of the refusal, if the program part is refused as
@@ -128,16 +121,16 @@ impl HubRun {
             → Opens hub_script (lenses_of part) result }
     {
         match pieces.lenses(alloc) {
-            Ok(typed) => started(alloc, typed),
+            Ok(typed) => started(alloc, &typed),
             Err(refused) => Err(not_opened(alloc, &refused)),
         }
     }
 }
 
 // A hub of these lenses at its start, unless memory ran out.
-fn started(alloc: Global, typed: Vec<Typed>) -> Result<HubRun, NotOpened>
-    requires one_left { HaveOneLeftType form_lens (map form_tree typed.items) }
-    ensures { MatchResult result (λ r. state_of r ≡ first_state (map form_tree typed.items))
+fn started(alloc: Global, typed: &[Typed]) -> Result<HubRun, NotOpened>
+    requires one_left { HaveOneLeftType form_lens (map form_tree typed.now) }
+    ensures { MatchResult result (λ r. state_of r ≡ first_state (map form_tree typed.now))
         (λ refused. refused ≡ NotOpened.NoMemory) }
 {
     match HubRun::start(alloc, typed) {

@@ -1,6 +1,6 @@
 //! The state of a hub as lines, which end a run.
 
-ghost use Rattle.std.specs.Prelude.{◌≡◌, ◌++◌, map, slice_get, Some, IfOk, IsTrue};
+ghost use Rattle.std.specs.Prelude.{◌≡◌, ◌++◌, slice_get, Some, IfOk, IsTrue};
 ghost use Rattle.doc_values.specs.Documents.{doc_tree};
 ghost use Rattle.doc_values.specs.Typing.{has};
 ghost use Rattle.lens_forms.specs.Forms.{form_tree, left_type, right_type};
@@ -55,35 +55,25 @@ pub fn lines_of_view(
 
 /// The state lines of a hub: `hub JSON`, and for each view `view V JSON` and `complement V JSON`.
 ///
-/// The hub's lenses are those of the forms. The only error is running out of memory.
-pub fn hub_state_lines(
-    alloc: Global,
-    typed: &[Typed],
-    hub: &Hub<Flat>,
-) -> Result<Vec<u8>, AllocError>
-    requires of_forms { map form_tree typed.now ≡ forms_of_lenses hub.now.lenses }
+/// The only error is running out of memory.
+pub fn hub_state_lines(alloc: Global, hub: &Hub<Flat>) -> Result<Vec<u8>, AllocError>
     ensures lines { IfOk result (λ text. text.items
-        ≡ hub_state_lines (map form_tree typed.now) (hub_tree hub.now.parts)) }
+        ≡ hub_state_lines (forms_of_lenses hub.now.lenses) (hub_tree hub.now.parts)) }
 {
-    let document = hub.hub();
-    let line = hub_line(alloc, &typed[0], document)?;
-    add_views(alloc, typed, hub, line.into_vec())
+    is_in_step(hub);
+    let line = hub_line(alloc, hub.lenses()[0].typed(), hub.hub())?;
+    add_views(alloc, hub, line.into_vec())
 }
 
 // A text with the lines of all views behind it.
-fn add_views(
-    alloc: Global,
-    typed: &[Typed],
-    hub: &Hub<Flat>,
-    line: Vec<u8>,
-) -> Result<Vec<u8>, AllocError>
-    requires of_forms { map form_tree typed.now ≡ forms_of_lenses hub.now.lenses }
+fn add_views(alloc: Global, hub: &Hub<Flat>, line: Vec<u8>) -> Result<Vec<u8>, AllocError>
     ensures { IfOk result (λ text. text.items
-        ≡ line.items ++ view_lines 0 (map form_tree typed.now) (hub_tree hub.now.parts).views) }
+        ≡ line.items ++ view_lines 0 (forms_of_lenses hub.now.lenses) (hub_tree hub.now.parts).views) }
 {
     let mut text = line;
-    for number in 0..typed.len() {
-        let lines = lines_at(alloc, &typed[number], hub, number as u64)?;
+    let lenses = hub.lenses();
+    for number in 0..lenses.len() {
+        let lines = lines_at(alloc, lenses[number].typed(), hub, number as u64)?;
         text.extend_from_slice(&lines)?;
     }
     Ok(text)
@@ -110,8 +100,8 @@ fn lines_at(
     lines_of_view(alloc, number, typed, doc, comp)
 }
 
-// Does nothing; its clause is what a hub's calls say of it.
-fn is_in_step(hub: &Hub<Flat>)
+/// Does nothing; its clause is what a hub's calls say of it.
+pub fn is_in_step(hub: &Hub<Flat>)
     ensures { IsHubOf hub.now.lenses (hub_tree hub.now.parts) }
 {
     let _ = hub.hub();

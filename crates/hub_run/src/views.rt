@@ -1,13 +1,14 @@
 //! The lenses of the views, or why a program part is refused.
 
 ghost use Rattle.std.specs.Prelude.{◌≡◌, ◌≢◌, ◌++◌, ◌∷◌, [], List, ℕ, IfOk, IfErr, MatchResult, Option, Result, Ok};
-ghost use Rattle.std.specs.Prelude.{Err, codes, length, map};
-ghost use Rattle.doc_values.specs.Types.{TyTree};
+ghost use Rattle.std.specs.Prelude.{Err, None, Some, codes, length, map};
+ghost use Rattle.doc_values.specs.Types.{TyTree, ty_tree};
 ghost use Rattle.lens_forms.specs.Forms.{FormTree, form_tree};
 ghost use Rattle.view_hub.specs.Laws.{HaveOneLeftType};
 ghost use Rattle.accepted_programs.specs.Refused.{IsKnown, IsRefusal};
 ghost use Rattle.accepted_programs.specs.Program.{Refusal};
 ghost use Rattle.answer_text.specs.Lines.{program_refused_line};
+ghost use Rattle.program_terms.specs.Views.{program_tree};
 ghost use Rattle.script_input.specs.Parts.{HoldsPart};
 ghost use Rattle.hub_run.specs.HeldPieces.{HoldsPieces};
 ghost use Rattle.answer_text.specs.RefusalLines.{reason};
@@ -15,12 +16,15 @@ ghost use Rattle.hub_run.specs.Lenses.{HubRefusal, view_with, with_left, form_of
 ghost use Rattle.hub_run.specs.Lenses.{view_reason, refusal_line, views_differ};
 ghost use Rattle.hub_run.specs.FormLenses.{form_lens};
 ghost use Rattle.hub_run.specs.FoundLenses.{IsRefusalOf, IsRefused, HasRefusalLine, HasLeft};
+ghost use Rattle.hub_run.specs.PiecePrograms.{AreViews, IsViewOf};
 
 use crate::pieces::Pieces;
-use accepted_programs::Refused;
+use accepted_programs::{Accepted, Refused};
 use answer_text::{program_refused_line, refused_part_line};
+use doc_values::Ty;
+use lens_syntax::Program;
 use lens_types::Typed;
-use script_input::ProgramText;
+use script_input::{ProgramText, accepted_part};
 use std::alloc::{AllocError, AllocFailed, Global};
 use texts::Bytes;
 
@@ -62,16 +66,18 @@ impl<T: Drop> From<AllocFailed<T>> for HubRefused {
     }
 }
 
+/// The programs of the views of a hub, in order, and their lenses.
+#[derive(Drop)]
+pub struct AcceptedViews {
+    /// The programs.
+    pub programs: Vec<Program>,
+    /// The lens of each.
+    pub lenses: Vec<Typed>,
+}
+
 impl Pieces {
-    /// The lenses of the views, one for each piece, or why the program part is refused. It is refused by the first of
-    /// these:
-    ///
-    /// - `TooManyViews`: if and only if there are more than 64 pieces.
-    /// - Then, for each piece in order, `InView`: if and only if its program is refused, with the number of the view
-    ///   and the cause that `read_lens` of accepted_programs has; a piece of more than 65,536 bytes is too long.
-    /// - For the same piece after that, `ViewsDiffer`: if and only if its left type is not the same as view 0's.
-    ///
-    /// `NoMemory` says nothing of the program part.
+    /// The lenses of the views, one for each piece, or why the program part is refused: as [`Pieces::views`] refuses
+    /// it.
     pub fn lenses(&self, alloc: Global) -> Result<Vec<Typed>, HubRefused>
         ensures lenses { (ended : List (List ℕ)) (begun : List ℕ) → HoldsPieces self.now ended begun
             → MatchResult result
@@ -81,42 +87,102 @@ impl Pieces {
             HaveOneLeftType form_lens (map form_tree lenses.items)) }
         ensures known { IfErr result HasRefusalLine }
     {
+        match self.views(alloc) {
+            Ok(views) => Ok(views.lenses),
+            Err(refused) => Err(refused),
+        }
+    }
+
+    /// The programs of the views and their lenses, one for each piece, or why the program part is refused. Each piece
+    /// is read once. The part is refused by the first of these:
+    ///
+    /// - `TooManyViews`: if and only if there are more than 64 pieces.
+    /// - Then, for each piece in order, `InView`: if and only if its program is refused, with the number of the view
+    ///   and the cause that `read_lens` of accepted_programs has; a piece of more than 65,536 bytes is too long.
+    /// - For the same piece after that, `ViewsDiffer`: if and only if its left type is not the same as view 0's.
+    ///
+    /// `NoMemory` says nothing of the program part.
+    pub fn views(&self, alloc: Global) -> Result<AcceptedViews, HubRefused>
+        ensures views { (ended : List (List ℕ)) (begun : List ℕ) → HoldsPieces self.now ended begun
+            → MatchResult result
+            (λ v. AreViews (ended ++ begun ∷ []) (map program_tree v.programs.items) (map form_tree v.lenses.items))
+            (λ refused. IsRefused (forms_of (ended ++ begun ∷ [])) refused) }
+        ensures one_left { IfOk result (λ v.
+            HaveOneLeftType form_lens (map form_tree v.lenses.items)) }
+        ensures known { IfErr result HasRefusalLine }
+    {
         if self.is_many {
             return Err(HubRefused::TooManyViews);
         }
+        let mut programs = Vec::new(alloc);
         let mut lenses = Vec::new(alloc);
         for piece in &self.ended {
-            let lens = view_lens(alloc, &lenses, piece)?;
-            lenses.push(lens)?;
+            let view = view_behind(alloc, &lenses, piece)?;
+            programs.push(view.program)?;
+            lenses.push(view.lens)?;
         }
-        let lens = view_lens(alloc, &lenses, &self.begun)?;
-        lenses.push(lens)?;
-        Ok(lenses)
+        let view = view_behind(alloc, &lenses, &self.begun)?;
+        programs.push(view.program)?;
+        lenses.push(view.lens)?;
+        Ok(AcceptedViews { programs, lenses })
     }
 }
 
-/// The lens of the view behind those that were found before, with the number that they are, or why it is refused. It is
-/// refused by the first of these:
+// The view of a piece behind those that were found before, with the number that they are, or why it is refused.
+fn view_behind(alloc: Global, before: &[Typed], piece: &ProgramText) -> Result<Accepted, HubRefused>
+    ensures view { (text : List ℕ) → HoldsPart piece.now text → MatchResult result
+        (λ a. IsViewOf (first_left (map form_tree before.now)) (length before.now) text
+        (program_tree a.program) (form_tree a.lens))
+        (λ refused. IsRefused (form_of_view (first_left (map form_tree before.now)) (length before.now) text) refused) }
+    ensures same_left { IfOk result (λ a. HasLeft (first_left (map form_tree before.now)) (form_tree a.lens)) }
+    ensures known { IfErr result HasRefusalLine }
+{
+    if before.is_empty() {
+        return first_view(alloc, piece);
+    }
+    view_with_left(alloc, before[0].left(), before.len() as u64, piece)
+}
+
+// View 0, which may have any left type.
+fn first_view(alloc: Global, piece: &ProgramText) -> Result<Accepted, HubRefused>
+    ensures view { (text : List ℕ) → HoldsPart piece.now text → MatchResult result
+        (λ a. IsViewOf None 0 text (program_tree a.program) (form_tree a.lens))
+        (λ refused. IsRefused (form_of_view None 0 text) refused) }
+    ensures known { IfErr result HasRefusalLine }
+{
+    match accepted_part(alloc, piece) {
+        Ok(view) => Ok(view),
+        Err(refused) => Err(refused_view(0, refused)),
+    }
+}
+
+/// The program of the view with this number, whose left type is to be this one, and its lens, or why it is refused. It
+/// is refused by the first of these:
 ///
 /// - `InView`: if and only if its program is refused, with the number of the view and the cause that `read_lens` of
 ///   accepted_programs has; a piece of more than 65,536 bytes is too long.
-/// - `ViewsDiffer`: if and only if there is a view before it, and its left type is not the same as view 0's.
+/// - `ViewsDiffer`: if and only if its left type is another.
 ///
 /// `NoMemory` says nothing of the piece.
-pub fn view_lens(alloc: Global, before: &[Typed], piece: &ProgramText) -> Result<Typed, HubRefused>
-    ensures lens { (text : List ℕ) → HoldsPart piece.now text → MatchResult result
-        (λ lens. form_of_view (first_left (map form_tree before.now)) (length before.now) text ≡ Ok (form_tree lens))
-        (λ refused. IsRefused (form_of_view (first_left (map form_tree before.now)) (length before.now) text) refused) }
-    ensures same_left { IfOk result (λ lens. HasLeft (first_left (map form_tree before.now)) (form_tree lens)) }
+pub fn view_with_left(
+    alloc: Global,
+    left: &Ty,
+    number: u64,
+    piece: &ProgramText,
+) -> Result<Accepted, HubRefused>
+    ensures view { (text : List ℕ) → HoldsPart piece.now text → MatchResult result
+        (λ a. IsViewOf (Some (ty_tree left.now)) number text (program_tree a.program) (form_tree a.lens))
+        (λ refused. IsRefused (form_of_view (Some (ty_tree left.now)) number text) refused) }
+    ensures same_left { IfOk result (λ a. HasLeft (Some (ty_tree left.now)) (form_tree a.lens)) }
     ensures known { IfErr result HasRefusalLine }
 {
-    match piece.lens(alloc) {
-        Ok(lens) => with_left(before, lens),
-        Err(refused) => Err(refused_view(before.len() as u64, refused)),
+    match accepted_part(alloc, piece) {
+        Ok(view) => with_left(left, number, view),
+        Err(refused) => Err(refused_view(number, refused)),
     }
 }
 
-// Why the view with this number is refused, whose program is.
+// Why the view with this number is refused, whose program is refused for this cause.
 fn refused_view(number: u64, refused: Refused) -> HubRefused
     requires has_line { IsKnown refused }
     ensures refused { (ty : Option TyTree) (outcome : Result FormTree Refusal) → IsRefusal outcome refused
@@ -130,20 +196,19 @@ fn refused_view(number: u64, refused: Refused) -> HubRefused
     }
 }
 
-// The lens, if its left type is that of the first.
-fn with_left(before: &[Typed], lens: Typed) -> Result<Typed, HubRefused>
-    ensures lens { MatchResult result
-        (λ same. with_left (first_left (map form_tree before.now)) (length before.now) (form_tree lens)
-        ≡ Ok (form_tree same))
-        (λ refused. IsRefused (with_left (first_left (map form_tree before.now)) (length before.now)
-        (form_tree lens)) refused) }
-    ensures same_left { IfOk result (λ same. HasLeft (first_left (map form_tree before.now)) (form_tree same)) }
+// The view with this number, if its left type is this one.
+fn with_left(left: &Ty, number: u64, view: Accepted) -> Result<Accepted, HubRefused>
+    ensures same { MatchResult result
+        (λ same. (same ≡ view)
+        × (with_left (Some (ty_tree left.now)) number (form_tree view.lens) ≡ Ok (form_tree view.lens)))
+        (λ refused. IsRefused (with_left (Some (ty_tree left.now)) number (form_tree view.lens)) refused) }
+    ensures same_left { IfOk result (λ same. HasLeft (Some (ty_tree left.now)) (form_tree same.lens)) }
     ensures known { IfErr result HasRefusalLine }
 {
-    if before.len() > 0 && !before[0].left().is_same(lens.left()) {
-        return Err(HubRefused::ViewsDiffer(before.len() as u64));
+    if !left.is_same(view.lens.left()) {
+        return Err(HubRefused::ViewsDiffer(number));
     }
-    Ok(lens)
+    Ok(view)
 }
 
 /// `program refused: too-many-views`, `program refused: view V REASON` or `program refused: views-differ V`, and a line

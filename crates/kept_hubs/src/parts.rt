@@ -38,7 +38,7 @@ pub(crate) fn part_text(
         part_text (state_of hub.now) part ≡ option_map (λ text. text.items) found) }
 {
     match part {
-        HubPart::State => Ok(Some(hub_state_lines(alloc, typed, hub)?)),
+        HubPart::State => Ok(Some(hub_state_lines(alloc, hub)?)),
         HubPart::Document => Ok(Some(hub_text(alloc, typed, hub)?)),
         HubPart::ViewDocument(number) => view_text(alloc, typed, hub, number),
         HubPart::ViewComplement(number) => comp_text(alloc, typed, hub, number),

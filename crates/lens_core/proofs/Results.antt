@@ -1,5 +1,5 @@
 -- What an answer that is there says of what it was made of.
-use Rattle.std.proofs.Common.{◌≡◌, ℕ, Option, None, Some, Result, Ok, Err, refl, ◌∙◌, Bool, true, false, List}
+use Rattle.std.proofs.Common.{◌≡◌, ℕ, Option, None, Some, Result, Ok, Err, refl, Bool, true, false, List}
 use Rattle.std.specs.Prelude.{if◌then◌else◌, cond}
 use Rattle.hold_shapes.specs.declared.shape.Shape.{Shape}
 use Rattle.hold_shapes.specs.declared.edit.Place.{Place as PlaceOf}

@@ -1,5 +1,5 @@
 -- Tags by their numbers and names, in the lists that the code reads.
-use Rattle.std.proofs.Common.{◌≡◌, ℕ, zero, suc, ◌<◌, ◌≤◌, List, [], ◌∷◌, length, map, Some, None, refl, arith}
+use Rattle.std.proofs.Common.{◌≡◌, ℕ, zero, suc, ◌≤◌, List, [], ◌∷◌, length, map, Some, None, refl, arith}
 use Rattle.doc_values.specs.Types.{TyTree, FieldTrees, type_fields_of, field_tree}
 use Rattle.doc_values.specs.Typing.{lookup_field}
 use Rattle.doc_values.specs.declared.ty.Ty.{Ty}

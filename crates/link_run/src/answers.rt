@@ -14,7 +14,7 @@ ghost use Rattle.link_run.specs.Views.{answer_tree, HasToldLine, HasAnswerLine, 
 
 use crate::fault::EventFault;
 use answer_text::{bytes_of, no_apply_line};
-use edit_json::write_word_text;
+use edit_json::append_word;
 use std::alloc::{AllocError, Global};
 use texts::Bytes;
 use turn_link::{Batch, LinkFault, Told};
@@ -81,10 +81,11 @@ fn batch_line(alloc: Global, number: u64, batch: &Batch) -> Result<Bytes, AllocE
     requires counts_fit { counts_fit (word_tree batch.now.word.value) ≡ true }
     ensures { IfOk result (λ line. line ≡ told_line number (sealed (batch_tree batch.now))) }
 {
-    let word = write_word_text(alloc, &batch.word)?;
     let sealed = batch.number;
-    let line = format!(in alloc; "ok {number} batch {sealed} {word}\n")?;
-    Ok(bytes_of(line))
+    let line = format!(in alloc; "ok {number} batch {sealed} ")?;
+    let mut line = append_word(line.into_bytes(), &batch.word)?;
+    line.extend_from_slice(b"\n")?;
+    Ok(Bytes::from_vec(line))
 }
 
 // The line of an accepted event with a number that is told of it.

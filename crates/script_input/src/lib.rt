@@ -16,4 +16,4 @@ mod script;
 pub use input::{Input, piece_buffer};
 pub use limits::{MOST_BYTES, MOST_KEPT, PIECE_BYTES};
 pub use rest::skip_rest;
-pub use script::{Head, ProgramText, read_head};
+pub use script::{Head, ProgramText, accepted_part, read_head};

@@ -10,11 +10,12 @@ ghost use Rattle.script_input.specs.Parts.{HoldsPart, ReadsHead, StopsHead};
 ghost use Rattle.script_input.specs.PartSteps.{IsProgramFront, MovesOn, AddsLines};
 ghost use Rattle.script_input.specs.declared.limits.TheConstants.{PIECE_BYTES};
 ghost use Rattle.lens_syntax.specs.declared.reading.TheConstants.{MOST_PROGRAM_BYTES};
-ghost use Rattle.accepted_programs.specs.Program.{lens_of};
+ghost use Rattle.accepted_programs.specs.Program.{IsAccepted, lens_of};
+ghost use Rattle.program_terms.specs.Views.{program_tree};
 ghost use Rattle.accepted_programs.specs.Refused.{IsKnown, IsRefusal};
 
 use crate::Input;
-use accepted_programs::{Refused, read_lens};
+use accepted_programs::{Accepted, Refused, read_accepted, read_lens};
 use edit_journal::Line;
 use lens_io::{Source, TakeFault};
 use lens_syntax::{MOST_PROGRAM_BYTES, ProgramFault};
@@ -89,6 +90,18 @@ impl ProgramText {
             return Err(Refused::Syntax(ProgramFault::ProgramTooLong));
         }
         read_lens(alloc, &self.text)
+    }
+}
+
+/// The program of a program part, and its lens, or why the part is refused: as [`ProgramText::lens`] refuses it.
+pub fn accepted_part(alloc: Global, part: &ProgramText) -> Result<Accepted, Refused>
+    ensures accepted { (bytes : List ℕ) → HoldsPart part.now bytes → MatchResult result
+        (λ a. IsAccepted bytes (program_tree a.program) (form_tree a.lens)) (IsRefusal (lens_of bytes)) }
+    ensures known { IfErr result IsKnown }
+{
+    match part.text() {
+        Some(text) => read_accepted(alloc, text),
+        None => Err(Refused::Syntax(ProgramFault::ProgramTooLong)),
     }
 }
 

@@ -6,13 +6,12 @@ use Rattle.lens_io.specs.Calls.{Took, SourceFailed, SinkFailed, DiskFailed}
 use Rattle.lens_io.specs.declared.disk.Disk as OfDisk
 use Rattle.lens_io.specs.declared.sink.Sink as OfSink
 use Rattle.lens_io.specs.declared.source.Source as OfSource
-use Rattle.accepted_programs.specs.Program.{Refusal, lens_of}
 use Rattle.script_input.specs.declared.limits.TheConstants.{MOST_BYTES}
 use Rattle.script_input.specs.Coming.{has_separator}
 use Rattle.script_input.specs.Lines.{program_part}
 use Rattle.store_run.specs.Refusals.{refusal_line}
 use Rattle.store_run.specs.declared.refusals.StoreRefusal.TheVariants.{LogExists}
-use Rattle.store_new.specs.Command.{Command}
+use Rattle.store_new.specs.Command.{PartMeaning, Command}
 use Rattle.store_new.specs.NewEnds.{GivesLine, StopsAfter, MakesStore, Ends, MayRefuse, RefusesAtOnce, IsEnd, IsComplete, Completes}
 use Rattle.store_new.specs.Scripts.{IsAcceptedPart, GoesOn}
 use Rattle.store_new.specs.NewStores.{IsTooLong, EndsMaking}
@@ -21,8 +20,8 @@ use Rattle.command_ends.specs.declared.status.Status.{Status}
 use Rattle.command_ends.specs.declared.status.Status.TheVariants.{Done, SomeRefused, Usage, ProgramRefused, StoreRefused, SourceFault, SinkFault, DiskFault, InputTooLong, NoMemory}
 use Rattle.script_input.proofs.TakenParts.{IsFixed, few_taken, fixed_or_read, part_of_all, all_taken}
 
-never_both : (bytes : List ℕ) (refusal : Refusal) → IsAcceptedPart bytes → lens_of (program_part bytes) ≡ Err refusal → ⊥
-never_both bytes refusal a e = let x = a.1 in cc
+never_both : (part : PartMeaning) (bytes : List ℕ) (refusal : part.Refusal) → IsAcceptedPart part bytes → part.accepted (program_part bytes) ≡ Err refusal → ⊥
+never_both part bytes refusal a e = let x = a.1 in cc
 
 -- ---- after a status
 
@@ -38,7 +37,7 @@ module _ {S K D : Type 0} (source : OfSource.Ghosts S) (sink : OfSink.Ghosts K) 
     by_line : (status ≡ StoreRefused) ⊎ (status ≡ SinkFault) → ⊥
     by_line (inl x) = cc
     by_line (inr x) = cc
-  done (inr (inl e)) is = absurd (subst (StopsAfter e.bytes) is e.stops)
+  done (inr (inl e)) is = absurd (subst (StopsAfter command.part e.bytes) is e.stops)
   done (inr (inr (inl e))) is = absurd (by_line (given_with sink k k' e.line ProgramRefused status e.given)) where
     by_line : (status ≡ ProgramRefused) ⊎ (status ≡ SinkFault) → ⊥
     by_line (inl x) = cc
@@ -51,17 +50,17 @@ module _ {S K D : Type 0} (source : OfSource.Ghosts S) (sink : OfSink.Ghosts K) 
 
 -- ---- how such a command may end
 
-stops_among : (bytes : List ℕ) (status : Status) → StopsAfter bytes status → IsAmong init_statuses status
-stops_among bytes Done h = absurd h
-stops_among bytes SomeRefused h = absurd h
-stops_among bytes Usage h = absurd h
-stops_among bytes ProgramRefused h = absurd h
-stops_among bytes StoreRefused h = absurd h
-stops_among bytes SourceFault h = inr (inr (inr (inl refl)))
-stops_among bytes SinkFault h = absurd h
-stops_among bytes DiskFault h = inr (inr (inr (inr (inr (inl refl)))))
-stops_among bytes InputTooLong h = inr (inr (inr (inr (inr (inr (inl refl))))))
-stops_among bytes NoMemory h = inr (inr (inr (inr (inr (inr (inr (inl refl)))))))
+stops_among : (part : PartMeaning) (bytes : List ℕ) (status : Status) → StopsAfter part bytes status → IsAmong init_statuses status
+stops_among part bytes Done h = absurd h
+stops_among part bytes SomeRefused h = absurd h
+stops_among part bytes Usage h = absurd h
+stops_among part bytes ProgramRefused h = absurd h
+stops_among part bytes StoreRefused h = absurd h
+stops_among part bytes SourceFault h = inr (inr (inr (inl refl)))
+stops_among part bytes SinkFault h = absurd h
+stops_among part bytes DiskFault h = inr (inr (inr (inr (inr (inl refl)))))
+stops_among part bytes InputTooLong h = inr (inr (inr (inr (inr (inr (inl refl))))))
+stops_among part bytes NoMemory h = inr (inr (inr (inr (inr (inr (inr (inl refl)))))))
 
 by_line_among : (status ending : Status) → IsAmong init_statuses ending → (status ≡ ending) ⊎ (status ≡ SinkFault) → IsAmong init_statuses status
 by_line_among status ending among (inl x) = subst (IsAmong init_statuses) (sym x) among
@@ -84,7 +83,7 @@ module _ {S K D : Type 0} (source : OfSource.Ghosts S) (sink : OfSink.Ghosts K) 
   pub ends_among : (status : Status) → Ends source sink disk command (s, k, d) (s', k', d') status
       → ((bytes : List ℕ) × ((line : List ℕ) × command.refuses bytes line)) × ((status ≡ SomeRefused) ⊎ (status ≡ SinkFault)) ⊎ IsAmong init_statuses status
   ends_among status (inl e) = inr (by_line_among status StoreRefused (inr (inr (inl refl))) (given_with sink k k' (refusal_line LogExists) StoreRefused status e.given))
-  ends_among status (inr (inl e)) = inr (stops_among e.bytes status e.stops)
+  ends_among status (inr (inl e)) = inr (stops_among command.part e.bytes status e.stops)
   ends_among status (inr (inr (inl e))) = inr (by_line_among status ProgramRefused (inr (inl refl)) (given_with sink k k' e.line ProgramRefused status e.given))
   ends_among status (inr (inr (inr (inl e)))) = inl ((e.bytes, (e.line, e.refused)), given_with sink k k' e.line SomeRefused status e.given)
   ends_among status (inr (inr (inr (inr e)))) = inr (makes_among e.payloads e.lines status e.ends)
@@ -105,46 +104,46 @@ module _ {S K D : Type 0} (source : OfSource.Ghosts S) (sink : OfSink.Ghosts K) 
 
 -- ---- the refusal of a program part
 
-stops_unrefused : (bytes : List ℕ) (refusal : Refusal) (status : Status) → StopsAfter bytes status → has_separator bytes ≡ true → lens_of (program_part bytes) ≡ Err refusal → MayRefuse status
-stops_unrefused bytes refusal Done stops has refused = absurd stops
-stops_unrefused bytes refusal SomeRefused stops has refused = absurd stops
-stops_unrefused bytes refusal ProgramRefused stops has refused = tt
-stops_unrefused bytes refusal StoreRefused stops has refused = absurd stops
-stops_unrefused bytes refusal SourceFault stops has refused = absurd (never_both bytes refusal (stops.1 has) refused)
-stops_unrefused bytes refusal SinkFault stops has refused = tt
-stops_unrefused bytes refusal DiskFault stops has refused = let never : has_separator [] ≡ true = subst (λ b. has_separator b ≡ true) stops has in cc
-stops_unrefused bytes refusal InputTooLong stops has refused = absurd (never_both bytes refusal (stops.1 has) refused)
-stops_unrefused bytes refusal NoMemory stops has refused = tt
-stops_unrefused bytes refusal Usage stops has refused = absurd stops
+stops_unrefused : (part : PartMeaning) (bytes : List ℕ) (refusal : part.Refusal) (status : Status) → StopsAfter part bytes status → has_separator bytes ≡ true → part.accepted (program_part bytes) ≡ Err refusal → MayRefuse status
+stops_unrefused part bytes refusal Done stops has refused = absurd stops
+stops_unrefused part bytes refusal SomeRefused stops has refused = absurd stops
+stops_unrefused part bytes refusal ProgramRefused stops has refused = tt
+stops_unrefused part bytes refusal StoreRefused stops has refused = absurd stops
+stops_unrefused part bytes refusal SourceFault stops has refused = absurd (never_both part bytes refusal (stops.1 has) refused)
+stops_unrefused part bytes refusal SinkFault stops has refused = tt
+stops_unrefused part bytes refusal DiskFault stops has refused = let never : has_separator [] ≡ true = subst (λ b. has_separator b ≡ true) stops has in cc
+stops_unrefused part bytes refusal InputTooLong stops has refused = absurd (never_both part bytes refusal (stops.1 has) refused)
+stops_unrefused part bytes refusal NoMemory stops has refused = tt
+stops_unrefused part bytes refusal Usage stops has refused = absurd stops
 
 -- nothing was read, and the status is another
-pub refuses_nothing : {S : Type 0} (source : OfSource.Ghosts S) (s : S) (status : Status) → (status ≡ ProgramRefused → ⊥) → RefusesAtOnce source s s status
-refuses_nothing source s status other = record { bytes = []; took = Consumes-nil (source.left s); only = λ is. absurd (other is); whole = λ has refusal refused. cc }
+pub refuses_nothing : (part : PartMeaning) {S : Type 0} (source : OfSource.Ghosts S) (s : S) (status : Status) → (status ≡ ProgramRefused → ⊥) → RefusesAtOnce part source s s status
+refuses_nothing part source s status other = record { bytes = []; took = Consumes-nil (source.left s); only = λ is. absurd (other is); whole = λ has refusal refused. cc }
 
 -- the line `store refused: log-exists` does not end with that status
 pub other_line : {K : Type 0} (sink : OfSink.Ghosts K) (k k' : K) (status : Status) → GivesLine sink k k' (refusal_line LogExists) StoreRefused status → status ≡ ProgramRefused → ⊥
 other_line sink k k' status (inl (now, given)) is = cc
 other_line sink k k' status (inr (now, given)) is = cc
 
-never_refused : (bytes : List ℕ) (status : Status) → StopsAfter bytes status → status ≡ ProgramRefused → ⊥
-never_refused bytes status stops is = subst (StopsAfter bytes) is stops
+never_refused : (part : PartMeaning) (bytes : List ℕ) (status : Status) → StopsAfter part bytes status → status ≡ ProgramRefused → ⊥
+never_refused part bytes status stops is = subst (StopsAfter part bytes) is stops
 
 module _ {S K D : Type 0} (source : OfSource.Ghosts S) (sink : OfSink.Ghosts K) (disk : OfDisk.Ghosts D) (command : Command)
-    (accepts : (bytes : List ℕ) (payloads : List (List ℕ)) (lines : List ℕ) → command.makes bytes payloads lines → IsAcceptedPart bytes)
-    (refuses : (bytes line : List ℕ) → command.refuses bytes line → IsAcceptedPart bytes) where
+    (accepts : (bytes : List ℕ) (payloads : List (List ℕ)) (lines : List ℕ) → command.makes bytes payloads lines → IsAcceptedPart command.part bytes)
+    (refuses : (bytes line : List ℕ) → command.refuses bytes line → IsAcceptedPart command.part bytes) where
   module _ (s s' : S) (k k' : K) (d d' : D) (status : Status) where
     -- the program part is accepted, if it is whole
-    goes_on_at_once : (bytes : List ℕ) → Took source s s' bytes → GoesOn bytes → (status ≡ ProgramRefused → ⊥) → RefusesAtOnce source s s' status
-    goes_on_at_once bytes took goes_on other = record { bytes = bytes; took = took; only = λ is. absurd (other is); whole = λ has refusal refused. absurd (never_both bytes refusal (goes_on has) refused) }
+    goes_on_at_once : (bytes : List ℕ) → Took source s s' bytes → GoesOn command.part bytes → (status ≡ ProgramRefused → ⊥) → RefusesAtOnce command.part source s s' status
+    goes_on_at_once bytes took goes_on other = record { bytes = bytes; took = took; only = λ is. absurd (other is); whole = λ has refusal refused. absurd (never_both command.part bytes refusal (goes_on has) refused) }
 
     -- a refusal of the program part is exact, and comes at once
-    pub refuses_at_once : Ends source sink disk command (s, k, d) (s', k', d') status → RefusesAtOnce source s s' status
+    pub refuses_at_once : Ends source sink disk command (s, k, d) (s', k', d') status → RefusesAtOnce command.part source s s' status
     refuses_at_once (inl e) = goes_on_at_once e.bytes e.took e.goes_on (other_line sink k k' status e.given)
     refuses_at_once (inr (inl e)) = record {
       bytes = e.bytes;
       took = e.took;
-      only = λ is. absurd (never_refused e.bytes status e.stops is);
-      whole = λ has refusal refused. stops_unrefused e.bytes refusal status e.stops has refused;
+      only = λ is. absurd (never_refused command.part e.bytes status e.stops is);
+      whole = λ has refusal refused. stops_unrefused command.part e.bytes refusal status e.stops has refused;
     }
     refuses_at_once (inr (inr (inl e))) = record {
       bytes = e.bytes;
@@ -175,12 +174,12 @@ module _ {S K D : Type 0} (source : OfSource.Ghosts S) (sink : OfSink.Ghosts K) 
   memory_complete bytes status is = subst (IsComplete command bytes) (sym is) (record { accepted = λ a room. tt; refused = λ refusal e. tt })
 
   -- a command that refuses a script whose program part is accepted
-  own_complete : (bytes : List ℕ) → IsAcceptedPart bytes → IsComplete command bytes SomeRefused
-  own_complete bytes a = record { accepted = λ b room. tt; refused = λ refusal e. absurd (never_both bytes refusal a e) }
+  own_complete : (bytes : List ℕ) → IsAcceptedPart command.part bytes → IsComplete command bytes SomeRefused
+  own_complete bytes a = record { accepted = λ b room. tt; refused = λ refusal e. absurd (never_both command.part bytes refusal a e) }
 
   -- R, F and G say that the source, the sink or the disk failed
   module _ (R F G : Type 0) where
-    only_memory : (taken : List ℕ) (status : Status) → StopsAfter taken status → length taken ≤ MOST_BYTES → (status ≡ SourceFault → R) → (status ≡ DiskFault → G) → (R → ⊥) → (G → ⊥) → status ≡ NoMemory
+    only_memory : (taken : List ℕ) (status : Status) → StopsAfter command.part taken status → length taken ≤ MOST_BYTES → (status ≡ SourceFault → R) → (status ≡ DiskFault → G) → (R → ⊥) → (G → ⊥) → status ≡ NoMemory
     only_memory taken Done h few r g no_source no_disk = absurd h
     only_memory taken SomeRefused h few r g no_source no_disk = absurd h
     only_memory taken ProgramRefused h few r g no_source no_disk = absurd h
@@ -215,12 +214,12 @@ module _ {S K D : Type 0} (source : OfSource.Ghosts S) (sink : OfSink.Ghosts K) 
         let took = as_known s s' bytes left' e.bytes is is' e.took in
         memory_complete bytes status (only_memory e.bytes status e.stops (omega (arith, few, few_taken bytes left' e.bytes took)) r g no_source no_disk)
     by_end s s' k k' d d' status bytes left' (inr (inr (inl e))) is is' r f g empty few no_source no_sink no_disk = by_given e.given where
-      same : lens_of (program_part bytes) ≡ lens_of (program_part e.bytes)
-      same = ap lens_of (part_of_all bytes left' e.bytes (as_known s s' bytes left' e.bytes is is' e.took) (subst (λ o. IsFixed e.bytes ⊎ IsAtEnd o) is' (fixed_or_read source s s' e.bytes e.refused.whole)))
+      same : command.part.accepted (program_part bytes) ≡ command.part.accepted (program_part e.bytes)
+      same = ap command.part.accepted (part_of_all bytes left' e.bytes (as_known s s' bytes left' e.bytes is is' e.took) (subst (λ o. IsFixed e.bytes ⊎ IsAtEnd o) is' (fixed_or_read source s s' e.bytes e.refused.whole)))
 
       by_given : GivesLine sink k k' e.line ProgramRefused status → IsComplete command bytes status
       by_given (inl (now, given)) = subst (IsComplete command bytes) (sym now) (record {
-        accepted = λ a room. absurd (never_both bytes e.refused.refusal a (same ∙ e.refused.refused));
+        accepted = λ a room. absurd (never_both command.part bytes e.refused.refused.refusal a (same ∙ e.refused.refused.is));
         refused = λ refusal x. tt;
       })
       by_given (inr (now, given)) = absurd (no_sink (f now))
@@ -229,13 +228,13 @@ module _ {S K D : Type 0} (source : OfSource.Ghosts S) (sink : OfSink.Ghosts K) 
       same = sym (all_taken bytes left' e.bytes (as_known s s' bytes left' e.bytes is is' e.took) (subst IsAtEnd is' e.read))
 
       by_given : GivesLine sink k k' e.line SomeRefused status → IsComplete command bytes status
-      by_given (inl (now, given)) = subst (IsComplete command bytes) (sym now) (own_complete bytes (subst IsAcceptedPart same (refuses e.bytes e.line e.refused)))
+      by_given (inl (now, given)) = subst (IsComplete command bytes) (sym now) (own_complete bytes (subst (IsAcceptedPart command.part) same (refuses e.bytes e.line e.refused)))
       by_given (inr (now, given)) = absurd (no_sink (f now))
     by_end s s' k k' d d' status bytes left' (inr (inr (inr (inr e)))) is is' r f g empty few no_source no_sink no_disk =
         let same : bytes ≡ e.bytes = all_taken bytes left' e.bytes (as_known s s' bytes left' e.bytes is is' e.took) (subst IsAtEnd is' e.read) in
         subst (λ b. IsComplete command b status) (sym same) (record {
           accepted = λ a room. made_ends k k' d d' e.payloads e.lines status e.ends f g no_sink no_disk (room e.payloads e.lines e.made);
-          refused = λ refusal x. absurd (never_both e.bytes refusal (accepts e.bytes e.payloads e.lines e.made) x);
+          refused = λ refusal x. absurd (never_both command.part e.bytes refusal (accepts e.bytes e.payloads e.lines e.made) x);
         })
 
   -- if the bytes of the source are known

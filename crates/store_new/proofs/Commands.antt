@@ -1,5 +1,5 @@
 -- The ends of a command that makes a store, whatever it refuses and makes.
-use Rattle.std.proofs.Common.{◌≡◌, inl, inr, ℕ, ◌+◌, ◌<◌, ◌≤◌, List, [], ◌∷◌, length, Option, Some, None, IfSome, refl, sym, subst, ◌∙◌, arith}
+use Rattle.std.proofs.Common.{◌≡◌, inl, inr, ℕ, ◌+◌, ◌<◌, ◌≤◌, List, [], ◌∷◌, length, Option, Some, None, IfSome, refl, sym, subst, arith}
 use Rattle.std.proofs.KnownBytes.{Appends-nil, Consumes-nil}
 use Rattle.lens_io.specs.Calls.{Took, IsRead, Gave}
 use Rattle.lens_io.specs.Disks.{SameImages}
@@ -7,14 +7,13 @@ use Rattle.lens_io.specs.declared.disk.Disk as OfDisk
 use Rattle.lens_io.specs.declared.failed.TakeFault.{TakeFault}
 use Rattle.lens_io.specs.declared.sink.Sink as OfSink
 use Rattle.lens_io.specs.declared.source.Source as OfSource
-use Rattle.accepted_programs.specs.Program.{lens_of}
 use Rattle.script_input.specs.declared.limits.TheConstants.{MOST_BYTES}
 use Rattle.script_input.specs.Coming.{IsWhole}
 use Rattle.script_input.specs.Lines.{program_part}
 use Rattle.store_run.proofs.Openings.{unwritten_none, unwritten_then}
 use Rattle.store_run.specs.Refusals.{IsUnwritten, refusal_line}
 use Rattle.store_run.specs.declared.refusals.StoreRefusal.TheVariants.{LogExists}
-use Rattle.store_new.specs.Command.{Command}
+use Rattle.store_new.specs.Command.{PartMeaning, Command}
 use Rattle.store_new.specs.NewEnds.{GivesLine, StopsAfter, Ends}
 use Rattle.store_new.specs.ScriptReading.{ReadsFront, RefusesWith}
 use Rattle.store_new.specs.Making.{EndsStore, EndsPlan}
@@ -36,8 +35,8 @@ both_some None P Q R f h k = tt
 both_some (Some bytes) P Q R f h k = f bytes h k
 
 -- before anything is taken no separator has come
-nothing_yet : GoesOn []
-nothing_yet has = cc
+nothing_yet : (part : PartMeaning) → GoesOn part []
+nothing_yet part has = cc
 
 -- ---- a disk to which nothing is written
 
@@ -56,7 +55,7 @@ module _ {S K D : Type 0} (source : OfSource.Ghosts S) (sink : OfSink.Ghosts K) 
     bytes = [];
     took = Consumes-nil (source.left s);
     within = omega arith;
-    goes_on = nothing_yet;
+    goes_on = nothing_yet command.part;
     some = some_found (disk.content d) count [] refl some is;
     unwritten = unwritten;
     given = given;
@@ -122,7 +121,7 @@ module _ {S K D : Type 0} (source : OfSource.Ghosts S) (sink : OfSink.Ghosts K) 
 
   module _ (s s' : S) (k : K) (d : D) where
     -- the reading stopped
-    pub ends_front : (fault : TakeFault) → ReadsFront source s s' fault → Ends source sink disk command (s, k, d) (s', k, d) (status_at fault)
+    pub ends_front : (fault : TakeFault) → ReadsFront command.part source s s' fault → Ends source sink disk command (s, k, d) (s', k, d) (status_at fault)
     ends_front fault r =
         inr (inl (record { bytes = r.bytes; took = r.took; at_most = r.at_most; stops = r.stops; unwritten = unwritten_none disk d; given = Appends-nil (sink.held k) }))
 
@@ -130,7 +129,7 @@ module _ {S K D : Type 0} (source : OfSource.Ghosts S) (sink : OfSink.Ghosts K) 
     -- memory ran out behind these bytes
     pub runs_out : length bytes ≤ MOST_BYTES + 1 → status ≡ NoMemory → Gave sink k k' [] → Ends source sink disk command (s, k, d) (s', k', d) status
     runs_out few is given =
-        inr (inl (record { bytes = bytes; took = took; at_most = few; stops = subst (StopsAfter bytes) (sym is) tt; unwritten = unwritten_none disk d; given = given }))
+        inr (inl (record { bytes = bytes; took = took; at_most = few; stops = subst (StopsAfter command.part bytes) (sym is) tt; unwritten = unwritten_none disk d; given = given }))
 
     -- the command refuses the script
     pub refused_with : (line : List ℕ) → IsRead source s s' → length bytes ≤ MOST_BYTES → command.refuses bytes line
@@ -149,13 +148,13 @@ module _ {S K D : Type 0} (source : OfSource.Ghosts S) (sink : OfSink.Ghosts K) 
 
     -- the program part is refused
     pub ends_refused : length bytes ≤ MOST_BYTES + 1 → IsWhole source s s' bytes → IfSome (disk.content d) (λ before. length before ≡ 0)
-        → RefusesWith sink k k' (lens_of (program_part bytes)) status → Ends source sink disk command (s, k, d) (s', k', d) status
+        → RefusesWith command.part sink k k' (command.part.accepted (program_part bytes)) status → Ends source sink disk command (s, k, d) (s', k', d) status
     ends_refused few whole empty (inl (line, is, given)) = inr (inr (inl (record {
       bytes = bytes;
       took = took;
       at_most = few;
       line = line;
-      refused = record { whole = whole; refusal = is.refusal; refused = is.is; is_line = is.is_line };
+      refused = record { whole = whole; refused = is };
       was_empty = empty;
       unwritten = unwritten_none disk d;
       given = given;
@@ -164,7 +163,7 @@ module _ {S K D : Type 0} (source : OfSource.Ghosts S) (sink : OfSink.Ghosts K) 
 
   module _ (s s' : S) (k k' : K) (d d' : D) (bytes : List ℕ) (P : List (List ℕ) → List ℕ → Type 0) (status : Status) where
     -- the script was read to its end and is accepted, and its store was made or its making stopped
-    pub ends_plan : Took source s s' bytes → IsRead source s s' → length bytes ≤ MOST_BYTES → IsAcceptedPart bytes → IfSome (disk.content d) (λ before. length before ≡ 0)
+    pub ends_plan : Took source s s' bytes → IsRead source s s' → length bytes ≤ MOST_BYTES → IsAcceptedPart command.part bytes → IfSome (disk.content d) (λ before. length before ≡ 0)
         → ((payloads : List (List ℕ)) (lines : List ℕ) → P payloads lines → command.makes bytes payloads lines)
         → EndsPlan sink disk (k, d) (k', d') P status → Ends source sink disk command (s, k, d) (s', k', d') status
     ends_plan took read few accepted empty planned (inr (is, same, given)) =

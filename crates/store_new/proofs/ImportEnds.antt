@@ -24,7 +24,8 @@ use Rattle.store_session.specs.WrittenStands.{one_stands}
 use Rattle.texts.specs.declared.side.Side.TheVariants.{Left}
 use Rattle.store_new.specs.NewEnds.{GivesLine, StopsAfter, Ends}
 use Rattle.store_new.specs.NewRooms.{PlanHasNoRoom, ScriptHasNoRoom}
-use Rattle.store_new.specs.Scripts.{IsAccepted, IsAcceptedPart}
+use Rattle.accepted_programs.specs.Program.{IsAccepted}
+use Rattle.store_new.specs.Scripts.{IsAcceptedPart, one_program}
 use Rattle.store_new.specs.NewStores.{HoldsStore, EndsMaking}
 use Rattle.command_ends.specs.declared.status.Status.{Status}
 use Rattle.command_ends.specs.declared.status.Status.TheVariants.{Done, SomeRefused, ProgramRefused, StoreRefused, SinkFault}
@@ -84,10 +85,10 @@ brings_no_room source o s s' program form found r h =
     no_room_for_script source import_command o s s' r.bytes (IsFoundStore program form (document_of_found (left_type form) found)) r.took r.read r.within
     (λ payloads lines f. brings r.bytes program form f.doc payloads lines r.accepted (sym same ∙ f.is) f.store) h
 
-pub accepts : (bytes : List ℕ) (payloads : List (List ℕ)) (lines : List ℕ) → Brings bytes payloads lines → IsAcceptedPart bytes
+pub accepts : (bytes : List ℕ) (payloads : List (List ℕ)) (lines : List ℕ) → Brings bytes payloads lines → IsAcceptedPart one_program bytes
 accepts bytes payloads lines b = (b.form, b.imported.accepted.has_lens)
 
-pub refuses : (bytes line : List ℕ) → RefusesDocument bytes line → IsAcceptedPart bytes
+pub refuses : (bytes line : List ℕ) → RefusesDocument bytes line → IsAcceptedPart one_program bytes
 refuses bytes line r = (r.form, r.accepted.has_lens)
 
 module _ {S K D : Type 0} (source : OfSource.Ghosts S) (sink : OfSink.Ghosts K) (disk : OfDisk.Ghosts D) (s s' : S) (k k' : K) (d d' : D) (status : Status) where
@@ -134,7 +135,7 @@ module _ {S K D : Type 0} (source : OfSource.Ghosts S) (sink : OfSink.Ghosts K) 
     by_line : (status ≡ StoreRefused) ⊎ (status ≡ SinkFault) → ⊥
     by_line (inl x) = cc
     by_line (inr x) = cc
-  refuses_import (inr (inl e)) is = absurd (subst (StopsAfter e.bytes) is e.stops)
+  refuses_import (inr (inl e)) is = absurd (subst (StopsAfter one_program e.bytes) is e.stops)
   refuses_import (inr (inr (inl e))) is = absurd (by_line (given_with sink k k' e.line ProgramRefused status e.given)) where
     by_line : (status ≡ ProgramRefused) ⊎ (status ≡ SinkFault) → ⊥
     by_line (inl x) = cc

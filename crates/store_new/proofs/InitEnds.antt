@@ -1,14 +1,14 @@
 -- What `init` makes of a script, and what follows from how it ends.
-use Rattle.std.proofs.Common.{◌≡◌, ◌⊎◌, inl, inr, ℕ, ◌≤◌, List, [], ◌∷◌, length, Bool, true, false, cond, Option, Some, Result, Ok, Err, refl, sym, ap, subst, ◌∙◌}
+use Rattle.std.proofs.Common.{◌≡◌, ◌⊎◌, inl, inr, ℕ, List, [], ◌∷◌, length, Bool, true, false, cond, Option, Some, Result, Ok, Err, sym, ap, subst, ◌∙◌}
 use Rattle.std.specs.Prelude.{nat_le, IfSome}
 use Rattle.lens_io.specs.Calls.{Gave}
 use Rattle.lens_io.specs.declared.disk.Disk as OfDisk
 use Rattle.lens_io.specs.declared.sink.Sink as OfSink
 use Rattle.lens_io.specs.declared.source.Source as OfSource
-use Rattle.accepted_programs.specs.Program.{Refusal, form_of_program, lens_of}
+use Rattle.accepted_programs.specs.Program.{Refusal, form_of_program}
 use Rattle.edit_journal.specs.EntryJson.{tree_of_text}
 use Rattle.lens_forms.specs.Forms.{FormTree}
-use Rattle.lens_syntax.specs.Programs.{ProgramCause, too_long, bounded, unbounded}
+use Rattle.lens_syntax.specs.Programs.{too_long, bounded, unbounded}
 use Rattle.lens_syntax.specs.declared.reading.TheConstants.{MOST_PROGRAM_BYTES}
 use Rattle.program_terms.specs.Terms.{ProgramTree}
 use Rattle.program_writing.specs.Canonical.{canonical}
@@ -24,7 +24,8 @@ use Rattle.store_new.specs.Init.{program_payload, Begins, Starts, init_command}
 use Rattle.store_new.specs.Making.{EndsPlan}
 use Rattle.store_new.specs.NewRooms.{PlanHasNoRoom, ScriptHasNoRoom}
 use Rattle.store_new.specs.InitStores.{IsFirstStore}
-use Rattle.store_new.specs.Scripts.{IsAccepted, IsAcceptedPart}
+use Rattle.accepted_programs.specs.Program.{IsAccepted}
+use Rattle.store_new.specs.Scripts.{IsAcceptedPart, one_program}
 use Rattle.store_new.specs.NewStores.{HoldsStore, EndsMaking}
 use Rattle.command_ends.specs.declared.status.Status.{Status}
 use Rattle.command_ends.specs.declared.status.Status.TheVariants.{Done, SomeRefused, ProgramRefused, StoreRefused, SourceFault, SinkFault, DiskFault}
@@ -56,10 +57,10 @@ begins bytes program form payloads lines a s = record {
   stand = ap stands s.are ∙ program_stands_first (program_part bytes) program form a s.reads;
 }
 
-pub accepts : (bytes : List ℕ) (payloads : List (List ℕ)) (lines : List ℕ) → Begins bytes payloads lines → IsAcceptedPart bytes
+pub accepts : (bytes : List ℕ) (payloads : List (List ℕ)) (lines : List ℕ) → Begins bytes payloads lines → IsAcceptedPart one_program bytes
 accepts bytes payloads lines b = (b.form, b.accepted.has_lens)
 
-pub refuses : (bytes line : List ℕ) → init_command.refuses bytes line → IsAcceptedPart bytes
+pub refuses : (bytes line : List ℕ) → init_command.refuses bytes line → IsAcceptedPart one_program bytes
 refuses bytes line h = absurd h
 
 -- the script was read, and the disk has no room for its store
@@ -69,7 +70,7 @@ begins_no_room source o s s' program form r h =
     no_room_for_script source init_command o s s' r.bytes (IsFirstStore program form) r.took r.read r.within (λ payloads lines f. begins r.bytes program form payloads lines r.accepted f) h
 
 -- the refusal of a program part never ends with a fault of the source or of the disk
-pub never_device : {K : Type 0} (sink : OfSink.Ghosts K) (k k' : K) (outcome : Result FormTree Refusal) (status : Status) → RefusesWith sink k k' outcome status
+pub never_device : {K : Type 0} (sink : OfSink.Ghosts K) (k k' : K) (outcome : Result FormTree Refusal) (status : Status) → RefusesWith one_program sink k k' outcome status
     → (status ≡ SourceFault) ⊎ (status ≡ DiskFault) → ⊥
 never_device sink k k' outcome status (inl (line, is, inl (same, given))) (inl e) = cc
 never_device sink k k' outcome status (inl (line, is, inl (same, given))) (inr e) = cc
@@ -111,7 +112,7 @@ module _ {S K D : Type 0} (source : OfSource.Ghosts S) (sink : OfSink.Ghosts K) 
     by_line : (status ≡ StoreRefused) ⊎ (status ≡ SinkFault) → ⊥
     by_line (inl x) = cc
     by_line (inr x) = cc
-  no_document (inr (inl e)) is = subst (StopsAfter e.bytes) is e.stops
+  no_document (inr (inl e)) is = subst (StopsAfter one_program e.bytes) is e.stops
   no_document (inr (inr (inl e))) is = by_line (given_with sink k k' e.line ProgramRefused status e.given) where
     by_line : (status ≡ ProgramRefused) ⊎ (status ≡ SinkFault) → ⊥
     by_line (inl x) = cc

@@ -12,7 +12,8 @@ use Rattle.script_input.specs.Lines.{program_part, journal}
 use Rattle.script_input.specs.Parts.{HoldsPart, ReadsPart, ReadsAll}
 use Rattle.script_input.specs.declared.script.ProgramText.{ProgramText}
 use Rattle.store_new.specs.ScriptReading.{ReadsFront}
-use Rattle.store_new.specs.Scripts.{IsAccepted}
+use Rattle.accepted_programs.specs.Program.{IsAccepted}
+use Rattle.store_new.specs.Scripts.{one_program}
 use Rattle.store_new.proofs.Reading.{rest_accepted, rest_stops}
 use Rattle.store_new.specs.Found.{added_all, all_fed, FindsRest, StopsRest}
 use Rattle.store_new.specs.ImportReading.{ReadsImport}
@@ -52,5 +53,5 @@ module _ {S : Type 0} (source : OfSource.Ghosts S) (s mid : S) (program : Progra
       is = f.is ∙ ap (added_all Nothing) (sym (journal_behind f.more));
     }
 
-    pub finding_stops : (fault : TakeFault) → StopsRest source mid s' input fault → ReadsFront source s s' fault
+    pub finding_stops : (fault : TakeFault) → StopsRest source mid s' input fault → ReadsFront one_program source s s' fault
     finding_stops fault h = rest_stops source s mid program input r s' p l accepted fault h.more h.took h.at_most h.stops

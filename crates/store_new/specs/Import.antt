@@ -33,7 +33,8 @@ use Rattle.texts.specs.declared.side.Side.TheVariants.{Left, Right}
 use Rattle.value_json.specs.DocumentJson.{document_of}
 use Rattle.store_new.specs.Init.{program_payload}
 use Rattle.store_new.specs.Command.{Command}
-use Rattle.store_new.specs.Scripts.{IsAccepted}
+use Rattle.accepted_programs.specs.Program.{IsAccepted}
+use Rattle.store_new.specs.Scripts.{one_program}
 use Rattle.store_new.specs.NewStores.{HoldsStore}
 use Rattle.store_new.specs.declared.refused.ImportRefusal.{ImportRefusal}
 use Rattle.store_new.specs.declared.refused.ImportRefusal.TheVariants.{NoDocument, ExtraLine, LineTooLong, NotJson}
@@ -127,7 +128,7 @@ pub record Brings (bytes : List ℕ) (payloads : List (List ℕ)) (lines : List 
 
 -- `import` makes such a store, or refuses the document
 abbrev pub import_command : Command
-import_command = record { makes = Brings; refuses = RefusesDocument }
+import_command = record { part = one_program; makes = Brings; refuses = RefusesDocument }
 
 -- ---- a call
 

@@ -15,7 +15,8 @@ use Rattle.script_input.specs.Lines.{program_part}
 use Rattle.store_records.specs.RecordJson.{tree_of_program}
 use Rattle.store_session.specs.Stands.{at_start, stands}
 use Rattle.store_new.specs.Command.{Command}
-use Rattle.store_new.specs.Scripts.{IsAccepted}
+use Rattle.accepted_programs.specs.Program.{IsAccepted}
+use Rattle.store_new.specs.Scripts.{one_program}
 use Rattle.store_new.specs.NewStores.{HoldsStore}
 
 -- the payload of a program: its canonical text, in a store of version 2
@@ -34,7 +35,7 @@ pub record Begins (bytes : List ℕ) (payloads : List (List ℕ)) (lines : List 
 
 -- `init` refuses no script whose program part is accepted
 abbrev pub init_command : Command
-init_command = record { makes = Begins; refuses = λ bytes line. ⊥ }
+init_command = record { part = one_program; makes = Begins; refuses = λ bytes line. ⊥ }
 
 -- The source was read to its end, and gave these bytes. The disk was empty, and holds the payload of the program alone.
 -- The state lines of the first triple were written, for which the payload stands.

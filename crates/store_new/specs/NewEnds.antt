@@ -5,13 +5,12 @@ use Rattle.lens_io.specs.Calls.{Took, IsRead, SourceFailed, Gave, GaveFront, Sin
 use Rattle.lens_io.specs.declared.disk.Disk as OfDisk
 use Rattle.lens_io.specs.declared.sink.Sink as OfSink
 use Rattle.lens_io.specs.declared.source.Source as OfSource
-use Rattle.accepted_programs.specs.Program.{Refusal, lens_of}
 use Rattle.script_input.specs.declared.limits.TheConstants.{MOST_BYTES}
 use Rattle.script_input.specs.Coming.{has_separator}
 use Rattle.script_input.specs.Lines.{program_part}
 use Rattle.store_run.specs.Refusals.{IsUnwritten, refusal_line}
 use Rattle.store_run.specs.declared.refusals.StoreRefusal.TheVariants.{LogExists}
-use Rattle.store_new.specs.Command.{Command}
+use Rattle.store_new.specs.Command.{PartMeaning, Command}
 use Rattle.store_new.specs.Scripts.{IsAcceptedPart, GoesOn, RefusesPart}
 use Rattle.store_new.specs.NewStores.{IsTooLong, EndsMaking}
 use Rattle.command_ends.specs.declared.status.Status.{Status}
@@ -29,12 +28,12 @@ module _ {K : Type 0} (sink : OfSink.Ghosts K) (old new : K) where
 -- What stopped a command before its script was known, after these bytes. A fault of the source, and too many bytes,
 -- come only before the separator or behind a program part that is accepted. The disk fails here only before anything is
 -- taken.
-abbrev pub StopsAfter : List ℕ → Status → Type 0
-StopsAfter bytes SourceFault = (length bytes ≤ MOST_BYTES) × GoesOn bytes
-StopsAfter bytes InputTooLong = (MOST_BYTES < length bytes) × GoesOn bytes
-StopsAfter bytes DiskFault = bytes ≡ []
-StopsAfter bytes NoMemory = Unit {0}
-StopsAfter bytes status = ⊥
+abbrev pub StopsAfter : PartMeaning → List ℕ → Status → Type 0
+StopsAfter part bytes SourceFault = (length bytes ≤ MOST_BYTES) × GoesOn part bytes
+StopsAfter part bytes InputTooLong = (MOST_BYTES < length bytes) × GoesOn part bytes
+StopsAfter part bytes DiskFault = bytes ≡ []
+StopsAfter part bytes NoMemory = Unit {0}
+StopsAfter part bytes status = ⊥
 
 -- A command before a call (old) and after it (new): what its source, its sink and its disk tell.
 module _ {S K D : Type 0} (source : OfSource.Ghosts S) (sink : OfSink.Ghosts K) (disk : OfDisk.Ghosts D)
@@ -45,7 +44,7 @@ module _ {S K D : Type 0} (source : OfSource.Ghosts S) (sink : OfSink.Ghosts K) 
     pub bytes : List ℕ
     pub took : Took source old.0 new.0 bytes
     pub within : length bytes ≤ MOST_BYTES
-    pub goes_on : GoesOn bytes
+    pub goes_on : GoesOn command.part bytes
     pub some : IfSome (disk.content old.2) (λ before. (0 < length before) × (bytes ≡ []))
     pub unwritten : IsUnwritten disk old.2 new.2
     pub given : GivesLine sink old.1 new.1 (refusal_line LogExists) StoreRefused status
@@ -55,7 +54,7 @@ module _ {S K D : Type 0} (source : OfSource.Ghosts S) (sink : OfSink.Ghosts K) 
     pub bytes : List ℕ
     pub took : Took source old.0 new.0 bytes
     pub at_most : length bytes ≤ MOST_BYTES + 1
-    pub stops : StopsAfter bytes status
+    pub stops : StopsAfter command.part bytes status
     pub unwritten : IsUnwritten disk old.2 new.2
     pub given : Gave sink old.1 new.1 []
 
@@ -66,7 +65,7 @@ module _ {S K D : Type 0} (source : OfSource.Ghosts S) (sink : OfSink.Ghosts K) 
     pub took : Took source old.0 new.0 bytes
     pub at_most : length bytes ≤ MOST_BYTES + 1
     pub line : List ℕ
-    pub refused : RefusesPart source old.0 new.0 bytes line
+    pub refused : RefusesPart command.part source old.0 new.0 bytes line
     pub was_empty : IfSome (disk.content old.2) (λ before. length before ≡ 0)
     pub unwritten : IsUnwritten disk old.2 new.2
     pub given : GivesLine sink old.1 new.1 line ProgramRefused status
@@ -110,15 +109,16 @@ MayRefuse NoMemory = Unit {0}
 MayRefuse status = ⊥
 
 -- A refusal of the program part is exact and comes at once. The source gave these bytes.
-pub record RefusesAtOnce {S : Type 0} (source : OfSource.Ghosts S) (old new : S) (status : Status) : Type 0 where
+pub record RefusesAtOnce (part : PartMeaning) {S : Type 0} (source : OfSource.Ghosts S) (old new : S)
+    (status : Status) : Type 0 where
   pub bytes : List ℕ
   pub took : Took source old new bytes
   -- After ProgramRefused the part is whole and refused: if the separator has come, it came with the last call of the
   -- source.
-  pub only : status ≡ ProgramRefused → (line : List ℕ) × RefusesPart source old new bytes line
+  pub only : status ≡ ProgramRefused → (line : List ℕ) × RefusesPart part source old new bytes line
   -- If the separator has come and the part is refused, no other status comes, whatever stands behind the separator.
-  pub whole : has_separator bytes ≡ true → (refusal : Refusal) → lens_of (program_part bytes) ≡ Err refusal
-      → MayRefuse status
+  pub whole : has_separator bytes ≡ true → (refusal : part.Refusal)
+      → part.accepted (program_part bytes) ≡ Err refusal → MayRefuse status
 
 -- ---- a disk that is not empty
 
@@ -152,10 +152,11 @@ IsRefused status = ⊥
 -- A command over these bytes came to its end if the program part is accepted, and there is room for the log; it refused
 -- the program part if that is refused. Or memory ran out.
 pub record IsComplete (command : Command) (bytes : List ℕ) (status : Status) : Type 0 where
-  pub accepted : IsAcceptedPart bytes
+  pub accepted : IsAcceptedPart command.part bytes
       → ((payloads : List (List ℕ)) (lines : List ℕ) → command.makes bytes payloads lines → IsTooLong payloads → ⊥)
       → IsEnd status
-  pub refused : (refusal : Refusal) → lens_of (program_part bytes) ≡ Err refusal → IsRefused status
+  pub refused : (refusal : command.part.Refusal) → command.part.accepted (program_part bytes) ≡ Err refusal
+      → IsRefused status
 
 module _ {S K D : Type 0} (source : OfSource.Ghosts S) (sink : OfSink.Ghosts K) (disk : OfDisk.Ghosts D)
     (command : Command) (old new : S × K × D) (status : Status) where

@@ -1,9 +1,8 @@
 -- For the helpers of the commands: what was read of a script, and how a refusal is written.
 use Rattle.std.specs.Prelude.{◌≡◌, ◌⊎◌, ℕ, ◌+◌, ◌≤◌, List, [], length, Result}
-use Rattle.accepted_programs.specs.Program.{Refusal, lens_of}
+use Rattle.accepted_programs.specs.Program.{lens_of}
 use Rattle.accepted_programs.specs.Refused.{IsKnown, IsRefusal}
 use Rattle.accepted_programs.specs.declared.program.Refused.{Refused}
-use Rattle.answer_text.specs.RefusalLines.{IsLineOf}
 use Rattle.lens_forms.specs.Forms.{FormTree}
 use Rattle.lens_io.specs.Calls.{Took, IsRead, Gave}
 use Rattle.lens_io.specs.declared.failed.TakeFault.{TakeFault}
@@ -13,9 +12,11 @@ use Rattle.script_input.specs.declared.limits.TheConstants.{MOST_BYTES}
 use Rattle.program_terms.specs.Terms.{ProgramTree}
 use Rattle.script_input.specs.Coming.{IsWhole}
 use Rattle.script_input.specs.Lines.{program_part}
+use Rattle.store_new.specs.Command.{PartMeaning}
 use Rattle.store_new.specs.NewEnds.{GivesLine, StopsAfter}
 use Rattle.store_new.specs.Reading.{status_at}
-use Rattle.store_new.specs.Scripts.{IsAccepted}
+use Rattle.accepted_programs.specs.Program.{IsAccepted}
+use Rattle.store_new.specs.Scripts.{IsLineBy, one_program}
 use Rattle.store_new.specs.declared.scripts.Unread.{Unread}
 use Rattle.store_new.specs.declared.scripts.Unread.TheVariants.{Refused as IsNoProgram, Stopped}
 use Rattle.command_ends.specs.declared.status.Status.{Status}
@@ -23,14 +24,22 @@ use Rattle.command_ends.specs.declared.status.Status.TheVariants.{ProgramRefused
 
 -- ---- the refusal of a program part
 
-module _ {K : Type 0} (sink : OfSink.Ghosts K) (old new : K) where
+module _ (part : PartMeaning) {K : Type 0} (sink : OfSink.Ghosts K) (old new : K) where
   -- The outcome is a refusal, and its line was written; or memory ran out before.
-  abbrev pub RefusesWith : Result FormTree Refusal → Status → Type 0
+  abbrev pub RefusesWith : Result part.Accepted part.Refusal → Status → Type 0
   RefusesWith outcome status =
-      ((line : List ℕ) × IsLineOf outcome line × GivesLine sink old new line ProgramRefused status)
+      ((line : List ℕ) × IsLineBy part outcome line × GivesLine sink old new line ProgramRefused status)
       ⊎ (status ≡ NoMemory) × Gave sink old new []
 
 -- ---- a script
+
+-- the reading stopped after these bytes
+pub record ReadsFront (part : PartMeaning) {S : Type 0} (source : OfSource.Ghosts S) (old new : S)
+    (fault : TakeFault) : Type 0 where
+  pub bytes : List ℕ
+  pub took : Took source old new bytes
+  pub at_most : length bytes ≤ MOST_BYTES + 1
+  pub stops : StopsAfter part bytes (status_at fault)
 
 module _ {S : Type 0} (source : OfSource.Ghosts S) (old new : S) where
   -- The source was read to its end, and the program part is accepted.
@@ -50,14 +59,7 @@ module _ {S : Type 0} (source : OfSource.Ghosts S) (old new : S) where
     pub is : IsRefusal (lens_of (program_part bytes)) refused
     pub known : IsKnown refused
 
-  -- the reading stopped after these bytes
-  pub record ReadsFront (fault : TakeFault) : Type 0 where
-    pub bytes : List ℕ
-    pub took : Took source old new bytes
-    pub at_most : length bytes ≤ MOST_BYTES + 1
-    pub stops : StopsAfter bytes (status_at fault)
-
   -- why a script was not read to its end, or has no program
   abbrev pub IsUnread : Unread → Type 0
   IsUnread (IsNoProgram refused) = ReadsRefused refused
-  IsUnread (Stopped fault) = ReadsFront fault
+  IsUnread (Stopped fault) = ReadsFront one_program source old new fault

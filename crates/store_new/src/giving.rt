@@ -6,6 +6,7 @@ ghost use Rattle.accepted_programs.specs.Program.{Refusal};
 ghost use Rattle.accepted_programs.specs.Refused.{IsKnown, IsRefusal};
 ghost use Rattle.store_new.specs.NewEnds.{GivesLine};
 ghost use Rattle.store_new.specs.ScriptReading.{RefusesWith};
+ghost use Rattle.store_new.specs.Scripts.{one_program};
 
 use accepted_programs::Refused;
 use answer_text::refused_part_line;
@@ -29,7 +30,7 @@ pub fn give_line<K: Sink>(sink: &mut K, line: &[u8], status: Status) -> Status
 pub fn refuse_program<K: Sink>(alloc: Global, refused: Refused, sink: &mut K) -> Status
     requires { IsKnown refused }
     ensures refuses { (outcome : Result FormTree Refusal) → IsRefusal outcome refused
-        → RefusesWith K.Sink sink.old sink.new outcome result }
+        → RefusesWith one_program K.Sink sink.old sink.new outcome result }
     ensures sink_fault { result ≡ Status.SinkFault → SinkFailed K.Sink sink.old sink.new }
 {
     let line = refused_part_line(alloc, &refused);

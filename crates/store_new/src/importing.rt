@@ -23,6 +23,7 @@ ghost use Rattle.store_new.specs.NewEnds.{Completes, Ends, KeepsStore, RefusesAt
 ghost use Rattle.store_new.specs.Found.{document_of_found};
 ghost use Rattle.store_new.specs.ImportReading.{ReadsImport};
 ghost use Rattle.store_new.specs.ScriptReading.{IsUnread};
+ghost use Rattle.store_new.specs.Scripts.{one_program};
 ghost use Rattle.store_new.specs.Import.{Imports, RefusesImport, import_command};
 ghost use Rattle.store_new.specs.Making.{EndsPlan};
 ghost use Rattle.store_new.specs.NewRooms.{PlanHasNoRoom, ScriptHasNoRoom};
@@ -30,10 +31,8 @@ ghost use Rattle.store_new.specs.ImportStores.{EndsImport, IsEntryText, IsFoundS
 
 use crate::document::{DocumentFault, Found, document_of, find_lines};
 use crate::scripts::status_at;
-use crate::{
-    Accepted, LOG_EXISTS, StoreText, Unread, accepted_part, first_session, give_line, make_store,
-    refuse_program,
-};
+use crate::{LOG_EXISTS, StoreText, Unread, first_session, give_line, make_store, refuse_program};
+use accepted_programs::Accepted;
 use answer_text::ok_line;
 use command_ends::Status;
 use doc_values::Doc;
@@ -44,7 +43,7 @@ use lens_core::EditLens;
 use lens_io::{Disk, Payloads, Sink, Source, TakeFault};
 use lens_types::Typed;
 use pair_answers::state_lines;
-use script_input::{Head, piece_buffer, read_head};
+use script_input::{Head, accepted_part, piece_buffer, read_head};
 use std::alloc::{AllocError, Global};
 use store_records::{change_payload, program_payload};
 use texts::{Bytes, Side};
@@ -108,7 +107,7 @@ pub fn import<S: Source, K: Sink, D: Disk>(
         → RefusesImport S.Source K.Sink D.Disk (source.old, sink.old, disk.old) (source.new, sink.new, disk.new) }
     ensures ends { Ends S.Source K.Sink D.Disk import_command
         (source.old, sink.old, disk.old) (source.new, sink.new, disk.new) result }
-    ensures at_once { RefusesAtOnce S.Source source.old source.new result }
+    ensures at_once { RefusesAtOnce one_program S.Source source.old source.new result }
     ensures exists { KeepsStore S.Source K.Sink D.Disk
         (source.old, sink.old, disk.old) (source.new, sink.new, disk.new) result }
     ensures statuses { IsAmong import_statuses result }

@@ -22,5 +22,5 @@ pub use giving::{give_line, refuse_program};
 pub use importing::import;
 pub use making::{LOG_EXISTS, StoreText, make_store};
 pub use refused::ImportRefusal;
-pub use scripts::{Accepted, Unread, accepted_part, read_script};
+pub use scripts::{Unread, read_script, status_at};
 pub use starting::{first_session, init};

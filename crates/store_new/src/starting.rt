@@ -15,12 +15,12 @@ ghost use Rattle.store_new.specs.NewEnds.{Completes, Ends, KeepsStore, RefusesAt
 ghost use Rattle.store_new.specs.Init.{Starts, init_command};
 ghost use Rattle.store_new.specs.Making.{EndsPlan};
 ghost use Rattle.store_new.specs.NewRooms.{PlanHasNoRoom, ScriptHasNoRoom};
+ghost use Rattle.store_new.specs.Scripts.{one_program};
 ghost use Rattle.store_new.specs.InitStores.{IsFirstStore};
 
 use crate::scripts::status_at;
-use crate::{
-    Accepted, LOG_EXISTS, StoreText, Unread, give_line, make_store, read_script, refuse_program,
-};
+use crate::{LOG_EXISTS, StoreText, Unread, give_line, make_store, read_script, refuse_program};
+use accepted_programs::Accepted;
 use command_ends::Status;
 use edit_session::Session;
 use lens_flat::Flat;
@@ -66,7 +66,7 @@ pub fn init<S: Source, K: Sink, D: Disk>(
         → Starts S.Source K.Sink D.Disk (source.old, sink.old, disk.old) (source.new, sink.new, disk.new) }
     ensures ends { Ends S.Source K.Sink D.Disk init_command
         (source.old, sink.old, disk.old) (source.new, sink.new, disk.new) result }
-    ensures at_once { RefusesAtOnce S.Source source.old source.new result }
+    ensures at_once { RefusesAtOnce one_program S.Source source.old source.new result }
     ensures exists { KeepsStore S.Source K.Sink D.Disk
         (source.old, sink.old, disk.old) (source.new, sink.new, disk.new) result }
     ensures statuses { IsAmong init_statuses result }

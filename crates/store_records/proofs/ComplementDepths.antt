@@ -1,5 +1,5 @@
 -- The tree of a complement nests at most three times as deep as its form is high.
-use Rattle.std.proofs.Common.{◌≡◌, ℕ, ◌+◌, ◌*◌, ◌≤◌, Bool, true, false, cond, bytes_eq, List, [], ◌∷◌, refl, arith}
+use Rattle.std.proofs.Common.{◌≡◌, ℕ, ◌*◌, ◌≤◌, Bool, true, false, cond, bytes_eq, List, [], ◌∷◌, refl, arith}
 use Rattle.std.specs.Prelude.{max}
 use Rattle.hold_shapes.specs.declared.shape.Shape.TheVariants.{List as ListOf, Keyed as KeyedOf, Tree as TreeOf}
 use Rattle.serde_json.specs.Data.{Data, depth, items_depth, members_depth}

@@ -1,5 +1,5 @@
 -- The lens of a text, as the reader and the checker of programs return it.
-use Rattle.std.proofs.Common.{◌≡◌, Option, Some, None, Result, Ok, Err, refl, ap}
+use Rattle.std.proofs.Common.{◌≡◌, None, Result, Ok, refl, ap}
 use Rattle.program_terms.specs.Terms.{ProgramTree}
 use Rattle.lens_syntax.specs.Programs.{ProgramCause, cause_of, IsRefusal}
 use Rattle.lens_syntax.specs.declared.fault.ProgramFault.{ProgramFault}

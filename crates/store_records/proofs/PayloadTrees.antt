@@ -1,18 +1,20 @@
 -- The texts of payloads and their trees.
-use Rattle.std.proofs.Common.{◌≡◌, ℕ, ◌≤◌, ◌*◌, List, [], ◌∷◌, false, Some, Result, Ok, Err, IfOk, String, Global, refl, sym, subst, arith}
+use Rattle.std.proofs.Common.{◌≡◌, ℕ, ◌≤◌, List, true, false, codes, Some, Result, Ok, Err, IfOk, String, Global, refl, sym, subst, arith}
 use Rattle.std.specs.Prelude.{string_bytes}
 use Rattle.std.proofs.lemmas.Bool.{or_from}
 use Rattle.std.proofs.lemmas.Str.{is_utf8-from_IsUtf8, IsUtf8-string_bytes}
 use Rattle.serde_json.specs.Data.{Data, depth}
 use Rattle.serde_json.specs.Read.{read, max_depth}
-use Rattle.serde_json.specs.Written.{has_float}
+use Rattle.serde_json.specs.Written.{has_float, compact_text}
+use Rattle.texts.proofs.Conjunction.{first as left}
 use Rattle.doc_values.specs.Documents.{DocTree}
 use Rattle.doc_values.specs.Types.{height}
 use Rattle.value_json.proofs.TreeDepths as documents
 use Rattle.edit_module.specs.Changes.{ChangeTree, one, group}
-use Rattle.edit_journal.specs.EntryJson.{tree_of_text}
-use Rattle.edit_journal.proofs.Entries as entry
-use Rattle.edit_journal.proofs.Groups as groups
+use Rattle.edit_json.specs.WordJson.{counts_fit, numbers_fit}
+use Rattle.edit_json.proofs.TextsReadBack.{ReadsBack, one_reads, text_of_tree}
+use Rattle.edit_journal.specs.EntryJson.{tree_of_entry, change_counts_fit, change_numbers_fit, tree_of_text}
+use Rattle.edit_journal.proofs.TextsReadBack.{entry_reads, change_reads}
 use Rattle.lens_core.specs.Complements.{CompTree}
 use Rattle.lens_forms.specs.Forms.{FormTree, left_type, right_type}
 use Rattle.lens_forms.specs.Measures.{form_height}
@@ -27,11 +29,18 @@ use Rattle.store_records.proofs.ComplementDepths.{low}
 pub string_read : (s : String Global) (d : Data) → read (string_bytes s) ≡ Some d → tree_of_text (string_bytes s) ≡ Some d
 string_read s d h = rw (is_utf8-from_IsUtf8 (string_bytes s) (IsUtf8-string_bytes s)) h
 
--- ---- no float
+-- ---- changes
 
-pub change_whole : (change : ChangeTree) → has_float (tree_of_change_record change) ≡ false
-change_whole (one e) = or_from _ _ (entry.whole e) refl
-change_whole (group es) = groups.change_whole (group es)
+record_reads : (change : ChangeTree) → change_counts_fit change ≡ true → change_numbers_fit change ≡ true → ReadsBack (tree_of_change_record change)
+record_reads (one e) counts numbers = one_reads (codes "entry") (tree_of_entry e) (entry_reads e (left (counts_fit e.1) true counts) (left (numbers_fit e.1) true numbers))
+record_reads (group es) counts numbers = change_reads (group es) counts numbers
+
+-- the text of the record of a change is read back, unless the record nests too deep
+pub text_of_record : (change : ChangeTree) → change_counts_fit change ≡ true → change_numbers_fit change ≡ true → depth (tree_of_change_record change) ≤ max_depth
+    → read (compact_text (tree_of_change_record change)) ≡ Some (tree_of_change_record change)
+text_of_record change counts numbers low = text_of_tree (tree_of_change_record change) (record_reads change counts numbers) low
+
+-- ---- no float
 
 pub snapshot_whole : (l : FormTree) (x : DocTree) (c : CompTree) (y : DocTree) → has_float (tree_of_snapshot l x c y) ≡ false
 snapshot_whole l x c y = or_from _ _ (or_from _ _ (complements.whole l c) (or_from _ _ (documents.whole (left_type l) x) (or_from _ _ (documents.whole (right_type l) y) refl))) refl

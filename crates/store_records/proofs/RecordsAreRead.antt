@@ -1,5 +1,5 @@
 -- The records that this program writes are read back from their trees.
-use Rattle.std.proofs.Common.{◌≡◌, ℕ, List, true, codes, Option, Some, None, option_map, option_and_then, Result, Ok, Err, refl, ap}
+use Rattle.std.proofs.Common.{◌≡◌, ℕ, List, true, Option, Some, option_map, refl, ap}
 use Rattle.std.specs.Option.{option_or}
 use Rattle.serde_json.specs.Data.{Data}
 use Rattle.doc_values.specs.Documents.{DocTree}
@@ -8,7 +8,7 @@ use Rattle.lens_core.specs.Complements.{CompTree}
 use Rattle.lens_forms.specs.Forms.{FormTree, left_type, right_type}
 use Rattle.complement_file.specs.ComplementJson.{tree_of_complement}
 use Rattle.edit_module.specs.Changes.{ChangeTree, one, group}
-use Rattle.edit_journal.specs.EntryJson.{LineFault, tree_of_entry, tree_of_change, change_of_tree, change_counts_fit, change_numbers_fit}
+use Rattle.edit_journal.specs.EntryJson.{change_counts_fit, change_numbers_fit}
 use Rattle.edit_journal.proofs.Groups.{change_reads_back}
 use Rattle.store_records.specs.RecordJson.{RecordTree, version_record, change_record, snapshot_record, tree_of_program, tree_of_first_program, tree_of_version, tree_of_change_record, tree_of_snapshot, opening_of, single_entry, any_change, version_in, snapshot_in, record_of}
 

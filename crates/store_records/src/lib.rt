@@ -19,8 +19,10 @@ pub mod record_laws;
 pub mod text;
 
 pub use crate::change::{change_in, read_change};
-pub use crate::opening::{StoredLens, stored_lens};
+pub use crate::opening::{StoredLens, lens_of_text, stored_lens};
 pub use crate::parts::{VERSION, is_version_record, snapshot_in};
-pub use crate::payloads::{change_payload, program_payload, snapshot_payload, version_payload};
+pub use crate::payloads::{
+    change_payload, program_payload, record_named, snapshot_payload, version_payload,
+};
 pub use crate::record_fault::RecordFault;
-pub use crate::text::read_tree;
+pub use crate::text::{payload_of, read_tree};

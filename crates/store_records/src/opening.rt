@@ -1,6 +1,6 @@
 //! The lens of the first record.
 
-ghost use Rattle.std.specs.Prelude.{◌≡◌, MatchResult, Ok, Some, option_and_then};
+ghost use Rattle.std.specs.Prelude.{◌≡◌, IfOk, MatchResult, Ok, Some, option_and_then, option_map};
 ghost use Rattle.lens_forms.specs.Forms.{form_tree};
 ghost use Rattle.accepted_programs.specs.Program.{form_of_program};
 ghost use Rattle.program_terms.specs.Views.{program_tree};
@@ -16,7 +16,7 @@ use lens_io::Payloads;
 use lens_syntax::{Program, ProgramFault, read_unbounded};
 use lens_types::{TypeFault, Typed, check};
 use serde_json::Value;
-use std::alloc::Global;
+use std::alloc::{AllocError, Global};
 
 /// The number of the first record.
 pub(crate) const FIRST: u64 = 1;
@@ -63,36 +63,37 @@ fn lens_of_tree(alloc: Global, tree: &Value) -> Result<StoredLens, RecordFault>
         (λ lens. option_and_then with_form (opening_of (view tree.now)) ≡ Some (form_tree lens.typed, lens.version))
         (IsBadFirst (option_and_then with_form (opening_of (view tree.now)))) }
 {
-    match opening_in(tree) {
-        Some((text, version)) => {
-            let typed = lens_of_text(alloc, text.as_bytes())?;
-            Ok(StoredLens { typed, version })
-        }
+    let Some((text, version)) = opening_in(tree) else {
+        return Err(RecordFault::BadRecord { number: FIRST });
+    };
+    match lens_of_text(alloc, text.as_bytes())? {
+        Some(typed) => Ok(StoredLens { typed, version }),
         None => Err(RecordFault::BadRecord { number: FIRST }),
     }
 }
 
+/// The lens of a text of any length, which need not be canonical.
+///
+/// None if and only if the grammar or the checker refuses the text. Fails only if memory runs out.
 #[tactic(auto, using(crate::proofs::Openings::opening_rules))]
-fn lens_of_text(alloc: Global, text: &[u8]) -> Result<Typed, RecordFault>
-    ensures { MatchResult result
-        (λ lens. form_of_text text.now ≡ Some (form_tree lens)) (IsBadFirst (form_of_text text.now)) }
+pub fn lens_of_text(alloc: Global, text: &[u8]) -> Result<Option<Typed>, AllocError>
+    ensures { IfOk result (λ lens. option_map form_tree lens ≡ form_of_text text.now) }
 {
     match read_unbounded(alloc, text) {
         Ok(program) => lens_of_program(alloc, &program),
-        Err(ProgramFault::NoMemory) => Err(RecordFault::NoMemory),
-        Err(_) => Err(RecordFault::BadRecord { number: FIRST }),
+        Err(ProgramFault::NoMemory) => Err(AllocError),
+        Err(_) => Ok(None),
     }
 }
 
 #[tactic(auto, using(crate::proofs::Openings::opening_rules))]
-fn lens_of_program(alloc: Global, program: &Program) -> Result<Typed, RecordFault>
-    ensures { MatchResult result
-        (λ lens. accepted (form_of_program (Ok (program_tree program.now))) ≡ Some (form_tree lens))
-        (IsBadFirst (accepted (form_of_program (Ok (program_tree program.now))))) }
+fn lens_of_program(alloc: Global, program: &Program) -> Result<Option<Typed>, AllocError>
+    ensures { IfOk result (λ lens. option_map form_tree lens
+        ≡ accepted (form_of_program (Ok (program_tree program.now)))) }
 {
     match check(alloc, program) {
-        Ok(lens) => Ok(lens),
-        Err(TypeFault::NoMemory) => Err(RecordFault::NoMemory),
-        Err(_) => Err(RecordFault::BadRecord { number: FIRST }),
+        Ok(lens) => Ok(Some(lens)),
+        Err(TypeFault::NoMemory) => Err(AllocError),
+        Err(_) => Ok(None),
     }
 }

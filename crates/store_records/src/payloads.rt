@@ -1,15 +1,17 @@
 //! The payloads that this program writes.
 
-ghost use Rattle.std.specs.Prelude.{◌≡◌, ◌≤◌, true, false, IfOk, OnOk, IsTrue, Some};
+ghost use Rattle.std.specs.Prelude.{◌≡◌, ◌≤◌, ◌++◌, true, codes, IfOk, OnOk, IsTrue, Some};
 ghost use Rattle.serde_json.specs.Data.{depth};
 ghost use Rattle.serde_json.specs.Read.{max_depth};
 ghost use Rattle.serde_json.specs.View.{view};
-ghost use Rattle.serde_json.specs.Written.{has_float, compact_text};
+ghost use Rattle.serde_json.specs.Written.{compact_text};
 ghost use Rattle.doc_values.specs.Documents.{doc_tree};
 ghost use Rattle.doc_values.specs.Types.{ty_tree, is_well_formed};
 ghost use Rattle.doc_values.specs.Typing.{has};
-ghost use Rattle.edit_module.specs.Views.{change_tree};
-ghost use Rattle.edit_journal.specs.EntryJson.{change_counts_fit, change_numbers_fit, tree_of_text};
+ghost use Rattle.edit_module.specs.Views.{change_tree, entry_tree, word_tree};
+ghost use Rattle.edit_json.specs.Tokens.{tokens_of};
+ghost use Rattle.edit_json.specs.WordJson.{numbers_fit};
+ghost use Rattle.edit_journal.specs.EntryJson.{change_counts_fit, change_numbers_fit, tree_of_entry, tree_of_text};
 ghost use Rattle.lens_core.specs.Complements.{comp_tree, Fits};
 ghost use Rattle.lens_forms.specs.Forms.{form_tree, left_type, right_type};
 ghost use Rattle.program_terms.specs.Views.{program_tree};
@@ -22,8 +24,9 @@ use crate::parts::VERSION;
 use crate::text::payload_of;
 use complement_file::write_comp;
 use doc_values::{Doc, Ty};
-use edit_journal::write_change;
-use edit_module::Change;
+use edit_journal::{put_change, put_entry};
+use edit_module::{Change, Entry};
+use json::Writer;
 use lens_core::Comp;
 use lens_syntax::{Program, write_program};
 use lens_types::Typed;
@@ -31,6 +34,9 @@ use serde_json::{Map, Value, put};
 use std::alloc::{AllocError, Global};
 use texts::Bytes;
 use value_json::{write_doc, write_text};
+
+// The bytes of most payloads of changes, for which room is made at once.
+const USUAL: usize = 128;
 
 /// The payload of the first record of a new store: the canonical text of the program, and the version 2.
 ///
@@ -70,8 +76,8 @@ pub fn version_payload(alloc: Global) -> Result<Bytes, AllocError>
     payload_of(alloc, &tree)
 }
 
-// An object with one member.
-fn record_named(alloc: Global, name: &str, content: Value) -> Result<Value, AllocError>
+/// An object with one member. Fails only if memory runs out.
+pub fn record_named(alloc: Global, name: &str, content: Value) -> Result<Value, AllocError>
     ensures { IfOk result (λ tree. view tree ≡ one_member name.now (view content)) }
 {
     let mut members = Map::new(alloc);
@@ -96,20 +102,35 @@ pub fn change_payload(alloc: Global, change: &Change) -> Result<Bytes, AllocErro
     // The program can hold every number in its words.
     ensures numbers { OnOk result (change_numbers_fit (change_tree change.now) ≡ true) }
 {
-    let tree = change_record(alloc, change)?;
-    payload_of(alloc, &tree)
+    let mut out = Writer::new(Vec::with_capacity(alloc, USUAL)?);
+    put_record(&mut out, change)?;
+    Ok(Bytes::from_vec(out.into_inner()))
 }
 
-fn change_record(alloc: Global, change: &Change) -> Result<Value, AllocError>
-    requires counts_fit { change_counts_fit (change_tree change.now) ≡ true }
-    ensures tree { IfOk result (λ tree. view tree ≡ tree_of_change_record (change_tree change.now)) }
+// Writes the tokens of the record of a change.
+fn put_record(out: &mut Writer, change: &Change) -> Result<(), AllocError>
+    ensures before { out.new.before ≡ out.old.before }
+    ensures tokens { OnOk result (out.new.tokens
+        ≡ out.old.tokens ++ tokens_of (tree_of_change_record (change_tree change.now))) }
     ensures numbers { OnOk result (change_numbers_fit (change_tree change.now) ≡ true) }
 {
-    let tree = write_change(alloc, change)?;
     match change {
-        Change::One(_) => record_named(alloc, "entry", tree),
-        Change::Group(_) => Ok(tree),
+        Change::One(entry) => put_single(out, entry),
+        Change::Group(_) => put_change(out, change),
     }
+}
+
+// An object with exactly the member `entry`, the tree of an entry.
+fn put_single(out: &mut Writer, entry: &Entry) -> Result<(), AllocError>
+    ensures before { out.new.before ≡ out.old.before }
+    ensures tokens { OnOk result (out.new.tokens
+        ≡ out.old.tokens ++ tokens_of (one_member (codes "entry") (tree_of_entry (entry_tree entry.now)))) }
+    ensures numbers { OnOk result (numbers_fit (word_tree entry.now.word) ≡ true) }
+{
+    out.begin_object()?;
+    out.key("entry")?;
+    put_entry(out, entry)?;
+    out.end_object()
 }
 
 /// The payload of a snapshot of a left document, a complement and a right document.

@@ -30,8 +30,8 @@ pub fn read_tree(alloc: Global, payload: &[u8]) -> Result<Option<Value>, AllocEr
     }
 }
 
-/// The text of a tree without floats, with no space between its parts.
-pub(crate) fn payload_of(alloc: Global, tree: &Value) -> Result<Bytes, AllocError>
+/// The text of a tree without floats, with no space between its parts. Fails only if memory runs out.
+pub fn payload_of(alloc: Global, tree: &Value) -> Result<Bytes, AllocError>
     requires { has_float (view tree.now) ≡ false }
     ensures text { IfOk result (λ bytes. bytes ≡ compact_text (view tree.now)) }
     ensures reads_back { IfOk result (λ bytes. depth (view tree.now) ≤ max_depth

@@ -8,13 +8,15 @@ pub mod Effects
 pub mod InTime
 pub mod InTimeEnds
 pub mod Moments
+pub mod MoreCalls
+pub mod MoreCauses
 pub mod OkLineCounts
 pub mod Openings
-pub mod StoreOpenings
 pub mod Outcomes
 pub mod PackCalls
 pub mod RefusalEnds
 pub mod Rooms
 pub mod RunParts
 pub mod Standing
+pub mod StoreOpenings
 pub mod StoredPayloads

@@ -7,6 +7,8 @@ pub mod Crash
 pub mod Effects
 pub mod InTime
 pub mod JournalEnds
+pub mod MoreCall
+pub mod MoreCauses
 pub mod OkLines
 pub mod Opening
 pub mod PackCall

@@ -2,7 +2,8 @@
 //!
 //! A store is a log on a disk, and its payloads stand for a session. [`apply`] answers the lines of a journal. It
 //! stores the payload of each change that it accepts, and only then writes its answer. [`pack`] stores a snapshot of
-//! the session. [`show`] and [`verify`] only read. Each begins with [`open_store`], or ends with [`refuse_store`].
+//! the session. [`show`] and [`verify`] only read. Each begins with [`open_store`], or ends with [`refuse_store`]. A
+//! command that changes a store in its own way makes one payload and some lines, and ends with [`store_last`].
 //!
 //! However `apply` ends, each line that had ended when the source was called last is answered, and its answer was
 //! written: `AnswersInTime` in specs/InTime.antt. So a line is answered before more is asked for.
@@ -23,6 +24,7 @@ mod refusals;
 mod session;
 mod stop;
 mod store;
+mod storing;
 mod view_call;
 
 pub use apply_call::apply;
@@ -34,4 +36,5 @@ pub use refusals::{StoreRefusal, give_stop, refuse};
 pub use session::{Opened, ReopenFault, StoredAnswer, StoredSession};
 pub use stop::Stop;
 pub use store::{store_and_answer, store_version};
+pub use storing::{MoreText, store_last};
 pub use view_call::{show, verify};

@@ -1,5 +1,5 @@
 -- The tree of a change that is accepted nests at most as deep as the reader of JSON reads back.
-use Rattle.std.proofs.Common.{◌≡◌, ℕ, ◌+◌, ◌*◌, ◌≤◌, List, [], ◌∷◌, Option, Some, None, option_map, option_and_then, Result, Ok, Err, refl, arith}
+use Rattle.std.proofs.Common.{◌≡◌, ◌≤◌, List, [], ◌∷◌, Option, Some, None, option_map, option_and_then, Result, Ok, Err, refl, arith}
 use Rattle.std.specs.List.{AllByRecursion}
 use Rattle.std.proofs.lemmas.List.Elements.{All-from_recursion}
 use Rattle.serde_json.specs.Data.{depth}
@@ -9,7 +9,7 @@ use Rattle.texts.specs.declared.side.Side.TheVariants.{Left, Right}
 use Rattle.doc_values.specs.Documents.{DocTree}
 use Rattle.doc_values.specs.Types.{TyTree, height}
 use Rattle.edit_module.specs.Action.{act, Why}
-use Rattle.edit_module.specs.Changes.{ChangeTree, one, group, entries_of}
+use Rattle.edit_module.specs.Changes.{ChangeTree, one, group}
 use Rattle.edit_module.specs.Depths.{word_depth}
 use Rattle.edit_module.specs.Words.{WordTree}
 use Rattle.edit_journal.proofs.Entries.{shallow}

@@ -1,18 +1,14 @@
 -- The run of a stored session over the lines of a journal is the run of the journal's items.
-use Rattle.std.proofs.Common.{◌≡◌, ℕ, ◌+◌, List, [], ◌∷◌, ◌++◌, Bool, true, false, not, ◌||◌, cond, Option, Some, None, option_map, option_and_then, Result, Ok, Err, map, refl, sym, ap, subst, ◌∙◌}
+use Rattle.std.proofs.Common.{◌≡◌, ℕ, ◌+◌, List, [], ◌∷◌, ◌++◌, Bool, true, false, not, ◌||◌, cond, Option, Some, option_map, option_and_then, Ok, Err, map, refl, sym, ap, subst, ◌∙◌}
 use Rattle.std.specs.Prelude.{is_some, option_to_list}
-use Rattle.std.specs.List.{AllByRecursion}
 use Rattle.std.proofs.lemmas.List.{map-append}
-use Rattle.edit_module.specs.Changes.{ChangeTree}
-use Rattle.edit_journal.specs.EntryJson.{LineFault, change_of_line}
+use Rattle.edit_journal.specs.EntryJson.{change_of_line}
 use Rattle.edit_journal.specs.Lines.{is_blank}
 use Rattle.edit_journal.specs.declared.line.Line.{Line}
-use Rattle.edit_session.specs.Run as journals
 use Rattle.edit_session.specs.Run.{is_refused}
 use Rattle.edit_session.specs.Step.{TripleTree}
 use Rattle.pair_answers.specs.Answers.{answer_line}
 use Rattle.pair_answers.specs.ItemRuns.{JournalItem, JournalAnswer, IsInStepFor, items_of}
-use Rattle.lens_forms.specs.Forms.{FormTree}
 use Rattle.lens_forms.specs.Typing.{is_typed}
 use Rattle.store_run.specs.StoreRuns.{run, kept_of, any_refused}
 use Rattle.store_run.specs.declared.session.StoredAnswer.{StoredAnswer}

@@ -1,13 +1,13 @@
 -- Records whose snapshots are of the triple that stands end at the last triple of the run over their changes.
-use Rattle.std.proofs.Common.{◌≡◌, ℕ, ◌+◌, List, [], ◌∷◌, ◌++◌, length, map, Option, Some, None, option_map, Result, Ok, Err, refl, sym, ap, subst, ◌∙◌, arith}
+use Rattle.std.proofs.Common.{◌≡◌, ℕ, ◌+◌, List, [], ◌∷◌, ◌++◌, length, Option, Some, None, option_map, Ok, Err, refl, sym, ap, subst, ◌∙◌, arith}
 use Rattle.std.specs.Prelude.{option_to_list}
 use Rattle.texts.specs.declared.side.Side.{Side}
 use Rattle.edit_module.specs.Changes.{ChangeTree, one, group}
 use Rattle.edit_module.specs.Words.{WordTree}
 use Rattle.lens_forms.specs.Forms.{FormTree, left_type, right_type}
 use Rattle.lens_core.specs.Translation.{translate}
-use Rattle.edit_session.specs.Step.{TripleTree, Stepped, AllStepped, alone, step, step_each}
-use Rattle.edit_session.specs.Run.{AnswerTree, answered, group_answered, take_change, run, last}
+use Rattle.edit_session.specs.Step.{TripleTree, Stepped, alone, step}
+use Rattle.edit_session.specs.Run.{AnswerTree, answered, group_answered, take_change}
 use Rattle.store_session.specs.Stands.{Standing, step_of}
 use Rattle.store_session.specs.Written.{WrittenRecord, the_version, the_change, the_snapshot, StandsAfter, AreWritten, KeepsTriple, SnapshotsKeep, change_written, changes_written, RunsTo}
 

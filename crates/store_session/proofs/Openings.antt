@@ -1,14 +1,13 @@
 -- What was opened, in the words of a store.
-use Rattle.std.proofs.Common.{◌≡◌, ℕ, List, [], ◌∷◌, Option, Some, None, option_map, Result, Ok, Err, refl, sym, ap, subst, ◌∙◌}
+use Rattle.std.proofs.Common.{◌≡◌, ℕ, List, [], ◌∷◌, Option, None, Result, Ok, Err, refl, sym, ap, subst, ◌∙◌}
 use Rattle.lens_forms.specs.Forms.{FormTree}
 use Rattle.edit_session.specs.Step.{TripleTree}
 use Rattle.store_records.specs.RecordOutcomes.{IsBadFirst}
-use Rattle.store_records.specs.StoredLens.{lens_and_version, stored_lens}
+use Rattle.store_records.specs.StoredLens.{stored_lens}
 use Rattle.store_records.specs.declared.record_fault.RecordFault.{RecordFault}
 use Rattle.store_records.specs.declared.record_fault.RecordFault.TheVariants as of_records
 use Rattle.store_run.specs.Reopening.{IsReopenFault}
 use Rattle.store_run.specs.declared.session.ReopenFault.{ReopenFault}
-use Rattle.store_run.specs.declared.session.ReopenFault.TheVariants as of_stores
 use Rattle.store_session.specs.ReopenOutcomes.{IsReopenFault as IsRecordFault}
 use Rattle.store_session.specs.Stands.{from_opening, stands}
 use Rattle.store_session.specs.Standings.{standing}

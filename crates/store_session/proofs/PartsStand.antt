@@ -1,6 +1,6 @@
 -- What the first payloads of a store stand for, and what all of them stand for.
 use Rattle.std.proofs.Common.{◌≡◌, ℕ, ◌+◌, ◌<◌, ◌≤◌, List, [], ◌∷◌, ◌++◌, length, take, drop, get_or, Option, Some, None, Result, Ok, Err, refl, sym, ap, ◌∙◌, arith}
-use Rattle.std.proofs.lemmas.List.{take-append-drop, take_all, take_more, length-take-le}
+use Rattle.std.proofs.lemmas.List.{take-append-drop, take_more, length-take-le}
 use Rattle.lens_forms.specs.Forms.{FormTree}
 use Rattle.store_records.specs.RecordJson.{record_in}
 use Rattle.store_records.specs.StoredLens.{lens_and_version, stored_lens}

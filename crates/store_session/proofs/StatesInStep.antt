@@ -9,7 +9,7 @@ use Rattle.edit_module.specs.Changes.{ChangeTree, one, group}
 use Rattle.edit_module.specs.Words.{WordTree}
 use Rattle.edit_journal.specs.EntryJson.{LineFault}
 use Rattle.edit_session.specs.Run.{answered, group_answered, take_item}
-use Rattle.edit_session.specs.Step.{TripleTree, Stepped, AllStepped, alone, step, step_each}
+use Rattle.edit_session.specs.Step.{TripleTree, Stepped, AllStepped, alone, step}
 use Rattle.edit_session.proofs.RunInStep.{runs_stay_in_step}
 use Rattle.form_steps.specs.LawsOfForms.{form_starts, form_edits}
 use Rattle.pair_answers.specs.ItemRuns.{JournalItem, JournalAnswer, IsInStepFor}
@@ -26,7 +26,7 @@ use Rattle.store_session.specs.ConsistencyDecided.{consistent_if}
 use Rattle.store_session.specs.Journals.{IsStateInStep}
 use Rattle.store_session.specs.StoodInduction.{all_stood}
 use Rattle.store_session.specs.StoredStates.{StoredState, state_of, version_for, opened_as, stands_for}
-use Rattle.store_session.specs.TypedStores.{first_typed, form_stays}
+use Rattle.store_session.specs.TypedStores.{first_typed}
 
 -- ---- one item
 

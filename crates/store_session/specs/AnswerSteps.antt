@@ -1,7 +1,7 @@
 -- What an answer is: the state stays and there is no payload, or it is the payload of a change that makes the step.
 -- Lemmas, which stand here since the laws of an `impl` cite them.
 use Rattle.std.proofs.Common.{◌≡◌, ◌⊎◌, inl, inr, ℕ, List, [], ◌∷◌, Bool, true, false, cond, Option, Some, None}
-use Rattle.std.proofs.Common.{option_map, option_and_then, Result, Ok, Err, refl, sym, ap, subst, ◌∙◌}
+use Rattle.std.proofs.Common.{option_map, Ok, Err, refl, sym, ap, subst}
 use Rattle.serde_json.specs.Data.{Data}
 use Rattle.texts.specs.declared.side.Side.{Side}
 use Rattle.edit_module.specs.Changes.{ChangeTree, one, group}

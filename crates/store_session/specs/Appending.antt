@@ -1,7 +1,7 @@
 -- One more payload goes on from what stands before it.
 -- Lemmas, which stand here since the laws of an `impl` cite them.
-use Rattle.std.proofs.Common.{◌≡◌, ℕ, zero, suc, ◌+◌, List, [], ◌∷◌, ◌++◌, length, Option, Some, None, Result, Ok, Err}
-use Rattle.std.proofs.Common.{refl, sym, ap, ◌∙◌, arith}
+use Rattle.std.proofs.Common.{◌≡◌, ℕ, suc, ◌+◌, List, [], ◌∷◌, ◌++◌, length, Option, Some, None, Result, Ok, Err}
+use Rattle.std.proofs.Common.{refl, ap, ◌∙◌, arith}
 use Rattle.lens_forms.specs.Forms.{FormTree}
 use Rattle.store_records.specs.RecordJson.{record_in}
 use Rattle.store_records.specs.StoredLens.{lens_and_version}

@@ -8,7 +8,7 @@ use Rattle.doc_values.specs.Documents.{DocTree}
 use Rattle.doc_values.specs.Typing.{has}
 use Rattle.lens_forms.specs.Forms.{FormTree, left_type, right_type}
 use Rattle.lens_forms.specs.Typing.{is_typed}
-use Rattle.lens_core.specs.Complements.{CompTree, Fits}
+use Rattle.lens_core.specs.Complements.{CompTree}
 use Rattle.lens_core.specs.Consistency.{IsConsistent}
 use Rattle.image_laws.specs.Patterns.{PatternTree, pattern_of}
 use Rattle.image_laws.specs.Image.{image}

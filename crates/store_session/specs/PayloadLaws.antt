@@ -8,7 +8,7 @@ use Rattle.edit_journal.specs.EntryJson.{change_of_line, tree_of_text}
 use Rattle.edit_journal.specs.declared.line.Line.{Line}
 use Rattle.edit_session.specs.Step.{TripleTree}
 use Rattle.lens_forms.specs.Forms.{FormTree}
-use Rattle.store_records.specs.RecordJson.{version_record, record_in, tree_of_change_record}
+use Rattle.store_records.specs.RecordJson.{version_record, tree_of_change_record}
 use Rattle.store_records.specs.declared.record_fault.RecordFault.{RecordFault}
 use Rattle.store_run.specs.declared.session.StoredAnswer.{StoredAnswer}
 use Rattle.store_session.specs.Stands.{Standing, after_record, stands, step_of}

@@ -1,6 +1,6 @@
 -- The form of what stands is typed. A lemma, which stands here since the laws of an `impl` cite it.
 use Rattle.std.proofs.Common.{◌≡◌, ℕ, ◌+◌, List, [], ◌∷◌, ◌++◌, Bool, true, false, cond, Option, Some, None, option_map}
-use Rattle.std.proofs.Common.{option_and_then, Result, Ok, Err, refl, sym, ap, subst, ◌∙◌}
+use Rattle.std.proofs.Common.{option_and_then, Result, Ok, Err, refl, ap, subst}
 use Rattle.std.specs.Prelude.{nat_eq}
 use Rattle.texts.proofs.Conjunction.{first}
 use Rattle.program_terms.specs.Terms as Term
@@ -13,9 +13,8 @@ use Rattle.lens_types.specs.Earlier.{Definitions, known_of, all_known, expanded_
 use Rattle.lens_types.proofs.SoundForms.{are_sound, sound_more, lens_sound, def_sound, none_both}
 use Rattle.accepted_programs.specs.Program.{form_without_failure, form_of_program}
 use Rattle.edit_session.specs.Step.{TripleTree, AllStepped}
-use Rattle.store_records.specs.RecordJson.{RecordTree, version_record, change_record, snapshot_record, record_in}
+use Rattle.store_records.specs.RecordJson.{RecordTree, version_record, change_record, snapshot_record}
 use Rattle.store_records.specs.StoredLens.{accepted, form_of_text, with_form, opening_of_payload, lens_and_version}
-use Rattle.store_records.specs.declared.record_fault.RecordFault.{RecordFault}
 use Rattle.store_records.specs.declared.record_fault.RecordFault.TheVariants.{BadRecord, NotConsistent}
 use Rattle.store_session.specs.ConsistencyTest.{is_consistent}
 use Rattle.store_session.specs.Stands.{Standing, after_record, after_step, after_triple, is_too_new, step_of, triple_of}

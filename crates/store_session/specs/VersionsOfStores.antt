@@ -1,6 +1,6 @@
 -- The version of what stands is 1 or 2. A lemma, which stands here since the laws of an `impl` cite it.
-use Rattle.std.proofs.Common.{◌≡◌, ◌⊎◌, inl, inr, ℕ, ◌+◌, List, [], ◌∷◌, Bool, true, false, cond, Option, Some, None}
-use Rattle.std.proofs.Common.{option_map, option_and_then, Result, Ok, Err, refl, sym, ap, subst, ◌∙◌}
+use Rattle.std.proofs.Common.{◌≡◌, ◌⊎◌, inl, inr, ℕ, ◌+◌, List, Bool, true, false, cond, Option, Some, None}
+use Rattle.std.proofs.Common.{option_map, option_and_then, Ok, Err, refl, sym, ap, subst}
 use Rattle.std.specs.Prelude.{nat_eq, codes, bytes_eq, ◌&&◌}
 use Rattle.serde_json.specs.Data.{Data}
 use Rattle.serde_json.specs.Find.{as_str}
@@ -9,10 +9,9 @@ use Rattle.value_json.specs.Numbers.{count_of}
 use Rattle.edit_journal.specs.EntryJson.{tree_of_text}
 use Rattle.edit_session.specs.Step.{TripleTree, AllStepped}
 use Rattle.lens_forms.specs.Forms.{FormTree}
-use Rattle.store_records.specs.RecordJson.{RecordTree, version_record, change_record, snapshot_record, record_in}
-use Rattle.store_records.specs.RecordJson.{is_current, program_alone, program_with_version, opening_from, opening_of}
+use Rattle.store_records.specs.RecordJson.{RecordTree, version_record, change_record, snapshot_record}
+use Rattle.store_records.specs.RecordJson.{is_current, program_with_version, opening_from, opening_of}
 use Rattle.store_records.specs.StoredLens.{form_of_text, with_form, opening_of_payload, lens_and_version}
-use Rattle.store_records.specs.declared.record_fault.RecordFault.{RecordFault}
 use Rattle.store_records.specs.declared.record_fault.RecordFault.TheVariants.{BadRecord, NotConsistent}
 use Rattle.store_session.specs.ConsistencyTest.{is_consistent}
 use Rattle.store_session.specs.Stands.{Standing, after_record, after_step, after_triple, is_too_new, step_of, triple_of}

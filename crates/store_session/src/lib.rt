@@ -22,6 +22,8 @@ mod snapshot_making;
 mod snapshot_reading;
 pub mod standing_laws;
 
+pub use crate::opening::stored_fault;
 pub use crate::reopening::{OpenedRecords, go_on, reopen, reopen_first};
 pub use crate::session::StoreSession;
 pub use crate::snapshot_making::snapshot_of;
+pub use crate::snapshot_reading::{read_complement, read_document};

@@ -36,8 +36,8 @@ pub(crate) fn open(alloc: Global, payloads: &Payloads) -> Result<Opened<StoreSes
     }
 }
 
-// The fault in the words of a store.
-fn stored_fault(fault: RecordFault) -> ReopenFault
+/// The fault in the words of a store. Does not allocate.
+pub fn stored_fault(fault: RecordFault) -> ReopenFault
     ensures { result ≡ fault_of fault }
 {
     match fault {

@@ -48,7 +48,8 @@ pub(crate) fn read_triple(
     Ok(Some(Triple { left, comp, right }))
 }
 
-fn read_document(alloc: Global, ty: &Ty, tree: &Value) -> Result<Option<Doc>, AllocError>
+/// The document of a tree. None if and only if it is not one of this type. Fails only if memory runs out.
+pub fn read_document(alloc: Global, ty: &Ty, tree: &Value) -> Result<Option<Doc>, AllocError>
     ensures { IfOk result (λ doc. option_map doc_tree doc ≡ document_of (ty_tree ty.now) (view tree.now)) }
 {
     match read_doc(alloc, ty, tree) {
@@ -58,7 +59,12 @@ fn read_document(alloc: Global, ty: &Ty, tree: &Value) -> Result<Option<Doc>, Al
     }
 }
 
-fn read_complement(alloc: Global, typed: &Typed, tree: &Value) -> Result<Option<Comp>, AllocError>
+/// The complement of a tree. None if and only if it does not fit this lens. Fails only if memory runs out.
+pub fn read_complement(
+    alloc: Global,
+    typed: &Typed,
+    tree: &Value,
+) -> Result<Option<Comp>, AllocError>
     ensures { IfOk result (λ comp. option_map comp_tree comp ≡ complement_of (form_tree typed.now) (view tree.now)) }
 {
     // The proof needs that the form is typed, which this call says.

@@ -1,7 +1,7 @@
 -- Payloads are refused, or their last changes are undone.
-use Rattle.std.proofs.Common.{◌≡◌, ◌⊎◌, inl, inr, ℕ, ◌+◌, Bool, true, false, cond, List, [], ◌∷◌, ◌++◌, Option, Some, None, Result, Ok, Err, refl, sym, ap, subst, ◌∙◌}
-use Rattle.std.specs.Prelude.{nat_eq, option_map, option_and_then}
-use Rattle.edit_module.specs.Changes.{ChangeTree, one, group}
+use Rattle.std.proofs.Common.{◌≡◌, ℕ, ◌+◌, Bool, true, false, cond, List, [], ◌∷◌, ◌++◌, Option, Some, None, Result, Ok, Err, refl, sym, subst, ◌∙◌}
+use Rattle.std.specs.Prelude.{nat_eq, option_and_then}
+use Rattle.edit_module.specs.Changes.{ChangeTree}
 use Rattle.edit_session.specs.Step.{TripleTree, AllStepped, IsInStep}
 use Rattle.gate_log.specs.LogBytes.{LogContent, payloads, not_a_log, bad_record, log_of}
 use Rattle.gate_log.specs.LogOnDisk.{HoldsPayloads}

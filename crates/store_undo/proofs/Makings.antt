@@ -1,5 +1,5 @@
 -- What is made, from what was opened and from what its parts say.
-use Rattle.std.proofs.Common.{◌≡◌, ℕ, ◌-◌, ◌<◌, Bool, true, false, cond, List, ◌∷◌, [], ◌++◌, length, take, Result, Some, Ok, Err, refl, sym, ap, subst, ◌∙◌}
+use Rattle.std.proofs.Common.{◌≡◌, ℕ, ◌-◌, Bool, cond, List, ◌∷◌, [], ◌++◌, length, take, Result, Some, Ok, Err, sym, ap, subst, ◌∙◌}
 use Rattle.std.specs.Prelude.{nat_lt, option_to_list}
 use Rattle.edit_module.specs.Changes.{ChangeTree}
 use Rattle.edit_session.specs.Step.{TripleTree}
@@ -68,7 +68,7 @@ module _ (count : ℕ) (held : List (List ℕ)) (twice : OpenedTwice) (cs : List
       let are = subst (λ (t : TripleTree). AreTexts form t words made.texts) same here.0 in
       let back = subst (λ (t : TripleTree). BringsBack (left_type form) (right_type form) words now.triple t) same here.1 in
       let was = parts.was in
-      let stand = undone_stands held now was.triple made.texts.snapshot stood.now are.snapshot in
+      let stand = undone_stands held now was.triple made.texts.payload stood.now are.snapshot in
       record {
         u = record { now = now; before = was.triple; words = words };
         is = parts.undoes;

@@ -7,11 +7,10 @@ use Rattle.lens_io.specs.declared.sink.Sink as OfSink
 use Rattle.gate_log.specs.LogOnDisk.{LogState, HoldsPayloads}
 use Rattle.store_run.specs.Effects.{IsOver, StandsOn, Stops}
 use Rattle.store_run.specs.ApplyEnds.{status_of}
-use Rattle.store_run.specs.Refusals.{Refuses, IsUnwritten, IsOpening, FailsUnopened}
+use Rattle.store_run.specs.Refusals.{IsUnwritten, IsOpening, FailsUnopened}
 use Rattle.store_run.specs.Rooms.{most_bytes, HasNoRoom}
 use Rattle.store_run.specs.StoreEnds.{StoreEnds, StoresBehind}
 use Rattle.store_run.specs.Stopping.{IsOwnStop}
-use Rattle.store_run.specs.declared.refusals.StoreRefusal.{StoreRefusal}
 use Rattle.command_ends.specs.declared.status.Status.{Status}
 use Rattle.command_ends.specs.declared.status.Status.TheVariants as ending
 use Rattle.store_run.specs.declared.stop.Stop.{Stop}

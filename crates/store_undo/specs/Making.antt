@@ -23,7 +23,7 @@ use Rattle.store_undo.specs.declared.making.MakingFault.{MakingFault}
 use Rattle.store_undo.specs.declared.making.MakingFault.TheVariants.{Refused, NoMemory}
 use Rattle.store_undo.specs.declared.making.Making.{Making}
 use Rattle.store_undo.specs.declared.opening.OpenedTwice.{OpenedTwice}
-use Rattle.store_undo.specs.declared.undo_texts.Texts.{Texts}
+use Rattle.store_run.specs.declared.storing.MoreText.{MoreText}
 use Rattle.edit_undo.specs.Undone.{BothTrees, undone}
 
 -- how many payloads are before the last ones; all, unless so many are behind the first one
@@ -46,8 +46,8 @@ abbrev pub UndoneBy : FormTree → TripleTree → List ChangeTree → TripleTree
 UndoneBy l t changes r = undone (left_type l) (right_type l) (translate l) t changes ≡ Some r
 
 -- the texts are the snapshot of a triple, and the lines of the two words with the state lines of the triple
-pub record AreTexts (l : FormTree) (t : TripleTree) (words : BothTrees) (made : Texts) : Type 0 where
-  pub snapshot : IsSnapshot (state_with l t) made.snapshot
+pub record AreTexts (l : FormTree) (t : TripleTree) (words : BothTrees) (made : MoreText) : Type 0 where
+  pub snapshot : IsSnapshot (state_with l t) made.payload
   pub lines : made.lines ≡ tree_line (codes "undo left") (tree_of_word words.left)
       ++ (tree_line (codes "undo right") (tree_of_word words.right) ++ state_lines l t)
 
@@ -56,7 +56,7 @@ pub record IsMade (count : ℕ) (held : List (List ℕ)) (made : Making) : Type 
   pub u : Undoing
   pub is : undoing count held ≡ Some u
   pub version : made.version ≡ version_due u.now.version
-  pub snapshot : made.texts.snapshot ≡ snapshot_text u
+  pub snapshot : made.texts.payload ≡ snapshot_text u
   pub lines : made.texts.lines ≡ undo_text u
   pub takes_back : TakesBack held u
 

@@ -14,5 +14,8 @@ mod undo_call;
 mod undo_laws;
 mod undo_texts;
 
+pub use making::{MakingFault, making_fault};
+pub use opening::kept_before;
 pub use undo_call::undo;
 pub use undo_laws::{undone_is_in_step, undone_or_refused};
+pub use undo_texts::with_word;

@@ -12,7 +12,7 @@ ghost use Rattle.edit_undo.specs.UndoneViews.{both_tree, change_trees};
 
 use crate::last_changes::last_changes;
 use crate::opening::{OpenedTwice, open, triple_of, version_record};
-use crate::undo_texts::{Texts, texts_of};
+use crate::undo_texts::texts_of;
 use edit_module::Change;
 use edit_session::Session;
 use edit_undo::{BothWords, undo_changes};
@@ -20,22 +20,22 @@ use lens_flat::Flat;
 use lens_io::Payloads;
 use std::alloc::{AllocError, Global};
 use store_records::RecordFault;
-use store_run::StoreRefusal;
+use store_run::{MoreText, StoreRefusal};
 use texts::Bytes;
 
 // What is stored and written: the version record, if there is one to store, the snapshot and the lines.
 #[derive(Drop)]
 pub(crate) struct Making {
     pub(crate) version: Option<Bytes>,
-    pub(crate) texts: Texts,
+    pub(crate) texts: MoreText,
 }
 
-// Why nothing is made.
-#[derive(Clone, Copy)]
-pub(crate) enum MakingFault {
-    // The payloads are refused.
+/// Why nothing is made of payloads.
+#[derive(Clone, Copy, Debug, PartialEq, Eq)]
+pub enum MakingFault {
+    /// The payloads are refused.
     Refused(StoreRefusal),
-    // Memory ran out.
+    /// Memory ran out.
     NoMemory,
 }
 
@@ -56,7 +56,7 @@ pub(crate) fn make(alloc: Global, count: u64, payloads: Payloads) -> Result<Maki
 {
     match open(alloc, count, &payloads) {
         Ok(opened) => make_opened(alloc, count, &payloads, opened),
-        Err(fault) => Err(refused(fault)),
+        Err(fault) => Err(making_fault(fault)),
     }
 }
 
@@ -78,8 +78,8 @@ fn make_opened(
     Ok(Making { version, texts })
 }
 
-// The fault in the words of a store.
-fn refused(fault: RecordFault) -> MakingFault
+/// What a fault of payloads means to `undo`. Does not allocate.
+pub fn making_fault(fault: RecordFault) -> MakingFault
     ensures { result ≡ fault_of fault }
 {
     match fault {
@@ -94,7 +94,7 @@ fn refused(fault: RecordFault) -> MakingFault
 }
 
 // The snapshot of the earlier triple, and the lines of the words that take these changes of it back.
-fn make_texts(alloc: Global, twice: OpenedTwice, changes: &[Change]) -> Result<Texts, AllocError>
+fn make_texts(alloc: Global, twice: OpenedTwice, changes: &[Change]) -> Result<MoreText, AllocError>
     requires in_step { IsInStep (IsConsistent (form_tree twice.opened.session.lens.typed)) (triple_tree twice.earlier) }
     requires accepted { (r : TripleTree × BothTrees)
         × UndoneBy (form_tree twice.opened.session.lens.typed) (triple_tree twice.earlier)

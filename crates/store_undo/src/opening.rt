@@ -89,8 +89,8 @@ fn open_rest(
     Ok(earlier)
 }
 
-// How many payloads are before the last ones; all, unless so many are behind the first one.
-fn kept_before(count: u64, all: usize) -> usize
+/// How many payloads are before the last ones; all, unless so many are behind the first one. Does not allocate.
+pub fn kept_before(count: u64, all: usize) -> usize
     ensures is { result ≡ kept_before count all }
     ensures within { result ≤ all }
     ensures some { 0 < all → 0 < result }

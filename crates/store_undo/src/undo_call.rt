@@ -5,7 +5,7 @@ ghost use Rattle.lens_io.specs.Calls.{SinkFailed, DiskFailed};
 ghost use Rattle.store_run.specs.Effects.{StandsOn};
 ghost use Rattle.store_run.specs.Refusals.{IsUnwritten, IsOpening, EndsRefused, FailsUnopened};
 ghost use Rattle.store_run.specs.Rooms.{most_bytes};
-ghost use Rattle.store_run.specs.StoreEnds.{StoresBehind, StoreEnds};
+ghost use Rattle.store_run.specs.StoreEnds.{StoresBehind};
 ghost use Rattle.store_run.specs.declared.refusals.StoreRefusal.{StoreRefusal};
 ghost use Rattle.store_undo.specs.UndoCall.{HoldsNow, UndoesCall, IsSafeUndo, IsUntouched};
 ghost use Rattle.store_undo.specs.UndoCauses.{UndoHasNoRoom, IsUndoCause};
@@ -14,12 +14,12 @@ ghost use Rattle.store_undo.specs.UndoStores.{StoreToUndo, RefusedToUndo};
 ghost use Rattle.store_undo.specs.Undoing.{Undoing, undoing, undo_refusal};
 ghost use Rattle.store_undo.specs.UndoRecords.{version_due, snapshot_text, undo_text};
 
-use crate::making::{Making, MakingFault, make};
+use crate::making::{MakingFault, make};
 use command_ends::Status;
 use gate_log::Log;
 use lens_io::{Disk, Payloads, Sink};
 use std::alloc::Global;
-use store_run::{give_stop, pack_store, read_store, refuse, refuse_store};
+use store_run::{read_store, refuse, refuse_store, store_last};
 
 /// Opens a store, and takes its documents and its complement back to what they were before the last `count` changes.
 ///
@@ -104,31 +104,8 @@ fn undo_payloads<K: Sink, D: Disk>(
     ensures disk_fault { result ≡ Status.DiskFault → DiskFailed D.Disk disk.old disk.new }
 {
     match make(alloc, count, payloads) {
-        Ok(making) => store_undone(alloc, &making, log, sink, disk),
+        Ok(making) => store_last(alloc, &making.version, &making.texts, log, sink, disk),
         Err(MakingFault::Refused(refusal)) => refuse(alloc, refusal, sink),
         Err(MakingFault::NoMemory) => Status::NoMemory,
-    }
-}
-
-// Stores what was made, and writes its lines.
-fn store_undone<K: Sink, D: Disk>(
-    alloc: Global,
-    making: &Making,
-    log: &mut Log,
-    sink: &mut K,
-    disk: &mut D,
-) -> Status
-    requires stands { (base : List (List ℕ)) × StandsOn D.Disk disk.old log.old base }
-    ensures ends { StoreEnds K.Sink D.Disk (sink.old, disk.old, log.old) (sink.new, disk.new, log.new)
-        making.now.texts.lines (option_to_list making.now.version) making.now.texts.snapshot result }
-    ensures statuses { IsAmong quiet_statuses result }
-    ensures sink_fault { result ≡ Status.SinkFault → SinkFailed K.Sink sink.old sink.new }
-    ensures disk_fault { result ≡ Status.DiskFault → DiskFailed D.Disk disk.old disk.new }
-{
-    let snapshot = making.texts.snapshot.as_slice();
-    let lines = making.texts.lines.as_slice();
-    match pack_store(alloc, log, disk, sink, &making.version, snapshot, lines) {
-        Ok(()) => Status::Done,
-        Err(stop) => give_stop(stop, sink),
     }
 }

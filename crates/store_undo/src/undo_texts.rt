@@ -22,21 +22,15 @@ use edit_session::Session;
 use edit_undo::BothWords;
 use lens_flat::Flat;
 use std::alloc::{AllocError, Global};
+use store_run::MoreText;
 use texts::Bytes;
-
-// The payload of a snapshot, and the lines of `undo`.
-#[derive(Drop)]
-pub(crate) struct Texts {
-    pub(crate) snapshot: Bytes,
-    pub(crate) lines: Bytes,
-}
 
 // The snapshot of a session, and the lines of these words with its state lines.
 pub(crate) fn texts_of(
     alloc: Global,
     session: &Session<Flat>,
     words: &BothWords,
-) -> Result<Texts, AllocError>
+) -> Result<MoreText, AllocError>
     ensures { IfOk result (AreTexts (form_tree session.now.lens.typed) (triple_tree session.now.triple)
         (both_tree words.now)) }
 {
@@ -45,13 +39,13 @@ pub(crate) fn texts_of(
 }
 
 // The same of the texts of the session's triple.
-fn texts_with(alloc: Global, trees: &TreeTexts, words: &BothWords) -> Result<Texts, AllocError>
+fn texts_with(alloc: Global, trees: &TreeTexts, words: &BothWords) -> Result<MoreText, AllocError>
     ensures { IfOk result (λ made. (l : FormTree) (t : TripleTree) → AreTreeTexts l t trees.now
         → AreTexts l t (both_tree words.now) made) }
 {
-    let snapshot = snapshot_of(alloc, trees)?;
+    let payload = snapshot_of(alloc, trees)?;
     let lines = lines_of(alloc, trees, words)?;
-    Ok(Texts { snapshot, lines })
+    Ok(MoreText { payload, lines })
 }
 
 // The payload of the snapshot of a triple.
@@ -80,8 +74,9 @@ fn lines_of(alloc: Global, trees: &TreeTexts, words: &BothWords) -> Result<Bytes
     Ok(Bytes::from_vec(text))
 }
 
-// These bytes, and behind them a label, the compact text of a word and a line feed.
-fn with_word(bytes: Vec<u8>, label: &[u8], word: &Word) -> Result<Vec<u8>, AllocError>
+/// These bytes, and behind them a label, the compact text of a word and a line feed. The only error is running out of
+/// memory.
+pub fn with_word(bytes: Vec<u8>, label: &[u8], word: &Word) -> Result<Vec<u8>, AllocError>
     ensures { IfOk result (λ all. all.items
         ≡ bytes.items ++ (label.now ++ (compact_text (tree_of_word (word_tree word.now)) ++ codes "\n"))) }
 {

@@ -1,14 +1,14 @@
 //! Each call that allocates, once.
 
 use doc_values::{Doc, Docs, Fields, Ty, init};
-use edit_journal::{Line, read_entry, write_change};
-use edit_json::{has_tree, read_word, write_word_text};
+use edit_journal::{Line, append_change, read_entry};
+use edit_json::{append_word, has_tree, read_word};
 use edit_module::{Word, act};
 use serde_json::Value;
 use std::alloc::Global;
 use std::test::Fail;
 use texts::{Name, Names, Str, Twin};
-use value_json::{read_counts, read_doc, write_compact, write_counts, write_doc_text};
+use value_json::{read_counts, read_doc, write_counts, write_doc_text};
 
 // Values of many variants are let go by `drop`, in one call. At the end of a block they would be dropped variant by
 // variant, which takes long to prove.
@@ -215,22 +215,17 @@ fn words(rt: HostRuntime) -> Result<(), Fail> {
     let alloc = rt.alloc();
     let both = both_words(alloc)?;
     assert!(rt; has_tree(&both));
-    let text = write_word_text(alloc, &both)?;
-    assert_eq!(rt;
-        text.as_str(),
-        "[{\"put\":\"k\"},{\"mod\":[\"k\",[{\"set\":true}]]}]"
-    );
+    let text = append_word(Vec::new(alloc), &both)?;
+    let wanted = "[{\"put\":\"k\"},{\"mod\":[\"k\",[{\"set\":true}]]}]";
+    assert_eq!(rt; text.as_slice(), wanted.as_bytes());
     Ok(())
 }
 
 // The text of a copy of the change of a line.
-fn change_text(alloc: Global, line: &Line) -> Result<String, Fail> {
+fn change_text(alloc: Global, line: &Line) -> Result<Vec<u8>, Fail> {
     let change = read_entry(alloc, line)?;
     let copy = change.twin(alloc)?;
-    let tree = write_change(alloc, &copy)?;
-    let text = write_compact(alloc, &tree);
-    drop(tree);
-    Ok(text?)
+    Ok(append_change(Vec::new(alloc), &copy)?)
 }
 
 #[test]
@@ -238,7 +233,8 @@ fn lines(rt: HostRuntime) -> Result<(), Fail> {
     let alloc = rt.alloc();
     let line = Line::from_slice(alloc, b"{\"side\":\"left\",\"edit\":[{\"add\":1}]}")?;
     let text = change_text(alloc, &line.twin(alloc)?)?;
-    assert_eq!(rt; text.as_str(), "{\"edit\":[{\"add\":1}],\"side\":\"left\"}");
+    let wanted = "{\"edit\":[{\"add\":1}],\"side\":\"left\"}";
+    assert_eq!(rt; text.as_slice(), wanted.as_bytes());
     Ok(())
 }
 
@@ -250,10 +246,9 @@ fn groups(rt: HostRuntime) -> Result<(), Fail> {
         b"{\"group\":[{\"side\":\"right\",\"edit\":[]},{\"side\":\"left\",\"edit\":[{\"add\":1}]}]}",
     )?;
     let text = change_text(alloc, &line)?;
-    assert_eq!(rt;
-        text.as_str(),
-        "{\"group\":[{\"edit\":[],\"side\":\"right\"},{\"edit\":[{\"add\":1}],\"side\":\"left\"}]}"
-    );
+    let wanted =
+        "{\"group\":[{\"edit\":[],\"side\":\"right\"},{\"edit\":[{\"add\":1}],\"side\":\"left\"}]}";
+    assert_eq!(rt; text.as_slice(), wanted.as_bytes());
     Ok(())
 }
 

@@ -5,7 +5,7 @@ use answer_text::{
 };
 use doc_values::Ty;
 use edit_journal::EntryFault;
-use edit_json::{has_tree, read_word, write_word_text};
+use edit_json::{append_word, has_tree, read_word};
 use edit_module::{Cause, Word};
 use editlens_main::{Status, run_sure};
 use lens_core::{Comp, EditLens};
@@ -43,8 +43,9 @@ fn a_word_is_translated(rt: HostRuntime) -> Result<(), Fail> {
     let edit = word(alloc, "[{\"at\":[\"a\",[{\"set\":5}]]}]")?;
     let carried = lens.carry(alloc, Side::Left, &comp, &edit)?.twin(alloc)?;
     assert!(rt; has_tree(&carried.word));
-    let text = write_word_text(alloc, &carried.word)?;
-    assert_eq!(rt; text.as_str(), "[{\"at\":[\"b\",[{\"set\":5}]]}]");
+    let text = append_word(Vec::new(alloc), &carried.word)?;
+    let wanted = "[{\"at\":[\"b\",[{\"set\":5}]]}]";
+    assert_eq!(rt; text.as_slice(), wanted.as_bytes());
     assert!(rt; is_one_nil(&carried.comp));
     Ok(())
 }

@@ -1,9 +1,10 @@
 -- How contracts see a hub, its views and the answers of a step.
-use Rattle.std.specs.Prelude.{◌≡◌, List, map, Option, Some, Result, Ok, Err, MatchResult, refl}
+use Rattle.std.specs.Prelude.{◌≡◌, ℕ, List, map, Option, Some, Result, Ok, Err, MatchResult, refl}
 use Rattle.std.specs.Coded.{Coded, code_by, coded×, coded_list}
 use Rattle.doc_values.specs.Documents.{DocTree, doc_tree}
 use Rattle.edit_module.specs.Action.{Why}
 use Rattle.edit_module.specs.Words.{WordTree}
+use Rattle.edit_module.specs.declared.word.Word.{Word}
 use Rattle.edit_module.specs.Views.{word_tree, word_trees}
 use Rattle.edit_module.specs.declared.fault.ActFault.{ActFault}
 use Rattle.edit_module.specs.declared.fault.ActFault.TheVariants as action
@@ -11,11 +12,14 @@ use Rattle.lens_core.specs.Complements.{comp_tree}
 use Rattle.lens_core.specs.declared.lens.EditLens as OfLens
 use Rattle.view_hub.specs.declared.fault.HubFault.{HubFault}
 use Rattle.view_hub.specs.declared.fault.HubFault.TheVariants.{NoView, NoApply, NoMemory}
+use Rattle.view_hub.specs.declared.fault.HubGroupFault.{HubGroupFault}
+use Rattle.view_hub.specs.declared.fault.HubGroupFault.TheVariants as of_groups
 use Rattle.view_hub.specs.declared.side.HubCarried.{HubCarried}
 use Rattle.view_hub.specs.declared.side.HubSide.{HubSide}
 use Rattle.view_hub.specs.declared.side.HubSide.TheVariants.{Hub, View}
 use Rattle.view_hub.specs.declared.view.HubParts.{HubParts}
 use Rattle.view_hub.specs.declared.view.View as a_view
+use Rattle.view_hub.specs.Groups.{GroupStepped}
 use Rattle.view_hub.specs.Hubs.{ViewTree, HubTree, Place, at_hub, at_view, CarriedTree, Refusal, no_view, no_apply}
 use Rattle.view_hub.specs.Hubs.{step}
 
@@ -42,6 +46,13 @@ abbrev pub place_of : HubSide → Place
 place_of Hub = at_hub
 place_of (View k) = at_view k
 
+-- an edit: the document that is edited, and the word
+abbrev pub edit_tree : HubSide × Word → Place × WordTree
+edit_tree e = (place_of e.0, word_tree e.1)
+
+abbrev pub edit_trees : List (HubSide × Word) → List (Place × WordTree)
+edit_trees es = map edit_tree es
+
 abbrev pub carried_tree : HubCarried → CarriedTree
 carried_tree c = record { hub = word_tree c.hub; views = word_trees c.views }
 
@@ -50,6 +61,20 @@ abbrev pub IsHubRefusal : Option (Result (HubTree × CarriedTree) Refusal) → H
 IsHubRefusal answer (NoView views) = answer ≡ Some (Err (no_view views))
 IsHubRefusal answer (NoApply at cause) = answer ≡ Some (Err (no_apply at cause))
 IsHubRefusal answer NoMemory = Unit {0}
+
+-- a group is refused for the reason that the definition has, at the edit that it has; running out of memory says
+-- nothing
+abbrev pub IsGroupRefusal : Option GroupStepped → HubGroupFault → Type 0
+IsGroupRefusal answer (of_groups.NoView part views) = answer ≡ Some (Err (part, no_view views))
+IsGroupRefusal answer (of_groups.NoApply part at cause) = answer ≡ Some (Err (part, no_apply at cause))
+IsGroupRefusal answer of_groups.NoMemory = Unit {0}
+
+-- the edit with this number in a group is refused as the definition refuses it
+abbrev pub IsPartRefusal : ℕ → Option (Result (HubTree × CarriedTree) Refusal) → HubGroupFault → Type 0
+IsPartRefusal number answer (of_groups.NoView part views) = (part ≡ number) × (answer ≡ Some (Err (no_view views)))
+IsPartRefusal number answer (of_groups.NoApply part at cause) =
+    (part ≡ number) × (answer ≡ Some (Err (no_apply at cause)))
+IsPartRefusal number answer of_groups.NoMemory = Unit {0}
 
 -- the hub's fault for an action's
 abbrev pub of_action : ActFault → HubFault

@@ -1,17 +1,25 @@
 //! One document that is kept in step with many views.
 
-ghost use Rattle.std.specs.Prelude.{◌≡◌, ◌<◌, Some, length, slice_get, option_map, IfOk, OnErr, IfSome};
+ghost use Rattle.std.specs.Prelude.{◌≡◌, ◌<◌, ◌++◌, ◌∷◌, [], Some, Ok, length, map, slice_get, option_map, IfOk, OnOk};
+ghost use Rattle.std.specs.Prelude.{OnErr, IfSome, MatchResult};
 ghost use Rattle.std.specs.Option.{option_copied};
+ghost use Rattle.doc_values.specs.Documents.{doc_tree};
+ghost use Rattle.doc_values.specs.Initial.{initial};
+ghost use Rattle.edit_module.specs.Action.{act};
 ghost use Rattle.edit_module.specs.Views.{word_tree};
-ghost use Rattle.view_hub.specs.Hubs.{at_hub, at_view, start_hub};
+ghost use Rattle.view_hub.specs.Groups.{add_view, step_group};
+ghost use Rattle.view_hub.specs.Hubs.{at_hub, at_view, first_view, lower, start_hub};
+ghost use Rattle.view_hub.specs.Lowering.{IsLowered};
 ghost use Rattle.view_hub.specs.Laws.{IsHub, HaveOneLeftType};
-ghost use Rattle.view_hub.specs.Views.{hub_tree, view_trees, place_of, IsOutcome, IsNextOutcome};
+ghost use Rattle.view_hub.specs.Views.{carried_tree, edit_trees, hub_tree, view_trees, place_of, IsGroupRefusal};
+ghost use Rattle.view_hub.specs.Views.{IsOutcome, IsNextOutcome};
 
-use crate::fault::HubFault;
+use crate::fault::{HubFault, HubGroupFault};
+use crate::group::next_all;
 use crate::lift::{Lifted, edit_left, lift};
-use crate::lower::{Lowered, Own, first_views, lower_all, lower_others};
+use crate::lower::{Lowered, Own, added_view, first_views, lower_all, lower_others};
 use crate::side::{HubCarried, HubSide};
-use crate::view::{HubParts, initial_document};
+use crate::view::{HubParts, copy_parts, initial_document};
 use doc_values::Doc;
 use edit_module::Word;
 use edit_module::change::Words;
@@ -98,6 +106,34 @@ impl<L: EditLens> Hub<L> {
         Ok(carried)
     }
 
+    /// Applies a group of edits, one after another, all of them or none. Returns the words that acted in each.
+    ///
+    /// Each edit starts from the hub that the edit before it left, and is applied and carried as by [`Hub::step`]. A
+    /// group of no edits leaves the hub as it is.
+    ///
+    /// - `NoView`: if and only if an edit names a view that does not exist, and it is the first that is refused; it has
+    ///   the number of the edit in the group, from 0, and the number of views.
+    /// - `NoApply`: if and only if the word of an edit does not apply when its turn comes, and it is the first that is
+    ///   refused; it has the number of the edit, the number of the first primitive that fails, and the cause.
+    /// - `NoMemory`: only if memory ran out.
+    ///
+    /// After an error all documents and complements are as they were before the group.
+    pub fn step_all(&mut self, edits: &[(HubSide, Word)]) -> Result<Vec<HubCarried>, HubGroupFault>
+        ensures steps { MatchResult result
+            (λ words. step_group L.EditLens self.old.lenses (hub_tree self.old.parts)
+            (edit_trees edits.now)
+            ≡ Some (Ok (hub_tree self.new.parts, map carried_tree words.items)))
+            (IsGroupRefusal (step_group L.EditLens self.old.lenses (hub_tree self.old.parts)
+            (edit_trees edits.now))) }
+        ensures in_step { IsHub L.EditLens self.new.lenses (hub_tree self.new.parts) }
+        ensures lenses { self.new.lenses ≡ self.old.lenses }
+        ensures unchanged { OnErr result (self.new ≡ self.old) }
+    {
+        let (parts, words) = next_all(self.alloc, &self.lenses, &self.parts, edits)?;
+        self.parts = parts;
+        Ok(words)
+    }
+
     /// Puts a document and views in the place of the hub's own. Each view is in its lens's relation with the document.
     ///
     /// The lenses stay. It does not allocate.
@@ -107,6 +143,35 @@ impl<L: EditLens> Hub<L> {
         ensures parts { self.new.parts ≡ parts }
     {
         self.parts = parts;
+    }
+
+    /// Adds a view with this lens behind the others. The word makes the hub's document from the initial one; the view
+    /// is what the lens makes of that word from its start, so it is in step with the hub.
+    ///
+    /// The lens has the left type of the others. It fails only if memory runs out, and the hub is then as it was.
+    pub fn add(&mut self, lens: L, word: &Word) -> Result<(), AllocError>
+    where
+        L: Drop,
+        requires same_left { HaveOneLeftType L.EditLens (self.old.lenses ++ lens ∷ []) }
+        requires makes { act (L.left_type lens) (word_tree word.now) (initial (L.left_type lens))
+            ≡ Ok (doc_tree self.old.parts.hub.value) }
+        ensures added { OnOk result (add_view L.EditLens lens (word_tree word.now)
+            (hub_tree self.old.parts) ≡ Some (hub_tree self.new.parts)) }
+        ensures lenses { OnOk result (self.new.lenses ≡ self.old.lenses ++ lens ∷ []) }
+        ensures in_step { IsHub L.EditLens self.new.lenses (hub_tree self.new.parts) }
+        ensures unchanged { OnErr result (self.new ≡ self.old) }
+    {
+        let parts = one_view_more(self.alloc, &self.parts, &lens, word)?;
+        self.lenses.push(lens)?;
+        self.parts = parts;
+        Ok(())
+    }
+
+    /// The lenses, one for each view and in their order.
+    pub fn lenses(&self) -> &[L]
+        ensures lenses { result.now ≡ self.now.lenses }
+    {
+        &self.lenses
     }
 
     /// The hub's document and the views. Each view is in its lens's relation with the document.
@@ -166,8 +231,27 @@ fn first_parts<L: EditLens>(alloc: Global, lenses: &[L]) -> Result<HubParts, All
     Ok(HubParts { hub, views })
 }
 
+// The parts with a view more, which its lens makes, from its start, of a word that is carried to it.
+fn one_view_more<L: EditLens>(
+    alloc: Global,
+    parts: &HubParts,
+    lens: &L,
+    word: &Word,
+) -> Result<HubParts, AllocError>
+    requires { IsLowered
+        (lower L.EditLens lens.now (word_tree word.now) (first_view L.EditLens lens.now)) }
+    ensures { IfOk result (λ p. add_view L.EditLens lens.now (word_tree word.now)
+        (hub_tree parts.now) ≡ Some (hub_tree p)) }
+{
+    let (view, carried) = added_view(alloc, lens, word)?;
+    drop(carried);
+    let mut longer = copy_parts(alloc, parts)?;
+    longer.views.push(view)?;
+    Ok(longer)
+}
+
 // The parts after a step, and the words that acted.
-fn next<L: EditLens>(
+pub(crate) fn next<L: EditLens>(
     alloc: Global,
     lenses: &[L],
     parts: &HubParts,

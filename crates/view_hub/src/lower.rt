@@ -43,6 +43,21 @@ fn view_of<L: EditLens>(alloc: Global, lens: &L) -> Result<View, AllocError>
     Ok(View { comp, doc })
 }
 
+// The view that a lens makes, from its start, of a word that is carried to it, and the carried word.
+pub(crate) fn added_view<L: EditLens>(
+    alloc: Global,
+    lens: &L,
+    word: &Word,
+) -> Result<(View, Word), AllocError>
+    requires { IsLowered
+        (lower L.EditLens lens.now (word_tree word.now) (first_view L.EditLens lens.now)) }
+    ensures { IfOk result (λ r. lower L.EditLens lens.now (word_tree word.now)
+        (first_view L.EditLens lens.now) ≡ Some (view_tree r.0, word_tree r.1)) }
+{
+    let first = view_of(alloc, lens)?;
+    lower(alloc, lens, &first, word)
+}
+
 // Every view after a word of the hub.
 pub(crate) fn lower_all<L: EditLens>(
     alloc: Global,

@@ -1,4 +1,4 @@
-use Rattle.std.proofs.Common.{rules, ◌≡◌, ◌+◌, ◌++◌, drop, length, ap, sym, subst, ◌∙◌, arith}
+use Rattle.std.proofs.Common.{rules, ◌≡◌, ◌+◌, ◌++◌, sym, subst, ◌∙◌, arith}
 use Rattle.depth_seq.specs.Searches.{search as sought, GoesOn}
 use Rattle.depth_seq.specs.Trees.{depths}
 use Rattle.depth_seq.specs.declared.found.Found.TheVariants.{Behind}

@@ -1,4 +1,4 @@
-use Rattle.std.proofs.Common.{rules, ◌≡◌, ◌+◌, ◌-◌, ◌++◌, drop, length, refl, sym, ◌∙◌, arith}
+use Rattle.std.proofs.Common.{rules, ◌≡◌, ◌+◌, ◌-◌, ◌++◌, length, refl, sym, ◌∙◌, arith}
 use Rattle.depth_seq.specs.Trees.{depths}
 use Rattle.depth_seq.proofs.Searches.{stopped}
 use Rattle.depth_seq.proofs.SearchParts.{from_left, from_behind, from_here, from_right}

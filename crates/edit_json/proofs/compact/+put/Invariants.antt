@@ -1,5 +1,7 @@
-use Rattle.std.proofs.Common.{◌≡◌, ◌+◌, ◌*◌, ◌++◌}
+use Rattle.std.proofs.Common.{◌≡◌, ◌+◌, ◌*◌, ◌++◌, map, drop}
+use Rattle.edit_module.specs.Words.{word_of}
 use Rattle.edit_module.specs.Views.{primitive_tree, word_tree}
+use Rattle.edit_json.specs.WordJson.{numbers_fit}
 use Rattle.edit_json.specs.Depths.{primitive_depth, word_depth}
 use Rattle.edit_json.proofs.Tokens.{tokens_from}
 use Rattle.edit_json.proofs.compact.+put.Given as goal
@@ -23,3 +25,4 @@ abbrev pub invariant-put_word-loop-primitive : goal.invariant-put_word-loop-prim
 invariant-put_word-loop-primitive l =
     (l.out.before ≡ l.initial.out.before)
     × (l.out.tokens ++ tokens_from l.primitive-items l.primitive-index ≡ l.initial.out.tokens ++ tokens_from l.primitive-items 0)
+    × (numbers_fit (word_tree l.word) ≡ numbers_fit (word_of (map primitive_tree (drop l.primitive-index l.primitive-items))))

@@ -4,6 +4,7 @@ use Rattle.store_new.proofs.Commands.{ends_behind, finds_store, unwritten_by}
 use Rattle.store_new.proofs.CommandStatuses.{complete, given_with, init_among, other_line, refuses_at_once, refuses_nothing}
 use Rattle.command_ends.specs.declared.status.Status.TheVariants.{StoreRefused, DiskFault}
 use Rattle.store_run.specs.Refusals.{refusal_line}
+use Rattle.store_new.specs.Scripts.{one_program}
 use Rattle.store_run.specs.declared.refusals.StoreRefusal.TheVariants.{LogExists}
 use Rattle.store_new.specs.Init.{init_command}
 use Rattle.store_new.proofs.InitEnds.{accepts, refuses, starts}
@@ -60,10 +61,10 @@ returns-in-Ok-clause-ends g c =
 
 pub returns-in-Ok-clause-at_once : goal.returns-in-Ok-clause-at_once
 returns-in-Ok-clause-at_once g c =
-    refuses_nothing g.S.Source c.args.source.now c.give_line.result (λ is. other_line g.K.Sink c.args.sink.now c.give_line.new.sink c.give_line.result c.give_line.ensures.gives is)
+    refuses_nothing one_program g.S.Source c.args.source.now c.give_line.result (λ is. other_line g.K.Sink c.args.sink.now c.give_line.new.sink c.give_line.result c.give_line.ensures.gives is)
 
 pub returns-in-Err-clause-at_once : goal.returns-in-Err-clause-at_once
-returns-in-Err-clause-at_once g c = refuses_nothing g.S.Source c.args.source.now DiskFault (λ is. cc)
+returns-in-Err-clause-at_once g c = refuses_nothing one_program g.S.Source c.args.source.now DiskFault (λ is. cc)
 
 pub returns-in-Ok-eq0-clause-statuses : goal.returns-in-Ok-eq0-clause-statuses
 returns-in-Ok-eq0-clause-statuses g c =

@@ -1,4 +1,4 @@
-use Rattle.std.proofs.Common.{◌≡◌, ℕ, List, Option, None, Ok, sym, subst}
+use Rattle.std.proofs.Common.{ℕ, List, Option, Ok, sym, subst}
 use Rattle.std.specs.Prelude.{IfSome}
 use Rattle.std.proofs.lemmas.Result.{IfOk-weaker}
 use Rattle.edit_module.specs.Changes.{one}

@@ -1,4 +1,3 @@
-use Rattle.lens_forms.specs.Forms.{form_tree}
 use Rattle.edit_session.specs.Views.{triple_tree}
 use Rattle.store_session.proofs.reopening.reopen.Goals as goal
 

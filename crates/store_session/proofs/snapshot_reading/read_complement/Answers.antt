@@ -1,4 +1,4 @@
-use Rattle.std.proofs.Common.{refl, rules}
+use Rattle.std.proofs.Common.{rules}
 use Rattle.serde_json.specs.View.{view}
 use Rattle.lens_core.specs.Complements.{comp_tree}
 use Rattle.lens_forms.specs.Forms.{form_tree}

@@ -1,4 +1,4 @@
-use Rattle.std.proofs.Common.{◌≡◌, inl, inr, ℕ, List, Err, sym, ap, subst, ◌∙◌, refl}
+use Rattle.std.proofs.Common.{inl, inr, ℕ, List, Err, sym, ap, subst, ◌∙◌, refl}
 use Rattle.lens_io.proofs.Increases.{increased_since}
 use Rattle.store_run.specs.declared.opening.OpenFault.{OpenFault}
 use Rattle.store_run.specs.declared.opening.OpenFault.TheVariants.{DiskFault}

@@ -16,15 +16,15 @@ returns-in-Ok-clause-ends g c =
     let disk = g.D.Disk in
     let only = g.met.D.Disk.only_now in
     let k = c.args.sink.now in
-    let k' = c.store_undone.new.sink in
+    let k' = c.store_last.new.sink in
     let d = c.args.disk.now in
-    let d' = c.store_undone.new.disk in
+    let d' = c.store_last.new.disk in
     let l = c.args.log.now in
-    let l' = c.store_undone.new.log in
+    let l' = c.store_last.new.log in
     let before = c.args.payloads in
     let made = c.in-Ok.ensures in
     let making = c.in-Ok.making in
-    let status = c.store_undone.result in
+    let status = c.store_last.result in
     λ u st h.
     let same = same_undoing (undoing c.args.count before) made.u u made.is h in
     subst (λ (x : Undoing). UndoEnds g.K.Sink disk (k, d) (k', d') before x status) same
@@ -39,7 +39,7 @@ returns-in-Ok-clause-ends g c =
           subst (λ (y : List ℕ). StoreEnds g.K.Sink disk (k, d, l) (k', d', l') y (option_to_list (version_due made.u.now.version)) (snapshot_text made.u) status) made.lines
           (subst (λ (v : Option (List ℕ)). StoreEnds g.K.Sink disk (k, d, l) (k', d', l') making.texts.lines (option_to_list v) (snapshot_text made.u) status) made.version
           (subst (λ (x : List ℕ). StoreEnds g.K.Sink disk (k, d, l) (k', d', l') making.texts.lines (option_to_list making.version) x status) made.snapshot
-          c.store_undone.ensures.ends));
+          c.store_last.ensures.ends));
     }))
 
 pub returns-in-Ok-clause-refused : goal.returns-in-Ok-clause-refused
