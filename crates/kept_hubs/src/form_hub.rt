@@ -109,7 +109,7 @@ impl FormHub {
         ensures text { IfOk result (λ found.
             part_text (state_of self.now) part ≡ option_map (λ text. text.items) found) }
     {
-        part_text(alloc, &self.typed, &self.hub, part)
+        part_text(alloc, &self.hub, part)
     }
 }
 

@@ -1,6 +1,6 @@
 //! The texts of the parts of a state.
 
-ghost use Rattle.std.specs.Prelude.{◌≡◌, IfOk, IsTrue, Some, map, option_map};
+ghost use Rattle.std.specs.Prelude.{◌≡◌, IfOk, IsTrue, Some, option_map};
 ghost use Rattle.serde_json.specs.Written.{compact_text};
 ghost use Rattle.doc_values.specs.Documents.{doc_tree};
 ghost use Rattle.doc_values.specs.Types.{ty_tree, is_well_formed};
@@ -25,76 +25,60 @@ use std::alloc::{AllocError, Global};
 use value_json::{write_compact, write_doc_text};
 use view_hub::Hub;
 
-// The text of a part of the state. None if and only if the part is one of a view that does not exist. The hub's lenses
-// are those of the forms.
+// The text of a part of the state. None if and only if the part is one of a view that does not exist.
 pub(crate) fn part_text(
     alloc: Global,
-    typed: &[Typed],
     hub: &Hub<Flat>,
     part: HubPart,
 ) -> Result<Option<Vec<u8>>, AllocError>
-    requires of_forms { map form_tree typed.now ≡ forms_of_lenses hub.now.lenses }
     ensures text { IfOk result (λ found.
         part_text (state_of hub.now) part ≡ option_map (λ text. text.items) found) }
 {
     match part {
         HubPart::State => Ok(Some(hub_state_lines(alloc, hub)?)),
-        HubPart::Document => Ok(Some(hub_text(alloc, typed, hub)?)),
-        HubPart::ViewDocument(number) => view_text(alloc, typed, hub, number),
-        HubPart::ViewComplement(number) => comp_text(alloc, typed, hub, number),
+        HubPart::Document => Ok(Some(hub_text(alloc, hub)?)),
+        HubPart::ViewDocument(number) => view_text(alloc, hub, number),
+        HubPart::ViewComplement(number) => comp_text(alloc, hub, number),
     }
 }
 
 // The text of the hub's document.
-fn hub_text(alloc: Global, typed: &[Typed], hub: &Hub<Flat>) -> Result<Vec<u8>, AllocError>
-    requires of_forms { map form_tree typed.now ≡ forms_of_lenses hub.now.lenses }
+fn hub_text(alloc: Global, hub: &Hub<Flat>) -> Result<Vec<u8>, AllocError>
     ensures { IfOk result (λ text. text.items
         ≡ hub_text (forms_of_lenses hub.now.lenses) (hub_tree hub.now.parts)) }
 {
     let document = hub.hub();
-    document_text(alloc, typed[0].left(), document)
+    document_text(alloc, hub.lenses()[0].typed().left(), document)
 }
 
 // The text of the document of the view with this number.
-fn view_text(
-    alloc: Global,
-    typed: &[Typed],
-    hub: &Hub<Flat>,
-    number: u64,
-) -> Result<Option<Vec<u8>>, AllocError>
-    requires of_forms { map form_tree typed.now ≡ forms_of_lenses hub.now.lenses }
+fn view_text(alloc: Global, hub: &Hub<Flat>, number: u64) -> Result<Option<Vec<u8>>, AllocError>
     ensures { IfOk result (λ found. option_map document_text (view_at (state_of hub.now) number)
         ≡ option_map (λ text. text.items) found) }
 {
     is_in_step(hub);
-    let Some(lens) = typed.get(number as usize) else {
+    let Some(lens) = hub.lenses().get(number as usize) else {
         return Ok(None);
     };
     let Some(document) = hub.view(number) else {
         return Ok(None);
     };
-    Ok(Some(document_text(alloc, lens.right(), document)?))
+    Ok(Some(document_text(alloc, lens.typed().right(), document)?))
 }
 
 // The text of the complement of the view with this number.
-fn comp_text(
-    alloc: Global,
-    typed: &[Typed],
-    hub: &Hub<Flat>,
-    number: u64,
-) -> Result<Option<Vec<u8>>, AllocError>
-    requires of_forms { map form_tree typed.now ≡ forms_of_lenses hub.now.lenses }
+fn comp_text(alloc: Global, hub: &Hub<Flat>, number: u64) -> Result<Option<Vec<u8>>, AllocError>
     ensures { IfOk result (λ found. option_map complement_text (view_at (state_of hub.now) number)
         ≡ option_map (λ text. text.items) found) }
 {
     is_in_step(hub);
-    let Some(lens) = typed.get(number as usize) else {
+    let Some(lens) = hub.lenses().get(number as usize) else {
         return Ok(None);
     };
     let Some(comp) = hub.comp(number) else {
         return Ok(None);
     };
-    Ok(Some(complement_text(alloc, lens, comp)?))
+    Ok(Some(complement_text(alloc, lens.typed(), comp)?))
 }
 
 fn document_text(alloc: Global, ty: &Ty, doc: &Doc) -> Result<Vec<u8>, AllocError>
