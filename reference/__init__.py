@@ -7,6 +7,7 @@ lenses       types of lenses, complements and translation, as docs/EDITS.md has 
 consistency  patterns and images, as docs/MEANING.md has them
 inverses     constructions and inverses, by the tables of docs/EDITS.md
 hubs, links  a hub with its views, and two sites that take turns
+kept_hubs    a hub that is kept in a store, and what the commands of `edithub` write
 stores       the bytes of a store
 logs         what a file opens to as a log, and what a crash leaves of it
 generated    what `editlens gen` writes

@@ -5,10 +5,13 @@ import json
 PARTS = ("input", "output", "store_before", "store_after")
 
 
-def write_step(words, status, given, wanted, number=0, stores=None):
-    """The bytes of a step: a case of its own where its number is 0. `stores` are the bytes of the store before and after it."""
+def write_step(words, status, given, wanted, number=0, stores=None, devices=None):
+    """The bytes of a step: a case of its own where its number is 0. `stores` are the bytes of the store before and after it.
+
+    `devices` are the members that say which calls of the devices fail.
+    """
     parts = dict(zip(PARTS, (given, wanted, *(stores or ()))))
-    head = {"words": words, "status": status, "step": number, **{name: len(part) for name, part in parts.items()}}
+    head = {"words": words, "status": status, "step": number, **(devices or {}), **{name: len(part) for name, part in parts.items()}}
     spaces = (", ", ": ") if stores else (",", ":")
     return json.dumps(head, ensure_ascii=False, sort_keys=True, separators=spaces).encode() + b"\n" + b"".join(parts.values()) + b"\n"
 

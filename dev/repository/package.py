@@ -6,6 +6,8 @@
     lib/editlens/tools/             the tools with their library, and lib/editlens/VERSION
     share/man/man1/editlens.1       the manual page
     share/bash-completion/completions/editlens, share/zsh/site-functions/_editlens
+
+edithub is installed beside it, where it is asked for: bin/edithub leads to lib/editlens/edithub-program, which the tools run.
 """
 
 import glob
@@ -22,6 +24,7 @@ from . import TOP, tracked
 from .manual import version
 
 PROGRAM = "lib/editlens/editlens-program"
+HUB_PROGRAM = "lib/editlens/edithub-program"
 TOOLS = "lib/editlens/tools"
 NOT_TOOLS = ("check",)
 HOW = """editlens {version}
@@ -94,6 +97,16 @@ def install(program, folder, top=TOP):
     for name, target in links(top):
         put(os.path.join(place, name), lambda new, target=target: os.symlink(target, new))
     return os.path.join(place, "bin", "editlens")
+
+
+def install_hub(program, folder):
+    """Installs edithub below a folder. Returns the path of its name in `bin`."""
+    place = place_of(folder)
+    path, name = os.path.join(place, HUB_PROGRAM), os.path.join(place, "bin", "edithub")
+    put(path, lambda new: shutil.copyfile(program, new))
+    os.chmod(path, 0o755)
+    put(name, lambda new: os.symlink(f"../{HUB_PROGRAM}", new))
+    return name
 
 
 def git(*words):

@@ -3,6 +3,7 @@
 Session     a client: the program as a co-process, one edit in and one answer out
 Hub, Link   the same for a hub and its views, and for two sites that take turns
 Store       a client over the commands of a store, each a run of the program; `Store.open` keeps one open, as an OpenStore
+HubStore    the same for a hub that `edithub` keeps; `HubStore.open` keeps one open, as an OpenHub
 StoreLock   the lock on the folder of a store, for tools that change its file
 types       the types that `check` prints, and what a token of a lens program is
 documents   a JSON document held against a type
@@ -15,7 +16,7 @@ private     what the other side would lose by a patch
 named       edits that name an item or a node by what it has
 load        the journal that builds two documents that exist
 log         the records in the file of a store
-upkeep      what one does with a store from day to day; also checkup, relens, replacement, copies
+upkeep      what one does with a store from day to day; also kinds, checkup, relens, replacement, copies
 explain     what a refusal means, with the place in the text or in the document
 lenses      the lens of a program, and `sharing`: which places of both documents it ties
 changes     the places that an edit changed, and `sentences`: an edit in words
@@ -27,6 +28,7 @@ No tool computes an edit from two versions of a document.
 from .answers import Accepted, NoAnswer, NotAnAnswer, ProgramRefused, Refused, RunEnded, read_answer
 from .checked import check
 from .hub import Hub, HubAccepted
+from .hub_store import HubGroupAccepted, HubState, HubStore, OpenHub
 from .link import Link, LinkAccepted
 from .lock import StoreBusy, StoreLock
 from .named import NotFound
@@ -44,6 +46,9 @@ __all__ = [
     "FormFault",
     "Hub",
     "HubAccepted",
+    "HubGroupAccepted",
+    "HubState",
+    "HubStore",
     "ImportRefused",
     "Link",
     "LinkAccepted",
@@ -53,6 +58,7 @@ __all__ = [
     "NotAnAnswer",
     "NotFound",
     "NotWritable",
+    "OpenHub",
     "OpenStore",
     "PrivateLoss",
     "ProgramRefused",

@@ -163,6 +163,8 @@ def _read_words(line, words):
         return Refused(int(words[1]), words[2])
     if words[0] == "refused" and words[2] == "no-apply" and len(words) == 5:
         return Refused(int(words[1]), words[4], at=int(words[3]))
+    if words[0] == "refused" and words[2] == "group" and len(words) == 5 and words[4] in FAULTS:
+        return Refused(int(words[1]), words[4], part=int(words[3]))
     if words[0] == "refused" and words[2] == "group" and len(words) == 7:
         return Refused(int(words[1]), words[6], at=int(words[5]), part=int(words[3]))
     raise NotAnAnswer(line)

@@ -4,10 +4,11 @@ import os
 from dataclasses import dataclass
 
 from .copies import good_count
+from .kinds import split
 from .lock import StoreLock
-from .log import CLOSED, FIRST, LENGTH, MARK, OPEN, Log, is_change, kind_of, number_of, printable, sync_folder, told
+from .log import CLOSED, FIRST, FIRST_RECORDS, LENGTH, MARK, OPEN, Log, is_change, kind_of, number_of, printable, sync_folder, told
 from .replacement import NotDone
-from .store import NAME, Store, StoreRefused
+from .store import StoreRefused
 
 MOST_SHOWN = 60
 
@@ -32,7 +33,7 @@ def readable(log, store, number=0):
     except StoreRefused:
         pass
     payloads = _until_bad(log.found())
-    return Readable(payloads[: good_count(payloads, store.path)], is_all=False)
+    return Readable(payloads[: good_count(payloads, store)], is_all=False)
 
 
 def _until_bad(found):
@@ -51,17 +52,18 @@ def is_left_over(log):
     """
     if log.size <= FIRST:
         return MARK.startswith(log.read(0, FIRST))
-    if not log.has_mark or log.gate(log.end) != CLOSED[0] or len(log.spans) > 1 or not all(kind_of(it) == "program" for it in log.payloads()):
+    if not log.has_mark or log.gate(log.end) != CLOSED[0] or len(log.spans) > 1 or not all(kind_of(it) in FIRST_RECORDS.values() for it in log.payloads()):
         return False
     length = log.length_at(log.end)
     return length is None or log.size <= log.end + 1 + LENGTH + length + 1
 
 
 class Checkup:
-    """A look at the store in a folder. `refusal` is what the program says against it, or None, and `lines` is the report."""
+    """A look at the store in a folder, or at that of a file. `refusal` is what the program says against it, or None, and `lines` is the report."""
 
-    def __init__(self, folder, path=None):
-        self.store, self.refusal = Store(folder, path), None
+    def __init__(self, place, path=None):
+        folder, kind = split(place)
+        self.store, self.refusal = kind(folder, path), None
         if not os.path.exists(self.store.file):
             raise NotDone(f"there is no store here: {self.store.file} does not exist")
         try:
@@ -109,7 +111,7 @@ class Checkup:
         for number, it in enumerate(self.found, 1):
             yield from self._faults(number, it)
         payloads = _until_bad(self.found)
-        good = good_count(payloads, self.store.path)
+        good = good_count(payloads, self.store)
         if good < len(payloads):
             yield f"record {good + 1}, at byte {self.found[good].span.at:,}: {_refusal_of(payloads[good])}"
         elif self._is_stuck():
@@ -164,18 +166,21 @@ def _counted(changes, count):
 
 def _refusal_of(payload):
     kind = kind_of(payload)
-    if kind in ("entry", "group"):
+    if is_change(payload):
         return "its edit does not apply to the state before it"
     if kind == "snapshot":
         return "a snapshot that does not fit the lens, or whose parts are not consistent"
+    if kind == "add":
+        return "its program is refused, or is not one for the other views"
     return "such a record cannot stand there" if kind == "version" else "its program is refused, or is not the first record"
 
 
-def remove_left_over(folder, path=None, wait=0.0):
+def remove_left_over(place, path=None, wait=0.0):
     """Removes a file in which no change was stored. Raises NotDone if it is anything else."""
-    with StoreLock(folder, wait):
-        if not Checkup(folder, path).is_left_over:
+    with StoreLock(split(place)[0], wait):
+        found = Checkup(place, path)
+        if not found.is_left_over:
             raise NotDone("this store is not removed: it has more than a killed init or import leaves")
-        os.remove(os.path.join(folder, NAME))
-        sync_folder(folder)
+        os.remove(found.store.file)
+        sync_folder(found.store.folder)
 

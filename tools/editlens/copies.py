@@ -1,23 +1,28 @@
 """Stores of some records, made in folders of their own: what the program says of a part of a store is found out there."""
 
-import os
 import tempfile
 from contextlib import contextmanager
 
+from .kinds import kind_of_first
 from .log import Log, write_log
-from .store import NAME, Store, StoreRefused
+from .store import StoreRefused
 
 
 @contextmanager
-def copy_of(payloads, path=None, folder=None):
-    """A store of these records, in a new folder inside this one, or among the temporary files. It is removed at the end."""
+def copy_of(payloads, path=None, folder=None, kind=None):
+    """A store of these records, in a new folder inside this one, or among the temporary files. It is removed at the end.
+
+    Where its kind is not given, it is that of the first record.
+    """
+    payloads = list(payloads)
     with tempfile.TemporaryDirectory(dir=folder) as place:
-        write_log(os.path.join(place, NAME), payloads)
-        yield Store(place, path)
+        store = (kind or kind_of_first(payloads[0]))(place, path)
+        write_log(store.file, payloads)
+        yield store
 
 
 def state_of(payloads, path=None):
-    """The left document, the right document and the complement of these records. Raises StoreRefused."""
+    """What `show` says of these records. Raises StoreRefused."""
     with copy_of(payloads, path) as store:
         return store.show()
 
@@ -30,13 +35,13 @@ def snapshot_of(payloads, path=None, folder=None):
             return log.payload(log.spans[-1])
 
 
-def good_count(payloads, path=None):
-    """How many of these records, from the first one on, are a store that is not refused."""
+def good_count(payloads, store):
+    """How many of these records, from the first one on, are a store of the kind of this one that is not refused."""
     count = len(payloads)
     while count:
-        with copy_of(payloads[:count], path) as store:
+        with copy_of(payloads[:count], store.path, kind=type(store)) as copy:
             try:
-                store.verify()
+                copy.verify()
                 return count
             except StoreRefused as why:
                 count = min(count, record_of(why.reason)) - 1

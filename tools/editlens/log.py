@@ -16,7 +16,9 @@ FIRST = len(MARK)
 LENGTH = 8
 MOST_READ = 2**30
 """More bytes than a record of a store has."""
-KINDS = {"program", "version", "entry", "group", "snapshot"}
+KINDS = {"program", "version", "entry", "group", "add", "snapshot"}
+FIRST_RECORDS = {"program": "program", "hub": "programs"}
+"""The kinds of a first record, by its member beside the version: the program of a session, and those of the views of a hub."""
 
 
 def kind_of(payload):
@@ -27,14 +29,16 @@ def kind_of(payload):
         return None
     if not isinstance(tree, dict):
         return None
-    if set(tree) == {"program", "version"}:
-        return "program"
+    if len(tree) == 2 and "version" in tree:
+        return FIRST_RECORDS.get(next(it for it in tree if it != "version"))
+    if set(tree) == {"at", "edit"}:
+        return "edit"
     return next(iter(tree)) if len(tree) == 1 and set(tree) <= KINDS else None
 
 
 def is_change(payload):
     """Whether a record is a change, which the program counts."""
-    return kind_of(payload) in ("entry", "group")
+    return kind_of(payload) in ("entry", "edit", "group")
 
 
 def printable(data):
@@ -53,20 +57,30 @@ def told(payload, most=100):
     if kind is None:
         said = "not a record: " + printable(payload)
     else:
-        said = _told(kind, read_json(payload.decode())[kind])
+        said = _told(kind, read_json(payload.decode()))
     return said if most is None or len(said) <= most else said[: most - 2] + ".."
 
 
-def _told(kind, content):
-    if kind in ("program", "version"):
+def _told(kind, tree):
+    content = tree.get(kind)
+    if kind in ("program", "version", "add"):
         return f"{kind} {content}".replace("\n", " ")
+    if kind == "programs":
+        return f"{kind} {write_json(tree['hub'])}"
     if kind == "snapshot":
         return "snapshot " + write_json(content)
     try:
-        entries = [content] if kind == "entry" else content
-        return kind + "".join(f" {it['side']} {write_json(it['edit'])}" for it in entries)
+        edits = content if kind == "group" else [tree if kind == "edit" else content]
+        return kind + "".join(f" {_place(it)} {write_json(it['edit'])}" for it in edits)
     except (TypeError, KeyError):
-        return f"{kind} {write_json(content)}"
+        return f"{kind} {write_json(tree)}"
+
+
+def _place(edit):
+    """The document that is edited: a side, or the hub or a view of it."""
+    if "side" in edit:
+        return edit["side"]
+    return "hub" if edit["at"] == "hub" else f"view {edit['at']}"
 
 
 @dataclass(frozen=True)

@@ -7,7 +7,7 @@ import subprocess
 import threading
 import time
 
-from .answers import Accepted, NotAnAnswer, RunEnded, read_answer
+from .answers import Accepted, NotAnAnswer, RunEnded
 from .checked import check
 from .json_text import read_json
 from .lock import StoreBusy, StoreLock, is_busy
@@ -32,31 +32,14 @@ def stored_program(path):
     return json.loads(payload.decode())["program"]
 
 
-class OpenStore(Editing):
-    """A store that one run of `apply` keeps open, for a program that sends edits as they come. `Store.open` makes it.
+class KeptRun:
+    """A store that one run of `apply` keeps open. `_opened` reads what is known of it, `_taken` takes an answer over, and `_ended` the state."""
 
-    `left`, `right` and `group` send an edit and return the answer, an Accepted, when the change is on the disk; a refused one is raised as
-    Refused, and nothing has changed then. `documents` has both documents after each answer. They are followed here by the rules of
-    docs/EDITS.md; `compare` and `close` compare them with the program's own. `stored` is how many changes the store has.
-
-    The run holds the lock on the folder, so no other program writes to the store until `close`. Threads may share the object.
-
-    Where an answer does not come, RunEnded is raised (NoAnswer after `timeout` seconds, NotAnAnswer where it is something else), and the
-    run is over. Its `stored` is how many changes are stored for certain. `reopen` opens the store again; then `stored` shows whether the
-    change that was sent is stored as well.
-    """
-
-    def __init__(self, store, wait=0.0, timeout=None, forms=None):
+    def __init__(self, store, wait=0.0, timeout=None):
         self.store, self.path, self.wait, self.timeout = store, store.path, wait, timeout
         self.lock = threading.RLock()
-        self.types, self.documents, self.complement = {}, {}, None
-        self.program, self.stored, self._number, self._run = "", 0, 0, None
+        self.stored, self._number, self._run = 0, 0, None
         self.reopen()
-        try:
-            self.files = Files(self, forms)
-        except ValueError:
-            self._leave()
-            raise
 
     def __enter__(self):
         return self
@@ -78,10 +61,7 @@ class OpenStore(Editing):
             self._leave()
             self._run = self._until_free(self._started)
             try:
-                self.program = stored_program(self.store.file)
-                left, right = check(self.program, self.path)
-                self.types = {"left": left, "right": right}
-                self._read_state()
+                self._opened()
             except BaseException:
                 self._leave()
                 raise
@@ -112,15 +92,16 @@ class OpenStore(Editing):
             run.stop()
             raise
 
-    def _read_state(self):
+    def _shown(self):
+        """What `show` says, with the count of `verify`, which runs beside it."""
         verify = subprocess.Popen([self.store.path, "verify"], cwd=self.store.folder, stdout=subprocess.PIPE)
         try:
-            left, right, self.complement = self.store.show()
+            state = self.store.show()
         finally:
             said, _ = verify.communicate()
         self.store.judge(verify.returncode, said.decode().splitlines())
-        self.documents = {"left": left, "right": right}
         self.stored = int(said.decode().removeprefix("consistent "))
+        return state
 
     def line(self, text):
         """Sends a line of a journal that is not blank, and returns its answer: an Accepted, or a Refused that is not raised."""
@@ -139,7 +120,7 @@ class OpenStore(Editing):
                 raise ValueError("the store is not open: reopen() opens it again")
             try:
                 said = self._run.ask(data)
-                answer = read_answer(said)
+                answer = self.store.read(said)
             except RunEnded as why:
                 why.stored = self.stored
                 self._abandon()
@@ -147,19 +128,6 @@ class OpenStore(Editing):
             self._number += 1
             answer = self._taken(data, dataclasses.replace(answer, number=self._number))
             return said.rstrip("\n"), answer
-
-    def _taken(self, data, answer):
-        if not isinstance(answer, Accepted):
-            return self.explained(data.decode(errors="replace"), answer)
-        self.stored += 1
-        self.follow(read_json(data.decode()), answer)
-        return answer
-
-    def compare(self):
-        """Compares the documents with those of the program, by `show`. Raises DocumentsDiffer."""
-        with self.lock:
-            left, right, self.complement = self.store.show()
-            self._need_same(left, right)
 
     def undo(self, count=1):
         """Takes the last changes back, as `Store.undo` does: the run is closed for it, and another one is opened."""
@@ -170,7 +138,7 @@ class OpenStore(Editing):
         return self._between(self.store.pack)
 
     def close(self):
-        """Ends the run. Returns the left document, the right document and the complement, as the program writes them."""
+        """Ends the run. Returns the state as the program writes it."""
         with self.lock:
             if not self._run:
                 raise ValueError("the store is not open")
@@ -181,9 +149,7 @@ class OpenStore(Editing):
             except RunEnded as why:
                 why.stored = self.stored
                 raise
-            left, right, self.complement = self.store.state(said)
-            self._need_same(left, right)
-            return left, right, self.complement
+            return self._ended(self.store.state(said))
 
     def _between(self, call):
         with self.lock:
@@ -203,10 +169,6 @@ class OpenStore(Editing):
                 with StoreLock(self.store.folder, deadline - time.monotonic()):
                     pass
 
-    def _need_same(self, left, right):
-        if {"left": left, "right": right} != self.documents:
-            raise DocumentsDiffer
-
     def _abandon(self):
         self._run.stop()
         self._run = None
@@ -217,3 +179,52 @@ class OpenStore(Editing):
             with contextlib.suppress(RunEnded):
                 self._run.end()
             self._run = None
+
+
+class OpenStore(KeptRun, Editing):
+    """A store that one run of `apply` keeps open, for a program that sends edits as they come. `Store.open` makes it.
+
+    `left`, `right` and `group` send an edit and return the answer, an Accepted, when the change is on the disk; a refused one is raised as
+    Refused, and nothing has changed then. `documents` has both documents after each answer. They are followed here by the rules of
+    docs/EDITS.md; `compare` and `close` compare them with the program's own. `stored` is how many changes the store has.
+
+    The run holds the lock on the folder, so no other program writes to the store until `close`. Threads may share the object.
+
+    Where an answer does not come, RunEnded is raised (NoAnswer after `timeout` seconds, NotAnAnswer where it is something else), and the
+    run is over. Its `stored` is how many changes are stored for certain. `reopen` opens the store again; then `stored` shows whether the
+    change that was sent is stored as well.
+    """
+
+    def __init__(self, store, wait=0.0, timeout=None, forms=None):
+        self.types, self.documents, self.complement, self.program = {}, {}, None, ""
+        super().__init__(store, wait, timeout)
+        try:
+            self.files = Files(self, forms)
+        except ValueError:
+            self._leave()
+            raise
+
+    def compare(self):
+        """Compares the documents with those of the program, by `show`. Raises DocumentsDiffer."""
+        with self.lock:
+            self._ended(self.store.show())
+
+    def _opened(self):
+        self.program = stored_program(self.store.file)
+        left, right = check(self.program, self.path)
+        self.types = {"left": left, "right": right}
+        left, right, self.complement = self._shown()
+        self.documents = {"left": left, "right": right}
+
+    def _taken(self, data, answer):
+        if not isinstance(answer, Accepted):
+            return self.explained(data.decode(errors="replace"), answer)
+        self.stored += 1
+        self.follow(read_json(data.decode()), answer)
+        return answer
+
+    def _ended(self, state):
+        left, right, self.complement = state
+        if {"left": left, "right": right} != self.documents:
+            raise DocumentsDiffer
+        return state

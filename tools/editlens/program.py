@@ -1,20 +1,29 @@
-"""The program that the tools run: the proved one if it is built, or else the unproved one that ./editlens keeps."""
+"""The programs that the tools run: the proved ones if they are built, or else the unproved ones that are kept in .unproved/."""
 
 import os
 import shutil
 
 TOP = os.path.dirname(os.path.dirname(os.path.dirname(os.path.abspath(__file__))))
-INSTALLED = os.path.join(TOP, "editlens-program")
-PROVED = INSTALLED if os.path.exists(INSTALLED) else os.path.join(TOP, "crates", "editlens", "out", "editlens")
-KEPT = os.path.join(TOP, ".unproved", "editlens")
 NOT_SOURCES = ("out", "must-fail")
 
 
 class NoProgram(Exception):
     """There is no program to run."""
 
-    def __init__(self):
-        super().__init__("there is no program: run ./build, or ./editlens run once, which builds an unproved one, or name one by EDITLENS")
+    def __init__(self, name="editlens"):
+        made = "run ./build, or ./editlens run once, which builds an unproved one" if name == "editlens" else f"run ./build --{name}"
+        super().__init__(f"there is no program: {made}, or name one by {name.upper()}")
+
+
+def proved(name="editlens"):
+    """Where a program is that is installed or proved."""
+    installed = os.path.join(TOP, f"{name}-program")
+    return installed if os.path.exists(installed) else os.path.join(TOP, "crates", name, "out", name)
+
+
+def kept(name="editlens"):
+    """Where a program is that was built without proofs."""
+    return os.path.join(TOP, ".unproved", name)
 
 
 def newest_source():
@@ -27,16 +36,17 @@ def newest_source():
     return newest
 
 
-def find_program():
-    """The path of the program: what EDITLENS names, the proved one, the unproved one if no source is newer, or one on the PATH."""
-    named = os.environ.get("EDITLENS")
+def find_program(name="editlens"):
+    """The path of a program: what EDITLENS names (EDITHUB for `edithub`), the proved one, the unproved one if no source is newer, or one on
+    the PATH."""
+    named = os.environ.get(name.upper())
     if named:
         return named
-    if os.access(PROVED, os.X_OK):
-        return PROVED
-    if os.access(KEPT, os.X_OK) and os.path.getmtime(KEPT) > newest_source():
-        return KEPT
-    found = shutil.which("editlens")
+    if os.access(proved(name), os.X_OK):
+        return proved(name)
+    if os.access(kept(name), os.X_OK) and os.path.getmtime(kept(name)) > newest_source():
+        return kept(name)
+    found = shutil.which(name)
     if found:
         return found
-    raise NoProgram()
+    raise NoProgram(name)

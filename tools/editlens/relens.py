@@ -17,7 +17,7 @@ def import_document(folder, program_text, document, path=None, wait=0.0):
     left, _ = check(program_text, path)
     _must_fit("left", left, document)
     os.makedirs(folder, exist_ok=True)
-    with Replacement(folder, path, wait) as made:
+    with Replacement(folder, path, wait, Store) as made:
         if os.path.exists(made.old.file) and os.path.getsize(made.old.file):
             raise NotDone(f"{made.old.file} is there already: tools/store check says what it is")
         _begin(made.work, program_text, left, document, made.old.path)
@@ -92,7 +92,7 @@ def change_lens(folder, program_text, documents=(None, None), is_accepted=False,
     `documents` are a left and a right document in place of those of the store. New fields begin with their initial values. If anything of
     the documents goes and it is not accepted, NotDone is raised with the list. DoesNotFit has the places that fit in no way.
     """
-    with Replacement(folder, path, wait) as made:
+    with Replacement(folder, path, wait, Store) as made:
         types = check(program_text, made.old.path)
         held = made.old.show()[:2]
         fitted = [Fitting(ty, old if given is None else given) for ty, old, given in zip(types, held, documents)]

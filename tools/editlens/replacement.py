@@ -4,9 +4,10 @@ import os
 import shutil
 import time
 
+from .kinds import split
 from .lock import StoreLock
 from .log import sync_folder
-from .store import Store, StoreRefused
+from .store import StoreRefused
 
 WORK = ".editlens.new"
 """The folder beside a store in which its new file is made. The lock is held meanwhile, so one is enough."""
@@ -32,17 +33,18 @@ def free_name(begin, end=""):
 
 
 class Replacement:
-    """The new file of a store, for `with`. The lock of the folder is held until the end.
+    """The new file of a store, for `with`. The lock of the folder is held until the end. The kind of the store is the one that is there.
 
     `new` is a store in a folder of its own, on the same file system: its file is written there. `put` verifies and syncs it, and renames
     it over the old one. Until then the store is as it was. A call that is killed leaves no more than the folder `.editlens.new`, which
     the next call takes away.
     """
 
-    def __init__(self, folder, path=None, wait=0.0):
+    def __init__(self, place, path=None, wait=0.0, kind=None):
+        folder, kind = (place, kind) if kind else split(place)
         self.folder, self.work = folder, os.path.join(folder, WORK)
-        self.old = Store(folder, path)
-        self.new = Store(self.work, self.old.path)
+        self.old = kind(folder, path)
+        self.new = type(self.old)(self.work, self.old.path)
         self._lock = StoreLock(folder, wait)
 
     def __enter__(self):

@@ -65,9 +65,12 @@ class Store:
     One program at a time writes to a store: StoreBusy is raised where another one does, and nothing was read or written.
     """
 
+    name, command = NAME, "editlens"
+    read = staticmethod(read_answer)
+
     def __init__(self, folder, path=None):
         self.folder = folder
-        self.path = path or find_program()
+        self.path = path or find_program(self.command)
 
     @classmethod
     def init(cls, folder, program_text, path=None):
@@ -131,7 +134,7 @@ class Store:
         """
         text = "".join(line + "\n" for line in lines)
         status, said = self._called(["apply"], text)
-        answers = [read_answer(it) for it in said if it.startswith(("ok ", "refused "))]
+        answers = [self.read(it) for it in said if it.startswith(("ok ", "refused "))]
         try:
             self.judge(status, said)
         except RunEnded as ended:
@@ -156,15 +159,19 @@ class Store:
 
         Changes before the last snapshot stay, and `pack` and `undo` store one. If there are too few, StoreRefused is raised.
         """
+        said = dict(line.split(" ", 2)[1:] for line in self._undone(count))
+        return read_json(said["left"]), read_json(said["right"])
+
+    def _undone(self, count):
+        """The lines of `undo` that have the words."""
         if not 1 <= count <= MOST_UNDONE:
             raise ValueError(f"from 1 to {MOST_UNDONE} changes are taken back at once")
-        said = dict(line.split(" ", 2)[1:] for line in self._run(["undo", str(count)]) if line.startswith("undo "))
-        return read_json(said["left"]), read_json(said["right"])
+        return [line for line in self._run(["undo", str(count)]) if line.startswith("undo ")]
 
     @property
     def file(self):
         """The path of the store."""
-        return os.path.join(self.folder, NAME)
+        return os.path.join(self.folder, self.name)
 
     def state(self, said):
         """The left document, the right document and the complement of the lines of a state, which may stand behind others."""

@@ -7,16 +7,19 @@ import tempfile
 
 from .checkup import readable
 from .copies import snapshot_of, state_of
-from .json_text import read_json, write_json
+from .hub_store import HubStore, stored_programs
+from .json_text import write_json
+from .kinds import folder_of, kind_of_first, split, state_in, state_lines
 from .lock import StoreLock
-from .log import FIRST, Log, is_change, number_of, sync_folder, told, write_log
+from .log import FIRST, Log, is_change, kind_of, number_of, sync_folder, told, write_log
 from .replacement import OLD, NotDone, Replacement, dated, free_name
-from .store import NAME, Store, StoreRefused
+from .store import StoreRefused
 
 
-def opened(folder):
+def opened(place):
     """The log of the file of a store, whatever is in it. Raises NotDone if there is no file."""
-    path = os.path.join(folder, NAME)
+    folder, kind = split(place)
+    path = os.path.join(folder, kind.name)
     try:
         return Log(path)
     except FileNotFoundError:
@@ -31,11 +34,6 @@ def must_be_whole(log):
         raise StoreRefused(f"bad-record {len(log.spans) + 1}")
 
 
-def state_lines(state):
-    """The lines of a left document, a right document and a complement, as the program writes them."""
-    return [f"{name} {write_json(it)}" for name, it in zip(("left", "right", "complement"), state)]
-
-
 def history(folder, is_full=False):
     """A line for each record of a store: its number and what it says, cut after 100 characters unless `is_full`."""
     with opened(folder) as log:
@@ -45,7 +43,7 @@ def history(folder, is_full=False):
 
 
 def state_at(folder, number, path=None):
-    """The left document, the right document and the complement after a record."""
+    """What `show` says of the state after a record."""
     with opened(folder) as log:
         if not 1 <= number <= len(log.spans):
             raise NotDone(f"the store has the records 1 to {len(log.spans)}, and no record {number}")
@@ -56,7 +54,7 @@ def compact(folder, path=None, wait=0.0):
     """Makes a store of its program and one snapshot, with the same state. Returns what was done, in lines."""
     with Replacement(folder, path, wait) as made, opened(folder) as log:
         state, before = made.old.show(), log.size
-        count, first = sum(map(is_change, log.payloads())), next(log.payloads())
+        count, first = sum(map(is_change, log.payloads())), _first_record(made.old, log)
         write_log(made.new.file, [first, snapshot_of(log.payloads(), made.old.path, made.work)])
         after = os.path.getsize(made.new.file)
         if after >= before:
@@ -69,11 +67,19 @@ def compact(folder, path=None, wait=0.0):
         ]
 
 
-def drop_old(folder, path=None, wait=0.0):
+def _first_record(store, log):
+    """The first record of a store that has all programs of a store: those of views that were added stand behind the others."""
+    if not isinstance(store, HubStore):
+        return next(log.payloads())
+    return write_json({"hub": stored_programs(store.file), "version": 1}).encode()
+
+
+def drop_old(place, path=None, wait=0.0):
     """Removes the old files that were kept beside a store. The store itself has to be good. Returns their names."""
+    folder, kind = split(place)
     with StoreLock(folder, wait):
-        Store(folder, path).verify()
-        names = sorted(glob.glob(os.path.join(glob.escape(folder), f"{NAME}.*{OLD}")))
+        kind(folder, path).verify()
+        names = sorted(glob.glob(os.path.join(glob.escape(folder), f"{kind.name}.*{OLD}")))
         for name in names:
             os.remove(name)
         sync_folder(folder)
@@ -84,7 +90,8 @@ def back(folder, number, path=None, wait=0.0):
     """Takes a store to its state after a record, as a new last snapshot. Returns what was done, in lines.
 
     All records of a store that is not refused stay. Of one that is refused, or cut short by a changed byte, the readable ones are kept
-    up to the first that is not; the old file is kept then.
+    up to the first that is not; the old file is kept then. So it is where a view of a hub was added later: no snapshot takes a view away, so
+    the records behind that one go.
     """
     with Replacement(folder, path, wait) as made, opened(folder) as log:
         held = readable(log, made.old, number)
@@ -93,54 +100,53 @@ def back(folder, number, path=None, wait=0.0):
             raise NotDone(f"{known}, and there is no state after record {number}")
         if held.is_all and number == len(held.payloads):
             return [f"the store is as it was after record {number} already", *state_lines(made.old.show())]
-        payloads, state = list(held.payloads), None
-        if number < len(payloads):
+        payloads, state, is_whole = list(held.payloads), None, held.is_all
+        if any(kind_of(it) == "add" for it in payloads[number:]):
+            payloads, is_whole = payloads[:number], False
+        elif number < len(payloads):
             payloads.append(snapshot_of(payloads[:number], made.old.path, made.work))
-            state = _state_in(payloads[-1])
+            state = state_in(payloads[-1])
         write_log(made.new.file, payloads)
-        kept = made.put(count=sum(map(is_change, payloads)), state=state, keeps_old=not held.is_all)
+        kept = made.put(count=sum(map(is_change, payloads)), state=state, keeps_old=not is_whole)
         said = [f"the store is as it was after record {number}, and has {len(payloads)} records"]
         if kept:
             said.append(f"the old store is {os.path.basename(kept)}, until compact --drop-old")
         return said + state_lines(state or made.old.show())
 
 
-def _state_in(snapshot):
-    tree = read_json(snapshot.decode())["snapshot"]
-    return tree["left"], tree["right"], tree["complement"]
-
-
-def backup(folder, to, path=None):
+def backup(place, to, path=None):
     """Copies a store, also while a program writes to it. `to` is a new file, or a folder, in which the copy is named by its date.
 
     The copy has the records that the store had at one moment. Returns its path and its count of changes.
     """
+    folder, kind = split(place)
     if os.path.isdir(to):
-        to = free_name(os.path.join(to, f"{NAME}.{dated()}"))
+        to = free_name(os.path.join(to, f"{kind.name}.{dated()}"))
     if os.path.lexists(to):
         raise NotDone(f"{to} is there already: name a new file")
     beside = os.path.dirname(os.path.abspath(to))
     with tempfile.TemporaryDirectory(dir=beside, prefix=".editlens.") as work:
-        copy = Store(work, path)
-        with opened(folder) as log:
+        copy = kind(work, path)
+        with opened(place) as log:
             must_be_whole(log)
             write_log(copy.file, log.payloads())
-        shutil.copymode(os.path.join(folder, NAME), copy.file)
+        shutil.copymode(os.path.join(folder, kind.name), copy.file)
         count = copy.verify()
         os.rename(copy.file, to)
     sync_folder(beside)
     return to, count
 
 
-def restore(folder, source, path=None, wait=0.0):
+def restore(place, source, path=None, wait=0.0):
     """Puts a copy in place of a store, or in a folder without one. Returns what was done, in lines."""
     with Log(source) as log:
         try:
             must_be_whole(log)
         except StoreRefused as why:
             raise NotDone(f"{source} is not the complete file of a store: {why.reason}") from None
+        folder, kind = folder_of(place), kind_of_first(next(log.payloads(), b""))
         os.makedirs(folder, exist_ok=True)
-        with Replacement(folder, path, wait) as made:
+        with Replacement(folder, path, wait, kind) as made:
             if os.path.exists(made.old.file) and os.path.samefile(source, made.old.file):
                 raise NotDone(f"{source} is the store itself")
             write_log(made.new.file, log.payloads())

@@ -16,7 +16,7 @@ from . import Skipped
 sys.path.insert(0, os.path.join(TOP, "dev"))
 
 from repository.manual import EXAMPLE as MANUAL_EXAMPLE  # noqa: E402
-from repository.package import install, package, tools  # noqa: E402
+from repository.package import install, install_hub, package, tools  # noqa: E402
 
 EXAMPLE = os.path.join(TOP, "examples", "tasks")
 PLAIN = {"PATH": "/usr/bin:/bin"}
@@ -71,6 +71,17 @@ def test_a_program_is_installed_over_another():
             copy = os.path.join(room, "prefix", "lib", "editlens", "editlens-program")
             assert subprocess.run([copy], stdout=subprocess.PIPE, text=True, check=True).stdout == said + "\n"
             assert sorted(os.listdir(os.path.dirname(copy))) == ["VERSION", "editlens-program", "tools"]
+
+
+def test_edithub_is_installed_beside_the_tools():
+    with tempfile.TemporaryDirectory() as room:
+        source = os.path.join(room, "program")
+        with open(source, "w", encoding="utf-8") as file:
+            file.write("#!/bin/sh\necho this hub\n")
+        name = install_hub(source, os.path.join(room, "prefix"))
+        assert name == os.path.join(room, "prefix", "bin", "edithub"), name
+        os.remove(source)
+        assert subprocess.run([name], stdout=subprocess.PIPE, text=True, check=True).stdout == "this hub\n"
 
 
 def test_an_installed_script_runs_the_installed_program():

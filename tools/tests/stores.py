@@ -86,7 +86,7 @@ def test_the_proved_program_comes_first():
     with tempfile.TemporaryDirectory() as folder, mock.patch.dict(os.environ, {"PATH": folder}):
         kept, proved = os.path.join(folder, "kept"), os.path.join(folder, "proved")
         del os.environ["EDITLENS"]
-        with mock.patch.multiple(program, KEPT=kept, PROVED=proved):
+        with mock.patch.multiple(program, kept=lambda _: kept, proved=lambda _: proved):
             raised(program.NoProgram, program.find_program)
             shutil.copy("/bin/true", kept)
             assert program.find_program() == kept

@@ -1,0 +1,4 @@
+pub mod HubClauses
+pub mod HubRefusals
+pub mod HubWords
+pub mod HubsInStep

@@ -1,0 +1,43 @@
+-- What `add` promises. What it takes, writes and stores at each status is defined in hub_add. Read it from the end:
+-- `HubAdds`, then `AddsOn`.
+use Rattle.std.specs.Prelude.{◌≡◌}
+use Rattle.lens_io.specs.Calls.{IsUnasked, SourceFailed, SinkFailed, DiskFailed}
+use Rattle.lens_io.specs.declared.disk.Disk as OfDisk
+use Rattle.lens_io.specs.declared.sink.Sink as OfSink
+use Rattle.lens_io.specs.declared.source.Source as OfSource
+use Rattle.store_run.specs.Rooms.{TakesTooMany, most_bytes}
+use Rattle.hub_add.specs.AddCall.{AddEnds, AddsView, EndsWhole, IsAddCause, IsSafeAdd, ViewHasNoRoom}
+use Rattle.edithub_main.specs.HubStores.{HubStore, RefusedHub, IsStateInStep, RefusesHub}
+use Rattle.command_ends.specs.declared.status.Status.{Status}
+use Rattle.command_ends.specs.declared.status.Status.TheVariants.{Done}
+
+module _ {S K D : Type 0} (source : OfSource.Ghosts S) (sink : OfSink.Ghosts K) (disk : OfDisk.Ghosts D)
+    (old new : S × K × D) (status : Status) where
+  -- over the store of a hub
+  pub record AddsOn (store : HubStore disk old.2) : Type 0 where
+    -- at its end the store represents the hub with one view more, which is in step, and its state lines were written
+    pub continues : status ≡ Done → AddsView source sink disk (old.0, old.1) new store.payloads store.state
+    -- each view is in its lens's consistency relation with the hub
+    pub in_step : IsStateInStep store.state
+    -- what was taken, written and stored at every status
+    pub stops : AddEnds source sink disk old new store.payloads store.state status
+    -- an image of a crash, at each moment of the call and at its end, was possible before the call, or represents the
+    -- hub from before it or the one with one view more
+    pub survives : IsSafeAdd disk old.2 new.2 store.payloads store.state
+    -- after StoreRefused the log had no room for the payload, and after DiskFault the disk had none if its room is
+    -- known
+    pub caused : IsAddCause source disk (old.0, old.2) (new.0, new.2) store.payloads store.state status
+    -- it comes to its end, or refuses the program part, or memory runs out, if no device fails, not too many bytes are
+    -- taken and the log has room
+    pub completes : (SourceFailed source old.0 new.0 → ⊥) → (SinkFailed sink old.1 new.1 → ⊥)
+        → (DiskFailed disk old.2 new.2 → ⊥)
+        → (TakesTooMany source old.0 new.0 → ⊥)
+        → (ViewHasNoRoom source old.0 new.0 store.payloads store.state most_bytes → ⊥)
+        → EndsWhole status
+
+  pub record HubAdds : Type 0 where
+    pub of_store : (store : HubStore disk old.2) → AddsOn store
+    -- over bytes that are no store of a hub the line `store refused: REASON` was written, unless a device failed or
+    -- memory ran out; nothing is written to the disk, and the source is not called
+    pub refuses : (other : RefusedHub disk old.2)
+        → RefusesHub sink disk (old.1, old.2) (new.1, new.2) status other.reason × IsUnasked source old.0 new.0

@@ -1,0 +1,4 @@
+pub mod AddStatuses
+pub mod AddingEnds
+pub mod AddsRead
+pub mod ViewsMore

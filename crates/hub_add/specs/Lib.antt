@@ -1,0 +1,3 @@
+pub mod AddCall
+pub mod AddReading
+pub mod AddedView

@@ -1,0 +1,3 @@
+pub mod HubInitEnds
+pub mod HubsRead
+pub mod ViewPrograms

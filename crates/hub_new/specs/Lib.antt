@@ -1,0 +1,3 @@
+pub mod HubInit
+pub mod HubParts
+pub mod HubReading

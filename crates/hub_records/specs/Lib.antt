@@ -1,0 +1,10 @@
+pub mod HubChanges
+pub mod HubLenses
+pub mod HubRecords
+pub mod HubStands
+pub mod LowForms
+pub mod OneLeftType
+pub mod OneView
+pub mod Outcomes
+pub mod Views
+pub mod WholeInts

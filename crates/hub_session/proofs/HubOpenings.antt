@@ -1,0 +1,16 @@
+-- Why the store of a hub is refused, in the words of the stores.
+use Rattle.std.proofs.Common.{◌≡◌, ℕ, List, sym, ap, subst}
+use Rattle.store_records.specs.declared.record_fault.RecordFault.{RecordFault}
+use Rattle.store_records.specs.declared.record_fault.RecordFault.TheVariants as of_records
+use Rattle.store_session.specs.StoredStates.{fault_of}
+use Rattle.store_run.specs.Reopening.{IsReopenFault}
+use Rattle.store_run.specs.declared.session.ReopenFault.{ReopenFault}
+use Rattle.hub_records.specs.HubStands as hubs
+use Rattle.hub_records.specs.Outcomes.{IsStandFault}
+use Rattle.hub_session.specs.HubStates.{opened_as, stands_for}
+
+-- the fault of the records is that of the store
+pub fault_opens : (ps : List (List ℕ)) (fault : RecordFault) (x : ReopenFault) → IsStandFault (hubs.stands_for ps) fault → x ≡ fault_of fault → IsReopenFault (stands_for ps) x
+fault_opens ps (of_records.BadRecord number) x h e = subst (IsReopenFault (stands_for ps)) (sym e) (ap opened_as h)
+fault_opens ps (of_records.NotConsistent number) x h e = subst (IsReopenFault (stands_for ps)) (sym e) (ap opened_as h)
+fault_opens ps of_records.NoMemory x h e = subst (IsReopenFault (stands_for ps)) (sym e) tt

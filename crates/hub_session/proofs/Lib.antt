@@ -1,0 +1,5 @@
+pub mod AnswerLines
+pub mod AnswersMade
+pub mod CarriedLists
+pub mod HubOpenings
+pub mod RunsStay

@@ -1,0 +1,76 @@
+-- A hub as a store has it: what payloads stand for, the steps, the snapshots, and all of them as `stored_hub`.
+use Rattle.std.specs.Prelude.{◌≡◌, ℕ, List, true, Option, Some, None, Result, Ok, Err, IfSome}
+use Rattle.edit_journal.specs.EntryJson.{tree_of_text}
+use Rattle.edit_journal.specs.declared.line.Line.{Line}
+use Rattle.view_hub.specs.Laws.{IsHub}
+use Rattle.hub_run.specs.FormLenses.{form_lens}
+use Rattle.hub_run.specs.FoundLenses.{AllTyped}
+use Rattle.hub_run.specs.Runs.{HubState, state_text}
+use Rattle.store_records.specs.declared.record_fault.RecordFault.{RecordFault}
+use Rattle.store_session.specs.StoredStates.{fault_of}
+use Rattle.store_run.specs.declared.session.StoredAnswer.{StoredAnswer}
+use Rattle.store_run.specs.declared.session.ReopenFault.{ReopenFault}
+use Rattle.store_run.specs.declared.session.StoredSession as OfSession
+use Rattle.hub_records.specs.HubChanges.{edits_of, all_numbers_fit, tree_of_hub_change, change_of_line}
+use Rattle.hub_records.specs.HubRecords.{tree_of_hub_snapshot}
+use Rattle.hub_records.specs.HubStands as hubs
+use Rattle.hub_records.specs.HubStands.{HubStanding}
+use Rattle.hub_records.specs.WholeInts.{hub_holds_i64s}
+use Rattle.hub_session.specs.HubAnswers.{HubItem, answer}
+
+-- ---- what payloads stand for
+
+-- the state of what stands
+abbrev pub state_of : HubStanding → HubState
+state_of s = record { forms = s.forms; hub = s.hub }
+
+-- the store of a hub has no version record
+abbrev pub opened_as : Result HubStanding RecordFault → Result (HubState × Option (List ℕ)) ReopenFault
+opened_as (Ok s) = Ok (state_of s, None)
+opened_as (Err fault) = Err (fault_of fault)
+
+abbrev pub stands_for : List (List ℕ) → Result (HubState × Option (List ℕ)) ReopenFault
+stands_for payloads = opened_as (hubs.stands_for payloads)
+
+abbrev pub counted : Result HubStanding RecordFault → ℕ
+counted (Ok s) = s.count
+counted (Err fault) = 0
+
+-- how many payloads are of changes
+abbrev pub count_of : List (List ℕ) → ℕ
+count_of payloads = counted (hubs.stands_for payloads)
+
+-- ---- steps and snapshots
+
+-- the payload is read back as the record of the change that the item is, and the program can hold its numbers
+abbrev pub ReadsAsChange : HubItem → List ℕ → Type 0
+ReadsAsChange (Ok change) payload = (tree_of_text payload ≡ Some (tree_of_hub_change change))
+    × (all_numbers_fit (edits_of change) ≡ true)
+ReadsAsChange (Err fault) payload = ⊥
+
+-- what is known of the step by this line: if it has a payload, that is read back as the record of its change
+abbrev pub IsStep : HubState → ℕ → Line → HubState × StoredAnswer → Type 0
+IsStep s n line made = IfSome made.1.payload (ReadsAsChange (change_of_line line))
+
+-- The payload is a snapshot of the state: it is read back as the record of the state's hub. All views are in step with
+-- the hub, by lenses that are typed, and all ints are i64, as all ints of the program.
+pub record IsSnapshot (s : HubState) (payload : List ℕ) : Type 0 where
+  pub reads : tree_of_text payload ≡ Some (tree_of_hub_snapshot s.forms s.hub)
+  pub typed : AllTyped s.forms
+  pub in_step : IsHub form_lens s.forms s.hub
+  pub whole : hub_holds_i64s s.hub ≡ true
+
+-- ---- all of it
+
+-- the hub of a store as the commands over stores see it; `view` is the state of a value
+abbrev pub stored_hub : {A : Type 0} → (A → HubState) → OfSession.Ghosts A
+stored_hub view = record {
+  State = HubState;
+  state = view;
+  answer = answer;
+  is_step = IsStep;
+  state_text = state_text;
+  is_snapshot = IsSnapshot;
+  count_of = count_of;
+  stands_for = stands_for;
+}

@@ -1,0 +1,4 @@
+pub mod AnswerSteps
+pub mod HubAnswers
+pub mod HubStates
+pub mod PayloadLaws

@@ -1,0 +1,11 @@
+pub mod Decided
+pub mod Earlier
+pub mod JoinedViews
+pub mod Joins
+pub mod Makings
+pub mod OneEdit
+pub mod Steps
+pub mod UndoCalls
+pub mod UndoLines
+pub mod UndoRefusals
+pub mod UndoneForms

@@ -1,0 +1,15 @@
+use Rattle.std.proofs.Common.{◌≡◌, take, true}
+use Rattle.view_hub.specs.Views.{hub_tree}
+use Rattle.hub_undo.specs.HubUndoing.{edits_of_all}
+use Rattle.hub_undo.specs.UndoMaking.{change_trees}
+use Rattle.hub_undo.specs.UndoSteps.{Stepping}
+use Rattle.hub_undo.specs.UndoViews.{carried_trees}
+use Rattle.hub_undo.proofs.stepping.undo_each.Given as goal
+
+-- the first changes are stepped over
+abbrev pub invariant-loop-at : goal.invariant-loop-at
+invariant-loop-at g l = record {
+  same : l.hub.lenses ≡ l.fn.hub.lenses;
+  steps : Stepping g.L.EditLens l.fn.hub.lenses true (hub_tree l.fn.hub.parts) (edits_of_all (change_trees (take l.at l.changes))) (carried_trees l.fn.parts.items) (carried_trees l.parts.items)
+      (hub_tree l.hub.parts);
+}
