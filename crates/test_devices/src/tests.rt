@@ -7,8 +7,9 @@ use lens_io::{
     RealSource, Sink, SureDisk, SureSink, SureSource, TakeFault, give_all, take_all,
 };
 use std::alloc::{AllocError, Global};
-use std::fs;
+use std::fs::{self, File};
 use std::io::{self, ErrorKind, Read, Write};
+use std::os::unix::fs::symlink;
 use std::test::Fail;
 
 // A source of five bytes whose first two pieces have 1 and 2 bytes, and whose call with this number fails.
@@ -218,5 +219,102 @@ fn one_disk_writes(rt: HostRuntime) -> Result<(), Fail> {
     drop(second);
     fs::remove_file(&rt, FILE)?;
     fs::remove_dir(&rt, FOLDER)?;
+    Ok(())
+}
+
+// A disk that writes opens a file only by its one name, and makes none behind a link. Nothing is written by another.
+#[test]
+fn a_disk_writes_to_a_file_with_one_name(rt: HostRuntime) -> Result<(), Fail> {
+    const FOLDER: &str = "devices_tests_names";
+    const FILE: &str = "devices_tests_names/file";
+    const OTHER: &str = "devices_tests_names/other";
+    let _ = fs::remove_file(&rt, FILE);
+    let _ = fs::remove_file(&rt, OTHER);
+    let _ = fs::create_dir(&rt, FOLDER);
+    symlink(&rt, "file", OTHER)?;
+    let mut dangling = RealDisk::new(&rt, OTHER, Access::Writing);
+    assert_eq!(rt; dangling.len(), Err(Failed));
+    assert_eq!(rt; dangling.write_at(0, b"a"), Err(Failed));
+    drop(dangling);
+    assert!(rt; !fs::exists(&rt, FILE)?);
+    fs::write(&rt, FILE, "ab")?;
+    let mut linked = RealDisk::new(&rt, OTHER, Access::Writing);
+    assert_eq!(rt; linked.len(), Err(Failed));
+    assert_eq!(rt; linked.write_at(0, b"c"), Err(Failed));
+    drop(linked);
+    assert_eq!(rt; RealDisk::new(&rt, OTHER, Access::Reading).len(), Ok(2));
+    fs::remove_file(&rt, OTHER)?;
+    fs::hard_link(&rt, FILE, OTHER)?;
+    let mut doubled = RealDisk::new(&rt, FILE, Access::Writing);
+    assert_eq!(rt; doubled.len(), Err(Failed));
+    assert_eq!(rt; doubled.write_at(0, b"c"), Err(Failed));
+    drop(doubled);
+    assert_eq!(rt; RealDisk::new(&rt, FILE, Access::Reading).len(), Ok(2));
+    assert_eq!(rt; fs::read(&rt, FILE)?.as_slice(), b"ab".as_slice());
+    fs::remove_file(&rt, OTHER)?;
+    assert_eq!(rt; RealDisk::new(&rt, FILE, Access::Writing).len(), Ok(2));
+    fs::remove_file(&rt, FILE)?;
+    fs::remove_dir(&rt, FOLDER)?;
+    Ok(())
+}
+
+// Once its path leads to another file or to none, a disk that has the old file open writes nothing.
+#[test]
+fn a_replaced_file_is_not_written(rt: HostRuntime) -> Result<(), Fail> {
+    const FOLDER: &str = "devices_tests_replaced";
+    const FILE: &str = "devices_tests_replaced/file";
+    const NEW: &str = "devices_tests_replaced/new";
+    let _ = fs::remove_file(&rt, FILE);
+    let _ = fs::remove_file(&rt, NEW);
+    let _ = fs::create_dir(&rt, FOLDER);
+    let mut disk = RealDisk::new(&rt, FILE, Access::Writing);
+    assert_eq!(rt; disk.write_at(0, b"old"), Ok(()));
+    fs::hard_link(&rt, FILE, NEW)?;
+    assert_eq!(rt; disk.write_at(0, b"two"), Err(Failed));
+    fs::remove_file(&rt, NEW)?;
+    assert_eq!(rt; disk.write_at(0, b"one"), Ok(()));
+    fs::write(&rt, NEW, "new")?;
+    fs::rename(&rt, NEW, FILE)?;
+    assert_eq!(rt; disk.write_at(0, b"lost"), Err(Failed));
+    assert_eq!(rt; fs::read(&rt, FILE)?.as_slice(), b"new".as_slice());
+    fs::remove_file(&rt, FILE)?;
+    assert_eq!(rt; disk.write_at(0, b"lost"), Err(Failed));
+    assert!(rt; !fs::exists(&rt, FILE)?);
+    drop(disk);
+    fs::remove_dir(&rt, FOLDER)?;
+    Ok(())
+}
+
+// The file is locked beside the folder, so that a disk in another folder with the same file in it stays out.
+#[test]
+fn a_disk_locks_the_file(rt: HostRuntime) -> Result<(), Fail> {
+    const FOLDER: &str = "devices_tests_file_lock";
+    const FILE: &str = "devices_tests_file_lock/file";
+    let _ = fs::create_dir(&rt, FOLDER);
+    fs::write(&rt, FILE, "ab")?;
+    let file = File::open(&rt, FILE)?;
+    file.lock()?;
+    let mut disk = RealDisk::new(&rt, FILE, Access::Writing);
+    assert_eq!(rt; disk.len(), Err(Failed));
+    assert_eq!(rt; disk.write_at(0, b"c"), Err(Failed));
+    assert_eq!(rt; RealDisk::new(&rt, FILE, Access::Reading).len(), Ok(2));
+    file.unlock()?;
+    assert_eq!(rt; disk.write_at(0, b"c"), Ok(()));
+    assert!(rt; file.try_lock().is_err());
+    drop(disk);
+    assert!(rt; file.try_lock().is_ok());
+    fs::remove_file(&rt, FILE)?;
+    fs::remove_dir(&rt, FOLDER)?;
+    Ok(())
+}
+
+// Opening a pipe would wait for its other end, so what is not a regular file is not opened at all.
+#[test]
+fn a_device_of_the_system_is_not_a_disk(rt: HostRuntime) -> Result<(), Fail> {
+    for path in ["/dev/null", "/dev/zero", "/"] {
+        let mut disk = RealDisk::new(&rt, path, Access::Reading);
+        assert_eq!(rt; disk.len(), Err(Failed));
+        assert_eq!(rt; disk.sync(), Err(Failed));
+    }
     Ok(())
 }
