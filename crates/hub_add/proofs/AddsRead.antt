@@ -102,7 +102,7 @@ module _ {S : Type 0} (source : OfSource.Ghosts S) (s s' : S) (forms : List Form
     bytes = r.bytes;
     took = r.whole.consumes;
     at_most = omega (arith, r.whole.within);
-    whole = inr r.whole.at_end;
+    whole = inr (r.whole.no_separator, r.whole.at_end);
     is = is (program_part r.bytes) r.holds;
     known = known;
   }

@@ -34,7 +34,7 @@ module _ {S : Type 0} (source : OfSource.Ghosts S) (s s' : S) (kept : Pieces) (r
     bytes = r.bytes;
     took = r.whole.consumes;
     at_most = omega (arith, r.whole.within);
-    whole = inr r.whole.at_end;
+    whole = inr (r.whole.no_separator, r.whole.at_end);
     is = is (program_part r.bytes) r.holds;
     known = known;
   }

@@ -27,7 +27,7 @@ use Rattle.hub_records.specs.LowForms.{AllLow}
 use Rattle.hub_records.specs.WholeInts.{hub_holds_i64s}
 use Rattle.hub_records.proofs.HubSteps.{groups_are}
 use Rattle.hub_records.proofs.LowForms.{accepted_low}
-use Rattle.hub_session.specs.HubStates.{IsSnapshot}
+use Rattle.hub_session.specs.HubStates.{HasSnapshot, snapshot_text}
 use Rattle.hub_session.specs.HubAnswers.{HubItem, change_text, group_ok_line, refused_edit_line, refused_part_line, edit_answered, group_answered, answer_item}
 
 -- the state of these lenses and this hub
@@ -113,7 +113,7 @@ pub both_ok : {X E : Type 0} (r : Result X E) (P Q R : X → Type 0) → ((x : X
 both_ok (Ok x) P Q R f p q = f x p q
 both_ok (Err e) P Q R f p q = tt
 
-pub snapshot_is : {E : Type 0} (r : Result (List ℕ) E) (s : HubState) → AllTyped s.forms → IsHub form_lens s.forms s.hub → IfOk r (λ p. tree_of_text p ≡ Some (tree_of_hub_snapshot s.forms s.hub))
-    → OnOk r (hub_holds_i64s s.hub ≡ true) → IfOk r (λ p. IsSnapshot s p)
-snapshot_is (Ok p) s typed in_step reads ints = record { reads = reads; typed = typed; in_step = in_step; whole = ints }
-snapshot_is (Err e) s typed in_step reads ints = tt
+pub has_snapshot : {E : Type 0} (r : Result (List ℕ) E) (s : HubState) → AllTyped s.forms → IsHub form_lens s.forms s.hub → IfOk r (λ p. p ≡ snapshot_text s) → IfOk r (λ p. tree_of_text p ≡ Some (tree_of_hub_snapshot s.forms s.hub))
+    → OnOk r (hub_holds_i64s s.hub ≡ true) → OnOk r (HasSnapshot s)
+has_snapshot (Ok p) s typed in_step text reads ints = record { reads = ap tree_of_text (sym text) ∙ reads; typed = typed; in_step = in_step; whole = ints }
+has_snapshot (Err e) s typed in_step text reads ints = tt

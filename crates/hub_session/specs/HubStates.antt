@@ -1,5 +1,6 @@
 -- A hub as a store has it: what payloads stand for, the steps, the snapshots, and all of them as `stored_hub`.
 use Rattle.std.specs.Prelude.{◌≡◌, ℕ, List, true, Option, Some, None, Result, Ok, Err, IfSome}
+use Rattle.serde_json.specs.Written.{compact_text}
 use Rattle.edit_journal.specs.EntryJson.{tree_of_text}
 use Rattle.edit_journal.specs.declared.line.Line.{Line}
 use Rattle.view_hub.specs.Laws.{IsHub}
@@ -52,10 +53,14 @@ ReadsAsChange (Err fault) payload = ⊥
 abbrev pub IsStep : HubState → ℕ → Line → HubState × StoredAnswer → Type 0
 IsStep s n line made = IfSome made.1.payload (ReadsAsChange (change_of_line line))
 
--- The payload is a snapshot of the state: it is read back as the record of the state's hub. All views are in step with
--- the hub, by lenses that are typed, and all ints are i64, as all ints of the program.
-pub record IsSnapshot (s : HubState) (payload : List ℕ) : Type 0 where
-  pub reads : tree_of_text payload ≡ Some (tree_of_hub_snapshot s.forms s.hub)
+-- the payload of the snapshot: the record of the state's hub as compact JSON
+abbrev pub snapshot_text : HubState → List ℕ
+snapshot_text s = compact_text (tree_of_hub_snapshot s.forms s.hub)
+
+-- What holds of a state of which a snapshot was made. Its payload is read back as the record of the state's hub. All
+-- views are in step with the hub, by lenses that are typed, and all ints are i64, as all ints of the program.
+pub record HasSnapshot (s : HubState) : Type 0 where
+  pub reads : tree_of_text (snapshot_text s) ≡ Some (tree_of_hub_snapshot s.forms s.hub)
   pub typed : AllTyped s.forms
   pub in_step : IsHub form_lens s.forms s.hub
   pub whole : hub_holds_i64s s.hub ≡ true
@@ -70,7 +75,8 @@ stored_hub view = record {
   answer = answer;
   is_step = IsStep;
   state_text = state_text;
-  is_snapshot = IsSnapshot;
+  snapshot_text = snapshot_text;
+  has_snapshot = HasSnapshot;
   count_of = count_of;
   stands_for = stands_for;
 }

@@ -16,7 +16,7 @@ use Rattle.hub_records.proofs.HubGroups.{line_fits}
 use Rattle.hub_records.proofs.WrittenStands as written
 use Rattle.hub_session.specs.HubAnswers.{HubItem, answer}
 use Rattle.hub_session.specs.HubStates.{state_of, opened_as, stands_for, counted, count_of, ReadsAsChange, IsStep}
-use Rattle.hub_session.specs.HubStates.{IsSnapshot}
+use Rattle.hub_session.specs.HubStates.{HasSnapshot, snapshot_text}
 use Rattle.hub_session.specs.AnswerSteps.{Steps, kinds}
 
 -- what stands, of payloads that stand for a state
@@ -95,22 +95,25 @@ module _ (ps : List (List ℕ)) (t t' : HubState) (n : ℕ) (line : Line) (a : S
 
 -- ---- a snapshot
 
-module _ (ps : List (List ℕ)) (t : HubState) (p : List ℕ) (h : stands_for ps ≡ Ok (t, None)) (is : IsSnapshot t p) where
-  same_behind : (s : HubStanding) → hubs.stands_for ps ≡ Ok s → IsSnapshot (state_of s) p
-      → hubs.stands_for (ps ++ p ∷ []) ≡ Ok s
-  same_behind s stands_as k = written.snapshot_stands ps p s stands_as k.reads k.typed k.in_step k.whole
+module _ (ps : List (List ℕ)) (t : HubState) (h : stands_for ps ≡ Ok (t, None)) (has : HasSnapshot t) where
+  same_behind : (s : HubStanding) → hubs.stands_for ps ≡ Ok s → HasSnapshot (state_of s)
+      → hubs.stands_for (ps ++ snapshot_text (state_of s) ∷ []) ≡ Ok s
+  same_behind s stands_as k =
+      written.snapshot_stands ps (snapshot_text (state_of s)) s stands_as k.reads k.typed k.in_step k.whole
 
-  behind_snapshot : (k : Stood ps t) → hubs.stands_for (ps ++ p ∷ []) ≡ Ok k.s
-  behind_snapshot k = same_behind k.s k.is (subst (λ (x : HubState). IsSnapshot x p) (sym k.state) is)
+  behind_snapshot : (k : Stood ps t) → hubs.stands_for (ps ++ snapshot_text t ∷ []) ≡ Ok k.s
+  behind_snapshot k =
+      subst (λ (x : HubState). hubs.stands_for (ps ++ snapshot_text x ∷ []) ≡ Ok k.s) k.state
+      (same_behind k.s k.is (subst HasSnapshot (sym k.state) has))
 
-  stands_snapshot : (k : Stood ps t) → stands_for (ps ++ p ∷ []) ≡ Ok (t, None)
+  stands_snapshot : (k : Stood ps t) → stands_for (ps ++ snapshot_text t ∷ []) ≡ Ok (t, None)
   stands_snapshot k = ap opened_as (behind_snapshot k ∙ sym k.is) ∙ h
 
-  pub snapshot_stands : stands_for (ps ++ p ∷ []) ≡ Ok (t, None)
+  pub snapshot_stands : stands_for (ps ++ snapshot_text t ∷ []) ≡ Ok (t, None)
   snapshot_stands = stands_snapshot (stood ps t None h)
 
-  counts_snapshot : (k : Stood ps t) → count_of (ps ++ p ∷ []) ≡ count_of ps
+  counts_snapshot : (k : Stood ps t) → count_of (ps ++ snapshot_text t ∷ []) ≡ count_of ps
   counts_snapshot k = ap counted (behind_snapshot k ∙ sym k.is)
 
-  pub snapshot_counts : count_of (ps ++ p ∷ []) ≡ count_of ps
+  pub snapshot_counts : count_of (ps ++ snapshot_text t ∷ []) ≡ count_of ps
   snapshot_counts = counts_snapshot (stood ps t None h)

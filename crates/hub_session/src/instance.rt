@@ -29,7 +29,9 @@ impl StoredSession for HubSession {
 
     ghost state_text = { state_text };
 
-    ghost is_snapshot = { states.IsSnapshot };
+    ghost snapshot_text = { states.snapshot_text };
+
+    ghost has_snapshot = { states.HasSnapshot };
 
     ghost count_of = { states.count_of };
 

@@ -49,7 +49,7 @@ module _ {H S K : Type 0} (script : OfScript.Ghosts H) (source : OfSource.Ghosts
       refusal_is refusal r = by_part r.whole where
         by_part : IsWhole source old.0 new.0 bytes → report script (bytes ++ more) ≡ Some (script.refusal_line refusal, ProgramRefused)
         by_part (inl part) = refusal_stays script bytes refusal part.has r.refused more
-        by_part (inr e) = at_end e ∙ refused script (script.accepted (program_part bytes)) (journal bytes) refusal r.refused
+        by_part (inr e) = at_end e.1 ∙ refused script (script.accepted (program_part bytes)) (journal bytes) refusal r.refused
 
       refusal_begins : (refusal : script.Refusal) → RefusesPart script source old.0 new.0 bytes refusal → BeginsWith whole (script.refusal_line refusal)
       refusal_begins refusal r =

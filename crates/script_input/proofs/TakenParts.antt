@@ -23,7 +23,7 @@ IsFixed bytes = (more : List ℕ) → program_part (bytes ++ more) ≡ program_p
 
 pub fixed_or_read : {S : Type 0} (source : OfSource.Ghosts S) (old new : S) (bytes : List ℕ) → IsWhole source old new bytes → IsFixed bytes ⊎ IsAtEnd (source.left new)
 fixed_or_read source old new bytes (inl part) = inl part.stays
-fixed_or_read source old new bytes (inr end) = inr end
+fixed_or_read source old new bytes (inr end) = inr end.1
 
 -- if the separator has come, the program part of all bytes is that of those taken
 pub part_of_all : (bytes : List ℕ) (left' : Option (List ℕ)) (taken : List ℕ) → Consumes (Some bytes) left' taken → IsFixed taken ⊎ IsAtEnd left' → program_part bytes ≡ program_part taken

@@ -45,6 +45,7 @@ module _ {S : Type 0} (source : OfSource.Ghosts S) (old new : S) where
     -- whatever follows, the program part stays as it is
     pub stays : (more : List ℕ) → program_part (bytes ++ more) ≡ program_part bytes
 
-  -- The program part is whole: the separator has come with the last call of the source, or the source is at its end.
+  -- The program part is whole: the separator has come with the last call of the source; or no separator has come, and
+  -- the source is at its end.
   abbrev pub IsWhole : List ℕ → Type 0
-  IsWhole bytes = HasPart bytes ⊎ IsRead source old new
+  IsWhole bytes = HasPart bytes ⊎ (has_separator bytes ≡ false) × IsRead source old new

@@ -168,7 +168,7 @@ module _ {H S K : Type 0} (script : OfScript.Ghosts H) (stay : EveryRunStaysInSt
         → EndsSo script stay source sink (s, old.sink) (new.source, k) status
     run_ends r status c h gives =
         let ended = (fed old.input.lines more).ended in
-        ended_report script stay source sink s new.source old.sink new.sink k (whole more) (took_whole more c) e.at_end e.gave_nothing (omega (arith, length_whole more, e.within)) e.given
+        ended_report script stay source sink s new.source old.sink new.sink k (whole more) (took_whole more c) e.at_end e.gave_nothing (omega (arith, length_whole more, e.within)) (goes_on more) e.given
         (answers more ended [] e.given (sym (append-nil ended)) all) e.gave r status (by_report r h) gives where
           all : Answered (fed old.input.lines more).ended e.given
           all = subst (Answered (fed old.input.lines more).ended) (ap (λ x. e.given ++ x) e.nothing_left ∙ append-nil e.given)

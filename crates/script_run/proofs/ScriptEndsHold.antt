@@ -254,7 +254,14 @@ module _ {H : Type 0} (script : OfScript.Ghosts H) (stay : EveryRunStaysInStep s
 
       -- ---- a whole report
 
-      module _ (end : IsRead source old.0 new.0) (few : length bytes ≤ MOST_BYTES) where
+      module _ (end : IsRead source old.0 new.0) (few : length bytes ≤ MOST_BYTES) (goes_on : GoesOn script bytes) where
+        -- the program part is refused, so no separator has come
+        refused_at_end : (refusal : script.Refusal) → script.accepted (program_part bytes) ≡ Err refusal → RefusesPart script source old.0 new.0 bytes refusal
+        refused_at_end refusal none = record { whole = inr (by_test (has_separator bytes) refl, end); refused = none } where
+          by_test : (b : Bool) → has_separator bytes ≡ b → has_separator bytes ≡ false
+          by_test true has = let is = (goes_on has).1 in cc
+          by_test false has = has
+
         -- the report of an accepted program part was written
         written_report : (text : List ℕ) (status : Status) → report script bytes ≡ Some (text, status) → Gave sink old.1 new.1 text → (program : script.Accepted) → script.accepted (program_part bytes) ≡ Ok program
             → Reports script source sink old new status
@@ -290,16 +297,16 @@ module _ {H : Type 0} (script : OfScript.Ghosts H) (stay : EveryRunStaysInStep s
           by_kind (inl (program, is, f)) = record { stops = finished_stops status f; reports = λ _. written_report text status h gave program is }
           by_kind (inr (refusal, none, line, refused)) =
               subst (EndsSo old new) (sym refused)
-              (ended_refused (omega (arith, few)) refusal (record { whole = inr end; refused = none }) (subst (Gave sink old.1 new.1) line gave))
+              (ended_refused (omega (arith, few)) refusal (refused_at_end refusal none) (subst (Gave sink old.1 new.1) line gave))
 
     -- The report that was made is given, behind answers that were written before. The last call of the source gave nothing.
     module _ (s s' : S) (k mid k' : K) (bytes : List ℕ) (took : Took source s s' bytes) (end : IsRead source s s') (nothing : source.last s' ≡ 0) (few : length bytes ≤ MOST_BYTES)
-        (given : List ℕ) (are : AnswersAll script bytes given) (gave : Gave sink k mid given) where
+        (goes_on : GoesOn script bytes) (given : List ℕ) (are : AnswersAll script bytes given) (gave : Gave sink k mid given) where
       pub ended_report : (r : Result Report AllocError) (status : Status) → IfOk r (λ q. report script bytes ≡ Some (given ++ q.text.items, q.status)) → Gives sink mid k' r status
           → EndsSo (s, k) (s', k') status
       ended_report (Ok q) status h (inl (same, all)) =
           subst (EndsSo (s, k) (s', k')) (sym same)
-          (ended_whole (s, k) (s', k') bytes took end few (given ++ q.text.items) q.status h (Appends-trans (sink.held k) (sink.held mid) (sink.held k') given q.text.items gave all))
+          (ended_whole (s, k) (s', k') bytes took end few goes_on (given ++ q.text.items) q.status h (Appends-trans (sink.held k) (sink.held mid) (sink.held k') given q.text.items gave all))
       ended_report (Ok q) status h (inr (same, front)) =
           subst (EndsSo (s, k) (s', k')) (sym same)
           (let f = front_after sink k k' given (given ++ q.text.items) (stopped_behind stop.SinkFault (sink.held k) (sink.held mid) (sink.held k') given q.text.items gave front) in
@@ -330,7 +337,7 @@ module _ {H : Type 0} (script : OfScript.Ghosts H) (stay : EveryRunStaysInStep s
     pub ended_alone : (s s' : S) (k k' : K) (bytes : List ℕ) (status : Status) → EndsWhole source s s' bytes → GivesAlone script sink k k' (script.accepted (program_part bytes)) status
         → EndsSo (s, k) (s', k') status
     ended_alone s s' k k' bytes status e g =
-        ended_report s s' k k k' bytes e.consumes e.at_end e.gave_nothing e.within [] (no_journal bytes e.no_separator).1 (Appends-nil (sink.held k)) g.made status (by_report g.made g.is_report) g.gives where
+        ended_report s s' k k k' bytes e.consumes e.at_end e.gave_nothing e.within (no_journal bytes e.no_separator).0 [] (no_journal bytes e.no_separator).1 (Appends-nil (sink.held k)) g.made status (by_report g.made g.is_report) g.gives where
           by_report : (r : Result Report AllocError) → IfOk r (λ q. report_with script (script.accepted (program_part bytes)) [] ≡ Some (q.text.items, q.status))
               → IfOk r (λ q. report script bytes ≡ Some ([] ++ q.text.items, q.status))
           by_report (Ok q) x = ap (λ lines. report_with script (script.accepted (program_part bytes)) lines) e.no_journal ∙ x

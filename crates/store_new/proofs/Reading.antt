@@ -55,7 +55,7 @@ module _ {S : Type 0} (source : OfSource.Ghosts S) (s s' : S) where
     alone_read p l accepted = record { bytes = r.bytes; took = r.whole.consumes; read = r.whole.at_end; within = r.whole.within; accepted = accepted (program_part r.bytes) r.holds }
 
     pub alone_refused : (refused : Refused) → ((part : List ℕ) → HoldsPart program part → IsRefusal (lens_of part) refused) → IsKnown refused → ReadsRefused source s s' refused
-    alone_refused refused is known = record { bytes = r.bytes; took = r.whole.consumes; at_most = omega (arith, r.whole.within); whole = inr r.whole.at_end; is = is (program_part r.bytes) r.holds; known = known }
+    alone_refused refused is known = record { bytes = r.bytes; took = r.whole.consumes; at_most = omega (arith, r.whole.within); whole = inr (r.whole.no_separator, r.whole.at_end); is = is (program_part r.bytes) r.holds; known = known }
 
 -- ---- a script with a separator, whose program part is kept in any value
 

@@ -10,6 +10,8 @@ use Rattle.lens_io.specs.declared.disk.Disk as OfDisk
 use Rattle.edit_journal.specs.Pieces.{lines_of}
 use Rattle.edit_journal.specs.declared.line.Line.{Line}
 use Rattle.gate_log.specs.LogOnDisk.{LogState}
+use Rattle.script_input.specs.Taking.{GaveFew}
+use Rattle.script_input.specs.declared.limits.TheConstants.{PIECE_BYTES}
 use Rattle.store_run.specs.Answered.{ended_lines, AllAt, AnswersFirst}
 use Rattle.store_run.specs.ApplyCall.{EndsCall}
 use Rattle.store_run.specs.Effects.{GivesAt}
@@ -68,7 +70,7 @@ module _ {K : Type 0} (sink : OfSink.Ghosts K) where
 
 module _ {S K D A : Type 0} (source : OfSource.Ghosts S) (sink : OfSink.Ghosts K) (disk : OfDisk.Ghosts D) (session : OfSession.Ghosts A) where
   -- the journal was read to its end, its lines were answered, and this was written behind
-  module _ (i i' : S) (k k' : K) (t : session.State) (status : Status) where
+  module _ (i i' : S) (k k' : K) (t : session.State) (status : Status) (few : GaveFew source i i' PIECE_BYTES) where
     read_in_time : (bytes : List ℕ) (steps : List (session.State × StoredAnswer)) (more : List ℕ) → Took source i i' bytes → run session t 0 (lines_of bytes) ≡ Some steps → Gave sink k k' (text_of steps ++ more)
         → AnswersInTime source sink session (i, k) (i', k') t status
     read_in_time bytes steps more took is_run gave =
@@ -77,6 +79,7 @@ module _ {S K D A : Type 0} (source : OfSource.Ghosts S) (sink : OfSink.Ghosts K
         record {
           bytes = bytes;
           took = took;
+          few = few;
           given = given;
           gave = gave;
           first = inr (answered_take session t 0 (length bytes - source.last i') bytes given all_answered);
@@ -88,6 +91,7 @@ module _ {S K D A : Type 0} (source : OfSource.Ghosts S) (sink : OfSink.Ghosts K
     unasked_in_time given unasked gave = record {
       bytes = [];
       took = took_none source i i' unasked;
+      few = few;
       given = given;
       gave = gave;
       first = inl unasked;
@@ -108,6 +112,7 @@ module _ {S K D A : Type 0} (source : OfSource.Ghosts S) (sink : OfSink.Ghosts K
         record {
           bytes = j.bytes;
           took = j.consumes;
+          few = few;
           given = (done ++ front.0) ++ behind.0;
           gave = Appends-trans (sink.held k) (sink.held k1) (sink.held k') (done ++ front.0) behind.0 front.1 behind.1;
           first = first_longer j.bytes (done ++ front.0) behind.0 (first_longer j.bytes done front.0 j.first);
@@ -123,32 +128,33 @@ module _ {S K D A : Type 0} (source : OfSource.Ghosts S) (sink : OfSink.Ghosts K
         record {
           bytes = j.bytes;
           took = j.consumes;
+          few = few;
           given = (done ++ front.0) ++ behind.0;
           gave = Appends-trans (sink.held k) (sink.held k1) (sink.held k') (done ++ front.0) behind.0 front.1 behind.1;
           first = inr (answered_take session t 0 (length j.bytes - source.last i') j.bytes ((done ++ front.0) ++ behind.0) all_answered);
           all = λ _. all_answered;
         }
 
-  pub exits_in_time : (i i' : S) (k k' : K) (d d' : D) (l l' : LogState) (version : List (List ℕ)) (t t' : session.State) (status : Status) → Exits source sink disk session (i, k, d, l) (i', k', d', l') version t t' status
+  pub exits_in_time : (i i' : S) (k k' : K) (d d' : D) (l l' : LogState) (version : List (List ℕ)) (t t' : session.State) (status : Status) → GaveFew source i i' PIECE_BYTES → Exits source sink disk session (i, k, d, l) (i', k', d', l') version t t' status
       → AnswersInTime source sink session (i, k) (i', k') t status
-  exits_in_time i i' k k' d d' l l' version t t' status (inl c) = read_in_time i i' k k' t status c.bytes c.steps (session.state_text t') c.consumes c.is_run c.given
-  exits_in_time i i' k k' d d' l l' version t t' status (inr (inl e)) =
+  exits_in_time i i' k k' d d' l l' version t t' status few (inl c) = read_in_time i i' k k' t status few c.bytes c.steps (session.state_text t') c.consumes c.is_run c.given
+  exits_in_time i i' k k' d d' l l' version t t' status few (inr (inl e)) =
       let j = e.ends.goes_on in
       let a = j.answers in
       let behind : (more : List ℕ) × Gave sink e.k1 k' more = elim e.short [ inl h ↦ ([], h.1) | inr h ↦ (take h.1.0 (session.state_text t'), h.1.2) ] in
-      read_in_time i i' k k' t status j.bytes a.steps behind.0 j.consumes (goes_run session t t' 0 e.progress.number (lines_of j.bytes) a.steps a.goes)
+      read_in_time i i' k k' t status few j.bytes a.steps behind.0 j.consumes (goes_run session t t' 0 e.progress.number (lines_of j.bytes) a.steps a.goes)
       (Appends-trans (sink.held k) (sink.held e.k1) (sink.held k') (text_of a.steps) behind.0 a.adds.given behind.1)
-  exits_in_time i i' k k' d d' l l' version t t' status (inr (inr e)) = elim e.stops [
+  exits_in_time i i' k k' d d' l l' version t t' status few (inr (inr e)) = elim e.stops [
     | inl s ↦ (
         let front = gives_some sink e.stop k e.k1 [] [] s.2.given in
         let behind = says_some sink e.k1 k' e.stop status e.status_is in
-        unasked_in_time i i' k k' t status (front.0 ++ behind.0) s.1 (Appends-trans (sink.held k) (sink.held e.k1) (sink.held k') front.0 behind.0 front.1 behind.1)
+        unasked_in_time i i' k k' t status few (front.0 ++ behind.0) s.1 (Appends-trans (sink.held k) (sink.held e.k1) (sink.held k') front.0 behind.0 front.1 behind.1)
         )
-    | inr s ↦ stopped_in_time i i' k k' t status e.k1 s.d1 d' s.l1 l' e.stop s.goes_on e.status_is
+    | inr s ↦ stopped_in_time i i' k k' t status few e.k1 s.d1 d' s.l1 l' e.stop s.goes_on e.status_is
   ]
 
   -- the call from the opening on
-  pub call_in_time : (i i' : S) (k k' : K) (d d' : D) (before : List (List ℕ)) (t : session.State) (version : Option (List ℕ)) (status : Status)
+  pub call_in_time : (i i' : S) (k k' : K) (d d' : D) (before : List (List ℕ)) (t : session.State) (version : Option (List ℕ)) (status : Status) → GaveFew source i i' PIECE_BYTES
       → EndsCall source sink disk session (i, k, d) (i', k', d') before t version status → AnswersInTime source sink session (i, k) (i', k') t status
-  call_in_time i i' k k' d d' before t version status (inl o) = exits_in_time i i' k k' o.d1 d' o.log o.log' (option_to_list version) t o.t' status o.exits
-  call_in_time i i' k k' d d' before t version status (inr u) = unasked_in_time i i' k k' t status [] u.1 u.2.0.1
+  call_in_time i i' k k' d d' before t version status few (inl o) = exits_in_time i i' k k' o.d1 d' o.log o.log' (option_to_list version) t o.t' status few o.exits
+  call_in_time i i' k k' d d' before t version status few (inr u) = unasked_in_time i i' k k' t status few [] u.1 u.2.0.1

@@ -77,26 +77,29 @@ module _ {K D : Type 0} (sink : OfSink.Ghosts K) (disk : OfDisk.Ghosts D)
   module _ {A : Type 0} (session : OfSession.Ghosts A)
       (read_holds : (l : LogState) (d : D) (base : Payloads) → StandsOn disk d l base → IfSome (disk.content d) (HoldsPayloads base))
       (version_stands : (ps : Payloads) (t : session.State) (v : List ℕ) → session.stands_for ps ≡ Ok (t, Some v) → session.stands_for (ps ++ v ∷ []) ≡ Ok (t, None))
-      (snapshot_stands : (ps : Payloads) (t : session.State) (p : List ℕ) → session.stands_for ps ≡ Ok (t, None) → session.is_snapshot t p → session.stands_for (ps ++ p ∷ []) ≡ Ok (t, None))
+      (snapshot_stands : (ps : Payloads) (t : session.State) → session.stands_for ps ≡ Ok (t, None) → session.has_snapshot t → session.stands_for (ps ++ session.snapshot_text t ∷ []) ≡ Ok (t, None))
       (version_counts : (ps : Payloads) (t : session.State) (v : List ℕ) → session.stands_for ps ≡ Ok (t, Some v) → session.count_of (ps ++ v ∷ []) ≡ session.count_of ps)
-      (snapshot_counts : (ps : Payloads) (t : session.State) (p : List ℕ) → session.stands_for ps ≡ Ok (t, None) → session.is_snapshot t p → session.count_of (ps ++ p ∷ []) ≡ session.count_of ps) where
+      (snapshot_counts : (ps : Payloads) (t : session.State) → session.stands_for ps ≡ Ok (t, None) → session.has_snapshot t → session.count_of (ps ++ session.snapshot_text t ∷ []) ≡ session.count_of ps) where
     -- ---- a snapshot that was made
 
-    module _ (t : session.State) (s : List ℕ) (made : session.is_snapshot t s) where
+    module _ (t : session.State) (has : session.has_snapshot t) where
+      abbrev s : List ℕ
+      s = session.snapshot_text t
+
       all_counted : (before : Payloads) (version : Option (List ℕ)) → session.stands_for before ≡ Ok (t, version) → session.count_of (before ++ (option_to_list version ++ s ∷ [])) ≡ session.count_of before
-      all_counted before None h = snapshot_counts before t s h made
+      all_counted before None h = snapshot_counts before t h has
       all_counted before (Some v) h =
-          ap session.count_of (sym (append_assoc before (v ∷ []) (s ∷ []))) ∙ (snapshot_counts (before ++ v ∷ []) t s (version_stands before t v h) made ∙ version_counts before t v h)
+          ap session.count_of (sym (append_assoc before (v ∷ []) (s ∷ []))) ∙ (snapshot_counts (before ++ v ∷ []) t (version_stands before t v h) has ∙ version_counts before t v h)
 
       all_stand : (before : Payloads) (version : Option (List ℕ)) → session.stands_for before ≡ Ok (t, version) → session.stands_for (before ++ (option_to_list version ++ s ∷ [])) ≡ Ok (t, None)
-      all_stand before None h = snapshot_stands before t s h made
-      all_stand before (Some v) h = ap session.stands_for (sym (append_assoc before (v ∷ []) (s ∷ []))) ∙ snapshot_stands (before ++ v ∷ []) t s (version_stands before t v h) made
+      all_stand before None h = snapshot_stands before t h has
+      all_stand before (Some v) h = ap session.stands_for (sym (append_assoc before (v ∷ []) (s ∷ []))) ∙ snapshot_stands (before ++ v ∷ []) t (version_stands before t v h) has
 
       one_stands : (before front rest : Payloads) → session.stands_for before ≡ Ok (t, None) → s ∷ [] ≡ front ++ rest → (v : Option (List ℕ)) × (session.stands_for (before ++ front) ≡ Ok (t, v))
       one_stands before [] rest h e = (None, ap session.stands_for (append-nil before) ∙ h)
       one_stands before (p ∷ []) rest h e =
           let same : s ≡ p = cc in
-          (None, ap (λ (x : List ℕ). session.stands_for (before ++ x ∷ [])) (sym same) ∙ snapshot_stands before t s h made)
+          (None, ap (λ (x : List ℕ). session.stands_for (before ++ x ∷ [])) (sym same) ∙ snapshot_stands before t h has)
       one_stands before (p ∷ q ∷ front) rest h e = let never : [] ≡ q ∷ (front ++ rest) = cc in cc
 
       -- each of the lists stands for the state
@@ -117,7 +120,7 @@ module _ {K D : Type 0} (sink : OfSink.Ghosts K) (disk : OfDisk.Ghosts D)
 
         safe_of : (past : List ℕ → Type 0) → ((c : List ℕ) → disk.images d' c → HoldsFirst before whole c) → LeavesOnly disk d d' (λ c. past c ⊎ HoldsFirst before whole c)
             → IsSafePack disk session d d' past before t version
-        safe_of past now moments = record { kept = whole; is = inr (s, made, refl); now = now; moments = moments; stand = each_stands before version h }
+        safe_of past now moments = record { kept = whole; is = inr (has, refl); now = now; moments = moments; stand = each_stands before version h }
 
         pub safe_packed : (past : List ℕ → Type 0) (k k' : K) (l l' : LogState) (line : List ℕ) → Adds sink disk (k, d, l) (k', d', l') line whole → StandsOn disk d l before
             → IsSafePack disk session d d' past before t version
@@ -140,8 +143,7 @@ module _ {K D : Type 0} (sink : OfSink.Ghosts K) (disk : OfDisk.Ghosts D)
         pub packs_call : (k k' : K) (l l' : LogState) (line : List ℕ) → line ≡ packed_line (session.count_of before) → Adds sink disk (k, d, l) (k', d', l') line whole → StandsOn disk d l before
             → PacksCall sink disk session k (k', d') before t version
         packs_call k k' l l' line e a st = record {
-          snapshot = s;
-          is = made;
+          has = has;
           given = subst (Gave sink k k') e a.given;
           kept = read_holds l' d' (before ++ whole) (a.stored before st);
           stand = all_stand before version h;
@@ -187,8 +189,7 @@ module _ {K D : Type 0} (sink : OfSink.Ghosts K) (disk : OfDisk.Ghosts D) where
       → EndsPacked sink disk session (k, d1) (k', d') before t version status
       → EndsPacked sink disk session (k, d) (k', d') before t version status
   packed_later session k k' d d1 d' before t version status first p = record {
-    snapshot = p.snapshot;
-    is = p.is;
+    has = p.has;
     ends = record {
       d1 = p.ends.d1;
       log = p.ends.log;

@@ -17,7 +17,7 @@ use Rattle.store_run.specs.CountLines.{packed_line}
 use Rattle.store_run.specs.Effects.{IsOver, IsFullAt, Stops}
 use Rattle.store_run.specs.ApplyEnds.{status_of, StopsStored, Exits}
 use Rattle.store_run.specs.JournalEnds.{StopsJournal}
-use Rattle.store_run.specs.PackCall.{EndsPack}
+use Rattle.store_run.specs.PackCall.{EndsPack, packed}
 use Rattle.store_run.specs.Rooms.{most_bytes, HasNoRoom, TakesWithin, TakesTooMany, RunHasNoRoom, IsCauseInRoom, PackHasNoRoom, IsPackCauseInRoom}
 use Rattle.store_run.specs.StoreRuns.{any_refused, kept_of}
 use Rattle.store_run.specs.StoreEnds.{StoreEnds}
@@ -250,18 +250,18 @@ module _ {K D : Type 0} (sink : OfSink.Ghosts K) (disk : OfDisk.Ghosts D) where
   -- ---- `pack`
 
   module _ {A : Type 0} (session : OfSession.Ghosts A) (before : Payloads) (t : session.State) (version : Option (List ℕ)) where
-    pack_of : (s : Status) (o : Option ℕ) (p : List ℕ) → session.is_snapshot t p
-        → IsStoreCause s (HasNoRoom most_bytes before (option_to_list version ++ p ∷ [])) (IfSome o (λ most. HasNoRoom most before (option_to_list version ++ p ∷ []))) → IsPackCauseInRoom session o before t version s
-    pack_of ending.StoreRefused o p made h = (p, made, h)
-    pack_of ending.DiskFault o p made h = if_known o (λ most. HasNoRoom most before (option_to_list version ++ p ∷ [])) (λ most. PackHasNoRoom session most before t version) (λ most n. (p, made, n)) h
-    pack_of ending.SourceFault o p made h = h
-    pack_of ending.InputTooLong o p made h = h
-    pack_of ending.Usage o p made h = h
-    pack_of ending.ProgramRefused o p made h = h
-    pack_of ending.SomeRefused o p made h = h
-    pack_of ending.Done o p made h = tt
-    pack_of ending.SinkFault o p made h = tt
-    pack_of ending.NoMemory o p made h = tt
+    pack_of : (s : Status) (o : Option ℕ) → session.has_snapshot t
+        → IsStoreCause s (HasNoRoom most_bytes before (packed session t version)) (IfSome o (λ most. HasNoRoom most before (packed session t version))) → IsPackCauseInRoom session o before t version s
+    pack_of ending.StoreRefused o has h = (has, h)
+    pack_of ending.DiskFault o has h = if_known o (λ most. HasNoRoom most before (packed session t version)) (λ most. PackHasNoRoom session most before t version) (λ most n. (has, n)) h
+    pack_of ending.SourceFault o has h = h
+    pack_of ending.InputTooLong o has h = h
+    pack_of ending.Usage o has h = h
+    pack_of ending.ProgramRefused o has h = h
+    pack_of ending.SomeRefused o has h = h
+    pack_of ending.Done o has h = tt
+    pack_of ending.SinkFault o has h = tt
+    pack_of ending.NoMemory o has h = tt
 
     pub pack_cause : (k k' : K) (d d' : D) (bytes : List ℕ) (status : Status) → disk.content d ≡ Some bytes
         → EndsPack sink disk session (k, d) (k', d') before t version status
@@ -270,7 +270,7 @@ module _ {K D : Type 0} (sink : OfSink.Ghosts K) (disk : OfDisk.Ghosts D) where
         let e = p.ends in
         let g = gate_of (disk.content e.d1) (disk.images e.d1) e.log before bytes (e.opens.unwritten.same ∙ told) e.stands in
         subst (λ (o : Option ℕ). IsPackCauseInRoom session o before t version status) e.opens.same_room
-        (pack_of status (disk.room e.d1) p.snapshot p.is (store_cause k k' e.d1 d' e.log e.log' before (option_to_list version) p.snapshot (packed_line (session.count_of before)) status g e.ends))
+        (pack_of status (disk.room e.d1) p.has (store_cause k k' e.d1 d' e.log e.log' before (option_to_list version) (session.snapshot_text t) (packed_line (session.count_of before)) status g e.ends))
     pack_cause k k' d d' bytes status told (inr u) = elim u.1.0.0 [
       | inl e ↦ subst (λ (s : Status). IsPackCauseInRoom session (disk.room d) before t version s) (sym e) (none_some (disk.room d) (λ most. PackHasNoRoom session most before t version) (u.1.1 e))
       | inr e ↦ subst (λ (s : Status). IsPackCauseInRoom session (disk.room d) before t version s) (sym e) tt

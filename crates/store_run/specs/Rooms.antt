@@ -9,6 +9,7 @@ use Rattle.edit_journal.specs.Pieces.{lines_of}
 use Rattle.edit_journal.specs.declared.line.Line.{Line}
 use Rattle.gate_log.specs.LogBytes.{closed_gate}
 use Rattle.script_input.specs.declared.limits.TheConstants.{MOST_BYTES}
+use Rattle.store_run.specs.PackCall.{packed}
 use Rattle.store_run.specs.StoreRuns.{run, kept_of}
 use Rattle.store_run.specs.declared.session.StoredAnswer.{StoredAnswer}
 use Rattle.store_run.specs.declared.session.StoredSession as OfSession
@@ -77,11 +78,11 @@ module _ {S D A : Type 0} (source : OfSource.Ghosts S) (disk : OfDisk.Ghosts D) 
       IsCauseInRoom source session old.0 new.0 (disk.room old.1) before t version status
 
 module _ {A : Type 0} (session : OfSession.Ghosts A) where
-  -- the version record, if it is to be stored, or a snapshot of the state has no room on a disk of so many bytes
+  -- The version record, if it is to be stored, or the snapshot of the state has no room on a disk of so many bytes. The
+  -- snapshot is a function of the state, so no other payload can be meant.
   abbrev pub PackHasNoRoom : ℕ → List (List ℕ) → session.State → Option (List ℕ) → Type 0
   PackHasNoRoom most before t version =
-      (snapshot : List ℕ) × session.is_snapshot t snapshot
-      × HasNoRoom most before (option_to_list version ++ snapshot ∷ [])
+      session.has_snapshot t × HasNoRoom most before (packed session t version)
 
   -- What holds after each status of `pack` over payloads that stand for a session, on a disk of this room. No status
   -- comes that is not named.

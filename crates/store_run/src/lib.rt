@@ -1,8 +1,8 @@
 //! The commands over a store that is there: `apply`, `pack`, `show` and `verify`.
 //!
 //! A store is a log on a disk, and its payloads stand for a session. [`apply`] answers the lines of a journal. It
-//! stores the payload of each change that it accepts, and only then writes its answer. [`pack`] stores a snapshot of
-//! the session. [`show`] and [`verify`] only read. Each begins with [`open_store`], or ends with [`refuse_store`]. A
+//! stores the payload of each change that it accepts, and only then writes its answer. [`pack`] stores the snapshot
+//! of the session. [`show`] and [`verify`] only read. Each begins with [`open_store`], or ends with [`refuse_store`]. A
 //! command that changes a store in its own way makes one payload and some lines, and ends with [`store_last`].
 //!
 //! However `apply` ends, each line that had ended when the source was called last is answered, and its answer was

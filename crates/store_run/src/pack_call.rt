@@ -25,12 +25,12 @@ use lens_io::{Disk, Sink};
 use std::alloc::{AllocError, Global};
 use texts::Bytes;
 
-/// Opens a store, stores a snapshot of the session for which its payloads stand, and then writes the line of `pack`.
+/// Opens a store, stores the snapshot of the session for which its payloads stand, and then writes the line of `pack`.
 ///
-/// - `packs`: after `Done` the payloads are those from before, the version record if there was one to store, and a
+/// - `packs`: after `Done` the payloads are those from before, the version record if there was one to store, and the
 ///   snapshot. They stand for the same state, and the line was written.
 /// - `safe`: whatever the status, an image that a crash leaves holds the payloads from before, or these and the version
-///   record, or these and a snapshot, and each of these lists stands for the same state. If the sync of the opening
+///   record, or these and the snapshot, and each of these lists stands for the same state. If the sync of the opening
 ///   failed, nothing has changed.
 /// - `exits`: what was written and what is stored after each status, if the payloads stand for a session.
 /// - `causes`: over such payloads `StoreRefused` comes only if the log had no room for the version record or the
@@ -146,7 +146,8 @@ fn packing_of<A: StoredSession>(
     session: &A,
     count: u64,
 ) -> Result<Packing, AllocError>
-    ensures snapshot { IfOk result (λ p. A.is_snapshot (A.state session.now) p.snapshot) }
+    ensures snapshot { IfOk result (λ p. p.snapshot ≡ A.snapshot_text (A.state session.now)) }
+    ensures has { OnOk result (A.has_snapshot (A.state session.now)) }
     ensures line { IfOk result (λ p. p.line ≡ packed_line count) }
 {
     let snapshot = session.snapshot(alloc)?;

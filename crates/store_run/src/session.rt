@@ -1,5 +1,6 @@
 //! What a store needs of its session: calls, definitions and laws.
-ghost use Rattle.std.specs.Prelude.{◌≡◌, List, ℕ, ◌+◌, ◌∷◌, ◌++◌, [], IfOk, MatchResult, Ok, Some, None, not, is_some};
+ghost use Rattle.std.specs.Prelude.{◌≡◌, List, ℕ, ◌+◌, ◌∷◌, ◌++◌, [], IfOk, OnOk, MatchResult, Ok, Some, None, not};
+ghost use Rattle.std.specs.Prelude.{is_some};
 ghost use Rattle.std.specs.declared.option.Option.{Option};
 ghost use Rattle.std.specs.declared.result.Result.{Result};
 ghost use Rattle.edit_journal.specs.declared.line.Line.{Line};
@@ -71,8 +72,11 @@ pub trait StoredSession: Sized {
     /// The state lines.
     ghost state_text: { State → List ℕ };
 
-    /// The payloads of a snapshot of a state.
-    ghost is_snapshot: { State → List ℕ → Type 0 };
+    /// The payload of the snapshot of a state.
+    ghost snapshot_text: { State → List ℕ };
+
+    /// What holds of a state of which a snapshot was made: its payload is one that is read back, and so on.
+    ghost has_snapshot: { State → Type 0 };
 
     /// How many payloads are of changes.
     ghost count_of: { List (List ℕ) → ℕ };
@@ -87,9 +91,10 @@ pub trait StoredSession: Sized {
             (IsReopenFault (stands_for payloads.now)) }
         ensures count { IfOk result (λ o. o.count ≡ count_of payloads.now) };
 
-    /// The payload of a snapshot. The only error is running out of memory.
+    /// The payload of the snapshot. The only error is running out of memory.
     fn snapshot(&self, alloc: Global) -> Result<Bytes, AllocError>
-        ensures { IfOk result (λ payload. is_snapshot (state self.now) payload) };
+        ensures text { IfOk result (λ payload. payload ≡ snapshot_text (state self.now)) }
+        ensures has { OnOk result (has_snapshot (state self.now)) };
 
     /// Answers the item with this number. The only error is running out of memory.
     fn answer(
@@ -131,16 +136,16 @@ pub trait StoredSession: Sized {
         → count_of (ps ++ p ∷ []) ≡ count_of ps + 1 };
 
     /// A snapshot is not one of a change.
-    ghost snapshot_counts: { (ps : List (List ℕ)) (t : State) (p : List ℕ)
-        → stands_for ps ≡ Ok (t, None) → is_snapshot t p
-        → count_of (ps ++ p ∷ []) ≡ count_of ps };
+    ghost snapshot_counts: { (ps : List (List ℕ)) (t : State)
+        → stands_for ps ≡ Ok (t, None) → has_snapshot t
+        → count_of (ps ++ snapshot_text t ∷ []) ≡ count_of ps };
 
     /// An item that is refused leaves the state.
     ghost refused_stays: { (t t' : State) (n : ℕ) (line : Line) (a : StoredAnswer)
         → answer t n line ≡ Some (t', a) → a.payload ≡ None → t' ≡ t };
 
     /// A snapshot leaves the state.
-    ghost snapshot_stands: { (ps : List (List ℕ)) (t : State) (p : List ℕ)
-        → stands_for ps ≡ Ok (t, None) → is_snapshot t p
-        → stands_for (ps ++ p ∷ []) ≡ Ok (t, None) };
+    ghost snapshot_stands: { (ps : List (List ℕ)) (t : State)
+        → stands_for ps ≡ Ok (t, None) → has_snapshot t
+        → stands_for (ps ++ snapshot_text t ∷ []) ≡ Ok (t, None) };
 }

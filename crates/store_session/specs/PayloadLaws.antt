@@ -17,7 +17,8 @@ use Rattle.store_session.specs.Written.{the_change, the_snapshot, HasRecord}
 use Rattle.store_session.specs.Appending.{stands_append}
 use Rattle.store_session.specs.WrittenStands.{one_stands}
 use Rattle.store_session.specs.StoredStates.{StoredState, state_of, version_text, version_for, opened_as, stands_for}
-use Rattle.store_session.specs.StoredStates.{counted, count_of, answer, ReadsAsChange, IsStep, IsSnapshot}
+use Rattle.store_session.specs.StoredStates.{counted, count_of, answer, ReadsAsChange, IsStep, HasSnapshot}
+use Rattle.store_session.specs.StoredStates.{snapshot_text}
 use Rattle.store_session.specs.AnswerSteps.{Fit, fit_of_line, Steps, kinds}
 use Rattle.store_session.specs.TypedStores.{typed_stood}
 use Rattle.store_session.specs.VersionRecords.{version_in}
@@ -136,24 +137,26 @@ module _ (ps : List (List ℕ)) (t t' : StoredState) (n : ℕ) (line : Line) (a 
 
 -- ---- a snapshot
 
-module _ (ps : List (List ℕ)) (t : StoredState) (p : List ℕ) (h : stands_for ps ≡ Ok (t, None))
-    (is : IsSnapshot t p) where
-  same_behind : (s : Standing) → stands ps ≡ Ok s → IsSnapshot (state_of s) p → stands (ps ++ p ∷ []) ≡ Ok s
+module _ (ps : List (List ℕ)) (t : StoredState) (h : stands_for ps ≡ Ok (t, None)) (has : HasSnapshot t) where
+  same_behind : (s : Standing) → stands ps ≡ Ok s → HasSnapshot (state_of s)
+      → stands (ps ++ snapshot_text (state_of s) ∷ []) ≡ Ok s
   same_behind s stands_as k =
-      one_stands ps p (the_snapshot s.triple) s s (typed_stood ps s stands_as) stands_as k.reads
-      (k.consistent, k.left_whole, k.right_whole, refl)
+      one_stands ps (snapshot_text (state_of s)) (the_snapshot s.triple) s s (typed_stood ps s stands_as) stands_as
+      k.reads (k.consistent, k.left_whole, k.right_whole, refl)
 
-  behind_snapshot : (k : Stood ps t None) → stands (ps ++ p ∷ []) ≡ Ok k.s
-  behind_snapshot k = same_behind k.s k.is (subst (λ (x : StoredState). IsSnapshot x p) (sym k.state) is)
+  behind_snapshot : (k : Stood ps t None) → stands (ps ++ snapshot_text t ∷ []) ≡ Ok k.s
+  behind_snapshot k =
+      subst (λ (x : StoredState). stands (ps ++ snapshot_text x ∷ []) ≡ Ok k.s) k.state
+      (same_behind k.s k.is (subst HasSnapshot (sym k.state) has))
 
-  stands_snapshot : (k : Stood ps t None) → stands_for (ps ++ p ∷ []) ≡ Ok (t, None)
+  stands_snapshot : (k : Stood ps t None) → stands_for (ps ++ snapshot_text t ∷ []) ≡ Ok (t, None)
   stands_snapshot k = ap opened_as (behind_snapshot k ∙ sym k.is) ∙ h
 
-  pub snapshot_stands : stands_for (ps ++ p ∷ []) ≡ Ok (t, None)
+  pub snapshot_stands : stands_for (ps ++ snapshot_text t ∷ []) ≡ Ok (t, None)
   snapshot_stands = stands_snapshot (stood ps t None h)
 
-  counts_snapshot : (k : Stood ps t None) → count_of (ps ++ p ∷ []) ≡ count_of ps
+  counts_snapshot : (k : Stood ps t None) → count_of (ps ++ snapshot_text t ∷ []) ≡ count_of ps
   counts_snapshot k = ap counted (behind_snapshot k ∙ sym k.is)
 
-  pub snapshot_counts : count_of (ps ++ p ∷ []) ≡ count_of ps
+  pub snapshot_counts : count_of (ps ++ snapshot_text t ∷ []) ≡ count_of ps
   snapshot_counts = counts_snapshot (stood ps t None h)

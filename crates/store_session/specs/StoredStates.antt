@@ -1,6 +1,6 @@
 -- A session of the program as a store has it: its state, what payloads stand for, and the answer to a line. In order:
--- `StoredState`, `stands_for` and `count_of`, `answer` with `IsStep`, `state_text` with `IsSnapshot`, and all of them
--- as `stored_session`.
+-- `StoredState`, `stands_for` and `count_of`, `answer` with `IsStep`, `state_text`, `snapshot_text` with `HasSnapshot`,
+-- and all of them as `stored_session`.
 use Rattle.std.specs.Prelude.{◌≡◌, ℕ, List, true, Option, Some, None, option_map, Result, Ok, Err, if◌then◌else◌}
 use Rattle.std.specs.Prelude.{nat_eq, IfSome}
 use Rattle.serde_json.specs.Written.{compact_text}
@@ -113,11 +113,11 @@ state_text s = lines.state_lines s.form s.triple
 abbrev pub snapshot_text : StoredState → List ℕ
 snapshot_text s = compact_text (tree_of_snapshot s.form s.triple.left s.triple.comp s.triple.right)
 
--- The payload is a snapshot of the state, and is read back as the record of its triple. The triple is consistent, and
--- its ints are i64, as all ints of the program.
-pub record IsSnapshot (s : StoredState) (payload : List ℕ) : Type 0 where
-  pub text : payload ≡ snapshot_text s
-  pub reads : tree_of_text payload ≡ Some (tree_of_snapshot s.form s.triple.left s.triple.comp s.triple.right)
+-- What holds of a state of which a snapshot was made. Its payload is read back as the record of its triple. The triple
+-- is consistent, and its ints are i64, as all ints of the program.
+pub record HasSnapshot (s : StoredState) : Type 0 where
+  pub reads : tree_of_text (snapshot_text s)
+      ≡ Some (tree_of_snapshot s.form s.triple.left s.triple.comp s.triple.right)
   pub consistent : IsInStepFor s.form s.triple
   pub left_whole : holds_i64s s.triple.left ≡ true
   pub right_whole : holds_i64s s.triple.right ≡ true
@@ -132,7 +132,8 @@ stored_session view = record {
   answer = answer;
   is_step = IsStep;
   state_text = state_text;
-  is_snapshot = IsSnapshot;
+  snapshot_text = snapshot_text;
+  has_snapshot = HasSnapshot;
   count_of = count_of;
   stands_for = stands_for;
 }

@@ -27,7 +27,9 @@ impl StoredSession for StoreSession {
 
     ghost state_text = { states.state_text };
 
-    ghost is_snapshot = { states.IsSnapshot };
+    ghost snapshot_text = { states.snapshot_text };
+
+    ghost has_snapshot = { states.HasSnapshot };
 
     ghost count_of = { states.count_of };
 

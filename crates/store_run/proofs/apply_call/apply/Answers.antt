@@ -117,7 +117,7 @@ pub returns-in-Ok-clause-in_time : goal.returns-in-Ok-clause-in_time
 returns-in-Ok-clause-in_time g c =
     λ store.
     call_in_time g.S.Source g.K.Sink g.D.Disk g.A.StoredSession c.args.source.now c.continue_store.new.source c.args.sink.now c.continue_store.new.sink c.args.disk.now c.continue_store.new.disk
-    store.payloads store.state store.version c.continue_store.result (returns-in-Ok-clause-exits g c store)
+    store.payloads store.state store.version c.continue_store.result c.continue_store.ensures.few (returns-in-Ok-clause-exits g c store)
 
 pub returns-in-Ok-clause-disk_fault : goal.returns-in-Ok-clause-disk_fault
 returns-in-Ok-clause-disk_fault g c =
@@ -194,7 +194,7 @@ pub returns-in-Err-clause-in_time : goal.returns-in-Err-clause-in_time
 returns-in-Err-clause-in_time g c =
     λ store.
     call_in_time g.S.Source g.K.Sink g.D.Disk g.A.StoredSession c.args.source.now c.args.source.now c.args.sink.now c.refuse_store.new.sink c.args.disk.now c.open_store.new.disk
-    store.payloads store.state store.version c.refuse_store.result (returns-in-Err-clause-exits g c store)
+    store.payloads store.state store.version c.refuse_store.result (inl refl) (returns-in-Err-clause-exits g c store)
 
 pub returns-in-Err-clause-source_fault : goal.returns-in-Err-clause-source_fault
 returns-in-Err-clause-source_fault g c = λ e. absurd (quiet_reads_nothing c.refuse_store.result c.refuse_store.ensures.statuses e)

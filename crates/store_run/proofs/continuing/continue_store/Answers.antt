@@ -123,7 +123,7 @@ returns-in-Ok-clause-in_time g c =
     let l' = c.answer_stored.new.log in
     let t = session.state c.args.session.now in
     let t' = session.state c.answer_stored.new.session in
-    exits_in_time source sink disk session i i' k k' d d' l l' (option_to_list c.args.version.now) t t' c.give_state.result (returns-in-Ok-clause-exits g c)
+    exits_in_time source sink disk session i i' k k' d d' l l' (option_to_list c.args.version.now) t t' c.give_state.result c.answer_stored.ensures.few (returns-in-Ok-clause-exits g c)
 
 pub returns-in-Err-clause-in_time : goal.returns-in-Err-clause-in_time
 returns-in-Err-clause-in_time g c =
@@ -142,5 +142,5 @@ returns-in-Err-clause-in_time g c =
     let l' = c.answer_stored.new.log in
     let t = session.state c.args.session.now in
     let t' = session.state c.answer_stored.new.session in
-    exits_in_time source sink disk session i i' k k' d d' l l' (option_to_list c.args.version.now) t t' c.give_stop.result
+    exits_in_time source sink disk session i i' k k' d d' l l' (option_to_list c.args.version.now) t t' c.give_stop.result c.answer_stored.ensures.few
     (inr (inr (record { k1 = k1; stop = c.in-Err.stop; stops = c.in-Err.ensures.stopped; status_is = c.give_stop.ensures.gives })))

@@ -2,6 +2,7 @@ use Rattle.std.proofs.Common.{◌≡◌, ◌⊎◌, inl, inr, Some, ap, ℕ, Lis
 use Rattle.std.specs.Prelude.{option_to_list}
 use Rattle.gate_log.specs.LogOnDisk.{HoldsPayloads}
 use Rattle.store_run.specs.Effects.{Adds, Stops}
+use Rattle.store_run.specs.PackCall.{packed}
 use Rattle.store_run.specs.declared.stop.Stop.{Stop}
 use Rattle.store_run.specs.Stopping.{IsOwnStop}
 use Rattle.store_run.proofs.ApplyCausesHold.{caused_sink, caused_disk}
@@ -50,10 +51,13 @@ returns-in-Ok-pack_store-clause-safe g c =
     let l' = c.pack_store.new.log in
     let line = c.as_slice-line.result.now in
     let snap = c.as_slice-snapshot.result.now in
-    let made = subst (λ (x : List ℕ). session.is_snapshot t x) (sym c.as_slice-snapshot.ensures) c.in-Ok.ensures.snapshot in
+    let has = c.in-Ok.ensures.has in
+    let is : snap ≡ session.snapshot_text t = c.as_slice-snapshot.ensures ∙ c.in-Ok.ensures.snapshot in
+    let adds : Adds sink disk (k, d, l) (k', d', l') line (packed session t version) =
+    subst (λ (x : List ℕ). Adds sink disk (k, d, l) (k', d', l') line (option_to_list version ++ x ∷ [])) is c.in-Ok-pack_store.ensures.packed in
     λ before st h.
-    safe_packed sink disk hold session reads laws.version_stands laws.snapshot_stands laws.version_counts laws.snapshot_counts t snap made d d' before version h (HoldsPayloads before) k k' l l' line
-    c.in-Ok-pack_store.ensures.packed st
+    safe_packed sink disk hold session reads laws.version_stands laws.snapshot_stands laws.version_counts laws.snapshot_counts t has d d' before version h (HoldsPayloads before) k k' l l' line
+    adds st
 
 pub returns-in-Ok-pack_store-clause-packs : goal.returns-in-Ok-pack_store-clause-packs
 returns-in-Ok-pack_store-clause-packs g c =
@@ -73,11 +77,14 @@ returns-in-Ok-pack_store-clause-packs g c =
     let l' = c.pack_store.new.log in
     let line = c.as_slice-line.result.now in
     let snap = c.as_slice-snapshot.result.now in
-    let made = subst (λ (x : List ℕ). session.is_snapshot t x) (sym c.as_slice-snapshot.ensures) c.in-Ok.ensures.snapshot in
+    let has = c.in-Ok.ensures.has in
+    let is : snap ≡ session.snapshot_text t = c.as_slice-snapshot.ensures ∙ c.in-Ok.ensures.snapshot in
+    let adds : Adds sink disk (k, d, l) (k', d', l') line (packed session t version) =
+    subst (λ (x : List ℕ). Adds sink disk (k, d, l) (k', d', l') line (option_to_list version ++ x ∷ [])) is c.in-Ok-pack_store.ensures.packed in
     λ before st h n f.
-    packs_call sink disk hold session reads laws.version_stands laws.snapshot_stands laws.version_counts laws.snapshot_counts t snap made d d' before version h k k' l l' line
+    packs_call sink disk hold session reads laws.version_stands laws.snapshot_stands laws.version_counts laws.snapshot_counts t has d d' before version h k k' l l' line
     (c.as_slice-line.ensures ∙ c.in-Ok.ensures.line ∙ ap packed_line n)
-    c.in-Ok-pack_store.ensures.packed st
+    adds st
 
 pub returns-clause-safe : goal.returns-clause-safe
 returns-clause-safe g c =
@@ -98,11 +105,14 @@ returns-clause-safe g c =
     let l' = c.pack_store.new.log in
     let line = c.as_slice-line.result.now in
     let snap = c.as_slice-snapshot.result.now in
-    let made = subst (λ (x : List ℕ). session.is_snapshot t x) (sym c.as_slice-snapshot.ensures) c.in-Ok.ensures.snapshot in
-    λ before st h.
     let stop = c.in-Err.stop in
-    safe_short sink disk hold session reads laws.version_stands laws.snapshot_stands laws.version_counts laws.snapshot_counts t snap made d d' before version h (HoldsPayloads before) k k' l l' stop line
-    c.in-Err.ensures.stopped st
+    let has = c.in-Ok.ensures.has in
+    let is : snap ≡ session.snapshot_text t = c.as_slice-snapshot.ensures ∙ c.in-Ok.ensures.snapshot in
+    let stopped : Stops sink disk (k, d, l) (k', d', l') stop [] [] [] (option_to_list version) ⊎ Stops sink disk (k, d, l) (k', d', l') stop [] line (option_to_list version) (session.snapshot_text t ∷ []) =
+    subst (λ (x : List ℕ). Stops sink disk (k, d, l) (k', d', l') stop [] [] [] (option_to_list version) ⊎ Stops sink disk (k, d, l) (k', d', l') stop [] line (option_to_list version) (x ∷ [])) is c.in-Err.ensures.stopped in
+    λ before st h.
+    safe_short sink disk hold session reads laws.version_stands laws.snapshot_stands laws.version_counts laws.snapshot_counts t has d d' before version h (HoldsPayloads before) k k' l l' stop line
+    stopped st
 
 pub returns-clause-sink_fault : goal.returns-clause-sink_fault
 returns-clause-sink_fault g c =
@@ -150,12 +160,14 @@ returns-in-Ok-pack_store-clause-exits g c =
     let l' = c.pack_store.new.log in
     let line = c.as_slice-line.result.now in
     let snap = c.as_slice-snapshot.result.now in
-    let made = subst (λ (x : List ℕ). session.is_snapshot t x) (sym c.as_slice-snapshot.ensures) c.in-Ok.ensures.snapshot in
+    let has = c.in-Ok.ensures.has in
+    let is : snap ≡ session.snapshot_text t = c.as_slice-snapshot.ensures ∙ c.in-Ok.ensures.snapshot in
+    let adds : Adds sink disk (k, d, l) (k', d', l') line (packed session t version) =
+    subst (λ (x : List ℕ). Adds sink disk (k, d, l) (k', d', l') line (option_to_list version ++ x ∷ [])) is c.in-Ok-pack_store.ensures.packed in
     λ before st h n.
     let says : line ≡ packed_line (session.count_of before) = c.as_slice-line.ensures ∙ c.in-Ok.ensures.line ∙ ap packed_line n in
     inl (record {
-      snapshot = snap;
-      is = made;
+      has = has;
       ends = record {
         d1 = d;
         log = l;
@@ -164,10 +176,10 @@ returns-in-Ok-pack_store-clause-exits g c =
         stands = st;
         ends = inl (
           refl,
-          subst (λ (y : List ℕ). Adds sink disk (k, d, l) (k', d', l') y (option_to_list version ++ snap ∷ [])) says c.in-Ok-pack_store.ensures.packed,
+          subst (λ (y : List ℕ). Adds sink disk (k, d, l) (k', d', l') y (packed session t version)) says adds,
         );
       };
-      stand = each_stands sink disk hold session reads laws.version_stands laws.snapshot_stands laws.version_counts laws.snapshot_counts t snap made before version h;
+      stand = each_stands sink disk hold session reads laws.version_stands laws.snapshot_stands laws.version_counts laws.snapshot_counts t has before version h;
     })
 
 pub returns-clause-exits : goal.returns-clause-exits
@@ -189,12 +201,14 @@ returns-clause-exits g c =
     let stop = c.in-Err.stop in
     let line = c.as_slice-line.result.now in
     let snap = c.as_slice-snapshot.result.now in
-    let made = subst (λ (x : List ℕ). session.is_snapshot t x) (sym c.as_slice-snapshot.ensures) c.in-Ok.ensures.snapshot in
+    let has = c.in-Ok.ensures.has in
+    let is : snap ≡ session.snapshot_text t = c.as_slice-snapshot.ensures ∙ c.in-Ok.ensures.snapshot in
+    let stopped : Stops sink disk (k, d, l) (k1, d', l') stop [] [] [] (option_to_list version) ⊎ Stops sink disk (k, d, l) (k1, d', l') stop [] line (option_to_list version) (session.snapshot_text t ∷ []) =
+    subst (λ (x : List ℕ). Stops sink disk (k, d, l) (k1, d', l') stop [] [] [] (option_to_list version) ⊎ Stops sink disk (k, d, l) (k1, d', l') stop [] line (option_to_list version) (x ∷ [])) is c.in-Err.ensures.stopped in
     λ before st h n.
     let says : line ≡ packed_line (session.count_of before) = c.as_slice-line.ensures ∙ c.in-Ok.ensures.line ∙ ap packed_line n in
     inl (record {
-      snapshot = snap;
-      is = made;
+      has = has;
       ends = record {
         d1 = d;
         log = l;
@@ -206,12 +220,12 @@ returns-clause-exits g c =
           stop = stop;
           own = c.in-Err.ensures.own;
           stops =
-              subst (λ (y : List ℕ). Stops sink disk (k, d, l) (k1, d', l') stop [] [] [] (option_to_list version) ⊎ Stops sink disk (k, d, l) (k1, d', l') stop [] y (option_to_list version) (snap ∷ [])) says
-              c.in-Err.ensures.stopped;
+              subst (λ (y : List ℕ). Stops sink disk (k, d, l) (k1, d', l') stop [] [] [] (option_to_list version) ⊎ Stops sink disk (k, d, l) (k1, d', l') stop [] y (option_to_list version) (session.snapshot_text t ∷ [])) says
+              stopped;
           status_is = c.give_stop.ensures.gives;
         });
       };
-      stand = each_stands sink disk hold session reads laws.version_stands laws.snapshot_stands laws.version_counts laws.snapshot_counts t snap made before version h;
+      stand = each_stands sink disk hold session reads laws.version_stands laws.snapshot_stands laws.version_counts laws.snapshot_counts t has before version h;
     })
 
 pub returns-clause-statuses : goal.returns-clause-statuses
