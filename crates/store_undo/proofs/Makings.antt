@@ -68,16 +68,15 @@ module _ (count : ℕ) (held : List (List ℕ)) (twice : OpenedTwice) (cs : List
       let are = subst (λ (t : TripleTree). AreTexts form t words made.texts) same here.0 in
       let back = subst (λ (t : TripleTree). BringsBack (left_type form) (right_type form) words now.triple t) same here.1 in
       let was = parts.was in
-      let stand = undone_stands held now was.triple made.texts.payload stood.now are.snapshot in
       record {
         u = record { now = now; before = was.triple; words = words };
         is = parts.undoes;
         version = version;
-        snapshot = are.snapshot.text;
+        snapshot = are.snapshot;
         lines = are.lines;
         takes_back = record {
           words = back;
-          consistent = are.snapshot.consistent;
-          stand = subst (λ (x : List ℕ). stands (held ++ (option_to_list (version_due now.version) ++ x ∷ [])) ≡ Ok (record now { triple = was.triple; version = version_then now.version })) are.snapshot.text stand;
+          consistent = are.has.consistent;
+          stand = undone_stands held now was.triple stood.now are.has;
         };
       }

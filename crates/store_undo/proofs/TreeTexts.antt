@@ -14,6 +14,7 @@ use Rattle.serde_json.specs.Data.{Data, null, boolean, number, string, array, ob
 use Rattle.serde_json.specs.Read.{read, of_json, max_depth}
 use Rattle.serde_json.specs.Written.{outline, items_outline, members_outline, has_float, compact_text, IsInOrder}
 use Rattle.serde_json.proofs.Texts.{tokens_from_order, print-outline}
+use Rattle.edit_journal.specs.EntryJson.{tree_of_text}
 use Rattle.edit_session.specs.Step.{TripleTree}
 use Rattle.complement_file.specs.ComplementJson.{tree_of_complement}
 use Rattle.value_json.specs.DocumentJson.{tree_of_document}
@@ -21,7 +22,7 @@ use Rattle.pair_answers.specs.Answers.{state_lines}
 use Rattle.lens_forms.specs.Forms.{FormTree, left_type, right_type}
 use Rattle.store_records.specs.RecordJson.{one_member}
 use Rattle.store_records.proofs.PayloadTrees.{string_read}
-use Rattle.store_session.specs.StoredStates.{IsSnapshot, state_with}
+use Rattle.store_session.specs.StoredStates.{HasSnapshot, snapshot_text, state_with}
 use Rattle.store_undo.specs.TreeTexts.{IsTreeText, AreTreeTexts}
 use Rattle.store_undo.specs.declared.tree_texts.TreeTexts.{TreeTexts}
 
@@ -89,21 +90,24 @@ snapshot_written c x y = simp append_assoc
 snapshot_back : (c x y : Data) → of_json (outline c) ≡ Some c → of_json (outline x) ≡ Some x → of_json (outline y) ≡ Some y → of_json (outline (snapshot_tree c x y)) ≡ Some (snapshot_tree c x y)
 snapshot_back c x y left comp right = rw (left, comp, right) refl
 
--- the three texts with what stands around them are a snapshot of the triple
-pub is_snapshot : (l : FormTree) (t : TripleTree) (made : TreeTexts) (s : String Global) → AreTreeTexts l t made
-    → string_bytes s ≡ around (string_bytes made.comp) (string_bytes made.left) (string_bytes made.right) → IsSnapshot (state_with l t) (string_bytes s)
-is_snapshot l t made s h is =
+-- the three texts with what stands around them are the snapshot of the triple
+pub around_is : (l : FormTree) (t : TripleTree) (made : TreeTexts) → AreTreeTexts l t made
+    → around (string_bytes made.comp) (string_bytes made.left) (string_bytes made.right) ≡ snapshot_text (state_with l t)
+around_is l t made h =
+    rw (h.comp.text_is, h.left.text_is, h.right.text_is)
+    (sym (snapshot_written (tree_of_complement l t.comp) (tree_of_document (left_type l) t.left) (tree_of_document (right_type l) t.right)))
+
+-- and it is read back
+pub has_snapshot : (l : FormTree) (t : TripleTree) (made : TreeTexts) (s : String Global) → AreTreeTexts l t made → string_bytes s ≡ snapshot_text (state_with l t) → HasSnapshot (state_with l t)
+has_snapshot l t made s h is =
     let c = tree_of_complement l t.comp in
     let x = tree_of_document (left_type l) t.left in
     let y = tree_of_document (right_type l) t.right in
     let d = snapshot_tree c x y in
-    let texts : around (string_bytes made.comp) (string_bytes made.left) (string_bytes made.right) ≡ compact_text d =
-    rw (h.comp.text_is, h.left.text_is, h.right.text_is) (sym (snapshot_written c x y)) in
     let numbers : HasNumbers (outline d) = ((h.comp.numbers, (h.left.numbers, (h.right.numbers, tt))), tt) in
     let back = snapshot_back c x y h.comp.back h.left.back h.right.back in
     record {
-      text = is ∙ texts;
-      reads = string_read s d (ap read (is ∙ texts) ∙ text_read d numbers back h.low);
+      reads = ap tree_of_text (sym is) ∙ string_read s d (ap read is ∙ text_read d numbers back h.low);
       consistent = h.consistent;
       left_whole = h.left_whole;
       right_whole = h.right_whole;

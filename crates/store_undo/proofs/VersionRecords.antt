@@ -14,7 +14,7 @@ use Rattle.store_session.specs.Stands.{Standing, after_record, stands}
 use Rattle.store_session.specs.Written.{the_snapshot}
 use Rattle.store_session.specs.Appending.{stands_append}
 use Rattle.store_session.specs.WrittenStands.{one_stands}
-use Rattle.store_session.specs.StoredStates.{IsSnapshot, state_with}
+use Rattle.store_session.specs.StoredStates.{HasSnapshot, snapshot_text, state_with}
 use Rattle.store_session.specs.TypedStores.{typed_stood}
 use Rattle.store_undo.specs.UndoRecords.{version_due, version_then}
 
@@ -33,21 +33,22 @@ pub version_stands : (held : List (List ℕ)) (s : Standing) → stands held ≡
 version_stands held s h is = stands_append held version_text s h ∙ version_taken (length held + 1) s is
 
 -- the snapshot of a triple stands for it
-pub snapshot_stands : (held : List (List ℕ)) (s : Standing) (t : TripleTree) (payload : List ℕ) → stands held ≡ Ok s → IsSnapshot (state_with s.form t) payload → stands (held ++ payload ∷ []) ≡ Ok (record s { triple = t })
-snapshot_stands held s t payload h is =
-    one_stands held payload (the_snapshot t) s (record s { triple = t }) (typed_stood held s h) h is.reads (is.consistent, is.left_whole, is.right_whole, refl)
+pub snapshot_stands : (held : List (List ℕ)) (s : Standing) (t : TripleTree) → stands held ≡ Ok s → HasSnapshot (state_with s.form t)
+    → stands (held ++ snapshot_text (state_with s.form t) ∷ []) ≡ Ok (record s { triple = t })
+snapshot_stands held s t h has =
+    one_stands held (snapshot_text (state_with s.form t)) (the_snapshot t) s (record s { triple = t }) (typed_stood held s h) h has.reads (has.consistent, has.left_whole, has.right_whole, refl)
 
--- the version record, if it is to be stored, and then a snapshot
-at_version : (b : Bool) (held : List (List ℕ)) (s : Standing) (t : TripleTree) (payload : List ℕ) → stands held ≡ Ok s → nat_eq s.version 1 ≡ b → IsSnapshot (state_with s.form t) payload
-    → stands (held ++ (option_to_list (cond b (Some version_text) None) ++ payload ∷ [])) ≡ Ok (record s { triple = t; version = cond b 2 s.version })
-at_version true held s t payload h is snapshot =
-    ap stands (sym (append_assoc held (version_text ∷ []) (payload ∷ [])))
-    ∙ snapshot_stands (held ++ version_text ∷ []) (record s { version = 2 }) t payload (version_stands held s h is) snapshot
-at_version false held s t payload h is snapshot = snapshot_stands held s t payload h snapshot
+-- the version record, if it is to be stored, and then the snapshot
+at_version : (b : Bool) (held : List (List ℕ)) (s : Standing) (t : TripleTree) → stands held ≡ Ok s → nat_eq s.version 1 ≡ b → HasSnapshot (state_with s.form t)
+    → stands (held ++ (option_to_list (cond b (Some version_text) None) ++ snapshot_text (state_with s.form t) ∷ [])) ≡ Ok (record s { triple = t; version = cond b 2 s.version })
+at_version true held s t h is has =
+    ap stands (sym (append_assoc held (version_text ∷ []) (snapshot_text (state_with s.form t) ∷ [])))
+    ∙ snapshot_stands (held ++ version_text ∷ []) (record s { version = 2 }) t (version_stands held s h is) has
+at_version false held s t h is has = snapshot_stands held s t h has
 
-pub undone_stands : (held : List (List ℕ)) (s : Standing) (t : TripleTree) (payload : List ℕ) → stands held ≡ Ok s → IsSnapshot (state_with s.form t) payload
-    → stands (held ++ (option_to_list (version_due s.version) ++ payload ∷ [])) ≡ Ok (record s { triple = t; version = version_then s.version })
-undone_stands held s t payload h snapshot = at_version (nat_eq s.version 1) held s t payload h refl snapshot
+pub undone_stands : (held : List (List ℕ)) (s : Standing) (t : TripleTree) → stands held ≡ Ok s → HasSnapshot (state_with s.form t)
+    → stands (held ++ (option_to_list (version_due s.version) ++ snapshot_text (state_with s.form t) ∷ [])) ≡ Ok (record s { triple = t; version = version_then s.version })
+undone_stands held s t h has = at_version (nat_eq s.version 1) held s t h refl has
 
 -- ---- the version record alone, or nothing
 

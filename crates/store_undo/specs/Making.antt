@@ -14,7 +14,8 @@ use Rattle.store_records.specs.declared.record_fault.RecordFault.{RecordFault}
 use Rattle.store_records.specs.declared.record_fault.RecordFault.TheVariants as reopening
 use Rattle.store_session.specs.Stands.{Standing, stands}
 use Rattle.store_session.specs.Standings.{standing}
-use Rattle.store_session.specs.StoredStates.{IsSnapshot, state_with}
+use Rattle.store_session.specs.StoredStates.{HasSnapshot, state_with}
+use Rattle.store_session.specs.StoredStates as states
 use Rattle.store_run.specs.declared.refusals.StoreRefusal.{StoreRefusal}
 use Rattle.store_run.specs.declared.refusals.StoreRefusal.TheVariants.{BadRecord, NotConsistent}
 use Rattle.store_undo.specs.Undoing.{Undoing, undoing}
@@ -47,7 +48,8 @@ UndoneBy l t changes r = undone (left_type l) (right_type l) (translate l) t cha
 
 -- the texts are the snapshot of a triple, and the lines of the two words with the state lines of the triple
 pub record AreTexts (l : FormTree) (t : TripleTree) (words : BothTrees) (made : MoreText) : Type 0 where
-  pub snapshot : IsSnapshot (state_with l t) made.payload
+  pub snapshot : made.payload ≡ states.snapshot_text (state_with l t)
+  pub has : HasSnapshot (state_with l t)
   pub lines : made.lines ≡ tree_line (codes "undo left") (tree_of_word words.left)
       ++ (tree_line (codes "undo right") (tree_of_word words.right) ++ state_lines l t)
 

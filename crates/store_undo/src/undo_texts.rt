@@ -9,7 +9,7 @@ ghost use Rattle.edit_session.specs.Views.{triple_tree};
 ghost use Rattle.answer_text.specs.Lines.{tree_line};
 ghost use Rattle.pair_answers.specs.Answers.{state_lines};
 ghost use Rattle.lens_forms.specs.Forms.{FormTree, form_tree};
-ghost use Rattle.store_session.specs.StoredStates.{IsSnapshot, state_with};
+ghost use Rattle.store_session.specs.StoredStates.{HasSnapshot, snapshot_text, state_with};
 ghost use Rattle.store_undo.specs.Making.{AreTexts};
 ghost use Rattle.store_undo.specs.TreeTexts.{AreTreeTexts};
 ghost use Rattle.edit_undo.specs.UndoneViews.{both_tree};
@@ -50,8 +50,10 @@ fn texts_with(alloc: Global, trees: &TreeTexts, words: &BothWords) -> Result<Mor
 
 // The payload of the snapshot of a triple.
 fn snapshot_of(alloc: Global, trees: &TreeTexts) -> Result<Bytes, AllocError>
-    ensures { IfOk result (λ payload. (l : FormTree) (t : TripleTree) → AreTreeTexts l t trees.now
-        → IsSnapshot (state_with l t) payload) }
+    ensures text { IfOk result (λ payload. (l : FormTree) (t : TripleTree) → AreTreeTexts l t trees.now
+        → payload ≡ snapshot_text (state_with l t)) }
+    ensures has { OnOk result ((l : FormTree) (t : TripleTree) → AreTreeTexts l t trees.now
+        → HasSnapshot (state_with l t)) }
 {
     let left = trees.left.as_str();
     let comp = trees.comp.as_str();
