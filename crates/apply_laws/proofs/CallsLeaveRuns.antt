@@ -85,6 +85,11 @@ module _ {S K D : Type 0} (source : OfSource.Ghosts S) (sink : OfSink.Ghosts K) 
           most = omega (arith, count, most);
         }
 
+  -- a call that did not open the store leaves no image that was not possible before
+  was_possible : (status : Status) → Unopened source sink disk old new status → (image : List ℕ) → disk.images new.2 image → disk.images old.2 image
+  was_possible status (inl failed) image is = failed.1.only image is
+  was_possible status (inr never) image is = subst (λ (x : S × K × D). disk.images x.2 image) never.1 is
+
   module _ (status : Status) (store : Store disk old.2) where
     abbrev before : StoreParts
     before = parts_of disk old.2 store
@@ -99,7 +104,7 @@ module _ {S K D : Type 0} (source : OfSource.Ghosts S) (sink : OfSink.Ghosts K) 
     pub leaves_run : Applies source sink disk old new status → (image : List ℕ) → disk.images new.2 image
         → StaysUnopened source sink disk old new status image ⊎ LeavesRun source sink disk old new before image
     leaves_run a image is = elim (a.of_store store).survives [
-      | inl unopened ↦ inl (record { unopened = unopened; was = unopened.1.only image is })
+      | inl unopened ↦ inl (record { unopened = unopened; was = was_possible status unopened image is })
       | inr kept ↦ inr (kept_run kept image is)
     ]
 

@@ -1,15 +1,18 @@
 -- What `add` promises. What it takes, writes and stores at each status is defined in hub_add. Read it from the end:
 -- `HubAdds`, then `AddsOn`.
-use Rattle.std.specs.Prelude.{◌≡◌}
+use Rattle.std.specs.Prelude.{◌≡◌, ◌⊎◌}
 use Rattle.lens_io.specs.Calls.{IsUnasked, SourceFailed, SinkFailed, DiskFailed}
 use Rattle.lens_io.specs.declared.disk.Disk as OfDisk
 use Rattle.lens_io.specs.declared.sink.Sink as OfSink
 use Rattle.lens_io.specs.declared.source.Source as OfSource
+use Rattle.store_new.specs.NewEnds.{RefusesAtOnce}
+use Rattle.store_run.specs.ApplyCall.{IsUnopened}
 use Rattle.store_run.specs.Rooms.{TakesTooMany, most_bytes}
 use Rattle.hub_add.specs.AddCall.{AddEnds, AddsView, EndsWhole, IsAddCause, IsSafeAdd, ViewHasNoRoom}
+use Rattle.hub_add.specs.AddedView.{view_part}
 use Rattle.edithub_main.specs.HubStores.{HubStore, RefusedHub, IsStateInStep, RefusesHub}
 use Rattle.command_ends.specs.declared.status.Status.{Status}
-use Rattle.command_ends.specs.declared.status.Status.TheVariants.{Done}
+use Rattle.command_ends.specs.declared.status.Status.TheVariants.{Done, DiskFault}
 
 module _ {S K D : Type 0} (source : OfSource.Ghosts S) (sink : OfSink.Ghosts K) (disk : OfDisk.Ghosts D)
     (old new : S × K × D) (status : Status) where
@@ -21,9 +24,14 @@ module _ {S K D : Type 0} (source : OfSource.Ghosts S) (sink : OfSink.Ghosts K) 
     pub in_step : IsStateInStep store.state
     -- what was taken, written and stored at every status
     pub stops : AddEnds source sink disk old new store.payloads store.state status
-    -- an image of a crash, at each moment of the call and at its end, was possible before the call, or represents the
-    -- hub from before it or the one with one view more
-    pub survives : IsSafeAdd disk old.2 new.2 store.payloads store.state
+    -- A program part that is whole and refused is refused, whatever comes after it, unless the sink failed or memory
+    -- ran out. Then at most the rest of the call of the source that ended its separator was read; where no separator
+    -- came, the source is at its end.
+    pub at_once : RefusesAtOnce (view_part store.state.forms) source old.0 new.0 status
+    -- An image of a crash represents the hub from before the call or the one with one view more. One of an earlier
+    -- moment of the call may also have been possible before it. If the sync of the opening failed, nothing has changed.
+    pub survives : (status ≡ DiskFault) × IsUnopened source sink disk old new
+        ⊎ IsSafeAdd disk old.2 new.2 store.payloads store.state
     -- after StoreRefused the log had no room for the payload, and after DiskFault the disk had none if its room is
     -- known
     pub caused : IsAddCause source disk (old.0, old.2) (new.0, new.2) store.payloads store.state status

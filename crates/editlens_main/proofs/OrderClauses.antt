@@ -127,29 +127,21 @@ module _ {S K D : Type 0} (source : OfSource.Ghosts S) (sink : OfSink.Ghosts K) 
     refuses = never_finds;
   }
 
-  pub never_apply : ((d : D) (c : List ℕ) → disk.images_since d (disk.moment d) c → disk.images d c) → Applies source sink disk old old NoMemory
-  never_apply only = record {
+  pub never_apply : Applies source sink disk old old NoMemory
+  never_apply = record {
     of_store = λ s. record {
       continues = λ f. absurd (not_memory f);
       in_step = stays_in_step s.payloads s.state s.version s.stands;
-      in_time = record { bytes = []; took = Consumes-nil (source.left old.0); given = []; gave = Appends-nil (sink.held old.1); first = inl refl; all = λ e. absurd (never_at_source e) };
+      in_time = record { bytes = []; took = Consumes-nil (source.left old.0); few = inl refl; given = []; gave = Appends-nil (sink.held old.1); first = inl refl; all = λ e. absurd (never_at_source e) };
       stops = inr (nothing_written, refl, ((inr refl, Appends-nil (sink.held old.1)), λ e. cc));
-      survives = inl (
-        inr refl,
-        record {
-          unasked = refl;
-          given = Appends-nil (sink.held old.1);
-          only = λ c now. now;
-          moments = leaves_same disk old.2 (disk.images old.2) (only old.2);
-        },
-      );
+      survives = inl (inr (refl, refl));
       caused = tt;
       completes = λ r f w many full. inr refl;
     };
     refuses = λ other. ((nothing_written, inr ((inr refl, Appends-nil (sink.held old.1)), λ e. cc)), refl);
   }
 
-module _ {K D : Type 0} (sink : OfSink.Ghosts K) (disk : OfDisk.Ghosts D) (old : K × D) (only : (d : D) (c : List ℕ) → disk.images_since d (disk.moment d) c → disk.images d c) where
+module _ {K D : Type 0} (sink : OfSink.Ghosts K) (disk : OfDisk.Ghosts D) (old : K × D) where
   -- the store was not opened, and nothing has changed
   never_refuses : (reason : StoreRefusal) → RefusesStore sink disk old old NoMemory reason
   never_refuses reason = (unwritten_none disk old.1, inr ((inr refl, Appends-nil (sink.held old.0)), λ e. cc))
@@ -160,14 +152,7 @@ module _ {K D : Type 0} (sink : OfSink.Ghosts K) (disk : OfDisk.Ghosts D) (old :
       continues = λ f. absurd (not_memory f);
       in_step = (stored_sound s.payloads s.state s.version s.stands).1;
       stops = inr (unwritten_none disk old.1, ((inr refl, Appends-nil (sink.held old.0)), λ e. cc));
-      survives = inl (
-        inr refl,
-        record {
-          given = Appends-nil (sink.held old.0);
-          only = λ c now. now;
-          moments = leaves_same disk old.1 (disk.images old.1) (only old.1);
-        },
-      );
+      survives = inl (inr (refl, refl));
       caused = tt;
       completes = λ f w full. inr refl;
     };
@@ -179,23 +164,16 @@ module _ {K D : Type 0} (sink : OfSink.Ghosts K) (disk : OfDisk.Ghosts D) (old :
     of_store = λ s. record {
       continues = λ e. cc;
       stops = inr (unwritten_none disk old.1, ((inr refl, Appends-nil (sink.held old.0)), λ e. cc));
-      survives = inl (
-        inr refl,
-        record {
-          given = Appends-nil (sink.held old.0);
-          only = λ c now. now;
-          moments = leaves_same disk old.1 (disk.images old.1) (only old.1);
-        },
-      );
-      unstored = λ e image now. inl now;
+      survives = inl (inr (refl, refl));
+      unstored = λ e image now. inl refl;
       caused = tt;
       completes = λ f w full. inr refl;
     };
     refuses = λ other. never_refuses other.reason;
   }
 
-  pub never_view : (text : StoredState → List (List ℕ) → List ℕ) → ReadsStore sink disk old old NoMemory text
-  never_view text = record {
+  pub never_view : ((d : D) (c : List ℕ) → disk.images_since d (disk.moment d) c → disk.images d c) → (text : StoredState → List (List ℕ) → List ℕ) → ReadsStore sink disk old old NoMemory text
+  never_view only text = record {
     reports = λ s. inr (inr (inr refl, Appends-nil (sink.held old.0)));
     in_step = λ s. (stored_sound s.payloads s.state s.version s.stands).1;
     completes = λ s f w. inr refl;

@@ -17,9 +17,9 @@ use Rattle.command_ends.specs.declared.status.Status.TheVariants.{DiskFault, NoM
 
 module _ {S K D : Type 0} (source : OfSource.Ghosts S) (sink : OfSink.Ghosts K) (disk : OfDisk.Ghosts D)
     (old new : S × K × D) (status : Status) where
-  -- the store was not opened, and nothing has changed
+  -- the store was not opened: the disk failed, and nothing has changed; or memory ran out before any device was called
   abbrev pub Unopened : Type 0
-  Unopened = ((status ≡ DiskFault) ⊎ (status ≡ NoMemory)) × IsUnopened source sink disk old new
+  Unopened = (status ≡ DiskFault) × IsUnopened source sink disk old new ⊎ (status ≡ NoMemory) × (new ≡ old)
 
   -- over a store
   pub record GoesOn (store : Store disk old.2) : Type 0 where

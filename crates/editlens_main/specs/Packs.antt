@@ -13,9 +13,9 @@ use Rattle.command_ends.specs.declared.status.Status.{Status}
 use Rattle.command_ends.specs.declared.status.Status.TheVariants.{Done, DiskFault, NoMemory}
 
 module _ {K D : Type 0} (sink : OfSink.Ghosts K) (disk : OfDisk.Ghosts D) (old new : K × D) (status : Status) where
-  -- the store was not opened, and nothing has changed
+  -- the store was not opened: the disk failed, and nothing has changed; or memory ran out before any device was called
   abbrev pub Unopened : Type 0
-  Unopened = ((status ≡ DiskFault) ⊎ (status ≡ NoMemory)) × IsUnpacked sink disk old new
+  Unopened = (status ≡ DiskFault) × IsUnpacked sink disk old new ⊎ (status ≡ NoMemory) × (new ≡ old)
 
   -- over a store
   pub record Keeps (store : Store disk old.1) : Type 0 where

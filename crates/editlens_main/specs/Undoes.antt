@@ -26,9 +26,9 @@ module _ (count : ℕ) {K D : Type 0} (sink : OfSink.Ghosts K) (disk : OfDisk.Gh
       (snapshot_text store.undone) ended
       ⊎ IsUnwritten disk old.1 new.1 × FailsUnopened sink disk old new ended
 
-  -- the store was not opened, and nothing has changed
+  -- the store was not opened: the disk failed, and nothing has changed; or memory ran out before any device was called
   abbrev pub Unopened : Type 0
-  Unopened = ((status ≡ DiskFault) ⊎ (status ≡ NoMemory)) × IsUntouched sink disk old new
+  Unopened = (status ≡ DiskFault) × IsUntouched sink disk old new ⊎ (status ≡ NoMemory) × (new ≡ old)
 
   -- over a store whose last records, so many as the count says, are of changes, which can be undone
   pub record TakesBack (store : StoreToUndo disk count old.1) : Type 0 where
@@ -41,9 +41,9 @@ module _ (count : ℕ) {K D : Type 0} (sink : OfSink.Ghosts K) (disk : OfDisk.Gh
     -- triple before the last changes or the one from before the call
     pub survives : Unopened ⊎ IsSafeUndo disk old.1 new.1 store.payloads store.undone
     -- After NoMemory and StoreRefused the snapshot is not stored: an image that a crash now may leave represents the
-    -- triple from before the call, or was possible before it.
+    -- triple from before the call; or no device was called.
     pub unstored : (status ≡ NoMemory) ⊎ (status ≡ StoreRefused) → (image : List ℕ) → disk.images new.1 image
-        → disk.images old.1 image ⊎ HoldsNow store.payloads store.undone image
+        → (new ≡ old) ⊎ HoldsNow store.payloads store.undone image
     -- after StoreRefused the log had no room for a record, and after DiskFault the disk had none if its room is known
     pub caused : IsUndoCause disk old.1 store.payloads store.undone status
     -- it comes to its end, or memory runs out, if no device fails and the log has room

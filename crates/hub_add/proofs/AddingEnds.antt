@@ -23,7 +23,8 @@ use Rattle.store_run.specs.MoreCall.{Exits, IsImage, IsSafeMore, MoreEnds, Store
 use Rattle.store_run.specs.MoreCauses.{IsCauseInRoom, OneHasNoRoom}
 use Rattle.store_run.proofs.MoreCalls as more
 use Rattle.store_run.proofs.MoreCauses.{more_cause}
-use Rattle.store_new.specs.NewEnds.{StopsAfter}
+use Rattle.store_new.specs.NewEnds.{RefusesAtOnce, StopsAfter}
+use Rattle.store_new.proofs.CommandStatuses.{accepts_at_once, refuses_nothing, refuses_with, stops_at_once}
 use Rattle.store_new.specs.Reading.{status_at}
 use Rattle.store_new.specs.ScriptReading.{ReadsFront, RefusesWith}
 use Rattle.store_run.specs.Effects.{StandsOn}
@@ -33,6 +34,7 @@ use Rattle.store_run.proofs.Effects.{if_known}
 use Rattle.store_run.proofs.Moments.{leaves_more, leaves_then}
 use Rattle.store_run.proofs.Openings.{opening_none, opening_then, unwritten_then}
 use Rattle.store_run.proofs.Rooms.{none_some}
+use Rattle.store_run.specs.ApplyCall.{IsUnopened}
 use Rattle.hub_add.specs.AddCall.{AddEnds, AddsView, EndsAdded, EndsWhole, IsAddCause, IsAddImage, IsSafeAdd, StoresView, ViewHasNoRoom, added_payload, with_view}
 use Rattle.hub_add.specs.AddReading.{ReadsRefusedView, ReadsView}
 use Rattle.hub_add.specs.AddedView.{added_form, view_part}
@@ -69,47 +71,53 @@ module _ {S K D : Type 0} (source : OfSource.Ghosts S) (sink : OfSink.Ghosts K) 
   abbrev Ends : S × K × D → S × K × D → Status → Type 0
   Ends old new status = AddEnds source sink disk old new before state status
 
+  -- each image that a crash may leave of this disk holds the payloads from before
+  abbrev Holds : D → Type 0
+  Holds d = (c : List ℕ) → disk.images d c → HoldsPayloads before c
+
   -- ---- the script was not read to its end
 
-  pub stops_reading : (s s' : S) (k : K) (d : D) (fault : TakeFault) → ReadsFront (view_part state.forms) source s s' fault → Ends (s, k, d) (s', k, d) (status_at fault)
-  stops_reading s s' k d fault r = inr (inl (record {
+  pub stops_reading : (s s' : S) (k : K) (d : D) (fault : TakeFault) → Holds d → ReadsFront (view_part state.forms) source s s' fault → Ends (s, k, d) (s', k, d) (status_at fault)
+  stops_reading s s' k d fault holds r = inr (inl (record {
     bytes = r.bytes;
     took = r.took;
     at_most = r.at_most;
     stops = r.stops;
     no_disk = never_disk fault;
     opens = opening_none disk only_now d;
+    holds = holds;
     given = Appends-nil (sink.held k);
   }))
 
   -- ---- the program part is refused
 
-  refused_or_not : (s s' : S) (k k' : K) (d : D) (refused : HubRefused) (r : ReadsRefusedView source s s' state.forms refused) (status : Status)
+  refused_or_not : (s s' : S) (k k' : K) (d : D) → Holds d → (refused : HubRefused) (r : ReadsRefusedView source s s' state.forms refused) (status : Status)
       → RefusesWith (view_part state.forms) sink k k' (added_form state.forms (program_part r.bytes)) status → Ends (s, k, d) (s', k', d) status
-  refused_or_not s s' k k' d refused r status (inl (line, is, given)) = inr (inr (inl (record {
+  refused_or_not s s' k k' d holds refused r status (inl (line, is, given)) = inr (inr (inl (record {
     bytes = r.bytes;
     took = r.took;
     at_most = r.at_most;
     line = line;
     refused = record { whole = r.whole; refused = is };
     opens = opening_none disk only_now d;
+    holds = holds;
     given = given;
   })))
-  refused_or_not s s' k k' d refused r status (inr (is, given)) =
+  refused_or_not s s' k k' d holds refused r status (inr (is, given)) =
       subst (λ x. Ends (s, k, d) (s', k', d) x) (sym is)
-      (inr (inl (record { bytes = r.bytes; took = r.took; at_most = r.at_most; stops = tt; no_disk = λ e. cc; opens = opening_none disk only_now d; given = given })))
+      (inr (inl (record { bytes = r.bytes; took = r.took; at_most = r.at_most; stops = tt; no_disk = λ e. cc; opens = opening_none disk only_now d; holds = holds; given = given })))
 
-  pub refuses_view : (s s' : S) (k k' : K) (d : D) (refused : HubRefused) (r : ReadsRefusedView source s s' state.forms refused) (status : Status) → RefusesViews sink k k' refused status
+  pub refuses_view : (s s' : S) (k k' : K) (d : D) → Holds d → (refused : HubRefused) (r : ReadsRefusedView source s s' state.forms refused) (status : Status) → RefusesViews sink k k' refused status
       → Ends (s, k, d) (s', k', d) status
-  refuses_view s s' k k' d refused r status written =
-      refused_or_not s s' k k' d refused r status
+  refuses_view s s' k k' d holds refused r status written =
+      refused_or_not s s' k k' d holds refused r status
       (refuses_views (added_form state.forms) sink k k' (added_form state.forms (program_part r.bytes)) status refused r.is written)
 
   -- ---- the program is accepted
 
-  pub adds_program : (s s' : S) (k k' : K) (d d' : D) (program : ProgramTree) (form : FormTree) (status : Status) → ReadsView source s s' state.forms program form → stands_for before ≡ Ok (state, None)
+  pub adds_program : (s s' : S) (k k' : K) (d d' : D) (program : ProgramTree) (form : FormTree) (status : Status) → Holds d → ReadsView source s s' state.forms program form → stands_for before ≡ Ok (state, None)
       → EndsAdded sink disk (k, d) (k', d') before state program form status → Ends (s, k, d) (s', k', d') status
-  adds_program s s' k k' d d' program form status r stood (inl e) =
+  adds_program s s' k k' d d' program form status holds r stood (inl e) =
       let text = e.text in
       let reads = text_reads state program form e.payload e.lines text in
       let ends = subst (λ p. MoreEnds sink disk (k, d) (k', d') before p (state_text (with_view state form text.hub)) status) text.is
@@ -127,7 +135,7 @@ module _ {S K D : Type 0} (source : OfSource.Ghosts S) (sink : OfSink.Ghosts K) 
         exits = more.exits_of sink disk images_hold read_holds k k' d d' before (added_payload program) (state_text (with_view state form text.hub)) status ends;
         safe = more.safe_of_ends sink disk images_hold read_holds k k' d d' before (added_payload program) (state_text (with_view state form text.hub)) status ends;
       })))
-  adds_program s s' k k' d d' program form status r stood (inr (is, same, given)) =
+  adds_program s s' k k' d d' program form status holds r stood (inr (is, same, given)) =
       subst (λ x. Ends (s, k, d) (s', k', d') x) (sym is)
       (inr (inl (record {
         bytes = r.bytes;
@@ -136,6 +144,7 @@ module _ {S K D : Type 0} (source : OfSource.Ghosts S) (sink : OfSink.Ghosts K) 
         stops = tt;
         no_disk = λ e. cc;
         opens = subst (λ (x : D). IsOpening disk d x) (sym same) (opening_none disk only_now d);
+        holds = subst Holds (sym same) holds;
         given = given;
       })))
 
@@ -173,6 +182,7 @@ module _ {S K D : Type 0} (source : OfSource.Ghosts S) (sink : OfSink.Ghosts K) 
     unasked = f.unasked;
     opens = opening_then disk d0 d d' first f.opens;
     fails = (f.fails.0, λ x. subst (λ (o : Option ℕ). IsNone o) first.same_room (f.fails.1 x));
+    holds = f.holds;
   })
   ends_behind s s' k k' d0 d d' status first (inr (inl r)) = inr (inl (record {
     bytes = r.bytes;
@@ -181,6 +191,7 @@ module _ {S K D : Type 0} (source : OfSource.Ghosts S) (sink : OfSink.Ghosts K) 
     stops = r.stops;
     no_disk = r.no_disk;
     opens = opening_then disk d0 d d' first r.opens;
+    holds = r.holds;
     given = r.given;
   }))
   ends_behind s s' k k' d0 d d' status first (inr (inr (inl r))) = inr (inr (inl (record {
@@ -190,6 +201,7 @@ module _ {S K D : Type 0} (source : OfSource.Ghosts S) (sink : OfSink.Ghosts K) 
     line = r.line;
     refused = r.refused;
     opens = opening_then disk d0 d d' first r.opens;
+    holds = r.holds;
     given = r.given;
   })))
   ends_behind s s' k k' d0 d d' status first (inr (inr (inr v))) = inr (inr (inr (record {
@@ -207,25 +219,32 @@ module _ {S K D : Type 0} (source : OfSource.Ghosts S) (sink : OfSink.Ghosts K) 
   })))
 
   -- the store was not opened
-  pub fails_first : (s : S) (k k' : K) (d d' : D) (status : Status) → IsOpening disk d d' → FailsUnopened sink disk (k, d) (k', d') status → Ends (s, k, d) (s, k', d') status
-  fails_first s k k' d d' status opens fails = inl (record { unasked = refl; opens = opens; fails = fails })
+  pub fails_first : (s : S) (k k' : K) (d d' : D) (status : Status) → IsOpening disk d d' → (status ≡ ending.DiskFault) ⊎ Holds d' → FailsUnopened sink disk (k, d) (k', d') status
+      → Ends (s, k, d) (s, k', d') status
+  fails_first s k k' d d' status opens holds fails = inl (record { unasked = refl; opens = opens; fails = fails; holds = holds })
 
   -- ---- what a crash leaves
 
-  safe_opening : (d d' : D) → IsOpening disk d d' → IsSafeAdd disk d d' before state
-  safe_opening d d' o = record {
-    now = λ c x. inl (o.unwritten.only c x);
+  safe_opening : (d d' : D) → IsOpening disk d d' → Holds d' → IsSafeAdd disk d d' before state
+  safe_opening d d' o holds = record {
+    now = λ c x. inl (holds c x);
     moments = leaves_more disk d d' (disk.images d) (λ c. disk.images d c ⊎ IsAddImage before state c) (λ c p. inl p) o.moments;
   }
 
-  pub safe_add : (s s' : S) (k k' : K) (d d' : D) (status : Status) → Ends (s, k, d) (s', k', d') status → IsSafeAdd disk d d' before state
-  safe_add s s' k k' d d' status (inl f) = safe_opening d d' f.opens
-  safe_add s s' k k' d d' status (inr (inl r)) = safe_opening d d' r.opens
-  safe_add s s' k k' d d' status (inr (inr (inl r))) = safe_opening d d' r.opens
-  safe_add s s' k k' d d' status (inr (inr (inr v))) = record {
-    now = λ c x. inr (image c (v.safe.now c x));
+  abbrev Survives : S × K × D → S × K × D → Status → Type 0
+  Survives old new status = (status ≡ ending.DiskFault) × IsUnopened source sink disk old new ⊎ IsSafeAdd disk old.2 new.2 before state
+
+  pub safe_add : (s s' : S) (k k' : K) (d d' : D) (status : Status) → Ends (s, k, d) (s', k', d') status → Survives (s, k, d) (s', k', d') status
+  safe_add s s' k k' d d' status (inl f) = elim f.holds [
+    | inl e ↦ inl (e, record { unasked = f.unasked; given = f.fails.0.1; only = f.opens.unwritten.only; moments = f.opens.moments })
+    | inr h ↦ inr (safe_opening d d' f.opens h)
+  ]
+  safe_add s s' k k' d d' status (inr (inl r)) = inr (safe_opening d d' r.opens r.holds)
+  safe_add s s' k k' d d' status (inr (inr (inl r))) = inr (safe_opening d d' r.opens r.holds)
+  safe_add s s' k k' d d' status (inr (inr (inr v))) = inr (record {
+    now = λ c x. image c (v.safe.now c x);
     moments = leaves_more disk d d' (λ c. disk.images d c ⊎ IsImage before (added_payload v.program) c) (λ c. disk.images d c ⊎ IsAddImage before state c) either v.safe.moments;
-  } where
+  }) where
     image : (c : List ℕ) → IsImage before (added_payload v.program) c → IsAddImage before state c
     image c (inl held) = inl held
     image c (inr more) = inr (v.program, v.form, v.hub, more, v.more)
@@ -259,6 +278,17 @@ module _ {S K D : Type 0} (source : OfSource.Ghosts S) (sink : OfSink.Ghosts K) 
 
     pub add_cause : Ends (s, k, d) (s', k', d') status → IsAddCause source disk (s, d) (s', d') before state status
     add_cause ends = record { full = full ends; over = over ends }
+
+    -- a refusal of the program part is exact, and comes at once
+    pub add_at_once : Ends (s, k, d) (s', k', d') status → RefusesAtOnce (view_part state.forms) source s s' status
+    add_at_once (inl f) =
+        subst (λ (x : S). RefusesAtOnce (view_part state.forms) source s x status) (sym f.unasked)
+        (refuses_nothing (view_part state.forms) source s status (λ is. elim f.fails.0.0 [ inl e ↦ cc | inr e ↦ cc ]))
+    add_at_once (inr (inl r)) = stops_at_once (view_part state.forms) source s s' r.bytes r.took status r.stops
+    add_at_once (inr (inr (inl r))) = refuses_with (view_part state.forms) source s s' r.bytes r.took status sink k k' r.line r.refused r.given
+    add_at_once (inr (inr (inr v))) =
+        accepts_at_once (view_part state.forms) source s s' v.bytes v.took status (λ has. (v.form, v.accepted.has_lens))
+        (λ is. subst (IsCauseInRoom (disk.room d) before (added_payload v.program)) is (caused v))
 
     too_many : Ends (s, k, d) (s', k', d') status → status ≡ ending.InputTooLong → TakesTooMany source s s'
     too_many (inl f) is = elim f.fails.0.0 [ inl e ↦ cc | inr e ↦ cc ]

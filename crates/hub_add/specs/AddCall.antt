@@ -73,11 +73,16 @@ module _ {K D : Type 0} (sink : OfSink.Ghosts K) (disk : OfDisk.Ghosts D) (old n
 
 module _ {S K D : Type 0} (source : OfSource.Ghosts S) (sink : OfSink.Ghosts K) (disk : OfDisk.Ghosts D)
     (old new : S × K × D) (before : List (List ℕ)) (state : HubState) (status : Status) where
+  -- each image that a crash now may leave holds the payloads from before
+  abbrev pub StillHolds : Type 0
+  StillHolds = (c : List ℕ) → disk.images new.2 c → HoldsPayloads before c
+
   -- The store was not opened: the disk failed, or memory ran out. The source was not called, and nothing was written.
   pub record FailsFirst : Type 0 where
     pub unasked : IsUnasked source old.0 new.0
     pub opens : IsOpening disk old.2 new.2
     pub fails : FailsUnopened sink disk (old.1, old.2) (new.1, new.2) status
+    pub holds : (status ≡ ending.DiskFault) ⊎ StillHolds
 
   -- The script was not read to its end, or memory ran out. Nothing was written.
   pub record StopsReading : Type 0 where
@@ -87,6 +92,7 @@ module _ {S K D : Type 0} (source : OfSource.Ghosts S) (sink : OfSink.Ghosts K) 
     pub stops : StopsAfter (view_part state.forms) bytes status
     pub no_disk : status ≡ ending.DiskFault → ⊥
     pub opens : IsOpening disk old.2 new.2
+    pub holds : StillHolds
     pub given : Gave sink old.1 new.1 []
 
   -- The program part is whole and refused. The line of that refusal was written, and nothing to the disk.
@@ -97,6 +103,7 @@ module _ {S K D : Type 0} (source : OfSource.Ghosts S) (sink : OfSink.Ghosts K) 
     pub line : List ℕ
     pub refused : RefusesPart (view_part state.forms) source old.0 new.0 bytes line
     pub opens : IsOpening disk old.2 new.2
+    pub holds : StillHolds
     pub given : GivesLine sink old.1 new.1 line ending.ProgramRefused status
 
   -- The script was read to its end, and its program is accepted. From there the payload was stored and the state lines
@@ -144,10 +151,10 @@ IsAddImage before state image =
     × HoldsPayloads (before ++ added_payload program ∷ []) image × IsViewMore before state program form hub
 
 module _ {D : Type 0} (disk : OfDisk.Ghosts D) (old new : D) where
-  -- An image that a crash now may leave is such an image, or was possible before the call. So is an image of a moment
-  -- since the start of the call.
+  -- An image that a crash now may leave is such an image. An image of a moment since the start of the call is one of
+  -- those, or was possible before the call.
   pub record IsSafeAdd (before : List (List ℕ)) (state : HubState) : Type 0 where
-    pub now : (c : List ℕ) → disk.images new c → disk.images old c ⊎ IsAddImage before state c
+    pub now : (c : List ℕ) → disk.images new c → IsAddImage before state c
     pub moments : LeavesOnly disk old new (λ c. disk.images old c ⊎ IsAddImage before state c)
 
 module _ {S : Type 0} (source : OfSource.Ghosts S) (old new : S) (before : List (List ℕ)) (state : HubState) where

@@ -1,9 +1,11 @@
 //! The command `add`, from its first call of the disk on.
-ghost use Rattle.std.specs.Prelude.{◌≡◌, List, ℕ, IfOk, Ok, None, true};
+ghost use Rattle.std.specs.Prelude.{◌≡◌, ◌⊎◌, List, ℕ, IfOk, Ok, None, true};
 ghost use Rattle.command_ends.specs.Statuses.{IsAmong, init_statuses, quiet_statuses};
 ghost use Rattle.lens_io.specs.Calls.{IsUnasked, SourceFailed, SinkFailed, DiskFailed};
 ghost use Rattle.lens_forms.specs.Forms.{form_tree};
 ghost use Rattle.program_terms.specs.Views.{program_tree};
+ghost use Rattle.store_new.specs.NewEnds.{RefusesAtOnce};
+ghost use Rattle.store_run.specs.ApplyCall.{IsUnopened};
 ghost use Rattle.store_run.specs.Effects.{StandsOn};
 ghost use Rattle.store_run.specs.Refusals.{IsUnwritten, EndsRefused};
 ghost use Rattle.store_run.specs.Rooms.{TakesTooMany, most_bytes};
@@ -14,6 +16,7 @@ ghost use Rattle.hub_session.specs.HubStates.{stands_for};
 ghost use Rattle.hub_session.specs.contracts.instance.HubSessionStoredSession.TheImpl.{ghosts as hubs};
 ghost use Rattle.hub_add.specs.AddCall.{AddEnds, AddsView, EndsAdded, EndsWhole, IsAddCause, IsSafeAdd, IsViewText};
 ghost use Rattle.hub_add.specs.AddCall.{ViewHasNoRoom};
+ghost use Rattle.hub_add.specs.AddedView.{view_part};
 
 use crate::reading::read_view;
 use accepted_programs::Accepted;
@@ -37,8 +40,10 @@ use store_run::{MoreText, StoredSession, open_store, refuse_store, store_last};
 ///   one view more, which is in step, and its state lines were written.
 /// - `stops`: what was taken, written and stored after each status. `ProgramRefused` comes only if the program part is
 ///   whole and refused: for a program that is refused, for 64 views, or for another left type, as `hub` refuses it.
-/// - `survives`: what a crash leaves at each moment of the call and at its end: an image was possible before the call,
-///   or holds the payloads from before, or these and a program with which they represent the hub with one view more.
+/// - `survives`: an image that a crash leaves holds the payloads from before, or these and a program with which they
+///   represent the hub with one view more. An image of a moment of the call may also have been possible before it. If
+///   the sync of the opening failed, nothing has changed.
+/// - `at_once`: a refusal of the program part is exact, and behind it nothing is read.
 /// - `causes`: `StoreRefused` comes only if the log had no room for the payload, and `DiskFault`, if the disk's room is
 ///   known, only if the disk had none.
 /// - `complete`: so with no fault, and if not too many bytes are taken and the log has room, the status is `Done` or
@@ -60,7 +65,11 @@ pub fn add<S: Source, K: Sink, D: Disk>(
         → AddEnds S.Source K.Sink D.Disk (source.old, sink.old, disk.old) (source.new, sink.new, disk.new)
         store.payloads store.state result }
     ensures survives { (store : Store D.Disk hubs disk.old)
-        → IsSafeAdd D.Disk disk.old disk.new store.payloads store.state }
+        → (result ≡ Status.DiskFault) × IsUnopened S.Source K.Sink D.Disk
+        (source.old, sink.old, disk.old) (source.new, sink.new, disk.new)
+        ⊎ IsSafeAdd D.Disk disk.old disk.new store.payloads store.state }
+    ensures at_once { (store : Store D.Disk hubs disk.old)
+        → RefusesAtOnce (view_part store.state.forms) S.Source source.old source.new result }
     ensures causes { (store : Store D.Disk hubs disk.old)
         → IsAddCause S.Source D.Disk (source.old, disk.old) (source.new, disk.new)
         store.payloads store.state result }

@@ -13,7 +13,7 @@ use Rattle.store_run.specs.Refusals.{refusal_line}
 use Rattle.store_run.specs.declared.refusals.StoreRefusal.TheVariants.{LogExists}
 use Rattle.store_new.specs.Command.{PartMeaning, Command}
 use Rattle.store_new.specs.NewEnds.{GivesLine, StopsAfter, MakesStore, Ends, MayRefuse, RefusesAtOnce, IsEnd, IsComplete, Completes}
-use Rattle.store_new.specs.Scripts.{IsAcceptedPart, GoesOn}
+use Rattle.store_new.specs.Scripts.{IsAcceptedPart, GoesOn, RefusesPart}
 use Rattle.store_new.specs.NewStores.{IsTooLong, EndsMaking}
 use Rattle.command_ends.specs.Statuses.{IsAmong, import_statuses, init_statuses}
 use Rattle.command_ends.specs.declared.status.Status.{Status}
@@ -128,37 +128,49 @@ other_line sink k k' status (inr (now, given)) is = cc
 never_refused : (part : PartMeaning) (bytes : List ℕ) (status : Status) → StopsAfter part bytes status → status ≡ ProgramRefused → ⊥
 never_refused part bytes status stops is = subst (StopsAfter part bytes) is stops
 
+-- these bytes were taken
+module _ (part : PartMeaning) {S : Type 0} (source : OfSource.Ghosts S) (s s' : S) (bytes : List ℕ) (took : Took source s s' bytes) (status : Status) where
+  -- the program part is accepted, if its separator has come
+  pub accepts_at_once : GoesOn part bytes → (status ≡ ProgramRefused → ⊥) → RefusesAtOnce part source s s' status
+  accepts_at_once goes_on other = record { bytes = bytes; took = took; only = λ is. absurd (other is); whole = λ has refusal refused. absurd (never_both part bytes refusal (goes_on has) refused) }
+
+  -- the command stopped before its script was known
+  pub stops_at_once : StopsAfter part bytes status → RefusesAtOnce part source s s' status
+  stops_at_once stops = record {
+    bytes = bytes;
+    took = took;
+    only = λ is. absurd (never_refused part bytes status stops is);
+    whole = λ has refusal refused. stops_unrefused part bytes refusal status stops has refused;
+  }
+
+  -- the line of a refusal was written, or a prefix of it
+  pub refuses_with : {K : Type 0} (sink : OfSink.Ghosts K) (k k' : K) (line : List ℕ) → RefusesPart part source s s' bytes line → GivesLine sink k k' line ProgramRefused status → RefusesAtOnce part source s s' status
+  refuses_with sink k k' line refuses given = record {
+    bytes = bytes;
+    took = took;
+    only = λ is. (line, refuses);
+    whole = λ has refusal refused. by_line (given_with sink k k' line ProgramRefused status given);
+  } where
+    by_line : (status ≡ ProgramRefused) ⊎ (status ≡ SinkFault) → MayRefuse status
+    by_line (inl x) = subst MayRefuse (sym x) tt
+    by_line (inr x) = subst MayRefuse (sym x) tt
+
 module _ {S K D : Type 0} (source : OfSource.Ghosts S) (sink : OfSink.Ghosts K) (disk : OfDisk.Ghosts D) (command : Command)
     (accepts : (bytes : List ℕ) (payloads : List (List ℕ)) (lines : List ℕ) → command.makes bytes payloads lines → IsAcceptedPart command.part bytes)
     (refuses : (bytes line : List ℕ) → command.refuses bytes line → IsAcceptedPart command.part bytes) where
   module _ (s s' : S) (k k' : K) (d d' : D) (status : Status) where
-    -- the program part is accepted, if it is whole
-    goes_on_at_once : (bytes : List ℕ) → Took source s s' bytes → GoesOn command.part bytes → (status ≡ ProgramRefused → ⊥) → RefusesAtOnce command.part source s s' status
-    goes_on_at_once bytes took goes_on other = record { bytes = bytes; took = took; only = λ is. absurd (other is); whole = λ has refusal refused. absurd (never_both command.part bytes refusal (goes_on has) refused) }
-
     -- a refusal of the program part is exact, and comes at once
     pub refuses_at_once : Ends source sink disk command (s, k, d) (s', k', d') status → RefusesAtOnce command.part source s s' status
-    refuses_at_once (inl e) = goes_on_at_once e.bytes e.took e.goes_on (other_line sink k k' status e.given)
-    refuses_at_once (inr (inl e)) = record {
-      bytes = e.bytes;
-      took = e.took;
-      only = λ is. absurd (never_refused command.part e.bytes status e.stops is);
-      whole = λ has refusal refused. stops_unrefused command.part e.bytes refusal status e.stops has refused;
-    }
-    refuses_at_once (inr (inr (inl e))) = record {
-      bytes = e.bytes;
-      took = e.took;
-      only = λ is. (e.line, e.refused);
-      whole = λ has refusal refused. by_line (given_with sink k k' e.line ProgramRefused status e.given);
-    } where
-      by_line : (status ≡ ProgramRefused) ⊎ (status ≡ SinkFault) → MayRefuse status
-      by_line (inl x) = subst MayRefuse (sym x) tt
-      by_line (inr x) = subst MayRefuse (sym x) tt
-    refuses_at_once (inr (inr (inr (inl e)))) = goes_on_at_once e.bytes e.took (λ has. refuses e.bytes e.line e.refused) (λ is. by_line is (given_with sink k k' e.line SomeRefused status e.given)) where
-      by_line : status ≡ ProgramRefused → (status ≡ SomeRefused) ⊎ (status ≡ SinkFault) → ⊥
-      by_line is (inl x) = cc
-      by_line is (inr x) = cc
-    refuses_at_once (inr (inr (inr (inr e)))) = goes_on_at_once e.bytes e.took (λ has. accepts e.bytes e.payloads e.lines e.made)
+    refuses_at_once (inl e) = accepts_at_once command.part source s s' e.bytes e.took status e.goes_on (other_line sink k k' status e.given)
+    refuses_at_once (inr (inl e)) = stops_at_once command.part source s s' e.bytes e.took status e.stops
+    refuses_at_once (inr (inr (inl e))) = refuses_with command.part source s s' e.bytes e.took status sink k k' e.line e.refused e.given
+    refuses_at_once (inr (inr (inr (inl e)))) =
+        accepts_at_once command.part source s s' e.bytes e.took status (λ has. refuses e.bytes e.line e.refused) (λ is. by_line is (given_with sink k k' e.line SomeRefused status e.given)) where
+          by_line : status ≡ ProgramRefused → (status ≡ SomeRefused) ⊎ (status ≡ SinkFault) → ⊥
+          by_line is (inl x) = cc
+          by_line is (inr x) = cc
+    refuses_at_once (inr (inr (inr (inr e)))) =
+        accepts_at_once command.part source s s' e.bytes e.took status (λ has. accepts e.bytes e.payloads e.lines e.made)
         (λ is. absurd (subst (EndsMaking sink disk (k, d) (k', d') e.payloads e.lines) is e.ends))
 
   -- ---- completeness

@@ -9,6 +9,7 @@ returns-clause-adds g c =
         continues = e.adds s;
         in_step = hub_in_step s.payloads s.state s.version s.stands;
         stops = e.stops s;
+        at_once = e.at_once s;
         survives = e.survives s;
         caused = e.causes s;
         completes = e.complete s;

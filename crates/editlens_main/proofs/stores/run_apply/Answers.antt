@@ -11,7 +11,7 @@ returns-clause-applies g c =
         in_step = stays_in_step s.payloads s.state s.version s.stands;
         in_time = e.in_time s;
         stops = e.exits s;
-        survives = elim (e.safe s) [ inl h ↦ inl (inl h.0, h.1) | inr h ↦ inr h ];
+        survives = elim (e.safe s) [ inl h ↦ inl (inl h) | inr h ↦ inr h ];
         caused = e.causes s;
         completes = e.complete s;
       };

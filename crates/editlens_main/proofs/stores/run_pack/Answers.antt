@@ -10,7 +10,7 @@ returns-clause-packs g c =
         continues = e.packs s;
         in_step = (stored_sound s.payloads s.state s.version s.stands).1;
         stops = e.exits s;
-        survives = elim (e.safe s) [ inl h ↦ inl (inl h.0, h.1) | inr h ↦ inr h ];
+        survives = elim (e.safe s) [ inl h ↦ inl (inl h) | inr h ↦ inr h ];
         caused = e.causes s;
         completes = e.complete s;
       };

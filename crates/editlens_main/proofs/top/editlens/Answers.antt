@@ -112,7 +112,7 @@ pub returns-in-Err-NoMemory-clause-import : goal.returns-in-Err-NoMemory-clause-
 returns-in-Err-NoMemory-clause-import g c = λ e. never_import g.S.Source g.K.Sink g.D.Disk (c.args.source.now, c.args.sink.now, c.args.disk.now)
 
 pub returns-in-Err-NoMemory-clause-apply : goal.returns-in-Err-NoMemory-clause-apply
-returns-in-Err-NoMemory-clause-apply g c = λ e. never_apply g.S.Source g.K.Sink g.D.Disk (c.args.source.now, c.args.sink.now, c.args.disk.now) g.met.D.Disk.only_now
+returns-in-Err-NoMemory-clause-apply g c = λ e. never_apply g.S.Source g.K.Sink g.D.Disk (c.args.source.now, c.args.sink.now, c.args.disk.now)
 
 pub returns-in-Err-NoMemory-clause-show : goal.returns-in-Err-NoMemory-clause-show
 returns-in-Err-NoMemory-clause-show g c = λ e. never_view g.K.Sink g.D.Disk (c.args.sink.now, c.args.disk.now) g.met.D.Disk.only_now shown
@@ -121,10 +121,10 @@ pub returns-in-Err-NoMemory-clause-verify : goal.returns-in-Err-NoMemory-clause-
 returns-in-Err-NoMemory-clause-verify g c = λ e. never_view g.K.Sink g.D.Disk (c.args.sink.now, c.args.disk.now) g.met.D.Disk.only_now verified
 
 pub returns-in-Err-NoMemory-clause-pack : goal.returns-in-Err-NoMemory-clause-pack
-returns-in-Err-NoMemory-clause-pack g c = λ e. never_pack g.K.Sink g.D.Disk (c.args.sink.now, c.args.disk.now) g.met.D.Disk.only_now
+returns-in-Err-NoMemory-clause-pack g c = λ e. never_pack g.K.Sink g.D.Disk (c.args.sink.now, c.args.disk.now)
 
 pub returns-in-Err-NoMemory-clause-undo : goal.returns-in-Err-NoMemory-clause-undo
-returns-in-Err-NoMemory-clause-undo g c = λ count e. never_undo g.K.Sink g.D.Disk (c.args.sink.now, c.args.disk.now) g.met.D.Disk.only_now count
+returns-in-Err-NoMemory-clause-undo g c = λ count e. never_undo g.K.Sink g.D.Disk (c.args.sink.now, c.args.disk.now) count
 
 pub returns-in-Err-NoMemory-clause-hub : goal.returns-in-Err-NoMemory-clause-hub
 returns-in-Err-NoMemory-clause-hub g c = λ e. never_script g.S.Source g.K.Sink (c.args.source.now, c.args.sink.now) hub_script accepted_in_step

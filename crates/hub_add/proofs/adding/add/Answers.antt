@@ -1,14 +1,15 @@
-use Rattle.std.proofs.Common.{◌≡◌, inl, ℕ, List, Option, None, Ok, Err, refl, ap, sym, subst, ◌∙◌}
+use Rattle.std.proofs.Common.{◌≡◌, inl, inr, ℕ, List, Option, None, Ok, Err, refl, ap, sym, subst, ◌∙◌}
 use Rattle.command_ends.proofs.AmongStatuses.{quiet_reads_nothing}
 use Rattle.lens_io.proofs.Increases.{increased_since}
 use Rattle.store_run.specs.declared.opening.OpenFault.{OpenFault}
 use Rattle.store_run.proofs.StoredPayloads.{images_held, reads_held}
-use Rattle.store_run.proofs.StoreOpenings.{ends_refused, fails_to_open}
+use Rattle.store_run.specs.declared.opening.OpenFault.TheVariants.{DiskFault}
+use Rattle.store_run.proofs.StoreOpenings.{ends_refused, fails_to_open, same_fault, unopened_at_disk}
 use Rattle.hub_run.specs.RunStates.{state_of}
 use Rattle.hub_run.specs.Runs.{HubState}
 use Rattle.hub_session.specs.HubStates.{stands_for}
 use Rattle.hub_add.specs.AddCall.{AddEnds}
-use Rattle.hub_add.proofs.AddingEnds.{add_cause, add_complete, adds_view, ends_behind, fails_first, safe_add}
+use Rattle.hub_add.proofs.AddingEnds.{add_at_once, add_cause, add_complete, adds_view, ends_behind, fails_first, safe_add}
 use Rattle.hub_add.proofs.AddStatuses.{quiet_inits}
 use Rattle.hub_add.proofs.ViewsMore.{no_version}
 use Rattle.hub_add.proofs.adding.add.Goals as goal
@@ -56,6 +57,15 @@ returns-in-Ok-clause-survives g c =
     safe_add g.S.Source g.K.Sink disk hold reads g.met.D.Disk.only_now store.payloads store.state c.args.source.now c.add_opened.new.source c.args.sink.now c.add_opened.new.sink c.args.disk.now c.add_opened.new.disk
     c.add_opened.result (returns-in-Ok-clause-stops g c store)
 
+pub returns-in-Ok-clause-at_once : goal.returns-in-Ok-clause-at_once
+returns-in-Ok-clause-at_once g c =
+    let disk = g.D.Disk in
+    let hold = images_held disk g.met.D.Disk.content_is_image in
+    let reads = reads_held disk in
+    λ store.
+    add_at_once g.S.Source g.K.Sink disk hold reads g.met.D.Disk.only_now store.payloads store.state c.args.source.now c.add_opened.new.source c.args.sink.now c.add_opened.new.sink c.args.disk.now c.add_opened.new.disk
+    c.add_opened.result store.bytes store.told (returns-in-Ok-clause-stops g c store)
+
 pub returns-in-Ok-clause-causes : goal.returns-in-Ok-clause-causes
 returns-in-Ok-clause-causes g c =
     let disk = g.D.Disk in
@@ -99,6 +109,7 @@ returns-in-Err-clause-stops g c =
     let fault = c.in-Err.fault in
     λ store.
     fails_first g.S.Source g.K.Sink disk hold reads g.met.D.Disk.only_now store.payloads store.state c.args.source.now k k' d d1 status c.in-Err.ensures.opening
+    (elim (c.in-Err.ensures.held store) [ inl failed ↦ inl (unopened_at_disk g.K.Sink k k' status fault (same_fault fault DiskFault failed) c.refuse_store.ensures.ends).0 | inr now ↦ inr now ])
     (fails_to_open g.K.Sink disk k k' d d1 status fault (c.in-Err.ensures.opened store) (λ e. c.in-Err.ensures.sure (ap (λ (x : OpenFault). Err x) e)) c.refuse_store.ensures.ends)
 
 pub returns-in-Err-clause-adds : goal.returns-in-Err-clause-adds
@@ -112,6 +123,15 @@ returns-in-Err-clause-survives g c =
     λ store.
     safe_add g.S.Source g.K.Sink disk hold reads g.met.D.Disk.only_now store.payloads store.state c.args.source.now c.args.source.now c.args.sink.now c.refuse_store.new.sink c.args.disk.now c.open_store.new.disk
     c.refuse_store.result (returns-in-Err-clause-stops g c store)
+
+pub returns-in-Err-clause-at_once : goal.returns-in-Err-clause-at_once
+returns-in-Err-clause-at_once g c =
+    let disk = g.D.Disk in
+    let hold = images_held disk g.met.D.Disk.content_is_image in
+    let reads = reads_held disk in
+    λ store.
+    add_at_once g.S.Source g.K.Sink disk hold reads g.met.D.Disk.only_now store.payloads store.state c.args.source.now c.args.source.now c.args.sink.now c.refuse_store.new.sink c.args.disk.now c.open_store.new.disk
+    c.refuse_store.result store.bytes store.told (returns-in-Err-clause-stops g c store)
 
 pub returns-in-Err-clause-causes : goal.returns-in-Err-clause-causes
 returns-in-Err-clause-causes g c =

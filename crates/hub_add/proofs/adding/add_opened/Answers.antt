@@ -34,7 +34,7 @@ returns-in-Ok-clause-ends g c =
     let r = subst (λ fs. ReadsView g.S.Source c.args.source.now c.read_view.new.source fs (program_tree accepted.program) (form_tree accepted.lens)) lenses c.in-Ok.ensures.script in
     λ before st stood.
     adds_program g.S.Source g.K.Sink disk hold reads g.met.D.Disk.only_now before state c.args.source.now c.read_view.new.source c.args.sink.now c.add_program.new.sink c.args.disk.now c.add_program.new.disk
-    (program_tree accepted.program) (form_tree accepted.lens) c.add_program.result r stood (c.add_program.ensures.ends before st)
+    (program_tree accepted.program) (form_tree accepted.lens) c.add_program.result (λ x now. hold c.args.log.now c.args.disk.now before x st now) r stood (c.add_program.ensures.ends before st)
 
 pub refuse_views-requires : goal.refuse_views-requires
 refuse_views-requires g c = (rw c.in-Err-Refused.field-0-is at c.in-Err-Refused.ensures.script).known
@@ -49,7 +49,8 @@ returns-in-Err-Refused-clause-ends g c =
     let unread = rw c.in-Err-Refused.field-0-is at c.in-Err-Refused.ensures.script in
     let r = subst (λ fs. ReadsRefusedView g.S.Source c.args.source.now c.read_view.new.source fs c.in-Err-Refused.refused) lenses unread in
     λ before st stood.
-    refuses_view g.S.Source g.K.Sink disk hold reads g.met.D.Disk.only_now before state c.args.source.now c.read_view.new.source c.args.sink.now c.refuse_views.new.sink c.args.disk.now c.in-Err-Refused.refused r
+    refuses_view g.S.Source g.K.Sink disk hold reads g.met.D.Disk.only_now before state c.args.source.now c.read_view.new.source c.args.sink.now c.refuse_views.new.sink c.args.disk.now
+    (λ x now. hold c.args.log.now c.args.disk.now before x st now) c.in-Err-Refused.refused r
     c.refuse_views.result c.refuse_views.ensures.refuses
 
 pub returns-in-Err-Stopped-clause-ends : goal.returns-in-Err-Stopped-clause-ends
@@ -64,7 +65,8 @@ returns-in-Err-Stopped-clause-ends g c =
     λ before st stood.
     subst (λ status. AddEnds g.S.Source g.K.Sink disk (c.args.source.now, c.args.sink.now, c.args.disk.now) (c.read_view.new.source, c.args.sink.now, c.args.disk.now) before state status)
     (sym c.status_at.ensures)
-    (stops_reading g.S.Source g.K.Sink disk hold reads g.met.D.Disk.only_now before state c.args.source.now c.read_view.new.source c.args.sink.now c.args.disk.now c.in-Err-Stopped.fault r)
+    (stops_reading g.S.Source g.K.Sink disk hold reads g.met.D.Disk.only_now before state c.args.source.now c.read_view.new.source c.args.sink.now c.args.disk.now c.in-Err-Stopped.fault
+    (λ x now. hold c.args.log.now c.args.disk.now before x st now) r)
 
 pub returns-in-Ok-clause-statuses : goal.returns-in-Ok-clause-statuses
 returns-in-Ok-clause-statuses g c = quiet_inits c.add_program.result c.add_program.ensures.statuses
