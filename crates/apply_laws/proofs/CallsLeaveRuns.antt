@@ -23,7 +23,7 @@ use Rattle.store_session.proofs.StatesInStep.{stored_sound}
 use Rattle.store_run.specs.ApplyCall.{ContinuesCall, IsSafeCall}
 use Rattle.store_run.specs.StoreRuns.{run, last, kept_of, text_of}
 use Rattle.store_run.specs.declared.session.StoredAnswer.{StoredAnswer}
-use Rattle.editlens_main.specs.Applies.{Applies}
+use Rattle.editlens_main.specs.Applies.{Applies, Unopened}
 use Rattle.editlens_main.specs.Stores.{Store}
 use Rattle.command_ends.specs.declared.status.Status.{Status}
 use Rattle.apply_laws.specs.StoreRuns.{StoreParts, with_version, HoldsRun}

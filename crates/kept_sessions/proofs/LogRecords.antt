@@ -177,7 +177,7 @@ made_of before after line None a form in_step s kept h = cc
 pub accepted_made : (line : List ℕ) (before after : Running) (a : Accepted) → IsLineStep before line outcome.Done after → after.accepted ≡ Some a → IsMade (form_of after) a
 accepted_made line before after a s h =
     let item = done_item (is_blank (line_of line)) before (line_of line) after s in
-    made_of before after (line_of line) after.accepted a (form_stays before after item.lens) item.in_step (item_stepped before (line_of line) after item) item.accepted h
+    made_of before after (line_of line) after.accepted a (form_stays before after item.lens) item.was_in_step (item_stepped before (line_of line) after item) item.accepted h
 
 -- ---- reopening
 

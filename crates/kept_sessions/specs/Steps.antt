@@ -59,10 +59,12 @@ pub record Answers (before : SessionOf ReadyForm) (number : ℕ) (line : Line) (
   pub is_text : text ≡ answer_line number answer
   pub ended : end ≡ outcome_of answer
 
--- the line is an item with the next number, its answer line is the text, and it is kept if it was accepted
+-- The line is an item with the next number, its answer line is the text, and it is kept if it was accepted. The triple
+-- after it is in step, as the one before it was.
 pub record IsItemStep (before : Running) (line : Line) (end : Outcome) (after : Running) : Type 0 where
   pub lens : after.session.lens ≡ before.session.lens
-  pub in_step : IsInStepFor (form_of before) (triple_tree before.session.triple)
+  pub was_in_step : IsInStepFor (form_of before) (triple_tree before.session.triple)
+  pub in_step : IsInStepFor (form_of after) (triple_tree after.session.triple)
   pub number : after.number ≡ before.number + 1
   pub answers : Answers before.session after.number line after.text.items end after.session
   pub accepted : IsKept (triple_tree before.session.triple) line end after.accepted

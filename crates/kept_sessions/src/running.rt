@@ -115,9 +115,12 @@ fn answer(
     line: &Line,
 ) -> Result<(Vec<u8>, Outcome), AllocError>
     ensures answer { IfOk result (λ made. Answers session.old number line.now made.0.items made.1 session.new) }
+    ensures in_step { OnOk result (IsInStepFor (session_form session.new) (triple_tree session.new.triple)) }
     ensures lens { session.new.lens ≡ session.old.lens }
 {
     let answer = take_item(alloc, session, line)?;
+    // The proof needs that the triple is in step, which this call says.
+    let _ = session.comp();
     let outcome = outcome_of(&answer);
     let text = answer_line(alloc, number, &answer)?;
     Ok((text.into_vec(), outcome))
