@@ -1,0 +1,3 @@
+pub mod HubReports
+pub mod PairLines
+pub mod PairReports

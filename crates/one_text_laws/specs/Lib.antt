@@ -1,0 +1,3 @@
+pub mod HubTexts
+pub mod RunTexts
+pub mod WrittenTexts
