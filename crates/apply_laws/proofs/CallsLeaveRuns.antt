@@ -28,7 +28,7 @@ use Rattle.editlens_main.specs.Stores.{Store}
 use Rattle.command_ends.specs.declared.status.Status.{Status}
 use Rattle.apply_laws.specs.StoreRuns.{StoreParts, with_version, HoldsRun}
 use Rattle.apply_laws.specs.TwoCalls.{parts_of, LeavesRun, FinishesRun, StaysUnopened, ContinuesRun}
-use Rattle.apply_laws.proofs.LeftPayloads.{LeavesPayloads, leaves_payloads}
+use Rattle.store_laws.proofs.LeftPayloads.{LeavesPayloads, leaves_payloads}
 use Rattle.apply_laws.proofs.RunsOverStores.{journal_in_step, one_run}
 
 -- ---- a run of the session is a run over the store

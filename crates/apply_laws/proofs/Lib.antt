@@ -1,8 +1,5 @@
 pub mod CallsLeaveRuns
-pub mod CutLines
-pub mod FirstLines
-pub mod LeftPayloads
+pub mod CutItems
 pub mod RunOfAccepted
 pub mod RunsOverStores
 pub mod SameStores
-pub mod Sequences

@@ -12,7 +12,7 @@ use Rattle.lens_core.specs.Complements.{CompTree}
 use Rattle.lens_core.specs.Translation.{Translated}
 use Rattle.store_session.specs.Journals.{accepted_change, accepted_changes}
 use Rattle.apply_laws.specs.OneRun.{as_items, accepted_steps}
-use Rattle.apply_laws.proofs.Sequences.{first_made, first_is, never_empty}
+use Rattle.store_laws.proofs.Sequences.{first_made, first_is, never_empty}
 
 abbrev Steps : Type 0
 Steps = List (TripleTree × JournalAnswer)

@@ -15,7 +15,7 @@ use Rattle.store_session.proofs.StatesInStep.{item_in_step}
 use Rattle.apply_laws.specs.OneRun.{as_items, accepted_steps}
 use Rattle.apply_laws.specs.StoreRuns.{StoreParts, with_version, AreInStep, HoldsRun, AreOneRun}
 use Rattle.apply_laws.proofs.RunOfAccepted.{runs_over, joined, accepted_joined, steps_joined, last_joined}
-use Rattle.apply_laws.proofs.Sequences.{first_is}
+use Rattle.store_laws.proofs.Sequences.{first_is}
 
 abbrev Steps : Type 0
 Steps = List (TripleTree × JournalAnswer)

@@ -1,13 +1,8 @@
 -- A journal that is cut in two between lines, and applied in two calls or in one.
--- Read it from the end: `ComeToTheSame`, then `EndsALine`.
-use Rattle.std.specs.Prelude.{◌≡◌, ◌⊎◌, ℕ, List, [], ◌∷◌, ◌++◌}
+use Rattle.std.specs.Prelude.{◌≡◌, List, ◌++◌}
 use Rattle.edit_session.specs.Step.{TripleTree}
 use Rattle.pair_answers.specs.ItemRuns.{JournalAnswer}
 use Rattle.apply_laws.specs.StoreRuns.{StoreParts}
-
--- the bytes end with an LF, or there are none: what follows them begins a line
-abbrev pub EndsALine : List ℕ → Type 0
-EndsALine bytes = (bytes ≡ []) ⊎ ((text : List ℕ) × (bytes ≡ text ++ 10 ∷ []))
 
 -- Two calls, one after the other, came to the store `after` by the steps `first` and `second`. One call over the store
 -- before them came to the other store by `steps`.

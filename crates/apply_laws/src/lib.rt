@@ -14,10 +14,11 @@ ghost use Rattle.lens_forms.specs.Forms.{FormTree};
 ghost use Rattle.editlens_main.specs.Applies.{Applies};
 ghost use Rattle.editlens_main.specs.Stores.{Store};
 ghost use Rattle.command_ends.specs.declared.status.Status.{Status};
-ghost use Rattle.apply_laws.specs.CutJournals.{EndsALine, ComeToTheSame};
+ghost use Rattle.apply_laws.specs.CutJournals.{ComeToTheSame};
 ghost use Rattle.apply_laws.specs.OneRun.{IsRunOfAccepted};
 ghost use Rattle.apply_laws.specs.StoreRuns.{StoreParts, HoldsRun, AreOneRun};
 ghost use Rattle.apply_laws.specs.TwoCalls.{parts_of, LeavesRun, FinishesRun, StaysUnopened, ContinuesRun};
+ghost use Rattle.store_laws.specs.CutStores.{EndsALine};
 
 use lens_io::{Disk, Sink, Source};
 

@@ -1,7 +1,8 @@
 use Rattle.std.proofs.Common.{ap, ◌∙◌}
 use Rattle.edit_journal.specs.Pieces.{lines_of}
 use Rattle.pair_answers.specs.ItemRuns.{items_of}
-use Rattle.apply_laws.proofs.CutLines.{lines_joined, items_joined}
+use Rattle.store_laws.proofs.CutTexts.{lines_joined}
+use Rattle.apply_laws.proofs.CutItems.{items_joined}
 use Rattle.apply_laws.proofs.SameStores.{come_to_the_same}
 use Rattle.apply_laws.proofs.a_journal_may_be_cut.Goals as goal
 

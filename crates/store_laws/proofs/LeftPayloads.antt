@@ -9,7 +9,7 @@ use Rattle.store_run.specs.OkLines.{ok_lines}
 use Rattle.store_run.specs.StoreRuns.{run, last, kept_of}
 use Rattle.store_run.specs.declared.session.StoredAnswer.{StoredAnswer}
 use Rattle.store_run.specs.declared.session.StoredSession as OfSession
-use Rattle.apply_laws.proofs.FirstLines.{FirstLines, first_lines}
+use Rattle.store_laws.proofs.FirstLines.{FirstLines, first_lines}
 
 abbrev Payloads : Type 0
 Payloads = List (List ℕ)

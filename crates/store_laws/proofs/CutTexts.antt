@@ -1,14 +1,11 @@
--- The lines and the items of a journal that is cut between lines.
+-- The lines of a journal that is cut between lines.
 use Rattle.std.proofs.Common.{◌≡◌, inl, inr, ℕ, List, [], ◌∷◌, ◌++◌, Bool, true, false, cond, refl, sym, ap, ◌∙◌, append_assoc}
 use Rattle.std.specs.Prelude.{map, ◌==◌}
 use Rattle.std.specs.List.{onto_first}
 use Rattle.std.proofs.lemmas.List.{map-append}
-use Rattle.edit_journal.specs.EntryJson.{change_of_line}
-use Rattle.edit_journal.specs.Lines.{is_blank, line_of}
+use Rattle.edit_journal.specs.Lines.{line_of}
 use Rattle.edit_journal.specs.Pieces.{texts_of, lines_of}
-use Rattle.edit_journal.specs.declared.line.Line.{Line}
-use Rattle.pair_answers.specs.ItemRuns.{items_of}
-use Rattle.apply_laws.specs.CutJournals.{EndsALine}
+use Rattle.store_laws.specs.CutStores.{EndsALine}
 
 -- ---- texts
 
@@ -41,7 +38,7 @@ texts_joined text more =
     ∙ k.is more
     ∙ sym (ap (λ l. l ++ texts_of more) (k.is []) ∙ ap (λ l. k.first ∷ l) (append_assoc k.others [] (texts_of more)))
 
--- ---- lines and items
+-- ---- lines
 
 pub lines_joined : (bytes more : List ℕ) → EndsALine bytes → lines_of (bytes ++ more) ≡ lines_of bytes ++ lines_of more
 lines_joined bytes more (inl none) = ap (λ l. lines_of (l ++ more)) none ∙ sym (ap (λ l. lines_of l ++ lines_of more) none)
@@ -51,11 +48,3 @@ lines_joined bytes more (inr ends) =
     ∙ ap (map line_of) (texts_joined ends.0 more)
     ∙ map-append line_of (texts_of text) (texts_of more)
     ∙ sym (ap (λ l. lines_of l ++ lines_of more) ends.1)
-
-pub items_joined : (lines more : List Line) → items_of (lines ++ more) ≡ items_of lines ++ items_of more
-items_joined [] more = refl
-items_joined (line ∷ lines) more = by_blank (is_blank line) (items_joined lines more) where
-  by_blank : (b : Bool) → items_of (lines ++ more) ≡ items_of lines ++ items_of more
-      → cond b (items_of (lines ++ more)) (change_of_line line ∷ items_of (lines ++ more)) ≡ cond b (items_of lines) (change_of_line line ∷ items_of lines) ++ items_of more
-  by_blank true h = h
-  by_blank false h = ap (λ l. change_of_line line ∷ l) h

@@ -5,7 +5,7 @@ use Rattle.edit_journal.specs.declared.line.Line.{Line}
 use Rattle.store_run.specs.StoreRuns.{run}
 use Rattle.store_run.specs.declared.session.StoredAnswer.{StoredAnswer}
 use Rattle.store_run.specs.declared.session.StoredSession as OfSession
-use Rattle.apply_laws.proofs.Sequences.{put_first, first_made, first_is}
+use Rattle.store_laws.proofs.Sequences.{put_first, first_made, first_is}
 
 module _ {A : Type 0} (session : OfSession.Ghosts A) where
   -- these steps are the run of the first ones of these lines

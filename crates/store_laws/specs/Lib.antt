@@ -1,0 +1,4 @@
+pub mod CallsOverStores
+pub mod CutStores
+pub mod SessionRuns
+pub mod StoresOfSessions
