@@ -1,0 +1,3 @@
+pub mod HubNumbers
+pub mod HubRunsExist
+pub mod HubsApplied
