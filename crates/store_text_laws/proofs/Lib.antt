@@ -1,0 +1,3 @@
+pub mod HubLines
+pub mod HubTexts
+pub mod PairTexts

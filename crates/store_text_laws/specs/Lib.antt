@@ -1,0 +1,2 @@
+pub mod HubsAlike
+pub mod StoreTexts
