@@ -2,7 +2,8 @@
 //! them.
 //!
 //! The contract of a call says what the call writes and stores, and what a crash leaves of it. The laws here put
-//! calls together. Each function does nothing: its clauses are the laws.
+//! calls together, of the pair that `editlens` keeps; store_laws has those that hold for every session, and hub_laws
+//! those of a hub. Each function does nothing: its clauses are the laws.
 #![tactic(auto)]
 
 ghost use Rattle.command_ends.specs.Statuses.{IsFinished};
@@ -19,6 +20,8 @@ ghost use Rattle.apply_laws.specs.OneRun.{IsRunOfAccepted};
 ghost use Rattle.apply_laws.specs.StoreRuns.{StoreParts, HoldsRun, AreOneRun};
 ghost use Rattle.apply_laws.specs.TwoCalls.{parts_of, LeavesRun, FinishesRun, StaysUnopened, ContinuesRun};
 ghost use Rattle.store_laws.specs.CutStores.{EndsALine};
+ghost use Rattle.store_laws.specs.SessionRuns.{IsNumberedAlike};
+ghost use Rattle.store_session.specs.contracts.instance.StoreSessionStoredSession.TheImpl.{ghosts as sessions};
 
 use lens_io::{Disk, Sink, Source};
 
@@ -29,6 +32,12 @@ pub fn accepted_changes_are_a_run()
     ensures { (form : FormTree) (triple : TripleTree) (items : List JournalItem)
         (journal : List (TripleTree × JournalAnswer))
         → run_from form triple items ≡ Some journal → IsRunOfAccepted form triple items journal }
+{}
+
+/// The number of an item changes the answer line of a pair alone: the next triple and the payload are the same under
+/// every number. So all laws of store_laws hold for pairs.
+pub fn a_pair_is_numbered_alike()
+    ensures { IsNumberedAlike sessions }
 {}
 
 /// A run over a store, and then a run over the store that it made, are one run over the first store.

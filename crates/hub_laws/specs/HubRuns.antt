@@ -1,4 +1,4 @@
--- The run of a stored hub over the lines of a journal. Read it from the end: `IsHubJournalRun`, then `accepted_changes`.
+-- The run of a stored hub over the lines of a journal. Read it from the end: `IsHubJournalRun`, `accepted_changes`.
 use Rattle.std.specs.Prelude.{◌≡◌, List, [], ◌∷◌, map, Result, Ok, Err, Some}
 use Rattle.std.specs.List.{All}
 use Rattle.edit_journal.specs.EntryJson.{LineFault}
