@@ -9,11 +9,11 @@ use Rattle.edit_journal.specs.declared.line.Line.TheVariants.{Text, TooLong}
 use Rattle.edit_module.specs.Words.{WordTree}
 use Rattle.view_hub.specs.Hubs.{HubTree, CarriedTree, Place, Refusal, no_view, no_apply, step}
 use Rattle.hub_run.specs.Answers.{no_edit}
-use Rattle.hub_run.specs.EditJson.{edit_of_line, edit_of_tree}
+use Rattle.hub_run.specs.EditJson.{edit_if_json, edit_of_line, edit_of_tree}
 use Rattle.hub_run.specs.FormLenses.{form_lens}
 use Rattle.hub_run.specs.Runs as scripts
 use Rattle.hub_run.specs.Runs.{HubItem, HubState, answer_of, answered, take_hub_item}
-use Rattle.hub_records.specs.HubChanges.{one, as_hub_change, change_of_parts, change_of_line}
+use Rattle.hub_records.specs.HubChanges.{one, as_hub_change, change_if_json, change_of_parts, change_of_line}
 use Rattle.hub_session.specs.HubAnswers.{answer, answer_item, edit_answered}
 use Rattle.hub_session.specs.HubStates.{stored_hub}
 use Rattle.script_run.specs.LineRuns as scripted
@@ -29,8 +29,9 @@ parts_alike (Some ds) d h = cc
 parts_alike None d h = refl
 
 change_alike : (bytes : List ℕ) (o : Option Data) → tree_of_text bytes ≡ o → is_group_tree o ≡ false → change_of_line (Text bytes) ≡ as_hub_change one (edit_of_line (Text bytes))
-change_alike bytes (Some d) is h = rw is (parts_alike (group_items d) d h)
-change_alike bytes None is h = rw is refl
+change_alike bytes (Some d) is h =
+    ap change_if_json is ∙ parts_alike (group_items d) d h ∙ ap (λ o. as_hub_change one (edit_if_json o)) (sym is)
+change_alike bytes None is h = ap change_if_json is ∙ ap (λ o. as_hub_change one (edit_if_json o)) (sym is)
 
 line_is_edit : (line : Line) → is_group line ≡ false → change_of_line line ≡ as_hub_change one (edit_of_line line)
 line_is_edit (Text bytes) h = change_alike bytes (tree_of_text bytes) refl h
