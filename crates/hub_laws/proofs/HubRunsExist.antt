@@ -24,7 +24,7 @@ use Rattle.store_run.specs.StoreRuns.{kept_of, last, run}
 use Rattle.store_run.specs.declared.session.StoredAnswer.{StoredAnswer}
 use Rattle.store_laws.specs.SessionRuns.{first_accepted, accepted_lines}
 use Rattle.store_laws.proofs.Sequences.{put_first, first_made, first_is, never_empty}
-use Rattle.hub_laws.specs.HubRuns.{IsHubJournalRun, change_before, changes_of}
+use Rattle.hub_laws.specs.HubRuns.{IsHubJournalRun, change_before, line_changes}
 
 -- ---- an edit and a group from a hub that is in step
 
@@ -111,7 +111,7 @@ module _ {A : Type 0} (view : A → HubState) where
   -- ---- what the run stores, and its lenses
 
   abbrev Stored : HubState → List Line → HubSteps → Type 0
-  Stored s accepted steps = (kept_of steps ≡ map change_text (changes_of accepted)) × ((last s steps).forms ≡ s.forms)
+  Stored s accepted steps = (kept_of steps ≡ map change_text (line_changes accepted)) × ((last s steps).forms ≡ s.forms)
 
   abbrev lines_in : List Line → HubSteps → List Line
   lines_in lines steps = accepted_lines (stored_hub view) lines steps
@@ -120,7 +120,7 @@ module _ {A : Type 0} (view : A → HubState) where
   stays_stored : (s : HubState) (line : Line) (made : HubState × StoredAnswer) (lines : List Line) (rest : HubSteps) → Stays s made.0 made.1 → Stored made.0 (lines_in lines rest) rest
       → Stored s (first_accepted (stored_hub view) line (λ others. lines_in lines others) (made ∷ rest)) (made ∷ rest)
   stays_stored s line made lines rest r k = (
-    ap (λ p. option_to_list p ++ kept_of rest) r.none ∙ k.0 ∙ ap (λ b. map change_text (changes_of (cond b (line ∷ lines_in lines rest) (lines_in lines rest)))) (sym (ap is_some r.none)),
+    ap (λ p. option_to_list p ++ kept_of rest) r.none ∙ k.0 ∙ ap (λ b. map change_text (line_changes (cond b (line ∷ lines_in lines rest) (lines_in lines rest)))) (sym (ap is_some r.none)),
     k.1 ∙ ap (λ (u : HubState). u.forms) r.same,
   )
 
@@ -129,8 +129,8 @@ module _ {A : Type 0} (view : A → HubState) where
   steps_stored s line made lines rest r k = (
     ap (λ p. option_to_list p ++ kept_of rest) r.payload
         ∙ ap (λ l. change_text r.change ∷ l) k.0
-        ∙ ap (λ (item : HubItem). map change_text (change_before item (changes_of (lines_in lines rest)))) (sym r.is)
-        ∙ ap (λ b. map change_text (changes_of (cond b (line ∷ lines_in lines rest) (lines_in lines rest)))) (sym (ap is_some r.payload)),
+        ∙ ap (λ (item : HubItem). map change_text (change_before item (line_changes (lines_in lines rest)))) (sym r.is)
+        ∙ ap (λ b. map change_text (line_changes (cond b (line ∷ lines_in lines rest) (lines_in lines rest)))) (sym (ap is_some r.payload)),
     k.1 ∙ r.forms,
   )
 

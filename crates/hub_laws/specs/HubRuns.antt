@@ -1,4 +1,4 @@
--- The run of a stored hub over the lines of a journal. Read it from the end: `IsHubJournalRun`, `accepted_changes`.
+-- The run of a stored hub over the lines of a journal. Read it from the end: `IsHubJournalRun`, `accepted_hub_changes`.
 use Rattle.std.specs.Prelude.{◌≡◌, List, [], ◌∷◌, map, Result, Ok, Err, Some}
 use Rattle.std.specs.List.{All}
 use Rattle.edit_journal.specs.EntryJson.{LineFault}
@@ -18,13 +18,13 @@ change_before (Ok change) changes = change ∷ changes
 change_before (Err fault) changes = changes
 
 -- the changes that lines are, in order
-abbrev pub changes_of : List Line → List HubChangeTree
-changes_of [] = []
-changes_of (line ∷ lines) = change_before (change_of_line line) (changes_of lines)
+abbrev pub line_changes : List Line → List HubChangeTree
+line_changes [] = []
+line_changes (line ∷ lines) = change_before (change_of_line line) (line_changes lines)
 
 -- the changes that the steps of a run over these lines accept, in order
-abbrev pub accepted_changes : List Line → List (HubState × StoredAnswer) → List HubChangeTree
-accepted_changes lines steps = changes_of (accepted_lines hubs lines steps)
+abbrev pub accepted_hub_changes : List Line → List (HubState × StoredAnswer) → List HubChangeTree
+accepted_hub_changes lines steps = line_changes (accepted_lines hubs lines steps)
 
 -- The run of a hub from this state on, over these lines, comes to its end.
 pub record IsHubJournalRun (state : HubState) (lines : List Line) : Type 0 where
@@ -37,4 +37,4 @@ pub record IsHubJournalRun (state : HubState) (lines : List Line) : Type 0 where
   -- the lenses stay
   pub lenses : (last state steps).forms ≡ state.forms
   -- the payloads are those of the changes that were accepted, in order
-  pub kept : kept_of steps ≡ map change_text (accepted_changes lines steps)
+  pub kept : kept_of steps ≡ map change_text (accepted_hub_changes lines steps)

@@ -16,7 +16,7 @@ ghost use Rattle.edithub_main.specs.HubStores.{HubStore};
 ghost use Rattle.hub_run.specs.Runs.{HubState};
 ghost use Rattle.hub_session.specs.HubStates.{stands_for};
 ghost use Rattle.hub_session.specs.contracts.instance.HubSessionStoredSession.TheImpl.{ghosts as hubs};
-ghost use Rattle.store_laws.specs.CallsOverStores.{FinishesLines, GoesOnFrom, LeavesLines, StaysClosed, held_on};
+ghost use Rattle.store_laws.specs.CallsOverStores.{FinishesLines, GoesOnFrom, LeavesFirstLines, StaysClosed, held_on};
 ghost use Rattle.store_laws.specs.CutStores.{EndsALine, MeetAgain};
 ghost use Rattle.store_laws.specs.SessionRuns.{IsNumberedAlike};
 ghost use Rattle.store_laws.specs.StoresOfSessions.{HeldStore};
@@ -47,7 +47,7 @@ pub fn a_hub_call_leaves_a_run<S: Source, K: Sink, D: Disk>()
     ensures leaves { (old new : S × K × D) (status : Status) (store : HubStore D.Disk old.2) (image : List ℕ)
         → HubApplies S.Source K.Sink D.Disk old new status → D.Disk.images new.2 image
         → StaysClosed S.Source K.Sink D.Disk hubs old new status image
-        ⊎ LeavesLines S.Source K.Sink D.Disk hubs old new (held_on D.Disk hubs old.2 store) image }
+        ⊎ LeavesFirstLines S.Source K.Sink D.Disk hubs old new (held_on D.Disk hubs old.2 store) image }
     ensures finishes { (old new : S × K × D) (status : Status) (store : HubStore D.Disk old.2)
         → HubApplies S.Source K.Sink D.Disk old new status → IsFinished status
         → FinishesLines S.Source K.Sink D.Disk hubs old new (held_on D.Disk hubs old.2 store) }
@@ -69,7 +69,7 @@ pub fn two_hub_calls_are_one_run<S: Source, K: Sink, D: Disk>()
         → HubApplies S.Source K.Sink D.Disk old1 new1 status1 → D.Disk.images new1.2 image
         → HubApplies S.Source K.Sink D.Disk old2 new2 status2 → D.Disk.content old2.2 ≡ Some image
         → StaysClosed S.Source K.Sink D.Disk hubs old1 new1 status1 image
-        ⊎ ((first : LeavesLines S.Source K.Sink D.Disk hubs old1 new1 (held_on D.Disk hubs old1.2 store) image)
+        ⊎ ((first : LeavesFirstLines S.Source K.Sink D.Disk hubs old1 new1 (held_on D.Disk hubs old1.2 store) image)
         × GoesOnFrom S.Source K.Sink D.Disk hubs old2 new2 status2 first.run) }
     ensures finished { (old1 new1 old2 new2 : S × K × D) (status1 status2 : Status)
         (store : HubStore D.Disk old1.2) (image : List ℕ)
@@ -98,7 +98,7 @@ pub fn a_hub_journal_may_be_cut<S: Source, K: Sink, D: Disk>()
         → MeetAgain hubs before.state first.run.steps (lines_of second.bytes) second.run.steps
         second.after complete.run.steps complete.after }
     ensures crash { (old1 new1 old2 new2 old3 new3 : S × K × D) (before : HeldStore hubs) (image : List ℕ)
-        (first : LeavesLines S.Source K.Sink D.Disk hubs old1 new1 before image)
+        (first : LeavesFirstLines S.Source K.Sink D.Disk hubs old1 new1 before image)
         (second : FinishesLines S.Source K.Sink D.Disk hubs old2 new2 first.after)
         (complete : FinishesLines S.Source K.Sink D.Disk hubs old3 new3 before)
         → lines_of complete.bytes ≡ first.lines ++ lines_of second.bytes

@@ -15,7 +15,7 @@ use Rattle.store_run.specs.StoreRuns.{kept_of, last}
 use Rattle.store_run.specs.Stores.{Store}
 use Rattle.store_run.specs.declared.session.StoredAnswer.{StoredAnswer}
 use Rattle.store_run.specs.declared.session.StoredSession as OfSession
-use Rattle.store_laws.specs.CallsOverStores.{AppliesOver, FinishesLines, GoesOnFrom, LeavesLines, StaysClosed, held_on}
+use Rattle.store_laws.specs.CallsOverStores.{AppliesOver, FinishesLines, GoesOnFrom, LeavesFirstLines, StaysClosed, held_on}
 use Rattle.store_laws.specs.SessionRuns.{IsNumberedAlike}
 use Rattle.store_laws.specs.StoresOfSessions.{HeldStore, complete_payloads, AddsRun}
 use Rattle.store_laws.proofs.LeftPayloads.{LeavesPayloads, leaves_payloads}
@@ -27,7 +27,7 @@ module _ {S K D A : Type 0} (source : OfSource.Ghosts S) (sink : OfSink.Ghosts K
   module _ (old new : S × K × D) where
     module _ (before : HeldStore session) (image bytes given : List ℕ) (took : Took source old.0 new.0 bytes) (gave : Gave sink old.1 new.1 given) where
       left_run : (lines rest : List Line) → lines_of bytes ≡ lines ++ rest → LeavesPayloads session before.payloads before.state before.version lines given image
-          → LeavesLines source sink disk session old new before image
+          → LeavesFirstLines source sink disk session old new before image
       left_run lines rest parts p = record {
         bytes = bytes;
         took = took;
@@ -49,14 +49,14 @@ module _ {S K D A : Type 0} (source : OfSource.Ghosts S) (sink : OfSink.Ghosts K
 
       -- the store was opened
       kept_run : IsSafeCall source sink disk session old new (disk.images old.2) store.payloads store.state store.version → (image : List ℕ) → disk.images new.2 image
-          → LeavesLines source sink disk session old new before image
+          → LeavesFirstLines source sink disk session old new before image
       kept_run s image is =
           left_run before image s.bytes s.given s.consumes s.appends s.lines s.rest s.parts
           (leaves_payloads session store.payloads store.state store.version s.lines s.given image s.steps s.is_run s.stand (s.now image is))
 
-      pub leaves_lines : AppliesOver source sink disk session old new status store → (image : List ℕ) → disk.images new.2 image
-          → StaysClosed source sink disk session old new status image ⊎ LeavesLines source sink disk session old new before image
-      leaves_lines a image is = elim a.survives [
+      pub leaves_first_lines : AppliesOver source sink disk session old new status store → (image : List ℕ) → disk.images new.2 image
+          → StaysClosed source sink disk session old new status image ⊎ LeavesFirstLines source sink disk session old new before image
+      leaves_first_lines a image is = elim a.survives [
         | inl closed ↦ inl (record { failed = closed.0; unopened = closed.1; was = closed.1.only image is })
         | inr kept ↦ inr (kept_run kept image is)
       ]
@@ -89,7 +89,7 @@ module _ {S K D A : Type 0} (source : OfSource.Ghosts S) (sink : OfSink.Ghosts K
 
       goes_on : GoesOnFrom source sink disk session old new status first
       goes_on = record {
-        leaves = λ c is. elim (leaves_lines old new status again (second again) c is) [
+        leaves = λ c is. elim (leaves_first_lines old new status again (second again) c is) [
           | inl closed ↦ inl closed
           | inr left ↦ inr (left, one_run session alike before between left.after lines left.lines first left.run refused_stays)
         ];
@@ -105,8 +105,8 @@ module _ {S K D A : Type 0} (source : OfSource.Ghosts S) (sink : OfSink.Ghosts K
       start = held_on disk session old1.2 store
 
       pub goes_on_from_image : disk.images new1.2 image → StaysClosed source sink disk session old1 new1 status1 image
-          ⊎ ((left : LeavesLines source sink disk session old1 new1 start image) × GoesOnFrom source sink disk session old2 new2 status2 left.run)
-      goes_on_from_image is = elim (leaves_lines old1 new1 status1 store first image is) [
+          ⊎ ((left : LeavesFirstLines source sink disk session old1 new1 start image) × GoesOnFrom source sink disk session old2 new2 status2 left.run)
+      goes_on_from_image is = elim (leaves_first_lines old1 new1 status1 store first image is) [
         | inl closed ↦ inl closed
         | inr left ↦ inr (left, goes_on old2 new2 status2 start left.after left.lines left.run image left.holds told second)
       ]

@@ -4,7 +4,7 @@ use Rattle.edit_journal.specs.declared.line.Line.{Line}
 use Rattle.store_run.specs.StoreRuns.{kept_of, last, run}
 use Rattle.store_run.specs.declared.session.StoredAnswer.{StoredAnswer}
 use Rattle.store_run.specs.declared.session.StoredSession as OfSession
-use Rattle.store_laws.specs.SessionRuns.{IsNumberedAlike, item_lines, accepted_lines, accepted_steps}
+use Rattle.store_laws.specs.SessionRuns.{IsNumberedAlike, item_lines, accepted_lines, storing_steps}
 use Rattle.store_laws.specs.StoresOfSessions.{HeldStore, complete_payloads, AddsRun, IsOneRun}
 use Rattle.store_laws.proofs.SameSteps.{Joined, RunsAs, accepted_joined, joined, kept_joined, last_joined, same_kept, same_last, same_refused}
 
@@ -62,13 +62,13 @@ module _ {A : Type 0} (session : OfSession.Ghosts A) (alike : IsNumberedAlike se
 
   module _ (refused_stays : (t t' : session.State) (n : ℕ) (line : Line) (a : StoredAnswer) → session.answer t n line ≡ Some (t', a) → a.payload ≡ None → t' ≡ t) where
     accepts : RunsAs session alike t 0 (accepted_lines session first one.steps ++ accepted_lines session second two.steps)
-        (accepted_steps session one.steps ++ accepted_steps session two.steps) (last (last t one.steps) two.steps)
+        (storing_steps session one.steps ++ storing_steps session two.steps) (last (last t one.steps) two.steps)
     accepts = accepted_joined session alike refused_stays t 0 0 first second one.steps two.steps one.is_run goes_on
 
     pub one_run : IsOneRun session before first one.steps second two.steps after
     one_run =
         let lines = accepted_lines session first one.steps ++ accepted_lines session second two.steps in
-        let steps = accepted_steps session one.steps ++ accepted_steps session two.steps in
+        let steps = storing_steps session one.steps ++ storing_steps session two.steps in
         record {
           behind = both.behind;
           joined = both.is;

@@ -6,7 +6,7 @@ use Rattle.edit_journal.specs.declared.line.Line.{Line}
 use Rattle.store_run.specs.StoreRuns.{any_refused, kept_of, last, run}
 use Rattle.store_run.specs.declared.session.StoredAnswer.{StoredAnswer}
 use Rattle.store_run.specs.declared.session.StoredSession as OfSession
-use Rattle.store_laws.specs.SessionRuns.{IsSameStep, AreSameSteps, IsNumberedAlike, item_lines, first_accepted, accepted_lines, accepted_steps}
+use Rattle.store_laws.specs.SessionRuns.{IsSameStep, AreSameSteps, IsNumberedAlike, item_lines, first_accepted, accepted_lines, storing_steps}
 use Rattle.store_laws.proofs.Sequences.{put_first, first_made, first_is, never_empty}
 
 module _ {A : Type 0} (session : OfSession.Ghosts A) where
@@ -240,12 +240,12 @@ module _ {A : Type 0} (session : OfSession.Ghosts A) where
       accepted_first : (t : session.State) (n m : ℕ) (line : Line) (lines : List Line) (steps : Steps) → is_blank line ≡ false
           → put_first (behind_first n lines) (session.answer t (n + 1) line) ≡ Some steps
           → ((s : session.State × StoredAnswer) (k : ℕ) (rest : Steps) → run session s.0 (n + 1) lines ≡ Some rest
-          → RunsAs s.0 k (accepted_lines session lines rest) (accepted_steps session rest) (last s.0 rest))
-          → RunsAs t m (first_accepted session line (λ others. accepted_lines session lines others) steps) (accepted_steps session steps) (last t steps)
+          → RunsAs s.0 k (accepted_lines session lines rest) (storing_steps session rest) (last s.0 rest))
+          → RunsAs t m (first_accepted session line (λ others. accepted_lines session lines others) steps) (storing_steps session steps) (last t steps)
       accepted_first t n m line lines [] full h behind = absurd (never_empty (behind_first n lines) (session.answer t (n + 1) line) h)
       accepted_first t n m line lines (s ∷ rest) full h behind =
           let is = first_is (behind_first n lines) (session.answer t (n + 1) line) s rest h in
-          accepted_line t n m line s (accepted_lines session lines rest) (accepted_steps session rest) (last s.0 rest) full is.0 (is_some s.1.payload) refl (λ k. behind s k rest is.1)
+          accepted_line t n m line s (accepted_lines session lines rest) (storing_steps session rest) (last s.0 rest) full is.0 (is_some s.1.payload) refl (λ k. behind s k rest is.1)
 
       by_blank : (t : session.State) (m : ℕ) (line : Line) (b : Bool) (o1 o2 : Option Steps) (l1 l2 : List Line) (steps : Steps) (kept : Steps) (end : session.State) → is_blank line ≡ b
           → cond b o1 o2 ≡ Some steps → (o1 ≡ Some steps → RunsAs t m l1 kept end) → (is_blank line ≡ false → o2 ≡ Some steps → RunsAs t m l2 kept end)
@@ -254,36 +254,36 @@ module _ {A : Type 0} (session : OfSession.Ghosts A) where
       by_blank t m line false o1 o2 l1 l2 steps kept end is h f g = g is h
 
       pub accepted : (t : session.State) (n m : ℕ) (lines : List Line) (steps : Steps) → run session t n lines ≡ Some steps
-          → RunsAs t m (accepted_lines session lines steps) (accepted_steps session steps) (last t steps)
+          → RunsAs t m (accepted_lines session lines steps) (storing_steps session steps) (last t steps)
       accepted t n m [] [] h = record { others = []; is_run = refl; same = tt; at_last = refl; none_refused = refl }
       accepted t n m [] (s ∷ steps) h = cc
       accepted t n m (line ∷ lines) steps h =
           by_blank t m line (is_blank line) (run session t n lines) (put_first (behind_first n lines) (session.answer t (n + 1) line))
           (accepted_lines session lines steps) (first_accepted session line (λ others. accepted_lines session lines others) steps)
-          steps (accepted_steps session steps) (last t steps) refl h
+          steps (storing_steps session steps) (last t steps) refl h
           (λ k. accepted t n m lines steps k)
           (λ full k. accepted_first t n m line lines steps full k (λ s j rest g. accepted s.0 (n + 1) j lines rest g))
 
       -- ---- the accepted lines of two runs
 
       pub accepted_joined : (t : session.State) (n k : ℕ) (first more : List Line) (steps others : Steps) → run session t n first ≡ Some steps → run session (last t steps) k more ≡ Some others
-          → RunsAs t 0 (accepted_lines session first steps ++ accepted_lines session more others) (accepted_steps session steps ++ accepted_steps session others) (last (last t steps) others)
+          → RunsAs t 0 (accepted_lines session first steps ++ accepted_lines session more others) (storing_steps session steps ++ storing_steps session others) (last (last t steps) others)
       accepted_joined t n k first more steps others h e =
           let one = accepted t n 0 first steps h in
           let two = accepted (last t steps) k 0 more others e in
-          let here : last t (accepted_steps session steps) ≡ last t steps = one.at_last in
-          let there : last t one.others ≡ last t steps = same_last t (accepted_lines session first steps) (accepted_steps session steps) one.others one.same ∙ here in
+          let here : last t (storing_steps session steps) ≡ last t steps = one.at_last in
+          let there : last t one.others ≡ last t steps = same_last t (accepted_lines session first steps) (storing_steps session steps) one.others one.same ∙ here in
           let both = joined t 0 0 (accepted_lines session first steps) (accepted_lines session more others) one.others two.others one.is_run
           (subst (λ u. run session u 0 (accepted_lines session more others) ≡ Some two.others) (sym there) two.is_run) in
           let items = accepted_items more others in
           record {
             others = one.others ++ both.behind;
             is_run = both.is;
-            same = same_joined t (accepted_lines session first steps) (accepted_lines session more others) (accepted_steps session steps) one.others (accepted_steps session others) both.behind one.same
-                (subst (λ u. AreSameSteps session u (accepted_lines session more others) (accepted_steps session others) both.behind) (sym here)
-                (same_through (last t steps) (accepted_lines session more others) (accepted_steps session others) two.others both.behind two.same
+            same = same_joined t (accepted_lines session first steps) (accepted_lines session more others) (storing_steps session steps) one.others (storing_steps session others) both.behind one.same
+                (subst (λ u. AreSameSteps session u (accepted_lines session more others) (storing_steps session others) both.behind) (sym here)
+                (same_through (last t steps) (accepted_lines session more others) (storing_steps session others) two.others both.behind two.same
                 (subst (λ (l : List Line). AreSameSteps session (last t steps) l two.others both.behind) items
                 (subst (λ u. AreSameSteps session u (item_lines (accepted_lines session more others)) two.others both.behind) there both.same))));
-            at_last = last_joined t (accepted_steps session steps) (accepted_steps session others) ∙ ap (λ u. last u (accepted_steps session others)) here ∙ two.at_last;
-            none_refused = refused_joined (accepted_steps session steps) (accepted_steps session others) one.none_refused two.none_refused;
+            at_last = last_joined t (storing_steps session steps) (storing_steps session others) ∙ ap (λ u. last u (storing_steps session others)) here ∙ two.at_last;
+            none_refused = refused_joined (storing_steps session steps) (storing_steps session others) one.none_refused two.none_refused;
           }

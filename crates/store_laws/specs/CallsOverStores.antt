@@ -1,5 +1,5 @@
 -- Calls of `apply` over a store, whatever session it has, and what a second call makes of what the first one left.
--- Read it from the end: `GoesOnFrom`, `FinishesLines`, `LeavesLines`, then `AppliesOver`.
+-- Read it from the end: `GoesOnFrom`, `FinishesLines`, `LeavesFirstLines`, then `AppliesOver`.
 use Rattle.command_ends.specs.Statuses.{IsFinished}
 use Rattle.std.specs.Prelude.{◌≡◌, ◌⊎◌, ℕ, ◌+◌, ◌≤◌, List, ◌++◌, length, None, IfSome}
 use Rattle.edit_journal.specs.Pieces.{lines_of}
@@ -39,7 +39,7 @@ module _ {S K D A : Type 0} (source : OfSource.Ghosts S) (sink : OfSink.Ghosts K
         ⊎ IsSafeCall source sink disk session old new (disk.images old.2) store.payloads store.state store.version
 
   -- A call over the store `before` leaves this image, which is a store again.
-  pub record LeavesLines (old new : S × K × D) (before : HeldStore session) (image : List ℕ) : Type 0 where
+  pub record LeavesFirstLines (old new : S × K × D) (before : HeldStore session) (image : List ℕ) : Type 0 where
     -- the bytes that the call took, and those that it wrote
     pub bytes : List ℕ
     pub took : Took source old.0 new.0 bytes
@@ -85,7 +85,7 @@ module _ {S K D A : Type 0} (source : OfSource.Ghosts S) (sink : OfSink.Ghosts K
     -- An image that the second call may leave is a store, which one run over the accepted lines of both makes of the
     -- store `before`. Or it was possible before the second call, which could not open the store.
     pub leaves : (image : List ℕ) → disk.images new.2 image → StaysClosed old new status image
-        ⊎ ((second : LeavesLines old new between image)
+        ⊎ ((second : LeavesFirstLines old new between image)
         × IsOneRun session before lines first.steps second.lines second.run.steps second.after)
     -- if the second call came to its end, its answers and its last state are those of that one run
     pub finishes : IsFinished status → (second : FinishesLines old new between)

@@ -1,4 +1,4 @@
--- Steps of a session by the same lines, under other numbers. Read it from the end: `IsNumberedAlike`, `accepted_steps`,
+-- Steps of a session by the same lines, under other numbers. Read it from the end: `IsNumberedAlike`, `storing_steps`,
 -- `accepted_lines`, then `AreSameSteps`.
 use Rattle.std.specs.Prelude.{◌≡◌, ℕ, List, [], ◌∷◌, Some, is_some, if◌then◌else◌}
 use Rattle.edit_journal.specs.Lines.{is_blank}
@@ -45,10 +45,10 @@ module _ {A : Type 0} (session : OfSession.Ghosts A) where
       else first_accepted line (λ others. accepted_lines lines others) steps
 
   -- the steps whose change was accepted
-  abbrev pub accepted_steps : List (session.State × StoredAnswer) → List (session.State × StoredAnswer)
-  accepted_steps [] = []
-  accepted_steps (step ∷ steps) =
-      if is_some step.1.payload then step ∷ accepted_steps steps else accepted_steps steps
+  abbrev pub storing_steps : List (session.State × StoredAnswer) → List (session.State × StoredAnswer)
+  storing_steps [] = []
+  storing_steps (step ∷ steps) =
+      if is_some step.1.payload then step ∷ storing_steps steps else storing_steps steps
 
   -- The number of an item changes the answer line alone: under every number the line comes to the same state, and the
   -- same payload is stored.

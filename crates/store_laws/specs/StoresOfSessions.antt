@@ -5,7 +5,7 @@ use Rattle.edit_journal.specs.declared.line.Line.{Line}
 use Rattle.store_run.specs.StoreRuns.{any_refused, kept_of, last, run}
 use Rattle.store_run.specs.declared.session.StoredAnswer.{StoredAnswer}
 use Rattle.store_run.specs.declared.session.StoredSession as OfSession
-use Rattle.store_laws.specs.SessionRuns.{AreSameSteps, item_lines, accepted_lines, accepted_steps}
+use Rattle.store_laws.specs.SessionRuns.{AreSameSteps, item_lines, accepted_lines, storing_steps}
 
 -- The payloads of a store, the state that they stand for, and the version record if it is still to be stored.
 pub record HeldStore {A : Type 0} (session : OfSession.Ghosts A) : Type 0 where
@@ -47,7 +47,7 @@ module _ {A : Type 0} (session : OfSession.Ghosts A) where
         (accepted_lines session first steps ++ accepted_lines session second others) ≡ Some accepted
     pub accepts : AreSameSteps session before.state
         (accepted_lines session first steps ++ accepted_lines session second others)
-        (accepted_steps session steps ++ accepted_steps session others) accepted
+        (storing_steps session steps ++ storing_steps session others) accepted
     pub none_refused : any_refused accepted ≡ false
     -- the store has the last state of that run
     pub at_last : after.state ≡ last before.state accepted

@@ -12,8 +12,8 @@ ghost use Rattle.std.specs.Prelude.{◌≡◌, ◌⊎◌, ℕ, ◌++◌, List, S
 ghost use Rattle.edit_journal.specs.Pieces.{lines_of};
 ghost use Rattle.edit_journal.specs.declared.line.Line.{Line};
 ghost use Rattle.store_run.specs.Stores.{Store};
-ghost use Rattle.store_laws.specs.CallsOverStores.{AppliesOver, FinishesLines, GoesOnFrom, LeavesLines, StaysClosed};
-ghost use Rattle.store_laws.specs.CallsOverStores.{held_on};
+ghost use Rattle.store_laws.specs.CallsOverStores.{AppliesOver, FinishesLines, GoesOnFrom, LeavesFirstLines};
+ghost use Rattle.store_laws.specs.CallsOverStores.{StaysClosed, held_on};
 ghost use Rattle.store_laws.specs.CutStores.{EndsALine, MeetAgain};
 ghost use Rattle.store_laws.specs.SessionRuns.{IsNumberedAlike};
 ghost use Rattle.store_laws.specs.StoresOfSessions.{AddsRun, HeldStore, IsOneRun};
@@ -46,7 +46,7 @@ pub fn a_call_leaves_a_run<A: StoredSession, S: Source, K: Sink, D: Disk>()
         (image : List ℕ)
         → AppliesOver S.Source K.Sink D.Disk A.StoredSession old new status store → D.Disk.images new.2 image
         → StaysClosed S.Source K.Sink D.Disk A.StoredSession old new status image
-        ⊎ LeavesLines S.Source K.Sink D.Disk A.StoredSession old new
+        ⊎ LeavesFirstLines S.Source K.Sink D.Disk A.StoredSession old new
         (held_on D.Disk A.StoredSession old.2 store) image }
     ensures finishes { (old new : S × K × D) (status : Status) (store : Store D.Disk A.StoredSession old.2)
         → AppliesOver S.Source K.Sink D.Disk A.StoredSession old new status store → IsFinished status
@@ -71,7 +71,7 @@ pub fn two_calls_are_one_run<A: StoredSession, S: Source, K: Sink, D: Disk>()
         → AppliesOver S.Source K.Sink D.Disk A.StoredSession old2 new2 status2 other)
         → D.Disk.content old2.2 ≡ Some image
         → StaysClosed S.Source K.Sink D.Disk A.StoredSession old1 new1 status1 image
-        ⊎ ((first : LeavesLines S.Source K.Sink D.Disk A.StoredSession old1 new1
+        ⊎ ((first : LeavesFirstLines S.Source K.Sink D.Disk A.StoredSession old1 new1
         (held_on D.Disk A.StoredSession old1.2 store) image)
         × GoesOnFrom S.Source K.Sink D.Disk A.StoredSession old2 new2 status2 first.run) }
     ensures finished { IsNumberedAlike A.StoredSession → (old1 new1 old2 new2 : S × K × D) (status1 status2 : Status)
@@ -106,7 +106,7 @@ pub fn a_journal_may_be_cut<A: StoredSession, S: Source, K: Sink, D: Disk>()
         second.after complete.run.steps complete.after }
     ensures crash { IsNumberedAlike A.StoredSession → (old1 new1 old2 new2 old3 new3 : S × K × D)
         (before : HeldStore A.StoredSession) (image : List ℕ)
-        (first : LeavesLines S.Source K.Sink D.Disk A.StoredSession old1 new1 before image)
+        (first : LeavesFirstLines S.Source K.Sink D.Disk A.StoredSession old1 new1 before image)
         (second : FinishesLines S.Source K.Sink D.Disk A.StoredSession old2 new2 first.after)
         (complete : FinishesLines S.Source K.Sink D.Disk A.StoredSession old3 new3 before)
         → lines_of complete.bytes ≡ first.lines ++ lines_of second.bytes

@@ -20,7 +20,7 @@ use Rattle.script_run.specs.LineRuns as scripted
 use Rattle.script_run.specs.declared.line_answers.Answer.{Answer}
 use Rattle.store_run.specs.StoreRuns.{run}
 use Rattle.store_run.specs.declared.session.StoredAnswer.{StoredAnswer}
-use Rattle.store_text_laws.specs.HubsAlike.{is_group_tree, is_group, HasNoGroup, payload_of, stored_as, HaveSameRun}
+use Rattle.store_text_laws.specs.HubsAlike.{is_group_tree, is_group, HasNoGroup, edit_payload, stored_as, HaveSameRun}
 
 -- ---- a line that is no group is an edit, or it is refused for the same fault
 
@@ -61,9 +61,9 @@ module _ (s : HubState) (n : ℕ) where
 -- ---- whether an item is refused
 
 -- an accepted answer is one to an edit
-refused_alike : (s : HubState) (n : ℕ) (item : HubItem) (made : HubState × Answer) → script_item s n item ≡ Some made → not (is_some (payload_of item made.1.refused)) ≡ made.1.refused
+refused_alike : (s : HubState) (n : ℕ) (item : HubItem) (made : HubState × Answer) → script_item s n item ≡ Some made → not (is_some (edit_payload item made.1.refused)) ≡ made.1.refused
 refused_alike s n (Ok e) made h = by_answer made.1.refused where
-  by_answer : (b : Bool) → not (is_some (payload_of (Ok e) b)) ≡ b
+  by_answer : (b : Bool) → not (is_some (edit_payload (Ok e) b)) ≡ b
   by_answer true = refl
   by_answer false = refl
 refused_alike s n (Err fault) made h =
@@ -93,7 +93,7 @@ module _ {A : Type 0} (view : A → HubState) where
   script_behind n lines made = option_map (λ (steps : ScriptSteps). made ∷ steps) (script_run made.0 (n + 1) lines)
 
   -- an answer in front of others
-  made_alike : (t : HubState) (item : HubItem) (made : HubState × Answer) (o : Option StoredSteps) (p : Option ScriptSteps) → not (is_some (payload_of item made.1.refused)) ≡ made.1.refused
+  made_alike : (t : HubState) (item : HubItem) (made : HubState × Answer) (o : Option StoredSteps) (p : Option ScriptSteps) → not (is_some (edit_payload item made.1.refused)) ≡ made.1.refused
       → HaveSameRun made.0 o p
       → HaveSameRun t (option_map (λ (steps : StoredSteps). stored_as item made ∷ steps) o) (option_map (λ (steps : ScriptSteps). made ∷ steps) p)
   made_alike t item made o p refused (inl none) = inl (
@@ -113,7 +113,7 @@ module _ {A : Type 0} (view : A → HubState) where
   })
 
   by_answer : (t : HubState) (n : ℕ) (lines : List Line) (item : HubItem) (o : Option (HubState × StoredAnswer)) (x : Option (HubState × Answer)) → o ≡ option_map (stored_as item) x
-      → ((made : HubState × Answer) → x ≡ Some made → not (is_some (payload_of item made.1.refused)) ≡ made.1.refused)
+      → ((made : HubState × Answer) → x ≡ Some made → not (is_some (edit_payload item made.1.refused)) ≡ made.1.refused)
       → ((u : HubState) → HaveSameRun u (stored_run u (n + 1) lines) (script_run u (n + 1) lines))
       → HaveSameRun t (option_and_then (stored_behind n lines) o) (option_and_then (script_behind n lines) x)
   by_answer t n lines item o None e refused behind = inl (ap (option_and_then (stored_behind n lines)) e, refl)

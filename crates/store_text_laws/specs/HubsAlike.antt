@@ -32,14 +32,14 @@ HasNoGroup lines = AllByRecursion (λ line. is_group line ≡ false) lines
 -- ---- answers
 
 -- the payload of an item with an answer that is refused or not: that of the change, if it is accepted
-abbrev pub payload_of : HubItem → Bool → Option (List ℕ)
-payload_of (Ok e) true = None
-payload_of (Ok e) false = Some (change_text (one e))
-payload_of (Err fault) refused = None
+abbrev pub edit_payload : HubItem → Bool → Option (List ℕ)
+edit_payload (Ok e) true = None
+edit_payload (Ok e) false = Some (change_text (one e))
+edit_payload (Err fault) refused = None
 
 -- what `hub` makes of an item, as a store has it: the same state and the same line, and the payload of the change
 abbrev pub stored_as : HubItem → HubState × Answer → HubState × StoredAnswer
-stored_as item made = (made.0, record { line = made.1.line; payload = payload_of item made.1.refused })
+stored_as item made = (made.0, record { line = made.1.line; payload = edit_payload item made.1.refused })
 
 -- From this state on, the steps of a hub in a store and those of a hub over a script have the same answer lines, refuse
 -- an item alike and come to the same state.
