@@ -1,9 +1,11 @@
 /* editlens as a library: a session that keeps two JSON documents in step, for programs in C and whatever calls C.
 
    docs/EMBEDDING.md has an example. A caller has memory for a session, of editlens_session_size() bytes and aligned to 16, opens a session in
-   it, and closes it at the end; also one that is refused. The memory stays where it is in between. A session belongs to the thread that opened
-   it. Any number of sessions may be open, each in a thread of its own if wanted. The library has no state of its own, starts no thread, reads
-   and writes no file, and ends no process. Of the C library it wants malloc, realloc, free, memcpy, memmove and memset.
+   it, and closes it at the end; also one that is refused. The memory stays where it is in between. The library has no state of its own, starts
+   no thread, reads and writes no file, and ends no process. Of the C library it wants malloc, realloc, free, memcpy, memmove and memset.
+
+   Threads: a session has one call at a time. Calls may come from different threads where the caller orders them, by a lock or by whatever else
+   makes what one thread wrote seen by the next. Sessions share nothing, so there may be any number of them, in threads of their own if wanted.
 
    A text is an address and a number of bytes, and needs no byte 0 at its end. The address may be NULL where the number is 0. */
 #ifndef EDITLENS_H

@@ -1,85 +1,33 @@
 /* The addon for Node: a class `Session` over the library, by N-API. index.js loads it. */
-#include "editlens.h"
+#include "held.h"
 
-#include <node_api.h>
-#include <stdlib.h>
+static const struct kind SESSION = {
+    .tag = {0x9c4f1a6be0d7435bU, 0x8d21f3c65a7e9b14U}, .close = editlens_session_close, .is_closed = "the session is closed"};
 
-struct held {
-    void *session; /* NULL when it is closed */
-};
-
-static void let_go(struct held *held) {
-    if (held->session != NULL) {
-        editlens_session_close(held->session);
-        free(held->session);
-        held->session = NULL;
-    }
-}
-
-static void finalize(napi_env env, void *data, void *hint) {
-    (void)env;
-    (void)hint;
-    let_go(data);
-    free(data);
-}
-
-/* The bytes of an argument, which is a Buffer. */
-static int bytes_of(napi_env env, napi_value value, const uint8_t **bytes, size_t *len) {
-    bool is_buffer = false;
-    void *data = NULL;
-    napi_is_buffer(env, value, &is_buffer);
-    if (!is_buffer || napi_get_buffer_info(env, value, &data, len) != napi_ok) {
-        napi_throw_type_error(env, NULL, "a Buffer is wanted");
-        return 0;
-    }
-    *bytes = data;
-    return 1;
-}
-
-static struct held *held_of(napi_env env, napi_value value) {
-    struct held *held = NULL;
-    if (napi_get_value_external(env, value, (void **)&held) != napi_ok || held == NULL || held->session == NULL) {
-        napi_throw_error(env, NULL, "the session is closed");
-        return NULL;
-    }
-    return held;
-}
-
-static void put(napi_env env, napi_value object, const char *name, double number) {
-    napi_value value;
-    napi_create_double(env, number, &value);
-    napi_set_named_property(env, object, name, value);
-}
-
-/* An answer as an object, with the text that answers the last call. */
-static napi_value answered(napi_env env, struct held *held, struct editlens_answer answer) {
-    napi_value object, text;
-    void *data = NULL;
-    size_t len = editlens_session_text(held->session, NULL, 0).len;
-    napi_create_object(env, &object);
-    put(env, object, "status", answer.status);
-    put(env, object, "cause", answer.cause);
-    put(env, object, "number", (double)answer.number);
-    put(env, object, "part", (double)answer.part);
-    put(env, object, "at", (double)answer.at);
-    if (napi_create_buffer(env, len, &data, &text) != napi_ok) {
-        return NULL;
-    }
-    editlens_session_text(held->session, data, len);
-    napi_set_named_property(env, object, "text", text);
-    return object;
+static napi_value answered_by(napi_env env, struct held *held, struct editlens_answer answer) {
+    return answered(env, held->at, answer, "part", editlens_session_text);
 }
 
 enum { OPEN, RESUME, IMPORT_LEFT, IMPORT_RIGHT, REOPEN, KINDS };
+
+static void open_at(void *at, uint32_t kind, const uint8_t **texts, const size_t *lens) {
+    switch (kind) {
+    case OPEN: editlens_session_open(at, texts[0], lens[0]); break;
+    case RESUME: editlens_session_resume(at, texts[0], lens[0], texts[1], lens[1], texts[2], lens[2], texts[3], lens[3]); break;
+    case IMPORT_LEFT: editlens_session_import_left(at, texts[0], lens[0], texts[1], lens[1]); break;
+    case IMPORT_RIGHT: editlens_session_import_right(at, texts[0], lens[0], texts[1], lens[1]); break;
+    default: editlens_session_reopen(at, texts[0], lens[0]);
+    }
+}
 
 /* open(0, program), open(1, program, left, complement, right), open(2, program, left), open(3, program, right) or open(4, records): the
    session, as a value that only this addon reads. */
 static napi_value open_session(napi_env env, napi_callback_info info) {
     static const size_t wanted[KINDS] = {1, 4, 2, 2, 1};
-    size_t count = 5, lens[4];
+    size_t count = 5, lens[4], bytes = editlens_session_size();
     const uint8_t *texts[4];
     uint32_t kind = KINDS;
-    napi_value given[5], value;
+    napi_value given[5];
     napi_get_cb_info(env, info, &count, given, NULL, NULL);
     if (count == 0 || napi_get_value_uint32(env, given[0], &kind) != napi_ok || kind >= KINDS || count != wanted[kind] + 1) {
         napi_throw_type_error(env, NULL, "a kind of opening with its texts is wanted");
@@ -89,36 +37,22 @@ static napi_value open_session(napi_env env, napi_callback_info info) {
         if (!bytes_of(env, given[i + 1], &texts[i], &lens[i])) {
             return NULL;
         }
+        bytes += lens[i];
     }
-    struct held *held = malloc(sizeof *held);
-    void *session = aligned_alloc(16, (editlens_session_size() + 15) & ~(size_t)15);
-    if (held == NULL || session == NULL) {
-        free(held);
-        free(session);
-        napi_throw_error(env, NULL, "memory ran out");
+    struct held *held = new_held(env, &SESSION, editlens_session_size());
+    if (held == NULL) {
         return NULL;
     }
-    held->session = session;
-    switch (kind) {
-    case OPEN: editlens_session_open(session, texts[0], lens[0]); break;
-    case RESUME: editlens_session_resume(session, texts[0], lens[0], texts[1], lens[1], texts[2], lens[2], texts[3], lens[3]); break;
-    case IMPORT_LEFT: editlens_session_import_left(session, texts[0], lens[0], texts[1], lens[1]); break;
-    case IMPORT_RIGHT: editlens_session_import_right(session, texts[0], lens[0], texts[1], lens[1]); break;
-    default: editlens_session_reopen(session, texts[0], lens[0]);
-    }
-    if (napi_create_external(env, held, finalize, NULL, &value) != napi_ok) {
-        finalize(env, held, NULL);
-        return NULL;
-    }
-    return value;
+    open_at(held->at, kind, texts, lens);
+    return value_of(env, held, bytes);
 }
 
 static napi_value status(napi_env env, napi_callback_info info) {
     size_t count = 1;
     napi_value given[1];
     napi_get_cb_info(env, info, &count, given, NULL, NULL);
-    struct held *held = held_of(env, given[0]);
-    return held == NULL ? NULL : answered(env, held, editlens_session_status(held->session));
+    struct held *held = held_of(env, given[0], &SESSION);
+    return held == NULL ? NULL : answered_by(env, held, editlens_session_status(held->at));
 }
 
 static napi_value step(napi_env env, napi_callback_info info) {
@@ -126,11 +60,15 @@ static napi_value step(napi_env env, napi_callback_info info) {
     const uint8_t *line;
     napi_value given[2];
     napi_get_cb_info(env, info, &count, given, NULL, NULL);
-    struct held *held = held_of(env, given[0]);
+    struct held *held = held_of(env, given[0], &SESSION);
     if (held == NULL || !bytes_of(env, given[1], &line, &len)) {
         return NULL;
     }
-    return answered(env, held, editlens_session_step(held->session, line, len));
+    struct editlens_answer answer = editlens_session_step(held->at, line, len);
+    if (answer.status == EDITLENS_DONE) {
+        count_bytes(env, held, (int64_t)len);
+    }
+    return answered_by(env, held, answer);
 }
 
 static napi_value show(napi_env env, napi_callback_info info) {
@@ -138,33 +76,30 @@ static napi_value show(napi_env env, napi_callback_info info) {
     uint32_t part = UINT32_MAX;
     napi_value given[2];
     napi_get_cb_info(env, info, &count, given, NULL, NULL);
-    struct held *held = held_of(env, given[0]);
-    if (held == NULL || napi_get_value_uint32(env, given[1], &part) != napi_ok) {
+    struct held *held = held_of(env, given[0], &SESSION);
+    if (held == NULL) {
         return NULL;
     }
-    return answered(env, held, editlens_session_show(held->session, part));
+    if (napi_get_value_uint32(env, given[1], &part) != napi_ok) {
+        napi_throw_type_error(env, NULL, "the number of a part is wanted");
+        return NULL;
+    }
+    return answered_by(env, held, editlens_session_show(held->at, part));
 }
 
 static napi_value close_session(napi_env env, napi_callback_info info) {
     size_t count = 1;
     napi_value given[1];
-    struct held *held = NULL;
     napi_get_cb_info(env, info, &count, given, NULL, NULL);
-    if (napi_get_value_external(env, given[0], (void **)&held) == napi_ok && held != NULL) {
-        let_go(held);
+    struct held *held = tagged(env, given[0], &SESSION);
+    if (held == NULL) {
+        return raise(env, "this is no session");
     }
+    let_go(env, held);
     return NULL;
 }
 
 NAPI_MODULE_INIT() {
-    static const struct {
-        const char *name;
-        napi_callback call;
-    } calls[] = {{"open", open_session}, {"status", status}, {"step", step}, {"show", show}, {"close", close_session}};
-    for (size_t i = 0; i < sizeof calls / sizeof *calls; i++) {
-        napi_value function;
-        napi_create_function(env, calls[i].name, NAPI_AUTO_LENGTH, calls[i].call, NULL, &function);
-        napi_set_named_property(env, exports, calls[i].name, function);
-    }
-    return exports;
+    static const struct call calls[] = {{"open", open_session}, {"status", status}, {"step", step}, {"show", show}, {"close", close_session}};
+    return with_calls(env, exports, calls, sizeof calls / sizeof *calls);
 }

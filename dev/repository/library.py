@@ -4,6 +4,8 @@
     lib/libeditlens.so              for loading
     lib/pkgconfig/editlens.pc       for pkg-config
     include/editlens.h              the declarations
+
+What is built without proofs says so in editlens.pc.
 """
 
 import os
@@ -11,6 +13,7 @@ import shutil
 import subprocess
 
 from . import TOP
+from .kit import kit
 from .manual import version
 
 ARCHIVE = os.path.join(TOP, "crates", "editlens_c", "out", "libeditlens_c.a")
@@ -26,11 +29,12 @@ libdir=${{prefix}}/lib
 includedir=${{prefix}}/include
 
 Name: editlens
-Description: Keeps two JSON documents of different shape in step by translating edits
+Description: {mark}Keeps two JSON documents of different shape in step by translating edits
 Version: {version}
 Libs: -L${{libdir}} -leditlens
 Cflags: -I${{includedir}}
 """
+UNPROVED = "UNPROVED, with checks at run time. "
 
 
 class NoCompiler(Exception):
@@ -40,18 +44,18 @@ class NoCompiler(Exception):
         super().__init__("cc and ar are wanted, which put the library together")
 
 
-def kit():
-    """The folder of Rattle's kit."""
-    return os.path.dirname(subprocess.run(["rt", "doc"], stdout=subprocess.PIPE, text=True, check=True).stdout.split()[0])
-
-
 def runtime():
     """The archive of Rattle's C part: three functions over malloc, realloc and free."""
     return os.path.join(kit(), "c", "liblibc_c.a")
 
 
-def make_library(folder, archive=ARCHIVE):
-    """Writes the library below a folder, and returns the folder."""
+def package_config(is_proved):
+    """The text of editlens.pc."""
+    return PKG_CONFIG.format(mark="" if is_proved else UNPROVED, version=version() + ("" if is_proved else "+unproved"))
+
+
+def make_library(folder, archive=ARCHIVE, is_proved=True, words=()):
+    """Writes the library below a folder, and returns the folder. The linker of the shared library is given the words, too."""
     compiler = shutil.which("cc") or shutil.which("gcc") or shutil.which("clang")
     if compiler is None or shutil.which("ar") is None:
         raise NoCompiler
@@ -61,13 +65,13 @@ def make_library(folder, archive=ARCHIVE):
         os.makedirs(each, exist_ok=True)
     shutil.copyfile(HEADER, os.path.join(include, "editlens.h"))
     with open(os.path.join(lib, "pkgconfig", "editlens.pc"), "w", encoding="utf-8") as file:
-        file.write(PKG_CONFIG.format(version=version()))
+        file.write(package_config(is_proved))
     static, shared, exports = (os.path.join(lib, it) for it in ("libeditlens.a", "libeditlens.so", "exports"))
     script = f"CREATE {static}\nADDLIB {archive}\nADDLIB {runtime()}\nSAVE\nEND\n"
     subprocess.run(["ar", "-M"], input=script, text=True, check=True)
     with open(exports, "w", encoding="utf-8") as file:
         file.write(EXPORTS)
-    words = ["-shared", "-o", shared, f"-Wl,--version-script={exports}", "-Wl,--whole-archive", static, "-Wl,--no-whole-archive"]
+    words = [*words, "-shared", "-o", shared, f"-Wl,--version-script={exports}", "-Wl,--whole-archive", static, "-Wl,--no-whole-archive"]
     subprocess.run([compiler, *words, "-Wl,-z,noexecstack", "-Wl,-z,relro,-z,now", "-Wl,-soname,libeditlens.so"], check=True)
     os.remove(exports)
     return folder
