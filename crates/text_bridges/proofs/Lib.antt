@@ -1,0 +1,7 @@
+mod Reading
+mod Cutting
+mod FarSplices
+mod PieceSteps
+mod NearSplices
+mod Shortest
+mod Built
