@@ -1,12 +1,12 @@
 -- Runs as the code puts them together.
-use Rattle.std.proofs.Common.{◌≡◌, ℕ, ◌+◌, ◌-◌, ◌<◌, ◌≤◌, suc, zero, Bool, true, false, List, [], ◌∷◌, ◌++◌, length, take, drop, get_or, set, Option, Some, None, refl, sym, ap, ◌∙◌, subst, arith, drop-cons}
-use Rattle.std.specs.Prelude.{nat_eq, nat_le, if◌then◌else◌}
+use Rattle.std.proofs.Common.{◌≡◌, ℕ, ◌+◌, ◌-◌, ◌<◌, suc, zero, Bool, true, false, List, [], ◌∷◌, ◌++◌, length, take, drop, get_or, set, Some, None, refl, sym, ap, ◌∙◌, arith, drop-cons}
+use Rattle.std.specs.Prelude.{nat_eq, nat_le}
 use Rattle.std.proofs.lemmas.Bool.Decides.{nat_tests}
 use Rattle.text_bridges.specs.declared.run.End.{End}
-use Rattle.std.proofs.lemmas.List.{length-append, append_assoc, append-nil}
+use Rattle.std.proofs.lemmas.List.{append-nil}
 use Rattle.text_bridges.specs.declared.run.Run.{Run}
 use Rattle.text_bridges.specs.declared.run.Run.TheVariants.{Kept, Added, Gone}
-use Rattle.text_bridges.specs.Runs.{is_empty_run, joined_run, one_or_both, and_run, add_run, add_runs, is_kept_run, without_kept_end, size_at, cut_at, cut}
+use Rattle.text_bridges.specs.Runs.{joined_run, one_or_both, and_run, add_run, add_runs, is_kept_run, without_kept_end, size_at, cut_at, cut}
 
 -- one more behind others, by whether it becomes one with the last of them
 pub and_run-none : (rs : List Run) (r : Run) → length rs ≡ 0 → and_run rs r ≡ rs ++ r ∷ []

@@ -1,5 +1,5 @@
 -- Runs are cut where one of the texts is.
-use Rattle.std.proofs.Common.{◌≡◌, ℕ, ◌+◌, ◌-◌, ◌≤◌, suc, zero, Bool, true, false, List, [], ◌∷◌, ◌++◌, length, take, drop, refl, sym, ap, ◌∙◌, subst, arith}
+use Rattle.std.proofs.Common.{◌≡◌, ℕ, ◌+◌, ◌-◌, ◌≤◌, Bool, true, false, List, [], ◌∷◌, ◌++◌, length, take, drop, refl, sym, ap, ◌∙◌, arith}
 use Rattle.std.specs.Prelude.{nat_eq, nat_le}
 use Rattle.std.proofs.lemmas.Bool.Decides.{nat_tests}
 use Rattle.std.proofs.lemmas.List.{length-append, length-take-le, length-drop, append_assoc, append-nil, take-append-drop}
@@ -7,8 +7,8 @@ use Rattle.text_bridges.specs.declared.run.Run.{Run}
 use Rattle.text_bridges.specs.declared.run.Run.TheVariants.{Kept, Added, Gone}
 use Rattle.text_bridges.specs.declared.run.End.{End}
 use Rattle.text_bridges.specs.declared.run.End.TheVariants.{Near, Far}
-use Rattle.text_bridges.specs.Runs.{size_at, of_size, less_by, with_front, cut_at, cut}
-use Rattle.text_bridges.specs.Spans.{KeepsRun, AddsRun, LosesRun, Reads, AreEmpty, AreSame, Covers, Spans, text_at}
+use Rattle.text_bridges.specs.Runs.{size_at, of_size, less_by, cut_at, cut}
+use Rattle.text_bridges.specs.Spans.{Covers, Spans, text_at}
 
 -- both texts are cut, the one at e behind n characters; the first runs cover what is in front, the others span the rest
 pub record IsCut (e : End) (n : ℕ) (fs bs : List Run) (s t : List ℕ) : Type 0 where
@@ -63,7 +63,7 @@ keeps-passed e m n fs bs s t part near far size p q le d =
       far_is = parted part far d.far_front d.far_back t q d.far_is;
       size_is = let l = size-behind e part d.near_front d.far_front (part ++ d.near_front) (part ++ d.far_front) refl refl in let k = d.size_is in omega arith;
       front = record { part = part; near = d.near_front; far = d.far_front; size = size; near_is = refl; far_is = refl; goes_on = d.front };
-      back = d.back
+      back = d.back;
     }
 
 adds-passed-near : (m n : ℕ) (fs bs : List Run) (s t part far : List ℕ) → length part ≡ m → t ≡ part ++ far → IsCut Near (n - 0) fs bs s far → IsCut Near n (Added m ∷ fs) bs s t
@@ -77,7 +77,7 @@ adds-passed-near m n fs bs s t part far size q d =
       far_is = parted part far d.far_front d.far_back t q d.far_is;
       size_is = let k = d.size_is in omega arith;
       front = record { part = part; far = d.far_front; size = size; far_is = refl; goes_on = d.front };
-      back = d.back
+      back = d.back;
     }
 
 adds-passed-far : (m n : ℕ) (fs bs : List Run) (s t part far : List ℕ) → length part ≡ m → t ≡ part ++ far → m ≤ n → IsCut Far (n - m) fs bs s far → IsCut Far n (Added m ∷ fs) bs s t
@@ -91,7 +91,7 @@ adds-passed-far m n fs bs s t part far size q le d =
       far_is = parted part far d.far_front d.far_back t q d.far_is;
       size_is = let l = length-append part d.far_front in let k = d.size_is in omega arith;
       front = record { part = part; far = d.far_front; size = size; far_is = refl; goes_on = d.front };
-      back = d.back
+      back = d.back;
     }
 
 gone-passed-near : (m n : ℕ) (fs bs : List Run) (s t part near : List ℕ) → length part ≡ m → s ≡ part ++ near → m ≤ n → IsCut Near (n - m) fs bs near t → IsCut Near n (Gone m ∷ fs) bs s t
@@ -105,7 +105,7 @@ gone-passed-near m n fs bs s t part near size p le d =
       far_is = d.far_is;
       size_is = let l = length-append part d.near_front in let k = d.size_is in omega arith;
       front = record { part = part; near = d.near_front; size = size; near_is = refl; goes_on = d.front };
-      back = d.back
+      back = d.back;
     }
 
 gone-passed-far : (m n : ℕ) (fs bs : List Run) (s t part near : List ℕ) → length part ≡ m → s ≡ part ++ near → IsCut Far (n - 0) fs bs near t → IsCut Far n (Gone m ∷ fs) bs s t
@@ -119,7 +119,7 @@ gone-passed-far m n fs bs s t part near size p d =
       far_is = d.far_is;
       size_is = let k = d.size_is in omega arith;
       front = record { part = part; near = d.near_front; size = size; near_is = refl; goes_on = d.front };
-      back = d.back
+      back = d.back;
     }
 
 passed : (e : End) (r : Run) (rs : List Run) (n : ℕ) (fs bs : List Run) (s t : List ℕ) → nat_le (size_at e r) n ≡ true → Spans (r ∷ rs) s t → n ≤ length (text_at e s t)
@@ -163,7 +163,7 @@ keeps-cut e m n rs s t part near far size p q le go =
       far_is = split n part far t q;
       size_is = ap length (same-end e (take n part)) ∙ length-take-le n part (omega arith);
       front = covers-kept (take n part) n (length-take-le n part (omega arith));
-      back = record { part = drop n part; near = near; far = far; size = length-drop n part ∙ ap (λ (l : ℕ). l - n) size; near_is = refl; far_is = refl; goes_on = go }
+      back = record { part = drop n part; near = near; far = far; size = length-drop n part ∙ ap (λ (l : ℕ). l - n) size; near_is = refl; far_is = refl; goes_on = go };
     }
 
 adds-cut : (m n : ℕ) (rs : List Run) (s t part far : List ℕ) → length part ≡ m → t ≡ part ++ far → n ≤ m → Spans rs s far → IsCut Far n (Added n ∷ []) (Added (m - n) ∷ rs) s t
@@ -177,7 +177,7 @@ adds-cut m n rs s t part far size q le go =
       far_is = split n part far t q;
       size_is = length-take-le n part (omega arith);
       front = covers-added (take n part) n (length-take-le n part (omega arith));
-      back = record { part = drop n part; far = far; size = length-drop n part ∙ ap (λ (l : ℕ). l - n) size; far_is = refl; goes_on = go }
+      back = record { part = drop n part; far = far; size = length-drop n part ∙ ap (λ (l : ℕ). l - n) size; far_is = refl; goes_on = go };
     }
 
 gone-cut : (m n : ℕ) (rs : List Run) (s t part near : List ℕ) → length part ≡ m → s ≡ part ++ near → n ≤ m → Spans rs near t → IsCut Near n (Gone n ∷ []) (Gone (m - n) ∷ rs) s t
@@ -191,7 +191,7 @@ gone-cut m n rs s t part near size p le go =
       far_is = refl;
       size_is = length-take-le n part (omega arith);
       front = covers-gone (take n part) n (length-take-le n part (omega arith));
-      back = record { part = drop n part; near = near; size = length-drop n part ∙ ap (λ (l : ℕ). l - n) size; near_is = refl; goes_on = go }
+      back = record { part = drop n part; near = near; size = length-drop n part ∙ ap (λ (l : ℕ). l - n) size; near_is = refl; goes_on = go };
     }
 
 inside : (e : End) (r : Run) (rs : List Run) (n : ℕ) (s t : List ℕ) → nat_le (size_at e r) n ≡ false → Spans (r ∷ rs) s t → IsCut e n (of_size n r ∷ []) (less_by n r ∷ rs) s t
@@ -216,7 +216,7 @@ nothing-in-front e n rs s t z h =
       far_is = refl;
       size_is = ap length (same-end e []) ∙ zero-is;
       front = (refl, refl);
-      back = h
+      back = h;
     }
 
 cut-run : (e : End) (r : Run) (rs : List Run) (n : ℕ) (s t : List ℕ) (parts : List Run × List Run) (b1 b2 : Bool) → nat_eq n 0 ≡ b1 → nat_le (size_at e r) n ≡ b2 → Spans (r ∷ rs) s t
@@ -238,7 +238,7 @@ behind-all e n s t same room =
       far_is = sym same ∙ sym (take-append-drop n s);
       size_is = ap length (same-end e (take n s)) ∙ length-take-le n s room;
       front = covers-kept (take n s) n (length-take-le n s room);
-      back = refl
+      back = refl;
     }
 
 room-near : (e : End) (n : ℕ) (s t : List ℕ) → s ≡ t → n ≤ length (text_at e s t) → n ≤ length s

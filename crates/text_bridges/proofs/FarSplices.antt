@@ -1,13 +1,12 @@
 -- After a splice of the far text the runs span again.
-use Rattle.std.proofs.Common.{◌≡◌, ℕ, ◌+◌, ◌-◌, ◌≤◌, suc, zero, List, [], ◌∷◌, ◌++◌, length, take, drop, refl, sym, ap, ◌∙◌, subst, arith}
+use Rattle.std.proofs.Common.{◌≡◌, ℕ, ◌+◌, ◌≤◌, List, [], ◌∷◌, ◌++◌, length, take, drop, refl, sym, ap, ◌∙◌, subst, arith}
 use Rattle.std.proofs.lemmas.List.{length-append, append_assoc}
 use Rattle.std.proofs.Math.Seq.{take-append_seam, drop-append_seam}
 use Rattle.text_bridges.specs.declared.run.Run.{Run}
 use Rattle.text_bridges.specs.declared.run.Run.TheVariants.{Kept, Added, Gone}
-use Rattle.text_bridges.specs.declared.run.End.{End}
-use Rattle.text_bridges.specs.declared.run.End.TheVariants.{Near, Far}
+use Rattle.text_bridges.specs.declared.run.End.TheVariants.{Far}
 use Rattle.text_bridges.specs.Runs.{cut, all_gone, far_spliced}
-use Rattle.text_bridges.specs.Spans.{KeepsRun, AddsRun, LosesRun, Reads, AreEmpty, AreSame, Covers, Spans, text_at, replaced}
+use Rattle.text_bridges.specs.Spans.{AreSame, Covers, Spans, replaced}
 use Rattle.text_bridges.proofs.Reading.{reads-append}
 use Rattle.text_bridges.proofs.Cutting.{IsCut, cut-is}
 
@@ -38,14 +37,14 @@ far-parts : (rs : List Run) (i k : ℕ) (x s t : List ℕ) (c : IsCut Far i (cut
 far-parts rs i k x s t c d =
     let rest = cut Far (cut Far rs i).1 k in
     let tail : Spans (all_gone rest.0 ++ rest.1) (d.near_front ++ d.near_back) d.far_back =
-        reads-append AreSame (all_gone rest.0) rest.1 d.near_front [] d.near_back d.far_back (covers-all_gone rest.0 d.near_front d.far_front d.front) d.back in
+    reads-append AreSame (all_gone rest.0) rest.1 d.near_front [] d.near_back d.far_back (covers-all_gone rest.0 d.near_front d.far_front d.front) d.back in
     let made : Spans (Added (length x) ∷ (all_gone rest.0 ++ rest.1)) (d.near_front ++ d.near_back) (x ++ d.far_back) =
-        record { part = x; far = d.far_back; size = refl; far_is = refl; goes_on = tail } in
+    record { part = x; far = d.far_back; size = refl; far_is = refl; goes_on = tail } in
     let joined : Spans (far_spliced rs i k (length x)) (c.near_front ++ (d.near_front ++ d.near_back)) (c.far_front ++ (x ++ d.far_back)) =
-        reads-append AreSame (cut Far rs i).0 (Added (length x) ∷ (all_gone rest.0 ++ rest.1)) c.near_front c.far_front (d.near_front ++ d.near_back) (x ++ d.far_back) c.front made in
+    reads-append AreSame (cut Far rs i).0 (Added (length x) ∷ (all_gone rest.0 ++ rest.1)) c.near_front c.far_front (d.near_front ++ d.near_back) (x ++ d.far_back) c.front made in
     let near : s ≡ c.near_front ++ (d.near_front ++ d.near_back) = three s c.near_front c.near_back d.near_front d.near_back c.near_is d.near_is in
     let far : replaced t i k x ≡ c.far_front ++ (x ++ d.far_back) =
-        replaced-is t c.far_front d.far_front d.far_back x i k (three t c.far_front c.far_back d.far_front d.far_back c.far_is d.far_is) c.size_is d.size_is in
+    replaced-is t c.far_front d.far_front d.far_back x i k (three t c.far_front c.far_back d.far_front d.far_back c.far_is d.far_is) c.size_is d.size_is in
     subst (λ (l : List ℕ). Spans (far_spliced rs i k (length x)) l (replaced t i k x)) (sym near)
     (subst (λ (l : List ℕ). Spans (far_spliced rs i k (length x)) (c.near_front ++ (d.near_front ++ d.near_back)) l) (sym far) joined)
 

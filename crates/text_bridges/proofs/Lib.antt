@@ -5,3 +5,6 @@ mod PieceSteps
 mod NearSplices
 mod Shortest
 mod Built
+mod Bridges
+mod Gaps
+mod Listed

@@ -1,5 +1,5 @@
 -- A splice of the near text is carried to the far one, and the runs span again.
-use Rattle.std.proofs.Common.{◌≡◌, ℕ, ◌+◌, ◌-◌, ◌≤◌, suc, zero, Bool, true, false, List, [], ◌∷◌, ◌++◌, length, take, drop, Option, Some, None, refl, sym, ap, ◌∙◌, subst, arith}
+use Rattle.std.proofs.Common.{◌≡◌, ℕ, ◌+◌, ◌≤◌, Bool, true, false, List, [], ◌∷◌, ◌++◌, length, take, drop, Some, None, refl, sym, ap, ◌∙◌, subst, arith}
 use Rattle.std.specs.Prelude.{nat_le, encode_utf8_all, if◌then◌else◌}
 use Rattle.std.specs.Str.{chars, IsUtf8}
 use Rattle.std.proofs.lemmas.Bool.Decides.{nat_tests}
@@ -8,13 +8,13 @@ use Rattle.texts.specs.Characters.{character_count, splice}
 use Rattle.text_bridges.specs.declared.run.Run.{Run}
 use Rattle.text_bridges.specs.declared.run.Run.TheVariants.{Kept, Added, Gone}
 use Rattle.text_bridges.specs.declared.run.End.TheVariants.{Near, Far}
-use Rattle.text_bridges.specs.Runs.{cut, added_front, behind_added, all_added, total, near_range, near_spliced, far_spliced, carried, all_spliced}
-use Rattle.text_bridges.specs.Spans.{KeepsRun, AddsRun, LosesRun, Reads, AreEmpty, AreSame, Covers, Spans, text_at, replaced}
+use Rattle.text_bridges.specs.Runs.{cut, added_front, behind_added, all_added, total, near_spliced, far_spliced, carried, all_spliced}
+use Rattle.text_bridges.specs.Spans.{AreEmpty, AreSame, Covers, Spans, replaced}
 use Rattle.text_bridges.specs.Laws.{SpansTexts, IsCarriedTo}
 use Rattle.text_bridges.proofs.Reading.{reads-append}
 use Rattle.text_bridges.proofs.Cutting.{IsCut, cut-is}
-use Rattle.text_bridges.proofs.FarSplices.{replaced-is, three, far-spans}
-use Rattle.text_bridges.proofs.PieceSteps.{IsText, splice-makes, IsCarried, pieces-make}
+use Rattle.text_bridges.proofs.FarSplices.{three, far-spans}
+use Rattle.text_bridges.proofs.PieceSteps.{splice-makes, pieces-make}
 
 -- ---- what the far text has added at the gap
 
@@ -36,14 +36,14 @@ gap-is (Added n ∷ bs) u v h =
       rest = g.rest;
       far_is = h.far_is ∙ (ap (λ (l : List ℕ). h.part ++ l) g.far_is ∙ sym (append_assoc h.part g.part g.rest));
       front = record { part = h.part; far = g.part; size = h.size; far_is = refl; goes_on = g.front };
-      back = g.back
+      back = g.back;
     }
 
 gap-cut : (n : ℕ) (fs bs : List Run) (s t : List ℕ) → IsCut Near n fs bs s t → IsCut Near n (fs ++ added_front bs) (behind_added bs) s t
 gap-cut n fs bs s t c =
     let g = gap-is bs c.near_back c.far_back c.back in
     let both : Covers (fs ++ added_front bs) (c.near_front ++ []) (c.far_front ++ g.part) =
-        reads-append AreEmpty fs (added_front bs) c.near_front c.far_front [] g.part c.front g.front in
+    reads-append AreEmpty fs (added_front bs) c.near_front c.far_front [] g.part c.front g.front in
     record {
       near_front = c.near_front;
       near_back = c.near_back;
@@ -53,7 +53,7 @@ gap-cut n fs bs s t c =
       far_is = c.far_is ∙ (ap (λ (l : List ℕ). c.far_front ++ l) g.far_is ∙ sym (append_assoc c.far_front g.part g.rest));
       size_is = c.size_is;
       front = subst (λ (l : List ℕ). Covers (fs ++ added_front bs) l (c.far_front ++ g.part)) (append-nil c.near_front) both;
-      back = g.back
+      back = g.back;
     }
 
 -- ---- where a part begins in the far text
@@ -98,16 +98,16 @@ carried-parts rs i k x s t u p q z h c d =
     let same : made.text ≡ u = let a = made.found_is in cc in
     let inner : Spans (all_added rest.0 ++ rest.1) d.near_back (w.stays ++ d.far_back) = reads-append AreSame (all_added rest.0) rest.1 [] w.stays d.near_back d.far_back w.added d.back in
     let middle : Spans (Kept (character_count x) ∷ (all_added rest.0 ++ rest.1)) (chars x ++ d.near_back) (chars x ++ (w.stays ++ d.far_back)) =
-        record { part = chars x; near = d.near_back; far = w.stays ++ d.far_back; size = refl; near_is = refl; far_is = refl; goes_on = inner } in
+    record { part = chars x; near = d.near_back; far = w.stays ++ d.far_back; size = refl; near_is = refl; far_is = refl; goes_on = inner } in
     let whole : Spans (near_spliced rs i k (character_count x)) (c.near_front ++ (chars x ++ d.near_back)) (c.far_front ++ (chars x ++ (w.stays ++ d.far_back))) =
-        reads-append AreSame fronts (Kept (character_count x) ∷ (all_added rest.0 ++ rest.1)) c.near_front c.far_front (chars x ++ d.near_back) (chars x ++ (w.stays ++ d.far_back)) c.front middle in
+    reads-append AreSame fronts (Kept (character_count x) ∷ (all_added rest.0 ++ rest.1)) c.near_front c.far_front (chars x ++ d.near_back) (chars x ++ (w.stays ++ d.far_back)) c.front middle in
     let over : Spans (near_spliced rs i k (character_count x)) (chars made.text) (chars w.made.text) =
-        subst (λ (l : List ℕ). Spans (near_spliced rs i k (character_count x)) l (chars w.made.text)) (sym made.chars_are)
-        (subst (λ (l : List ℕ). Spans (near_spliced rs i k (character_count x)) (c.near_front ++ (chars x ++ d.near_back)) l) (sym w.made.chars_are) whole) in
+    subst (λ (l : List ℕ). Spans (near_spliced rs i k (character_count x)) l (chars w.made.text)) (sym made.chars_are)
+    (subst (λ (l : List ℕ). Spans (near_spliced rs i k (character_count x)) (c.near_front ++ (chars x ++ d.near_back)) l) (sym w.made.chars_are) whole) in
     record {
       far = w.made.text;
       found_is = w.made.found_is;
-      spans = subst (λ (l : List ℕ). SpansTexts (near_spliced rs i k (character_count x)) l w.made.text) same (record { near_utf8 = made.utf8; far_utf8 = w.made.utf8; reads = over })
+      spans = subst (λ (l : List ℕ). SpansTexts (near_spliced rs i k (character_count x)) l w.made.text) same (record { near_utf8 = made.utf8; far_utf8 = w.made.utf8; reads = over });
     }
 
 pub near-spans : (rs : List Run) (i k : ℕ) (x s t u : List ℕ) → IsUtf8 x → SpansTexts rs s t → splice s i k x ≡ Some u
@@ -129,5 +129,5 @@ far-spans-texts rs i k x s t u z h e =
     let made = splice-makes t x (take i cs) (take k (drop i cs)) (drop (i + k) cs) i k h.far_utf8 z parts (length-take-le i cs (omega arith)) (length-take-le k (drop i cs) (omega arith)) in
     let same : made.text ≡ u = let a = made.found_is in cc in
     let over : Spans (far_spliced rs i k (character_count x)) (chars s) (chars made.text) =
-        subst (λ (l : List ℕ). Spans (far_spliced rs i k (character_count x)) (chars s) l) (sym made.chars_are) (far-spans rs i k (chars x) (chars s) cs h.reads room) in
+    subst (λ (l : List ℕ). Spans (far_spliced rs i k (character_count x)) (chars s) l) (sym made.chars_are) (far-spans rs i k (chars x) (chars s) cs h.reads room) in
     subst (λ (l : List ℕ). SpansTexts (far_spliced rs i k (character_count x)) s l) same (record { near_utf8 = h.near_utf8; far_utf8 = made.utf8; reads = over })

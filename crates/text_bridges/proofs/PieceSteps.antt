@@ -1,17 +1,17 @@
 -- What the pieces of a carried splice do to the far text.
-use Rattle.std.proofs.Common.{◌≡◌, ℕ, ◌+◌, ◌-◌, ◌≤◌, suc, zero, Bool, true, false, ◌&&◌, List, [], ◌∷◌, ◌++◌, length, take, drop, Option, Some, None, refl, sym, ap, ◌∙◌, subst, arith}
-use Rattle.std.specs.Prelude.{nat_eq, nat_le, encode_utf8_all, if◌then◌else◌, option_and_then}
+use Rattle.std.proofs.Common.{◌≡◌, ℕ, ◌+◌, Bool, true, false, ◌&&◌, List, [], ◌∷◌, ◌++◌, length, Option, Some, None, refl, sym, ap, ◌∙◌, subst, arith}
+use Rattle.std.specs.Prelude.{nat_le, encode_utf8_all, if◌then◌else◌, option_and_then}
 use Rattle.std.specs.Str.{chars, IsUtf8}
 use Rattle.std.proofs.lemmas.Bool.Decides.{nat_tests}
-use Rattle.std.proofs.lemmas.List.{length-append, append_assoc, append-nil}
-use Rattle.std.proofs.lemmas.Str.{chars-encodes, encodes-chars, scalars-chars}
+use Rattle.std.proofs.lemmas.List.{length-append, append_assoc}
+use Rattle.std.proofs.lemmas.Str.{chars-encodes, scalars-chars}
 use Rattle.std.proofs.Math.Utf8.{scalar, scalars}
 use Rattle.texts.specs.Characters.{character_count, splice}
 use Rattle.texts.proofs.Conjunction.{both, first, second}
 use Rattle.text_bridges.specs.declared.run.Run.{Run}
 use Rattle.text_bridges.specs.declared.run.Run.TheVariants.{Kept, Added, Gone}
 use Rattle.text_bridges.specs.Runs.{Piece, is_nothing, piece, pieces, all_spliced, all_added}
-use Rattle.text_bridges.specs.Spans.{KeepsRun, AddsRun, LosesRun, Reads, AreEmpty, Covers, replaced}
+use Rattle.text_bridges.specs.Spans.{Covers, replaced}
 use Rattle.text_bridges.proofs.FarSplices.{replaced-is}
 
 -- ---- one splice
@@ -51,7 +51,7 @@ splice-makes v x f d b i k p q parts size long =
       text = encode_utf8_all cs;
       found_is = ap (λ (c : Bool). if c then Some (encode_utf8_all (replaced (chars v) i k (chars x))) else None) room ∙ ap (λ (l : List ℕ). Some (encode_utf8_all l)) made;
       utf8 = (cs, (good, refl));
-      chars_are = chars-encodes cs good
+      chars_are = chars-encodes cs good;
     }
 
 -- ---- splices, one after another
@@ -127,19 +127,19 @@ pieces-make (Added n ∷ rs) at k x s t v f d b h p q parts size long =
     let one = piece-makes at k x v f d ((h.part ++ h.far) ++ b) p q now size long in
     let front = f ++ (chars x ++ h.part) in
     let next : chars one.text ≡ front ++ ([] ++ (h.far ++ b)) =
-        one.chars_are ∙ (ap (λ (l : List ℕ). f ++ (chars x ++ l)) (append_assoc h.part h.far b) ∙ sym (behind-stays f (chars x) h.part (h.far ++ b))) in
+    one.chars_are ∙ (ap (λ (l : List ℕ). f ++ (chars x ++ l)) (append_assoc h.part h.far b) ∙ sym (behind-stays f (chars x) h.part (h.far ++ b))) in
     let l1 = length-append f (chars x ++ h.part) in
     let l2 = length-append (chars x) h.part in
     let m = h.size in
     let w = pieces-make rs (at + (character_count x + n)) 0 [] s h.far one.text front [] b h.goes_on one.utf8 empty-utf8 next (omega arith) refl in
     let goal : front ++ (chars [] ++ (w.stays ++ b)) ≡ f ++ (chars x ++ ((h.part ++ w.stays) ++ b)) =
-        ap (λ (l : List ℕ). front ++ (l ++ (w.stays ++ b))) no-chars
-        ∙ (behind-stays f (chars x) h.part (w.stays ++ b) ∙ ap (λ (l : List ℕ). f ++ (chars x ++ l)) (sym (append_assoc h.part w.stays b))) in
+    ap (λ (l : List ℕ). front ++ (l ++ (w.stays ++ b))) no-chars
+    ∙ (behind-stays f (chars x) h.part (w.stays ++ b) ∙ ap (λ (l : List ℕ). f ++ (chars x ++ l)) (sym (append_assoc h.part w.stays b))) in
     record {
       stays = h.part ++ w.stays;
       added = record { part = h.part; far = w.stays; size = h.size; far_is = refl; goes_on = w.added };
       made = spliced-append (piece at k x) (pieces (at + (character_count x + n)) 0 [] rs) v one.text (f ++ (chars x ++ ((h.part ++ w.stays) ++ b))) one.found_is
-        (text-is (all_spliced (pieces (at + (character_count x + n)) 0 [] rs) one.text) (front ++ (chars [] ++ (w.stays ++ b))) (f ++ (chars x ++ ((h.part ++ w.stays) ++ b))) goal w.made)
+          (text-is (all_spliced (pieces (at + (character_count x + n)) 0 [] rs) one.text) (front ++ (chars [] ++ (w.stays ++ b))) (f ++ (chars x ++ ((h.part ++ w.stays) ++ b))) goal w.made);
     }
 pieces-make (Gone n ∷ rs) at k x s t v f d b h p q parts size long =
     let w = pieces-make rs at k x h.near t v f d b h.goes_on p q parts size long in

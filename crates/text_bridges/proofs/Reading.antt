@@ -1,14 +1,9 @@
 -- Runs are cut and joined.
-use Rattle.std.proofs.Common.{◌≡◌, ℕ, ◌+◌, ◌-◌, ◌≤◌, suc, zero, Bool, true, false, List, [], ◌∷◌, ◌++◌, length, take, drop, refl, sym, ap, ◌∙◌, subst, arith}
-use Rattle.std.specs.Prelude.{nat_eq, nat_le}
-use Rattle.std.proofs.lemmas.Bool.Decides.{nat_tests}
-use Rattle.std.proofs.lemmas.List.{length-append, length-take-le, append_assoc, take-append-drop}
+use Rattle.std.proofs.Common.{ℕ, List, [], ◌∷◌, ◌++◌, sym, ap, ◌∙◌, subst}
+use Rattle.std.proofs.lemmas.List.{append_assoc}
 use Rattle.text_bridges.specs.declared.run.Run.{Run}
 use Rattle.text_bridges.specs.declared.run.Run.TheVariants.{Kept, Added, Gone}
-use Rattle.text_bridges.specs.declared.run.End.{End}
-use Rattle.text_bridges.specs.declared.run.End.TheVariants.{Near, Far}
-use Rattle.text_bridges.specs.Runs.{size_at, of_size, less_by, with_front, cut_at, cut}
-use Rattle.text_bridges.specs.Spans.{KeepsRun, AddsRun, LosesRun, Reads, AreEmpty, AreSame, Covers, Spans}
+use Rattle.text_bridges.specs.Spans.{Reads, Covers}
 
 -- runs that cover two texts, and runs behind them
 pub reads-append : (ends : List ℕ → List ℕ → Type 0) (fs rs : List Run) (s1 t1 s2 t2 : List ℕ) → Covers fs s1 t1 → Reads ends rs s2 t2 → Reads ends (fs ++ rs) (s1 ++ s2) (t1 ++ t2)

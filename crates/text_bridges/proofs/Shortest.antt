@@ -1,12 +1,12 @@
 -- Runs in their shortest form say the same.
-use Rattle.std.proofs.Common.{◌≡◌, ℕ, ◌+◌, suc, zero, Bool, true, false, List, [], ◌∷◌, ◌++◌, length, refl, sym, ap, ◌∙◌, subst, arith}
+use Rattle.std.proofs.Common.{◌≡◌, ℕ, ◌+◌, Bool, true, false, List, [], ◌∷◌, ◌++◌, length, refl, sym, ap, ◌∙◌, subst, arith}
 use Rattle.std.specs.Prelude.{nat_eq, if◌then◌else◌}
 use Rattle.std.proofs.lemmas.Bool.Decides.{nat_tests}
 use Rattle.std.proofs.lemmas.List.{length-append, append_assoc, append-nil}
 use Rattle.text_bridges.specs.declared.run.Run.{Run}
 use Rattle.text_bridges.specs.declared.run.Run.TheVariants.{Kept, Added, Gone}
 use Rattle.text_bridges.specs.Runs.{is_empty_run, joined_run, and_run, add_run, add_runs, without_kept_end, shortest}
-use Rattle.text_bridges.specs.Spans.{KeepsRun, AddsRun, LosesRun, Reads, AreSame, Spans}
+use Rattle.text_bridges.specs.Spans.{Spans}
 
 -- a part of no characters
 none-of : (x : List ℕ) → length x ≡ 0 → x ≡ []
@@ -44,7 +44,7 @@ joined-spans (Kept n) (Kept m) rs s t h =
       size = both-sizes h.part g.part n m h.size g.size;
       near_is = both-parts s h.part g.part h.near g.near h.near_is g.near_is;
       far_is = both-parts t h.part g.part h.far g.far h.far_is g.far_is;
-      goes_on = g.goes_on
+      goes_on = g.goes_on;
     }
 joined-spans (Added n) (Added m) rs s t h =
     let g = h.goes_on in

@@ -1,6 +1,6 @@
 -- The runs of a bridge between two texts, as lists. Read it from the end: `far_spliced` and `near_spliced` are the runs
 -- after a splice of one of the texts, and `carried` is what the near splice is for the far text.
-use Rattle.std.specs.Prelude.{ℕ, ◌+◌, ◌-◌, Bool, true, false, ◌&&◌, List, [], ◌∷◌, ◌++◌, length, nat_eq, nat_le}
+use Rattle.std.specs.Prelude.{ℕ, ◌+◌, ◌-◌, Bool, true, false, List, [], ◌∷◌, ◌++◌, nat_eq, nat_le}
 use Rattle.std.specs.Prelude.{if◌then◌else◌, Option, Some, None, option_and_then}
 use Rattle.texts.specs.Characters.{character_count, splice}
 use Rattle.text_bridges.specs.declared.run.Run.{Run}
@@ -53,6 +53,12 @@ abbrev pub cut_range : End → List Run → ℕ → ℕ → List Run × List Run
 cut_range e rs n k = cut_again e k (cut e rs n)
 
 -- ---- parts of runs
+
+-- whether a run is in the far text alone
+abbrev pub is_added_run : Run → Bool
+is_added_run (Kept n) = false
+is_added_run (Added n) = true
+is_added_run (Gone n) = false
 
 -- what the far text has added, at the beginning of the runs, and the runs behind it
 abbrev pub added_front : List Run → List Run

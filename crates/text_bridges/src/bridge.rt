@@ -1,10 +1,12 @@
 //! A bridge between two texts: it begins with one text twice, and both may be spliced.
 ghost use Rattle.std.specs.Prelude.{◌≡◌, [], IfOk};
 ghost use Rattle.texts.specs.Characters.{character_count};
-ghost use Rattle.text_bridges.specs.Runs.{far_spliced, near_spliced, carried, shortest};
+ghost use Rattle.text_bridges.specs.Runs.{far_spliced, near_spliced, near_replaced, carried, shortest};
 
-use crate::building::{cut, drop_kept_end, push_around};
-use crate::pieces::Splice;
+use crate::building::{
+    Parts, cut, cut_behind_gap, drop_kept_end, far_total, push_around, push_behind_gap,
+};
+use crate::pieces::{Splice, pieces};
 use crate::run::{End, Run};
 use std::alloc::{AllocError, Global};
 use std::marker::Model;
@@ -71,4 +73,42 @@ impl TextBridge {
         drop_kept_end(&mut runs);
         Ok(TextBridge { runs })
     }
+
+    /// A splice that the near text takes, carried to the far one: what it is for the far text, and the bridge between
+    /// both texts afterwards.
+    ///
+    /// What the far text has added at the place of the splice stays in front of what the splice puts there, and what it
+    /// has added among the characters that go stays. The only refusal is running out of memory. A number of characters
+    /// that does not fit in 64 bits is refused so.
+    pub fn carry(&self, alloc: Global, splice: &Splice) -> Result<Carried, AllocError>
+        ensures splices { IfOk result (λ it. it.splices.items ≡ carried self.now splice.now.0 splice.now.1 splice.now.2) }
+        ensures bridge { IfOk result (λ it. it.bridge ≡ shortest (near_spliced self.now splice.now.0 splice.now.1
+            (character_count splice.now.2))) }
+    {
+        let parts = cut_behind_gap(alloc, &self.runs, splice.at)?;
+        let range = cut(alloc, End::Near, &parts.back, splice.count)?;
+        let splices = pieces(alloc, far_total(&parts.front)?, &splice.text, &range.front)?;
+        let bridge = replaced(
+            alloc,
+            &parts.front,
+            splice.text.character_count() as u64,
+            &range,
+        )?;
+        Ok(Carried { splices, bridge })
+    }
+}
+
+// The bridge when this number of characters of both texts comes behind runs, and the near text has lost a range there.
+fn replaced(
+    alloc: Global,
+    front: &[Run],
+    count: u64,
+    range: &Parts,
+) -> Result<TextBridge, AllocError>
+    ensures { IfOk result (λ bridge. bridge ≡ shortest (near_replaced (front.now, range.now.front.items, range.now.back.items) count)) }
+{
+    let mut runs = Vec::new(alloc);
+    push_behind_gap(&mut runs, front, Run::Kept(count), range)?;
+    drop_kept_end(&mut runs);
+    Ok(TextBridge { runs })
 }

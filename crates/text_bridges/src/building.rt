@@ -1,8 +1,8 @@
 //! Runs put together in their shortest form, and cut where one of the texts is.
-ghost use Rattle.std.specs.Prelude.{◌≡◌, ◌∷◌, [], ◌++◌, IfOk, OnOk};
+ghost use Rattle.std.specs.Prelude.{◌≡◌, ◌≤◌, ◌∷◌, [], ◌++◌, IfOk, OnOk, length, take, drop};
 ghost use Rattle.text_bridges.specs.Runs.{add_run, add_runs, all_gone, all_added, added_front, behind_added};
-ghost use Rattle.text_bridges.specs.Runs.{without_kept_end, cut, total};
-ghost use Rattle.text_bridges.specs.declared.run.End.TheVariants.{Far};
+ghost use Rattle.text_bridges.specs.Runs.{without_kept_end, cut, total, behind_gap};
+ghost use Rattle.text_bridges.specs.declared.run.End.TheVariants.{Near, Far};
 
 use crate::run::{End, Run};
 use std::alloc::{AllocError, Global};
@@ -146,4 +146,67 @@ fn with_first(alloc: Global, first: Run, rest: &[Run]) -> Result<Vec<Run>, Alloc
     runs.push(first)?;
     runs.extend_from_slice(rest)?;
     Ok(runs)
+}
+
+/// How many runs at the beginning are in the far text alone.
+#[tactic(auto, using(crate::proofs::Gaps::gap_rules))]
+pub(crate) fn added_count(runs: &[Run]) -> usize
+    ensures within { result ≤ length runs.now }
+    ensures front { take result runs.now ≡ added_front runs.now }
+    ensures back { drop result runs.now ≡ behind_added runs.now }
+{
+    for (i, run) in runs.iter().enumerate() {
+        if !run.is_added() {
+            return i;
+        }
+    }
+    runs.len()
+}
+
+/// How many characters of the far text the runs have.
+///
+/// A number that does not fit in 64 bits is refused as running out of memory.
+#[tactic(auto, using(crate::proofs::Gaps::gap_rules))]
+pub(crate) fn far_total(runs: &[Run]) -> Result<u64, AllocError>
+    ensures { IfOk result (λ sum. sum ≡ total Far runs.now) }
+{
+    let mut sum: u64 = 0;
+    for run in runs {
+        let Some(more) = sum.checked_add(run.size_at(End::Far)) else {
+            return Err(AllocError);
+        };
+        sum = more;
+    }
+    Ok(sum)
+}
+
+/// Puts behind runs some in front of a gap, those that the far text has added there, a run that comes behind them, what
+/// becomes of those of a range when the near text has lost all that it has there, and those behind it.
+#[tactic(auto, using(crate::proofs::Built::part_rules))]
+pub(crate) fn push_behind_gap(
+    runs: &mut Vec<Run>,
+    front: &[Run],
+    run: Run,
+    range: &Parts,
+) -> Result<(), AllocError>
+    ensures { OnOk result (runs.new.items
+        ≡ add_runs runs.old.items (front.now ++ (run ∷ (all_added range.now.front.items ++ range.now.back.items)))) }
+{
+    push_all(runs, front)?;
+    push(runs, run)?;
+    push_added(runs, &range.front)?;
+    push_all(runs, &range.back)
+}
+
+/// The runs up to a place of the near text, with those that the far text has added there, and the others.
+#[tactic(auto, using(crate::proofs::Gaps::gap_rules))]
+pub(crate) fn cut_behind_gap(alloc: Global, runs: &[Run], place: u64) -> Result<Parts, AllocError>
+    ensures front { IfOk result (λ parts. parts.front.items ≡ (behind_gap (cut Near runs.now place)).0) }
+    ensures back { IfOk result (λ parts. parts.back.items ≡ (behind_gap (cut Near runs.now place)).1) }
+{
+    let Parts { mut front, back } = cut(alloc, End::Near, runs, place)?;
+    let count = added_count(&back);
+    front.extend_from_slice(&back[..count])?;
+    let back = copied(alloc, &back[count..])?;
+    Ok(Parts { front, back })
 }

@@ -3,9 +3,13 @@
 
 mod bridge;
 mod building;
+mod laws;
 mod pieces;
 mod run;
 
 pub use crate::bridge::{Carried, TextBridge};
+pub use crate::laws::{
+    a_splice_of_the_far_text_is_spanned, a_splice_of_the_near_text_is_carried, a_text_is_spanned,
+};
 pub use crate::pieces::Splice;
 pub use crate::run::{End, Run};

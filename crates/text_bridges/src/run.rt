@@ -1,6 +1,6 @@
 //! Runs of characters: what two texts have in common, and what one of them alone has.
 ghost use Rattle.std.specs.Prelude.{◌≡◌, ◌≤◌, ◌∷◌, [], IfOk};
-ghost use Rattle.text_bridges.specs.Runs.{size_at, of_size, less_by, is_empty_run, is_kept_run, joined_run, one_or_both};
+ghost use Rattle.text_bridges.specs.Runs.{size_at, of_size, less_by, is_empty_run, is_kept_run, is_added_run, joined_run, one_or_both};
 
 use std::alloc::AllocError;
 
@@ -77,6 +77,13 @@ impl Run {
         ensures { result ≡ is_kept_run self }
     {
         matches!(self, Run::Kept(_))
+    }
+
+    /// Whether the run is in the far text alone.
+    pub(crate) fn is_added(self) -> bool
+        ensures { result ≡ is_added_run self }
+    {
+        matches!(self, Run::Added(_))
     }
 
     /// Both runs as one, if they are of one sort.

@@ -1,5 +1,5 @@
 use Rattle.std.proofs.Common.{◌≡◌, ◌++◌, drop}
-use Rattle.text_bridges.specs.Runs.{add_runs, all_gone, all_added, cut}
+use Rattle.text_bridges.specs.Runs.{cut}
 use Rattle.text_bridges.proofs.building.cut.Given as goal
 
 abbrev pub invariant-loop-i : goal.invariant-loop-i

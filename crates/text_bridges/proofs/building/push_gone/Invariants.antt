@@ -1,5 +1,5 @@
-use Rattle.std.proofs.Common.{◌≡◌, ◌++◌, drop}
-use Rattle.text_bridges.specs.Runs.{add_runs, all_gone, all_added, cut}
+use Rattle.std.proofs.Common.{◌≡◌, drop}
+use Rattle.text_bridges.specs.Runs.{add_runs, all_gone}
 use Rattle.text_bridges.proofs.building.push_gone.Given as goal
 
 abbrev pub invariant-loop-run : goal.invariant-loop-run
