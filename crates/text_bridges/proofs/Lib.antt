@@ -1,0 +1,10 @@
+mod Reading
+mod Cutting
+mod FarSplices
+mod PieceSteps
+mod NearSplices
+mod Shortest
+mod Built
+mod Bridges
+mod Gaps
+mod Listed
