@@ -14,6 +14,7 @@ use hold_shapes::{
 use shape_laws::plans_are_lawful;
 use shared_lists::{Hint, SharedList};
 use std::alloc::{AllocError, Global};
+use text_bridges::{Splice, TextBridge};
 use texts::{Name, Names, Str, Twin, twin_all};
 
 // Values of many variants are let go by `drop`, in one call. At the end of a block they would be dropped variant by
@@ -252,4 +253,28 @@ fn copies(rt: HostRuntime) {
     assert_eq!(rt; Str::empty(alloc).as_str(), "");
     assert_eq!(rt; are_names_copied(alloc), Ok(true));
     assert_eq!(rt; is_place_copied(alloc), Ok(true));
+}
+
+// "abc" became "aXbc" by a splice. One that makes "aYc" of "abc" is carried behind the X: it is written with its place,
+// its count and its text.
+fn carried_splice(alloc: Global) -> Result<String, AllocError> {
+    let bridge = TextBridge::between_the_same(alloc).after_splice(alloc, 1, 0, 1)?;
+    let splice = Splice {
+        at: 1,
+        count: 1,
+        text: text(alloc, "Y")?,
+    };
+    let carried = bridge.carry(alloc, &splice)?;
+    let mut out = format!(in alloc; "{}", carried.bridge.runs().len())?;
+    for splice in &carried.splices {
+        let text = splice.text.as_str();
+        out.push_str(format!(in alloc; " {} {} {text}", splice.at, splice.count)?.as_str())?;
+    }
+    Ok(out)
+}
+
+#[test]
+fn carried_splices(rt: HostRuntime) {
+    let written = carried_splice(rt.alloc()).expect(&rt, "memory");
+    assert_eq!(rt; written.as_str(), "2 2 1 Y");
 }
