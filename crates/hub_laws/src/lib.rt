@@ -57,8 +57,8 @@ pub fn a_hub_call_leaves_a_run<S: Source, K: Sink, D: Disk>()
 /// that they accept.
 ///
 /// The first call is over a store, and the disk of the second has the bytes that the first one left. What both store,
-/// answer and end with is what the one run stores, answers and ends with. The source and the sink of the second call
-/// may be others.
+/// answer and end with is what the one run stores, answers and ends with. Each view is in step in every state of it,
+/// as in every run over the store ([`every_hub_run_exists`]). The source and the sink of the second call may be others.
 ///
 /// - `crash`: these bytes are an image that a crash after the first call may leave. The only other case is a first
 ///   call that could not open the store: then the image was possible before it.
