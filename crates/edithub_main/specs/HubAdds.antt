@@ -5,11 +5,10 @@ use Rattle.lens_io.specs.Calls.{IsUnasked, SourceFailed, SinkFailed, DiskFailed}
 use Rattle.lens_io.specs.declared.disk.Disk as OfDisk
 use Rattle.lens_io.specs.declared.sink.Sink as OfSink
 use Rattle.lens_io.specs.declared.source.Source as OfSource
-use Rattle.store_new.specs.NewEnds.{RefusesAtOnce}
 use Rattle.store_run.specs.ApplyCall.{IsUnopened}
 use Rattle.store_run.specs.Rooms.{TakesTooMany, most_bytes}
-use Rattle.hub_add.specs.AddCall.{AddEnds, AddsView, EndsWhole, IsAddCause, IsSafeAdd, ViewHasNoRoom}
-use Rattle.hub_add.specs.AddedView.{view_part}
+use Rattle.hub_add.specs.AddCall.{AddEnds, AddsView, EndsWhole, IsAddCause, IsSafeAdd, RefusesViewAtOnce}
+use Rattle.hub_add.specs.AddCall.{ViewHasNoRoom}
 use Rattle.edithub_main.specs.HubStores.{HubStore, RefusedHub, IsStateInStep, RefusesHub}
 use Rattle.command_ends.specs.declared.status.Status.{Status}
 use Rattle.command_ends.specs.declared.status.Status.TheVariants.{Done, DiskFault}
@@ -27,7 +26,7 @@ module _ {S K D : Type 0} (source : OfSource.Ghosts S) (sink : OfSink.Ghosts K) 
     -- A program part that is whole and refused is refused, whatever comes after it, unless the sink failed or memory
     -- ran out. Then at most the rest of the call of the source that ended its separator was read; where no separator
     -- came, the source is at its end.
-    pub at_once : RefusesAtOnce (view_part store.state.forms) source old.0 new.0 status
+    pub at_once : RefusesViewAtOnce source old.0 new.0 store.state status
     -- An image of a crash represents the hub from before the call or the one with one view more. One of an earlier
     -- moment of the call may also have been possible before it. If the sync of the opening failed, nothing has changed.
     pub survives : (status ≡ DiskFault) × IsUnopened source sink disk old new

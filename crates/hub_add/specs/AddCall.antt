@@ -23,7 +23,7 @@ use Rattle.hub_records.specs.HubStands.{view_more}
 use Rattle.hub_session.specs.HubStates.{stands_for}
 use Rattle.store_run.specs.MoreCall.{Exits, IsSafeMore, MoreEnds}
 use Rattle.store_run.specs.MoreCauses.{OneHasNoRoom}
-use Rattle.store_new.specs.NewEnds.{GivesLine, StopsAfter}
+use Rattle.store_new.specs.NewEnds.{GivesLine, RefusesAtOnce, StopsAfter}
 use Rattle.store_new.specs.Scripts.{RefusesPart}
 use Rattle.store_run.specs.Refusals.{IsOpening, FailsUnopened}
 use Rattle.store_run.specs.Rooms.{most_bytes}
@@ -174,6 +174,10 @@ pub record IsAddCause {S D : Type 0} (source : OfSource.Ghosts S) (disk : OfDisk
   pub full : status ≡ ending.StoreRefused → ViewHasNoRoom source old.0 new.0 before state most_bytes
   pub over : status ≡ ending.DiskFault
       → IfSome (disk.room old.1) (λ most. ViewHasNoRoom source old.0 new.0 before state most)
+
+-- a refusal of the program part of one view more, for a hub in this state, is exact and comes at once
+abbrev pub RefusesViewAtOnce : {S : Type 0} → OfSource.Ghosts S → S → S → HubState → Status → Type 0
+RefusesViewAtOnce source old new state status = RefusesAtOnce (view_part state.forms) source old new status
 
 -- the call came to its end, or refused the program part, or memory ran out
 abbrev pub EndsWhole : Status → Type 0

@@ -4,7 +4,6 @@ ghost use Rattle.command_ends.specs.Statuses.{IsAmong, init_statuses, quiet_stat
 ghost use Rattle.lens_io.specs.Calls.{IsUnasked, SourceFailed, SinkFailed, DiskFailed};
 ghost use Rattle.lens_forms.specs.Forms.{form_tree};
 ghost use Rattle.program_terms.specs.Views.{program_tree};
-ghost use Rattle.store_new.specs.NewEnds.{RefusesAtOnce};
 ghost use Rattle.store_run.specs.ApplyCall.{IsUnopened};
 ghost use Rattle.store_run.specs.Effects.{StandsOn};
 ghost use Rattle.store_run.specs.Refusals.{IsUnwritten, EndsRefused};
@@ -15,8 +14,7 @@ ghost use Rattle.hub_records.specs.HubLenses.{joins};
 ghost use Rattle.hub_session.specs.HubStates.{stands_for};
 ghost use Rattle.hub_session.specs.contracts.instance.HubSessionStoredSession.TheImpl.{ghosts as hubs};
 ghost use Rattle.hub_add.specs.AddCall.{AddEnds, AddsView, EndsAdded, EndsWhole, IsAddCause, IsSafeAdd, IsViewText};
-ghost use Rattle.hub_add.specs.AddCall.{ViewHasNoRoom};
-ghost use Rattle.hub_add.specs.AddedView.{view_part};
+ghost use Rattle.hub_add.specs.AddCall.{RefusesViewAtOnce, ViewHasNoRoom};
 
 use crate::reading::read_view;
 use accepted_programs::Accepted;
@@ -69,7 +67,7 @@ pub fn add<S: Source, K: Sink, D: Disk>(
         (source.old, sink.old, disk.old) (source.new, sink.new, disk.new)
         ⊎ IsSafeAdd D.Disk disk.old disk.new store.payloads store.state }
     ensures at_once { (store : Store D.Disk hubs disk.old)
-        → RefusesAtOnce (view_part store.state.forms) S.Source source.old source.new result }
+        → RefusesViewAtOnce S.Source source.old source.new store.state result }
     ensures causes { (store : Store D.Disk hubs disk.old)
         → IsAddCause S.Source D.Disk (source.old, disk.old) (source.new, disk.new)
         store.payloads store.state result }
