@@ -66,9 +66,9 @@ class Session(Editing):
         """The texts from which another session can go on."""
         return self.kept.state()
 
-    def another(self):
-        """A session of the same lens program from its initial documents on."""
-        return Session(self.program, self.path)
+    def twin(self):
+        """Another session in the same state."""
+        return Session(self.program, self.path, state=self.state())
 
     def stop(self):
         """Ends the session at once."""

@@ -64,7 +64,7 @@ def _tree_steps(ty, document, path):
 def replace_steps(ty, old, new, path=()):
     """Steps that replace a value as a whole: a record field by field, alternatives, lists, maps and trees by new contents.
 
-    What is the same as a whole has no steps. Equal items inside are not looked for.
+    What is the same as a whole has no steps, and so has what is below the root of a tree. Equal items inside are not looked for.
     """
     if old == new:
         return
@@ -86,9 +86,12 @@ def replace_steps(ty, old, new, path=()):
             yield path, {"drop": key}
         yield from set_steps(ty, new, path)
     elif ty.kind == "tree":
-        for _ in range(old["depths"].count(1)):
+        is_below_same = (old["depths"], old["items"][1:]) == (new["depths"], new["items"][1:])
+        for _ in range(0 if is_below_same else old["depths"].count(1)):
             yield path, {"prune": []}
         yield from replace_steps(ty.inner, old["items"][0], new["items"][0], (*path, ("mod", [])))
+        if is_below_same:
+            return
         for place in paths_of(new["depths"])[1:]:
             yield path, {"graft": place[:-1]}
         for place, item in list(zip(paths_of(new["depths"]), new["items"]))[1:]:

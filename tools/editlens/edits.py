@@ -9,7 +9,7 @@ from dataclasses import dataclass
 from .documents import is_int
 from .json_text import pointer, shown
 from .plans import MOST_ITEMS, PLANS, NoPlan, contents, form_of, hold, item_at, in_byte_order, key_at, listed, need_node, plan, quoted
-from .plans import children_of, node_at, paths_of  # noqa: F401 (places of trees, which go with edits of trees)
+from .plans import children_of, node_at, paths_of, subtree  # noqa: F401 (places of trees, which go with edits of trees)
 from .types import LEAST_INT, MOST_INT, initial, write_name
 
 MOST_COUNT = 2**64 - 1

@@ -3,7 +3,9 @@
 import contextlib
 import dataclasses
 import json
+import shutil
 import subprocess
+import tempfile
 import threading
 import time
 
@@ -196,7 +198,7 @@ class OpenStore(KeptRun, Editing):
     """
 
     def __init__(self, store, wait=0.0, timeout=None, forms=None):
-        self.types, self.documents, self.complement, self.program = {}, {}, None, ""
+        self.types, self.documents, self.complement, self.program, self.files = {}, {}, None, "", None
         super().__init__(store, wait, timeout)
         try:
             self.files = Files(self, forms)
@@ -204,10 +206,24 @@ class OpenStore(KeptRun, Editing):
             self._leave()
             raise
 
+    def twin(self):
+        """Another open store in the same state: a copy of this one, in a folder of its own that goes when it is stopped."""
+        return _Copy(self)
+
+    def close(self):
+        """Ends the run. Returns the state as the program writes it."""
+        self.files.trial.stop()
+        return super().close()
+
     def compare(self):
         """Compares the documents with those of the program, by `show`. Raises DocumentsDiffer."""
         with self.lock:
             self._ended(self.store.show())
+
+    def _leave(self):
+        if self.files:
+            self.files.trial.stop()
+        super()._leave()
 
     def _opened(self):
         self.program = stored_program(self.store.file)
@@ -228,3 +244,26 @@ class OpenStore(KeptRun, Editing):
         if {"left": left, "right": right} != self.documents:
             raise DocumentsDiffer
         return state
+
+
+class _Copy(OpenStore):
+    """A copy of an open store, whose types and documents are known."""
+
+    def __init__(self, original):
+        self._original, self._room = original, tempfile.TemporaryDirectory(prefix="editlens-try-")
+        try:
+            shutil.copy(original.store.file, self._room.name)
+            super().__init__(type(original.store)(self._room.name, original.path), timeout=original.timeout)
+        except BaseException:
+            self._room.cleanup()
+            raise
+
+    def _opened(self):
+        one = self._original
+        self.program, self.types, self.documents, self.stored = one.program, one.types, one.documents, one.stored
+
+    def stop(self):
+        """Stops the run, and takes the copy away."""
+        if self.is_open:
+            self._abandon()
+        self._room.cleanup()

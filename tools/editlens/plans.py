@@ -97,6 +97,12 @@ def children_of(depths, node):
     return [it for it in inside if depths[it] == depths[node] + 1]
 
 
+def subtree(tree, path):
+    """The node at a path and all below it in preorder, each with its depth below that node and its content."""
+    depths, node = tree["depths"], node_at(tree["depths"], path)
+    return [(depths[it] - depths[node], tree["items"][it]) for it in range(node, end_of(depths, node))]
+
+
 def paths_of(depths):
     """The path of each node, in preorder."""
     paths, children = [], []

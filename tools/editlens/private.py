@@ -1,41 +1,121 @@
 """What the other side would lose by an edit: data that it keeps for itself, in items that the edit takes away and makes anew.
 
-The program itself is asked: an edit that it carries to nothing is of a private place. Then every private place of the other document gets a
-mark, the carried edit acts on it, and the marks that are gone are the data that would be lost.
+The lens says which places the other side alone has. Each of them gets a mark in its document, the edit that a second run of the program
+answered acts on it, and the marks that are gone are what would be lost. A list that a partition makes of several has an order of its own:
+that is lost too where an item goes from before others that stay.
 """
 
+from dataclasses import replace
+
 from .answers import OTHER
-from .construct import construct
 from .edits import act, paths_of
 from .json_text import pointer
-from .types import initial
+from .lenses import read_lens
+from .sharing import INSIDE, is_shared, places, ties
+from .types import Ty, initial
 
 TAKES_AWAY = ("del", "drop", "prune", "switch")
 WITH_EDIT = ("at", "stay", "mod", "switch")
+ITEM, ORDER = "item", "order"
 
 
 class PrivateLoss(Exception):
-    """A patch that makes the other side lose private data: the number of the operation, from 0, its path, and the places of the other side."""
+    """A patch that makes the other side lose private data: the number of the operation, from 0, its path, and the places of the other side.
 
-    def __init__(self, number, op, side, places):
-        told = f"operation {number}: by this {op['op']} of {op['path'] or 'the document'} the {side} side would lose what it alone has at "
-        super().__init__(told + ", ".join(pointer(it) or "(the document)" for it in places))
-        self.number, self.path, self.places = number, op["path"], places
+    `orders` are the places of lists that would lose an order of their own.
+    """
+
+    def __init__(self, number, op, side, places, orders=()):
+        lost = [f"what it alone has at {', '.join(map(_named, places))}"] * bool(places)
+        lost += [f"its own order of the items at {', '.join(map(_named, orders))}"] * bool(orders)
+        told = f"operation {number}: by this {op['op']} of {op['path'] or 'the document'} the {side} side would lose "
+        super().__init__(told + " and ".join(lost))
+        self.number, self.path, self.places, self.orders = number, op["path"], places, list(orders)
 
 
-def probe(ty, value):
-    """Primitives that edit a value of the type and, but for alternatives, bring it back. None edits null or the fields of a record."""
-    if ty.kind == "alternatives":
-        tag = next(iter(value))
-        return [{"switch": [tag, tag, []]}]
-    if ty.kind == "list":
-        return [{"ins": 1}, {"del": 1}]
-    if ty.kind == "keyed":
-        key = "".join(sorted(value, key=len)[-1:]) + "+"
-        return [{"put": key}, {"drop": key}]
-    if ty.kind == "tree":
-        return [{"graft": []}, {"prune": []}]
-    return [] if ty.kind in ("unit", "record") else [{"set": value}]
+def _named(place):
+    return pointer(place) or "(the document)"
+
+
+def takes_away(word):
+    """Whether an edit takes anything away."""
+    for primitive in word:
+        name, body = next(iter(primitive.items()))
+        if name in TAKES_AWAY or name in WITH_EDIT and takes_away(body[-1]):
+            return True
+    return False
+
+
+class Private:
+    """What a side of a lens has for itself, by its type: the places, and the lists with an order of their own. `types` are those of both."""
+
+    def __init__(self, program, side, types):
+        mine, other, lists = (0, 1, {}) if side == "left" else (1, 0, {})
+        pairs = ties(read_lens(program))
+        kinds = {path: ty.kind for path, ty in places(types[OTHER[side]])}
+        for pair in pairs:
+            if kinds[pair[other]] == "list":
+                lists.setdefault(pair[mine], set()).add(pair[other])
+        self.ty, self.shared = types[side], {pair[mine] for pair in pairs}
+        self.ordered = {path for path, ty in places(self.ty) if ty.kind == "list" and len(lists.get(path, ())) > 1}
+
+    def has_any(self):
+        """Whether it has anything for itself."""
+        return bool(self.ordered) or any(self._is_private(ty, path) for path, ty in places(self.ty))
+
+    def _is_private(self, ty, path):
+        return ty.kind not in ("record", "unit") and not is_shared(ty, path, self.shared)
+
+    def lost(self, document, words, is_known=True):
+        """The places of the type whose private data words take from a document, and the places of lists that lose their own order.
+
+        Where the document is known, what has its initial value is not lost, and no order is that nothing else has kept.
+        """
+        before = self._marked(self.ty, document, (), ())
+        after = act(self._type(self.ty, ()), before, [it for word in words for it in self._word(self.ty, word, ())])
+        left = set(map(id, _marks(after)))
+        gone = {id(it): it for it in _marks(before) if id(it) not in left}
+        lost = {it.kind for it in gone.values() if isinstance(it, _Mark) and not (is_known and it.is_initial)}
+        return sorted(lost), sorted({it.kind for it in gone.values() if isinstance(it, _Order) and it.is_lost(gone, is_known)})
+
+    def _marked(self, ty, value, path, kind):
+        """A document with a mark in place of each private value, and beside each item of a list with an order of its own."""
+        if self._is_private(ty, path):
+            return _Mark(kind, value == initial(ty))
+        found = [self._marked(inner, item, (*path, _step(way)), (*kind, *name)) for way, name, inner, item in inside(ty, value)]
+        if ty.kind in ("record", "alternatives", "keyed"):
+            return dict(zip(value, found))
+        if ty.kind == "tree":
+            return {"depths": value["depths"], "items": found}
+        if path not in self.ordered:
+            return found if ty.kind == "list" else value
+        tags, orders = [next(iter(it)) if isinstance(it, dict) else "" for it in value], []
+        return [{ITEM: it, ORDER: _Order(kind, tags, number, orders)} for number, it in enumerate(found)]
+
+    def _type(self, ty, path):
+        """The type of a marked document."""
+        if not self.ordered:
+            return ty
+        step = {"record": "at", "alternatives": "stay"}.get(ty.kind)
+        fields = tuple((name, self._type(inner, (*path, (step, name)))) for name, inner in ty.fields)
+        inner = self._type(ty.inner, (*path, INSIDE)) if ty.inner else None
+        if path in self.ordered:
+            inner = Ty("record", fields=((ITEM, inner), (ORDER, Ty("unit"))))
+        return replace(ty, fields=fields, inner=inner)
+
+    def _word(self, ty, word, path):
+        """The word that does to a marked document what a word does to the document."""
+        return [self._primitive(ty, *next(iter(it.items())), path) for it in word] if self.ordered else word
+
+    def _primitive(self, ty, name, body, path):
+        if name in ("at", "stay"):
+            return {name: [body[0], self._word(ty.field(body[0]), body[1], (*path, (name, body[0])))]}
+        if name == "switch":
+            return {name: [*body[:2], self._word(ty.field(body[1]), body[2], (*path, ("stay", body[1])))]}
+        if name != "mod":
+            return {name: body}
+        word = self._word(ty.inner, body[1], (*path, INSIDE))
+        return {name: [body[0], [{"at": [ITEM, word]}] if path in self.ordered else word]}
 
 
 def inside(ty, value):
@@ -55,123 +135,36 @@ def inside(ty, value):
             yield ("mod", path), ("items", "*"), ty.inner, item
 
 
-def wrapped(path, word):
-    """A word at the end of a way."""
-    for name, place in reversed(path):
-        word = [{name: [place, word]}]
-    return word
-
-
-def takes_away(word):
-    """Whether an edit takes anything away."""
-    for primitive in word:
-        name, body = next(iter(primitive.items()))
-        if name in TAKES_AWAY or name in WITH_EDIT and takes_away(body[-1]):
-            return True
-    return False
-
-
-def is_removal(ops):
-    """Whether operations say themselves that something goes: `remove`, or null in place of a value."""
-    return all(op["op"] == "remove" or op["op"] in ("add", "replace") and op["value"] is None for op in ops)
-
-
-class Watch:
-    """Runs of a lens program in which one side has a document, to see what edits of that side take from the other side.
-
-    `start` makes a Session of the program.
-    """
-
-    def __init__(self, start, side, document):
-        self.side, self.other = side, OTHER[side]
-        self.sessions = [start() for _ in range(2)]
-        self.session, self.trial = self.sessions
-        for session in self.sessions:
-            session.entry(side, construct(session.types[side], document))
-        self.is_known = {}
-
-    def __enter__(self):
-        return self
-
-    def __exit__(self, *_):
-        for session in self.sessions:
-            session.close()
-
-    def lost(self, word):
-        """Sends an edit. Returns the places of the other side's type whose private data it takes away."""
-        ty, document = self.session.types[self.other], self.session.documents[self.other]
-        marks = {}
-        self._mark(ty, document, (), (), marks) if takes_away(word) else None
-        carried = self.session.entry(self.side, word).word
-        left = set(map(id, _marks(act(ty, _with_marks(ty, document, (), marks), carried))))
-        return sorted({mark.kind for mark in marks.values() if id(mark) not in left})
-
-    def _mark(self, ty, value, path, kind, marks):
-        """Marks the private places of a value, the largest that are private as a whole."""
-        if ty.kind not in ("record", "alternatives", "unit") and self._is_private(ty, value, path, kind):
-            marks[_key(path)] = _Mark(kind)
-            return
-        for way, name, inner, item in inside(ty, value):
-            self._mark(inner, item, (*path, way), (*kind, *name), marks)
-        if ty.kind == "alternatives" and self._is_private(ty, value, path, kind):
-            marks[_key(path)] = _Mark(kind)
-
-    def _is_private(self, ty, value, path, kind):
-        if kind not in self.is_known:
-            self.is_known[kind] = self.trial.entry(self.other, wrapped(path, probe(ty, value))).word == []
-        return self.is_known[kind]
+def _step(way):
+    return INSIDE if way[0] == "mod" else way
 
 
 class _Mark:
-    def __init__(self, kind):
-        self.kind = kind
+    """What a document has in place of a private value: the place of the type, and whether the value is the initial one."""
+
+    def __init__(self, kind, is_initial):
+        self.kind, self.is_initial = kind, is_initial
 
 
-def _key(path):
-    return tuple((name, tuple(place) if isinstance(place, list) else place) for name, place in path)
+class _Order:
+    """What an item has beside it in a list with an order of its own: its number, and the marks and tags of all items of the list."""
 
+    def __init__(self, kind, tags, number, all_of_list):
+        self.kind, self.tags, self.number, self.list = kind, tags, number, all_of_list
+        all_of_list.append(self)
 
-def _with_marks(ty, value, path, marks):
-    """A document with a mark in place of each private value."""
-    if _key(path) in marks:
-        return marks[_key(path)]
-    found = {_key((way,)): _with_marks(inner, item, (*path, way), marks) for way, _, inner, item in inside(ty, value)}
-    if ty.kind in ("record", "alternatives"):
-        return {name: found[_key((("at" if ty.kind == "record" else "stay", name),))] for name in value}
-    if ty.kind == "keyed":
-        return {key: found[("mod", key),] for key in value}
-    if ty.kind == "list":
-        return list(found.values())
-    return {"depths": value["depths"], "items": list(found.values())} if ty.kind == "tree" else value
+    def is_lost(self, gone, is_known):
+        """Whether the place of this item among items of other tags is lost with it: what comes anew comes at the end, tag by tag."""
+        mine = self.tags[self.number]
+        for other in self.list if not is_known else self.list[self.number + 1 :]:
+            tag = self.tags[other.number]
+            if tag != mine and (not is_known or id(other) not in gone or tag.encode() < mine.encode()):
+                return True
+        return False
 
 
 def _marks(tree):
-    if isinstance(tree, _Mark):
+    if isinstance(tree, (_Mark, _Order)):
         yield tree
     for it in tree.values() if isinstance(tree, dict) else tree if isinstance(tree, list) else ():
         yield from _marks(it)
-
-
-def values_at(ty, document, kind):
-    """The types and values of the places that a place of a type names."""
-    if not kind:
-        yield ty, document
-    for _, name, inner, item in inside(ty, document) if kind else ():
-        if kind[: len(name)] == name:
-            yield from values_at(inner, item, kind[len(name) :])
-
-
-def need_no_loss(start, side, document, parts, other=None):
-    """Raises PrivateLoss where the parts of a translated patch make the other side lose private data. `start` makes a Session.
-
-    `other` is the other side's type and document, where they are known: what has its initial value everywhere is not lost then.
-    """
-    if not any(takes_away(word) and not is_removal(ops) for _, ops, word in parts):
-        return
-    with Watch(start, side, document) as watch:
-        for number, ops, word in parts:
-            places = watch.lost(word)
-            if other:
-                places = [it for it in places if any(value != initial(ty) for ty, value in values_at(*other, it))]
-            if places and not is_removal(ops):
-                raise PrivateLoss(number, ops[0], OTHER[side], places)

@@ -117,10 +117,7 @@ class Editing:
             for side, edit in ((entry["side"], entry["edit"]), (other, word)):
                 documents[side] = act(self.types[side], documents[side], edit)
         self.documents = documents
-
-    def another(self):
-        """A run of the same lens program from its initial documents on."""
-        return Session(self.program, self.path)
+        self.files.trial.follow(change)
 
     def explained(self, text, answer):
         """A refusal that explains itself by the documents of now."""
@@ -134,7 +131,8 @@ class Session(Editing, Run):
 
     `left`, `right` and `group` send an edit and return the answer, an Accepted; a refused one is raised as Refused, and nothing has
     changed then. `documents` has both documents after each answer. They are followed here by the rules of docs/EDITS.md, and `close`
-    compares them with what the program writes at its end. A run keeps nothing: `Store.open` is the same for a session that is to last.
+    compares them with what the program writes at its end. A run keeps nothing on the disk: `Store.open` is the same for a session that is
+    to last. The lines that were accepted are kept here, for a `twin`.
 
     `forms` has the form files of the sides, each a tree of JSON under "left" or "right": docs/TOOLS.md.
     """
@@ -144,9 +142,20 @@ class Session(Editing, Run):
         left, right = check(self.program, self.path)
         self.types = {"left": left, "right": right}
         self.documents = {side: initial(ty) for side, ty in self.types.items()}
-        self.complement = None
+        self.complement, self._lines = None, []
         self.files = Files(self, forms)
         super().__init__("run", self.program, self.path, timeout)
+
+    def twin(self):
+        """Another session in the same state: it takes the lines that this one has accepted."""
+        twin = Session(self.program, self.path)
+        for line in self._lines:
+            twin.line(line)
+        return twin
+
+    def stop(self):
+        self.files.trial.stop()
+        super().stop()
 
     def line(self, text):
         """Sends a line of a journal that is not blank, and returns its answer: an Accepted, or a Refused that is not raised."""
@@ -154,11 +163,13 @@ class Session(Editing, Run):
             answer = self.answered(text, read_answer)
             if not isinstance(answer, Accepted):
                 return self.explained(text, answer)
+            self._lines.append(text)
             self.follow(read_json(text), answer)
             return answer
 
     def close(self):
         """Ends the run. Returns the left document, the right document and the complement, as the program writes them."""
+        self.files.trial.stop()
         state = dict(line.split(" ", 1) for line in self.state())
         left, right = read_json(state["left"]), read_json(state["right"])
         self.complement = read_json(state["complement"])

@@ -114,11 +114,11 @@ x: <none: unit, some: text>}"""
 
 def test_what_no_file_shows():
     for ty, form, document, said in (
-        ('text = "0"', {"": "number"}, "much", "(the document): 'much' is not the text of a number"),
-        ('text = "0"', {"": "number"}, "1.", "(the document): '1.' is not the text of a number"),
-        ('{a: text = "null"}', {"/a": "json"}, {"a": "{"}, "/a: '{' is not the text of a JSON value"),
+        ('text = "0"', {"": "number"}, "much", '(the document): "much" is not the text of a number'),
+        ('text = "0"', {"": "number"}, "1.", '(the document): "1." is not the text of a number'),
+        ('{a: text = "null"}', {"/a": "json"}, {"a": "{"}, '/a: "{" is not the text of a JSON value'),
         ("{a: int, b: keyed int}", {"/b": "flat"}, {"a": 1, "b": {"a": 2}}, "(the document): the member a would come twice"),
-        ("keyed {}", {"": {"key": "id", "number": True}}, {"x": {}}, "/x: 'x' is not the text of a number"),
+        ("keyed {}", {"": {"key": "id", "number": True}}, {"x": {}}, '/x: "x" is not the text of a number'),
     ):
         shape = read_form(read_type(ty), form)
         try:

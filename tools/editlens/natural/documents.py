@@ -3,9 +3,9 @@
 from ..documents import MOST_DEPTH, Misfit, is_depth_list, is_int
 from ..json_text import pointer
 from ..types import write_name
-from .forms import is_object, names, open_field, sorts
+from .forms import is_object, sorts
 from .places import Place, content, members
-from .text import is_equal, number_text, shown, sort_of, write_file
+from .text import is_same, number_text, shown, sort_of, write_file
 
 NOTHING = object()
 """What a record has for a member that is not there."""
@@ -42,13 +42,24 @@ def item_of(shape, tree, path=()):
     return _all_of(lambda reader: reader.item(shape, tree, tuple(path)))
 
 
-def nodes_of(shape, trees, path=(), depth=0):
-    """The nodes of nested trees in preorder, each a depth and a content. Raises DoesNotFit."""
+def nodes_of(shape, trees, path=(), number=0):
+    """The nodes of nested trees in preorder, each a depth and a content. The first tree has a number in its list. Raises DoesNotFit."""
     nodes = []
 
     def read(reader):
-        for number, tree in enumerate(trees):
-            reader.node(shape, tree, (*path, number), depth, nodes)
+        for place, tree in enumerate(trees, number):
+            reader.node(shape, tree, (*path, place), 0, nodes)
+        return nodes
+
+    return _all_of(read)
+
+
+def node_of(shape, tree, path=()):
+    """The nodes of one nested tree in preorder. Raises DoesNotFit."""
+    nodes = []
+
+    def read(reader):
+        reader.node(shape, tree, tuple(path), 0, nodes)
         return nodes
 
     return _all_of(read)
@@ -80,9 +91,15 @@ def wanted(shape):
     if kind == "alternatives":
         return "an object with exactly one member, " + ("one of " if len(shape.inner) > 1 else "") + ", ".join(map(write_name, shape.inner))
     if kind == "record":
-        return "an object with the members " + (", ".join(map(write_name, names(shape) or shape.inner)) or "of an empty record")
+        return "an object with the members " + (", ".join(map(write_name, _written_names(shape))) or "of an empty record")
     simple = {"unit": "null", "bool": "true or false", "text": "a string", "int": "a whole number within 64 bits, without fraction or exponent"}
     return {**simple, "keyed": "an object, used as a map", "tree": "an object with exactly the members depths and items"}[kind]
+
+
+def _written_names(shape):
+    """The names of a record that a message lists: those of the members, or of the fields where any name may come."""
+    found = shape.names
+    return shape.inner if found.is_open or not found.known else found.known
 
 
 class _Reader:
@@ -121,7 +138,7 @@ class _Reader:
         if "json" in form:
             return write_file(tree)
         if kind == "enum":
-            found = next((it for it in shape.ty.members if is_equal(form.get("members", {}).get(it, it), tree)), None)
+            found = next((it for it in shape.ty.members if is_same(form.get("members", {}).get(it, it), tree)), None)
             if found is None:
                 self.wrong(path, wanted(shape), (tree,))
             return found
@@ -131,12 +148,12 @@ class _Reader:
 
     def record(self, shape, tree, path):
         """A record. What no field takes goes to the flat field whose members are not known, where there is one."""
-        found, left, rest = {}, dict(tree), open_field(shape)
+        found, left, rest = {}, dict(tree), shape.open_field
         for name, inner in shape.inner.items():
             if "flat" not in inner.form:
                 found[name] = self.read(inner, left.pop(name, NOTHING), (*path, name))
             elif name != rest:
-                found[name] = self.read(inner, {it: left.pop(it) for it in names(inner) if it in left}, path)
+                found[name] = self.read(inner, {it: left.pop(it) for it in inner.names.known if it in left}, path)
         if rest is None:
             self.unknown(left, path)
         else:

@@ -3,7 +3,9 @@
 from dataclasses import dataclass
 
 from ..answers import OTHER, Accepted
-from ..private import need_no_loss
+from ..edits import NoApply, act
+from ..private import takes_away
+from ..trial import Trial
 from .forms import read_form
 from .places import NotWritable, to_file
 from .to_edit import to_edit
@@ -19,6 +21,15 @@ class Patched:
     sent: list
 
 
+@dataclass(frozen=True)
+class PatchedGroup:
+    """An accepted group: the program's answer, and for each patch that was sent the other side with the patch of its file."""
+
+    answer: Accepted
+    patches: list
+    sent: list
+
+
 class Files:
     """The users' files of a session or of an open store, by the form files of its sides. A side without one is written as it is.
 
@@ -27,7 +38,7 @@ class Files:
     """
 
     def __init__(self, session, forms=None):
-        self.session = session
+        self.session, self.trial = session, Trial(session)
         self.shapes = {side: read_form(ty, (forms or {}).get(side, {})) for side, ty in session.types.items()}
 
     def __getitem__(self, side):
@@ -37,21 +48,71 @@ class Files:
         """Sends a JSON Patch of the file of a side. Returns what comes of it, as Patched.
 
         Raises NoCounterpart where no edit makes it, PrivateLoss where the other side would lose what it alone has, unless `drop_private`,
-        and Refused. Nothing has changed then. NotWritable is raised where the other file cannot show what was accepted; `answer` has it.
+        NotWritable where the other file could not show what comes of it, and Refused. Nothing has changed then.
         """
-        with self.session.lock:
-            other, before = OTHER[side], self.session.documents
+        with self.session.lock, self.trial.kept_in_step():
+            before = self.session.documents
             made = to_edit(self.shapes[side], before[side], patch)
-            if not drop_private:
-                there = self.session.types[other], before[other]
-                need_no_loss(self.session.another, side, before[side], made.words(), there)
+            if self._needs_trial(side, made, drop_private):
+                self._try(side, made, drop_private)
             answer = self.session.entry(side, made.word)
-            try:
-                return Patched(answer, to_patch(self.shapes[other], before[other], answer.word), made.patch)
-            except NotWritable as why:
-                why.answer = answer
-                raise
+            other = OTHER[side]
+            return Patched(answer, to_patch(self.shapes[other], before[other], answer.word), made.patch)
+
+    def group(self, *patches, drop_private=False):
+        """Sends patches, each a side and a JSON Patch, that are accepted together or not at all. Returns what comes of it, as PatchedGroup.
+
+        Each patch is of the file as the patches before it leave it. What `patch` raises is raised here.
+        """
+        with self.session.lock, self.trial.kept_in_step():
+            documents, made = self.session.documents, []
+            before = documents
+            for number, (side, patch) in enumerate(patches):
+                made.append((side, to_edit(self.shapes[side], documents[side], patch)))
+                documents = self._try(*made[-1], drop_private, is_begun=number > 0)
+            answer = self.session.group(*((side, it.word) for side, it in made))
+            carried = []
+            for (side, it), (other, word) in zip(made, answer.words):
+                carried.append((other, to_patch(self.shapes[other], before[other], word)))
+                before = {side: it.document, other: act(self.session.types[other], before[other], word)}
+            return PatchedGroup(answer, carried, [it.patch for _, it in made])
+
+    def undo(self, count=1):
+        """Takes the last changes of a store back. Returns the patches of both files, as `patches` does."""
+        with self.session.lock:
+            before = self.session.documents
+            return self.patches(before, self.session.undo(count))
 
     def patches(self, before, words):
-        """The patches of both files for the words that changed both documents, as `undo` returns them."""
-        return [to_patch(self.shapes[side], before[side], word) for side, word in zip(("left", "right"), words)]
+        """The patches of both files for the words that changed both documents, as `undo` returns them. `before` are the documents then.
+
+        Where another program has changed the store meanwhile, a file comes as a whole.
+        """
+        return [self._changed(side, before[side], word) for side, word in zip(("left", "right"), words)]
+
+    def _changed(self, side, before, word):
+        ty, now = self.session.types[side], self.session.documents[side]
+        try:
+            if act(ty, before, word) == now:
+                return to_patch(self.shapes[side], before, word)
+        except NoApply:
+            pass
+        return [{"op": "replace", "path": "", "value": to_file(self.shapes[side], now)}]
+
+    def _needs_trial(self, side, made, drop_private):
+        """Whether a patch is tried out first: the other file may have no way to show the result, or the other side may lose something."""
+        if not self.shapes[OTHER[side]].shows_all():
+            return True
+        takes = any(takes_away(it.word()) and not it.is_removal() for it in made.parts)
+        return takes and not drop_private and self.trial.private(OTHER[side]).has_any()
+
+    def _try(self, side, made, drop_private, is_begun=False):
+        """Tries a patch out, and returns both documents after it. Raises PrivateLoss, NotWritable and Refused."""
+        other = OTHER[side]
+        documents = self.trial.carry(side, made.parts, not drop_private, is_begun)
+        try:
+            to_file(self.shapes[other], documents[other])
+        except NotWritable as why:
+            why.side = other
+            raise
+        return documents

@@ -1,6 +1,7 @@
 """Form files: how a user's file writes the places of a type. docs/TOOLS.md has the forms."""
 
 from dataclasses import dataclass, field
+from functools import cached_property
 
 from ..json_text import NotJson, pointer, read_json_file, read_pointer, shown
 from ..types import Ty, write_type
@@ -39,6 +40,14 @@ class FormFault(ValueError):
 
 
 @dataclass(frozen=True)
+class Names:
+    """The names that the members of a written object may have: those that are known, and whether any other name may come."""
+
+    known: tuple = ()
+    is_open: bool = False
+
+
+@dataclass(frozen=True)
 class Shape:
     """A type with the forms of its places: `inner` has the shapes of fields and tags, or the shape of all contents as `*`."""
 
@@ -54,9 +63,36 @@ class Shape:
         """Whether a keyed map is written as a list of objects, each with its key."""
         return "key" in self.form
 
+    @cached_property
+    def names(self):
+        """The names that the members may have, whatever the document is, where it is written as an object."""
+        return _names(self)
+
+    @cached_property
+    def open_field(self):
+        """The flat field of a record that takes the members which have no other place, or None."""
+        return next((name for name, it in self.inner.items() if "flat" in it.form and it.names.is_open), None)
+
+    @cached_property
+    def other_names(self):
+        """The names of members that the open field of a record cannot have, since reading gives them to other fields."""
+        others = [(name, it) for name, it in self.inner.items() if name != self.open_field]
+        return {known for name, it in others for known in (it.names.known if "flat" in it.form else (name,))}
+
     def keeps_orders(self):
         """Whether every list by key in it keeps its order."""
         return not (self.is_key_list() and "order" not in self.form) and all(it.keeps_orders() for it in self.inner.values())
+
+    def shows_all(self):
+        """Whether a file shows every document of the type: no text is to be a number or JSON, and no key may be the name of a member."""
+        form = self.form
+        if any(it in form and "kind" not in form for it in ("number", "json")) or self.open_field and self.other_names:
+            return False
+        if "content" not in form and any(it in form for it in ("kind", "children", "key")):
+            contents = [self.content()] if "kind" not in form else self.inner.values()
+            if any(it.names.is_open for it in contents):
+                return False
+        return all(it.shows_all() for it in self.inner.values())
 
     def loosened(self):
         """The same shape, in which a leaf may have an empty list of children or none."""
@@ -152,7 +188,7 @@ def _shape_fault(shape, path):
             return reason
     if ty.kind == "record" and not shape.is_key_list():
         flat = [name for name, inner in shape.inner.items() if "flat" in inner.form]
-        unknown = [name for name in flat if names(shape.inner[name]) is None]
+        unknown = [name for name in flat if shape.inner[name].names.is_open]
         if any(not is_object(shape.inner[name]) for name in flat):
             return "what is flat is written as an object"
         if len(unknown) > 1:
@@ -172,41 +208,41 @@ def _shape_fault(shape, path):
 
 
 def _clash(found):
-    twice = next((it for it in found if found.count(it) > 1), None)
+    seen = set()
+    twice = next((it for it in found if it in seen or seen.add(it)), None)
     return None if twice is None else f"the member {twice} would come twice"
+
+
+def _names(shape):
+    kind, form = shape.ty.kind, shape.form
+    if kind == "record" and not shape.is_key_list():
+        return Names(tuple(_record_names(shape)), any("flat" in it.form and it.names.is_open for it in shape.inner.values()))
+    if shape.is_untagged():
+        return _joined((), shape.inner.values())
+    if kind == "alternatives":
+        return _with_content(form, form["kind"], shape.inner.values()) if "kind" in form else Names(tuple(shape.inner))
+    if kind == "tree":
+        return _with_content(form, form["children"], shape.inner.values()) if "children" in form else Names(("depths", "items"))
+    return Names(is_open=kind == "keyed")
+
+
+def _with_content(form, name, contents):
+    """The names of a member that a form adds, and of the contents beside it."""
+    return Names((name, form["content"])) if "content" in form else _joined((name,), contents)
+
+
+def _joined(own, shapes):
+    inside = [it.names for it in shapes]
+    return Names(tuple(dict.fromkeys([*own, *(name for it in inside for name in it.known)])), any(it.is_open for it in inside))
 
 
 def _record_names(shape):
     """The names of the members of a record that are known, those of flat fields among them."""
     for name, inner in shape.inner.items():
         if "flat" in inner.form:
-            yield from names(inner) or ()
+            yield from inner.names.known
         else:
             yield name
-
-
-def names(shape):
-    """The names that the members of a written object may have, or None where they are not known or it is not an object."""
-    if shape.ty.kind == "unit":
-        return []
-    if shape.ty.kind == "record" and not shape.is_key_list():
-        return None if open_field(shape) else list(_record_names(shape))
-    if shape.ty.kind == "alternatives" and not shape.is_untagged():
-        if "kind" not in shape.form:
-            return list(shape.inner)
-        inside = [names(it) for it in shape.inner.values()] if "content" not in shape.form else [[shape.form["content"]]]
-        return None if None in inside else list(dict.fromkeys([shape.form["kind"], *sum(inside, [])]))
-    if shape.ty.kind == "tree":
-        if "children" not in shape.form:
-            return ["depths", "items"]
-        inside = names(shape.inner["*"]) if "content" not in shape.form else [shape.form["content"]]
-        return None if inside is None else [shape.form["children"], *inside]
-    return None
-
-
-def open_field(shape):
-    """The flat field of a record that takes the members which have no other place, or None."""
-    return next((name for name, it in shape.inner.items() if "flat" in it.form and names(it) is None), None)
 
 
 def is_object(shape):
@@ -264,7 +300,7 @@ def _kind_fault(shape):
     for tag, inner in shape.inner.items():
         if not is_object(inner) and inner.ty.kind != "unit":
             return f"the content of {tag} is not written as an object: name a member for it by content"
-        reason = _clash([form["kind"], *(names(inner) or ())])
+        reason = _clash([form["kind"], *inner.names.known])
         if reason:
             return reason
     return None
@@ -275,7 +311,7 @@ def _merged_fault(shape, extra, content):
         return _clash([extra, shape.form["content"]])
     if not is_object(content) and content.ty.kind != "unit":
         return "the contents are not written as objects: name a member for them by content"
-    return _clash([extra, *(names(content) or ())])
+    return _clash([extra, *content.names.known])
 
 
 def _children_fault(shape):

@@ -1,11 +1,17 @@
 """The operations of a JSON Patch (RFC 6902): their form, and what they make of a tree."""
 
+import re
+
 from ..json_text import place_name, read_pointer
-from .text import is_equal, shown
+from .text import is_equal, shown, write_file
 
 WITH_VALUE = ("add", "replace", "test")
 WITH_FROM = ("move", "copy")
 NAMES = ("add", "remove", "replace", "move", "copy", "test")
+MOST_COPIED = 4 << 20
+"""How many bytes the copies of one patch may have together. An edit has at most a quarter of that."""
+MOST_PLACE = 20
+"""More digits than the number of an item has."""
 
 
 class Stop(Exception):
@@ -31,8 +37,12 @@ def operation_fault(op):
 
 def steps_of(place):
     """The steps of a JSON Pointer, or of a list of steps."""
+    if not isinstance(place, str):
+        return list(place)
+    if re.search("~(?![01])", place):
+        raise Stop(f"{shown(place)} is not a JSON Pointer: behind a ~ comes 0 or 1")
     try:
-        return read_pointer(place) if isinstance(place, str) else list(place)
+        return read_pointer(place)
     except ValueError as why:
         raise Stop(str(why)) from None
 
@@ -44,7 +54,7 @@ def number_in(steps, count, has_end=False):
         return count
     if not text.isascii() or not text.isdigit() or (text[0] == "0" and text != "0"):
         raise Stop(f"{place_name(steps)}: {text} is no place of a list")
-    if int(text) >= count + has_end:
+    if len(text) > MOST_PLACE or int(text) >= count + has_end:
         raise Stop(f"{place_name(steps)}: there is no place {text} in a list of {count}")
     return int(text)
 
@@ -72,6 +82,24 @@ def need_apart(origin, steps):
     """Refuses to move a value into itself."""
     if steps[: len(origin)] == origin and len(steps) > len(origin):
         raise Stop(f"{place_name(origin)}: a value cannot be moved into itself")
+
+
+class Patching:
+    """A file that operations of a patch change, one after another. `tree` is the file now; no tree that was there is changed.
+
+    The copies of a patch together have a bound, since each copy may double what the next one copies.
+    """
+
+    def __init__(self, tree):
+        self.tree, self._room = tree, MOST_COPIED
+
+    def apply(self, op):
+        """Does an operation. Raises Stop where it does not apply."""
+        if op["op"] == "copy":
+            self._room -= len(write_file(value_at(self.tree, steps_of(op["from"]))))
+            if self._room < 0:
+                raise Stop(f"the copies of a patch have at most {MOST_COPIED:,} bytes together")
+        self.tree = patched(self.tree, op)
 
 
 def patched(tree, op):
@@ -128,7 +156,9 @@ def _without(tree, steps):
 
     def change(inside):
         if isinstance(inside, dict):
-            return {name: it for name, it in inside.items() if name != steps[-1]}
-        return [it for number, it in enumerate(inside) if number != int(steps[-1])]
+            left = dict(inside)
+            del left[steps[-1]]
+            return left
+        return [*inside[: int(steps[-1])], *inside[int(steps[-1]) + 1 :]]
 
     return _inside(tree, steps[:-1], change)

@@ -1,19 +1,26 @@
 """The places of a user's file, each with the place of the document that it shows and the way of an edit there."""
 
+from collections.abc import Mapping, Sequence
 from dataclasses import dataclass, replace as changed
 
 from ..edits import children_of, node_at, paths_of
 from ..json_text import pointer
-from .forms import Shape, open_field
-from .text import read_file, read_number
+from .forms import Shape
+from .text import read_file, read_number, shown, write_file
 
 
 class NotWritable(ValueError):
-    """A document that no file of this form shows: the place in the document, and why."""
+    """A document that no file of this form shows: the place in the document, and why. `side` is set where a patch of the other one is refused."""
+
+    side = None
 
     def __init__(self, path, reason):
         steps = [it for name, place in path for it in (("items", place) if name == "mod" and isinstance(place, list) else (place,))]
         super().__init__(f"{pointer(steps) or '(the document)'}: {reason}")
+
+    def __str__(self):
+        said = super().__str__()
+        return said if self.side is None else f"the {self.side} file could not show what comes of it: {said}"
 
 
 @dataclass(frozen=True)
@@ -44,6 +51,41 @@ class Place:
         return Place(shape, value, (*self.path, (primitive, step)), **more)
 
 
+class Items(Sequence):
+    """The places of the items of a list. Each is made where it is asked for, since a list may be long."""
+
+    def __init__(self, count, make):
+        self._count, self._make = count, make
+
+    def __len__(self):
+        return self._count
+
+    def __getitem__(self, number):
+        numbers = range(self._count)[number]
+        return self._make(numbers) if isinstance(numbers, int) else [self._make(it) for it in numbers]
+
+
+class Entries(Mapping):
+    """The places of the members of a map, by their keys. Each is made where it is asked for."""
+
+    def __init__(self, keys, make):
+        self._keys, self._make = keys, make
+
+    def __len__(self):
+        return len(self._keys)
+
+    def __iter__(self):
+        return iter(self._keys)
+
+    def __contains__(self, key):
+        return key in self._keys
+
+    def __getitem__(self, key):
+        if key not in self._keys:
+            raise KeyError(key)
+        return self._make(key)
+
+
 def content(place):
     """The place itself, or the content of alternatives that are written by their content alone."""
     while place.shape.is_untagged() and place.role in ("", "entry"):
@@ -53,7 +95,7 @@ def content(place):
 
 
 def members(place):
-    """What a place of a file has inside: the places of members by their names, a list of the places of items, or None for a simple value.
+    """What a place of a file has inside: the places of members by their names, the Items of a list, or None for a simple value.
 
     Members that are missing now are among them.
     """
@@ -66,9 +108,9 @@ def members(place):
     if shape.ty.kind == "record":
         return _fields(place)
     if shape.ty.kind == "list":
-        return [place.at("mod", number, shape.inner["*"], item) for number, item in enumerate(value)]
+        return Items(len(value), lambda number: place.at("mod", number, shape.inner["*"], value[number]))
     if shape.ty.kind == "keyed":
-        return {key: place.at("mod", key, shape.inner["*"], item, role="entry", owner=place, name=key) for key, item in value.items()}
+        return Entries(value, lambda key: place.at("mod", key, shape.inner["*"], value[key], role="entry", owner=place, name=key))
     if shape.ty.kind == "alternatives" and "kind" not in shape.form:
         tag = next(iter(value))
         return {tag: place.at("stay", tag, shape.inner[tag], value[tag])}
@@ -103,7 +145,7 @@ def taker(place):
         return None if "content" in owner.shape.form else taker(inside)
     if place.role not in ("", "entry") or place.shape.is_key_list():
         return None
-    name = open_field(place.shape) if place.shape.ty.kind == "record" else None
+    name = place.shape.open_field if place.shape.ty.kind == "record" else None
     if name is not None:
         return taker(place.at("at", name, place.shape.inner[name], place.value[name]))
     return place if place.shape.ty.kind == "keyed" else None
@@ -125,14 +167,15 @@ def _apart(place, own, more):
 
 
 def _fields(place):
-    found = {}
+    found, rest = {}, place.shape.open_field
     for name, inner in place.shape.inner.items():
         there = place.at("at", name, inner, place.value[name])
-        if "flat" in inner.form:
-            found.update(_apart(place, found, members(there)))
-        else:
-            _apart(place, found, {name: there})
+        if "flat" not in inner.form:
             found[name] = there
+        elif name == rest:
+            found.update(_apart(place, place.shape.other_names, members(there)))
+        else:
+            found.update(members(there))
     return found
 
 
@@ -140,8 +183,10 @@ def key_order(shape, value):
     """The keys of a map that is written as a list, in the order of the list."""
     if "order" not in shape.form:
         return list(value)
-    keys = value[shape.map_field()]
-    listed = [key for key in dict.fromkeys(value[shape.form["order"]]) if key in keys]
+    keys, order = value[shape.map_field()], value[shape.form["order"]]
+    if len(order) == len(keys) and keys.keys() == set(order):
+        return order
+    listed = [key for key in dict.fromkeys(order) if key in keys]
     return listed + sorted(set(keys) - set(listed), key=str.encode)
 
 
@@ -156,7 +201,12 @@ def map_place(place):
 def _key_items(place):
     inside, shape = map_place(place), place.shape.content()
     keys = key_order(place.shape, place.value)
-    return [inside.at("mod", key, shape, inside.value[key], role="item", owner=place, name=key) for key in keys]
+    return Items(len(keys), lambda number: key_item(place, inside, shape, keys[number]))
+
+
+def key_item(place, inside, shape, key):
+    """The place of the item of a list by key that has a key. `inside` is the place of the map, and `shape` that of its contents."""
+    return inside.at("mod", key, shape, inside.value[key], role="item", owner=place, name=key)
 
 
 def _item_members(place):
@@ -176,12 +226,12 @@ def child_nodes(place):
 
 
 def _children(place):
-    return [changed(place, role="node", name=[*place.name, number]) for number in range(len(child_nodes(place)))]
+    return Items(len(child_nodes(place)), lambda number: changed(place, role="node", name=[*place.name, number]))
 
 
 def _items(place):
-    paths, inner = paths_of(place.value["depths"]), place.shape.inner["*"]
-    return [place.owner.at("mod", path, inner, item) for path, item in zip(paths, place.value["items"])]
+    paths, inner, items = paths_of(place.value["depths"]), place.shape.inner["*"], place.value["items"]
+    return Items(len(items), lambda number: place.owner.at("mod", paths[number], inner, items[number]))
 
 
 _BY_ROLE = {
@@ -201,9 +251,9 @@ def written(place):
     if place.role in ("", "entry") and "children" in place.shape.form:
         return _nested(place)
     inside = members(place)
-    if isinstance(inside, dict):
+    if isinstance(inside, Mapping):
         return {name: written(it) for name, it in inside.items() if not it.is_missing()}
-    if isinstance(inside, list):
+    if isinstance(inside, Items):
         return [written(it) for it in inside]
     return _simple(place)
 
@@ -241,18 +291,26 @@ def _simple(place):
     if "number" in form:
         return _number(place, place.value)
     if "json" in form:
-        try:
-            return read_file(place.value)
-        except ValueError:
-            raise NotWritable(place.path, f"{place.value!r} is not the text of a JSON value") from None
+        return _json(place, place.value)
     return form["members"].get(place.value, place.value) if "members" in form else place.value
 
 
 def _number(place, text):
     number = read_number(text)
     if number is None:
-        raise NotWritable(place.path, f"{text!r} is not the text of a number")
+        raise NotWritable(place.path, f"{shown(text)} is not the text of a number")
     return number
+
+
+def _json(place, text):
+    """The value of a text of JSON. A text with other spaces or another order would come back as another one, so no file shows it."""
+    try:
+        tree = read_file(text)
+    except ValueError:
+        raise NotWritable(place.path, f"{shown(text)} is not the text of a JSON value") from None
+    if write_file(tree) != text:
+        raise NotWritable(place.path, f"{shown(text)} is JSON, but not as a file has it: without spaces, members by their bytes")
+    return tree
 
 
 def to_file(shape, document):

@@ -1,11 +1,14 @@
 """The steps of an edit that do to the document what one operation of a JSON Patch does to the file."""
 
+from collections.abc import Mapping
+from dataclasses import replace as changed
+
 from ..construct import replace_steps, set_steps, word_of
-from ..edits import act, paths_of
+from ..edits import act, paths_of, subtree
 from ..json_text import place_name, pointer
-from .documents import item_of, nodes_of, to_document
-from .operations import Stop, need_apart, need_equal, number_in, steps_of, value_at
-from .places import Place, content, key_order, map_place, members, taker, written
+from .documents import item_of, node_of, nodes_of, to_document
+from .operations import Stop, need_apart, number_in, steps_of, value_at
+from .places import Items, Place, content, key_order, map_place, members, taker, written
 from .text import number_text
 
 BY_PRIMITIVES = "the nodes of a tree come and go by graft, prune, shift and hang, or as children where a form writes them so"
@@ -14,9 +17,9 @@ BY_PRIMITIVES = "the nodes of a tree come and go by graft, prune, shift and hang
 def step(place, steps):
     """The place inside this one at the last of some steps."""
     inside = members(place)
-    if isinstance(inside, list):
+    if isinstance(inside, Items):
         return inside[number_in(steps, len(inside))]
-    if isinstance(inside, dict) and steps[-1] in inside and not inside[steps[-1]].is_missing():
+    if isinstance(inside, Mapping) and steps[-1] in inside and not inside[steps[-1]].is_missing():
         return inside[steps[-1]]
     # An operation inside a value that is kept as a text of JSON is done to the whole text.
     raise Stop(f"{place_name(steps)}: there is no such place", may_wait="json" in content(place).shape.form)
@@ -29,20 +32,10 @@ def walk(place, steps):
     return place
 
 
-def _value(place, steps):
-    """What the file has at some steps."""
-    for number in range(len(steps)):
-        if members(place) is None:
-            return value_at(written(place), steps[number:], steps[:number])
-        place = step(place, steps[: number + 1])
-    return written(place)
-
-
-def steps_for(root, op):
-    """The steps of one operation. Raises Stop or DoesNotFit where there are none."""
+def steps_for(root, file, op):
+    """The steps of one operation of a patch of a file, which the root shows. Raises Stop or DoesNotFit where there are none."""
     name, steps = op["op"], steps_of(op["path"])
     if name == "test":
-        need_equal(_value(root, steps), op, steps)
         return []
     if name == "replace":
         return replaced(walk(root, steps), op["value"], steps)
@@ -52,29 +45,31 @@ def steps_for(root, op):
         return _removed(root, steps)
     origin = steps_of(op["from"])
     if name == "copy":
-        return _added(root, steps, _value(root, origin))
+        return _added(root, steps, value_at(file, origin))
     return _moved(root, origin, steps)
 
 
 def replaced(place, value, steps):
     """Replaces what is at a place of the file."""
     path = tuple(steps)
+    if place.role in ("", "entry") and "children" in place.shape.form:
+        return _new_node(changed(place, role="node", owner=place, name=[]), value, path)
     if place.role in ("", "entry"):
         return list(replace_steps(place.shape.ty, place.value, to_document(place.shape, value, path), place.path))
     if place.role == "key":
         return _renamed(place, _key(place.owner, value, path), path)
     if place.role == "item":
         key, inside = item_of(place.owner.shape, value, path)
-        renamed = _renamed(place, key, path)
-        path = (*place.path[:-1], ("mod", key))
-        return [*renamed, *replace_steps(place.shape.ty, place.value, inside, path)]
+        if key != place.name:
+            return _another_item(place, key, inside, path)
+        return list(replace_steps(place.shape.ty, place.value, inside, place.path))
     if place.role == "children":
         return _new_children(place, value, path)
     if place.role == "node":
         return _new_node(place, value, path)
     if place.role == "kind":
         raise Stop(f"{place_name(path)}: with this kind the rest of the object does not fit", may_wait=True)
-    raise Stop(f"{place_name(path)}: {BY_PRIMITIVES}")
+    raise Stop(f"{place_name(path)}: {BY_PRIMITIVES}", may_wait=place.role in ("depths", "items"))
 
 
 def _key(owner, value, path):
@@ -86,16 +81,30 @@ def _key(owner, value, path):
 
 def _renamed(place, key, path):
     """Gives an item of a list by key another key."""
-    owner, there, steps = place.owner, map_place(place.owner), []
     if key == place.name:
         return []
-    if key in there.value:
+    return [*_listed_as(place, key, path), (map_place(place.owner).path, {"rename": [place.name, key]})]
+
+
+def _another_item(place, key, value, path):
+    """An item of a list by key is replaced by one with another key. That is another item, which gets nothing of what the first one had."""
+    owner, there = place.owner, map_place(place.owner)
+    if "order" not in owner.shape.form and key_order(owner.shape, owner.value)[-1] != place.name:
+        raise Stop(f"{place_name(path)}: this list by key keeps no order, so another item comes at its end", may_wait=True)
+    replaced_key = [(there.path, {"drop": place.name}), (there.path, {"put": key})]
+    return [*_listed_as(place, key, path), *replaced_key, *set_steps(place.shape.ty, value, (*there.path, ("mod", key)))]
+
+
+def _listed_as(place, key, path):
+    """The steps by which an order names an item by another key, where there is an order."""
+    owner = place.owner
+    if key in map_place(owner).value:
         raise Stop(f"{place_name(path)}: another item has the key {key}", may_wait=True)
-    if "order" in owner.shape.form:
-        tidied, order = _tidied(owner)
-        number = key_order(owner.shape, owner.value).index(place.name)
-        steps = [*tidied, ((*order, ("mod", number)), {"set": key})]
-    return [*steps, (there.path, {"rename": [place.name, key]})]
+    if "order" not in owner.shape.form:
+        return []
+    tidied, order = _tidied(owner)
+    number = key_order(owner.shape, owner.value).index(place.name)
+    return [*tidied, ((*order, ("mod", number)), {"set": key})]
 
 
 def _tidied(owner):
@@ -110,7 +119,7 @@ def _added(root, steps, value):
         return replaced(root, value, steps)
     parent, path = walk(root, steps[:-1]), tuple(steps)
     inside = members(parent)
-    if isinstance(inside, list):
+    if isinstance(inside, Items):
         return _inserted(parent, inside, number_in(steps, len(inside), True), value, path)
     if parent.role == "depths":
         raise Stop(f"{place_name(path)}: {BY_PRIMITIVES}")
@@ -129,7 +138,7 @@ def _inserted(parent, inside, number, value, path):
     parent, count = content(parent), len(inside)
     if parent.role == "children":
         owner = parent.owner
-        return _grafted(owner, parent.name, number, count, nodes_of(owner.shape, [value], path[:-1]))
+        return _grafted(owner, parent.name, number, count, nodes_of(owner.shape, [value], path[:-1], number))
     if parent.role == "items":
         raise Stop(f"{place_name(path)}: {BY_PRIMITIVES}")
     if parent.shape.is_key_list():
@@ -178,7 +187,7 @@ def _new_children(place, value, path):
         raise Stop(f"{place_name(path)}: an array is wanted" + (" that is not empty" if value == [] else ""), may_wait=True)
     tree, steps = place.owner, []
     for number, item in enumerate(value):
-        steps += _grafted(tree, place.name, number, number, nodes_of(tree.shape, [item], path))
+        steps += _grafted(tree, place.name, number, number, nodes_of(tree.shape, [item], path, number))
     return [*_no_children(place), *steps]
 
 
@@ -187,21 +196,18 @@ def _no_children(place):
 
 
 def _new_node(place, value, path):
-    tree = place.owner
-    nodes = nodes_of(tree.shape, [value], path[:-1])
-    below = members(members(place)[tree.shape.form["children"]])
-    old = tree.value["items"][_number_of(tree, place.name)]
-    steps = [(tree.path, {"prune": place.name}) for _ in below]
-    steps += replace_steps(tree.shape.inner["*"].ty, old, nodes[0][1], (*tree.path, ("mod", place.name)))
-    paths = paths_of([depth for depth, _ in nodes])
-    steps += [(tree.path, {"graft": [*place.name, *it[:-1]]}) for it in paths[1:]]
-    for it, (_, item) in list(zip(paths, nodes))[1:]:
-        steps += set_steps(tree.shape.inner["*"].ty, item, (*tree.path, ("mod", [*place.name, *it])))
-    return steps
-
-
-def _number_of(tree, path):
-    return paths_of(tree.value["depths"]).index(path)
+    """A node gets another content, and what is below it is made anew where it is not the same."""
+    tree, at, nodes = place.owner, place.name, node_of(place.owner.shape, value, path)
+    (_, old), *old_below = subtree(tree.value, at)
+    (_, new), *below = nodes
+    inner = tree.shape.inner["*"].ty
+    steps = list(replace_steps(inner, old, new, (*tree.path, ("mod", at))))
+    if below == old_below:
+        return steps
+    paths = [[*at, *it] for it in paths_of([depth for depth, _ in nodes])[1:]]
+    pruned = [(tree.path, {"prune": at}) for depth, _ in old_below if depth == 1]
+    grafted = [(tree.path, {"graft": it[:-1]}) for it in paths]
+    return pruned + steps + grafted + [step for it, (_, item) in zip(paths, below) for step in set_steps(inner, item, (*tree.path, ("mod", it)))]
 
 
 def _removed(root, steps):
@@ -210,7 +216,7 @@ def _removed(root, steps):
     place, path = walk(root, steps), tuple(steps)
     parent = content(walk(root, steps[:-1]))
     inside = members(parent)
-    if isinstance(inside, list):
+    if isinstance(inside, Items):
         return _taken_out(parent, int(steps[-1]), len(inside), path)
     if place.role == "entry":
         return [(place.owner.path, {"drop": place.name})]
@@ -247,7 +253,7 @@ def _moved(root, origin, steps):
     if not steps:
         return replaced(root, written(place), steps)
     parent = content(walk(root, origin[:-1]))
-    if origin[:-1] == steps[:-1] and isinstance(members(parent), list):
+    if origin[:-1] == steps[:-1] and isinstance(members(parent), Items):
         count = len(members(parent))
         return _moved_inside(parent, int(origin[-1]), number_in(steps, count - 1, True), count, steps)
     if origin[:-1] == steps[:-1] and place.role == "entry" and taker(parent) is not None:

@@ -1,9 +1,14 @@
 """The JSON of users' files: every number keeps its own text, and no member of an object may come twice."""
 
 import json
-from decimal import Decimal
+import math
 
 from ..json_text import NotJson
+
+MOST_DIGITS = 4_000
+"""A whole number of more digits is kept as a text, since Python reads no longer ones."""
+MOST_EXPONENT = 18
+"""An exponent of more digits is compared by its letters: no two such numbers are computed."""
 
 
 class Number(float):
@@ -16,7 +21,7 @@ class Number(float):
 
 
 def _whole(digits):
-    return Number(digits) if digits == "-0" else int(digits)
+    return Number(digits) if digits == "-0" or len(digits) > MOST_DIGITS else int(digits)
 
 
 def _constant(name):
@@ -26,8 +31,8 @@ def _constant(name):
 def _members(pairs):
     made = dict(pairs)
     if len(made) != len(pairs):
-        names = [name for name, _ in pairs]
-        twice = next(name for name in names if names.count(name) > 1)
+        seen = set()
+        twice = next(name for name, _ in pairs if name in seen or seen.add(name))
         raise NotJson(f"the member {write_file(twice)} comes twice in an object")
     return made
 
@@ -53,6 +58,35 @@ def read_file_at(path):
             raise NotJson(f"{path}: {why}") from None
 
 
+def need_json(tree):
+    """Raises NotJson where a value of a Python program is not JSON, or has a text that no file may have."""
+    left = [tree]
+    while left:
+        part = left.pop()
+        if isinstance(part, dict):
+            left += part
+            left += part.values()
+            if not all(isinstance(name, str) for name in part):
+                raise NotJson("a name of a member is not a text")
+        elif isinstance(part, list):
+            left += part
+        elif isinstance(part, str):
+            _need_text(part)
+        elif isinstance(part, float) and not isinstance(part, Number) and not math.isfinite(part):
+            raise NotJson(f"{part} is not a number of JSON")
+        elif isinstance(part, int) and not isinstance(part, bool) and abs(part) >= 10**MOST_DIGITS:
+            raise NotJson(f"a whole number of more than {MOST_DIGITS:,} digits is given as a Number, with its text")
+        elif part is not None and not isinstance(part, (int, float)):
+            raise NotJson(f"a value of the type {type(part).__name__} is not JSON")
+
+
+def _need_text(text):
+    try:
+        text.encode()
+    except UnicodeEncodeError:
+        raise NotJson("a text has half of a surrogate pair") from None
+
+
 def number_text(tree):
     """The text of a number, or None if the tree is not a number."""
     if isinstance(tree, Number):
@@ -72,7 +106,7 @@ def read_number(text):
 def write_file(tree):
     """The compact text of a tree, with the members of objects in byte order and each number as it was read."""
     if isinstance(tree, dict):
-        return "{" + ",".join(f"{write_file(name)}:{write_file(tree[name])}" for name in sorted(tree)) + "}"
+        return "{" + ",".join([f"{write_file(name)}:{write_file(tree[name])}" for name in sorted(tree)]) + "}"
     if isinstance(tree, list):
         return "[" + ",".join(map(write_file, tree)) + "]"
     return number_text(tree) or json.dumps(tree, ensure_ascii=False)
@@ -95,14 +129,41 @@ def sort_of(tree):
     return {str: "string", list: "array", dict: "object"}[type(tree)]
 
 
+def is_same(one, other):
+    """Whether two trees are the same file: numbers by their letters, members in any order."""
+    if isinstance(one, dict):
+        return isinstance(other, dict) and one.keys() == other.keys() and all(is_same(it, other[name]) for name, it in one.items())
+    if isinstance(one, list):
+        return isinstance(other, list) and len(one) == len(other) and all(map(is_same, one, other))
+    number = number_text(one)
+    return number == number_text(other) if number else sort_of(one) == sort_of(other) and one == other
+
+
 def is_equal(one, other):
     """Whether two trees are equal as RFC 6902 compares them: numbers by their values."""
     if sort_of(one) != sort_of(other):
         return False
     if isinstance(one, dict):
-        return set(one) == set(other) and all(is_equal(one[name], other[name]) for name in one)
+        return one.keys() == other.keys() and all(is_equal(one[name], other[name]) for name in one)
     if isinstance(one, list):
         return len(one) == len(other) and all(map(is_equal, one, other))
     if sort_of(one) == "number":
-        return Decimal(number_text(one)) == Decimal(number_text(other))
+        return number_value(number_text(one)) == number_value(number_text(other))
     return one == other
+
+
+def number_value(text):
+    """The value of a number's text: its sign, its digits without zeros around them, and its exponent. No power of ten is computed.
+
+    Where the exponent is too long for that, it is the text: such a number is equal to none that is written otherwise.
+    """
+    mantissa, _, exponent = text.lstrip("-").lower().partition("e")
+    whole, _, part = mantissa.partition(".")
+    digits = (whole + part).lstrip("0")
+    short = digits.rstrip("0")
+    if not short:
+        return "", "", 0
+    if len(exponent.lstrip("+-").lstrip("0")) > MOST_EXPONENT:
+        return text
+    sign = text[:1] if text.startswith("-") else ""
+    return sign, short, int(exponent or "0") - len(part) + len(digits) - len(short)

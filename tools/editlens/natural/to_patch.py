@@ -1,10 +1,18 @@
-"""Edits of documents become JSON Patches (RFC 6902) of the users' files that show them."""
+"""Edits of documents become JSON Patches (RFC 6902) of the users' files that show them.
+
+The patch is applied to the file before the edit, and compared with the file after it. Where it makes another one, as where a document
+between two primitives is in no file, the file comes as a whole.
+"""
 
 from dataclasses import replace as changed
 
 from ..edits import act, children_of, node_at
 from ..json_text import pointer
-from .places import Place, core, key_order, members, written
+from .operations import Patching, Stop
+from .places import NotWritable, Place, core, key_item, key_order, map_place, members, to_file, written
+from .text import is_same
+
+SIMPLE = ("unit", "bool", "int", "text", "enum")
 
 
 def to_patch(shape, document, edit):
@@ -12,12 +20,31 @@ def to_patch(shape, document, edit):
 
     Raises NoApply or NotAnEdit where the edit does not act on the document, and NotWritable where no file shows what it makes.
     """
-    act(shape.ty, document, edit)
-    return _patch(Place(shape, document), edit, (), False)
+    wanted = to_file(shape, act(shape.ty, document, edit))
+    try:
+        patch = _patch(Place(shape, document), edit, (), False)
+        if _is_made(to_file(shape, document), patch, wanted):
+            return patch
+    except NotWritable:
+        pass
+    return [{"op": "replace", "path": "", "value": wanted}]
+
+
+def _is_made(file, patch, wanted):
+    """Whether a patch makes of a file the one that is wanted."""
+    try:
+        patching = Patching(file)
+        for op in patch:
+            patching.apply(op)
+    except Stop:
+        return False
+    return is_same(patching.tree, wanted)
 
 
 def _patch(place, edit, at, is_merged):
     """The operations of an edit at a place. If `is_merged`, the members of the place are among others in one object."""
+    if place.shape.ty.kind in SIMPLE and len(edit) > 1:
+        return _anew(place, changed(place, value=act(place.shape.ty, place.value, edit)), at, is_merged)
     ops = []
     for primitive in edit:
         name, body = next(iter(primitive.items()))
@@ -30,7 +57,7 @@ def _patch(place, edit, at, is_merged):
 def _primitive(place, after, name, body, at, is_merged):
     shape, kind = place.shape, place.shape.ty.kind
     if shape.is_untagged():
-        return _untagged(place, after, name, body, at)
+        return _untagged(place, after, name, body, at, is_merged)
     if shape.is_key_list():
         return _of_key_list(place, after, name, body, at)
     if kind == "record":
@@ -65,9 +92,11 @@ def _anew(place, after, at, is_merged):
     return gone + [{"op": "replace" if it in old else "add", "path": pointer((*at, it)), "value": new[it]} for it in new]
 
 
-def _untagged(place, after, name, body, at):
+def _untagged(place, after, name, body, at, is_merged):
     if name == "stay":
-        return _patch(place.at("stay", body[0], place.shape.inner[body[0]], place.value[body[0]]), body[1], at, False)
+        return _patch(place.at("stay", body[0], place.shape.inner[body[0]], place.value[body[0]]), body[1], at, is_merged)
+    if is_merged:
+        return _anew(place, after, at, True)
     if after.is_missing():
         return [] if place.is_missing() else [{"op": "remove", "path": pointer(at)}]
     return [{"op": "add" if place.is_missing() else "replace", "path": pointer(at), "value": written(after)}]
@@ -120,24 +149,34 @@ def _of_key_list(place, after, name, body, at):
         return ops
     old = key_order(shape, place.value)
     if name == "mod":
-        inside = next(it for it in members(place) if it.name == body[0])
-        return _patch(core(inside), body[1], *_content_at(shape.form, (*at, old.index(body[0]))))
-    ops, items = [], {it.name: it for it in members(after)}
+        return _patch(core(_item(place, body[0])), body[1], *_content_at(shape.form, (*at, old.index(body[0]))))
+    ops = []
     if name == "rename" and body[0] != body[1]:
         number = old.index(body[0])
-        old[number] = body[1]
-        key = members(items[body[1]])[shape.form["key"]]
+        old = [*old[:number], body[1], *old[number + 1 :]]
+        key = members(_item(after, body[1]))[shape.form["key"]]
         ops = [{"op": "replace", "path": pointer((*at, number, shape.form["key"])), "value": written(key)}]
-    return ops + _other_keys(old, key_order(shape, after.value), items, at)
+    return ops + _other_keys(old, key_order(shape, after.value), after, at)
 
 
-def _other_keys(old, new, items, at):
+def _item(place, key):
+    return key_item(place, map_place(place), place.shape.content(), key)
+
+
+def _other_keys(old, new, after, at):
     """The operations that make one list of keys another one: what goes, what moves and what comes."""
-    path = pointer(at)
-    gone = [{"op": "remove", "path": f"{path}/{number}"} for number in range(len(old) - 1, -1, -1) if old[number] not in items]
-    left = [it for it in old if it in items]
-    moved = _moves(_reordering(left, [it for it in new if it in left]), path)
-    return [*gone, *moved, *({"op": "add", "path": f"{path}/{number}", "value": written(items[it])} for number, it in enumerate(new) if it not in left)]
+    if old == new:
+        return []
+    path, count = pointer(at), len(old)
+    if new[:count] == old:
+        return [{"op": "add", "path": f"{path}/{number}", "value": written(_item(after, new[number]))} for number in range(count, len(new))]
+    here = set(new)
+    gone = [{"op": "remove", "path": f"{path}/{number}"} for number in range(count - 1, -1, -1) if old[number] not in here]
+    left = [it for it in old if it in here]
+    stay = set(left)
+    moved = _moves(_reordering(left, [it for it in new if it in stay]), path)
+    come = ((number, it) for number, it in enumerate(new) if it not in stay)
+    return [*gone, *moved, *({"op": "add", "path": f"{path}/{number}", "value": written(_item(after, it))} for number, it in come)]
 
 
 def _node_pointer(tree, at, path):

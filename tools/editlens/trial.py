@@ -1,0 +1,94 @@
+"""Edits that are tried out on a second run of a session, before the first one gets them."""
+
+from contextlib import contextmanager
+
+from .answers import OTHER, Refused
+from .construct import set_steps, words_of
+from .json_text import write_json
+from .private import Private, PrivateLoss, takes_away
+
+MOST_PIECE = 100_000
+"""About so many bytes of an edit are tried out in a line."""
+
+
+class Trial:
+    """A twin of a session: another run of its lens program in the same state. It is made where it is first needed.
+
+    From then on it takes each change of the session. One that it took and that the session did not get leaves it ahead: then it is stopped,
+    and made anew where it is needed again.
+    """
+
+    def __init__(self, session):
+        self.session, self._twin, self._state, self._is_ahead = session, None, None, False
+        self._private = {}
+
+    def run(self):
+        """The twin, in the state of the session."""
+        if self._twin is None or self._is_ahead or self._state is not self.session.documents:
+            self.stop()
+            self._twin, self._state = self.session.twin(), self.session.documents
+        return self._twin
+
+    def stop(self):
+        """Stops the twin where there is one."""
+        twin, self._twin, self._is_ahead = self._twin, None, False
+        if twin:
+            twin.stop()
+
+    @contextmanager
+    def kept_in_step(self):
+        """For `with`: where what is tried out there does not come to the session, the twin is stopped."""
+        try:
+            yield
+        except BaseException:
+            if self._is_ahead:
+                self.stop()
+            raise
+
+    def follow(self, change):
+        """Takes a change that the session has accepted. A twin that is ahead has taken it before."""
+        self._state = self.session.documents
+        if self._twin and not self._is_ahead and isinstance(self._twin.line(write_json(change)), Refused):
+            self.stop()
+        self._is_ahead = False
+
+    def private(self, side):
+        """What a side has for itself, as Private."""
+        if side not in self._private:
+            self._private[side] = Private(self.session.program, side, self.session.types)
+        return self._private[side]
+
+    def carry(self, side, parts, keeps_private, is_begun=False):
+        """Has the twin take the parts of a patch of a side, and returns both documents then. With `is_begun`, other patches came before.
+
+        Raises PrivateLoss where the other side loses what it alone has, and Refused.
+        """
+        twin, other = self._twin if is_begun else self.run(), OTHER[side]
+        self._is_ahead = True
+        for part in parts:
+            carry(twin, side, part, self.private(other) if keeps_private else None)
+        return twin.documents
+
+
+def carry(twin, side, part, private, is_known=True):
+    """Sends a part of a patch, in pieces. Raises PrivateLoss where it takes what the other side alone has and does not say so."""
+    before = twin.documents[OTHER[side]]
+    words = [twin.entry(side, piece).word for piece in words_of(part.steps, MOST_PIECE)]
+    if private and not part.is_removal() and any(map(takes_away, words)):
+        places, orders = private.lost(before, words, is_known)
+        if places or orders:
+            raise PrivateLoss(part.number, part.ops[0], OTHER[side], places, orders)
+
+
+def need_no_loss(session, side, document, parts):
+    """Raises PrivateLoss where the parts of a patch of a document may make the other side lose private data.
+
+    `session` is one at its initial documents. The other document is not known, so all that its type has counts.
+    """
+    private = Private(session.program, OTHER[side], session.types)
+    if not private.has_any() or not any(takes_away(part.word()) and not part.is_removal() for part in parts):
+        return
+    for piece in words_of(set_steps(session.types[side], document)):
+        session.entry(side, piece)
+    for part in parts:
+        carry(session, side, part, private, is_known=False)
