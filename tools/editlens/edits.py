@@ -8,7 +8,7 @@ from dataclasses import dataclass
 
 from .documents import is_int
 from .json_text import pointer, shown
-from .plans import MOST_ITEMS, PLANS, NoPlan, contents, form_of, hold, item_at, in_byte_order, key_at, listed, need_node, plan, quoted
+from .plans import MOST_ITEMS, RESHAPINGS, NoPlan, item_at, key_at, listed, need_node, quoted
 from .plans import children_of, node_at, paths_of, subtree  # noqa: F401 (places of trees, which go with edits of trees)
 from .types import LEAST_INT, MOST_INT, initial, write_name
 
@@ -199,35 +199,26 @@ def _inside(ty, value, place, inner, path):
     """A list, a keyed map or a tree after an edit of what it holds at a place."""
     if ty.kind == "list":
         item_at(len(value), place)
-        return [*value[:place], _act(ty.inner, value[place], inner, (*path, place)), *value[place + 1 :]]
+        changed = value.copy()
+        changed[place] = _act(ty.inner, value[place], inner, (*path, place))
+        return changed
     if ty.kind == "keyed":
         key_at(value, place)
         return {**value, place: _act(ty.inner, value[place], inner, (*path, place))}
-    node, items = need_node(value["depths"], place), value["items"]
-    changed = _act(ty.inner, items[node], inner, (*path, "items", node))
-    return {"depths": value["depths"], "items": [*items[:node], changed, *items[node + 1 :]]}
+    node, items = need_node(value["depths"], place), value["items"].copy()
+    items[node] = _act(ty.inner, items[node], inner, (*path, "items", node))
+    return {"depths": value["depths"], "items": items}
 
 
 def _on_container(ty, value, name, content, path):
     try:
         if name == "mod" and isinstance(content[0], _PLACES[ty.kind]):
             return _inside(ty, value, *content, path)
-        if name not in PLANS[ty.kind]:
+        if name not in RESHAPINGS[ty.kind]:
             raise _kind(ty, value, path)
-        form, origins = plan(ty.kind, form_of(ty.kind, value), name, content)
+        return RESHAPINGS[ty.kind][name](value, content, lambda: initial(ty.inner))
     except NoPlan as why:
         raise NoApply(why.cause, path, value, why.allowed) from None
-    held = contents(ty.kind, value)
-    changed = hold(ty.kind, form, [initial(ty.inner) if it is None else held[it] for it in origins])
-    return _as_before(value, changed, origins) if ty.kind == "keyed" else changed
-
-
-def _as_before(value, changed, origins):
-    """A map with its keys in the order that they had, and a new key behind them."""
-    rank = {key: number for number, key in enumerate(value)}
-    old = [rank[key] for key in in_byte_order(value)]
-    rows = zip((len(old) if it is None else old[it] for it in origins), changed.items())
-    return dict(row for _, row in sorted(rows, key=lambda it: it[0]))
 
 
 _PLACES = {"list": int, "keyed": str, "tree": list}

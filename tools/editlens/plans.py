@@ -1,7 +1,7 @@
-"""The shapes of lists, keyed maps and ordered trees, and what an edit does to them, by the rules of docs/EDITS.md.
+"""What an edit does to the shape of a list, a keyed map or an ordered tree, by the rules of docs/EDITS.md.
 
-A shape is its kind with a form: of a list the number of its items, of a keyed map its keys in byte order, of a tree the depths of its nodes
-in preorder. A plan is the new form, and for each place of it the old place that it comes from, or None where it is fresh.
+A list or a map is copied at once, since it may be long. Where nodes of a tree go or move, the new depths are planned, and for each of them
+the old place that its content comes from.
 """
 
 from .types import write_name
@@ -17,26 +17,6 @@ class NoPlan(Exception):
     def __init__(self, cause, allowed):
         super().__init__(f"{cause}; allowed: {allowed}")
         self.cause, self.allowed = cause, allowed
-
-
-def in_byte_order(names):
-    """The names in the order of their bytes."""
-    return sorted(names, key=str.encode)
-
-
-def form_of(kind, value):
-    """The form of a list, a keyed map or a tree."""
-    return len(value) if kind == "list" else in_byte_order(value) if kind == "keyed" else value["depths"]
-
-
-def contents(kind, value):
-    """What is held at each place of a form, in order."""
-    return list(value) if kind == "list" else [value[key] for key in in_byte_order(value)] if kind == "keyed" else list(value["items"])
-
-
-def hold(kind, form, items):
-    """The list, the keyed map or the tree of a form that holds these."""
-    return items if kind == "list" else dict(zip(form, items)) if kind == "keyed" else {"depths": form, "items": items}
 
 
 def listed(names, write=write_name):
@@ -85,6 +65,8 @@ def need_node(depths, path):
 
 def end_of(depths, node):
     """The number behind the last node of a subtree."""
+    if not node:
+        return len(depths)
     end = node + 1
     while end < len(depths) and depths[end] > depths[node]:
         end += 1
@@ -93,8 +75,8 @@ def end_of(depths, node):
 
 def children_of(depths, node):
     """The numbers of the children of a node."""
-    inside = range(node + 1, end_of(depths, node))
-    return [it for it in inside if depths[it] == depths[node] + 1]
+    wanted, first = depths[node] + 1, node + 1
+    return [number for number, depth in enumerate(depths[first : end_of(depths, node)], first) if depth == wanted]
 
 
 def subtree(tree, path):
@@ -116,36 +98,32 @@ def paths_of(depths):
     return paths
 
 
-def _insert(count, some):
+def _insert(items, some, fresh):
     if not 1 <= some <= MOST_ITEMS:
         raise NoPlan("range", f"from 1 to {MOST_ITEMS} items")
-    return count + some, [*range(count), *[None] * some]
+    return items + [fresh() for _ in range(some)]
 
 
-def _delete(count, some):
+def _delete(items, some, fresh):
+    count = len(items)
     if not 1 <= some <= min(count, MOST_ITEMS):
         raise NoPlan("range", f"from 1 to {count} items, which is all that it has" if count else "nothing: the list is empty")
-    return count - some, list(range(count - some))
+    return items[: count - some]
 
 
-def _move(count, places):
-    old, new = (item_at(count, it) for it in places)
-    origins = list(range(count))
-    origins.insert(new, origins.pop(old))
-    return count, origins
+def _move(items, places, fresh):
+    old, new = (item_at(len(items), it) for it in places)
+    changed = items.copy()
+    changed.insert(new, changed.pop(old))
+    return changed
 
 
-def _reorder(count, order):
-    if len(order) != count:
-        raise NoPlan("length", f"{count} numbers, one for each item")
-    if sorted(order) != list(range(count)):
-        raise NoPlan("range", f"each number below {count} once")
-    return count, list(order)
-
-
-def _with_keys(origin):
-    keys = in_byte_order(origin)
-    return keys, [origin[key] for key in keys]
+def _reorder(items, order, fresh):
+    if len(order) != len(items):
+        raise NoPlan("length", f"{len(items)} numbers, one for each item")
+    if sorted(order) != list(range(len(items))):
+        raise NoPlan("range", f"each number below {len(items)} once")
+    return [items[it] for it in order]
 
 
 def _need_free(keys, key):
@@ -153,22 +131,24 @@ def _need_free(keys, key):
         raise NoPlan("present", f"a key that it does not have; it has {listed(sorted(keys), quoted)}")
 
 
-def _put(keys, key):
-    _need_free(keys, key)
-    return _with_keys({**{it: place for place, it in enumerate(keys)}, key: None})
+def _put(held, key, fresh):
+    _need_free(held, key)
+    return {**held, key: fresh()}
 
 
-def _drop(keys, key):
-    key_at(keys, key)
-    return _with_keys({it: place for place, it in enumerate(keys) if it != key})
+def _drop(held, key, fresh):
+    key_at(held, key)
+    changed = held.copy()
+    del changed[key]
+    return changed
 
 
-def _rename(keys, names):
+def _rename(held, names, fresh):
     old, new = names
-    key_at(keys, old)
+    key_at(held, old)
     if new != old:
-        _need_free(keys, new)
-    return _with_keys({new if it == old else it: place for place, it in enumerate(keys)})
+        _need_free(held, new)
+    return {new if key == old else key: it for key, it in held.items()}
 
 
 def _with_nodes(nodes):
@@ -179,12 +159,13 @@ def _numbered(depths):
     return [(depth, place) for place, depth in enumerate(depths)]
 
 
-def _graft(depths, path):
-    node, nodes = need_node(depths, path), _numbered(depths)
+def _graft(tree, path, fresh):
+    depths, items = tree["depths"], tree["items"]
+    node = need_node(depths, path)
     if depths[node] == MOST_DEPTH:
         raise NoPlan("deep", f"at most {MOST_DEPTH + 1} levels")
-    nodes.insert(end_of(depths, node), (depths[node] + 1, None))
-    return _with_nodes(nodes)
+    end = end_of(depths, node)
+    return {"depths": [*depths[:end], depths[node] + 1, *depths[end:]], "items": [*items[:end], fresh(), *items[end:]]}
 
 
 def _prune(depths, path):
@@ -224,14 +205,19 @@ def _hang(depths, content):
     return _with_nodes(rest[:end] + [(depth + rise, place) for depth, place in block] + rest[end:])
 
 
-PLANS = {
+def _planned(plan):
+    """What a plan of depths does to a tree."""
+
+    def reshape(tree, content, _):
+        depths, origins = plan(tree["depths"], content)
+        return {"depths": depths, "items": [tree["items"][it] for it in origins]}
+
+    return reshape
+
+
+RESHAPINGS = {
     "list": {"ins": _insert, "del": _delete, "move": _move, "reorder": _reorder},
     "keyed": {"put": _put, "drop": _drop, "rename": _rename},
-    "tree": {"graft": _graft, "prune": _prune, "shift": _shift, "hang": _hang},
+    "tree": {"graft": _graft, "prune": _planned(_prune), "shift": _planned(_shift), "hang": _planned(_hang)},
 }
-"""The edits of each kind of shape, by their names."""
-
-
-def plan(kind, form, name, content):
-    """The new form, and the old place of each of its places. Raises NoPlan; the edit has to be one of its kind."""
-    return PLANS[kind][name](form, content)
+"""The edits of each kind of shape, by their names: a call that makes of a value and of what is behind the name the new value."""

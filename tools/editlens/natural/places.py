@@ -187,7 +187,7 @@ def key_order(shape, value):
     if len(order) == len(keys) and keys.keys() == set(order):
         return order
     listed = [key for key in dict.fromkeys(order) if key in keys]
-    return listed + sorted(set(keys) - set(listed), key=str.encode)
+    return listed if len(listed) == len(keys) else listed + sorted(set(keys) - set(listed), key=str.encode)
 
 
 def map_place(place):
