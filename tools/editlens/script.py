@@ -13,6 +13,7 @@ from .version import version
 
 HOW = {
     "side": {"choices": ["left", "right"]},
+    "which": {"choices": ["left", "right", "both"], "metavar": "SIDE"},
     "views": {"nargs": "+", "metavar": "PROGRAM VIEW"},
     "--store": {"metavar": "FOLDER"},
     "--link": {"action": "store_true"},
@@ -48,12 +49,15 @@ def read_text(path):
 
 
 def run(main, program_text):
-    """Runs a script's work, and ends with its status. A refused program is explained, and ends with 3 as the program does."""
+    """Runs a script's work, and ends with its status. A refused program is explained, and ends with 3 as the program does; a busy store with 7."""
     try:
         sys.exit(main())
     except ProgramRefused as why:
         print(*explain_program(program_text, why.reason), sep="\n", file=sys.stderr)
         sys.exit(3)
-    except (NoProgram, RunEnded, StoreBusy, NotJson, OSError) as why:
+    except StoreBusy as why:
+        print(why, file=sys.stderr)
+        sys.exit(7)
+    except (NoProgram, RunEnded, NotJson, OSError) as why:
         print(why, file=sys.stderr)
         sys.exit(2)
