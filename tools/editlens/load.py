@@ -28,15 +28,19 @@ NOTHING = object()
 
 @dataclass(frozen=True)
 class Disagreement:
-    """A place of the right document at which it does not have what the left one makes of it. Either value may be NOTHING."""
+    """A place of the right document at which it does not have what the left one makes of it. Either value may be NOTHING.
+
+    `show` is the call that writes a value for a person.
+    """
 
     path: tuple
     by_left: object
     found: object
+    show: object = shown
 
     def said(self, side):
         """The place with both values, where `side` is what the left document is called."""
-        by_left, found = ("nothing" if it is NOTHING else shown(it) for it in (self.by_left, self.found))
+        by_left, found = ("nothing" if it is NOTHING else self.show(it) for it in (self.by_left, self.found))
         return f"{pointer(self.path) or '(the document)'}: by {side} {by_left}, here {found}"
 
     def __str__(self):

@@ -7,6 +7,7 @@ import subprocess
 import sys
 import tempfile
 
+from editlens.lock import StoreLock
 from editlens.program import TOP
 from editlens.store import Store
 
@@ -132,6 +133,99 @@ def test_patches_of_a_store():
             "refused 6 operation 0: a patch is an array of operations",
         ], out
         assert store.show()[1] == {"door": {"card": "Paint", "color": ""}, "gate": {"card": "", "color": "red"}} and store.verify() == 2
+
+
+PRICES = 'main keyed {name ~ title: id text, price ~ cost: id text = "0", right stock: int}'
+
+
+def test_patches_of_both_files():
+    """Patches of either side, a group, an undo: one line each. What is refused changes nothing."""
+    with tempfile.TemporaryDirectory() as folder:
+        files(folder, form={"": {"key": "id"}, "/*/price": "number"}, other={"/*/cost": "number"})
+        store = Store.init(os.path.join(folder, "kept"), PRICES)
+        rename, price = {"op": "replace", "path": "/0/name", "value": "Nut"}, {"op": "replace", "path": "/b/cost", "value": 3}
+        lines = [
+            {"side": "left", "patch": [{"op": "add", "path": "/-", "value": {"id": "b", "name": "Bolt", "price": 1}}]},
+            {"side": "right", "patch": [{"op": "replace", "path": "/b/stock", "value": 700}]},
+            {"group": [{"side": "left", "patch": [rename]}, {"side": "right", "patch": [price]}]},
+            {"group": [{"side": "right", "patch": [price]}, {"side": "left", "patch": [{"op": "remove", "path": "/7"}]}]},
+            {"side": "left", "patch": [{"op": "replace", "path": "", "value": []}]},
+            {"undo": 1},
+            {"side": "left", "patch": [{"op": "replace", "path": "", "value": []}], "drop_private": True},
+            {"undo": 5},
+            {"undo": True},
+            {"side": "middle", "patch": []},
+            [rename],
+        ]
+        words = ("--left-form", "form", "--right-form", "other", "kept", "both")
+        status, out, err = called(folder, "patch", *words, given="\n".join(map(json.dumps, lines)))
+        said = out.splitlines()
+        assert (status, err, len(said)) == (1, "", len(lines)), (err, said)
+        assert said[1] == "ok 2 left []"
+        assert said[2] == (
+            'ok 3 group [{"patch":[{"op":"replace","path":"/b/title","value":"Nut"}],"side":"right"},'
+            '{"patch":[{"op":"replace","path":"/0/price","value":3}],"side":"left"}]'
+        )
+        assert said[3] == "refused 4 operation 0: /7: there is no place 7 in a list of 1"
+        assert said[4] == "refused 5 operation 0: by this replace of the document the right side would lose what it alone has at /*/stock"
+        assert json.loads(said[5].removeprefix("ok 6 undo ")) == {
+            "left": [{"op": "replace", "path": "/0/price", "value": 1}, {"op": "replace", "path": "/0/name", "value": "Bolt"}],
+            "right": [{"op": "replace", "path": "/b/cost", "value": 1}, {"op": "replace", "path": "/b/title", "value": "Bolt"}],
+        }
+        assert said[6] == 'ok 7 right [{"op":"remove","path":"/b"}]'
+        assert said[7].startswith("refused 8 nothing-to-undo: ") and said[8].startswith("refused 9 undo says how many")
+        assert said[9].startswith("refused 10 a patch of a side is ") and said[10].startswith('refused 11 a line is {"side":SIDE')
+        assert store.show()[:2] == ({}, {}) and store.verify() == 4
+
+
+def test_a_store_that_is_busy():
+    with tempfile.TemporaryDirectory() as folder:
+        place = os.path.join(folder, "kept")
+        Store.init(place, PRICES)
+        with StoreLock(place):
+            status, out, err = called(folder, "patch", "kept", "left", given="[]\n")
+        assert status == 7 and not out and err.startswith("another program is writing to the store"), (status, err)
+        assert "7" in called(folder, "patch", "--help")[1].split("The status is")[1]
+
+
+STRANGE = [
+    b"5", b"null", b"[5]", b"[{}]", b"\xff\xfe", b"[" * 100_000, b"[" * 900 + b"]" * 900, b'[{"op":{},"path":""}]',
+    b'[{"op":"test","path":"/0/price","value":1e999999999999999999999}]',
+    b'[{"op":"test","path":[{"where":{"price":1e999999999999999999999}},"name"],"value":""}]',
+    b'[{"op":"remove","path":"/' + b"9" * 5000 + b'"}]', b'[{"op":"test","path":[["a"]],"value":1}]', b'[{"op":"remove","path":[null]}]',
+    b'[{"op":"add","path":"/-","value":{"id":"\\ud800","name":"","price":1}}]', b'[{"op":"test","path":"/0/price","value":NaN}]',
+    b'[{"op":"replace","path":"","value":' + b'[{"id":' * 300 + b"1" + b"}]" * 300 + b"}]", b'[{"op":"add","path":"/a~2","value":1}]',
+]
+"""Lines that once ended the tool, or might."""
+
+
+def test_no_line_ends_the_tool():
+    """Each strange line is refused with a sentence, and the line behind it is answered."""
+    with tempfile.TemporaryDirectory() as folder:
+        files(folder, form={"": {"key": "id"}, "/*/price": "number"})
+        Store.init(os.path.join(folder, "kept"), PRICES)
+        digits = b'{"id":"b","name":"","price":' + b"7" * 5000 + b"}"
+        lines = [b'[{"op":"add","path":"/-","value":' + digits + b"}]", *STRANGE, b'[{"op":"test","path":"","value":[' + digits + b"]}]"]
+        words = [os.path.join(TOOLS, "patch"), "--left-form", "form", "kept", "left"]
+        ran = subprocess.run(words, cwd=folder, input=b"\n".join(lines), capture_output=True, check=False)
+        said = ran.stdout.decode().split("\n")[:-1]
+        assert (ran.returncode, ran.stderr, len(said)) == (1, b"", len(lines)), (ran.stderr[-400:], said)
+        assert said[0].startswith("ok 1 ") and said[-1] == f"ok {len(lines)} []"
+        assert [it.split(" ")[:2] for it in said[1:-1]] == [["refused", str(number)] for number in range(2, len(lines))]
+
+
+def test_load_names_places_of_users_files():
+    with tempfile.TemporaryDirectory() as folder:
+        form = {"": {"key": "id", "content": "is"}, "/*/cost": "number"}
+        row = {"name": "Bolt", "price": "1.50"}
+        theirs = [{"id": "c", "is": {"cost": 2, "stock": 0, "title": "Nut"}}, {"id": "b", "is": {"cost": 2.50, "stock": 0, "title": "Bolt"}}]
+        files(folder, lens=PRICES, left={"a": row, "b": row}, form=form, right=theirs)
+        status, _, err = called(folder, "load", "--right-form", "form", "lens", "left", "right")
+        assert status == 1 and sorted(err.splitlines()[1:]) == [
+            "/0: by the left document nothing, here {\"cost\":2,\"stock\":0,\"title\":\"Nut\"}",
+            "/1/is/cost: by the left document 1.50, here 2.5",
+            '/a: by the left document {"cost":1.50,"stock":0,"title":"Bolt"}, here nothing',
+        ], err
 
 
 def test_explain_a_store():

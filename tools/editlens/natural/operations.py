@@ -8,8 +8,8 @@ from .text import is_equal, shown, write_file
 WITH_VALUE = ("add", "replace", "test")
 WITH_FROM = ("move", "copy")
 NAMES = ("add", "remove", "replace", "move", "copy", "test")
-MOST_COPIED = 4 << 20
-"""How many bytes the copies of one patch may have together. An edit has at most a quarter of that."""
+MOST_COPIED = 1 << 20
+"""How many bytes the copies of one patch may have together. A line with an edit has no more."""
 MOST_PLACE = 20
 """More digits than the number of an item has."""
 

@@ -11,6 +11,9 @@ MOST_EXPONENT = 18
 """An exponent of more digits is compared by its letters: no two such numbers are computed."""
 
 
+_scalar = json.JSONEncoder(ensure_ascii=False).encode
+
+
 class Number(float):
     """A number that is not a whole one, with its text as the file has it: `1.50` is not `1.5`."""
 
@@ -91,7 +94,9 @@ def number_text(tree):
     """The text of a number, or None if the tree is not a number."""
     if isinstance(tree, Number):
         return tree.text
-    return json.dumps(tree) if type(tree) in (int, float) else None
+    if type(tree) is int:
+        return str(tree)
+    return _scalar(tree) if type(tree) is float else None
 
 
 def read_number(text):
@@ -106,10 +111,10 @@ def read_number(text):
 def write_file(tree):
     """The compact text of a tree, with the members of objects in byte order and each number as it was read."""
     if isinstance(tree, dict):
-        return "{" + ",".join([f"{write_file(name)}:{write_file(tree[name])}" for name in sorted(tree)]) + "}"
+        return "{" + ",".join([f"{_scalar(name)}:{write_file(tree[name])}" for name in sorted(tree)]) + "}"
     if isinstance(tree, list):
         return "[" + ",".join(map(write_file, tree)) + "]"
-    return number_text(tree) or json.dumps(tree, ensure_ascii=False)
+    return number_text(tree) or _scalar(tree)
 
 
 def shown(tree, most=60):
