@@ -13,6 +13,7 @@ from .answers import Accepted, NotAnAnswer, RunEnded
 from .checked import check
 from .json_text import read_json
 from .lock import StoreBusy, StoreLock, is_busy
+from .log import Log, is_change
 from .natural.files import Files
 from .process import Process
 from .session import DocumentsDiffer, Editing
@@ -229,8 +230,10 @@ class OpenStore(KeptRun, Editing):
         self.program = stored_program(self.store.file)
         left, right = check(self.program, self.path)
         self.types = {"left": left, "right": right}
-        left, right, self.complement = self._shown()
+        left, right, self.complement = self.store.show()
         self.documents = {"left": left, "right": right}
+        with Log(self.store.file) as log:
+            self.stored = sum(map(is_change, log.payloads()))
 
     def _taken(self, data, answer):
         if not isinstance(answer, Accepted):

@@ -89,6 +89,9 @@ def test_what_the_other_file_cannot_show_is_not_sent():
         assert str(why) == 'the right file could not show what comes of it: /days: "many" is not the text of a number', why
         assert session.documents == {"left": {"hours": 0, "points": "0"}, "right": {"days": "0"}}
         assert session.files.patch("left", [{"op": "replace", "path": "/points", "value": "5"}]).patch == [{"op": "replace", "path": "/days", "value": 5}]
+        with Session(session.program, forms={**forms, "left": {"/points": "decimal"}}) as other:
+            why = raised(NoCounterpart, lambda: other.files.patch("left", [{"op": "replace", "path": "/points", "value": "many"}]))
+            assert str(why) == 'operation 0: /points: wanted a string with the text of a number, found "many"', why
         # an edit that is no patch is not asked about, and the next patch may repair what it did
         session.left([{"at": ["points", [{"set": "many"}]]}])
         raised(NotWritable, lambda: session.files["right"])

@@ -63,6 +63,9 @@ class Source:
 
         return Drawn(Ty("text", start="0"), {(): "number"}, draw, "number")
 
+    def decimal(self, depth):
+        return Drawn(Ty("text", start="0"), {(): "decimal"}, lambda: random.choice(NUMBERS), "string")
+
     def json(self, depth):
         return Drawn(Ty("text", start="null"), {(): "json"}, lambda: copy.deepcopy(random.choice(OPAQUE)), "any")
 
@@ -188,7 +191,7 @@ MISSING = object()
 # Each with the sort of JSON that it writes, and whether it may be drawn at the depth 0.
 _MAKERS = (
     [(getattr(Source, it), sort, True) for it, sort in (("unit", "null"), ("bool", "bool"), ("words", "bool"), ("int", "number"))]
-    + [(getattr(Source, it), sort, True) for it, sort in (("number", "number"), ("text", "string"), ("enum", "string"), ("json", "any"))]
+    + [(getattr(Source, it), sort, True) for it, sort in (("number", "number"), ("text", "string"), ("decimal", "string"), ("enum", "string"), ("json", "any"))]
     + [(getattr(Source, it), "object", it == "record") for it in ("record", "keyed", "alternatives", "kind", "tree", "nested")]
     + [(getattr(Source, it), "array", it == "list") for it in ("list", "by_key")]
     + [(getattr(Source, it), "mixed", False) for it in ("null", "untagged")]

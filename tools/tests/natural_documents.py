@@ -66,6 +66,7 @@ def test_forms_that_do_not_fit_their_type():
         (PERSON, {"/fax": {"missing": "none", "kind": "k"}}, "/fax: missing has no option kind"),
         (PERSON, {"/fax": {"kind": "k"}}, "/fax: the content of some is not written as an object: name a member for it by content"),
         (PERSON, {"/id": "number"}, '/id: what is new begins with "", which is not a number: declare another initial value, as text = "0"'),
+        (PERSON, {"/id": "decimal"}, '/id: what is new begins with "", which is not a number: declare another initial value, as text = "0"'),
         (PERSON, {"": {"key": "id"}}, "(the document): key is a form of a keyed map, and not of"),
         ("list <none: unit, some: text>", {"/*": {"missing": "none"}}, "(the document): * cannot be missing: only a field of a record can"),
         ("<none: unit, one: text, two: text>", {"": {"null": "none"}}, "(the document): two tags are written as string, so nothing tells them apart"),
@@ -112,12 +113,27 @@ x: <none: unit, some: text>}"""
     assert found["/id"] == "nothing" and found["/m/2/k"] == '"x"' and found["/up"] == "1" and found["/x"] == "null"
 
 
+def test_a_string_with_a_number():
+    """Two files that have a number as a string and as a number take the same texts."""
+    shape = read_form(read_type('list text = "0"'), {"/*": "decimal"})
+    fit = '["0.50","-1e400","7"]'
+    assert to_document(shape, read_file(fit)) == ["0.50", "-1e400", "7"] and write_file(to_file(shape, ["0.50"])) == '["0.50"]'
+    for wrong in ('["many"]', "[7]", '[" 7"]', '["07"]', '[""]'):
+        try:
+            to_document(shape, read_file(wrong))
+        except DoesNotFit as why:
+            assert "wanted a string with the text of a number" in str(why), why
+            continue
+        raise AssertionError(wrong)
+
+
 def test_what_no_file_shows():
     for ty, form, document, said in (
         ('text = "0"', {"": "number"}, "much", '(the document): "much" is not the text of a number'),
         ('text = "0"', {"": "number"}, "1.", '(the document): "1." is not the text of a number'),
         ('{a: text = "null"}', {"/a": "json"}, {"a": "{"}, '/a: "{" is not the text of a JSON value'),
         ("{a: int, b: keyed int}", {"/b": "flat"}, {"a": 1, "b": {"a": 2}}, "(the document): the member a would come twice"),
+        ('text = "0"', {"": "decimal"}, "much", '(the document): "much" is not the text of a number'),
         ("keyed {}", {"": {"key": "id", "number": True}}, {"x": {}}, '/x: "x" is not the text of a number'),
     ):
         shape = read_form(read_type(ty), form)

@@ -5,7 +5,7 @@ from ..json_text import pointer
 from ..types import write_name
 from .forms import is_object, sorts
 from .places import Place, content, members
-from .text import is_same, number_text, shown, sort_of, write_file
+from .text import is_same, number_text, read_number, shown, sort_of, write_file
 
 NOTHING = object()
 """What a record has for a member that is not there."""
@@ -80,8 +80,8 @@ def wanted(shape):
         return "one of: " + "; ".join(wanted(it) for tag, it in shape.inner.items() if form.get("missing") != tag)
     if kind == "enum":
         return "one of " + ", ".join(write_file(form.get("members", {}).get(it, it)) for it in shape.ty.members)
-    if kind == "text" and "number" in form:
-        return "a number"
+    if kind == "text" and ("number" in form or "decimal" in form):
+        return "a number" if "number" in form else "a string with the text of a number"
     if kind == "list" or shape.is_key_list():
         return "an array" + (f" of objects with the member {form['key']}" if shape.is_key_list() else "")
     if "kind" in form:
@@ -142,7 +142,7 @@ class _Reader:
             if found is None:
                 self.wrong(path, wanted(shape), (tree,))
             return found
-        if kind == "int" and not is_int(tree):
+        if kind == "int" and not is_int(tree) or "decimal" in form and read_number(tree) is None:
             self.wrong(path, wanted(shape), (tree,))
         return tree
 

@@ -10,6 +10,7 @@ from .text import read_file, read_number, sort_of
 OPTIONS = {
     "key": ("keyed", {"content": str, "number": bool, "order": str}),
     "number": ("text", {}),
+    "decimal": ("text", {}),
     "json": ("text", {}),
     "members": ("enum", {}),
     "untagged": ("alternatives", {}),
@@ -27,7 +28,7 @@ KINDS = {
     "text": "a text",
     "tree": "a tree",
 }
-WORDS = ("number", "json", "untagged", "flat")
+WORDS = ("number", "decimal", "json", "untagged", "flat")
 SCALARS = ("null", "bool", "number", "string")
 
 
@@ -86,7 +87,7 @@ class Shape:
     def shows_all(self):
         """Whether a file shows every document of the type: no text is to be a number or JSON, and no key may be the name of a member."""
         form = self.form
-        if any(it in form and "kind" not in form for it in ("number", "json")) or self.open_field and self.other_names:
+        if any(it in form and "kind" not in form for it in ("number", "decimal", "json")) or self.open_field and self.other_names:
             return False
         if "content" not in form and any(it in form for it in ("kind", "children", "key")):
             contents = [self.content()] if "kind" not in form else self.inner.values()
@@ -342,6 +343,7 @@ def _members_fault(shape):
 
 _TESTS = {
     "number": _number_fault,
+    "decimal": _number_fault,
     "json": _json_fault,
     "untagged": _untagged_fault,
     "missing": _untagged_fault,

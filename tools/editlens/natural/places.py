@@ -290,6 +290,8 @@ def _simple(place):
     form = place.shape.form
     if "number" in form:
         return _number(place, place.value)
+    if "decimal" in form:
+        _number(place, place.value)
     if "json" in form:
         return _json(place, place.value)
     return form["members"].get(place.value, place.value) if "members" in form else place.value
