@@ -7,12 +7,13 @@ HubStore    the same for a hub that `edithub` keeps; `HubStore.open` keeps one o
 StoreLock   the lock on the folder of a store, for tools that change its file
 types       the types that `check` prints, and what a token of a lens program is
 documents   a JSON document held against a type
-plans       the shapes of lists, maps and trees, and what an edit does to them
+plans       what an edit does to the shape of a list, a map or a tree
 edits       what an edit does to a document, and why it is refused
 construct   the edits that build a document
 patches     JSON Patch (RFC 6902) to edits, and back
 natural     users' files as they are: form files, documents and patches both ways
-private     what the other side would lose by a patch
+private     what the other side would lose by a patch; `trial`: edits that are tried out before they are sent
+patch_lines lines of patches for a store, and their answers
 named       edits that name an item or a node by what it has
 load        the journal that builds two documents that exist
 log         the records in the file of a store

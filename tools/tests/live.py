@@ -50,6 +50,25 @@ def kept(**how):
         yield store
 
 
+def test_opening_runs_the_program_twice():
+    """One run keeps the store open, and one shows it. How many changes there are is counted in its file."""
+    with tempfile.TemporaryDirectory() as folder:
+        path, asked = os.path.join(folder, "program"), os.path.join(folder, "asked")
+        with open(path, "w", encoding="utf-8") as file:
+            file.write(f'#!/bin/bash\necho "$1" >> {asked}\nexec {os.environ["EDITLENS"]} "$@"\n')
+        os.chmod(path, 0o755)
+        store = Store.init(os.path.join(folder, "kept"), PROGRAM)
+        store.left(ADD)
+        store.pack()
+        store.left(ADD)
+        store.undo()
+        count = store.verify()
+        with Store.open(store.folder, path=path) as opened, open(asked, encoding="utf-8") as file:
+            words = sorted(file.read().split())
+            assert words == ["apply", "check", "show"], words
+            assert opened.stored == count
+
+
 @contextlib.contextmanager
 def lost(apply, timeout=None):
     """A new store, opened by a program whose `apply` is that shell script. `$real` is the true program."""

@@ -36,7 +36,7 @@ def files(folder, **texts):
 
 
 def test_help():
-    for tool in ("fits", "load", "load-hub", "explain", "types", "patch-to-edit", "edit-to-patch", "check"):
+    for tool in ("fits", "load", "load-hub", "explain", "types", "patch", "natural", "patch-to-edit", "edit-to-patch", "check"):
         status, out, _ = called(TOP, tool, "--help")
         assert status == 0 and out.startswith("usage: "), tool
 
