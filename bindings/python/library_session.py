@@ -72,11 +72,13 @@ class Session(Editing):
 
     def stop(self):
         """Ends the session at once."""
+        self.files.trial.stop()
         self.kept.close()
 
     def close(self):
         """Ends the session. Returns the left document, the right document and the complement."""
         with self.lock:
+            self.files.trial.stop()
             if self.kept.at is None:
                 raise RunEnded(None)
             documents = self.documents

@@ -11,6 +11,7 @@ from .natural.text import shown
 from .private import PrivateLoss
 from .session import DocumentsDiffer
 from .store import ADVICE, StoreRefused
+from .trial import TrialEnded
 
 BOTH = "both"
 FORMS = '{"side":SIDE,"patch":PATCH}, {"group":[{"side":SIDE,"patch":PATCH},..]} or {"undo":COUNT}'
@@ -87,7 +88,7 @@ def _reason(why):
         return f"{why.reason}: {ADVICE.get(why.reason.split(' ')[0], 'the store is refused')}"
     if isinstance(why, NotWritable) and why.side is None:
         return f"the other file cannot show {why}"
-    if not isinstance(why, (NoCounterpart, PrivateLoss, NotWritable, NotALine, ValueError)):
+    if not isinstance(why, (NoCounterpart, PrivateLoss, NotWritable, TrialEnded, NotALine, ValueError)):
         traceback.print_exception(why, file=sys.stderr)
         return f"the tool failed at this line: {type(why).__name__}: {why}"
     return str(why)

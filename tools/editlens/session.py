@@ -148,7 +148,7 @@ class Session(Editing, Run):
 
     def twin(self):
         """Another session in the same state: it takes the lines that this one has accepted."""
-        twin = Session(self.program, self.path)
+        twin = Session(self.program, self.path, self.process.timeout)
         for line in self._lines:
             twin.line(line)
         return twin

@@ -2,13 +2,20 @@
 
 from contextlib import contextmanager
 
-from .answers import OTHER, Refused
+from .answers import OTHER, Refused, RunEnded
 from .construct import set_steps, words_of
 from .json_text import write_json
 from .private import Private, PrivateLoss, takes_away
 
 MOST_PIECE = 100_000
 """About so many bytes of an edit are tried out in a line."""
+
+
+class TrialEnded(Exception):
+    """The second run, on which an edit was tried out, could not be made or has ended. Nothing was sent."""
+
+    def __init__(self, why):
+        super().__init__(f"the second run of the program, on which an edit is tried out, has ended, and nothing was sent: {why}")
 
 
 class Trial:
@@ -48,7 +55,10 @@ class Trial:
     def follow(self, change):
         """Takes a change that the session has accepted. A twin that is ahead has taken it before."""
         self._state = self.session.documents
-        if self._twin and not self._is_ahead and isinstance(self._twin.line(write_json(change)), Refused):
+        try:
+            if self._twin and not self._is_ahead and isinstance(self._twin.line(write_json(change)), Refused):
+                self.stop()
+        except RunEnded:
             self.stop()
         self._is_ahead = False
 
@@ -61,13 +71,17 @@ class Trial:
     def carry(self, side, parts, keeps_private, is_begun=False):
         """Has the twin take the parts of a patch of a side, and returns both documents then. With `is_begun`, other patches came before.
 
-        Raises PrivateLoss where the other side loses what it alone has, and Refused.
+        Raises PrivateLoss where the other side loses what it alone has, Refused, and TrialEnded.
         """
-        twin, other = self._twin if is_begun else self.run(), OTHER[side]
-        self._is_ahead = True
-        for part in parts:
-            carry(twin, side, part, self.private(other) if keeps_private else None)
-        return twin.documents
+        private = self.private(OTHER[side]) if keeps_private else None
+        try:
+            twin = self._twin if is_begun else self.run()
+            self._is_ahead = True
+            for part in parts:
+                carry(twin, side, part, private)
+            return twin.documents
+        except (RunEnded, OSError) as why:
+            raise TrialEnded(why) from None
 
 
 def carry(twin, side, part, private, is_known=True):

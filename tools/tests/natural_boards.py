@@ -5,6 +5,7 @@ import tempfile
 from editlens import Session, Store
 from editlens.natural import NoCounterpart, NotWritable, read_form, to_edit
 from editlens.private import PrivateLoss
+from editlens.trial import TrialEnded
 from editlens.types import read_type
 
 from .patches import patched
@@ -133,4 +134,9 @@ def test_a_patch_after_edits_of_other_kinds():
             patches = store.files.undo(2)
             assert [patched(*it)[0] for it in zip(files, patches)] == [store.files["left"], store.files["right"]]
             assert len(store.documents["left"]["l"]) == 2
+            # a second run that is lost costs a refusal, and is made anew
+            store.files.trial.run()._run.stop()
+            raised(TrialEnded, lambda: store.files.patch("left", [{"op": "replace", "path": "/l", "value": []}]))
+            store.files.trial.run()._run.stop()
+            store.left([{"at": ["o", [{"ins": 1}]]}])
             raised(PrivateLoss, lambda: store.files.patch("left", [{"op": "replace", "path": "/l", "value": []}]))
