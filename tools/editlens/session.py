@@ -151,6 +151,8 @@ class Session(Editing, Run):
         twin = Session(self.program, self.path, self.process.timeout)
         for line in self._lines:
             twin.line(line)
+        # They are equal, and what is shared is written once.
+        twin.documents = self.documents
         return twin
 
     def stop(self):

@@ -101,6 +101,19 @@ def test_what_the_other_file_cannot_show_is_not_sent():
         assert done.patch == [{"op": "replace", "path": "", "value": {"days": 7}}]
 
 
+def test_a_file_that_is_changed_by_its_reader():
+    """What a client does with a file or a patch that it got changes nothing in the next one."""
+    with board() as session:
+        file = session.files["left"]
+        done = session.files.patch("left", [{"op": "add", "path": "/cards/0/cards/-", "value": card("e")}])
+        file["cards"][0]["cards"][1]["title"] = done.patch[0]["value"]["name"] = "changed"
+        done.sent[0]["value"]["title"] = "changed"
+        session.files["left"]["cards"].clear()
+        session.files.patch("left", [{"op": "test", "path": "/cards/0/cards/2", "value": card("e")}])
+        assert "changed" not in str(session.files["left"]) + str(session.files["right"])
+        assert [it["title"] for it in session.files["left"]["cards"][0]["cards"]] == ["b", "d", "e"]
+
+
 def test_groups_of_patches():
     with board() as session:
         before = session.documents

@@ -3,8 +3,9 @@
 import time
 
 from editlens.json_text import NotJson
-from editlens.natural import NoCounterpart, read_file, read_form, to_document, to_edit, to_patch
+from editlens.natural import NoCounterpart, read_file, read_form, to_document, to_edit, to_file, to_patch, write_file
 from editlens.natural.operations import MOST_COPIED
+from editlens.natural.places import Written
 from editlens.types import read_type
 
 NEEDS_PROGRAM = False
@@ -70,6 +71,19 @@ def test_a_long_patch_costs_what_it_changes():
             spent.append((there, back))
         (there, back), (there_4, back_4) = spent
         assert there_4 < 9 * there + 0.2 and back_4 < 9 * back + 0.2, (ty, spent)
+
+
+def test_a_small_patch_of_a_long_file():
+    """What a patch leaves alone is not written again: the second of two is far from the cost of the complete file."""
+    shape = read_form(read_type(f"{{l: list {ITEM}, t: tree text}}"), {"/l/*/n": "number", "/t": {"children": "c", "content": "v"}})
+    nodes = {"depths": [0, *[1] * 3000], "items": ["x"] * 3001}
+    document, files = {"l": [{"a": "x", "n": str(it)} for it in range(3000)], "t": nodes}, Written()
+    patch = [{"op": "replace", "path": "/l/7/a", "value": "y"}, {"op": "replace", "path": "/t/c/9/v", "value": "z"}]
+    complete = min(seconds(lambda: to_file(shape, document)) for _ in range(3))
+    made = to_edit(shape, document, patch, files)
+    again = min(seconds(lambda: to_edit(shape, made.document, patch, files)) for _ in range(3))
+    assert again < complete / 1.5, (again, complete)
+    assert write_file(files.of(shape, made.document)) == write_file(to_file(shape, made.document)) == write_file(made.file)
 
 
 def test_operations_that_never_fit_are_looked_at_once():

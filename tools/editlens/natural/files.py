@@ -7,7 +7,7 @@ from ..edits import NoApply, act
 from ..private import takes_away
 from ..trial import Trial
 from .forms import read_form
-from .places import NotWritable, to_file
+from .places import NotWritable, Written, to_file
 from .to_edit import to_edit
 from .to_patch import to_patch
 
@@ -40,9 +40,19 @@ class Files:
     def __init__(self, session, forms=None):
         self.session, self.trial = session, Trial(session)
         self.shapes = {side: read_form(ty, (forms or {}).get(side, {})) for side, ty in session.types.items()}
+        self._written = {side: Written() for side in self.shapes}
 
     def __getitem__(self, side):
         return to_file(self.shapes[side], self.session.documents[side])
+
+    def _file(self, side, document):
+        return self._written[side].of(self.shapes[side], document)
+
+    def _edit(self, side, document, patch):
+        return to_edit(self.shapes[side], document, patch, self._written[side])
+
+    def _patch(self, side, document, word):
+        return to_patch(self.shapes[side], document, word, self._written[side])
 
     def patch(self, side, patch, drop_private=False):
         """Sends a JSON Patch of the file of a side. Returns what comes of it, as Patched.
@@ -52,12 +62,12 @@ class Files:
         """
         with self.session.lock, self.trial.kept_in_step():
             before = self.session.documents
-            made = to_edit(self.shapes[side], before[side], patch)
+            made = self._edit(side, before[side], patch)
             if self._needs_trial(side, made, drop_private):
                 self._try(side, made, drop_private)
             answer = self.session.entry(side, made.word)
             other = OTHER[side]
-            return Patched(answer, to_patch(self.shapes[other], before[other], answer.word), made.patch)
+            return Patched(answer, self._patch(other, before[other], answer.word), made.patch)
 
     def group(self, *patches, drop_private=False):
         """Sends patches, each a side and a JSON Patch, that are accepted together or not at all. Returns what comes of it, as PatchedGroup.
@@ -68,12 +78,12 @@ class Files:
             documents, made = self.session.documents, []
             before = documents
             for number, (side, patch) in enumerate(patches):
-                made.append((side, to_edit(self.shapes[side], documents[side], patch)))
+                made.append((side, self._edit(side, documents[side], patch)))
                 documents = self._try(*made[-1], drop_private, is_begun=number > 0)
             answer = self.session.group(*((side, it.word) for side, it in made))
             carried = []
             for (side, it), (other, word) in zip(made, answer.words):
-                carried.append((other, to_patch(self.shapes[other], before[other], word)))
+                carried.append((other, self._patch(other, before[other], word)))
                 before = {side: it.document, other: act(self.session.types[other], before[other], word)}
             return PatchedGroup(answer, carried, [it.patch for _, it in made])
 
@@ -94,7 +104,7 @@ class Files:
         ty, now = self.session.types[side], self.session.documents[side]
         try:
             if act(ty, before, word) == now:
-                return to_patch(self.shapes[side], before, word)
+                return self._patch(side, before, word)
         except NoApply:
             pass
         return [{"op": "replace", "path": "", "value": to_file(self.shapes[side], now)}]
@@ -111,7 +121,7 @@ class Files:
         other = OTHER[side]
         documents = self.trial.carry(side, made.parts, not drop_private, is_begun)
         try:
-            to_file(self.shapes[other], documents[other])
+            self._file(other, documents[other])
         except NotWritable as why:
             why.side = other
             raise

@@ -52,10 +52,13 @@ class Place:
 
 
 class Items(Sequence):
-    """The places of the items of a list. Each is made where it is asked for, since a list may be long."""
+    """The places of the items of a list. Each is made where it is asked for, since a list may be long.
 
-    def __init__(self, count, make):
-        self._count, self._make = count, make
+    `held` are the shape of the contents, a call that returns the content with a number, and the keys where the items have them.
+    """
+
+    def __init__(self, count, make, held=None):
+        self._count, self._make, self.held = count, make, held
 
     def __len__(self):
         return self._count
@@ -66,24 +69,46 @@ class Items(Sequence):
 
 
 class Entries(Mapping):
-    """The places of the members of a map, by their keys. Each is made where it is asked for."""
+    """The places of the members of a map, by their keys. Each is made where it is asked for. `shape` is that of the contents."""
 
-    def __init__(self, keys, make):
-        self._keys, self._make = keys, make
+    def __init__(self, values, make, shape):
+        self.values_by_key, self._make, self.shape = values, make, shape
 
     def __len__(self):
-        return len(self._keys)
+        return len(self.values_by_key)
 
     def __iter__(self):
-        return iter(self._keys)
+        return iter(self.values_by_key)
 
     def __contains__(self, key):
-        return key in self._keys
+        return key in self.values_by_key
 
     def __getitem__(self, key):
-        if key not in self._keys:
+        if key not in self.values_by_key:
             raise KeyError(key)
         return self._make(key)
+
+
+class Written:
+    """The files of documents of one shape, one after another. What a document shares with the one before it is not written again."""
+
+    def __init__(self):
+        self._before, self._now = {}, {}
+
+    def of(self, shape, document):
+        """The user's file of a document, which is never changed later. Raises NotWritable."""
+        self._now = {}
+        file = written(Place(shape, document), self)
+        self._before = self._now
+        return file
+
+    def held(self, shape, value, key, write):
+        """What the file has for a value that a container holds, by a call where it is new. The file has the key, too, where it is given."""
+        # The value is kept with what was written, so no other one has its number meanwhile.
+        name = id(value), id(shape), key
+        found = self._now.get(name) or self._before.get(name) or (value, write())
+        self._now[name] = found
+        return found[1]
 
 
 def content(place):
@@ -108,9 +133,11 @@ def members(place):
     if shape.ty.kind == "record":
         return _fields(place)
     if shape.ty.kind == "list":
-        return Items(len(value), lambda number: place.at("mod", number, shape.inner["*"], value[number]))
+        inner = shape.inner["*"]
+        return Items(len(value), lambda number: place.at("mod", number, inner, value[number]), (inner, value.__getitem__, None))
     if shape.ty.kind == "keyed":
-        return Entries(value, lambda key: place.at("mod", key, shape.inner["*"], value[key], role="entry", owner=place, name=key))
+        inner = shape.inner["*"]
+        return Entries(value, lambda key: place.at("mod", key, inner, value[key], role="entry", owner=place, name=key), inner)
     if shape.ty.kind == "alternatives" and "kind" not in shape.form:
         tag = next(iter(value))
         return {tag: place.at("stay", tag, shape.inner[tag], value[tag])}
@@ -201,7 +228,8 @@ def map_place(place):
 def _key_items(place):
     inside, shape = map_place(place), place.shape.content()
     keys = key_order(place.shape, place.value)
-    return Items(len(keys), lambda number: key_item(place, inside, shape, keys[number]))
+    held = shape, lambda number: inside.value[keys[number]], keys
+    return Items(len(keys), lambda number: key_item(place, inside, shape, keys[number]), held)
 
 
 def key_item(place, inside, shape, key):
@@ -231,7 +259,7 @@ def _children(place):
 
 def _items(place):
     paths, inner, items = paths_of(place.value["depths"]), place.shape.inner["*"], place.value["items"]
-    return Items(len(items), lambda number: place.owner.at("mod", paths[number], inner, items[number]))
+    return Items(len(items), lambda number: place.owner.at("mod", paths[number], inner, items[number]), (inner, items.__getitem__, None))
 
 
 _BY_ROLE = {
@@ -245,33 +273,40 @@ _BY_ROLE = {
 }
 
 
-def written(place):
-    """What the file has at a place. Raises NotWritable."""
+def written(place, known=None):
+    """What the file has at a place, by a Written where there is one. Raises NotWritable."""
     place = content(place)
     if place.role in ("", "entry") and "children" in place.shape.form:
-        return _nested(place)
+        return _nested(place, known)
     inside = members(place)
+    if known and isinstance(inside, Entries):
+        shape, values = inside.shape, inside.values_by_key
+        return {key: known.held(shape, value, None, lambda key=key: written(inside[key], known)) for key, value in values.items()}
     if isinstance(inside, Mapping):
-        return {name: written(it) for name, it in inside.items() if not it.is_missing()}
+        return {name: written(it, known) for name, it in inside.items() if not it.is_missing()}
+    if known and isinstance(inside, Items) and inside.held:
+        shape, value_of, keys = inside.held
+        numbers = range(len(inside))
+        return [known.held(shape, value_of(it), keys and keys[it], lambda it=it: written(inside[it], known)) for it in numbers]
     if isinstance(inside, Items):
-        return [written(it) for it in inside]
+        return [written(it, known) for it in inside]
     return _simple(place)
 
 
-def nodes(tree):
-    """The nodes of a nested tree in preorder: the path of each, and the members of its content."""
-    inner, form = tree.shape.inner["*"], tree.shape.form
-    for path, item in zip(paths_of(tree.value["depths"]), tree.value["items"]):
-        inside = tree.at("mod", path, inner, item)
-        yield path, {form["content"]: inside} if "content" in form else members(inside) or {}
+def _node_content(tree, path, item, known):
+    """The members of a node of a nested tree, but for its children."""
+    form, inside = tree.shape.form, tree.at("mod", path, tree.shape.inner["*"], item)
+    here = {form["content"]: inside} if "content" in form else members(inside) or {}
+    _apart(tree, {form["children"]: None}, here)
+    return {name: written(place, known) for name, place in here.items() if not place.is_missing()}
 
 
-def _nested(tree):
+def _nested(tree, known=None):
     """The nested objects of a tree, made in one pass."""
     name, is_bare, made = tree.shape.form["children"], tree.shape.form.get("leaf") == "missing", {}
-    for path, inside in nodes(tree):
-        _apart(tree, {name: None}, inside)
-        node = {it: written(place) for it, place in inside.items() if not place.is_missing()}
+    known = known or Written()
+    for path, item in zip(paths_of(tree.value["depths"]), tree.value["items"]):
+        node = dict(known.held(tree.shape.inner["*"], item, "", lambda path=path, item=item: _node_content(tree, path, item, known)))
         if not is_bare:
             node[name] = []
         made[tuple(path)] = node

@@ -136,6 +136,8 @@ def sort_of(tree):
 
 def is_same(one, other):
     """Whether two trees are the same file: numbers by their letters, members in any order."""
+    if one is other:
+        return True
     if isinstance(one, dict):
         return isinstance(other, dict) and one.keys() == other.keys() and all(is_same(it, other[name]) for name, it in one.items())
     if isinstance(one, list):

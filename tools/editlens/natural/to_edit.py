@@ -12,7 +12,7 @@ from ..edits import NoApply, act
 from ..json_text import NotJson
 from .documents import DoesNotFit
 from .operations import Patching, Stop, operation_fault, steps_of, value_at
-from .places import Place, written
+from .places import Place, Written, written
 from .steps import replaced, step, steps_for
 from .text import is_same, need_json
 from .where import resolved
@@ -59,12 +59,12 @@ class Translated:
                 add_step(self.word, path, primitive)
 
 
-def to_edit(shape, document, patch):
-    """The edit that makes of the file what the patch makes of it, as Translated. Raises NoCounterpart."""
+def to_edit(shape, document, patch, files=None):
+    """The edit that makes of the file what the patch makes of it, as Translated. `files` is a Written of the shape. Raises NoCounterpart."""
     taking = None
     try:
         _need_patch(patch)
-        taking = _Taking(Place(shape, document), patch)
+        taking = _Taking(Place(shape, document), patch, files or Written())
         while taking.left:
             taking.take()
         return taking.translated()
@@ -96,9 +96,9 @@ class _Taking:
     next one last, each with its number. Names are read, and a `move` may become two, when an operation is taken.
     """
 
-    def __init__(self, root, patch):
-        self.root, self.number, self.parts = root, 0, []
-        self.file, self.left = Patching(written(root)), list(enumerate(patch))[::-1]
+    def __init__(self, root, patch, files):
+        self.root, self.number, self.parts, self.files = root, 0, [], files
+        self.file, self.left = Patching(files.of(root.shape, root.value)), list(enumerate(patch))[::-1]
 
     def take(self):
         """Takes the next operation, or as many as it takes until the file fits again."""
@@ -154,7 +154,7 @@ class _Taking:
 
     def translated(self):
         """What came of the patch. Raises ValueError where the document does not show the file after it."""
-        if not is_same(self.file.tree, written(self.root)):
+        if not is_same(self.file.tree, self.files.of(self.root.shape, self.root.value)):
             orders = "a list by key keeps no order, and would have another one than after the patch"
             raise ValueError("no edit makes this file" if self.root.shape.keeps_orders() else orders)
         return Translated(self.parts, self.root.value, self.file.tree)

@@ -9,25 +9,27 @@ from dataclasses import replace as changed
 from ..edits import act, children_of, node_at
 from ..json_text import pointer
 from .operations import Patching, Stop
-from .places import NotWritable, Place, core, key_item, key_order, map_place, members, to_file, written
+from .places import NotWritable, Place, Written, core, key_item, key_order, map_place, members, to_file, written
 from .text import is_same
 
 SIMPLE = ("unit", "bool", "int", "text", "enum")
 
 
-def to_patch(shape, document, edit):
-    """The patch that makes of the file what the edit makes of its document.
+def to_patch(shape, document, edit, files=None):
+    """The patch that makes of the file what the edit makes of its document. `files` is a Written of the shape.
 
     Raises NoApply or NotAnEdit where the edit does not act on the document, and NotWritable where no file shows what it makes.
     """
-    wanted = to_file(shape, act(shape.ty, document, edit))
+    files = files or Written()
+    after = act(shape.ty, document, edit)
+    wanted = files.of(shape, after)
     try:
         patch = _patch(Place(shape, document), edit, (), False)
-        if _is_made(to_file(shape, document), patch, wanted):
+        if _is_made(files.of(shape, document), patch, wanted):
             return patch
     except NotWritable:
         pass
-    return [{"op": "replace", "path": "", "value": wanted}]
+    return [{"op": "replace", "path": "", "value": to_file(shape, after)}]
 
 
 def _is_made(file, patch, wanted):
