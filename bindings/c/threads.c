@@ -12,7 +12,7 @@
 #include <string.h>
 #include <unistd.h>
 
-enum { TURNS = 4, APART = 8, LINES = 50 };
+enum { TURNS = 4, APART = 8, LINES = 10 };
 
 static const char PROGRAM[] = "main {plan ~ board: each {what ~ what: id text}, left hours: int}\n";
 static pthread_mutex_t lock = PTHREAD_MUTEX_INITIALIZER;
