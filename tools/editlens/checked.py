@@ -5,6 +5,7 @@ import subprocess
 from .answers import ProgramRefused, RunEnded
 from .grammar import wanted_at
 from .json_text import pointer
+from .lines import lines_of
 from .parts import SEPARATOR, views_of
 from .program import find_program
 from .types import differences, read_type, read_types, token_at, tokens, write_type
@@ -113,7 +114,7 @@ def check(program_text, path=None):
     """The types of the left and of the right document. Raises ProgramRefused."""
     path = path or find_program()
     ran = subprocess.run([path, "check"], input=program_text.encode(), stdout=subprocess.PIPE, check=False)
-    lines = ran.stdout.decode().splitlines()
+    lines = lines_of(ran.stdout)
     if ran.returncode == 3:
         raise program_refused(program_text, lines[0])
     if ran.returncode:

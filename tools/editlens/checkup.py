@@ -9,6 +9,7 @@ from .lock import StoreLock
 from .log import CLOSED, FIRST, FIRST_RECORDS, LENGTH, MARK, OPEN, Log, is_change, kind_of, number_of, printable, sync_folder, told
 from .replacement import NotDone
 from .store import StoreRefused
+from .store_file import open_regular
 
 MOST_SHOWN = 60
 
@@ -66,6 +67,7 @@ class Checkup:
         self.store, self.refusal = kind(folder, path), None
         if not os.path.exists(self.store.file):
             raise NotDone(f"there is no store here: {self.store.file} does not exist")
+        open_regular(self.store.file).close()
         try:
             self.count = self.store.verify()
         except StoreRefused as why:

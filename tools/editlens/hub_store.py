@@ -17,6 +17,7 @@ from .open_store import KeptRun
 from .parts import HUB, joined, program_of
 from .session import DocumentsDiffer
 from .store import Store
+from .store_file import HUB_FILE
 
 
 class HubState(namedtuple("HubState", "hub views")):
@@ -77,7 +78,7 @@ class HubStore(Store):
     the answer; a refused one is raised as Refused, and nothing has changed then. Each is a run of `apply`. `HubStore.open` keeps one open.
     """
 
-    name, command = "edithub.store", "edithub"
+    name, command = HUB_FILE, "edithub"
     read = staticmethod(read_kept_answer)
 
     @classmethod

@@ -1,15 +1,20 @@
-"""The lock on a folder with a store: one program at a time writes there.
+"""The locks on a store: one program at a time writes there.
 
-The commands that write (init, import, apply, pack, undo) take the same lock themselves: flock(2) on the open folder, without waiting. So a
-command that writes ends with status 7 in a folder that a StoreLock holds. `show` and `verify` take no lock.
+The commands that write (init, import, apply, pack, undo) take the same locks themselves, by flock(2): that of the open folder, and that of
+the store's open file. So a command that writes ends with status 7 in a folder that a StoreLock holds. `show` and `verify` take no lock.
 """
 
+import contextlib
 import fcntl
 import os
 import time
 
+from .store_file import HUB_FILE, SESSION_FILE, need_one_name, need_same
+
 PAUSE = 0.02
 """How many seconds are between two looks at a lock."""
+LEAST_WAIT = 0.1
+"""How many seconds a lock is waited for in any case, as the program does: who only looks whether it is free holds it for a moment."""
 
 
 class StoreBusy(Exception):
@@ -21,15 +26,17 @@ class StoreBusy(Exception):
 
 
 class StoreLock:
-    """Holds the lock on a folder, for a tool that changes the file of a store itself. It is for `with`, or for `take` and `give_back`.
+    """Holds the locks on a folder and on the stores in it, for a tool that changes the file of a store itself. It is for `with`, or for
+    `take` and `give_back`.
 
-    StoreBusy is raised where another program has it for longer than `wait` seconds. An OSError is raised where there is no such folder, or
-    where its file system has no locks. The kernel gives the lock back when the process ends, in whatever way.
+    StoreBusy is raised where another program has one of them for longer than `wait` seconds. An OSError is raised where there is no such
+    folder, or where its file system has no locks, and UnsafeFile, which is one, where a store there is a link or has several names. The
+    kernel gives the locks back when the process ends, in whatever way.
     """
 
     def __init__(self, folder, wait=0.0):
         self.folder, self.wait = folder, wait
-        self._open = None
+        self._held, self._files = None, {}
 
     def __enter__(self):
         self.take()
@@ -39,38 +46,59 @@ class StoreLock:
         self.give_back()
 
     def take(self):
-        """Takes the lock, and keeps it. The descriptor is not inherited by programs that are started meanwhile."""
-        if self._open is not None:
+        """Takes the locks, and keeps them. The descriptors are not inherited by programs that are started meanwhile."""
+        if self._held is not None:
             raise ValueError("this lock is held already")
-        deadline = time.monotonic() + self.wait
-        held = os.open(self.folder, os.O_RDONLY | os.O_DIRECTORY)
-        try:
-            while not _is_taken(held):
-                if time.monotonic() >= deadline:
-                    raise StoreBusy(self.folder)
-                time.sleep(min(PAUSE, max(0.0, deadline - time.monotonic())))
-        except BaseException:
-            os.close(held)
-            raise
-        self._open = held
+        deadline = time.monotonic() + max(self.wait, LEAST_WAIT)
+        while not self._try_to_take():
+            if time.monotonic() >= deadline:
+                raise StoreBusy(self.folder)
+            time.sleep(min(PAUSE, max(0.0, deadline - time.monotonic())))
+
+    def _try_to_take(self):
+        with contextlib.ExitStack() as held:
+            if not _is_taken(_opened(held, self.folder, os.O_DIRECTORY)):
+                return False
+            files = {}
+            for path in (os.path.join(self.folder, it) for it in (SESSION_FILE, HUB_FILE)):
+                files[path] = need_one_name(path) and _opened(held, path, os.O_NOFOLLOW | os.O_NONBLOCK)
+                if files[path] is not None:
+                    if not _is_taken(files[path]):
+                        return False
+                    need_same(path, files[path])
+            self._held, self._files = held.pop_all(), files
+            return True
+
+    def need_same(self, path):
+        """Raises UnsafeFile where the path of a store leads to another file than when the lock was taken: what is there now is not locked."""
+        if self._files[path] is not None:
+            need_same(path, self._files[path])
+        elif os.path.lexists(path):
+            raise FileExistsError(f"{path} was made by another program meanwhile")
 
     def give_back(self):
-        """Gives the lock back, where it is held."""
-        if self._open is not None:
-            os.close(self._open)
-            self._open = None
+        """Gives the locks back, where they are held."""
+        if self._held is not None:
+            self._held.close()
+            self._held, self._files = None, {}
 
 
-def _is_taken(held):
+def _opened(held, path, flags):
+    descriptor = os.open(path, os.O_RDONLY | flags)
+    held.callback(os.close, descriptor)
+    return descriptor
+
+
+def _is_taken(descriptor):
     try:
-        fcntl.flock(held, fcntl.LOCK_EX | fcntl.LOCK_NB)
+        fcntl.flock(descriptor, fcntl.LOCK_EX | fcntl.LOCK_NB)
     except BlockingIOError:
         return False
     return True
 
 
 def is_busy(folder):
-    """Whether another program holds the lock on a folder now."""
+    """Whether another program holds the lock on a folder, or on a store in it, now."""
     try:
         with StoreLock(folder):
             return False

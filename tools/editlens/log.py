@@ -9,6 +9,7 @@ import os
 from dataclasses import dataclass
 
 from .json_text import NotJson, read_json, write_json
+from .store_file import open_regular
 
 MARK = b"EDLENS1\n"
 OPEN, CLOSED = b"\x01", b"\x00"
@@ -41,6 +42,11 @@ def is_change(payload):
     return kind_of(payload) in ("entry", "edit", "group")
 
 
+def escaped(text):
+    """A text with an escape of JSON for each character that a terminal would not show, or would obey."""
+    return "".join(it if it.isprintable() else json.dumps(it)[1:-1] for it in text)
+
+
 def printable(data):
     """Bytes as text, with a ? for what a terminal would not show."""
     return "".join(it if it.isprintable() else "?" for it in data.decode(errors="replace"))
@@ -57,7 +63,7 @@ def told(payload, most=100):
     if kind is None:
         said = "not a record: " + printable(payload)
     else:
-        said = _told(kind, read_json(payload.decode()))
+        said = escaped(_told(kind, read_json(payload.decode())))
     return said if most is None or len(said) <= most else said[: most - 2] + ".."
 
 
@@ -118,7 +124,7 @@ class Log:
     """
 
     def __init__(self, path):
-        self._file = open(path, "rb", buffering=0)
+        self._file = open_regular(path)
         try:
             self.has_mark = self.read(0, FIRST) == MARK
             self.spans, self.end, self.is_cut = self._walk()

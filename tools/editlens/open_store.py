@@ -12,11 +12,13 @@ import time
 from .answers import Accepted, NotAnAnswer, RunEnded
 from .checked import check
 from .json_text import read_json
+from .lines import lines_of
 from .lock import StoreBusy, StoreLock, is_busy
 from .log import Log, is_change
 from .natural.files import Files
 from .process import Process
 from .session import DocumentsDiffer, Editing
+from .store_file import open_regular
 
 PROBE = b"{}"
 """A line that is refused and changes nothing. Its answer shows that the store was read and that the run has the lock."""
@@ -27,7 +29,7 @@ MARK = b"EDLENS1\n\x01"
 
 def stored_program(path):
     """The text of the lens program of a store: its first record, as docs/FORMATS.md has it."""
-    with open(path, "rb") as file:
+    with open_regular(path) as file:
         start = file.read(len(MARK) + 8)
         if not start.startswith(MARK):
             raise ValueError(f"{path} has no first record")
@@ -102,7 +104,7 @@ class KeptRun:
             state = self.store.show()
         finally:
             said, _ = verify.communicate()
-        self.store.judge(verify.returncode, said.decode().splitlines())
+        self.store.judge(verify.returncode, lines_of(said))
         self.stored = int(said.decode().removeprefix("consistent "))
         return state
 

@@ -27,13 +27,13 @@ def journal_of(script):
 def views_of(program_part):
     """The lens programs of a program part: what is between the lines `+++`, numbered from 0."""
     views, lines = [], []
-    for line in program_part.splitlines(keepends=True):
-        if line.removesuffix("\n").removesuffix("\r") == BETWEEN:
-            views.append("".join(lines))
+    for line in program_part.split("\n"):
+        if line.removesuffix("\r") == BETWEEN:
+            views.append("".join(it + "\n" for it in lines))
             lines = []
         else:
             lines.append(line)
-    return [*views, "".join(lines)]
+    return [*views, "\n".join(lines)]
 
 
 def joined(programs):

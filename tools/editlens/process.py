@@ -6,6 +6,7 @@ import subprocess
 import time
 
 from .answers import NoAnswer, RunEnded
+from .lines import lines_of
 
 PIECE = 1 << 16
 
@@ -47,7 +48,7 @@ class Process:
             self._wait([(self._out, select.POLLIN)], deadline)
             self._read()
         status = self._status()
-        return status, self._come.decode().splitlines()
+        return status, lines_of(self._come)
 
     def stop(self):
         """Stops the program at once, where it still runs."""

@@ -50,8 +50,6 @@ class Replacement:
     def __enter__(self):
         self._lock.take()
         try:
-            if os.path.islink(self.old.file):
-                raise NotDone(f"{self.old.file} is a link: work in the folder that it leads to")
             self._clear()
             os.mkdir(self.work, 0o700)
         except BaseException:
@@ -64,6 +62,8 @@ class Replacement:
         self._lock.give_back()
 
     def _clear(self):
+        if os.path.islink(self.work) or os.path.isfile(self.work):
+            raise NotDone(f"{self.work} is in the way: it is not the folder in which the new file of a store is made, so move it away")
         if os.path.lexists(self.work):
             shutil.rmtree(self.work)
 
@@ -81,31 +81,32 @@ class Replacement:
             raise NotDone("the new file is not put in place, since the program reads something else in it than was meant")
         kept = None
         if os.path.exists(self.old.file):
-            self._take_after_old()
+            self._take_after_old(self.new.file)
             kept = self._keep() if keeps_old else None
         _sync(self.new.file)
+        self._lock.need_same(self.old.file)
         os.replace(self.new.file, self.old.file)
         sync_folder(self.folder)
         return kept
 
-    def _take_after_old(self):
-        """Gives the new file the owner and the permissions of the old one."""
-        old, new = os.stat(self.old.file), os.stat(self.new.file)
+    def _take_after_old(self, path):
+        """Gives a file the owner and the permissions of the old one."""
+        old, new = os.stat(self.old.file), os.stat(path)
         if (old.st_uid, old.st_gid) != (new.st_uid, new.st_gid):
             try:
-                os.chown(self.new.file, old.st_uid, old.st_gid)
+                os.chown(path, old.st_uid, old.st_gid)
             except PermissionError:
                 raise NotDone(f"{self.old.file} belongs to user {old.st_uid}, group {old.st_gid}: call this as that user") from None
-        shutil.copymode(self.old.file, self.new.file)
+        shutil.copymode(self.old.file, path)
 
     def _keep(self):
-        """Gives the old file a second name, so that there is a store at every moment."""
-        kept = free_name(f"{self.old.file}.{dated()}", OLD)
-        try:
-            os.link(self.old.file, kept)
-        except OSError:
-            shutil.copy2(self.old.file, kept)
-            _sync(kept)
+        """Keeps a copy of the old file. A second name for the file itself would be refused by each program that writes, if this one were
+        killed before the new file is in place."""
+        kept, copy = free_name(f"{self.old.file}.{dated()}", OLD), os.path.join(self.work, OLD)
+        shutil.copy2(self.old.file, copy)
+        self._take_after_old(copy)
+        _sync(copy)
+        os.rename(copy, kept)
         sync_folder(self.folder)
         return kept
 

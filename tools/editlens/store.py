@@ -7,12 +7,14 @@ from .answers import Explained, Refused, RunEnded, read_answer
 from .checked import check, program_refused
 from .documents import misfits
 from .json_text import read_json, write_json
+from .lines import lines_of
 from .lock import StoreBusy, is_busy
 from .open_store import OpenStore
 from .parts import SEPARATOR, program_of
 from .program import find_program
+from .store_file import SESSION_FILE
 
-NAME = "editlens.store"
+NAME = SESSION_FILE
 MOST_UNDONE = 10_000
 ADVICE = {
     "not-a-log": "the file is not a store",
@@ -62,7 +64,8 @@ class Store:
     is raised as Refused, and nothing has changed then. Each is a run of `apply`, so what was accepted is on the disk when the call
     returns. `apply` sends many lines in one run. `Store.open` keeps one run open for edits that come one after another.
 
-    One program at a time writes to a store: StoreBusy is raised where another one does, and nothing was read or written.
+    One program at a time writes to a store: StoreBusy is raised where another one does, and nothing was read or written. UnsafeFile, an
+    OSError, is raised where the file is a link, has several names or is not a regular file.
     """
 
     name, command = NAME, "editlens"
@@ -199,4 +202,4 @@ class Store:
 
     def _called(self, words, text):
         ran = subprocess.run([self.path, *words], input=text.encode(), stdout=subprocess.PIPE, cwd=self.folder, check=False)
-        return ran.returncode, ran.stdout.decode().splitlines()
+        return ran.returncode, lines_of(ran.stdout)

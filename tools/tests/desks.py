@@ -1,15 +1,18 @@
 """The desk without a browser: its edits one after another, its server's refusals, its stream of news, and replays."""
 
+import contextlib
 import http.client
 import json
 import os
 import signal
+import socket
 import subprocess
 import tempfile
 import threading
 import time
 import urllib.request
 from contextlib import contextmanager
+from unittest import mock
 
 from editlens.browser import Browser
 from editlens.desk.complement import remembered
@@ -18,7 +21,8 @@ from editlens.desk.drawing import drawn_document
 from editlens.desk.keepers import RunKeeper, StoreKeeper, state_after
 from editlens.desk.loading import carried_over, fitted, judged
 from editlens.desk.replay import Replay
-from editlens.desk.server import DeskServer, MOST_BODY
+from editlens.desk.server import DeskDied, DeskServer, MOST_BODY
+from editlens.json_text import read_json
 from editlens.lenses import read_lens
 from editlens.load import DoesNotFit
 from editlens.program import TOP, find_program
@@ -117,6 +121,8 @@ def test_what_the_server_refuses():
             (403, asked(server, "POST", here + "edit", edit, Origin="null")),
             (403, asked(server, "POST", here + "edit", edit, Origin=None)),
             (403, asked(server, "POST", here + "edit", edit, Origin="http://127.0.0.1:1")),
+            (403, asked(server, "POST", here + "edit", edit, oRIGIN="http://editlens.example")),
+            (403, asked(server, "POST", here + "edit", edit, oRIGIN=f"http://{server.hosts[0]}")),
             (415, asked(server, "POST", here + "edit", edit, Content_Type="text/plain")),
             (413, asked(server, "POST", here + "edit", "", Content_Length=str(MOST_BODY + 1))),
             (411, asked(server, "POST", here + "edit", "", Content_Length=None)),
@@ -140,6 +146,94 @@ def test_what_the_server_refuses():
         assert server.token not in page and headers["Referrer-Policy"] == "no-referrer"
         assert asked(server, "GET", here + "state", Host=f"localhost:{server.server_port}", Origin=None)[0] == 200
         assert asked(server, "POST", here + "edit", edit)[0] == 200
+
+
+def test_connections_are_bounded():
+    """Above the most, a connection is closed at once. When another one ends, there is room again."""
+    with mock.patch("editlens.desk.server._Handler.timeout", PATIENCE):
+        bounded()
+
+
+def bounded():
+    with served(Desk(RunKeeper(SMALL), "small")) as server:
+        server.free = threading.BoundedSemaphore(4)
+        with contextlib.ExitStack() as held:
+            first, *_ = [held.enter_context(socket.create_connection(server.server_address, PATIENCE)) for _ in range(4)]
+            Browser.until(lambda: not is_free(server), "not all connections come")
+            with socket.create_connection(server.server_address, PATIENCE) as more:
+                assert more.recv(1) == b""
+            first.close()
+            Browser.until(lambda: is_free(server), "no room comes")
+            assert asked(server, "GET", f"/{server.token}/state")[0] == 200
+
+
+def is_free(server):
+    """Whether one more connection may be open."""
+    if not server.free.acquire(blocking=False):
+        return False
+    server.free.release()
+    return True
+
+
+def test_a_thread_that_dies_ends_the_desk():
+    """The complement of each change is found by a thread. What it cannot read is no news that a window waits for."""
+    desk = Desk(RunKeeper(SMALL), "small")
+    server = DeskServer(desk)
+    desk.keeper.reader = lambda: lambda: read_json("{")
+    assert desk.edit(0, "left", EIGHT)["ok"]
+    try:
+        server.serve_forever(poll_interval=0.02)
+        raise AssertionError("the desk goes on")
+    except DeskDied as why:
+        assert "NotJson" in str(why), why
+    assert desk.state()["fault"], "no window says so"
+    server.server_close()
+    desk.close()
+
+
+def test_an_answer_that_fails_ends_the_desk():
+    desk = Desk(RunKeeper(SMALL), "small")
+    server, ends = DeskServer(desk), []
+
+    def serve():
+        try:
+            server.serve_forever(poll_interval=0.02)
+        except DeskDied as why:
+            ends.append(why)
+
+    thread = threading.Thread(target=serve)
+    thread.start()
+    desk.state = lambda _: 1 // 0
+    try:
+        asked(server, "GET", f"/{server.token}/state")
+        raise AssertionError("there is an answer")
+    except http.client.RemoteDisconnected:
+        pass
+    thread.join()
+    assert "ZeroDivisionError" in str(ends), ends
+    server.server_close()
+    desk.close()
+
+
+def test_the_command_ends_with_a_message():
+    """The program that the desk asks for the complement writes what is not JSON."""
+    with tempfile.TemporaryDirectory() as folder:
+        Store.init(folder, SMALL)
+        program = os.path.join(folder, "program")
+        with open(program, "w", encoding="utf-8") as file:
+            file.write('#!/bin/sh\n[ "$1" = show ] && [ -e wrong ] && echo "complement {" && exit; exec "$REAL" "$@"\n')
+        os.chmod(program, 0o755)
+        env = {**os.environ, "EDITLENS": program, "REAL": find_program()}
+        running = subprocess.Popen([DESK, "--store", folder, "--no-browser"], env=env, stdout=subprocess.PIPE, stderr=subprocess.PIPE, text=True)
+        address = running.stdout.readline().split(" ")[-1].strip()
+        with open(os.path.join(folder, "wrong"), "w", encoding="utf-8"):
+            pass
+        headers = {"Origin": address.rsplit("/", 2)[0], "Content-Type": "application/json"}
+        body = json.dumps({"base": 0, "side": "left", "edit": EIGHT}).encode()
+        assert json.load(urllib.request.urlopen(urllib.request.Request(address + "edit", body, headers)))["ok"]
+        said = running.communicate()[1]
+        assert running.returncode == 1 and said.startswith("a part of the desk has failed: ") and said.count("\n") == 1, said
+        assert Store(folder).verify() == 1
 
 
 def test_deep_edits_are_refused():

@@ -4,10 +4,12 @@ A run is compared with a list. The list has each call on the store, on its folde
 that changes a file elsewhere. Its lines mean:
 
     lock               the folder is opened, and flock is called on it: exclusive, and without waiting
+    lock the file      the same for the store
+    look               what the name of the store leads to is asked for, without following a link where the command writes
     open to read       the store is opened for reading alone
     open to write      the store is opened for reading and writing, and is not made where there is none
-    make               the store is opened so, and is made where there is none
-    read               bytes of the store are read. Reads one after another are one line
+    make               the store is made, where its name leads to nothing, and is opened so
+    read               bytes of the store are read
     write 9 to 90      the bytes from place 9 to before place 90 are written to the store
     sync               the store is synced
     sync the folder    the folder is synced, so that the name of a new store lasts
@@ -15,7 +17,7 @@ that changes a file elsewhere. Its lines mean:
     take the end       standard input is read, and has ended
     say ok 1           what goes to standard output by one call begins with these words
 
-Behind a colon stands why a call failed. Any other call (a rename, a truncation, a map of the file) stands in the list by its own name, and
+Behind a colon stands why a call failed. Reads, looks and locks that fail stand in one line where they come one after another. Any other call (a rename, a truncation, a map of the file) stands in the list by its own name, and
 so the run differs from what is wanted. Closing, seeking, and asking an open file for its length are left out.
 """
 
@@ -36,15 +38,18 @@ from . import Skipped
 PROGRAM = "main {count ~ number: id int, left note: text}\n"
 ADD = '{"side":"left","edit":[{"at":["count",[{"add":1}]]}]}\n'
 WRONG = '{"side":"left","edit":[{"at":["count",[{"set":"x"}]]}]}\n'
-OPENING = ["lock", "open to write", "sync", "sync the folder", "read"]
-"""What a command that writes does with a store that is there. It syncs before it reads, since an earlier run may have stopped before its sync."""
-READING = ["open to read", "sync", "sync the folder", "read"]
+OPENING = ["lock", "look", "open to write", "lock the file", "look", "sync", "sync the folder", "read"]
+"""What a command that writes does with a store that is there. It looks at the name again under the lock: the file may have been replaced.
+It syncs before it reads, since an earlier run may have stopped before its sync."""
+READING = ["look", "open to read", "sync", "sync the folder", "read"]
 WRITING = (("init",), ("import",), ("apply",), ("pack",), ("undo", "1"))
 
 LINE = re.compile(r"\d+ +(\w+)\((.*)\) += (-?\d+)(?: (E\w+))?.*")
 DESCRIPTOR = re.compile(r"(\d+)<([^>]*)>")
 PATH = re.compile(r'"([^"]*)", (?:\{flags=)?([A-Z_|]+)')
-OPENED = {("O_RDONLY",): "open to read", ("O_RDWR",): "open to write", ("O_CREAT", "O_RDWR"): "make"}
+OPENED = {("O_RDONLY",): "open to read", ("O_RDWR",): "open to write", ("O_CREAT", "O_EXCL", "O_RDWR"): "make"}
+REPEATED = {"read", "look", "look: ENOENT", "lock: EAGAIN", "lock the file: EAGAIN"}
+LOOK = re.compile(rf'AT_FDCWD<[^>]*>, "{re.escape(NAME)}", [A-Z_|]*')
 PLAIN = {"O_CLOEXEC", "O_NOCTTY", "O_LARGEFILE"}
 QUIET = {"close", "lseek", "fstat", "statx", "newfstatat"}
 SYNCS = {"fsync", "fdatasync"}
@@ -73,7 +78,7 @@ class Trace:
         step = self._step(call, arguments, result)
         if step and result < 0:
             step = f"{step}: {why}"
-        if step and not (step == "read" and self.steps[-1:] == ["read"]):
+        if step and not (step in REPEATED and self.steps[-1:] == [step]):
             self.steps.append(step)
 
     def _step(self, call, arguments, result):
@@ -86,9 +91,11 @@ class Trace:
         if number in ("0", "1"):
             return self._streamed(number + call, call, arguments, result)
         if path == os.path.join(self.folder, NAME):
-            return self._stored(call, result)
+            return self._stored(call, arguments, result)
         if path == self.folder:
             return self._foldered(call, arguments)
+        if call == "statx" and LOOK.match(arguments):
+            return "look"
         rest = re.sub(r"AT_FDCWD<[^>]*>", "", arguments)
         return call if self.folder in rest or f'"{NAME}"' in rest else None
 
@@ -106,11 +113,13 @@ class Trace:
             return "say " + " ".join(words[: 2 if words[0] in TWO_WORDS else 1])
         return None if call in QUIET else call
 
-    def _stored(self, call, result):
+    def _stored(self, call, arguments, result):
         if call == "lseek":
             self.place = result
         if call in QUIET:
             return None
+        if call == "flock" and arguments.endswith(", LOCK_EX|LOCK_NB"):
+            return "lock the file"
         if call != "write":
             return "sync" if call in SYNCS else call
         begin, self.place = self.place, self.place + max(result, 0)
@@ -174,7 +183,7 @@ def traced(folder, *words, given="", fault=None):
 def storing(folder):
     """For each record of a store, the lines that store it: the record behind its closed gate, a sync, the gate, a sync."""
     with Log(os.path.join(folder, NAME)) as log:
-        return [[f"write {it.at + 1} to {it.end + 1}", "sync", f"write {it.at} to {it.at + 1}", "sync"] for it in log.spans]
+        return [["look", f"write {it.at + 1} to {it.end + 1}", "sync", "look", f"write {it.at} to {it.at + 1}", "sync"] for it in log.spans]
 
 
 def test_how_a_trace_is_read():
@@ -183,6 +192,9 @@ def test_how_a_trace_is_read():
 7 read(3</lib/x.so>, "ELF", 832) = 832
 7 openat(AT_FDCWD</a b>, ".", O_RDONLY|O_NOCTTY|O_CLOEXEC) = 3</a b>
 7 flock(3</a b>, LOCK_EX|LOCK_NB) = -1 EAGAIN (Resource temporarily unavailable)
+7 flock(3</a b>, LOCK_EX|LOCK_NB) = -1 EAGAIN (Resource temporarily unavailable)
+7 statx(AT_FDCWD</a b>, "editlens.store", AT_STATX_SYNC_AS_STAT|AT_SYMLINK_NOFOLLOW, STATX_ALL, 0x7f00) = -1 ENOENT (No such file)
+7 flock(4</a b/editlens.store>, LOCK_EX|LOCK_NB) = 0
 7 flock(3</a b>, LOCK_SH) = 0
 7 openat(AT_FDCWD</a b>, "editlens.store", O_RDWR|O_TRUNC) = 4</a b/editlens.store>
 7 mmap(NULL, 4096, PROT_WRITE, MAP_SHARED, 4</a b/editlens.store>, 0) = 0x7f00
@@ -198,13 +210,13 @@ def test_how_a_trace_is_read():
 7 write(1<pipe:[1]>, "ok 1 right []\\n", 15) = 15
 7 exit_group(0) = ?
 7 +++ exited with 0 +++"""
-    begin = ["lock: EAGAIN", "flock", "openat", "mmap", "ftruncate", "write 8 to 10", "write 10 to 10: ENOSPC", "sync: EIO"]
+    begin = ["lock: EAGAIN", "look: ENOENT", "lock the file", "flock", "openat", "mmap", "ftruncate", "write 8 to 10", "write 10 to 10: ENOSPC", "sync: EIO"]
     assert Trace("/a b", lines.splitlines()).steps == [*begin, "openat other", "newfstatat", "rename", "say ok 1"]
 
 
 def test_a_new_store():
     """The mark is synced with the name of the file before the first record. A state or an answer is said when all is synced."""
-    making = ["lock", "open to write: ENOENT", "take", "take the end", "open to write: ENOENT", "make", "write 0 to 9", "sync", "sync the folder"]
+    making = ["lock", "look: ENOENT", "take", "take the end", "look: ENOENT", "make", "lock the file", "look", "write 0 to 9", "sync", "sync the folder"]
     with empty_folder() as folder:
         found = traced(folder, "init", given=PROGRAM)
         (program,) = storing(folder)
@@ -255,7 +267,7 @@ def test_show_and_verify_write_nothing():
     with empty_folder() as folder:
         for word in ("show", "verify"):
             status, steps = traced(folder, word)
-            assert status == 4 and set(steps[:-1]) == {"open to read: ENOENT"} and steps[-1] == "say store refused:", steps
+            assert status == 4 and set(steps[:-1]) == {"look: ENOENT"} and steps[-1] == "say store refused:", steps
             assert os.listdir(folder) == []
 
 
@@ -289,7 +301,8 @@ def test_after_a_sync_that_failed_nothing_is_said():
             found = traced(store.folder, "apply", given=ADD, fault=f"fsync,fdatasync:error=EIO:when={number + 1}")
             assert store.verify() == (1 if number == 3 else 0)
             # Where no gate was opened, the record is there all the same, behind the end of the store.
-            lines = [*OPENING, "take", f"write {end + 1} to {os.path.getsize(store.file)}", "sync", f"write {end} to {end + 1}", "sync"]
+            record, gate = f"write {end + 1} to {os.path.getsize(store.file)}", f"write {end} to {end + 1}"
+            lines = [*OPENING, "take", "look", record, "sync", "look", gate, "sync"]
             syncs = [place for place, it in enumerate(lines) if it.startswith("sync")]
             wanted = [*lines[: syncs[number]], lines[syncs[number]] + ": EIO"]
             assert found == (7, wanted), (number, found)

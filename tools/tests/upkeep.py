@@ -20,6 +20,7 @@ from editlens.relens import change_lens, import_document
 from editlens.replacement import WORK, NotDone
 from editlens.session import Session
 from editlens.store import NAME, ImportRefused, Store, StoreRefused
+from editlens.store_file import UnsafeFile
 from editlens.types import write_type
 from editlens.upkeep import back, backup, compact, drop_old, history, restore, state_at
 
@@ -310,12 +311,13 @@ def test_killed_before_the_new_file_is_in_place():
     with counted(20) as store, tempfile.TemporaryDirectory() as other:
         copy, _ = backup(store.folder, other)
         whole = bytes_of(store.file)
-        calls = ["back('.', 2)", "compact('.')", f"restore('.', {copy!r})", f"change_lens('.', {PROGRAM!r})"]
-        for call, where in zip(calls, ["os.replace", "os.link", "replacement.sync_folder", "replacement._sync"]):
+        calls = ["back('.', 2)", "compact('.')", "compact('.')", f"restore('.', {copy!r})", f"change_lens('.', {PROGRAM!r})"]
+        for call, where in zip(calls, ["os.replace", "os.rename", "os.replace", "replacement.sync_folder", "replacement._sync"]):
             code = KILLED.format(tools=os.path.join(TOP, "tools"), where=where, call=call)
             ran = subprocess.run([sys.executable, "-c", code], cwd=store.folder, capture_output=True, check=False)
             assert ran.returncode == -signal.SIGKILL, ran
             assert bytes_of(store.file) == whole and WORK in os.listdir(store.folder)
+            assert os.stat(store.file).st_nlink == 1, "a program that writes refuses this store"
         back(store.folder, 2)
         assert WORK not in os.listdir(store.folder) and store.show()[0] == {"a": 10, "hours": 1}
 
@@ -367,7 +369,7 @@ def test_a_run_of_the_program_holds_the_lock():
 def test_a_link_is_not_replaced():
     with counted() as store, tempfile.TemporaryDirectory() as other:
         os.symlink(store.file, os.path.join(other, NAME))
-        assert "is a link" in str(raised(NotDone, lambda: back(other, 2)))
+        assert "is a link" in str(raised(UnsafeFile, lambda: back(other, 2)))
         assert os.listdir(other) == [NAME] and len(list(history(other))) == 7
 
 

@@ -26,7 +26,7 @@ MOST_REST = 30
 class Desk:
     """The session of a desk. Its version is the number of changes since it began; an edit names the version that it was made for.
 
-    `state` is what a window draws. `edit`, `undo` and `load` return what came of them, and change nothing where they refuse. `wait`
+    `death` is the fault by which its thread ended, or None. `state` is what a window draws. `edit`, `undo` and `load` return what came of them, and change nothing where they refuse. `wait`
     returns when there is something new.
     """
 
@@ -37,10 +37,10 @@ class Desk:
         self.version = self.session = self.signal = 0
         self.history, self.changes = [], {}
         self.complement = None
-        self.fault, self.is_closed = None, False
+        self.fault, self.death, self.is_closed = None, None, False
         self.news = threading.Condition(threading.RLock())
         self.lens = read_lens(keeper.program)
-        threading.Thread(target=self._follow_complement, daemon=True).start()
+        threading.Thread(target=self._follow, daemon=True).start()
 
     def state(self, _step=0):
         """Everything that a window draws. Steps are those of a replay."""
@@ -193,6 +193,15 @@ class Desk:
         self.fault = f"{why}. Start the desk again."
         self._notify()
         return {"ok": False, "cause": "failed", "sentence": self.fault}
+
+    def _follow(self):
+        """Follows the complement. Where a fault ends that, each window says so, and `death` has the fault for the server."""
+        try:
+            self._follow_complement()
+        except Exception as why:
+            with self.news:
+                self.death = why
+                self._failed(why)
 
     def _follow_complement(self):
         """Finds the complement after each change, as the program writes it. What is found for an older version is thrown away.

@@ -10,6 +10,7 @@ from ..answers import RunEnded
 from ..construct import set_steps, words_of
 from ..documents import misfits
 from ..json_text import read_json, write_json
+from ..lines import lines_of
 from ..load import DoesNotFit, load_words
 from ..open_store import stored_program
 from ..parts import SEPARATOR, program_of
@@ -77,7 +78,7 @@ def state_after(program, lines, path):
     ran = subprocess.run([path, "run"], input=text.encode(), stdout=subprocess.PIPE, check=False)
     if ran.returncode not in (0, 1):
         raise RunEnded(ran.returncode)
-    return {name: read_json(rest) for name, rest in (it.split(" ", 1) for it in ran.stdout.decode().splitlines()[-3:])}
+    return {name: read_json(rest) for name, rest in (it.split(" ", 1) for it in lines_of(ran.stdout)[-3:])}
 
 
 class StoreKeeper:

@@ -20,7 +20,7 @@ from .loading import judged
 class Replay:
     """The steps of a script. Step 0 is the beginning, and step K what is there after line K of the journal."""
 
-    can_edit = False
+    can_edit, death = False, None
 
     def __init__(self, script, title, path=None):
         self.program, self.title = program_of(script), title

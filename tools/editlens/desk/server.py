@@ -9,15 +9,22 @@ import hmac
 import json
 import os
 import secrets
+import sys
+import threading
 from http.server import BaseHTTPRequestHandler, ThreadingHTTPServer
 from urllib.parse import parse_qs, urlsplit
 
+from ..answers import RunEnded
 from ..json_text import NotJson, read_json
 
 ADDRESS = "127.0.0.1"
 NAMES = (ADDRESS, "localhost")
 MOST_BODY = 1_200_000
 MOST_STREAMS = 64
+MOST_CONNECTIONS = 256
+STRANGER_PATIENCE = 5
+"""How many seconds a connection that has not shown the token yet may be silent. Later it has PATIENCE seconds."""
+PATIENCE = 60
 STREAM_PAUSE = 10
 PAGE = os.path.join(os.path.dirname(os.path.abspath(__file__)), "page")
 KINDS = {".html": "text/html", ".css": "text/css", ".js": "text/javascript"}
@@ -40,15 +47,20 @@ class BadRequest(Exception):
         self.status = status
 
 
+class DeskDied(Exception):
+    """A thread of the desk ended by a fault of its own."""
+
+
 class DeskServer(ThreadingHTTPServer):
-    """The server of one desk or replay. `url` is where its page is."""
+    """The server of one desk or replay. `url` is where its page is. `serve_forever` raises DeskDied where a thread ends by a fault."""
 
     daemon_threads = True
 
     def __init__(self, desk, port=0):
         super().__init__((ADDRESS, port), _Handler)
         self.desk, self.token = desk, secrets.token_urlsafe(24)
-        self.streams = 0
+        self.streams, self.death = 0, None
+        self.free = threading.BoundedSemaphore(MOST_CONNECTIONS)
         self.files = {name: _read(os.path.join(PAGE, name)) for name in sorted(os.listdir(PAGE)) if os.path.splitext(name)[1] in KINDS}
 
     @property
@@ -61,8 +73,35 @@ class DeskServer(ThreadingHTTPServer):
         """The address of the page, with its token."""
         return f"http://{self.hosts[0]}/{self.token}/"
 
+    def process_request(self, request, client_address):
+        """Answers a connection in a thread, and closes one above the most that may be open."""
+        if not self.free.acquire(blocking=False):
+            self.shutdown_request(request)
+            return
+        try:
+            super().process_request(request, client_address)
+        except BaseException:
+            self.free.release()
+            raise
+
+    def process_request_thread(self, request, client_address):
+        """The thread of a connection."""
+        try:
+            super().process_request_thread(request, client_address)
+        finally:
+            self.free.release()
+
     def handle_error(self, request, client_address):
-        """A window that went away in the middle of an answer is no fault."""
+        """A window that went away in the middle of an answer is no fault. Anything else ends the desk."""
+        why = sys.exc_info()[1]
+        if not isinstance(why, OSError):
+            self.death = why
+
+    def service_actions(self):
+        """Ends the desk where a thread has died: what its page would show from then on may be old, and nothing would say so."""
+        why = self.death or self.desk.death
+        if why:
+            raise DeskDied(f"a part of the desk has failed: {type(why).__name__}: {why}")
 
 
 def _read(path):
@@ -73,7 +112,7 @@ def _read(path):
 class _Handler(BaseHTTPRequestHandler):
     protocol_version = "HTTP/1.1"
     server_version, sys_version = "editlens-desk", ""
-    timeout = 60
+    timeout = STRANGER_PATIENCE
 
     def do_GET(self):
         """The page, its state, and the stream of news."""
@@ -97,11 +136,13 @@ class _Handler(BaseHTTPRequestHandler):
         """The path behind the token, of a request that may be answered."""
         if self.headers.get_all("Host", []) not in [[it] for it in self.server.hosts]:
             raise BadRequest(403, "the Host is not this server")
-        if self.headers.get("Origin", self._origins()[0]) not in self._origins():
+        origins = self.headers.get_all("Origin", [])
+        if len(origins) > 1 or not set(origins) <= set(self._origins()):
             raise BadRequest(403, "the Origin is another page")
         parts = urlsplit(self.path).path.split("/", 2)
         if len(parts) != 3 or not hmac.compare_digest(parts[1].encode(), self.server.token.encode()):
             raise BadRequest(403, "the token is missing or wrong: use the address that tools/desk printed")
+        self.connection.settimeout(PATIENCE)
         return parts[2]
 
     def _origins(self):
@@ -126,7 +167,7 @@ class _Handler(BaseHTTPRequestHandler):
             raise BadRequest(403, "the Origin is missing")
         body, desk = self._body(), self.server.desk
         if path == "check":
-            self._send_json(desk.check(_member(body, "program", str)))
+            self._send_json(self._judged(_member(body, "program", str)))
             return
         if path not in ("edit", "undo", "load") or not desk.can_edit:
             raise BadRequest(404, "there is no such call")
@@ -141,6 +182,12 @@ class _Handler(BaseHTTPRequestHandler):
                 raise BadRequest(400, 'an edit wants "side", "left" or "right", and "edit"')
             said = desk.edit(base, side, body["edit"])
         self._send_json(said)
+
+    def _judged(self, text):
+        try:
+            return self.server.desk.check(text)
+        except (RunEnded, RecursionError) as why:
+            raise BadRequest(400, f"the program cannot be checked: {why}") from None
 
     def _body(self):
         if self.headers.get_content_type() != "application/json":

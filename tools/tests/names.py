@@ -1,0 +1,249 @@
+"""A store's file has one name. By a second one, or behind a link, two programs would each hold a lock that the other does not see."""
+
+import contextlib
+import fcntl
+import json
+import os
+import subprocess
+import tempfile
+import threading
+import time
+
+from editlens.lock import StoreBusy, StoreLock
+from editlens.log import told, write_log
+from editlens.program import TOP
+from editlens.replacement import WORK, NotDone
+from editlens.store import NAME, Store, StoreRefused
+from editlens.store_file import UnsafeFile
+from editlens.upkeep import back, compact, drop_old, history
+
+from . import PATIENCE
+from .locks import answer, content, need_state, program, refused_at_once, started
+from .scripts import called, files
+from .stores import raised
+
+PROGRAM = "main {count ~ number: id int, left note: text}\n"
+ADD = '{"side":"left","edit":[{"at":["count",[{"add":1}]]}]}'
+WRITING = (("init",), ("import",), ("apply",), ("pack",), ("undo", "1"))
+QUICK = 20
+"""How many seconds a command has that must not wait for anything."""
+
+
+@contextlib.contextmanager
+def two_folders():
+    """A store with one change, and a folder beside its own."""
+    with tempfile.TemporaryDirectory() as top:
+        other = os.path.join(top, "other")
+        os.mkdir(other)
+        store = Store.init(os.path.join(top, "store"), PROGRAM)
+        store.apply([ADD])
+        yield store, other
+
+
+def named_twice(store, other):
+    """The store in the other folder, by a symbolic link and then by a hard one."""
+    for link in (os.symlink, os.link):
+        link(store.file, os.path.join(other, NAME))
+        yield Store(other)
+        os.remove(os.path.join(other, NAME))
+
+
+def test_no_command_writes_by_a_second_name():
+    """By a link, nothing is written. A file that has a second name is refused by both. Reading goes on."""
+    with two_folders() as (store, other):
+        for second in named_twice(store, other):
+            for words in WRITING:
+                refused_at_once(second, words)
+                if not os.path.islink(second.file):
+                    refused_at_once(store, words)
+            assert second.show() == store.show() and second.verify() == 1
+        assert store.pack() == 1
+
+
+def test_what_a_run_has_answered_is_not_lost_by_a_second_name():
+    """A second name is made while a run is open: nobody writes by it, the run writes no more while it is there, and no answer is lost."""
+    with two_folders() as (store, other):
+        running = started(store, "apply")
+        assert answer(running).startswith(b"ok 1 ")
+        os.link(store.file, os.path.join(other, NAME))
+        refused_at_once(Store(other), ("apply",))
+        assert answer(running) == b"" and running.wait(PATIENCE) == 7
+        running.communicate()
+        os.remove(os.path.join(other, NAME))
+        need_state(store, 2)
+
+
+def test_a_run_writes_to_no_file_that_was_replaced():
+    with two_folders() as (store, other):
+        running = started(store, "apply")
+        assert answer(running).startswith(b"ok 1 ")
+        copy = os.path.join(store.folder, "copy")
+        with open(copy, "wb") as file:
+            file.write(content(store))
+        os.replace(copy, store.file)
+        assert answer(running) == b"" and running.wait(PATIENCE) == 7
+        running.communicate()
+        need_state(store, 2)
+
+
+def test_no_store_is_made_behind_a_link():
+    with tempfile.TemporaryDirectory() as top:
+        store, goal = Store(top), os.path.join(top, "goal")
+        os.symlink(goal, store.file)
+        for words in (("init",), ("import",)):
+            ran = subprocess.run([program(), *words], input=PROGRAM, cwd=top, stdout=subprocess.PIPE, text=True, check=False)
+            assert (ran.returncode, ran.stdout, os.listdir(top)) == (7, "", [NAME]), ran
+
+
+def test_a_pipe_is_no_store():
+    """No command waits for the other end of a pipe."""
+    with tempfile.TemporaryDirectory() as top:
+        os.mkfifo(os.path.join(top, NAME))
+        for words in (*WRITING, ("show",), ("verify",)):
+            ran = subprocess.run([program(), *words], cwd=top, stdin=subprocess.DEVNULL, stdout=subprocess.PIPE, timeout=QUICK, check=False)
+            assert (ran.returncode, ran.stdout) == (7, b""), (words, ran)
+        for words in (("history",), ("check",), ("compact",), ("back", "1"), ("backup", "to"), ("compact", "--drop-old")):
+            status, out, err = called(top, "store", *words)
+            assert (status, out) == (1, "") and "is not a regular file" in err, (words, status, out, err)
+        status, _, err = called(top, "store", "restore", NAME, os.path.join(top, "new"))
+        assert status == 1 and "is not a regular file" in err, err
+        assert "is not a regular file" in str(raised(UnsafeFile, Store(top).show))
+        assert os.listdir(top) == [NAME], os.listdir(top)
+
+
+def test_the_file_is_locked_beside_its_folder():
+    """As by a program whose folder is another one, into which the file alone is mounted."""
+    with two_folders() as (store, _):
+        with open(store.file, "rb") as file:
+            fcntl.flock(file, fcntl.LOCK_EX)
+            for words in WRITING:
+                refused_at_once(store, words)
+            assert store.verify() == 1
+            for call in (store.pack, lambda: Store.open(store.folder), lambda: compact(store.folder), lambda: drop_old(store.folder)):
+                raised(StoreBusy, call)
+        with StoreLock(store.folder), open(store.file, "rb") as file:
+            raised(BlockingIOError, lambda: fcntl.flock(file, fcntl.LOCK_EX | fcntl.LOCK_NB))
+        assert store.pack() == 1
+
+
+def test_the_tools_refuse_a_second_name():
+    with two_folders() as (store, other):
+        for second in named_twice(store, other):
+            calls = (
+                second.pack,
+                lambda: Store.open(other),
+                lambda: StoreLock(other).take(),
+                lambda: compact(other),
+                lambda: back(other, 2),
+                lambda: drop_old(other),
+            )
+            before = content(store)
+            for call in calls:
+                why = str(raised(UnsafeFile, call))
+                assert "is a link" in why or "has 2 names" in why, why
+            status, _, err = called(other, "store", "compact")
+            assert status == 1 and err.count("\n") == 1 and "Traceback" not in err, err
+            assert content(store) == before and len(list(history(other))) == 2 and os.listdir(other) == [NAME]
+
+
+def test_a_tool_replaces_no_other_file_than_that_it_has_locked():
+    with two_folders() as (store, _):
+        lock = StoreLock(store.folder)
+        with lock:
+            lock.need_same(store.file)
+            os.rename(store.file, store.file + ".moved")
+            raised(UnsafeFile, lambda: lock.need_same(store.file))
+            with open(store.file, "wb"):
+                pass
+            assert "is not the file that was locked" in str(raised(UnsafeFile, lambda: lock.need_same(store.file)))
+        os.replace(store.file + ".moved", store.file)
+        os.mkdir(os.path.join(store.folder, "empty"))
+        lock = StoreLock(os.path.join(store.folder, "empty"))
+        with lock:
+            path = os.path.join(store.folder, "empty", NAME)
+            lock.need_same(path)
+            with open(path, "wb"):
+                pass
+            raised(FileExistsError, lambda: lock.need_same(path))
+
+
+def test_a_look_at_the_lock_makes_no_command_fail():
+    """Another program takes the lock and gives it back, again and again."""
+    with two_folders() as (store, _):
+        done = threading.Event()
+
+        def look():
+            while not done.wait(0.001):
+                with contextlib.suppress(StoreBusy), StoreLock(store.folder):
+                    time.sleep(0.002)
+
+        looking = threading.Thread(target=look)
+        looking.start()
+        try:
+            ends = [subprocess.run([program(), "pack"], cwd=store.folder, stdout=subprocess.DEVNULL, check=False).returncode for _ in range(8)]
+        finally:
+            done.set()
+            looking.join()
+        assert ends == [0] * 8, ends
+
+
+def test_a_script_that_waits_finds_the_store_free():
+    """It waits for who has locked the file alone, and holds no lock itself that the program wants."""
+    with two_folders() as (store, _):
+        with open(store.file, "rb") as file:
+            fcntl.flock(file, fcntl.LOCK_EX)
+            how = {"cwd": store.folder, "stdin": subprocess.DEVNULL, "stdout": subprocess.PIPE, "env": {**os.environ, "EDITLENS_WAIT": "600"}}
+            waiting = subprocess.Popen([os.path.join(TOP, "editlens"), "pack"], **how)
+            raised(subprocess.TimeoutExpired, lambda: waiting.wait(0.5))
+        assert waiting.communicate()[0] == b"packed 1\n" and waiting.returncode == 0
+
+
+def test_what_is_in_the_way_of_a_new_file_is_named():
+    for kind in ("file", "link"):
+        with two_folders() as (store, other):
+            work = os.path.join(store.folder, WORK)
+            if kind == "link":
+                os.symlink(other, work)
+            else:
+                files(store.folder, **{WORK: "kept"})
+            for call in (lambda: compact(store.folder), lambda: back(store.folder, 1)):
+                assert f"{work} is in the way" in str(raised(NotDone, call))
+            assert os.path.lexists(work) and os.listdir(other) == [] and store.verify() == 1
+
+
+def test_an_option_may_stand_before_the_folder():
+    with two_folders() as (store, other):
+        files(other, lens="main {count ~ number: id int}\n")
+        assert called(other, "store", "change-lens", "lens", "--yes", store.folder)[0] == 0
+        assert store.show()[0] == {"count": 1}
+        assert called(other, "store", "compact", "--drop-old", store.folder)[0] == 0
+        assert called(other, "store", "change-lens", "lens", "--yes", store.folder, "more")[0] == 2
+        assert called(other, "store", "history", "--at", "1", "--wrong", store.folder)[0] == 2
+
+
+def test_history_shows_no_character_that_a_terminal_obeys():
+    """A comment in a program reaches no store by `init`, and does by another hand."""
+    entry = {"side": "left", "edit": [{"at": ["note", [{"set": "\x9b \u2028"}]]}]}
+    with tempfile.TemporaryDirectory() as folder:
+        records = {"program": "# \x1b]0;x\x07 \x9b31m \u2028 \u202e\n" + PROGRAM, "version": 2}, {"entry": entry}
+        write_log(Store(folder).file, [json.dumps(it, ensure_ascii=False).encode() for it in records])
+        for line in history(folder, is_full=True):
+            assert line.isprintable(), ascii(line)
+        said = called(folder, "store", "history")[1]
+        assert "\\u001b]0;x\\u0007 \\u009b31m \\u2028 \\u202e" in said and '{"set":"\\u009b \\u2028"}' in said, ascii(said)
+        assert told(b'{"program":"\\ud83d\\ude00\\ud800","version":1}').isprintable()
+
+
+def test_a_record_that_claims_more_than_the_file_has():
+    """It is refused before memory for it is asked for, also where it claims all that a length can say."""
+    with two_folders() as (store, _):
+        end = os.path.getsize(store.file) - 1
+        for length in (1, 2**40, 2**63 - 1, 2**64 - 1):
+            with open(store.file, "r+b") as file:
+                file.seek(end)
+                file.write(b"\x01" + length.to_bytes(8, "little"))
+            for words in ("show", "verify"):
+                limited = ["bash", "-c", 'ulimit -t 60; exec "$@"', "bash", program(), words]
+                ran = subprocess.run(limited, cwd=store.folder, stdout=subprocess.PIPE, text=True, check=False)
+                assert (ran.returncode, ran.stdout) == (4, "store refused: bad-record 3\n"), (length, ran)
+            assert raised(StoreRefused, lambda: list(history(store.folder))).reason == "bad-record 3"
