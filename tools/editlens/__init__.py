@@ -4,7 +4,7 @@ Session     a client: the program as a co-process, one edit in and one answer ou
 Hub, Link   the same for a hub and its views, and for two sites that take turns
 Store       a client over the commands of a store, each a run of the program; `Store.open` keeps one open, as an OpenStore
 HubStore    the same for a hub that `edithub` keeps; `HubStore.open` keeps one open, as an OpenHub
-StoreLock   the lock on the folder of a store, for tools that change its file
+StoreLock   the locks on a folder and its stores, for tools that change their files; UnsafeFile is raised of a file with several names
 types       the types that `check` prints, and what a token of a lens program is
 documents   a JSON document held against a type
 plans       what an edit does to the shape of a list, a map or a tree
@@ -39,6 +39,7 @@ from .private import PrivateLoss
 from .program import NoProgram, find_program
 from .session import DocumentsDiffer, Session
 from .store import ImportRefused, Store, StoreRefused
+from .store_file import UnsafeFile
 
 __all__ = [
     "Accepted",
@@ -70,6 +71,7 @@ __all__ = [
     "StoreBusy",
     "StoreLock",
     "StoreRefused",
+    "UnsafeFile",
     "check",
     "find_program",
     "read_answer",

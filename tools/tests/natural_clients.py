@@ -83,6 +83,14 @@ def test_what_would_be_lost_is_named():
         assert session.files.patch("right", new).answer.number == 4, "what has its initial value is not lost"
 
 
+def test_a_patch_that_makes_a_key_before_it_takes_something_away():
+    """What is private is found out in a state in which the other side has that key too."""
+    with Session("main {people ~ names: keyed id text, left kind: <a: unit, b: text>}") as session:
+        patch = [{"op": "add", "path": "/people/ann", "value": "Ann"}, {"op": "replace", "path": "/kind", "value": {"b": "x"}}]
+        session.files.patch("left", patch)
+        assert session.documents == {"left": {"people": {"ann": "Ann"}, "kind": {"b": "x"}}, "right": {"names": {"ann": "Ann"}}}
+
+
 def test_edits_name_items_and_nodes():
     ty = read_type('{l: list {"id": text, n: int}, t: tree <a: {"id": text}, b: {"id": text, n: int}>}')
     nodes = [{"a": {"id": "root"}}, {"b": {"id": "x", "n": 1}}, {"a": {"id": "y"}}, {"a": {"id": "z"}}]
