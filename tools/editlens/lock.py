@@ -13,8 +13,8 @@ from .store_file import HUB_FILE, SESSION_FILE, need_one_name, need_same
 
 PAUSE = 0.02
 """How many seconds are between two looks at a lock."""
-LEAST_WAIT = 0.1
-"""How many seconds a lock is waited for in any case, as the program does: who only looks whether it is free holds it for a moment."""
+LOCKS = "/proc/locks"
+"""Where Linux lists the locks that are held. To look there takes none, so nobody who wants one is kept out meanwhile."""
 
 
 class StoreBusy(Exception):
@@ -49,7 +49,7 @@ class StoreLock:
         """Takes the locks, and keeps them. The descriptors are not inherited by programs that are started meanwhile."""
         if self._held is not None:
             raise ValueError("this lock is held already")
-        deadline = time.monotonic() + max(self.wait, LEAST_WAIT)
+        deadline = time.monotonic() + self.wait
         while not self._try_to_take():
             if time.monotonic() >= deadline:
                 raise StoreBusy(self.folder)
@@ -98,9 +98,26 @@ def _is_taken(descriptor):
 
 
 def is_busy(folder):
-    """Whether another program holds the lock on a folder, or on a store in it, now."""
+    """Whether a program is seen that holds the lock on a folder, or on a store in it, now.
+
+    A lock of another container is not listed, nor is one on some file systems: where nobody is seen, somebody may hold it all the same.
+    """
+    wanted = set()
+    for path in (folder, os.path.join(folder, SESSION_FILE), os.path.join(folder, HUB_FILE)):
+        with contextlib.suppress(FileNotFoundError):
+            found = os.stat(path)
+            wanted.add(f"{os.major(found.st_dev):02x}:{os.minor(found.st_dev):02x}:{found.st_ino}")
     try:
-        with StoreLock(folder):
-            return False
-    except StoreBusy:
-        return True
+        with open(LOCKS, encoding="ascii") as lines:
+            # A lock that is waited for begins with an arrow, and is not held.
+            return any(it[1] == "FLOCK" and it[5] in wanted for it in map(str.split, lines))
+    except FileNotFoundError:
+        return False
+
+
+def need_free(folder):
+    """Raises StoreBusy where a program is seen that writes to a store in a folder, and UnsafeFile where no program writes to it."""
+    if is_busy(folder):
+        raise StoreBusy(folder)
+    for name in (SESSION_FILE, HUB_FILE):
+        need_one_name(os.path.join(folder, name))

@@ -2,6 +2,7 @@
 
 import contextlib
 import dataclasses
+import itertools
 import json
 import shutil
 import subprocess
@@ -13,7 +14,7 @@ from .answers import Accepted, NotAnAnswer, RunEnded
 from .checked import check
 from .json_text import read_json
 from .lines import lines_of
-from .lock import StoreBusy, StoreLock, is_busy
+from .lock import PAUSE, StoreBusy, is_busy, need_free
 from .log import Log, is_change
 from .natural.files import Files
 from .process import Process
@@ -23,7 +24,7 @@ from .store_file import open_regular
 PROBE = b"{}"
 """A line that is refused and changes nothing. Its answer shows that the store was read and that the run has the lock."""
 TURNS = 4
-"""How often a run is started that does not get the lock, though nobody has it afterwards."""
+"""How often a run is started at least that does not get the lock, though nobody is seen who has it."""
 MARK = b"EDLENS1\n\x01"
 
 
@@ -64,7 +65,7 @@ class KeptRun:
         """Opens the store again, after a run that was lost or after `close`, and returns how many changes it has."""
         with self.lock:
             self._leave()
-            self._run = self._until_free(self._started)
+            self._run = self._until_free(lambda: self._started(time.monotonic() + self.wait))
             try:
                 self._opened()
             except BaseException:
@@ -72,16 +73,18 @@ class KeptRun:
                 raise
             return self.stored
 
-    def _started(self):
-        """A run of `apply` that has the lock. Where it has not, and nobody else has it by now, it is tried again: nothing was read."""
-        for turn in range(TURNS):
+    def _started(self, deadline):
+        """A run of `apply` that has the lock. Where it has not, and nobody is seen who has it, it is tried again: nothing was read."""
+        for turn in itertools.count(1):
             try:
                 return self._try_to_start()
             except RunEnded as why:
-                if why.status != 7 or turn == TURNS - 1:
+                if why.status != 7:
                     raise
-                if is_busy(self.store.folder):
-                    raise StoreBusy(self.store.folder) from None
+                need_free(self.store.folder)
+                if turn >= TURNS and time.monotonic() >= deadline:
+                    raise
+                time.sleep(PAUSE)
 
     def _try_to_start(self):
         run = Process([self.store.path, "apply"], folder=self.store.folder)
@@ -171,8 +174,10 @@ class KeptRun:
             try:
                 return call()
             except StoreBusy:
-                with StoreLock(self.store.folder, deadline - time.monotonic()):
-                    pass
+                if time.monotonic() >= deadline:
+                    raise
+                while is_busy(self.store.folder) and time.monotonic() < deadline:
+                    time.sleep(PAUSE)
 
     def _abandon(self):
         self._run.stop()

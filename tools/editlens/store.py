@@ -8,7 +8,7 @@ from .checked import check, program_refused
 from .documents import misfits
 from .json_text import read_json, write_json
 from .lines import lines_of
-from .lock import StoreBusy, is_busy
+from .lock import need_free
 from .open_store import OpenStore
 from .parts import SEPARATOR, program_of
 from .program import find_program
@@ -188,8 +188,8 @@ class Store:
             raise StoreRefused(last.removeprefix("store refused: "), self.file)
         if status == 1 and last.startswith("import refused: "):
             raise ImportRefused(last.removeprefix("import refused: "))
-        if status == 7 and not said and is_busy(self.folder):
-            raise StoreBusy(self.folder)
+        if status == 7 and not said:
+            need_free(self.folder)
         if status not in (0, 1):
             raise RunEnded(status)
 

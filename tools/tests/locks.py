@@ -122,10 +122,7 @@ def two_that_make(command):
         first = started(store, command)
         deadline = time.monotonic() + PATIENCE
         while not is_busy(folder):
-            # A look that takes the lock for a moment may be the reason that the first one did not get it.
-            if first.poll() is not None:
-                first.communicate()
-                first = started(store, command)
+            assert first.poll() is None, first.communicate()
             assert time.monotonic() < deadline, "no run takes the lock"
             time.sleep(0.01)
         ran = subprocess.run([program(), command], cwd=folder, input=script.encode(), stdout=subprocess.PIPE, check=False)
@@ -320,7 +317,7 @@ def test_a_lock_of_a_tool():
             pass
         assert not is_busy(folder)
         with given_back_later(folder), StoreLock(folder, wait=PATIENCE):
-            pass
+            assert is_busy(folder)
 
 
 @contextlib.contextmanager

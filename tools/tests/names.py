@@ -7,9 +7,10 @@ import os
 import subprocess
 import tempfile
 import threading
-import time
+from unittest import mock
 
-from editlens.lock import StoreBusy, StoreLock
+from editlens.answers import RunEnded
+from editlens.lock import StoreBusy, StoreLock, is_busy, need_free
 from editlens.log import told, write_log
 from editlens.program import TOP
 from editlens.replacement import WORK, NotDone
@@ -167,24 +168,41 @@ def test_a_tool_replaces_no_other_file_than_that_it_has_locked():
             raised(FileExistsError, lambda: lock.need_same(path))
 
 
-def test_a_look_at_the_lock_makes_no_command_fail():
-    """Another program takes the lock and gives it back, again and again."""
+def test_a_look_at_the_lock_takes_none():
+    """So no command that writes can fail by it."""
+    with two_folders() as (store, other):
+        with mock.patch("fcntl.flock", side_effect=AssertionError("a lock is taken")):
+            assert not is_busy(store.folder) and not is_busy(other) and not is_busy(os.path.join(other, "none"))
+            need_free(store.folder)
+        for held in (store.folder, store.file):
+            with open(held, "rb") if held == store.file else opened_folder(held) as file:
+                fcntl.flock(file, fcntl.LOCK_EX)
+                assert is_busy(store.folder) and not is_busy(other)
+                raised(StoreBusy, lambda: need_free(store.folder))
+            assert not is_busy(store.folder)
+
+
+@contextlib.contextmanager
+def opened_folder(path):
+    """The descriptor of a folder."""
+    held = os.open(path, os.O_RDONLY)
+    yield held
+    os.close(held)
+
+
+def test_a_store_is_opened_when_it_is_free():
+    """Also where nobody is seen who has the lock, as in another container: it is tried until the time is over."""
     with two_folders() as (store, _):
-        done = threading.Event()
-
-        def look():
-            while not done.wait(0.001):
-                with contextlib.suppress(StoreBusy), StoreLock(store.folder):
-                    time.sleep(0.002)
-
-        looking = threading.Thread(target=look)
-        looking.start()
-        try:
-            ends = [subprocess.run([program(), "pack"], cwd=store.folder, stdout=subprocess.DEVNULL, check=False).returncode for _ in range(8)]
-        finally:
-            done.set()
-            looking.join()
-        assert ends == [0] * 8, ends
+        for locks in ("/proc/locks", os.path.join(store.folder, "none")):
+            with mock.patch("editlens.lock.LOCKS", locks):
+                lock = StoreLock(store.folder)
+                lock.take()
+                raised(StoreBusy if locks == "/proc/locks" else RunEnded, lambda: Store.open(store.folder))
+                timer = threading.Timer(0.5, lock.give_back)
+                timer.start()
+                with Store.open(store.folder, wait=PATIENCE) as kept:
+                    assert kept.stored == 1
+                timer.join()
 
 
 def test_a_script_that_waits_finds_the_store_free():
