@@ -17,8 +17,9 @@ that changes a file elsewhere. Its lines mean:
     take the end       standard input is read, and has ended
     say ok 1           what goes to standard output by one call begins with these words
 
-Behind a colon stands why a call failed. Reads, looks and locks that fail stand in one line where they come one after another. Any other call (a rename, a truncation, a map of the file) stands in the list by its own name, and
-so the run differs from what is wanted. Closing, seeking, and asking an open file for its length are left out.
+Behind a colon stands why a call failed. Reads, looks and locks that fail stand in one line where they come one after another. Any other call
+(a rename, a truncation, a map of the file) stands in the list by its own name, and so the run differs from what is wanted. Closing, seeking,
+and asking an open file for its length are left out.
 """
 
 import functools

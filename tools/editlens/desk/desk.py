@@ -26,8 +26,8 @@ MOST_REST = 30
 class Desk:
     """The session of a desk. Its version is the number of changes since it began; an edit names the version that it was made for.
 
-    `death` is the fault by which its thread ended, or None. `state` is what a window draws. `edit`, `undo` and `load` return what came of them, and change nothing where they refuse. `wait`
-    returns when there is something new.
+    `state` is what a window draws. `edit`, `undo` and `load` return what came of them, and change nothing where they refuse. `wait`
+    returns when there is something new. `death` is the fault by which its thread ended, or None.
     """
 
     can_edit = True
