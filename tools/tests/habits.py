@@ -59,7 +59,7 @@ def test_the_lexer_knows_every_token():
     try:
         from pygments.token import Error, Keyword
     except ImportError:
-        raise Skipped("there is no library pygments") from None
+        raise Skipped("python3-pygments is not installed") from None
     sys.path.insert(0, os.path.join(TOP, "editors"))
     from pygments_editlens import EditlensLexer
 
@@ -73,7 +73,7 @@ def test_the_lexer_knows_every_token():
 
 def test_the_picture_of_the_program_is_drawn_anew():
     if find_spec("pygments") is None:
-        raise Skipped("there is no library pygments")
+        raise Skipped("python3-pygments is not installed")
     drawn = subprocess.run([os.path.join(TOP, "docs", "highlight"), "--print"], stdout=subprocess.PIPE, text=True, check=True)
     assert read_page("docs/program.svg") == drawn.stdout, "run docs/highlight"
 
